@@ -1,0 +1,34 @@
+//! Control commands, and the kinds of frames.
+
+ghost use Rattle.std.specs.Prelude.{◌≡◌};
+ghost use Rattle.tc_link.specs.Command.{command_of};
+
+/// A control command (CCSDS 232.0-B, 4.1.3.3).
+#[derive(Clone, Copy, Debug, PartialEq, Eq)]
+pub enum Command {
+    Unlock,
+    SetVr(u8),
+}
+
+/// What a frame is to the receiver (CCSDS 232.0-B, 4.1.2.3).
+///
+/// A Type-AD frame comes with its N(S). Type-AC frames, which are reserved, and Type-BC frames
+/// with no control command are invalid.
+#[derive(Clone, Copy, Debug, PartialEq, Eq)]
+pub enum Kind {
+    Ad(u8),
+    Bd,
+    Bc(Command),
+    Invalid,
+}
+
+/// Reads the control command that the whole data field is.
+pub fn read_command(field: &[u8]) -> Option<Command>
+    ensures { result ≡ command_of field.now }
+{
+    match field {
+        [0] => Some(Command::Unlock),
+        [0x82, 0, x] => Some(Command::SetVr(*x)),
+        _ => None,
+    }
+}

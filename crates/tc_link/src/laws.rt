@@ -1,0 +1,51 @@
+//! Laws over the definitions of this layer.
+
+ghost use Rattle.std.specs.Prelude.{◌≡◌, ◌≢◌, ◌⊎◌, ◌<◌, ◌≤◌, ◌+◌, ◌-◌, ◌%◌, ◌^◌, ◌++◌, ◌↔◌, ℕ, Bool, List, false, IsSome, IsTrue};
+ghost use Rattle.tc_link.specs.declared.frame.Header.{Header};
+ghost use Rattle.tc_link.specs.declared.command.Kind.{Kind};
+ghost use Rattle.tc_link.specs.declared.farm.Report.{Report};
+ghost use Rattle.tc_link.specs.declared.farm.State.TheVariants.{S1, S3};
+ghost use Rattle.tc_link.specs.declared.clcw.Link.{Link};
+ghost use Rattle.tc_link.specs.Frame.{IsFrame, IsHeader, IsField, IsWhole, BeginsWith};
+ghost use Rattle.tc_link.specs.Window.{some_of_first};
+ghost use Rattle.tc_link.specs.Farm.{Row, E1, E8, entry, frame_row, after};
+ghost use Rattle.tc_link.specs.Clcw.{IsClcw, word_of, fields_of, reported};
+
+/// At most one prefix of any octets is a frame.
+pub fn each_input_begins_with_one_frame_at_most()
+    ensures { (octets one other : List ℕ) → BeginsWith octets one → BeginsWith octets other → one ≡ other }
+{}
+
+/// A header and a data field have one frame, and no other.
+///
+/// Where fill follows that frame, the frame is what the octets begin with.
+pub fn each_header_and_field_have_one_frame()
+    ensures some { (header : Header) (field : List ℕ) → IsHeader header → IsField field → (frame : List ℕ) × IsFrame frame header field }
+    ensures only { (one other field : List ℕ) (header : Header) → IsFrame one header field → IsFrame other header field → one ≡ other }
+    ensures filled { (frame fill : List ℕ) → IsWhole frame → BeginsWith (frame ++ fill) frame }
+    ensures no_other { (frame fill other : List ℕ) → IsWhole frame → BeginsWith (frame ++ fill) other → other ≡ frame }
+{}
+
+/// What the window calls "some k of the first n" is just that.
+pub fn some_of_the_first_is_some_number()
+    ensures { (n : ℕ) (passes : ℕ → Bool) → IsTrue (some_of_first n passes) ↔ ((k : ℕ) × (1 ≤ k) × (k ≤ n) × IsTrue (passes k)) }
+{}
+
+/// Where no AD frame finds room in S2, the table has an entry for every frame.
+pub fn an_ad_frame_without_room_has_an_entry()
+    ensures { (width : ℕ) (r : Report) (kind : Kind) → IsSome (entry (frame_row width r.vr kind false) r) }
+{}
+
+/// V(R) changes by one where an expected frame is accepted, to the number of a Set V(R) in S1 or S2, and in no other way.
+pub fn v_r_changes_by_acceptance_and_set_v_r_alone()
+    ensures { (row : Row) (r : Report) → (after row r).vr ≢ r.vr
+        → ((row ≡ E1) × (r.state ≡ S1) × ((after row r).vr ≡ (r.vr + 1) % 256))
+        ⊎ ((x : ℕ) × (row ≡ E8 x) × (r.state ≢ S3) × ((after row r).vr ≡ x)) }
+{}
+
+/// Reading a CLCW that was written gives what it was made of.
+pub fn a_written_clcw_reads_back()
+    ensures fits { (r : Report) (vcid : ℕ) (link : Link) → vcid < 64 → r.farm_b < 4 → r.vr < 256 → word_of r vcid link < 2 ^ 32 }
+    ensures clcw { (r : Report) (vcid : ℕ) (link : Link) → vcid < 64 → r.farm_b < 4 → r.vr < 256 → IsClcw (word_of r vcid link) }
+    ensures fields { (r : Report) (vcid : ℕ) (link : Link) → vcid < 64 → r.farm_b < 4 → r.vr < 256 → fields_of (word_of r vcid link) ≡ reported r vcid link }
+{}

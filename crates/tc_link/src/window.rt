@@ -1,0 +1,64 @@
+//! The sliding window of FARM-1.
+
+ghost use Rattle.std.specs.Prelude.{◌≡◌, ℕ, IfSome, IsSome, ◌↔◌};
+ghost use Rattle.tc_link.specs.Window.{IsWidth, place_of};
+
+use std::marker::Model;
+
+/// Where an N(S) lies, as seen from V(R).
+#[derive(Clone, Copy, Debug, PartialEq, Eq)]
+pub enum Place {
+    Expected,
+    Ahead,
+    Behind,
+    Outside,
+}
+
+/// The sliding window by its width W, which is even and from 2 to 254.
+///
+/// Its positive and its negative part are W / 2 each. A contract sees a window as its width.
+#[derive(Clone, Copy, Debug)]
+pub struct Window {
+    width: u8,
+}
+
+impl Model for Window {
+    ghost Value = { ℕ };
+
+    ghost view = { λ w. w.width };
+
+    ghost inverse = { λ n. record { width = n } };
+
+    ghost invariant = { λ w. IsWidth w.width };
+}
+
+impl Window {
+    /// The window of this width, where it may be one.
+    pub fn new(width: u8) -> Option<Window>
+        ensures variant { IsSome result ↔ IsWidth width }
+        ensures width { IfSome result (λ window. window ≡ width) }
+    {
+        if width >= 2 && width <= 254 && width % 2 == 0 {
+            Some(Window { width })
+        } else {
+            None
+        }
+    }
+
+    /// Where N(S) lies, as seen from V(R).
+    pub fn place(&self, vr: u8, ns: u8) -> Place
+        ensures { result ≡ place_of self.now vr ns }
+    {
+        let half = self.width / 2;
+        let distance = ns.wrapping_sub(vr);
+        if distance == 0 {
+            Place::Expected
+        } else if distance < half {
+            Place::Ahead
+        } else if distance.wrapping_neg() <= half {
+            Place::Behind
+        } else {
+            Place::Outside
+        }
+    }
+}

@@ -1,0 +1,71 @@
+//! Writing transfer frames.
+
+ghost use Rattle.std.specs.Prelude.{◌≡◌, ◌<◌, ◌≤◌, ◌+◌, None, length, unwrap_or, IfOk, IfErr, OnOk};
+ghost use Rattle.tc_link.specs.Frame.{IsFrame, IsOctets, header_of, version_of, spare_of, named_length, write_fault_of};
+
+use crate::frame::Header;
+use std::alloc::Global;
+use thiserror::Error;
+
+/// Why a frame isn't written: the first of these that applies.
+#[derive(Clone, Copy, Debug, PartialEq, Eq, Error)]
+pub enum WriteFault {
+    #[error("a field of the header is over its bound")]
+    BadField,
+    #[error("the data field is empty")]
+    EmptyData,
+    #[error("the data field has more than 1,019 octets")]
+    TooLong,
+    #[error("no memory")]
+    NoMemory,
+}
+
+/// Writes the frame that has this header and this data field.
+///
+/// All four combinations of the two flags are written. The only allocation is the frame itself.
+pub fn write_frame(alloc: Global, header: &Header, field: &[u8]) -> Result<Vec<u8>, WriteFault>
+    ensures frame { IfOk result (λ octets. IsFrame octets.items header.now field.now) }
+    ensures written { OnOk result (write_fault_of header.now field.now ≡ None) }
+    ensures refused { IfErr result (λ fault. fault ≡ unwrap_or (write_fault_of header.now field.now) WriteFault.NoMemory) }
+{
+    if header.scid > 1023 || header.vcid > 63 {
+        return Err(WriteFault::BadField);
+    }
+    if field.is_empty() {
+        return Err(WriteFault::EmptyData);
+    }
+    if field.len() > 1019 {
+        return Err(WriteFault::TooLong);
+    }
+    let total = field.len() as u16 + 5;
+    let Ok(mut octets) = Vec::with_capacity(alloc, total as usize) else {
+        return Err(WriteFault::NoMemory);
+    };
+    octets
+        .extend_from_slice(&primary_header(header, total))
+        .unwrap();
+    octets.extend_from_slice(field).unwrap();
+    Ok(octets)
+}
+
+// The primary header of a frame with so many octets.
+fn primary_header(header: &Header, total: u16) -> [u8; 5]
+    requires scid { header.now.scid < 1024 }
+    requires vcid { header.now.vcid < 64 }
+    requires least { 1 ≤ total }
+    requires most { total ≤ 1024 }
+    ensures five { length result ≡ 5 }
+    ensures octets { IsOctets result }
+    ensures header { header_of result ≡ header.now }
+    ensures version { version_of result ≡ 0 }
+    ensures spare { spare_of result ≡ 0 }
+    ensures named { named_length result ≡ total }
+{
+    let first = u16::from(header.bypass) * (1 << 13)
+        + u16::from(header.control) * (1 << 12)
+        + header.scid;
+    let second = header.vcid as u16 * (1 << 10) + (total - 1);
+    let [a, b] = first.to_be_bytes();
+    let [c, d] = second.to_be_bytes();
+    [a, b, c, d, header.ns]
+}
