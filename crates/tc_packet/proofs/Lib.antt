@@ -1,0 +1,4 @@
+pub mod Cuts
+pub mod KeptRuns
+pub mod OpenRuns
+pub mod Streams

@@ -1,0 +1,143 @@
+-- What the data fields of a stream make, looking back over all of them (CCSDS 232.0-B, 4.4).
+use Rattle.std.specs.Prelude.{◌≡◌, ℕ, ◌+◌, ◌≤◌, ◌<◌, slice_index_or, Bool, true, false, ◌==◌, ◌&&◌, ◌⊎◌, List, [], ◌∷◌, ◌++◌, length, map, filter, Option, Some, None, IfSome, nat_le, if◌then◌else◌}
+use Rattle.std.specs.Option.{option_and_then, option_or}
+use Rattle.std.specs.List.{list_all, flat_map, AllByRecursion}
+use Rattle.tc_packet.specs.declared.segment.Part.{Part}
+use Rattle.tc_packet.specs.declared.segment.Part.TheVariants.{First, Continuing, Last, Unsegmented}
+use Rattle.tc_packet.specs.declared.reassembler.Service.{Service}
+use Rattle.tc_packet.specs.declared.reassembler.Service.TheVariants.{Ad, Bd}
+use Rattle.tc_packet.specs.Segment.{header_of, body_of}
+use Rattle.tc_packet.specs.SpacePacket.{largest_packet}
+
+-- the most octets of a run and of a unit: the largest packet fits
+abbrev pub largest_unit : ℕ
+largest_unit = largest_packet
+
+abbrev pub bounded : List ℕ → Option (List ℕ)
+bounded octets = if nat_le (length octets) largest_unit then Some octets else None
+
+abbrev pub IsWithinLimit : Option (List ℕ) → Type 0
+IsWithinLimit run = IfSome run (λ octets. length octets ≤ largest_unit)
+
+-- the open run and the unit, as relations
+
+abbrev pub IsPart : Part → List ℕ → Type 0
+IsPart part field = (header_of field).part ≡ part
+
+-- what fields carry behind their segment headers
+abbrev pub joined_bodies : List (List ℕ) → List ℕ
+joined_bodies fields = flat_map body_of fields
+
+-- the fields end with a first segment and continuing ones, and these are their octets
+pub record IsOpenRun (fields : List (List ℕ)) (octets : List ℕ) : Type 0 where
+  pub before : List (List ℕ)
+  pub first : List ℕ
+  pub after : List (List ℕ)
+  pub parts : fields ≡ before ++ first ∷ after
+  pub opens : IsPart First first
+  pub goes_on : AllByRecursion (IsPart Continuing) after
+  pub joins : octets ≡ joined_bodies (first ∷ after)
+  pub limit : length octets ≤ largest_unit
+
+-- the last segment of a unit, after a first and continuing ones
+pub record IsClosedBy (fields : List (List ℕ)) (field octets : List ℕ) : Type 0 where
+  pub run : List ℕ
+  pub opened : IsOpenRun fields run
+  pub closes : IsPart Last field
+  pub joins : octets ≡ run ++ body_of field
+  pub limit : length octets ≤ largest_unit
+
+-- a unit in one segment
+pub record IsUnsegmented (field octets : List ℕ) : Type 0 where
+  pub whole : IsPart Unsegmented field
+  pub joins : octets ≡ body_of field
+  pub limit : length octets ≤ largest_unit
+
+-- the unit that a field ends, after these fields of its stream
+abbrev pub IsUnit : List (List ℕ) → List ℕ → List ℕ → Type 0
+IsUnit fields field octets = IsUnsegmented field octets ⊎ IsClosedBy fields field octets
+
+-- the same as functions
+
+abbrev pub is_first : Part → Bool
+is_first First = true
+is_first _ = false
+
+abbrev pub is_continuing : Part → Bool
+is_continuing Continuing = true
+is_continuing _ = false
+
+-- the last field that is a first segment, and the fields after it
+abbrev pub from_last_first : List (List ℕ) → Option (List ℕ × List (List ℕ))
+from_last_first [] = None
+from_last_first (f ∷ fs) = option_or (from_last_first fs) (if is_first (header_of f).part then Some (f, fs) else None)
+
+abbrev pub all_continue : List (List ℕ) → Bool
+all_continue fs = list_all (λ g. is_continuing (header_of g).part) fs
+
+-- their joined bodies, where all after the first are continuing
+abbrev pub run_of : List ℕ × List (List ℕ) → Option (List ℕ)
+run_of p = if all_continue p.1 then bounded (joined_bodies (p.0 ∷ p.1)) else None
+
+-- the open run of a stream
+abbrev pub open_run : List (List ℕ) → Option (List ℕ)
+open_run fields = option_and_then run_of (from_last_first fields)
+
+-- a run with one more body at its end
+abbrev pub extended : Option (List ℕ) → List ℕ → Option (List ℕ)
+extended run body = option_and_then (λ octets. bounded (octets ++ body)) run
+
+abbrev pub ended_by : Part → Option (List ℕ) → List ℕ → Option (List ℕ)
+ended_by Unsegmented run body = bounded body
+ended_by Last run body = extended run body
+ended_by First run body = None
+ended_by Continuing run body = None
+
+-- the unit that a field ends, after these fields of its stream
+abbrev pub unit_at : List (List ℕ) → List ℕ → Option (List ℕ)
+unit_at fields field = ended_by (header_of field).part (open_run fields) (body_of field)
+
+-- streams
+
+-- a data field that was given to reassembly
+pub record Passed : Type 0 where
+  pub service : Service
+  pub field : List ℕ
+
+abbrev pub same_service : Service → Service → Bool
+same_service Ad Ad = true
+same_service Bd Bd = true
+same_service _ _ = false
+
+abbrev pub is_of : Service → ℕ → Passed → Bool
+is_of service map_id p = same_service service p.service && (header_of p.field).map == map_id
+
+-- the fields of one service and one MAP, in order
+abbrev pub stream : Service → ℕ → List Passed → List (List ℕ)
+stream service map_id passed = map (λ p. p.field) (filter (is_of service map_id) passed)
+
+-- where a reassembler has the open run of a stream: those of AD and then those of BD, by MAP
+abbrev pub place_of : Service → ℕ → ℕ
+place_of Ad map_id = map_id
+place_of Bd map_id = 64 + map_id
+
+abbrev pub run_at : List (Option (List ℕ)) → ℕ → Option (List ℕ)
+run_at runs place = slice_index_or runs place None
+
+abbrev pub stream_place : Service → List ℕ → ℕ
+stream_place service field = place_of service (header_of field).map
+
+-- two services of 64 MAPs
+abbrev pub stream_count : ℕ
+stream_count = 128
+
+-- one run, or none, for each stream, and none beyond the limit
+pub record AreOpenRuns (runs : List (Option (List ℕ))) : Type 0 where
+  pub streams : length runs ≡ stream_count
+  pub limit : (place : ℕ) → IsWithinLimit (run_at runs place)
+
+-- some fields of this MAP leave this run open
+pub record IsLeftByFields (map : ℕ) (run : Option (List ℕ)) : Type 0 where
+  pub fields : List (List ℕ)
+  pub stream : AllByRecursion (λ field. (0 < length field) × ((header_of field).map ≡ map)) fields
+  pub leaves : open_run fields ≡ run

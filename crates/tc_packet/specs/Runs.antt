@@ -1,0 +1,19 @@
+-- The open runs as they are kept, and what one more field does to one.
+use Rattle.std.specs.Prelude.{ℕ, List, map, Option, Some, None}
+use Rattle.std.specs.Global.{Vec}
+use Rattle.tc_packet.specs.declared.segment.Part.{Part}
+use Rattle.tc_packet.specs.declared.segment.Part.TheVariants.{First, Continuing, Last, Unsegmented}
+use Rattle.tc_packet.specs.Reassembly.{bounded, extended}
+
+abbrev pub next_run : Part → Option (List ℕ) → List ℕ → Option (List ℕ)
+next_run First run body = bounded body
+next_run Continuing run body = extended run body
+next_run Last run body = None
+next_run Unsegmented run body = None
+
+abbrev pub octets_in : Option (Vec ℕ) → Option (List ℕ)
+octets_in None = None
+octets_in (Some v) = Some v.items
+
+abbrev pub runs_of : List (Option (Vec ℕ)) → List (Option (List ℕ))
+runs_of runs = map octets_in runs

@@ -1,0 +1,33 @@
+//! Laws over the definitions of this crate.
+
+ghost use Rattle.std.specs.Prelude.{◌≡◌, ◌<◌, ◌↔◌, ℕ, List, Option, Some, take};
+ghost use Rattle.tc_packet.specs.Reassembly.{IsLeftByFields, IsOpenRun, IsUnit, IsWithinLimit, open_run, unit_at};
+ghost use Rattle.tc_packet.specs.SpacePacket.{IsCut, IsPacket, packets_of, rest_of};
+
+/// The cut of a unit is this one, and no other.
+pub fn each_unit_has_one_cut()
+    ensures cut { (unit : List ℕ) → IsCut unit (packets_of unit) (rest_of unit) }
+    ensures only { (unit : List ℕ) (ps : List (List ℕ)) (rest : List ℕ) → IsCut unit ps rest → (ps ≡ packets_of unit) × (rest ≡ rest_of unit) }
+{}
+
+/// At most one prefix of any octets is a packet.
+pub fn each_input_begins_with_one_packet_at_most()
+    ensures { (octets : List ℕ) (n m : ℕ) → IsPacket (take n octets) → IsPacket (take m octets) → take n octets ≡ take m octets }
+{}
+
+/// The open run of a stream is what its fields join to from a first segment on, all after it continuing.
+pub fn an_open_run_looks_back_over_its_stream()
+    ensures { (fields : List (List ℕ)) (octets : List ℕ) → (open_run fields ≡ Some octets) ↔ IsOpenRun fields octets }
+{}
+
+/// The unit that a field ends is its own body, or what its stream joins to from a first segment on.
+pub fn a_unit_looks_back_over_its_stream()
+    ensures { (fields : List (List ℕ)) (field octets : List ℕ) → (unit_at fields field ≡ Some octets) ↔ IsUnit fields field octets }
+{}
+
+/// Fields leave just the runs within the limit open, on each MAP, and end just such units.
+pub fn each_run_within_the_limit_is_left_by_fields()
+    ensures left { (map : ℕ) (run : Option (List ℕ)) → map < 64 → IsWithinLimit run → IsLeftByFields map run }
+    ensures only { (fields : List (List ℕ)) → IsWithinLimit (open_run fields) }
+    ensures units { (fields : List (List ℕ)) (field : List ℕ) → IsWithinLimit (unit_at fields field) }
+{}

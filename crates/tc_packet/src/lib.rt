@@ -1,0 +1,25 @@
+//! Segments, reassembly and space packets of a telecommand link.
+//!
+//! Laws over the definitions stand as contracts of functions with empty bodies:
+//! [`each_unit_has_one_cut`], [`each_input_begins_with_one_packet_at_most`],
+//! [`an_open_run_looks_back_over_its_stream`], [`a_unit_looks_back_over_its_stream`],
+//! [`each_run_within_the_limit_is_left_by_fields`].
+#![tactic(auto)]
+
+mod cutting;
+mod fault;
+mod laws;
+mod packet;
+mod reassembler;
+mod segment;
+
+pub use cutting::cut;
+pub use fault::NoMemory;
+pub use laws::{
+    a_unit_looks_back_over_its_stream, an_open_run_looks_back_over_its_stream,
+    each_input_begins_with_one_packet_at_most, each_run_within_the_limit_is_left_by_fields,
+    each_unit_has_one_cut,
+};
+pub use packet::{Cut, Packet, read_packet};
+pub use reassembler::{Reassembler, Service};
+pub use segment::{Part, Segment, read_segment};

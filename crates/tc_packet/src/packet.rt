@@ -1,0 +1,91 @@
+//! Space packets (CCSDS 133.0-B, 4.1).
+
+ghost use Rattle.std.specs.Prelude.{◌≡◌, ℕ, length, take, IfSome, IfNone};
+ghost use Rattle.tc_packet.specs.PacketFields.{HasFields};
+ghost use Rattle.tc_packet.specs.SpacePacket.{IsPacket};
+
+/// A packet: what its primary header says, and all of its octets.
+#[derive(Clone, Copy, Debug, PartialEq, Eq)]
+pub struct Packet<'a> {
+    /// The packet type: a telecommand packet, not a telemetry one.
+    pub telecommand: bool,
+    /// The secondary header flag.
+    pub secondary: bool,
+    /// The application process identifier, at most 2,047, which marks idle packets.
+    pub apid: u16,
+    /// The sequence flags, at most 3.
+    pub flags: u8,
+    /// The sequence count or the name, at most 16,383.
+    pub count: u16,
+    /// The whole packet, its primary header included.
+    pub octets: &'a [u8],
+}
+
+/// The packets at the front of a unit, and what is left of it.
+#[derive(Debug, Drop, PartialEq, Eq)]
+pub struct Cut<'a> {
+    pub packets: Vec<Packet<'a>>,
+    pub rest: &'a [u8],
+}
+
+/// The packet at the front of the octets. Secondary header, sequence flags and count are not judged.
+pub fn read_packet(octets: &[u8]) -> Option<Packet<'_>>
+    ensures packet { IfSome result (λ p. IsPacket p.octets.now) }
+    ensures front { IfSome result (λ p. p.octets.now ≡ take (length p.octets.now) octets.now) }
+    ensures fields { IfSome result HasFields }
+    ensures none { IfNone result ((n : ℕ) → IsPacket (take n octets.now) → ⊥) }
+{
+    if octets.len() < 7 {
+        return None;
+    }
+    let first = u16::from_be_bytes([octets[0], octets[1]]);
+    let second = u16::from_be_bytes([octets[2], octets[3]]);
+    let length = u16::from_be_bytes([octets[4], octets[5]]) as usize + 7;
+    if first >> 13 != 0 || length > octets.len() {
+        return None;
+    }
+    Some(Packet {
+        telecommand: (first >> 12) & 1 == 1,
+        secondary: (first >> 11) & 1 == 1,
+        apid: first & 0x7ff,
+        flags: (second >> 14) as u8,
+        count: second & 0x3fff,
+        octets: &octets[..length],
+    })
+}
+
+#[cfg(test)]
+mod tests {
+    use super::*;
+
+    #[test]
+    fn reads_the_packet_at_the_front(rt: HostRuntime) {
+        let command = b"\x10\x05\xc0\x00\x00\x00\xaa\xff";
+        let expected = Packet {
+            telecommand: true,
+            secondary: false,
+            apid: 5,
+            flags: 3,
+            count: 0,
+            octets: &command[..7],
+        };
+        assert_eq!(rt; read_packet(command), Some(expected));
+
+        let segment = b"\x18\x05\x40\x01\x00\x01\xaa\xbb";
+        let expected = Packet {
+            telecommand: true,
+            secondary: true,
+            apid: 5,
+            flags: 1,
+            count: 1,
+            octets: segment,
+        };
+        assert_eq!(rt; read_packet(segment), Some(expected));
+    }
+
+    #[test]
+    fn reads_no_packet_of_another_version_or_cut_short(rt: HostRuntime) {
+        assert_eq!(rt; read_packet(b"\x10\x05\xc0\x00\x00\x00"), None);
+        assert_eq!(rt; read_packet(b"\x30\x05\xc0\x00\x00\x00\xaa"), None);
+    }
+}
