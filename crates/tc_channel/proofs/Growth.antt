@@ -1,0 +1,100 @@
+-- The state of a longer journal goes on from that of its beginning.
+use Rattle.std.proofs.Common.{◌≡◌, ℕ, ◌+◌, Bool, true, false, cond, eqb, ◌&&◌, List, [], ◌∷◌, ◌++◌, length, map, drop, refl, sym, ◌∙◌, append_assoc, arith}
+use Rattle.std.specs.Prelude.{nat_lt}
+use Rattle.std.proofs.lemmas.List.{append-nil}
+use Rattle.tc_link.specs.declared.Report.{Report}
+use Rattle.tc_link.specs.Frame.{header_of}
+use Rattle.tc_link.specs.Farm.{E10, accepts, after}
+use Rattle.tc_packet.specs.declared.Service.{Service}
+use Rattle.tc_packet.specs.declared.Service.TheVariants.{Ad, Bd}
+use Rattle.tc_channel.specs.declared.settings.Settings.{Settings}
+use Rattle.tc_channel.specs.declared.event.Event.{Event}
+use Rattle.tc_channel.specs.declared.event.Event.TheVariants.{Frame, Release, Take}
+use Rattle.tc_channel.specs.ChannelState.{ChannelState, Accepted, Queue, buffer}
+use Rattle.tc_channel.specs.Admission.{packets_in, share_of, with_shares}
+use Rattle.tc_channel.specs.Laws.{QueueGrows, QueuesGrow, Grows}
+use Rattle.tc_channel.specs.Run.{step, row_of, passed_on, unit_of, taken_from, first_of, run_from, run}
+use Rattle.tc_channel.proofs.Runs.{run-append}
+use Rattle.tc_channel.proofs.StateQueues.{kept-either}
+
+same-queue : (q : Queue) → QueueGrows q q
+same-queue q = record { apid = refl; capacity = refl; admitted = ([], sym (append-nil q.admitted)); taken = omega arith }
+
+queue-then : (a b c : Queue) → QueueGrows a b → QueueGrows b c → QueueGrows a c
+queue-then a b c g h = record {
+  apid = h.apid ∙ g.apid;
+  capacity = h.capacity ∙ g.capacity;
+  admitted = (g.admitted.0 ++ h.admitted.0, h.admitted.1 ∙ rw g.admitted.1 (append_assoc a.admitted g.admitted.0 h.admitted.0));
+  taken = let t = g.taken in let u = h.taken in omega arith;
+}
+
+same-queues : (qs : List Queue) → QueuesGrow qs qs
+same-queues [] = tt
+same-queues (q ∷ qs) = (same-queue q, same-queues qs)
+
+queues-then : (xs ys zs : List Queue) → QueuesGrow xs ys → QueuesGrow ys zs → QueuesGrow xs zs
+queues-then [] [] [] g h = tt
+queues-then [] [] (c ∷ zs) g h = h
+queues-then [] (b ∷ ys) zs g h = absurd g
+queues-then (a ∷ xs) [] zs g h = absurd g
+queues-then (a ∷ xs) (b ∷ ys) [] g h = absurd h
+queues-then (a ∷ xs) (b ∷ ys) (c ∷ zs) g h = (queue-then a b c g.0 h.0, queues-then xs ys zs g.1 h.1)
+
+shares-grow : (packets : List (List ℕ)) (qs : List Queue) → QueuesGrow qs (with_shares packets qs)
+shares-grow packets [] = tt
+shares-grow packets (q ∷ qs) = (record { apid = refl; capacity = refl; admitted = (share_of packets q, refl); taken = omega arith }, shares-grow packets qs)
+
+taken-grows : (apid : ℕ) (q : Queue) → QueueGrows q (taken_from apid q)
+taken-grows apid q = by (eqb q.apid apid && nat_lt q.taken (length q.admitted)) where
+  by : (t : Bool) → QueueGrows q (cond t (record q { taken = q.taken + 1 }) q)
+  by true = record { apid = refl; capacity = refl; admitted = ([], sym (append-nil q.admitted)); taken = omega arith }
+  by false = same-queue q
+
+takes-grow : (apid : ℕ) (qs : List Queue) → QueuesGrow qs (map (taken_from apid) qs)
+takes-grow apid [] = tt
+takes-grow apid (q ∷ qs) = (taken-grows apid q, takes-grow apid qs)
+
+same : (b : ChannelState) → Grows b b
+same b = record { accepted = ([], sym (append-nil b.accepted)); released = omega arith; passed = ([], sym (append-nil b.passed)); queues = same-queues b.queues }
+
+then : (a b c : ChannelState) → Grows a b → Grows b c → Grows a c
+then a b c g h = record {
+  accepted = (g.accepted.0 ++ h.accepted.0, h.accepted.1 ∙ rw g.accepted.1 (append_assoc a.accepted g.accepted.0 h.accepted.0));
+  released = let t = g.released in let u = h.released in omega arith;
+  passed = (g.passed.0 ++ h.passed.0, h.passed.1 ∙ rw g.passed.1 (append_assoc a.passed g.passed.0 h.passed.0));
+  queues = queues-then a.queues b.queues c.queues g.queues h.queues;
+}
+
+passed-grows : (service : Service) (field : List ℕ) (b : ChannelState) → Grows b (passed_on service field b)
+unfolding passed_on
+passed-grows service field b = record {
+  accepted = ([], sym (append-nil b.accepted));
+  released = omega arith;
+  passed = (record { service = service; field = field } ∷ [], refl);
+  queues = shares-grow (packets_in (unit_of b service field)) b.queues;
+}
+
+accepted-grows : (a : Accepted) (b : ChannelState) → Grows b (record b { accepted = b.accepted ++ a ∷ [] })
+accepted-grows a b = record { accepted = (a ∷ [], refl); released = omega arith; passed = ([], sym (append-nil b.passed)); queues = same-queues b.queues }
+
+with-report : (b later : ChannelState) (r : Report) → Grows b later → Grows b (record later { report = r })
+with-report b later r g = record { accepted = g.accepted; released = g.released; passed = g.passed; queues = g.queues }
+
+released-grows : (b later : ChannelState) (r : Report) → later.released ≡ b.released → Grows b later → Grows b (record later { released = b.released + 1; report = r })
+released-grows b later r e g = record { accepted = g.accepted; released = omega arith; passed = g.passed; queues = g.queues }
+
+step-grows : (c : Settings) (b : ChannelState) (e : Event) → Grows b (step c b e)
+unfolding passed_on
+step-grows c b (Frame octets) =
+    let row = row_of c b octets in
+    with-report b _ (after row b.report)
+    (kept-either (λ x. Grows b x) row (accepts row b.report) octets b (same b) (accepted-grows (record { ns = (header_of octets).ns; field = drop 5 octets }) b) (passed-grows Bd (drop 5 octets) b))
+step-grows c b Release = released-grows b (passed_on Ad (first_of (buffer b)) b) (after E10 b.report) refl (passed-grows Ad (first_of (buffer b)) b)
+step-grows c b (Take apid) = record { accepted = ([], sym (append-nil b.accepted)); released = omega arith; passed = ([], sym (append-nil b.passed)); queues = takes-grow apid b.queues }
+
+run_from-grows : (c : Settings) (b : ChannelState) (es : List Event) → Grows b (run_from c b es)
+run_from-grows c b [] = same b
+run_from-grows c b (e ∷ es) = then b (step c b e) (run_from c (step c b e) es) (step-grows c b e) (run_from-grows c (step c b e) es)
+
+pub run-grows : (c : Settings) (past future : List Event) → Grows (run c past) (run c (past ++ future))
+run-grows c past future = rw (run-append c past future) (run_from-grows c (run c past) future)

@@ -1,0 +1,182 @@
+-- What a channel's fields keep, over one event.
+use Rattle.std.proofs.Common.{◌≡◌, ℕ, ◌<◌, ◌≤◌, Bool, true, false, List, [], ◌∷◌, ◌++◌, length, map, drop, Option, refl, sym, ap, ◌∙◌, arith}
+use Rattle.std.specs.Prelude.{IsSome, nat_lt}
+use Rattle.std.proofs.lemmas.List.{drop-append-le, drop-drop, drop-map, map_push, length-map, length-append, length-drop}
+use Rattle.circular_buffer.specs.Buffer.{Buffer}
+use Rattle.tc_link.specs.declared.Kind.{Kind}
+use Rattle.tc_link.specs.Frame.{IsWhole, header_of}
+use Rattle.tc_link.specs.Command.{kind_of}
+use Rattle.tc_link.specs.Farm.{Machine, Row, E1, E2, E3, E4, E5, E6, E7, E8, E9, E10, number_of, frame_row, entry, accepts, after}
+use Rattle.tc_channel.specs.declared.settings.Settings.{Settings}
+use Rattle.tc_channel.specs.declared.event.Event.{Event}
+use Rattle.tc_channel.specs.declared.event.Event.TheVariants.{Frame, Release, Take}
+use Rattle.tc_channel.specs.ChannelState.{ChannelState, Accepted, first_state, buffer}
+use Rattle.tc_channel.specs.Run.{HasStep, step, row_of, kept, passed_on, first_of, run_from, AreSteps, run, IsLawful}
+use Rattle.tc_packet.specs.declared.Service.TheVariants.{Ad}
+use Rattle.tc_channel.specs.Journal.{History}
+use Rattle.tc_channel.specs.Reply.{buffered_fields}
+use Rattle.tc_channel.specs.Admission.{packets_in}
+use Rattle.tc_channel.specs.Channel.{Holds, Runs, Follows, FollowsKind, Ends, EndsAtOnce, buffered_of, with_field}
+use Rattle.tc_link.specs.declared.Act.{Act}
+use Rattle.tc_channel.specs.declared.queues.Copied.{Copied}
+use Rattle.tc_channel.specs.declared.queues.PacketQueue.{PacketQueue}
+use Rattle.tc_channel.specs.PacketQueues.{copies_from, put_all, HavePlaces}
+use Rattle.tc_channel.proofs.Copies.{copies-places}
+use Rattle.tc_channel.proofs.Shares.{queues-follow, frame-queues, release-queues}
+use Rattle.tc_channel.proofs.Streams.{frame-runs, release-runs}
+use Rattle.tc_channel.proofs.StateQueues.{kept-either, queues-kept}
+use Rattle.tc_channel.proofs.Filled.{filled-drop, first-filled, state-filled}
+use Rattle.tc_channel.proofs.Runs.{run-push, lawful-push}
+use Rattle.tc_channel.proofs.Sound.{state-sound, frame-enters, room-at_E1}
+use Rattle.std.proofs.lemmas.Bool.Decides.{nat_tests}
+
+abbrev IsCounted : ChannelState → Type 0
+IsCounted b = b.released ≤ length b.accepted
+
+kept-counted : (row : Row) (accepted : Bool) (octets : List ℕ) (b : ChannelState) → IsCounted b → IsCounted (kept row accepted octets b)
+unfolding passed_on
+kept-counted row accepted octets b h = kept-either IsCounted row accepted octets b h (omega (arith, length-append {A = Accepted})) h
+
+step-counted : (c : Settings) (b : ChannelState) (e : Event) → IsCounted b → HasStep c b e → IsCounted (step c b e)
+unfolding passed_on
+step-counted c b (Frame octets) h one = kept-counted (row_of c b octets) (accepts (row_of c b octets) b.report) octets b h
+step-counted c b Release h one = omega arith
+step-counted c b (Take apid) h one = h
+
+run_from-counted : (c : Settings) (b : ChannelState) (es : List Event) → IsCounted b → AreSteps c b es → IsCounted (run_from c b es)
+run_from-counted c b [] h steps = h
+run_from-counted c b (e ∷ es) h steps = run_from-counted c (step c b e) es (step-counted c b e h steps.0) steps.1
+
+-- no more fields were released than accepted
+pub state-counted : (c : Settings) (journal : List Event) → IsLawful c journal → IsCounted (run c journal)
+unfolding run IsLawful
+state-counted c journal lawful = run_from-counted c (first_state c) journal (omega arith) lawful
+
+pub oldest-filled : (c : Settings) (j : List Event) (farm : Machine) (ring : Buffer (List ℕ)) (runs : Runs) (rings : List PacketQueue) → Holds c j farm ring runs rings → 0 < length ring.items → 0 < length (first_of ring.items)
+oldest-filled c j farm ring runs rings k some =
+    let b = run c j in
+    let len : length ring.items ≡ length (buffer b) = ap length k.fields in
+    rw k.fields (first-filled (drop b.released b.accepted) (filled-drop b.released b.accepted (state-filled c j k.lawful)) (omega (arith, length-map (drop b.released b.accepted) (λ (a : Accepted). a.field))))
+
+-- what a row leaves in the buffer
+abbrev entered : ℕ → Bool → List (List ℕ) → List ℕ → List (List ℕ)
+entered event accepted fields field = with_field fields (buffered_of (record { event = event; accepted = accepted }) field)
+
+buffer-kept : (row : Row) (accepted : Bool) (octets : List ℕ) (b : ChannelState) → IsCounted b → buffer (kept row accepted octets b) ≡ entered (number_of row) accepted (buffer b) (drop 5 octets)
+unfolding passed_on
+buffer-kept E1 true octets b h =
+    let a : Accepted = record { ns = (header_of octets).ns; field = drop 5 octets } in
+    ap (map (λ (x : Accepted). x.field)) (drop-append-le b.released b.accepted (a ∷ []) h) ∙ map_push (λ (x : Accepted). x.field) (drop b.released b.accepted) a
+buffer-kept E1 false octets b h = refl
+buffer-kept E2 accepted octets b h = refl
+buffer-kept E3 accepted octets b h = refl
+buffer-kept E4 accepted octets b h = refl
+buffer-kept E5 accepted octets b h = refl
+buffer-kept E6 true octets b h = refl
+buffer-kept E6 false octets b h = refl
+buffer-kept E7 accepted octets b h = refl
+buffer-kept (E8 x) accepted octets b h = refl
+buffer-kept E9 accepted octets b h = refl
+buffer-kept E10 accepted octets b h = refl
+
+-- the row that FARM-1 is asked for is that of the book
+pub row-is : (c : Settings) (j : List Event) (farm : Machine) (ring : Buffer (List ℕ)) (runs : Runs) (rings : List PacketQueue) (octets : List ℕ) (kind : Kind) (len capacity : ℕ)
+    → Holds c j farm ring runs rings → kind ≡ kind_of (header_of octets) (drop 5 octets) → len ≡ length ring.items → capacity ≡ ring.capacity
+    → frame_row farm.width farm.report.vr kind (nat_lt len capacity) ≡ row_of c (run c j) octets
+row-is c j farm ring runs rings octets kind len capacity k kind_is len_is capacity_is =
+    let fields : length ring.items ≡ length (buffer (run c j)) = ap length k.fields in
+    rw (k.width, k.report, kind_is, len_is, capacity_is, k.capacity, fields) refl
+
+pub can-enter : (c : Settings) (j : List Event) (farm : Machine) (ring : Buffer (List ℕ)) (runs : Runs) (rings : List PacketQueue) (octets : List ℕ) (row : Row)
+    → Holds c j farm ring runs rings → row ≡ row_of c (run c j) octets → IsSome (entry row farm.report)
+can-enter c j farm ring runs rings octets row k row_is = rw (row_is, k.report) (frame-enters c (run c j) (state-sound c j) octets)
+
+pub frame-keeps : (c : Settings) (j : List Event) (farm later : Machine) (ring left : Buffer (List ℕ)) (runs later_runs : Runs) (rings later_rings : List PacketQueue) (copies : List Copied) (unit : Option (List ℕ)) (kind : Kind) (octets : List ℕ) (row : Row) (act : Act)
+    → Holds c j farm ring runs rings → kind ≡ kind_of (header_of octets) (drop 5 octets) → FollowsKind kind runs later_runs (drop 5 octets) → EndsAtOnce kind runs (drop 5 octets) unit → copies ≡ copies_from 0 (packets_in unit) rings → later_rings ≡ put_all rings copies
+    → IsWhole octets → row ≡ row_of c (run c j) octets → act.event ≡ number_of row → act.accepted ≡ accepts row farm.report
+    → later.width ≡ farm.width → later.report ≡ after row farm.report
+    → left.items ≡ with_field ring.items (buffered_of act (drop 5 octets)) → left.capacity ≡ ring.capacity
+    → Holds c (j ++ Frame octets ∷ []) later left later_runs later_rings
+frame-keeps c j farm later ring left runs later_runs rings later_rings copies unit kind octets row act k kind_is follows ends copies_is rings_are whole row_is event_is accepted_is width report items capacity =
+    let b = run c j in
+    let pushed = run-push c j (Frame octets) in
+    let accepts_is : act.accepted ≡ accepts (row_of c b octets) b.report = rw (accepted_is, row_is, k.report) refl in
+    let number_is : act.event ≡ number_of (row_of c b octets) = rw (event_is, row_is) refl in
+    let fields : left.items ≡ buffer (step c b (Frame octets)) =
+    items ∙ rw (k.fields, number_is, accepts_is) (sym (buffer-kept (row_of c b octets) (accepts (row_of c b octets) b.report) octets b (state-counted c j k.lawful))) in
+    record {
+      allowed = k.allowed;
+      lawful = lawful-push c j (Frame octets) k.lawful (whole, frame-enters c b (state-sound c j) octets);
+      width = width ∙ k.width;
+      report = report ∙ rw (row_is, k.report, pushed) refl;
+      capacity = capacity ∙ k.capacity;
+      fields = fields ∙ ap buffer (sym pushed);
+      runs = rw pushed (frame-runs c b octets runs later_runs k.runs (rw (← kind_is) follows));
+      queues = rw pushed (frame-queues c b octets runs unit later_rings k.runs (rw (← kind_is) ends) (queues-follow rings later_rings copies (packets_in unit) b.queues (queues-kept c j) k.queues copies_is rings_are));
+    }
+
+-- a buffered field goes where there is room
+pub room-for : (c : Settings) (j : List Event) (farm : Machine) (ring : Buffer (List ℕ)) (runs : Runs) (rings : List PacketQueue) (octets : List ℕ) (row : Row)
+    → Holds c j farm ring runs rings → row ≡ row_of c (run c j) octets → number_of row ≡ 1 → length ring.items < ring.capacity
+room-for c j farm ring runs rings octets row k row_is one =
+    let room = room-at_E1 c (run c j) octets (sym row_is ∙ only_E1 row one) in
+    let fields : length ring.items ≡ length (buffer (run c j)) = ap length k.fields in
+    rw (k.capacity, fields) (grind (arith, nat_tests))
+  where
+    only_E1 : (row : Row) → number_of row ≡ 1 → row ≡ E1
+    only_E1 E1 e = refl
+    only_E1 E2 e = absurd (omega arith)
+    only_E1 E3 e = absurd (omega arith)
+    only_E1 E4 e = absurd (omega arith)
+    only_E1 E5 e = absurd (omega arith)
+    only_E1 E6 e = absurd (omega arith)
+    only_E1 E7 e = absurd (omega arith)
+    only_E1 (E8 x) e = absurd (omega arith)
+    only_E1 E9 e = absurd (omega arith)
+    only_E1 E10 e = absurd (omega arith)
+
+buffer-released : (c : Settings) (b : ChannelState) → buffer (step c b Release) ≡ drop 1 (buffer b)
+unfolding passed_on
+buffer-released c b = ap (map (λ (x : Accepted). x.field)) (sym (drop-drop 1 b.released b.accepted)) ∙ sym (drop-map (λ (x : Accepted). x.field) 1 (drop b.released b.accepted))
+
+released-report : (c : Settings) (b : ChannelState) → (step c b Release).report ≡ after E10 b.report
+unfolding passed_on
+released-report c b = refl
+
+-- a buffer with a field has a release
+has-release : (b : ChannelState) → 0 < length (buffer b) → b.released < length b.accepted
+has-release b h = omega (arith, length-map (drop b.released b.accepted) (λ (a : Accepted). a.field), length-drop b.released b.accepted)
+
+pub release-keeps : (c : Settings) (j : List Event) (farm later : Machine) (ring left : Buffer (List ℕ)) (runs later_runs : Runs) (rings later_rings : List PacketQueue) (copies : List Copied) (unit : Option (List ℕ))
+    → Holds c j farm ring runs rings → Follows runs later_runs Ad (first_of ring.items) → Ends runs Ad (first_of ring.items) unit → copies ≡ copies_from 0 (packets_in unit) rings → later_rings ≡ put_all rings copies → 0 < length ring.items
+    → later.width ≡ farm.width → later.report ≡ after E10 farm.report
+    → left ≡ record { items = drop 1 ring.items; capacity = ring.capacity }
+    → Holds c (j ++ Release ∷ []) later left later_runs later_rings
+release-keeps c j farm later ring left runs later_runs rings later_rings copies unit k follows ends copies_is rings_are some width report is =
+    let b = run c j in
+    let pushed = run-push c j Release in
+    let len : length ring.items ≡ length (buffer b) = ap length k.fields in
+    let fields : left.items ≡ buffer (step c b Release) =
+    ap (λ (x : Buffer (List ℕ)). x.items) is ∙ ap (drop 1) k.fields ∙ sym (buffer-released c b) in
+    record {
+      allowed = k.allowed;
+      lawful = lawful-push c j Release k.lawful (has-release b (omega arith));
+      width = width ∙ k.width;
+      report = report ∙ rw (k.report, pushed) (sym (released-report c b));
+      capacity = ap (λ (x : Buffer (List ℕ)). x.capacity) is ∙ k.capacity;
+      fields = fields ∙ ap buffer (sym pushed);
+      runs = rw pushed (release-runs c b runs later_runs k.runs (let f : Follows runs later_runs Ad (first_of (buffer b)) = rw k.fields at follows in f));
+      queues = rw pushed (release-queues c b runs unit later_rings k.runs (let o : Ends runs Ad (first_of (buffer b)) unit = rw k.fields at ends in o) (queues-follow rings later_rings copies (packets_in unit) b.queues (queues-kept c j) k.queues copies_is rings_are));
+    }
+
+pub have-places : (ps : List (List ℕ)) (rings : List PacketQueue) → HavePlaces (length rings) (copies_from 0 ps rings)
+have-places ps rings = copies-places (length rings) 0 ps rings (omega arith)
+
+-- a channel whose buffer isn't empty holds a field
+pub some-field : (h : History) (c : Settings) (j : List Event) (farm : Machine) (ring : Buffer (List ℕ)) (runs : Runs) (rings : List PacketQueue) → record { settings = c; journal = j } ≡ h
+    → Holds c j farm ring runs rings → (buffered_fields h.settings h.journal ≡ [] → ⊥) → 0 < length ring.items
+unfolding buffered_fields
+some-field h c j farm ring runs rings view k none = by ring.items refl where
+  by : (items : List (List ℕ)) → ring.items ≡ items → 0 < length ring.items
+  by [] e = absurd (none (rw (← view) (sym k.fields ∙ e)))
+  by (x ∷ xs) e = rw e (omega arith)

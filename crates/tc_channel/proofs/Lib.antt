@@ -1,0 +1,16 @@
+pub mod Runs
+pub mod Sound
+pub mod StateQueues
+pub mod Streams
+pub mod Shares
+pub mod Counted
+pub mod Copies
+pub mod Takes
+pub mod Filled
+pub mod Held
+pub mod Small
+pub mod Eras
+pub mod Growth
+pub mod Apart
+pub mod Words
+pub mod Examples

@@ -1,0 +1,186 @@
+-- In S2 Wait is set, and then there is no room.
+use Rattle.std.proofs.Common.{◌≡◌, ◌≢◌, ℕ, Bool, true, false, List, [], ◌∷◌, drop, refl}
+use Rattle.std.specs.Prelude.{IsSome, unwrap_or}
+use Rattle.tc_link.specs.declared.Report.{Report}
+use Rattle.tc_link.specs.declared.State.{State}
+use Rattle.tc_link.specs.declared.State.TheVariants.{S1, S2, S3}
+use Rattle.tc_link.specs.declared.Kind.{Kind}
+use Rattle.tc_link.specs.declared.Kind.TheVariants.{Ad, Bd, Bc, Invalid}
+use Rattle.tc_link.specs.declared.Command.TheVariants.{Unlock, SetVr}
+use Rattle.tc_link.specs.declared.Place.{Place}
+use Rattle.tc_link.specs.declared.Place.TheVariants.{Expected, Ahead, Behind, Outside}
+use Rattle.tc_link.specs.Window.{place_of}
+use Rattle.tc_link.specs.Frame.{header_of}
+use Rattle.tc_link.specs.Command.{kind_of}
+use Rattle.tc_link.specs.Farm.{Row, E1, E2, E3, E4, E5, E6, E7, E8, E9, E10, row_at, frame_row, entry_at, entry, after}
+use Rattle.tc_channel.specs.declared.settings.Settings.{Settings}
+use Rattle.tc_channel.specs.declared.event.Event.{Event}
+use Rattle.tc_channel.specs.declared.event.Event.TheVariants.{Frame, Release, Take}
+use Rattle.tc_channel.specs.ChannelState.{ChannelState, first_state, has_room}
+use Rattle.tc_channel.specs.Run.{step, row_of, after_frame, after_release, passed_on, run_from, run}
+use Rattle.tc_channel.specs.Laws.{IsSound}
+
+-- by state: Wait, Lockout, and whether there is room
+abbrev pub SoundAt : State → Bool → Bool → Bool → Type 0
+SoundAt S1 wait lockout room = (wait ≡ false) × (lockout ≡ false)
+SoundAt S2 wait lockout room = (wait ≡ true) × (lockout ≡ false) × (room ≡ false)
+SoundAt S3 wait lockout room = (lockout ≡ true) × (wait ≡ true → room ≡ false)
+
+abbrev pub Sound : Bool → Report → Type 0
+Sound room r = SoundAt r.state r.wait r.lockout room
+
+-- which rows a frame without room has
+pub room-from_E1 : (width vr : ℕ) (kind : Kind) (room : Bool) → frame_row width vr kind room ≡ E1 → room ≡ true
+room-from_E1 width vr (Ad ns) room e = at (place_of width vr ns) room e where
+  at : (place : Place) (room : Bool) → row_at place room ≡ E1 → room ≡ true
+  at Expected true e = refl
+  at Expected false e = absurd cc
+  at Ahead room e = absurd cc
+  at Behind room e = absurd cc
+  at Outside room e = absurd cc
+room-from_E1 width vr Bd room e = absurd cc
+room-from_E1 width vr (Bc Unlock) room e = absurd cc
+room-from_E1 width vr (Bc (SetVr x)) room e = absurd cc
+room-from_E1 width vr Invalid room e = absurd cc
+
+pub full-from_E2 : (width vr : ℕ) (kind : Kind) (room : Bool) → frame_row width vr kind room ≡ E2 → room ≡ false
+full-from_E2 width vr (Ad ns) room e = at (place_of width vr ns) room e where
+  at : (place : Place) (room : Bool) → row_at place room ≡ E2 → room ≡ false
+  at Expected true e = absurd cc
+  at Expected false e = refl
+  at Ahead room e = absurd cc
+  at Behind room e = absurd cc
+  at Outside room e = absurd cc
+full-from_E2 width vr Bd room e = absurd cc
+full-from_E2 width vr (Bc Unlock) room e = absurd cc
+full-from_E2 width vr (Bc (SetVr x)) room e = absurd cc
+full-from_E2 width vr Invalid room e = absurd cc
+
+pub room-at_E1 : (c : Settings) (b : ChannelState) (octets : List ℕ) → row_of c b octets ≡ E1 → has_room c b ≡ true
+room-at_E1 c b octets e = room-from_E1 c.width b.report.vr (kind_of (header_of octets) (drop 5 octets)) (has_room c b) e
+
+full-at_E2 : (c : Settings) (b : ChannelState) (octets : List ℕ) → row_of c b octets ≡ E2 → has_room c b ≡ false
+full-at_E2 c b octets e = full-from_E2 c.width b.report.vr (kind_of (header_of octets) (drop 5 octets)) (has_room c b) e
+
+-- each row but E1 has an entry in S2
+pub enters : (row : Row) (st : State) (r : Report) → (st ≡ S2 → row ≢ E1) → IsSome (entry_at row st r)
+enters E1 S2 r h = absurd (h refl refl)
+enters E1 S1 r h = refl
+enters E1 S3 r h = refl
+enters E2 S1 r h = refl
+enters E2 S2 r h = refl
+enters E2 S3 r h = refl
+enters E3 S1 r h = refl
+enters E3 S2 r h = refl
+enters E3 S3 r h = refl
+enters E4 S1 r h = refl
+enters E4 S2 r h = refl
+enters E4 S3 r h = refl
+enters E5 S1 r h = refl
+enters E5 S2 r h = refl
+enters E5 S3 r h = refl
+enters E6 S1 r h = refl
+enters E6 S2 r h = refl
+enters E6 S3 r h = refl
+enters E7 S1 r h = refl
+enters E7 S2 r h = refl
+enters E7 S3 r h = refl
+enters (E8 x) S1 r h = refl
+enters (E8 x) S2 r h = refl
+enters (E8 x) S3 r h = refl
+enters E9 S1 r h = refl
+enters E9 S2 r h = refl
+enters E9 S3 r h = refl
+enters E10 S1 r h = refl
+enters E10 S2 r h = refl
+enters E10 S3 r h = refl
+
+-- an entry keeps it, where room stays or E1 is met in S1
+abbrev pub Left : Row → State → Report → Report
+Left row st r = unwrap_or (entry_at row st r) r
+
+entry-sound : (row : Row) (st : State) (r : Report) (room : Bool) → r.state ≡ st → (row ≡ E2 → room ≡ false) → SoundAt st r.wait r.lockout room → Sound room (Left row st r)
+entry-sound E1 S1 r room e full h = rw e h
+entry-sound E1 S2 r room e full h = rw e h
+entry-sound E1 S3 r room e full h = rw e h
+entry-sound E2 S1 r room e full h = (refl, h.1, full refl)
+entry-sound E2 S2 r room e full h = rw e h
+entry-sound E2 S3 r room e full h = rw e h
+entry-sound E3 S1 r room e full h = rw e h
+entry-sound E3 S2 r room e full h = rw e h
+entry-sound E3 S3 r room e full h = rw e h
+entry-sound E4 S1 r room e full h = rw e h
+entry-sound E4 S2 r room e full h = rw e h
+entry-sound E4 S3 r room e full h = rw e h
+entry-sound E5 S1 r room e full h = (refl, λ w. absurd (let f = h.0 in cc))
+entry-sound E5 S2 r room e full h = (refl, λ w. h.2)
+entry-sound E5 S3 r room e full h = rw e h
+entry-sound E6 S1 r room e full h = rw e h
+entry-sound E6 S2 r room e full h = rw e h
+entry-sound E6 S3 r room e full h = rw e h
+entry-sound E7 S1 r room e full h = rw e h
+entry-sound E7 S2 r room e full h = (refl, h.1)
+entry-sound E7 S3 r room e full h = (refl, refl)
+entry-sound (E8 x) S1 r room e full h = rw e h
+entry-sound (E8 x) S2 r room e full h = (refl, h.1)
+entry-sound (E8 x) S3 r room e full h = rw e h
+entry-sound E9 S1 r room e full h = rw e h
+entry-sound E9 S2 r room e full h = rw e h
+entry-sound E9 S3 r room e full h = rw e h
+entry-sound E10 S1 r room e full h = rw e h
+entry-sound E10 S2 r room e full h = (refl, h.1)
+entry-sound E10 S3 r room e full h = rw e (h.0, λ w. absurd cc)
+
+-- E10, whatever room there is then
+released-sound : (st : State) (r : Report) (room later : Bool) → r.state ≡ st → SoundAt st r.wait r.lockout room → Sound later (Left E10 st r)
+released-sound S1 r room later e h = rw e h
+released-sound S2 r room later e h = (refl, h.1)
+released-sound S3 r room later e h = rw e (h.0, λ w. absurd cc)
+
+frame-sound : (c : Settings) (b : ChannelState) (octets : List ℕ) (row : Row) → row_of c b octets ≡ row → Sound (has_room c b) b.report
+    → Sound (has_room c (after_frame row octets b)) (after row b.report)
+unfolding passed_on
+frame-sound c b octets E1 e h = at b.report.state refl where
+  at : (st : State) → b.report.state ≡ st → Sound (has_room c (after_frame E1 octets b)) (after E1 b.report)
+  at S1 s = rw s (let k : SoundAt S1 b.report.wait b.report.lockout (has_room c b) = rw s at h in k)
+  at S2 s = absurd (let k : SoundAt S2 b.report.wait b.report.lockout (has_room c b) = rw s at h in let t = room-at_E1 c b octets e in cc (k.2, t))
+  at S3 s = rw s (let k : SoundAt S3 b.report.wait b.report.lockout (has_room c b) = rw s at h in k)
+frame-sound c b octets E2 e h = entry-sound E2 b.report.state b.report (has_room c b) refl (λ q. full-at_E2 c b octets e) h
+frame-sound c b octets E3 e h = entry-sound E3 b.report.state b.report (has_room c b) refl (λ q. absurd cc) h
+frame-sound c b octets E4 e h = entry-sound E4 b.report.state b.report (has_room c b) refl (λ q. absurd cc) h
+frame-sound c b octets E5 e h = entry-sound E5 b.report.state b.report (has_room c b) refl (λ q. absurd cc) h
+frame-sound c b octets E6 e h = entry-sound E6 b.report.state b.report (has_room c b) refl (λ q. absurd cc) h
+frame-sound c b octets E7 e h = entry-sound E7 b.report.state b.report (has_room c b) refl (λ q. absurd cc) h
+frame-sound c b octets (E8 x) e h = entry-sound (E8 x) b.report.state b.report (has_room c b) refl (λ q. absurd cc) h
+frame-sound c b octets E9 e h = entry-sound E9 b.report.state b.report (has_room c b) refl (λ q. absurd cc) h
+frame-sound c b octets E10 e h = entry-sound E10 b.report.state b.report (has_room c b) refl (λ q. absurd cc) h
+
+step-sound : (c : Settings) (b : ChannelState) (e : Event) → Sound (has_room c b) b.report → Sound (has_room c (step c b e)) (step c b e).report
+step-sound c b (Frame octets) h = frame-sound c b octets (row_of c b octets) refl h
+step-sound c b Release h = released-sound b.report.state b.report (has_room c b) (has_room c (after_release b)) refl h
+step-sound c b (Take apid) h = h
+
+run_from-sound : (c : Settings) (b : ChannelState) (es : List Event) → Sound (has_room c b) b.report → Sound (has_room c (run_from c b es)) (run_from c b es).report
+run_from-sound c b [] h = h
+run_from-sound c b (e ∷ es) h = run_from-sound c (step c b e) es (step-sound c b e h)
+
+pub run-sound : (c : Settings) (journal : List Event) → Sound (has_room c (run c journal)) (run c journal).report
+unfolding run
+run-sound c journal = run_from-sound c (first_state c) journal (refl, refl)
+
+in-S2 : (room : Bool) (st : State) (r : Report) → SoundAt st r.wait r.lockout room → (st ≡ S2 → r.wait ≡ true) × (r.wait ≡ true → room ≡ false) × (r.wait ≡ true → st ≢ S1) × (r.lockout ≡ true → st ≡ S3) × (st ≡ S3 → r.lockout ≡ true)
+in-S2 room S1 r h = let w = h.0 in let l = h.1 in (λ s. absurd cc, λ t. absurd cc, λ t. absurd cc, λ t. absurd cc, λ s. absurd cc)
+in-S2 room S2 r h = let l = h.1 in (λ s. h.0, λ t. h.2, λ t s. cc, λ t. absurd cc, λ s. absurd cc)
+in-S2 room S3 r h = (λ s. absurd cc, h.1, λ t s. cc, λ t. refl, λ s. h.0)
+
+pub state-sound : (c : Settings) (journal : List Event) → IsSound c (run c journal)
+state-sound c journal =
+    let h = in-S2 (has_room c (run c journal)) (run c journal).report.state (run c journal).report (run-sound c journal) in
+    record { waits = h.0; full = h.1; never_open = h.2; locked = h.3; lockout = h.4 }
+
+-- so a frame has an entry at each such book
+pub frame-enters : (c : Settings) (b : ChannelState) → IsSound c b → (octets : List ℕ) → IsSome (entry (row_of c b octets) b.report)
+frame-enters c b sound octets = enters (row_of c b octets) b.report.state b.report (λ s e.
+    let full = sound.full (sound.waits s) in
+    let room = room-at_E1 c b octets e in
+    cc (full, room))

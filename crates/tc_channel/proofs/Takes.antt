@@ -1,0 +1,133 @@
+-- A packet is taken.
+use Rattle.std.proofs.Common.{◌≡◌, ◌≢◌, ℕ, zero, suc, ◌+◌, ◌<◌, Bool, true, false, cond, eqb, List, [], ◌∷◌, ◌++◌, length, map, take, drop, get_or, Option, Some, None, refl, sym, ap, ◌∙◌, inl, inr, arith}
+use Rattle.std.specs.Prelude.{nat_lt, Any, option_map, slice_get, IsSome}
+use Rattle.std.specs.Option.{option_and_then}
+use Rattle.std.specs.List.{AllByRecursion}
+use Rattle.std.proofs.lemmas.List.{drop-drop, length-drop}
+use Rattle.std.proofs.lemmas.Bool.{eq-eqb}
+use Rattle.std.proofs.Math.ListN.{set}
+use Rattle.circular_buffer.specs.Buffer.{Buffer}
+use Rattle.tc_link.specs.Farm.{Machine}
+use Rattle.tc_channel.specs.declared.settings.Settings.{Settings}
+use Rattle.tc_channel.specs.declared.event.Event.{Event}
+use Rattle.tc_channel.specs.declared.event.Event.TheVariants.{Take}
+use Rattle.tc_channel.specs.Channel.{Holds, Runs}
+use Rattle.tc_channel.proofs.Runs.{run-push, lawful-push}
+use Rattle.std.proofs.lemmas.Bool.Decides.{nat_tests, eqb_tells}
+use Rattle.tc_channel.specs.declared.queues.PacketQueue.{PacketQueue}
+use Rattle.tc_channel.specs.ChannelState.{Queue, waiting, queue_of}
+use Rattle.tc_channel.specs.Run.{taken_from, run}
+use Rattle.tc_channel.specs.Reply.{waiting_packets}
+use Rattle.tc_channel.specs.PacketQueues.{AreDistinct, apids_of, held, queue_for, popped, shorter}
+use Rattle.tc_channel.proofs.StateQueues.{apids, queues-apart}
+
+pub held-queue : (apid : ℕ) (qs : List Queue) → queue_for apid (map held qs) ≡ option_map held (queue_of apid qs)
+held-queue apid [] = refl
+held-queue apid (q ∷ qs) = by (eqb q.apid apid) (held-queue apid qs) where
+  by : (t : Bool) → queue_for apid (map held qs) ≡ option_map held (queue_of apid qs) → cond t (Some (held q)) (queue_for apid (map held qs)) ≡ option_map held (cond t (Some q) (queue_of apid qs))
+  by true h = refl
+  by false h = h
+
+one-taken : (apid : ℕ) (q : Queue) → eqb q.apid apid ≡ true → q.taken < length q.admitted → taken_from apid q ≡ record q { taken = q.taken + 1 }
+one-taken apid q same some = let t : nat_lt q.taken (length q.admitted) ≡ true = grind (arith, nat_tests) in rw (same, t) refl
+
+none-taken : (apid : ℕ) (q : Queue) → eqb q.apid apid ≡ false → taken_from apid q ≡ q
+none-taken apid q other = rw other refl
+
+others-stay : (apid : ℕ) (a : ℕ) (qs : List Queue) → a ≡ apid → AllByRecursion (λ b. a ≢ b) (apids qs) → map (taken_from apid) qs ≡ qs
+others-stay apid a [] e h = refl
+others-stay apid a (q ∷ qs) e h = elim (eqb_tells q.apid apid) [
+  | inl same ↦ absurd (h.0 (e ∙ sym same.1))
+  | inr other ↦ rw (none-taken apid q other.0) (ap (λ (x : List Queue). q ∷ x) (others-stay apid a qs e h.1))
+]
+
+-- where the queue has a packet
+pub popped-taken : (apid : ℕ) (qs : List Queue) (q : Queue) → AreDistinct (apids qs) → queue_of apid qs ≡ Some q → q.taken < length q.admitted
+    → popped apid (map held qs) ≡ map held (map (taken_from apid) qs)
+popped-taken apid [] q apart is some = absurd cc
+popped-taken apid (p ∷ qs) q apart is some = elim (eqb_tells p.apid apid) [
+  | inl same ↦ (
+      let e : p ≡ q = (let i : Some p ≡ Some q = rw same.0 at is in cc) in
+      let one = one-taken apid p same.0 (rw e some) in
+      let rest = others-stay apid p.apid qs same.1 apart.0 in
+      let tail : map held (map (taken_from apid) (p ∷ qs)) ≡ held (record p { taken = p.taken + 1 }) ∷ map held qs = ap (λ (x : Queue). held x ∷ map held (map (taken_from apid) qs)) one ∙ ap (λ (x : List Queue). held (record p { taken = p.taken + 1 }) ∷ map held x) rest in
+      let head : popped apid (map held (p ∷ qs)) ≡ shorter (held p) ∷ map held qs = rw same.0 refl in
+      head ∙ (ap (λ (x : List (List ℕ)). record { apid = p.apid; packets = record { items = x; capacity = p.capacity } } ∷ map held qs) (drop-drop 1 p.taken p.admitted) ∙ sym tail))
+  | inr other ↦ (
+      let none = none-taken apid p other.0 in
+      let i : queue_of apid qs ≡ Some q = rw other.0 at is in
+      let rest = popped-taken apid qs q apart.1 i some in
+      let tail : map held (map (taken_from apid) (p ∷ qs)) ≡ held p ∷ map held (map (taken_from apid) qs) = ap (λ (x : Queue). held x ∷ map held (map (taken_from apid) qs)) none in
+      let head : popped apid (map held (p ∷ qs)) ≡ held p ∷ popped apid (map held qs) = rw other.0 refl in
+      head ∙ ap (λ (x : List PacketQueue). held p ∷ x) rest ∙ sym tail)
+]
+
+-- the event can happen
+pub can-take : (apid : ℕ) (qs : List Queue) (q : Queue) → queue_of apid qs ≡ Some q → q.taken < length q.admitted → Any (λ (x : Queue). (x.apid ≡ apid) × (x.taken < length x.admitted)) qs
+can-take apid [] q is some = absurd cc
+can-take apid (p ∷ qs) q is some = elim (eqb_tells p.apid apid) [
+  | inl same ↦ (let e : p ≡ q = (let i : Some p ≡ Some q = rw same.0 at is in cc) in (0, p, omega arith, refl, (same.1, rw e some)))
+  | inr other ↦ (let i : queue_of apid qs ≡ Some q = rw other.0 at is in let k = can-take apid qs q i some in (suc k.0, k.1, (let l = k.2 in omega arith), k.3, k.4))
+]
+
+some-queue : (o : Option Queue) (w : PacketQueue) → option_map held o ≡ Some w → 0 < length w.packets.items → (q : Queue) × (o ≡ Some q) × (q.taken < length q.admitted)
+some-queue None w e some = absurd cc
+some-queue (Some q) w e some =
+    let i : held q ≡ w = cc in
+    let l : length (waiting q) ≡ length w.packets.items = ap (λ (x : PacketQueue). length x.packets.items) i in
+    (q, refl, omega (arith, length-drop q.taken q.admitted))
+
+pub take-keeps : (c : Settings) (j : List Event) (farm : Machine) (ring : Buffer (List ℕ)) (runs : Runs) (rings later : List PacketQueue) (apid : ℕ) (w : PacketQueue)
+    → Holds c j farm ring runs rings → queue_for apid rings ≡ Some w → 0 < length w.packets.items → later ≡ popped apid rings → Holds c (j ++ Take apid ∷ []) farm ring runs later
+take-keeps c j farm ring runs rings later apid w k found some is =
+    let b = run c j in
+    let pushed = run-push c j (Take apid) in
+    let held_is : option_map held (queue_of apid b.queues) ≡ Some w = sym (held-queue apid b.queues) ∙ ap (queue_for apid) (sym k.queues) ∙ found in
+    let q = some-queue (queue_of apid b.queues) w held_is some in
+    record {
+      allowed = k.allowed;
+      lawful = lawful-push c j (Take apid) k.lawful (can-take apid b.queues q.0 q.1 q.2);
+      width = k.width;
+      report = k.report ∙ rw pushed refl;
+      capacity = k.capacity;
+      fields = k.fields ∙ rw pushed refl;
+      runs = rw pushed k.runs;
+      queues = is ∙ ap (popped apid) k.queues ∙ popped-taken apid b.queues q.0 (queues-apart c j k.allowed) q.1 q.2 ∙ rw pushed refl;
+    }
+
+items-map : (o : Option Queue) → option_map waiting o ≡ option_map (λ (w : PacketQueue). w.packets.items) (option_map held o)
+items-map None = refl
+items-map (Some q) = refl
+
+-- what waits for an application, by the fields
+pub waits : (c : Settings) (j : List Event) (farm : Machine) (ring : Buffer (List ℕ)) (runs : Runs) (rings : List PacketQueue) (apid : ℕ)
+    → Holds c j farm ring runs rings → waiting_packets c j apid ≡ option_map (λ (w : PacketQueue). w.packets.items) (queue_for apid rings)
+unfolding waiting_packets
+waits c j farm ring runs rings apid k = rw k.queues (items-map (queue_of apid (run c j).queues) ∙ ap (option_map (λ (w : PacketQueue). w.packets.items)) (sym (held-queue apid (run c j).queues)))
+
+-- the oldest packet of ring i is taken
+pub popped-at : (apid : ℕ) (ws : List PacketQueue) (i : ℕ) (w : PacketQueue) → w ≡ get_or ws i w → i < length ws → w.apid ≡ apid → set ws i (shorter w) ≡ take i ws ++ popped apid (drop i ws)
+popped-at apid [] i w is lt e = absurd (omega arith)
+popped-at apid (v ∷ ws) zero w is lt e =
+    let same : eqb v.apid apid ≡ true = eq-eqb v.apid apid (ap (λ (x : PacketQueue). x.apid) (sym is) ∙ e) in
+    rw same (ap (λ (x : PacketQueue). shorter x ∷ ws) is)
+popped-at apid (v ∷ ws) (suc i) w is lt e = ap (λ (x : List PacketQueue). v ∷ x) (popped-at apid ws i w is (omega arith) e)
+
+pub found-queue : (o : Option PacketQueue) (xs : List (List ℕ)) → option_map (λ (w : PacketQueue). w.packets.items) o ≡ Some xs → (w : PacketQueue) × (o ≡ Some w) × (w.packets.items ≡ xs)
+found-queue None xs e = absurd cc
+found-queue (Some w) xs e = (w, refl, (let i : w.packets.items ≡ xs = cc in i))
+
+pub popped-is : (o : Option PacketQueue) (xs : List (List ℕ)) → option_map (λ (w : PacketQueue). w.packets.items) o ≡ Some xs → option_and_then (λ (w : PacketQueue). slice_get w.packets.items 0) o ≡ slice_get xs 0
+popped-is None xs e = absurd cc
+popped-is (Some w) xs e = let i : w.packets.items ≡ xs = cc in ap (λ (x : List (List ℕ)). slice_get x 0) i
+
+pub has-first : (xs : List (List ℕ)) → 0 < length xs → IsSome (slice_get xs 0)
+has-first [] some = absurd (omega arith)
+has-first (x ∷ xs) some = refl
+
+same-apids : (qs : List Queue) → apids_of (map held qs) ≡ apids qs
+same-apids [] = refl
+same-apids (q ∷ qs) = ap (λ (x : List ℕ). q.apid ∷ x) (same-apids qs)
+
+pub queues-distinct : (c : Settings) (j : List Event) (farm : Machine) (ring : Buffer (List ℕ)) (runs : Runs) (rings : List PacketQueue) → Holds c j farm ring runs rings → AreDistinct (apids_of rings)
+queues-distinct c j farm ring runs rings k = rw (k.queues, same-apids (run c j).queues) (queues-apart c j k.allowed)

@@ -1,0 +1,9 @@
+use Rattle.std.proofs.Common.{subst}
+use Rattle.tc_channel.specs.Journal.{History}
+use Rattle.tc_channel.specs.Era.{CountsUpInItsEra}
+use Rattle.tc_channel.proofs.Eras.{era-law}
+use Rattle.tc_channel.proofs.channel.Channel.report.Goals as goal
+
+pub returns-clause-era : goal.returns-clause-era
+returns-clause-era c =
+    subst (λ (h : History). CountsUpInItsEra h.settings h.journal) c.self.view_is (era-law c.self.inside.settings c.self.inside.journal.items c.self.invariant.allowed c.self.invariant.lawful)

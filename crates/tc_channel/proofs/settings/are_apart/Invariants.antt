@@ -1,0 +1,5 @@
+use Rattle.tc_channel.proofs.Apart.{ApartBelow}
+use Rattle.tc_channel.proofs.settings.are_apart.Given as goal
+
+abbrev pub invariant-loop-i : goal.invariant-loop-i
+invariant-loop-i l = ApartBelow l.queues l.i

@@ -1,0 +1,67 @@
+-- What the fields of a channel hold of the run of its journal.
+use Rattle.std.specs.Prelude.{◌≡◌, ◌≢◌, ℕ, ◌<◌, List, [], ◌∷◌, ◌++◌, Option, Some, None, map, ◌==◌, ◌&&◌, if◌then◌else◌}
+use Rattle.circular_buffer.specs.Buffer.{Buffer}
+use Rattle.tc_link.specs.Farm.{Machine}
+use Rattle.tc_link.specs.declared.Act.{Act}
+use Rattle.tc_link.specs.declared.Kind.{Kind}
+use Rattle.tc_link.specs.declared.Kind.TheVariants as kinds
+use Rattle.tc_packet.specs.declared.Service.{Service}
+use Rattle.tc_packet.specs.declared.Service.TheVariants.{Bd}
+use Rattle.tc_packet.specs.Reassembly.{Passed, stream, open_run, run_at, place_of, stream_place, unit_at}
+use Rattle.tc_channel.specs.declared.settings.Settings.{Settings}
+use Rattle.tc_channel.specs.Settings.{IsAllowed}
+use Rattle.tc_channel.specs.declared.event.Event.{Event}
+use Rattle.tc_channel.specs.ChannelState.{buffer}
+use Rattle.tc_channel.specs.PacketQueues.{held}
+use Rattle.tc_channel.specs.declared.queues.PacketQueue.{PacketQueue}
+use Rattle.tc_channel.specs.Run.{run, IsLawful}
+
+-- what a contract sees of a reassembler: the open run of each stream
+abbrev pub Runs : Type 0
+Runs = List (Option (List ℕ))
+
+-- each stream's open run is that of the data fields that were passed
+abbrev pub AreRuns : Runs → List Passed → Type 0
+AreRuns runs passed = (service : Service) (map_id : ℕ) → map_id < 64 → open_run (stream service map_id passed) ≡ run_at runs (place_of service map_id)
+
+-- the runs after one more data field
+pub record Follows (old new : Runs) (service : Service) (field : List ℕ) : Type 0 where
+  pub run : (fields : List (List ℕ)) → open_run fields ≡ run_at old (stream_place service field) → run_at new (stream_place service field) ≡ open_run (fields ++ field ∷ [])
+  pub others : (other : ℕ) → other ≢ stream_place service field → run_at new other ≡ run_at old other
+
+-- the data field of a BD frame is passed on at once, and no other
+abbrev pub FollowsKind : Kind → Runs → Runs → List ℕ → Type 0
+FollowsKind kinds.Bd old new field = Follows old new Bd field
+FollowsKind (kinds.Ad ns) old new field = new ≡ old
+FollowsKind (kinds.Bc command) old new field = new ≡ old
+FollowsKind kinds.Invalid old new field = new ≡ old
+
+-- the unit that a data field would end
+abbrev pub Ends : Runs → Service → List ℕ → Option (List ℕ) → Type 0
+Ends runs service field unit = (fields : List (List ℕ)) → open_run fields ≡ run_at runs (stream_place service field) → unit ≡ unit_at fields field
+
+-- the unit that a frame would end at once
+abbrev pub EndsAtOnce : Kind → Runs → List ℕ → Option (List ℕ) → Type 0
+EndsAtOnce kinds.Bd runs field unit = Ends runs Bd field unit
+EndsAtOnce (kinds.Ad ns) runs field unit = unit ≡ None
+EndsAtOnce (kinds.Bc command) runs field unit = unit ≡ None
+EndsAtOnce kinds.Invalid runs field unit = unit ≡ None
+
+-- what goes into the buffer of a frame: the data field of an accepted AD frame
+abbrev pub buffered_of : Act → List ℕ → Option (List ℕ)
+buffered_of act field = if act.event == 1 && act.accepted then Some field else None
+
+abbrev pub with_field : List (List ℕ) → Option (List ℕ) → List (List ℕ)
+with_field fields None = fields
+with_field fields (Some field) = fields ++ field ∷ []
+
+-- FARM-1, the buffer, the reassembler and the queues are those of the journal's run
+pub record Holds (s : Settings) (journal : List Event) (farm : Machine) (ring : Buffer (List ℕ)) (open_runs : Runs) (rings : List PacketQueue) : Type 0 where
+  pub allowed : IsAllowed s
+  pub lawful : IsLawful s journal
+  pub width : farm.width ≡ s.width
+  pub report : farm.report ≡ (run s journal).report
+  pub capacity : ring.capacity ≡ s.buffer
+  pub fields : ring.items ≡ buffer (run s journal)
+  pub runs : AreRuns open_runs (run s journal).passed
+  pub queues : rings ≡ map held (run s journal).queues

@@ -1,0 +1,50 @@
+-- The state of a channel: FARM-1's components, and whole lists and counts that are never cut.
+use Rattle.std.specs.Prelude.{ℕ, Bool, List, [], ◌∷◌, length, map, drop, nat_lt, ◌==◌, Option, Some, None, if◌then◌else◌}
+use Rattle.tc_link.specs.declared.Report.{Report}
+use Rattle.tc_link.specs.Farm.{first_report}
+use Rattle.tc_packet.specs.Reassembly.{Passed}
+use Rattle.tc_channel.specs.declared.settings.QueueSetting.{QueueSetting}
+use Rattle.tc_channel.specs.declared.settings.Settings.{Settings}
+
+-- an accepted AD frame: N(S) and its data field
+pub record Accepted : Type 0 where
+  pub ns : ℕ
+  pub field : List ℕ
+
+-- a packet queue: all packets that were ever admitted, and how many of them were taken
+pub record Queue : Type 0 where
+  pub apid : ℕ
+  pub capacity : ℕ
+  pub admitted : List (List ℕ)
+  pub taken : ℕ
+
+-- all AD frames ever accepted and how many of them were released, all data fields ever passed to reassembly, and the queues
+pub record ChannelState : Type 0 where
+  pub report : Report
+  pub accepted : List Accepted
+  pub released : ℕ
+  pub passed : List Passed
+  pub queues : List Queue
+
+abbrev pub empty_queue : QueueSetting → Queue
+empty_queue q = record { apid = q.apid; capacity = q.capacity; admitted = []; taken = 0 }
+
+-- the state of a channel that starts
+abbrev pub first_state : Settings → ChannelState
+first_state s = record { report = first_report s.first; accepted = []; released = 0; passed = []; queues = map empty_queue s.queues }
+
+-- the data fields that wait in the buffer, the oldest first
+abbrev pub buffer : ChannelState → List (List ℕ)
+buffer state = map (λ a. a.field) (drop state.released state.accepted)
+
+abbrev pub has_room : Settings → ChannelState → Bool
+has_room s state = nat_lt (length (buffer state)) s.buffer
+
+-- the packets that wait in a queue, the oldest first
+abbrev pub waiting : Queue → List (List ℕ)
+waiting q = drop q.taken q.admitted
+
+-- the queue for an APID
+abbrev pub queue_of : ℕ → List Queue → Option Queue
+queue_of apid [] = None
+queue_of apid (q ∷ qs) = if q.apid == apid then Some q else queue_of apid qs

@@ -1,0 +1,51 @@
+-- The era of a journal: what came since V(R) was last set by a Set V(R) that was obeyed.
+use Rattle.std.specs.Prelude.{◌≡◌, ℕ, ◌+◌, ◌%◌, List, [], ◌∷◌, ◌++◌, length, take, drop, ◌⊎◌, slice_get, Option, Some, None}
+use Rattle.tc_link.specs.Farm.{Row, E8}
+use Rattle.tc_link.specs.declared.State.{State}
+use Rattle.tc_link.specs.declared.State.TheVariants.{S1, S2}
+use Rattle.tc_channel.specs.declared.settings.Settings.{Settings}
+use Rattle.tc_channel.specs.declared.event.Event.{Event}
+use Rattle.tc_channel.specs.declared.event.Event.TheVariants.{Frame, Release, Take}
+use Rattle.tc_channel.specs.ChannelState.{ChannelState, Accepted}
+use Rattle.tc_channel.specs.Run.{row_of, run}
+
+-- Set V(R) is obeyed in S1 and in S2
+abbrev pub set_at : Row → State → Option ℕ
+set_at (E8 x) S1 = Some x
+set_at (E8 x) S2 = Some x
+set_at _ _ = None
+
+-- the number that an event sets V(R) to
+abbrev pub set_by : Settings → ChannelState → Event → Option ℕ
+set_by s state (Frame octets) = set_at (row_of s state octets) state.report.state
+set_by s state Release = None
+set_by s state (Take apid) = None
+
+-- an era starts after these events, at V(R) = x: they are none, or the last of them set V(R) to x
+abbrev pub Starts : Settings → List Event → ℕ → Type 0
+Starts s before x =
+    ((before ≡ []) × (x ≡ s.first))
+    ⊎ ((past : List Event) × (e : Event) × (before ≡ past ++ e ∷ []) × (set_by s (run s past) e ≡ Some x))
+
+-- no event that came later set V(R)
+abbrev pub NoneSets : Settings → List Event → List Event → Type 0
+NoneSets s before later = (i : ℕ) (e : Event) → slice_get later i ≡ Some e → set_by s (run s (before ++ take i later)) e ≡ None
+
+-- the era of the journal: what came before it, what came in it, and its first number
+pub record IsEra (s : Settings) (journal before later : List Event) (x : ℕ) : Type 0 where
+  pub parts : journal ≡ before ++ later
+  pub starts : Starts s before x
+  pub last : NoneSets s before later
+
+-- the AD frames that were accepted after these events
+abbrev pub accepted_since : Settings → List Event → List Event → List Accepted
+accepted_since s before journal = drop (length (run s before).accepted) (run s journal).accepted
+
+-- the accepted frames count up from x, and V(R) is the next number, modulo 256
+pub record CountsUp (s : Settings) (journal before : List Event) (x : ℕ) : Type 0 where
+  pub numbers : (i : ℕ) (a : Accepted) → slice_get (accepted_since s before journal) i ≡ Some a → a.ns ≡ (x + i) % 256
+  pub vr : (run s journal).report.vr ≡ (x + length (accepted_since s before journal)) % 256
+
+-- in whatever way a journal is parted into an era and what came before
+abbrev pub CountsUpInItsEra : Settings → List Event → Type 0
+CountsUpInItsEra s journal = (before later : List Event) (x : ℕ) → IsEra s journal before later x → CountsUp s journal before x

@@ -1,0 +1,10 @@
+pub mod Settings
+pub mod Journal
+pub mod ChannelState
+pub mod Admission
+pub mod Run
+pub mod Reply
+pub mod Era
+pub mod Laws
+pub mod PacketQueues
+pub mod Channel

@@ -1,0 +1,66 @@
+-- What a channel answers after a journal.
+use Rattle.std.specs.Prelude.{ℕ, ◌-◌, false, List, length, nat_lt, Option, Some, None, option_map, slice_get}
+use Rattle.std.specs.Option.{option_and_then}
+use Rattle.tc_link.specs.declared.Act.{Act}
+use Rattle.tc_link.specs.declared.Link.{Link}
+use Rattle.tc_link.specs.Clcw.{word_of}
+use Rattle.tc_link.specs.Farm.{Row, E6, number_of, accepts}
+use Rattle.tc_packet.specs.declared.Service.TheVariants.{Ad, Bd}
+use Rattle.tc_packet.specs.SpacePacket.{packets_of, rest_of}
+use Rattle.tc_channel.specs.declared.reply.Delivery.{Delivery}
+use Rattle.tc_channel.specs.declared.reply.FrameReply.{FrameReply}
+use Rattle.tc_channel.specs.declared.settings.Settings.{Settings}
+use Rattle.tc_channel.specs.declared.event.Event.{Event}
+use Rattle.tc_channel.specs.ChannelState.{ChannelState, Queue, buffer, queue_of, waiting}
+use Rattle.tc_channel.specs.Admission.{packets_in, queued_of}
+use Rattle.tc_channel.specs.Run.{field_of, row_of, unit_of, first_of, run}
+
+-- no unit was ended
+abbrev pub nothing : Delivery
+nothing = record { queued = 0; dropped = 0; rest = false }
+
+-- what became of the packets of a unit, where so many were queued
+abbrev pub delivered : Option (List ℕ) → ℕ → Delivery
+delivered None queued = nothing
+delivered (Some unit) queued = record { queued = queued; dropped = length (packets_of unit) - queued; rest = nat_lt 0 (length (rest_of unit)) }
+
+abbrev pub delivery_of : Option (List ℕ) → List Queue → Delivery
+delivery_of unit queues = delivered unit (queued_of (packets_in unit) queues)
+
+-- FARM-1's event number, and whether the frame is accepted
+abbrev pub act_of : Settings → ChannelState → List ℕ → Act
+act_of s state octets = record { event = number_of (row_of s state octets); accepted = accepts (row_of s state octets) state.report }
+
+abbrev pub frame_delivery : Row → List ℕ → ChannelState → Delivery
+frame_delivery E6 octets state = delivery_of (unit_of state Bd (field_of octets)) state.queues
+frame_delivery _ octets state = nothing
+
+abbrev pub frame_reply_at : Settings → ChannelState → List ℕ → FrameReply
+frame_reply_at s state octets = record { act = act_of s state octets; delivery = frame_delivery (row_of s state octets) octets state }
+
+abbrev pub release_reply_at : ChannelState → Delivery
+release_reply_at state = delivery_of (unit_of state Ad (first_of (buffer state))) state.queues
+
+-- the reply to a frame
+unfoldable pub frame_reply : Settings → List Event → List ℕ → FrameReply
+frame_reply s journal octets = frame_reply_at s (run s journal) octets
+
+-- the reply to a release
+unfoldable pub release_reply : Settings → List Event → Delivery
+release_reply s journal = release_reply_at (run s journal)
+
+-- the packets that wait in the queue with this APID, the oldest first; None where there is no such queue
+unfoldable pub waiting_packets : Settings → List Event → ℕ → Option (List (List ℕ))
+waiting_packets s journal apid = option_map waiting (queue_of apid (run s journal).queues)
+
+-- the reply to a take: the oldest packet that waits
+abbrev pub take_reply : Settings → List Event → ℕ → Option (List ℕ)
+take_reply s journal apid = option_and_then (λ packets. slice_get packets 0) (waiting_packets s journal apid)
+
+-- the data fields that wait in the buffer, the oldest first
+unfoldable pub buffered_fields : Settings → List Event → List (List ℕ)
+buffered_fields s journal = buffer (run s journal)
+
+-- the CLCW (CCSDS 232.0-B, 4.2)
+unfoldable pub clcw : Settings → List Event → Link → ℕ
+clcw s journal link = word_of (run s journal).report s.vcid link

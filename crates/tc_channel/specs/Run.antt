@@ -1,0 +1,86 @@
+-- The run of a journal: what each event does to the state of a channel, and which journals are lawful.
+use Rattle.std.specs.Prelude.{◌≡◌, ℕ, ◌+◌, ◌<◌, Bool, true, ◌==◌, ◌&&◌, nat_lt, List, [], ◌∷◌, ◌++◌, length, map, drop, Any, Option, IsSome, if◌then◌else◌}
+use Rattle.tc_link.specs.Frame.{IsWhole, header_of}
+use Rattle.tc_link.specs.Command.{kind_of}
+use Rattle.tc_link.specs.Farm.{Row, E1, E6, E10, frame_row, entry, accepts, after}
+use Rattle.tc_packet.specs.declared.Service.{Service}
+use Rattle.tc_packet.specs.declared.Service.TheVariants.{Ad, Bd}
+use Rattle.tc_packet.specs.Segment as segment
+use Rattle.tc_packet.specs.Reassembly.{stream, unit_at}
+use Rattle.tc_channel.specs.declared.settings.Settings.{Settings}
+use Rattle.tc_channel.specs.declared.event.Event.{Event}
+use Rattle.tc_channel.specs.declared.event.Event.TheVariants.{Frame, Release, Take}
+use Rattle.tc_channel.specs.ChannelState.{ChannelState, Queue, first_state, buffer, has_room}
+use Rattle.tc_channel.specs.Admission.{packets_in, with_shares}
+
+-- the data field of a frame
+abbrev pub field_of : List ℕ → List ℕ
+field_of octets = drop 5 octets
+
+-- FARM-1's row for a frame that comes at a state
+abbrev pub row_of : Settings → ChannelState → List ℕ → Row
+row_of s state octets = frame_row s.width state.report.vr (kind_of (header_of octets) (field_of octets)) (has_room s state)
+
+-- the unit that a data field ends where it is passed to reassembly
+abbrev pub unit_of : ChannelState → Service → List ℕ → Option (List ℕ)
+unit_of state service field = unit_at (stream service (segment.header_of field).map state.passed) field
+
+-- a data field is passed to reassembly, and the queues admit what they can of the unit that it ends
+unfoldable pub passed_on : Service → List ℕ → ChannelState → ChannelState
+passed_on service field state = record state {
+  passed = state.passed ++ record { service = service; field = field } ∷ [];
+  queues = with_shares (packets_in (unit_of state service field)) state.queues;
+}
+
+-- what a frame leaves, apart from the components: an AD frame is buffered and a BD frame passed on, where accepted
+abbrev pub kept : Row → Bool → List ℕ → ChannelState → ChannelState
+kept E1 true octets state = record state { accepted = state.accepted ++ record { ns = (header_of octets).ns; field = field_of octets } ∷ [] }
+kept E6 true octets state = passed_on Bd (field_of octets) state
+kept _ _ octets state = state
+
+abbrev pub after_frame : Row → List ℕ → ChannelState → ChannelState
+after_frame row octets state = record (kept row (accepts row state.report) octets state) { report = after row state.report }
+
+abbrev pub first_of : List (List ℕ) → List ℕ
+first_of [] = []
+first_of (x ∷ xs) = x
+
+-- the oldest data field leaves the buffer and is passed on
+abbrev pub after_release : ChannelState → ChannelState
+after_release state = record (passed_on Ad (first_of (buffer state)) state) { released = state.released + 1; report = after E10 state.report }
+
+abbrev pub taken_from : ℕ → Queue → Queue
+taken_from apid q = if q.apid == apid && nat_lt q.taken (length q.admitted) then record q { taken = q.taken + 1 } else q
+
+-- the oldest packet leaves the queue with this APID
+abbrev pub after_take : ℕ → ChannelState → ChannelState
+after_take apid state = record state { queues = map (taken_from apid) state.queues }
+
+-- the event can happen at the state
+abbrev pub HasStep : Settings → ChannelState → Event → Type 0
+HasStep s state (Frame octets) = IsWhole octets × IsSome (entry (row_of s state octets) state.report)
+HasStep s state Release = state.released < length state.accepted
+HasStep s state (Take apid) = Any (λ (q : Queue). (q.apid ≡ apid) × (q.taken < length q.admitted)) state.queues
+
+-- the state after the event; where it can't happen, what stands here is of no matter
+abbrev pub step : Settings → ChannelState → Event → ChannelState
+step s state (Frame octets) = after_frame (row_of s state octets) octets state
+step s state Release = after_release state
+step s state (Take apid) = after_take apid state
+
+abbrev pub run_from : Settings → ChannelState → List Event → ChannelState
+run_from s state [] = state
+run_from s state (e ∷ es) = run_from s (step s state e) es
+
+-- each event has a step where it comes
+abbrev pub AreSteps : Settings → ChannelState → List Event → Type 0
+AreSteps s state [] = Unit {0}
+AreSteps s state (e ∷ es) = HasStep s state e × AreSteps s (step s state e) es
+
+-- the state that a journal leads to
+unfoldable pub run : Settings → List Event → ChannelState
+run s journal = run_from s (first_state s) journal
+
+-- each event of the journal could happen where it stands
+unfoldable pub IsLawful : Settings → List Event → Type 0
+IsLawful s journal = AreSteps s (first_state s) journal

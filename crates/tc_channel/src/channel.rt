@@ -1,0 +1,318 @@
+//! A channel and its journal.
+
+ghost use Rattle.std.specs.Prelude.{List, ℕ, ◌≡◌, ◌≢◌, ◌∷◌, ◌++◌, [], ◌<◌, ◌↔◌, length, IfOk, OnOk, OnErr, IsErrOf, MatchResult, IsSome, IsTrue, Some, None, Option, option_map};
+ghost use Rattle.std.specs.Option.{option_copied};
+ghost use Rattle.tc_channel.specs.Settings.{IsAllowed, IsRefusal};
+ghost use Rattle.tc_channel.specs.Journal.{with_event};
+ghost use Rattle.tc_channel.specs.Run.{run, IsLawful, first_of, field_of};
+ghost use Rattle.tc_channel.specs.Reply.{frame_reply, release_reply, take_reply, waiting_packets, buffered_fields, clcw as clcw_of};
+ghost use Rattle.tc_channel.specs.Era.{CountsUpInItsEra};
+ghost use Rattle.tc_channel.specs.Channel.{Follows, FollowsKind, Ends, EndsAtOnce, buffered_of, with_field};
+ghost use Rattle.tc_channel.specs.PacketQueues.{AreDistinct, apids_of, IsPlanned};
+
+use crate::event::Event;
+use crate::items::Octets;
+use crate::queues::{
+    PacketQueue, Planned, empty_queues, find, plan, plan_nothing, pop, put_copies,
+};
+use crate::reply::{Delivery, FrameReply, NoMemory, ReleaseFault, TakeFault};
+use crate::settings::{Settings, SettingsFault};
+use circular_buffer::HeapCircularBuffer;
+use std::alloc::{AllocError, Global};
+use std::marker::Model;
+use tc_link::{Act, Arrival, Farm, Frame, Kind, Link, Report, Window, clcw_word, kind};
+use tc_packet::{Reassembler, Service};
+
+/// One virtual channel: FARM-1, the buffer of accepted data fields, reassembly, the packet queues, and the journal of all
+/// that it answered. A call that is refused leaves it as it was.
+#[derive(Drop)]
+pub struct Channel {
+    alloc: Global,
+    settings: Settings,
+    farm: Farm,
+    fields: HeapCircularBuffer<Octets>,
+    reassembler: Reassembler,
+    queues: Vec<PacketQueue>,
+    journal: Vec<Event>,
+}
+
+impl Model for Channel {
+    ghost use Rattle.tc_channel.specs.Journal.{History};
+
+    ghost Value = { History };
+
+    ghost use Rattle.tc_channel.specs.Channel.{Holds};
+
+    ghost view = { λ c. record { settings = c.settings; journal = c.journal.items } };
+
+    ghost invariant = { λ c. Holds c.settings c.journal.items c.farm c.fields c.reassembler c.queues.items };
+}
+
+impl Channel {
+    /// A channel that starts: in S1, with nothing in it and an empty journal.
+    /// Its buffer and its queues get room for all that they may hold.
+    pub fn new(alloc: Global, settings: Settings) -> Result<Channel, SettingsFault>
+        ensures settings { IfOk result (λ channel. channel.settings ≡ settings) }
+        ensures journal { IfOk result (λ channel. channel.journal ≡ []) }
+        ensures fault { MatchResult result (λ _. IsAllowed settings) (IsRefusal settings) }
+    {
+        settings.check()?;
+        match start(alloc, settings) {
+            Ok(channel) => Ok(channel),
+            Err(_) => Err(SettingsFault::NoMemory),
+        }
+    }
+
+    /// Takes a frame in, of whatever virtual channel. An accepted AD data field is buffered; of an accepted BD data field
+    /// the packets of the unit that it ends are queued at once.
+    pub fn frame(&mut self, frame: &Frame) -> Result<FrameReply, NoMemory>
+        ensures lawful { IsLawful self.old.settings self.old.journal }
+        ensures reply { IfOk result (λ reply. reply ≡ frame_reply self.old.settings self.old.journal frame.now) }
+        ensures done { OnOk result (self.new ≡ with_event self.old (Event.Frame frame.now)) }
+        ensures refused { OnErr result (self.new ≡ self.old) }
+    {
+        let kind = kind(frame);
+        let room = self.fields.len() < self.fields.capacity();
+        let mut farm = self.farm;
+        let act = farm.step(Arrival::Frame { kind, room });
+        let field = frame.field();
+        let octets = Octets::copied(self.alloc, frame.octets())?;
+        self.journal.reserve(1)?;
+        let buffered = copy_for_buffer(self.alloc, &act, field)?;
+        let planned = plan_bypass(self.alloc, &self.reassembler, &self.queues, kind, field)?;
+        pass_bypass(&mut self.reassembler, kind, field)?;
+        self.farm = farm;
+        put_field(&mut self.fields, buffered);
+        put_copies(&mut self.queues, planned.copies);
+        self.journal.push_reserved(Event::Frame(octets));
+        Ok(FrameReply {
+            act,
+            delivery: planned.delivery,
+        })
+    }
+
+    /// Lets the oldest data field out of the buffer, and queues the packets of the unit that it ends.
+    pub fn release(&mut self) -> Result<Delivery, ReleaseFault>
+        ensures lawful { IsLawful self.old.settings self.old.journal }
+        ensures empty { IsErrOf result ReleaseFault.Empty ↔ (buffered_fields self.old.settings self.old.journal ≡ []) }
+        ensures reply { IfOk result (λ delivery. delivery ≡ release_reply self.old.settings self.old.journal) }
+        ensures done { OnOk result (self.new ≡ with_event self.old Event.Release) }
+        ensures refused { OnErr result (self.new ≡ self.old) }
+    {
+        if self.has_empty_buffer() {
+            return Err(ReleaseFault::Empty);
+        }
+        self.journal.reserve(1)?;
+        let planned = plan_oldest(self.alloc, &self.reassembler, &self.queues, &self.fields)?;
+        pass_oldest(&mut self.reassembler, &self.fields)?;
+        self.fields.pop_front();
+        put_copies(&mut self.queues, planned.copies);
+        self.farm.step(Arrival::Release);
+        self.journal.push_reserved(Event::Release);
+        Ok(planned.delivery)
+    }
+
+    /// Takes the oldest packet out of the queue with this APID. The packet is moved, not copied.
+    pub fn take(&mut self, apid: u16) -> Result<Vec<u8>, TakeFault>
+        ensures lawful { IsLawful self.old.settings self.old.journal }
+        ensures no_queue { IsErrOf result TakeFault.NoQueue ↔ (waiting_packets self.old.settings self.old.journal apid ≡ None) }
+        ensures empty { IsErrOf result TakeFault.Empty ↔ (waiting_packets self.old.settings self.old.journal apid ≡ Some []) }
+        ensures reply { IfOk result (λ packet. take_reply self.old.settings self.old.journal apid ≡ Some packet.items) }
+        ensures done { OnOk result (self.new ≡ with_event self.old (Event.Take apid)) }
+        ensures refused { OnErr result (self.new ≡ self.old) }
+    {
+        let waiting = self.waiting(apid).ok_or(TakeFault::NoQueue)?;
+        if waiting.is_empty() {
+            return Err(TakeFault::Empty);
+        }
+        self.journal.reserve(1)?;
+        let packet = pop(&mut self.queues, apid).unwrap();
+        self.journal.push_reserved(Event::Take(apid));
+        Ok(packet.into_vec())
+    }
+
+    /// FARM-1's components.
+    pub fn report(&self) -> Report
+        ensures report { result ≡ (run self.now.settings self.now.journal).report }
+        ensures allowed { IsAllowed self.now.settings }
+        ensures lawful { IsLawful self.now.settings self.now.journal }
+        ensures era { CountsUpInItsEra self.now.settings self.now.journal }
+    {
+        self.farm.report()
+    }
+
+    /// The communications link control word.
+    pub fn clcw(&self, link: Link) -> u32
+        ensures word { result ≡ clcw_of self.now.settings self.now.journal link }
+        ensures lawful { IsLawful self.now.settings self.now.journal }
+    {
+        clcw_word(&self.farm.report(), self.settings.vcid, link)
+    }
+
+    /// How many data fields wait in the buffer.
+    pub fn buffered(&self) -> usize
+        ensures count { result ≡ length (buffered_fields self.now.settings self.now.journal) }
+        ensures lawful { IsLawful self.now.settings self.now.journal }
+    {
+        self.fields.len()
+    }
+
+    // Whether no data field waits in the buffer.
+    fn has_empty_buffer(&self) -> bool
+        ensures { IsTrue result ↔ (buffered_fields self.now.settings self.now.journal ≡ []) }
+    {
+        self.fields.is_empty()
+    }
+
+    /// How many packets wait in the queue with this APID, if there is one.
+    pub fn queued(&self, apid: u16) -> Option<usize>
+        ensures count { result ≡ option_map length (waiting_packets self.now.settings self.now.journal apid) }
+        ensures lawful { IsLawful self.now.settings self.now.journal }
+    {
+        Some(self.waiting(apid)?.len())
+    }
+
+    // The packets that wait in the queue with this APID.
+    fn waiting(&self, apid: u16) -> Option<&HeapCircularBuffer<Octets>>
+        ensures packets { option_map (λ ring. ring.items) (option_copied result) ≡ waiting_packets self.now.settings self.now.journal apid }
+        ensures lawful { IsLawful self.now.settings self.now.journal }
+    {
+        Some(&find(&self.queues, apid)?.packets)
+    }
+
+    /// The events so far, the oldest first.
+    pub fn journal(&self) -> &[Event]
+        ensures journal { result.now ≡ self.now.journal }
+        ensures lawful { IsLawful self.now.settings self.now.journal }
+    {
+        &self.journal
+    }
+
+    /// The settings that the channel was made by.
+    pub fn settings(&self) -> &Settings
+        ensures settings { result.now ≡ self.now.settings }
+        ensures allowed { IsAllowed self.now.settings }
+    {
+        &self.settings
+    }
+}
+
+// A channel by settings that were checked.
+fn start(alloc: Global, settings: Settings) -> Result<Channel, NoMemory>
+    requires { IsAllowed settings }
+    ensures settings { IfOk result (λ channel. channel.settings ≡ settings) }
+    ensures journal { IfOk result (λ channel. channel.journal ≡ []) }
+{
+    let window = Window::new(settings.width).unwrap();
+    let fields = HeapCircularBuffer::with_capacity(alloc, settings.buffer as usize)?;
+    let reassembler = Reassembler::new(alloc)?;
+    let queues = empty_queues(alloc, settings.queues.as_slice())?;
+    Ok(Channel {
+        alloc,
+        farm: Farm::new(window, settings.first),
+        settings,
+        fields,
+        reassembler,
+        queues,
+        journal: Vec::new(alloc),
+    })
+}
+
+// The data field of an accepted AD frame, copied.
+fn copy_for_buffer(alloc: Global, act: &Act, field: &[u8]) -> Result<Option<Octets>, AllocError>
+    ensures { IfOk result (λ buffered. buffered ≡ buffered_of act.now field.now) }
+{
+    if act.event == 1 && act.accepted {
+        Ok(Some(Octets::copied(alloc, field)?))
+    } else {
+        Ok(None)
+    }
+}
+
+// Puts a data field, for which there is room, at the buffer's end.
+fn put_field(fields: &mut HeapCircularBuffer<Octets>, field: Option<Octets>)
+    requires { IsSome field → length fields.old.items < fields.old.capacity }
+    ensures items { fields.new.items ≡ with_field fields.old.items field }
+    ensures capacity { fields.new.capacity ≡ fields.old.capacity }
+{
+    match field {
+        Some(field) => {
+            fields.push_back(field);
+        }
+        None => {}
+    }
+}
+
+// Passes a BD field to reassembly. It is the last growth of a call, and its first change.
+fn pass_bypass(reassembler: &mut Reassembler, kind: Kind, field: &[u8]) -> Result<(), NoMemory>
+    requires { 0 < length field.now }
+    ensures ok { OnOk result (FollowsKind kind reassembler.old reassembler.new field.now) }
+    ensures err { OnErr result (reassembler.new ≡ reassembler.old) }
+{
+    match kind {
+        Kind::Bd => {
+            reassembler.push(Service::Bd, field)?;
+            Ok(())
+        }
+        Kind::Ad(_) => Ok(()),
+        Kind::Bc(_) => Ok(()),
+        Kind::Invalid => Ok(()),
+    }
+}
+
+// Passes the oldest field of the buffer to reassembly.
+fn pass_oldest(
+    reassembler: &mut Reassembler,
+    fields: &HeapCircularBuffer<Octets>,
+) -> Result<(), NoMemory>
+    requires some { 0 < length fields.now.items }
+    requires octets { 0 < length (first_of fields.now.items) }
+    ensures ok { OnOk result (Follows reassembler.old reassembler.new Service.Ad (first_of fields.now.items)) }
+    ensures err { OnErr result (reassembler.new ≡ reassembler.old) }
+{
+    match fields.front() {
+        Some(field) => {
+            reassembler.push(Service::Ad, field.as_slice())?;
+            Ok(())
+        }
+        None => Ok(()),
+    }
+}
+
+// What becomes of the packets of the unit that a BD field would end.
+fn plan_bypass(
+    alloc: Global,
+    reassembler: &Reassembler,
+    queues: &[PacketQueue],
+    kind: Kind,
+    field: &[u8],
+) -> Result<Planned, NoMemory>
+    requires field { 0 < length field.now }
+    requires distinct { AreDistinct (apids_of queues.now) }
+    ensures { IfOk result (λ p. (unit : Option (List ℕ)) × EndsAtOnce kind reassembler.now field.now unit × IsPlanned unit queues.now p) }
+{
+    match kind {
+        Kind::Bd => plan(alloc, reassembler, queues, Service::Bd, field),
+        Kind::Ad(_) => Ok(plan_nothing(alloc)),
+        Kind::Bc(_) => Ok(plan_nothing(alloc)),
+        Kind::Invalid => Ok(plan_nothing(alloc)),
+    }
+}
+
+// What becomes of the packets of the unit that the oldest field of the buffer would end.
+fn plan_oldest(
+    alloc: Global,
+    reassembler: &Reassembler,
+    queues: &[PacketQueue],
+    fields: &HeapCircularBuffer<Octets>,
+) -> Result<Planned, NoMemory>
+    requires some { 0 < length fields.now.items }
+    requires octets { 0 < length (first_of fields.now.items) }
+    requires distinct { AreDistinct (apids_of queues.now) }
+    ensures { IfOk result (λ p. (unit : Option (List ℕ)) × Ends reassembler.now Service.Ad (first_of fields.now.items) unit × IsPlanned unit queues.now p) }
+{
+    match fields.front() {
+        Some(field) => plan(alloc, reassembler, queues, Service::Ad, field.as_slice()),
+        None => Ok(plan_nothing(alloc)),
+    }
+}

@@ -1,0 +1,44 @@
+//! Laws over the definitions.
+
+ghost use Rattle.std.specs.Prelude.{List, ℕ, ◌≡◌, ◌++◌};
+ghost use Rattle.std.specs.List.{AllByRecursion};
+ghost use Rattle.tc_link.specs.Frame.{IsWhole};
+ghost use Rattle.tc_channel.specs.declared.settings.Settings.{Settings};
+ghost use Rattle.tc_channel.specs.declared.event.Event.{Event};
+ghost use Rattle.tc_channel.specs.Settings.{IsAllowed};
+ghost use Rattle.tc_channel.specs.Run.{run, run_from, HasStep, IsLawful, AreSteps};
+ghost use Rattle.tc_channel.specs.Laws.{IsSound, KeepsToItsCapacity, Grows};
+ghost use Rattle.tc_channel.specs.Era.{IsEra, CountsUpInItsEra};
+
+/// In S2 Wait is set. Wait means that there is no room, and is never set in S1. Lockout is set just in S3.
+pub fn wait_means_no_room()
+    ensures { (s : Settings) (journal : List Event) → IsSound s (run s journal) }
+{}
+
+/// Whatever came before, each frame has its step: a frame that is expected and finds room never comes in S2.
+pub fn each_frame_has_a_step()
+    ensures { (s : Settings) (journal : List Event) (octets : List ℕ) → IsWhole octets → HasStep s (run s journal) (Event.Frame octets) }
+{}
+
+/// A journal can be parted into its era and what came before.
+pub fn each_journal_has_an_era()
+    ensures { (s : Settings) (journal : List Event) → (before : List Event) × (later : List Event) × (x : ℕ) × IsEra s journal before later x }
+{}
+
+/// The frames that were accepted since V(R) was set have consecutive numbers, and V(R) is the next one.
+pub fn accepted_frames_count_up()
+    ensures { (s : Settings) (journal : List Event) → IsAllowed s → IsLawful s journal → CountsUpInItsEra s journal }
+{}
+
+/// No queue ever holds more than its capacity, or gives more than it was given.
+pub fn queues_keep_to_their_capacity()
+    ensures { (s : Settings) (journal : List Event) → AllByRecursion KeepsToItsCapacity (run s journal).queues }
+{}
+
+/// The run of a longer journal begins with the run of its beginning: it goes on from there, and nothing is cut.
+pub fn a_longer_run_goes_on()
+    ensures run { (s : Settings) (past future : List Event) → run s (past ++ future) ≡ run_from s (run s past) future }
+    ensures grows { (s : Settings) (past future : List Event) → Grows (run s past) (run s (past ++ future)) }
+    ensures lawful_before { (s : Settings) (past future : List Event) → IsLawful s (past ++ future) → IsLawful s past }
+    ensures lawful_after { (s : Settings) (past future : List Event) → IsLawful s (past ++ future) → AreSteps s (run s past) future }
+{}

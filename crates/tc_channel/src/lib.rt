@@ -1,0 +1,28 @@
+//! One virtual channel of a telecommand receiver, with the journal of its events.
+//!
+//! A contract sees a [`Channel`] as its settings and its journal. All else that it has is the run of
+//! that journal: FARM-1's components, the buffered data fields, the open runs of reassembly and the
+//! packet queues. The laws over these definitions are the contracts of [`wait_means_no_room`],
+//! [`each_frame_has_a_step`], [`each_journal_has_an_era`], [`accepted_frames_count_up`],
+//! [`queues_keep_to_their_capacity`] and [`a_longer_run_goes_on`].
+#![tactic(auto)]
+
+mod channel;
+mod event;
+mod items;
+mod laws;
+mod queues;
+mod reply;
+mod settings;
+#[cfg(test)]
+mod tests;
+
+pub use channel::Channel;
+pub use event::Event;
+pub use items::{Items, Octets};
+pub use laws::{
+    a_longer_run_goes_on, accepted_frames_count_up, each_frame_has_a_step, each_journal_has_an_era,
+    queues_keep_to_their_capacity, wait_means_no_room,
+};
+pub use reply::{Delivery, FrameReply, NoMemory, ReleaseFault, TakeFault};
+pub use settings::{QueueSetting, Settings, SettingsFault};

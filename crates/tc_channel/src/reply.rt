@@ -1,0 +1,90 @@
+//! What the calls of a channel answer.
+
+ghost use Rattle.std.specs.Prelude.{◌≡◌};
+ghost use Rattle.tc_channel.specs.declared.reply.ReleaseFault.TheVariants as release_faults;
+ghost use Rattle.tc_channel.specs.declared.reply.TakeFault.TheVariants as take_faults;
+
+use std::alloc::AllocError;
+use tc_link::Act;
+use thiserror::Error;
+
+/// What became of the packets of the unit that a call ended. Where it ended none, the numbers are 0 and `rest` is false.
+#[derive(Clone, Copy, Debug, PartialEq, Eq)]
+pub struct Delivery {
+    /// How many packets were queued.
+    pub queued: u32,
+    /// How many packets were dropped: no telecommand, no queue with that APID, or no room in it.
+    pub dropped: u32,
+    /// Whether octets were left after the last packet.
+    pub rest: bool,
+}
+
+/// What became of a frame.
+#[derive(Clone, Copy, Debug, PartialEq, Eq)]
+pub struct FrameReply {
+    /// FARM-1's event, and whether the frame was accepted.
+    pub act: Act,
+    /// What was delivered; of an AD frame nothing is, before its release.
+    pub delivery: Delivery,
+}
+
+/// A growth was refused.
+#[derive(Clone, Copy, Debug, PartialEq, Eq, Error)]
+#[error("no memory")]
+pub struct NoMemory;
+
+/// Why no data field was released.
+#[derive(Clone, Copy, Debug, PartialEq, Eq, Error)]
+pub enum ReleaseFault {
+    #[error("the buffer is empty")]
+    Empty,
+    #[error("no memory")]
+    NoMemory,
+}
+
+/// Why no packet was taken.
+#[derive(Clone, Copy, Debug, PartialEq, Eq, Error)]
+pub enum TakeFault {
+    #[error("no queue with that application process identifier")]
+    NoQueue,
+    #[error("the queue is empty")]
+    Empty,
+    #[error("no memory")]
+    NoMemory,
+}
+
+impl From<AllocError> for NoMemory {
+    fn from(_e: AllocError) -> NoMemory {
+        NoMemory
+    }
+}
+
+impl From<tc_packet::NoMemory> for NoMemory {
+    fn from(_e: tc_packet::NoMemory) -> NoMemory {
+        NoMemory
+    }
+}
+
+impl From<AllocError> for ReleaseFault {
+    ghost from_gives = { λ _ e. e ≡ release_faults.NoMemory };
+
+    fn from(_e: AllocError) -> ReleaseFault {
+        ReleaseFault::NoMemory
+    }
+}
+
+impl From<NoMemory> for ReleaseFault {
+    ghost from_gives = { λ _ e. e ≡ release_faults.NoMemory };
+
+    fn from(_e: NoMemory) -> ReleaseFault {
+        ReleaseFault::NoMemory
+    }
+}
+
+impl From<AllocError> for TakeFault {
+    ghost from_gives = { λ _ e. e ≡ take_faults.NoMemory };
+
+    fn from(_e: AllocError) -> TakeFault {
+        TakeFault::NoMemory
+    }
+}

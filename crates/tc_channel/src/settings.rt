@@ -1,0 +1,106 @@
+//! The settings of a channel.
+
+ghost use Rattle.std.specs.Prelude.{◌≡◌, ◌↔◌, Any, IsTrue, MatchResult};
+ghost use Rattle.tc_channel.specs.Settings.{AreApart};
+
+use crate::items::Items;
+use std::alloc::AllocError;
+use tc_link::Window;
+use thiserror::Error;
+
+/// One packet queue.
+#[derive(Clone, Copy, Debug, PartialEq, Eq)]
+pub struct QueueSetting {
+    /// The application process identifier of its packets, at most 2,046.
+    pub apid: u16,
+    /// How many packets it holds, 1 to 256.
+    pub capacity: u16,
+}
+
+/// What a channel is made by.
+#[derive(Debug, Drop, PartialEq, Eq)]
+pub struct Settings {
+    /// The virtual channel identifier, at most 63.
+    pub vcid: u8,
+    /// The width of the FARM-1 sliding window, even, 2 to 254.
+    pub width: u8,
+    /// How many data fields the buffer holds, 1 to 64.
+    pub buffer: u8,
+    /// V(R) at the start.
+    pub first: u8,
+    /// The packet queues, no two with one APID.
+    pub queues: Items<QueueSetting>,
+}
+
+/// Why settings make no channel: the first fault that they have, in this order.
+#[derive(Clone, Copy, Debug, PartialEq, Eq, Error)]
+pub enum SettingsFault {
+    #[error("bad virtual channel identifier")]
+    BadVcid,
+    #[error("bad window width")]
+    BadWindow,
+    #[error("bad buffer size")]
+    BadBuffer,
+    #[error("bad application process identifier")]
+    BadApid,
+    #[error("two queues for one application process identifier")]
+    DoubleApid,
+    #[error("bad queue capacity")]
+    BadCapacity,
+    #[error("no memory")]
+    NoMemory,
+}
+
+impl Settings {
+    ghost use Rattle.tc_channel.specs.Settings.{IsAllowed, IsFault};
+
+    /// Whether a channel can be made by these settings. It never answers `NoMemory`.
+    pub fn check(&self) -> Result<(), SettingsFault>
+        ensures { MatchResult result (λ _. IsAllowed self.now) (IsFault self.now) }
+    {
+        // Read, so that it is known to be an octet.
+        let _first = self.first;
+        if self.vcid > 63 {
+            return Err(SettingsFault::BadVcid);
+        }
+        if Window::new(self.width).is_none() {
+            return Err(SettingsFault::BadWindow);
+        }
+        if self.buffer < 1 || self.buffer > 64 {
+            return Err(SettingsFault::BadBuffer);
+        }
+        if !self.queues.iter().all(|queue| queue.apid <= 2046) {
+            return Err(SettingsFault::BadApid);
+        }
+        if !are_apart(&self.queues) {
+            return Err(SettingsFault::DoubleApid);
+        }
+        if !self
+            .queues
+            .iter()
+            .all(|queue| queue.capacity >= 1 && queue.capacity <= 256)
+        {
+            return Err(SettingsFault::BadCapacity);
+        }
+        Ok(())
+    }
+}
+
+// Whether a queue has this APID.
+fn has_apid(queues: &[QueueSetting], apid: u16) -> bool
+    ensures { IsTrue result ↔ Any (λ q. q.apid ≡ apid) queues.now }
+{
+    queues.iter().any(|queue| queue.apid == apid)
+}
+
+// Whether no two queues have one APID.
+fn are_apart(queues: &[QueueSetting]) -> bool
+    ensures { IsTrue result ↔ AreApart queues.now }
+{
+    for (i, queue) in queues.iter().enumerate() {
+        if has_apid(&queues[..i], queue.apid) {
+            return false;
+        }
+    }
+    true
+}

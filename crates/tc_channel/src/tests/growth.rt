@@ -1,0 +1,190 @@
+//! Each call is made; where it answers want of memory, the channel is as it was, and the call is made again.
+
+use super::*;
+use tc_link::Report;
+
+// A copy, where one growth may be refused.
+fn copied(alloc: Global, octets: &[u8]) -> Result<Octets, Fail> {
+    match Octets::copied(alloc, octets) {
+        Ok(copy) => Ok(copy),
+        Err(_) => Ok(Octets::copied(alloc, octets)?),
+    }
+}
+
+// Room for one field, and a queue of capacity 2 for APID 5.
+fn settings(alloc: Global) -> Result<Settings, AllocError> {
+    let queue = QueueSetting {
+        apid: 5,
+        capacity: 2,
+    };
+    let queues = match Vec::from_slice(alloc, &[queue]) {
+        Ok(queues) => queues,
+        Err(_) => Vec::from_slice(alloc, &[queue])?,
+    };
+    Ok(Settings {
+        vcid: 1,
+        width: 10,
+        buffer: 1,
+        first: 0,
+        queues: Items::from(queues),
+    })
+}
+
+// What is told of a channel, apart from its journal.
+#[derive(Clone, Copy, Debug, PartialEq, Eq)]
+struct Told {
+    report: Report,
+    buffered: usize,
+    queued: Option<usize>,
+}
+
+// A channel, and the journal that it must have.
+#[derive(Drop)]
+struct Short {
+    alloc: Global,
+    channel: Channel,
+    journal: Vec<Event>,
+}
+
+impl Short {
+    fn new(rt: &impl Abort, alloc: Global) -> Result<Short, Fail> {
+        let channel = match Channel::new(alloc, settings(alloc)?) {
+            Ok(channel) => channel,
+            Err(fault) => {
+                assert_eq!(rt; fault, SettingsFault::NoMemory);
+                Channel::new(alloc, settings(alloc)?)?
+            }
+        };
+        assert_eq!(rt; channel.journal().len(), 0);
+        Ok(Short {
+            alloc,
+            channel,
+            journal: Vec::new(alloc),
+        })
+    }
+
+    fn told(&self) -> Told {
+        Told {
+            report: self.channel.report(),
+            buffered: self.channel.buffered(),
+            queued: self.channel.queued(5),
+        }
+    }
+
+    // The journal is the one expected, and this is told of the rest.
+    fn check(&self, rt: &impl Abort, told: Told) {
+        assert_eq!(rt; self.channel.journal(), self.journal.as_slice());
+        assert_eq!(rt; self.told(), told);
+    }
+
+    fn note(&mut self, event: Event) -> Result<(), Fail> {
+        if self.journal.reserve(1).is_err() {
+            self.journal.reserve(1)?;
+        }
+        self.journal.push(event)?;
+        Ok(())
+    }
+
+    fn frame(
+        &mut self,
+        rt: &impl Abort,
+        octets: &[u8],
+        act: Act,
+        delivery: Delivery,
+    ) -> Result<(), Fail> {
+        let told = self.told();
+        let frame = read_frame(octets)?;
+        let reply = match self.channel.frame(&frame) {
+            Ok(reply) => reply,
+            Err(NoMemory) => {
+                self.check(rt, told);
+                self.channel.frame(&frame)?
+            }
+        };
+        assert_eq!(rt; reply, FrameReply { act, delivery });
+        let octets = copied(self.alloc, octets)?;
+        self.note(Event::Frame(octets))?;
+        self.check(rt, self.told());
+        Ok(())
+    }
+
+    fn release(&mut self, rt: &impl Abort, delivery: Delivery) -> Result<(), Fail> {
+        let told = self.told();
+        let answer = match self.channel.release() {
+            Ok(answer) => answer,
+            Err(fault) => {
+                assert_eq!(rt; fault, ReleaseFault::NoMemory);
+                self.check(rt, told);
+                self.channel.release()?
+            }
+        };
+        assert_eq!(rt; answer, delivery);
+        self.note(Event::Release)?;
+        self.check(rt, self.told());
+        Ok(())
+    }
+
+    fn take(&mut self, rt: &impl Abort, packet: &[u8]) -> Result<(), Fail> {
+        let told = self.told();
+        let answer = match self.channel.take(5) {
+            Ok(answer) => answer,
+            Err(fault) => {
+                assert_eq!(rt; fault, TakeFault::NoMemory);
+                self.check(rt, told);
+                self.channel.take(5)?
+            }
+        };
+        assert_eq!(rt; answer.as_slice(), packet);
+        self.note(Event::Take(5))?;
+        self.check(rt, self.told());
+        Ok(())
+    }
+}
+
+// A BD frame with two packets for APID 5.
+const TWO_PACKETS: [u8; 20] = [
+    0x20, 0x2a, 0x04, 0x13, 0x00, 0xc0, 0x10, 0x05, 0xc0, 0x00, 0x00, 0x00, 0xaa, 0x10, 0x05, 0xc0,
+    0x01, 0x00, 0x00, 0xbb,
+];
+
+#[test]
+fn growth_of_a_new_channel(rt: HostRuntime) -> Result<(), Fail> {
+    Short::new(&rt, rt.alloc())?;
+    Ok(())
+}
+
+// So many frames that are discarded come before, so that the journal grows in each call once.
+#[test]
+fn growth_of_each_call_of_a_channel(rt: HostRuntime) -> Result<(), Fail> {
+    for earlier in 0..5 {
+        let mut short = Short::new(&rt, rt.alloc())?;
+        for _ in 0..earlier {
+            short.frame(&rt, &ad_frame(0xff), discarded(4), NOTHING)?;
+        }
+        short.frame(&rt, &ad_frame(0), accepted(1), NOTHING)?;
+        short.release(&rt, ONE)?;
+        short.take(&rt, &PACKET)?;
+    }
+    Ok(())
+}
+
+#[test]
+fn growth_of_a_frame_without_room(rt: HostRuntime) -> Result<(), Fail> {
+    let mut short = Short::new(&rt, rt.alloc())?;
+    short.frame(&rt, &ad_frame(0), accepted(1), NOTHING)?;
+    short.frame(&rt, &ad_frame(1), discarded(2), NOTHING)?;
+    short.frame(&rt, &ad_frame(0), discarded(4), NOTHING)
+}
+
+#[test]
+fn growth_of_a_unit_of_two_packets(rt: HostRuntime) -> Result<(), Fail> {
+    let mut short = Short::new(&rt, rt.alloc())?;
+    let delivery = Delivery {
+        queued: 2,
+        dropped: 0,
+        rest: false,
+    };
+    short.frame(&rt, &TWO_PACKETS, accepted(6), delivery)?;
+    short.take(&rt, &PACKET)?;
+    short.take(&rt, &[0x10, 0x05, 0xc0, 0x01, 0x00, 0x00, 0xbb])
+}
