@@ -1,0 +1,23 @@
+-- Histories that are beginnings of others.
+use Rattle.std.proofs.Common.{List, [], ◌∷◌, ◌++◌, refl, ap, sym, ◌∙◌, append_assoc}
+use Rattle.std.proofs.lemmas.List.{append-nil}
+use mathlib.Core.List.{IsPrefix}
+use Rattle.tc_channel.specs.declared.event.Event.{Event}
+use Rattle.tc_channel.specs.Journal.{History, with_event}
+use Rattle.tc_status.specs.Board.{IsBeginning}
+
+prefix-self : (es : List Event) → IsPrefix es es
+prefix-self es = ([], append-nil es)
+
+prefix-trans : (es fs gs : List Event) → IsPrefix es fs → IsPrefix fs gs → IsPrefix es gs
+prefix-trans es fs gs p q = (p.0 ++ q.0, sym (append_assoc es p.0 q.0) ∙ (ap (λ w. w ++ q.0) p.1 ∙ q.1))
+
+pub beginning-self : (h : History) → IsBeginning h h
+beginning-self h = (refl, prefix-self h.journal)
+
+pub beginning-trans : (a b c : History) → IsBeginning a b → IsBeginning b c → IsBeginning a c
+beginning-trans a b c p q = (q.0 ∙ p.0, prefix-trans a.journal b.journal c.journal p.1 q.1)
+
+-- for a crate above: a channel that answered one more event may be published
+pub beginning-with_event : (h : History) (e : Event) → IsBeginning h (with_event h e)
+beginning-with_event h e = (refl, (e ∷ [], refl))

@@ -1,0 +1,84 @@
+-- The board of a channel: one word, which is the CLCW (CCSDS 232.0-B, 4.2) of what was published, and what is known at each seat.
+use Rattle.std.specs.Prelude.{◌≡◌, ℕ, List, [], ◌∷◌, true, false}
+use mathlib.Core.Option.{some}
+use mathlib.Core.List.{IsPrefix}
+use lib.ListN.{get_elem?}
+use Rattle.atomic_table.specs.Table.{Me}
+use Rattle.atomic_table.specs.Seated.{TableId}
+use Rattle.tc_link.specs.declared.Link.{Link}
+use Rattle.tc_channel.specs.Settings.{IsAllowed}
+use Rattle.tc_channel.specs.Journal.{History}
+use Rattle.tc_channel.specs.Run.{IsLawful}
+use Rattle.tc_channel.specs.Reply.{clcw}
+use Rattle.tc_status.specs.declared.board.View.{View}
+
+-- what a contract sees of a publisher: which board it has, and the settings and the journal that it has published
+pub record Publishing : Type 0 where
+  pub board : TableId
+  pub published : History
+
+-- what a contract sees of a watcher: which board it has, and the settings and the journal that it has seen
+pub record Watching : Type 0 where
+  pub board : TableId
+  pub seen : History
+
+-- the settings are the same, and the old journal is a beginning of the new one
+abbrev pub IsBeginning : History → History → Type 0
+IsBeginning old new = (new.settings ≡ old.settings) × IsPrefix old.journal new.journal
+
+-- who reads the word knows the two flags of the link, and the channel doesn't
+abbrev pub no_flag : Link
+no_flag = record { no_rf = false; no_bit_lock = false }
+
+-- the CLCW with both link flags 0
+abbrev pub status_word : History → ℕ
+status_word h = clcw h.settings h.journal no_flag
+
+-- the view of a seat that has seen this history and was told no other
+abbrev pub view : History → View
+view h = record { live = true; seen = h; told = h }
+
+-- a history that stands where none is meant
+abbrev pub nothing : History
+nothing = record { settings = record { vcid = 0; width = 0; buffer = 0; first = 0; queues = [] }; journal = [] }
+
+-- what a seat leaves that was joined to another
+abbrev pub spent : View
+spent = record { live = false; seen = nothing; told = nothing }
+
+-- the first seat is told what the second has seen
+abbrev pub told : View → View → View
+told v w = record v { told = w.seen }
+
+-- what a live seat has seen, and what it was told, are beginnings of what was published
+abbrev pub IsBehind : History → View → Type 0
+IsBehind published v = v.live ≡ true → IsBeginning v.seen published × IsBeginning v.told published
+
+-- the rule: the publisher has the first seat, the word is that of what it has published, and each live seat is behind it
+pub record IsBoard (words : List ℕ) (views : List View) : Type 0 where
+  pub publisher : View
+  pub first : get_elem? views 0 ≡ some publisher
+  pub live : publisher.live ≡ true
+  pub allowed : IsAllowed publisher.seen.settings
+  pub lawful : IsLawful publisher.seen.settings publisher.seen.journal
+  pub word : words ≡ status_word publisher.seen ∷ []
+  pub behind : (id : ℕ) (v : View) → get_elem? views id ≡ some v → IsBehind publisher.seen v
+
+-- a load found the word of what was published, which is then seen
+pub record IsRead (before : Me Unit View) (found : ℕ) (after : Me Unit View) : Type 0 where
+  pub seat : after ≡ (view after.0.seen, before.1)
+  pub allowed : IsAllowed after.0.seen.settings
+  pub lawful : IsLawful after.0.seen.settings after.0.seen.journal
+  pub word : found ≡ status_word after.0.seen
+  pub later : IsBeginning before.0.seen after.0.seen
+
+-- what was told is a beginning of what was seen, and needs to be known no longer
+pub record IsCompared (before after : Me Unit View) : Type 0 where
+  pub seat : after ≡ (view before.0.seen, before.1)
+  pub later : IsBeginning before.0.told before.0.seen
+
+-- a live seat at this board, with no slot
+pub record IsSeated (board seat : TableId) (me : Me Unit View) : Type 0 where
+  pub same : seat ≡ board
+  pub one_word : board.words ≡ 1
+  pub view : me ≡ (view me.0.seen, [])

@@ -1,0 +1,17 @@
+//! The status of a channel as one atomic word, which any thread reads without waiting.
+//!
+//! Each channel has a board: one word, which is the CLCW of the journal that was published last, with both link flags 0.
+//! The [`Publisher`] stores it, and each [`Watcher`] loads it. A contract sees either as its board and a journal. The law
+//! [`each_seat_is_behind_the_publisher`] says what holds of a board at every moment.
+#![tactic(auto)]
+
+mod board;
+mod laws;
+mod publisher;
+#[cfg(test)]
+mod tests;
+mod watcher;
+
+pub use laws::each_seat_is_behind_the_publisher;
+pub use publisher::Publisher;
+pub use watcher::{Watcher, meet};

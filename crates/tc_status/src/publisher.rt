@@ -1,0 +1,94 @@
+//! The publishing end of a board. There is one, and it only moves.
+
+ghost use Rattle.std.specs.Prelude.{◌≡◌, [], IfOk};
+ghost use Rattle.std.specs.Arc.{arc_value};
+ghost use Rattle.tc_status.specs.Board.{IsBeginning, IsSeated, view};
+
+use crate::board::{Board, BoardSeat, Doubles, Publication, Publishes, WordTable};
+use crate::watcher::Watcher;
+use std::alloc::Global;
+use std::marker::{Brand, Model};
+use std::sync::Arc;
+use tc_channel::{Channel, NoMemory};
+use tc_link::Link;
+
+const NO_FLAG: Link = Link {
+    no_rf: false,
+    no_bit_lock: false,
+};
+
+/// Publishes the status of one channel.
+#[derive(Drop)]
+pub struct Publisher {
+    pub(crate) board: Arc<Board>,
+    pub(crate) seat: BoardSeat,
+}
+
+impl Model for Publisher {
+    ghost use Rattle.std.specs.Prelude.{◌≡◌};
+    ghost use Rattle.std.specs.Arc.{arc_value};
+    ghost use Rattle.tc_status.specs.Board.{Publishing, IsSeated};
+
+    ghost Value = { Publishing };
+
+    ghost view = { λ p. record { board = p.seat.table_id; published = p.seat.me.0.seen } };
+
+    ghost invariant = { λ p. IsSeated (arc_value p.board).table.shared.table_id p.seat.table_id p.seat.me × (p.seat.id ≡ 0) };
+}
+
+impl Publisher {
+    /// Makes a board for the channel's settings. The channel's journal counts as published.
+    pub fn new(alloc: Global, channel: &Channel) -> Result<Publisher, NoMemory>
+        ensures { IfOk result (λ publisher. publisher.published ≡ channel.now) }
+    {
+        // It ensures that the settings are allowed.
+        let _ = channel.settings();
+        let word = u64::from(channel.clcw(NO_FLAG));
+        let Ok((table, seat)) = WordTable::of_words(alloc, &[word], channel) else {
+            return Err(NoMemory);
+        };
+        let board = Board {
+            table,
+            apart: [0; 8],
+        };
+        let Ok(board) = Arc::new(alloc, board) else {
+            return Err(NoMemory);
+        };
+        Ok(Publisher { board, seat })
+    }
+
+    /// Publishes the channel's journal: one store.
+    pub fn publish(&mut self, channel: &Channel)
+        requires { IsBeginning self.old.published channel.now }
+        ensures board { self.new.board ≡ self.old.board }
+        ensures published { self.new.published ≡ channel.now }
+    {
+        store::<Brand>(&self.board, &mut self.seat, channel);
+    }
+
+    /// A watcher of this board, which has seen what was published.
+    pub fn watcher(&mut self) -> Result<Watcher, NoMemory>
+        ensures board { IfOk result (λ watcher. watcher.board ≡ self.old.board) }
+        ensures seen { IfOk result (λ watcher. watcher.seen ≡ self.old.published) }
+        ensures unchanged { self.new ≡ self.old }
+    {
+        let Ok(board) = Arc::try_clone(&self.board) else {
+            return Err(NoMemory);
+        };
+        let seat = board.table.shared.split_seat::<Doubles>(&mut self.seat);
+        Ok(Watcher { board, seat })
+    }
+}
+
+// The store of a publication.
+fn store<P: Publication>(board: &Arc<Board>, seat: &mut BoardSeat, channel: &Channel)
+    requires publication { P.next ≡ channel.now }
+    requires seated { IsSeated (arc_value board.now).table.shared.table_id seat.old.table_id seat.old.me }
+    requires first { seat.old.id ≡ 0 }
+    requires later { IsBeginning seat.old.me.0.seen channel.now }
+    ensures same { (seat.new.table_id ≡ seat.old.table_id) × (seat.new.id ≡ seat.old.id) }
+    ensures published { seat.new.me ≡ (view channel.now, []) }
+{
+    let word = u64::from(channel.clcw(NO_FLAG));
+    board.table.shared.store::<Publishes<P>>(seat, 0, word);
+}
