@@ -1,0 +1,243 @@
+-- Lists of jobs, and the counts of their operators.
+use Rattle.std.proofs.Common.{◌≡◌, ℕ, zero, suc, ◌+◌, ◌<◌, ◌≤◌, List, [], ◌∷◌, ◌++◌, length, map, take, drop, get_or, set, min, Bool, true, false, cond, Option, Some, None, refl, sym, ap, ◌∙◌, subst, inl, inr, arith}
+use Rattle.std.specs.Prelude.{◌==◌, position, slice_get, slice_index, Contains, count_by}
+use Rattle.std.specs.List.{AllByRecursion}
+use Rattle.std.proofs.lemmas.Bool.{eqb-true}
+use Rattle.std.proofs.lemmas.Bool.Decides.{eqb_tells}
+use Rattle.std.proofs.lemmas.List.{take_more, map-append, length-map}
+use Rattle.std.proofs.lemmas.List.Sums.{sum_by-cons}
+use Rattle.std.proofs.lemmas.List.Quantifiers.{position-Some}
+use Rattle.std.proofs.lemmas.Grind.{common_steps}
+use Rattle.tc_station.specs.Roster.{Roster}
+use Rattle.tc_station.specs.Tally.{Tally, counted, raised, raised_at}
+use Rattle.tc_station.specs.Lowest.{lower}
+use Rattle.tc_station.specs.declared.work.Order.{Order}
+use Rattle.tc_station.specs.declared.work.Order.TheVariants.{Bring, Release, Take}
+use Rattle.tc_station.specs.declared.work.Job.{Job}
+use Rattle.tc_station.specs.declared.work.WorkList.{WorkList}
+use Rattle.tc_station.specs.Work.{IsDone, AreDone, IsWorked, Shift, IsShift, IsTallyOf, AreWorked, lowest, brings_to, is_other, raised_by, IsRaised, NoCountFalls}
+use Rattle.tc_station.proofs.Counts.{Between, between-both, between-none, between-one, between-other, raised-length, raised-here, raised-else, rises, for-located, for-nobody}
+
+-- one job more
+snoc : (station : Roster) (vcid : ℕ) (jobs : List Job) (job : Job) (a b c : Tally) → AreDone station vcid jobs a b → IsDone station vcid job.order b c → AreDone station vcid (jobs ++ job ∷ []) a c
+snoc station vcid [] job a b c done here = (c, subst (λ t. IsDone station vcid job.order t c) done here, refl)
+snoc station vcid (j ∷ js) job a b c done here = (done.0, done.1, snoc station vcid js job done.0 b c done.2 here)
+
+pub one-more : (station : Roster) (vcid : ℕ) (jobs : List Job) (i : ℕ) (job : Job) (a b c : Tally) → i < length jobs → job ≡ get_or jobs i job → AreDone station vcid (take i jobs) a b → IsDone station vcid job.order b c
+    → AreDone station vcid (take (i + 1) jobs) a c
+one-more station vcid jobs i job a b c lt is done here =
+    let more : take (i + 1) jobs ≡ take i jobs ++ job ∷ [] = take_more jobs i job lt ∙ ap (λ x. take i jobs ++ x ∷ []) (sym is) in
+    subst (λ js. AreDone station vcid js a c) (sym more) (snoc station vcid (take i jobs) job a b c done here)
+
+pub same-vcids : (station : Roster) (vcid : ℕ) (order : Order) (a b : Tally) → IsDone station vcid order a b → b.vcids ≡ a.vcids
+same-vcids station vcid (Bring octets) a b (inl d) = ap (λ t. t.vcids) d.3
+same-vcids station vcid (Bring octets) a b (inr d) = ap (λ t. t.vcids) d.2
+same-vcids station vcid Release a b (inl d) = ap (λ t. t.vcids) d
+same-vcids station vcid Release a b (inr d) = ap (λ t. t.vcids) d
+same-vcids station vcid (Take apid) a b (inl d) = ap (λ t. t.vcids) d
+same-vcids station vcid (Take apid) a b (inr d) = ap (λ t. t.vcids) d
+
+-- two parts of the lists
+lower-three : (a b c : Option ℕ) → lower a (lower b c) ≡ lower (lower a b) c
+lower-three None b c = refl
+lower-three (Some x) None c = refl
+lower-three (Some x) (Some y) None = refl
+lower-three (Some x) (Some y) (Some z) = let same : min x (min y z) ≡ min (min x y) z = omega arith in ap Some same
+
+lowest-append : (xs ys : List Shift) → lowest (xs ++ ys) ≡ lower (lowest xs) (lowest ys)
+lowest-append [] ys = refl
+lowest-append (x ∷ xs) ys = ap (lower x.refused) (lowest-append xs ys) ∙ lower-three x.refused (lowest xs) (lowest ys)
+
+shifts-append : (station : Roster) (xs ys : List Shift) → AllByRecursion (IsShift station) xs → AllByRecursion (IsShift station) ys → AllByRecursion (IsShift station) (xs ++ ys)
+shifts-append station [] ys p q = q
+shifts-append station (x ∷ xs) ys p q = (p.0, shifts-append station xs ys p.1 q)
+
+pub all-worked : (station : Roster) (fl bl : List WorkList) (fa ba : List Tally) (fz bz : List Tally) (a b : Option ℕ) → AreWorked station fl a fa fz → AreWorked station bl b ba bz
+    → AreWorked station (fl ++ bl) (lower a b) (fa ++ ba) (fz ++ bz)
+all-worked station fl bl fa ba fz bz a b p q = (
+  p.0 ++ q.0,
+  map-append (λ (s : Shift). s.list) p.0 q.0 ∙ (λ i. p.1 i ++ q.1 i),
+  map-append (λ (s : Shift). s.before) p.0 q.0 ∙ (λ i. p.2 i ++ q.2 i),
+  map-append (λ (s : Shift). s.after) p.0 q.0 ∙ (λ i. p.3 i ++ q.3 i),
+  shifts-append station p.0 q.0 p.4 q.4,
+  lowest-append p.0 q.0 ∙ (λ i. lower (p.5 i) (q.5 i)),
+)
+
+lower-none : (a : Option ℕ) → lower a None ≡ a
+lower-none None = refl
+lower-none (Some x) = refl
+
+-- one list
+pub one-worked : (station : Roster) (lists : List WorkList) (ops : List Tally) (l : WorkList) (o z : Tally) (line : Option ℕ) → length lists ≡ 1 → length ops ≡ 1 → l ≡ get_or lists 0 l → o ≡ get_or ops 0 o
+    → IsTallyOf station o → IsWorked station l line o z → AreWorked station lists line ops (set ops 0 z)
+one-worked station (x ∷ []) (y ∷ []) l o z line e f p q fits worked =
+    (record { list = l; refused = line; before = o; after = z } ∷ [], ap (λ w. w ∷ []) p, ap (λ w. w ∷ []) q, refl, (record { ours = fits; worked = worked }, tt), lower-none line)
+one-worked station [] ops l o z line e f p q fits worked = absurd (omega arith)
+one-worked station (x ∷ (w ∷ ws)) ops l o z line e f p q fits worked = absurd (omega arith)
+one-worked station (x ∷ []) [] l o z line e f p q fits worked = absurd (omega arith)
+one-worked station (x ∷ []) (y ∷ (w ∷ ws)) l o z line e f p q fits worked = absurd (omega arith)
+
+pub moved-worked : (station : Roster) (fl gl : List WorkList) (a b : Option ℕ) (fo go : List Tally) (z : List Tally) → AreWorked station fl a fo z → fl ≡ gl → a ≡ b → fo ≡ go → AreWorked station gl b go z
+moved-worked station fl gl a b fo go z w p q r = (w.0, w.1 ∙ p, w.2 ∙ r, w.3, w.4, w.5 ∙ q)
+
+-- what one job does to the count of a channel
+tally-counted : (station : Roster) (u : ℕ) (a : Tally) → IsTallyOf station a → IsTallyOf station (counted u a)
+tally-counted station u a f = record { vcids = f.vcids; counts = raised-length (position (λ w. w == u) a.vcids) a.counts ∙ f.counts }
+
+tally-kept : (station : Roster) (vcid : ℕ) (order : Order) (a b : Tally) → IsDone station vcid order a b → IsTallyOf station a → IsTallyOf station b
+tally-kept station vcid (Bring octets) a b (inl d) f = subst (IsTallyOf station) (sym d.3) (tally-counted station d.0 a f)
+tally-kept station vcid (Bring octets) a b (inr d) f = subst (IsTallyOf station) (sym d.2) f
+tally-kept station vcid Release a b (inl d) f = subst (IsTallyOf station) (sym d) (tally-counted station vcid a f)
+tally-kept station vcid Release a b (inr d) f = subst (IsTallyOf station) (sym d) f
+tally-kept station vcid (Take apid) a b (inl d) f = subst (IsTallyOf station) (sym d) (tally-counted station vcid a f)
+tally-kept station vcid (Take apid) a b (inr d) f = subst (IsTallyOf station) (sym d) f
+
+abbrev IsPlace : Roster → ℕ → ℕ → Type 0
+IsPlace station v place = position (λ w. w == v) station.vcids ≡ Some place
+
+counted-here : (station : Roster) (u v place : ℕ) (a : Tally) → IsTallyOf station a → IsPlace station v place → u ≡ v → slice_index (counted u a).counts place ≡ raised (slice_index a.counts place)
+counted-here station u v place a f at same =
+    let there : position (λ w. w == u) a.vcids ≡ Some place = (λ i. position (λ w. w == same i) (f.vcids i)) ∙ at in
+    let inside = (position-Some (λ w. w == v) station.vcids place 0 at).0 in
+    raised-here (position (λ w. w == u) a.vcids) a.counts place there (omega (arith, f.counts, ap (length {A = ℕ}) f.vcids))
+
+counted-else : (station : Roster) (u v place : ℕ) (a : Tally) → IsTallyOf station a → IsPlace station v place → (u ≡ v → ⊥) → slice_index (counted u a).counts place ≡ slice_index a.counts place
+counted-else station u v place a f at other =
+    raised-else (position (λ w. w == u) a.vcids) a.counts place (λ e.
+    let mine = (position-Some (λ w. w == u) station.vcids place 0 (ap (λ vs. position (λ w. w == u) vs) (sym f.vcids) ∙ e)).1 in
+    let theirs = (position-Some (λ w. w == v) station.vcids place 0 at).1 in
+    other (sym (eqb-true (slice_index station.vcids place) u mine) ∙ eqb-true (slice_index station.vcids place) v theirs))
+
+bring-step : (station : Roster) (u v place : ℕ) (a : Tally) → IsTallyOf station a → IsPlace station v place → Between (cond (u == v) 1 0) 0 (slice_index a.counts place) (slice_index (counted u a).counts place)
+bring-step station u v place a f at = elim (eqb_tells u v) [
+  | inl h ↦ subst (λ t. Between (cond t 1 0) 0 (slice_index a.counts place) (slice_index (counted u a).counts place)) (sym h.0)
+      (subst (Between 1 0 (slice_index a.counts place)) (sym (counted-here station u v place a f at h.1)) (between-one (slice_index a.counts place)))
+  | inr h ↦ subst (λ t. Between (cond t 1 0) 0 (slice_index a.counts place) (slice_index (counted u a).counts place)) (sym h.0)
+      (subst (Between 0 0 (slice_index a.counts place)) (sym (counted-else station u v place a f at h.1)) (between-none 0 (slice_index a.counts place)))
+]
+
+other-step : (station : Roster) (u v place : ℕ) (a : Tally) → IsTallyOf station a → IsPlace station v place → Between 0 (cond (u == v) 1 0) (slice_index a.counts place) (slice_index (counted u a).counts place)
+other-step station u v place a f at = elim (eqb_tells u v) [
+  | inl h ↦ subst (λ t. Between 0 (cond t 1 0) (slice_index a.counts place) (slice_index (counted u a).counts place)) (sym h.0)
+      (subst (Between 0 1 (slice_index a.counts place)) (sym (counted-here station u v place a f at h.1)) (between-other (slice_index a.counts place)))
+  | inr h ↦ subst (λ t. Between 0 (cond t 1 0) (slice_index a.counts place) (slice_index (counted u a).counts place)) (sym h.0)
+      (subst (Between 0 0 (slice_index a.counts place)) (sym (counted-else station u v place a f at h.1)) (between-none 0 (slice_index a.counts place)))
+]
+
+is-there : (station : Roster) (v place : ℕ) → IsPlace station v place → Contains station.vcids v
+is-there station v place at = let s = position-Some (λ w. w == v) station.vcids place v at in (place, s.0, eqb-true (get_or station.vcids place v) v s.1)
+
+-- by how much a job may raise the count of a channel
+abbrev JobRaises : Roster → ℕ → ℕ → Order → ℕ → ℕ → Type 0
+JobRaises station own v order c d = Between (cond (brings_to station v order) 1 0) (cond (is_other own v order) 1 0) c d
+
+step : (station : Roster) (own : ℕ) (order : Order) (a b : Tally) → IsDone station own order a b → IsTallyOf station a → (v place : ℕ) → IsPlace station v place
+    → JobRaises station own v order (slice_index a.counts place) (slice_index b.counts place)
+step station own (Bring octets) a b (inl d) f v place at =
+    subst (λ t. JobRaises station own v (Bring octets) (slice_index a.counts place) (slice_index t.counts place)) (sym d.3)
+    (subst (λ t. Between (cond t 1 0) 0 (slice_index a.counts place) (slice_index (counted d.0 a).counts place)) (sym (for-located station octets d.1 d.0 v d.2)) (bring-step station d.0 v place a f at))
+step station own (Bring octets) a b (inr d) f v place at =
+    subst (λ t. JobRaises station own v (Bring octets) (slice_index a.counts place) (slice_index t.counts place)) (sym d.2)
+    (subst (λ t. Between (cond t 1 0) 0 (slice_index a.counts place) (slice_index a.counts place)) (sym (for-nobody station octets d.0 v (is-there station v place at) d.1)) (between-none 0 (slice_index a.counts place)))
+step station own Release a b (inl d) f v place at =
+    subst (λ t. JobRaises station own v Release (slice_index a.counts place) (slice_index t.counts place)) (sym d) (other-step station own v place a f at)
+step station own Release a b (inr d) f v place at =
+    subst (λ t. JobRaises station own v Release (slice_index a.counts place) (slice_index t.counts place)) (sym d) (between-none (cond (own == v) 1 0) (slice_index a.counts place))
+step station own (Take apid) a b (inl d) f v place at =
+    subst (λ t. JobRaises station own v (Take apid) (slice_index a.counts place) (slice_index t.counts place)) (sym d) (other-step station own v place a f at)
+step station own (Take apid) a b (inr d) f v place at =
+    subst (λ t. JobRaises station own v (Take apid) (slice_index a.counts place) (slice_index t.counts place)) (sym d) (between-none (cond (own == v) 1 0) (slice_index a.counts place))
+
+steps : (station : Roster) (own : ℕ) (jobs : List Job) (a b : Tally) → AreDone station own jobs a b → IsTallyOf station a → (v place : ℕ) → IsPlace station v place
+    → Between (count_by (λ (j : Job). brings_to station v j.order) jobs) (count_by (λ (j : Job). is_other own v j.order) jobs) (slice_index a.counts place) (slice_index b.counts place)
+steps station own [] a b done f v place at = subst (λ t. Between 0 0 (slice_index a.counts place) (slice_index t.counts place)) (sym done) (between-none 0 (slice_index a.counts place))
+steps station own (j ∷ js) a b done f v place at =
+    let first = step station own j.order a done.0 done.1 f v place at in
+    let rest = steps station own js done.0 b done.2 (tally-kept station own j.order a done.0 done.1 f) v place at in
+    let all = between-both _ _ _ _ _ _ _ first rest in
+    subst (λ n. Between n (count_by (λ (i : Job). is_other own v i.order) (j ∷ js)) (slice_index a.counts place) (slice_index b.counts place)) (sym (sum_by-cons (λ (i : Job). cond (brings_to station v i.order) 1 0) j js))
+    (subst (λ n. Between (cond (brings_to station v j.order) 1 0 + count_by (λ (i : Job). brings_to station v i.order) js) n (slice_index a.counts place) (slice_index b.counts place)) (sym (sum_by-cons (λ (i : Job). cond (is_other own v i.order) 1 0) j js)) all)
+
+-- no count falls
+one-rises : (station : Roster) (own : ℕ) (order : Order) (a b : Tally) → IsDone station own order a b → NoCountFalls a b
+one-rises station own (Bring octets) a b (inl d) place = subst (λ t. slice_index a.counts place ≤ slice_index t.counts place) (sym d.3) (rises (position (λ w. w == d.0) a.vcids) a.counts place)
+one-rises station own (Bring octets) a b (inr d) place = subst (λ t. slice_index a.counts place ≤ slice_index t.counts place) (sym d.2) (omega arith)
+one-rises station own Release a b (inl d) place = subst (λ t. slice_index a.counts place ≤ slice_index t.counts place) (sym d) (rises (position (λ w. w == own) a.vcids) a.counts place)
+one-rises station own Release a b (inr d) place = subst (λ t. slice_index a.counts place ≤ slice_index t.counts place) (sym d) (omega arith)
+one-rises station own (Take apid) a b (inl d) place = subst (λ t. slice_index a.counts place ≤ slice_index t.counts place) (sym d) (rises (position (λ w. w == own) a.vcids) a.counts place)
+one-rises station own (Take apid) a b (inr d) place = subst (λ t. slice_index a.counts place ≤ slice_index t.counts place) (sym d) (omega arith)
+
+jobs-rise : (station : Roster) (own : ℕ) (jobs : List Job) (a b : Tally) → AreDone station own jobs a b → NoCountFalls a b
+jobs-rise station own [] a b done place = subst (λ t. slice_index a.counts place ≤ slice_index t.counts place) (sym done) (omega arith)
+jobs-rise station own (j ∷ js) a b done place =
+    let first = one-rises station own j.order a done.0 done.1 place in
+    let rest = jobs-rise station own js done.0 b done.2 place in
+    omega (arith, first, rest)
+
+jobs-keep : (station : Roster) (own : ℕ) (jobs : List Job) (a b : Tally) → AreDone station own jobs a b → b.vcids ≡ a.vcids
+jobs-keep station own [] a b done = ap (λ t. t.vcids) done
+jobs-keep station own (j ∷ js) a b done = jobs-keep station own js done.0 b done.2 ∙ same-vcids station own j.order a done.0 done.1
+
+-- of one list
+list-rises : (station : Roster) (list : WorkList) (line : Option ℕ) (a b : Tally) → IsWorked station list line a b → NoCountFalls a b
+list-rises station list None a b w = jobs-rise station list.vcid list.jobs a b w
+list-rises station list (Some line) a b w = jobs-rise station list.vcid (take w.0 list.jobs) a b w.4
+
+list-keeps : (station : Roster) (list : WorkList) (line : Option ℕ) (a b : Tally) → IsWorked station list line a b → b.vcids ≡ a.vcids
+list-keeps station list None a b w = jobs-keep station list.vcid list.jobs a b w
+list-keeps station list (Some line) a b w = jobs-keep station list.vcid (take w.0 list.jobs) a b w.4
+
+list-raises : (station : Roster) (list : WorkList) (line : Option ℕ) (a b : Tally) → line ≡ None → IsTallyOf station a → IsWorked station list line a b → IsRaised station list a b
+list-raises station list None a b none f w = λ v place at. let r = steps station list.vcid list.jobs a b w f v place at in (r.low, r.high)
+list-raises station list (Some line) a b none f w = absurd cc
+
+-- of all lists
+none-first : (a b : Option ℕ) → lower a b ≡ None → (a ≡ None) × (b ≡ None)
+none-first None b e = (refl, e)
+none-first (Some x) None e = absurd cc
+none-first (Some x) (Some y) e = absurd cc
+
+shifts-keep : (station : Roster) (shifts : List Shift) → AllByRecursion (IsShift station) shifts → map (λ (t : Tally). t.vcids) (map (λ (s : Shift). s.after) shifts) ≡ map (λ (t : Tally). t.vcids) (map (λ (s : Shift). s.before) shifts)
+shifts-keep station [] all = refl
+shifts-keep station (s ∷ ss) all =
+    let here = list-keeps station s.list s.refused s.before s.after all.0.worked in
+    let rest = shifts-keep station ss all.1 in
+    cc
+
+shifts-rise : (station : Roster) (shifts : List Shift) → AllByRecursion (IsShift station) shifts → (k : ℕ) (o : Tally) → k < length shifts
+    → NoCountFalls (get_or (map (λ (s : Shift). s.before) shifts) k o) (get_or (map (λ (s : Shift). s.after) shifts) k o)
+shifts-rise station [] all k o lt = absurd (omega arith)
+shifts-rise station (s ∷ ss) all zero o lt = list-rises station s.list s.refused s.before s.after all.0.worked
+shifts-rise station (s ∷ ss) all (suc k) o lt = shifts-rise station ss all.1 k o (omega arith)
+
+shifts-raise : (station : Roster) (shifts : List Shift) → AllByRecursion (IsShift station) shifts → lowest shifts ≡ None → (k : ℕ) (l : WorkList) (o : Tally) → k < length shifts
+    → IsRaised station (get_or (map (λ (s : Shift). s.list) shifts) k l) (get_or (map (λ (s : Shift). s.before) shifts) k o) (get_or (map (λ (s : Shift). s.after) shifts) k o)
+shifts-raise station [] all none k l o lt = absurd (omega arith)
+shifts-raise station (s ∷ ss) all none zero l o lt = list-raises station s.list s.refused s.before s.after (none-first s.refused (lowest ss) none).0 all.0.ours all.0.worked
+shifts-raise station (s ∷ ss) all none (suc k) l o lt = shifts-raise station ss all.1 (none-first s.refused (lowest ss) none).1 k l o (omega arith)
+
+pub work-keeps : (station : Roster) (lists : List WorkList) (line : Option ℕ) (os ps : List Tally) → AreWorked station lists line os ps → map (λ (t : Tally). t.vcids) ps ≡ map (λ (t : Tally). t.vcids) os
+work-keeps station lists line os ps w = ap (map (λ (t : Tally). t.vcids)) (sym w.3) ∙ (shifts-keep station w.0 w.4 ∙ ap (map (λ (t : Tally). t.vcids)) w.2)
+
+pub work-rises : (station : Roster) (lists : List WorkList) (line : Option ℕ) (os ps : List Tally) → AreWorked station lists line os ps → (k : ℕ) (o : Tally) → k < length lists → NoCountFalls (get_or os k o) (get_or ps k o)
+work-rises station lists line os ps w k o lt =
+    let inside : k < length w.0 = omega (arith, ap (length {A = WorkList}) w.1, length-map w.0 (λ (s : Shift). s.list)) in
+    subst (λ (x : List Tally). NoCountFalls (get_or x k o) (get_or ps k o)) w.2
+    (subst (λ (x : List Tally). NoCountFalls (get_or (map (λ (s : Shift). s.before) w.0) k o) (get_or x k o)) w.3 (shifts-rise station w.0 w.4 k o inside))
+
+pub work-raises : (station : Roster) (lists : List WorkList) (line : Option ℕ) (os ps : List Tally) → line ≡ None → AreWorked station lists line os ps → (k : ℕ) (l : WorkList) (o : Tally) → k < length lists
+    → IsRaised station (get_or lists k l) (get_or os k o) (get_or ps k o)
+work-raises station lists line os ps none w k l o lt =
+    let inside : k < length w.0 = omega (arith, ap (length {A = WorkList}) w.1, length-map w.0 (λ (s : Shift). s.list)) in
+    subst (λ (x : List WorkList). IsRaised station (get_or x k l) (get_or os k o) (get_or ps k o)) w.1
+    (subst (λ (x : List Tally). IsRaised station (get_or (map (λ (s : Shift). s.list) w.0) k l) (get_or x k o) (get_or ps k o)) w.2
+    (subst (λ (x : List Tally). IsRaised station (get_or (map (λ (s : Shift). s.list) w.0) k l) (get_or (map (λ (s : Shift). s.before) w.0) k o) (get_or x k o)) w.3
+    (shifts-raise station w.0 w.4 (w.5 ∙ none) k l o inside)))
+
+pub work-length : (station : Roster) (lists : List WorkList) (line : Option ℕ) (os ps : List Tally) → AreWorked station lists line os ps → length ps ≡ length os
+work-length station lists line os ps w =
+    omega (arith, ap (length {A = Tally}) w.2, ap (length {A = Tally}) w.3, length-map w.0 (λ (s : Shift). s.before), length-map w.0 (λ (s : Shift). s.after))
+
+-- a list that was written through a slice over all of it
+pub written : (n : ℕ) (new old : List Tally) → length new ≡ length old → n ≡ length old → take n (new ++ drop (length new) old) ≡ new
+written n new old e f = grind (arith, common_steps)

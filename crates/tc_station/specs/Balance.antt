@@ -1,0 +1,18 @@
+-- The balance between the journals of channels and the operators' counts.
+use Rattle.std.specs.Prelude.{◌≡◌, ℕ, List, length, slice_index, slice_get, Some}
+use Rattle.std.specs.List.{sum_by}
+use Rattle.tc_channel.specs.Journal.{History}
+use Rattle.tc_station.specs.Tally.{Tally}
+
+-- how many operations on the channel at a place all operators together have counted
+abbrev pub counted_by_all : ℕ → List Tally → ℕ
+counted_by_all place tallies = sum_by (λ t. slice_index t.counts place) tallies
+
+-- the channel has the id of its place, and as many events as were counted of it
+abbrev pub IsInBalance : List ℕ → List Tally → ℕ → History → Type 0
+IsInBalance vcids tallies place channel =
+    (channel.settings.vcid ≡ slice_index vcids place) × (length channel.journal ≡ counted_by_all place tallies)
+
+abbrev pub AreInBalance : List ℕ → List Tally → List History → Type 0
+AreInBalance vcids tallies channels =
+    (place : ℕ) (channel : History) → slice_get channels place ≡ Some channel → IsInBalance vcids tallies place channel

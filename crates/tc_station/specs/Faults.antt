@@ -1,0 +1,45 @@
+-- When the calls of a station refuse, and what a close hands back.
+use Rattle.std.specs.Prelude.{◌≡◌, ℕ, ◌<◌, ◌≤◌, List, [], length, Contains, Some, None}
+use Rattle.tc_channel.specs.Reply.{buffered_fields, waiting_packets}
+use Rattle.tc_channel.specs.declared.reply.ReleaseFault.{ReleaseFault}
+use Rattle.tc_channel.specs.declared.reply.ReleaseFault.TheVariants as release
+use Rattle.tc_channel.specs.declared.reply.TakeFault.{TakeFault}
+use Rattle.tc_channel.specs.declared.reply.TakeFault.TheVariants as take
+use Rattle.tc_station.specs.Roster.{Roster}
+use Rattle.tc_station.specs.Tally.{Tally}
+use Rattle.tc_station.specs.Balance.{AreInBalance}
+use Rattle.tc_station.specs.Moments.{AtSomeMoment}
+use Rattle.tc_station.specs.declared.faults.ReleaseRefused.{ReleaseRefused}
+use Rattle.tc_station.specs.declared.faults.ReleaseRefused.TheVariants as release_refusals
+use Rattle.tc_station.specs.declared.faults.TakeRefused.{TakeRefused}
+use Rattle.tc_station.specs.declared.faults.TakeRefused.TheVariants as take_refusals
+use Rattle.tc_station.specs.declared.faults.CloseFault.{CloseFault}
+use Rattle.tc_station.specs.declared.faults.CloseFault.TheVariants.{Missing, NoMemory, Unbalanced}
+
+-- what the station answers where its channel refuses
+abbrev pub release_refused : ReleaseFault → ReleaseRefused
+release_refused release.Empty = release_refusals.Empty
+release_refused release.NoMemory = release_refusals.NoMemory
+
+abbrev pub take_refused : TakeFault → TakeRefused
+take_refused take.NoQueue = take_refusals.NoQueue
+take_refused take.Empty = take_refusals.Empty
+take_refused take.NoMemory = take_refusals.NoMemory
+
+abbrev pub IsReleaseRefused : Roster → ℕ → ReleaseRefused → Type 0
+IsReleaseRefused station vcid release_refusals.UnknownChannel = ¬ Contains station.vcids vcid
+IsReleaseRefused station vcid release_refusals.Empty = Contains station.vcids vcid × AtSomeMoment (λ s journal. buffered_fields s journal ≡ [])
+IsReleaseRefused station vcid release_refusals.NoMemory = Contains station.vcids vcid
+
+abbrev pub IsTakeRefused : Roster → ℕ → ℕ → TakeRefused → Type 0
+IsTakeRefused station vcid apid take_refusals.UnknownChannel = ¬ Contains station.vcids vcid
+IsTakeRefused station vcid apid take_refusals.NoQueue = Contains station.vcids vcid × AtSomeMoment (λ s journal. waiting_packets s journal apid ≡ None)
+IsTakeRefused station vcid apid take_refusals.Empty = Contains station.vcids vcid × AtSomeMoment (λ s journal. waiting_packets s journal apid ≡ Some [])
+IsTakeRefused station vcid apid take_refusals.NoMemory = Contains station.vcids vcid
+
+-- the first of these that applies; the channels are handed back only where the counts don't tell their journals
+abbrev pub IsCloseFault : Roster → List Tally → CloseFault → Type 0
+IsCloseFault station operators (Missing s os) = (length operators < station.issued) × (s ≡ station) × (os.items ≡ operators)
+IsCloseFault station operators (NoMemory s os) = (station.issued ≤ length operators) × (s ≡ station) × (os.items ≡ operators)
+IsCloseFault station operators (Unbalanced channels os) =
+    (station.issued ≤ length operators) × (os.items ≡ operators) × (length channels.items ≡ length station.vcids) × ¬ AreInBalance station.vcids operators channels.items

@@ -1,0 +1,10 @@
+pub mod Desk
+pub mod Roster
+pub mod Tally
+pub mod StationSettings
+pub mod Location
+pub mod Moments
+pub mod Balance
+pub mod Faults
+pub mod Lowest
+pub mod Work

@@ -1,0 +1,33 @@
+-- What the calls of a station answer. Of a channel in its lock no more is known than that its journal is lawful, so each
+-- answer is the reply at some moment of some channel.
+use Rattle.std.specs.Prelude.{◌≡◌, ℕ, List, Contains, slice_get, Option, Some}
+use Rattle.std.specs.Option.{option_and_then}
+use Rattle.tc_link.specs.declared.Link.{Link}
+use Rattle.tc_channel.specs.declared.settings.Settings.{Settings}
+use Rattle.tc_channel.specs.declared.event.Event.{Event}
+use Rattle.tc_channel.specs.declared.reply.Delivery.{Delivery}
+use Rattle.tc_channel.specs.declared.reply.FrameReply.{FrameReply}
+use Rattle.tc_channel.specs.Run.{IsLawful}
+use Rattle.tc_channel.specs.Reply.{frame_reply, release_reply, waiting_packets, clcw}
+use Rattle.tc_station.specs.Roster.{Roster}
+use Rattle.tc_station.specs.Location.{IsLocated}
+
+-- some channel's journal at some moment
+abbrev pub AtSomeMoment : (Settings → List Event → Type 0) → Type 0
+AtSomeMoment P = (s : Settings) × (journal : List Event) × IsLawful s journal × P s journal
+
+-- the octets were for this channel, and this is the reply to their frame
+abbrev pub IsBrought : Roster → List ℕ → ℕ → FrameReply → Type 0
+IsBrought station octets vcid reply =
+    (frame : List ℕ) × IsLocated station octets vcid frame × AtSomeMoment (λ s journal. reply ≡ frame_reply s journal frame)
+
+abbrev pub IsReleased : Roster → ℕ → Delivery → Type 0
+IsReleased station vcid delivery = Contains station.vcids vcid × AtSomeMoment (λ s journal. delivery ≡ release_reply s journal)
+
+-- the packet is the oldest that waited
+abbrev pub IsTaken : Roster → ℕ → ℕ → List ℕ → Type 0
+IsTaken station vcid apid packet =
+    Contains station.vcids vcid × AtSomeMoment (λ s journal. option_and_then (λ packets. slice_get packets 0) (waiting_packets s journal apid) ≡ Some packet)
+
+abbrev pub IsReported : Roster → ℕ → Link → ℕ → Type 0
+IsReported station vcid link word = Contains station.vcids vcid × AtSomeMoment (λ s journal. word ≡ clcw s journal link)

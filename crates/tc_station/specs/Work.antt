@@ -1,0 +1,95 @@
+-- What workers do: the jobs of each list, and the counts of its operator before and after.
+use Rattle.std.specs.Prelude.{◌≡◌, ℕ, ◌+◌, ◌≤◌, ◌==◌, ◌&&◌, ◌⊎◌, Bool, false, min, max, List, [], ◌∷◌, length, map, take, slice_get, slice_index, position, Option, Some, None, is_none, count_by}
+use Rattle.std.specs.List.{AllByRecursion}
+use Rattle.tc_link.specs.Frame.{header_of, fault_of}
+use Rattle.tc_station.specs.Roster.{Roster}
+use Rattle.tc_station.specs.Tally.{Tally, counted}
+use Rattle.tc_station.specs.Lowest.{lower}
+use Rattle.tc_station.specs.Location.{IsLocated, IsLocateFault}
+use Rattle.tc_station.specs.declared.faults.LocateFault.{LocateFault}
+use Rattle.tc_station.specs.declared.faults.WorkFault.{WorkFault}
+use Rattle.tc_station.specs.declared.faults.WorkFault.TheVariants.{NoMemory}
+use Rattle.tc_station.specs.declared.work.Order.{Order}
+use Rattle.tc_station.specs.declared.work.Order.TheVariants.{Bring, Release, Take}
+use Rattle.tc_station.specs.declared.work.Job.{Job}
+use Rattle.tc_station.specs.declared.work.WorkList.{WorkList}
+
+-- what a job of this channel's list that memory didn't refuse does to the counts
+abbrev pub IsDone : Roster → ℕ → Order → Tally → Tally → Type 0
+IsDone station vcid (Bring octets) before after =
+    ((v : ℕ) × (frame : List ℕ) × IsLocated station octets v frame × (after ≡ counted v before))
+    ⊎ ((f : LocateFault) × IsLocateFault station octets f × (after ≡ before))
+IsDone station vcid Release before after = (after ≡ counted vcid before) ⊎ (after ≡ before)
+IsDone station vcid (Take apid) before after = (after ≡ counted vcid before) ⊎ (after ≡ before)
+
+-- the jobs were done one after the other
+abbrev pub AreDone : Roster → ℕ → List Job → Tally → Tally → Type 0
+AreDone station vcid [] before after = after ≡ before
+AreDone station vcid (job ∷ jobs) before after = (mid : Tally) × IsDone station vcid job.order before mid × AreDone station vcid jobs mid after
+
+-- all jobs of the list were done; or those before the one of this line, which was refused for memory
+abbrev pub IsWorked : Roster → WorkList → Option ℕ → Tally → Tally → Type 0
+IsWorked station list None before after = AreDone station list.vcid list.jobs before after
+IsWorked station list (Some line) before after =
+    (n : ℕ) × (job : Job) × (slice_get list.jobs n ≡ Some job) × (job.line ≡ line) × AreDone station list.vcid (take n list.jobs) before after
+
+-- what became of a list
+pub record Shift : Type 0 where
+  pub list : WorkList
+  -- the line that was refused for memory
+  pub refused : Option ℕ
+  pub before : Tally
+  pub after : Tally
+
+-- a count for each channel of the station
+pub record IsTallyOf (station : Roster) (t : Tally) : Type 0 where
+  pub vcids : t.vcids ≡ station.vcids
+  pub counts : length t.counts ≡ length t.vcids
+
+pub record IsShift (station : Roster) (s : Shift) : Type 0 where
+  pub ours : IsTallyOf station s.before
+  pub worked : IsWorked station s.list s.refused s.before s.after
+
+abbrev pub lowest : List Shift → Option ℕ
+lowest [] = None
+lowest (s ∷ ss) = lower s.refused (lowest ss)
+
+-- each list was worked by the operator of its place, and this is the lowest line that was refused
+abbrev pub AreWorked : Roster → List WorkList → Option ℕ → List Tally → List Tally → Type 0
+AreWorked station lists line befores afters =
+    (shifts : List Shift) × (map (λ s. s.list) shifts ≡ lists) × (map (λ s. s.before) shifts ≡ befores) × (map (λ s. s.after) shifts ≡ afters)
+    × AllByRecursion (IsShift station) shifts × (lowest shifts ≡ line)
+
+abbrev pub line_of : WorkFault → ℕ
+line_of (NoMemory line) = line
+
+-- the octets begin with a frame for this channel
+abbrev pub is_for : Roster → ℕ → List ℕ → Bool
+is_for station vcid octets = is_none (fault_of octets) && ((header_of octets).scid == station.scid && ((header_of octets).vcid == vcid))
+
+abbrev pub brings_to : Roster → ℕ → Order → Bool
+brings_to station vcid (Bring octets) = is_for station vcid octets
+brings_to station vcid Release = false
+brings_to station vcid (Take apid) = false
+
+-- a release or a take, of a list for this channel
+abbrev pub is_other : ℕ → ℕ → Order → Bool
+is_other own vcid (Bring octets) = false
+is_other own vcid Release = own == vcid
+is_other own vcid (Take apid) = own == vcid
+
+-- so much more; the largest count of 64 bits stays
+abbrev pub raised_by : ℕ → ℕ → ℕ
+raised_by n count = max count (min (count + n) 18446744073709551615)
+
+-- the count of each channel rose by at least as many jobs as bring a frame to it, and at most by those and, if it is the list's, the other jobs
+abbrev pub IsRaised : Roster → WorkList → Tally → Tally → Type 0
+IsRaised station list before after =
+    (vcid place : ℕ) → position (λ v. v == vcid) station.vcids ≡ Some place →
+    let least = count_by (λ (job : Job). brings_to station vcid job.order) list.jobs in
+    let others = count_by (λ (job : Job). is_other list.vcid vcid job.order) list.jobs in
+    (raised_by least (slice_index before.counts place) ≤ slice_index after.counts place)
+    × (slice_index after.counts place ≤ raised_by (least + others) (slice_index before.counts place))
+
+abbrev pub NoCountFalls : Tally → Tally → Type 0
+NoCountFalls before after = (place : ℕ) → slice_index before.counts place ≤ slice_index after.counts place

@@ -1,0 +1,42 @@
+//! Whether the journals of a closed station are in balance with the operators' counts.
+
+ghost use Rattle.std.specs.Prelude.{◌≡◌, ◌<◌, ◌*◌, ◌↔◌, length, IsTrue, All};
+ghost use Rattle.tc_station.specs.Balance.{counted_by_all, IsInBalance, AreInBalance};
+
+use crate::operator::Operator;
+use tc_channel::Channel;
+
+// What all operators have counted of the channel at a place.
+fn count_of_all(operators: &[Operator], place: usize) -> u128
+    requires { All (λ o. place < length o.vcids) operators.now }
+    ensures { result ≡ counted_by_all place operators.now }
+{
+    let mut total: u128 = 0;
+    for operator in operators {
+        total += u128::from(operator.count_at(place));
+    }
+    total
+}
+
+fn is_in_balance(vcids: &[u8], operators: &[Operator], place: usize, channel: &Channel) -> bool
+    requires inside { place < length vcids.now }
+    requires ours { All (λ o. o.vcids ≡ vcids.now) operators.now }
+    ensures { IsTrue result ↔ IsInBalance vcids.now operators.now place channel.now }
+{
+    channel.settings().vcid == vcids[place]
+        && channel.journal().len() as u128 == count_of_all(operators, place)
+}
+
+/// Whether each channel has the virtual channel id of its place, and as many events as the operators counted of it.
+pub(crate) fn are_in_balance(vcids: &[u8], operators: &[Operator], channels: &[Channel]) -> bool
+    requires as_many { length channels.now ≡ length vcids.now }
+    requires ours { All (λ o. o.vcids ≡ vcids.now) operators.now }
+    ensures { IsTrue result ↔ AreInBalance vcids.now operators.now channels.now }
+{
+    for (place, channel) in channels.iter().enumerate() {
+        if !is_in_balance(vcids, operators, place, channel) {
+            return false;
+        }
+    }
+    true
+}

@@ -1,0 +1,145 @@
+//! Why the calls of a station refuse. The faults of a call stand in the order in which they are tried.
+
+use crate::operator::Operator;
+use crate::station::Station;
+use std::fmt;
+use std::fmt::{Debug, Formatter};
+use tc_channel::{Channel, ReleaseFault, SettingsFault, TakeFault};
+use tc_link::FrameFault;
+use thiserror::Error;
+
+/// Why settings make no station.
+#[derive(Clone, Copy, Debug, PartialEq, Eq, Error)]
+pub enum StationFault {
+    #[error("the spacecraft id is over 1023")]
+    BadScid,
+    #[error("there is no virtual channel")]
+    NoChannel,
+    /// The first virtual channel id that stands earlier in the list, too.
+    #[error("virtual channel {0} stands there twice")]
+    DoubleVcid(u8),
+    /// The virtual channel id of the first settings that make no channel, and why they make none.
+    #[error("virtual channel {0}: {1}")]
+    Settings(u8, SettingsFault),
+    #[error("no memory")]
+    NoMemory,
+}
+
+/// Why octets are no frame for a channel of the station.
+#[derive(Clone, Copy, Debug, PartialEq, Eq, Error)]
+pub enum LocateFault {
+    #[error(transparent)]
+    Frame(FrameFault),
+    #[error("the frame is for another spacecraft")]
+    OtherSpacecraft,
+    #[error("the station has no such virtual channel")]
+    UnknownChannel,
+}
+
+/// Why octets were not brought to a channel.
+#[derive(Clone, Copy, Debug, PartialEq, Eq, Error)]
+pub enum BringFault {
+    #[error(transparent)]
+    Locate(LocateFault),
+    #[error("no memory")]
+    NoMemory,
+}
+
+/// Why no operators were issued.
+#[derive(Clone, Copy, Debug, PartialEq, Eq, Error)]
+pub enum OperatorsFault {
+    #[error("more than 65535 operators")]
+    TooMany,
+    #[error("no memory")]
+    NoMemory,
+}
+
+/// The station has no such virtual channel.
+#[derive(Clone, Copy, Debug, PartialEq, Eq, Error)]
+#[error("the station has no such virtual channel")]
+pub struct UnknownChannel;
+
+/// Why a channel of the station released no data field.
+#[derive(Clone, Copy, Debug, PartialEq, Eq, Error)]
+pub enum ReleaseRefused {
+    #[error("the station has no such virtual channel")]
+    UnknownChannel,
+    #[error("the buffer is empty")]
+    Empty,
+    #[error("no memory")]
+    NoMemory,
+}
+
+/// Why no packet was taken from a channel of the station.
+#[derive(Clone, Copy, Debug, PartialEq, Eq, Error)]
+pub enum TakeRefused {
+    #[error("the station has no such virtual channel")]
+    UnknownChannel,
+    #[error("no queue with that application process identifier")]
+    NoQueue,
+    #[error("the queue is empty")]
+    Empty,
+    #[error("no memory")]
+    NoMemory,
+}
+
+/// Why not all lists were done.
+#[derive(Clone, Copy, Debug, PartialEq, Eq, Error)]
+pub enum WorkFault {
+    /// The lowest line whose job was refused for memory.
+    #[error("line {line}: no memory")]
+    NoMemory { line: u32 },
+}
+
+/// Why a station was not closed in balance, with what is handed back.
+#[derive(Drop, Error)]
+pub enum CloseFault {
+    /// There are fewer operators than the station issued.
+    #[error("an operator is missing")]
+    Missing(Station, Vec<Operator>),
+    #[error("no memory")]
+    NoMemory(Station, Vec<Operator>),
+    /// The channels are out of their locks, and one of them has another virtual channel id than its place, or another
+    /// number of events than the operators counted of it.
+    #[error("the operators' counts and the journals differ")]
+    Unbalanced(Vec<Channel>, Vec<Operator>),
+}
+
+impl Debug for CloseFault {
+    fn fmt<W: fmt::Write>(&self, f: &mut Formatter<W>) -> fmt::Result {
+        f.write_str(match self {
+            CloseFault::Missing(_, _) => "Missing",
+            CloseFault::NoMemory(_, _) => "NoMemory",
+            CloseFault::Unbalanced(_, _) => "Unbalanced",
+        })
+    }
+}
+
+impl From<ReleaseFault> for ReleaseRefused {
+    ghost use Rattle.tc_station.specs.Faults.{release_refused};
+    ghost use Rattle.std.specs.Prelude.{◌≡◌};
+
+    ghost from_gives = { λ fault refused. refused ≡ release_refused fault };
+
+    fn from(fault: ReleaseFault) -> ReleaseRefused {
+        match fault {
+            ReleaseFault::Empty => ReleaseRefused::Empty,
+            ReleaseFault::NoMemory => ReleaseRefused::NoMemory,
+        }
+    }
+}
+
+impl From<TakeFault> for TakeRefused {
+    ghost use Rattle.tc_station.specs.Faults.{take_refused};
+    ghost use Rattle.std.specs.Prelude.{◌≡◌};
+
+    ghost from_gives = { λ fault refused. refused ≡ take_refused fault };
+
+    fn from(fault: TakeFault) -> TakeRefused {
+        match fault {
+            TakeFault::NoQueue => TakeRefused::NoQueue,
+            TakeFault::Empty => TakeRefused::Empty,
+            TakeFault::NoMemory => TakeRefused::NoMemory,
+        }
+    }
+}

@@ -1,0 +1,25 @@
+//! The station of one spacecraft: its virtual channels, each behind a lock of its own, and the operators that bring them
+//! frames, release their data fields and take their packets.
+//!
+//! A contract sees a [`Desk`], which is what lies under a lock, as its channel, and each call of a desk has the contract of
+//! the channel's call. Of a locked value only the type is known, so a call of the [`Station`] promises less: what it answers
+//! is what FARM-1 and the queues answer at some lawful journal. [`Station::close`] ties the journals to the operators' counts.
+#![tactic(auto)]
+
+mod closing;
+mod desk;
+mod faults;
+mod operator;
+mod station;
+#[cfg(test)]
+mod tests;
+mod work;
+
+pub use desk::Desk;
+pub use faults::{
+    BringFault, CloseFault, LocateFault, OperatorsFault, ReleaseRefused, StationFault, TakeRefused,
+    UnknownChannel, WorkFault,
+};
+pub use operator::Operator;
+pub use station::{Brought, Located, Station};
+pub use work::{FreeGate, Gate, Job, Order, WorkList};

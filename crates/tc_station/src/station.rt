@@ -1,0 +1,329 @@
+//! The station: a lock for each channel.
+
+ghost use Rattle.std.specs.Prelude.{◌≡◌, ◌≢◌, ◌≤◌, ◌<◌, ◌+◌, ◌==◌, ◌↔◌, [], List, ℕ, All, AllPairs, Any, Contains, IsTrue, length, map, position, replicate, Some, vec_len, vec_capacity, IfOk, IfErr, IsErrOf, OnOk, OnErr, MatchOption, MatchResult};
+ghost use Rattle.tc_link.specs.Frame.{IsWhole, BeginsWith, header_of};
+ghost use Rattle.tc_channel.specs.Settings.{IsAllowed};
+ghost use Rattle.tc_station.specs.Tally.{counted, fresh};
+ghost use Rattle.tc_station.specs.Balance.{AreInBalance};
+ghost use Rattle.tc_station.specs.StationSettings.{vcids_of, HaveDistinctVcids, IsFirstDouble, IsFirstRefused, AreStationSettings, IsStationFault};
+
+use crate::closing::are_in_balance;
+use crate::desk::Desk;
+use crate::faults::{
+    BringFault, CloseFault, LocateFault, OperatorsFault, ReleaseRefused, StationFault, TakeRefused,
+    UnknownChannel,
+};
+use crate::operator::{Operator, place_of};
+use crate::work::Gate;
+use crossbeam_utils::CachePadded;
+use std::alloc::Global;
+use std::marker::Model;
+use std::sync::{Mutex, Wait};
+use tc_channel::{Channel, Delivery, FrameReply, NoMemory, Settings, SettingsFault};
+use tc_link::{Frame, Link, read_frame};
+
+/// A frame for a channel of the station.
+#[derive(Debug, Drop)]
+pub struct Located<'a> {
+    /// The virtual channel id that the frame names.
+    pub vcid: u8,
+    /// The frame, without fill.
+    pub frame: Frame<'a>,
+}
+
+/// What became of octets that were brought.
+#[derive(Clone, Copy, Debug, PartialEq, Eq)]
+pub struct Brought {
+    /// The virtual channel id that the frame names.
+    pub vcid: u8,
+    pub reply: FrameReply,
+}
+
+/// The virtual channels of one spacecraft, each behind a lock of its own, with nothing else on its cache lines.
+#[derive(Drop)]
+pub struct Station {
+    alloc: Global,
+    scid: u16,
+    vcids: Vec<u8>,
+    issued: u16,
+    desks: Vec<CachePadded<Mutex<Desk>>>,
+}
+
+impl Model for Station {
+    ghost use Rattle.std.specs.Prelude.{◌≡◌, vec_len};
+    ghost use Rattle.tc_station.specs.Roster.{Roster};
+
+    ghost Value = { Roster };
+
+    ghost view = { λ s. record { scid = s.scid; vcids = s.vcids.items; issued = s.issued } };
+
+    ghost invariant = { λ s. vec_len s.desks ≡ vec_len s.vcids };
+}
+
+impl Station {
+    ghost use Rattle.tc_station.specs.Location.{IsLocated, IsPlaced, IsLocateFault, IsBringFault};
+    ghost use Rattle.tc_station.specs.Moments.{IsBrought, IsReleased, IsTaken, IsReported};
+    ghost use Rattle.tc_station.specs.Faults.{IsReleaseRefused, IsTakeRefused, IsCloseFault};
+
+    /// A station with a new channel for each of the settings. On a refusal the settings are dropped.
+    pub fn new(alloc: Global, scid: u16, list: Vec<Settings>) -> Result<Station, StationFault>
+        ensures made { IfOk result (λ station. station ≡ record { scid = scid; vcids = vcids_of list.items; issued = 0 }) }
+        ensures fault { MatchResult result (λ _. AreStationSettings scid list.items) (IsStationFault scid list.items) }
+    {
+        check(scid, &list)?;
+        let Ok(station) = start(alloc, scid, list) else {
+            return Err(StationFault::NoMemory);
+        };
+        Ok(station)
+    }
+
+    /// The frame at the front of the octets and the channel that it is for. It takes no lock.
+    pub fn locate<'a>(&self, octets: &'a [u8]) -> Result<Located<'a>, LocateFault>
+        ensures { MatchResult result (λ located. IsLocated self.now octets.now located.vcid located.frame) (IsLocateFault self.now octets.now) }
+    {
+        let (_, located) = self.place_frame(octets)?;
+        Ok(located)
+    }
+
+    // The same, with the place of the channel.
+    fn place_frame<'a>(&self, octets: &'a [u8]) -> Result<(usize, Located<'a>), LocateFault>
+        ensures { MatchResult result (λ placed. IsPlaced self.now octets.now placed.0 placed.1.vcid placed.1.frame) (IsLocateFault self.now octets.now) }
+    {
+        let frame = read_frame(octets).map_err(LocateFault::Frame)?;
+        let header = frame.header();
+        if header.scid != self.scid {
+            return Err(LocateFault::OtherSpacecraft);
+        }
+        let vcid = header.vcid;
+        let Some(place) = place_of(&self.vcids, vcid) else {
+            return Err(LocateFault::UnknownChannel);
+        };
+        Ok((place, Located { vcid, frame }))
+    }
+
+    /// Issues operators: at most 65,535 over the station's life.
+    pub fn operators(&mut self, n: u16) -> Result<Vec<Operator>, OperatorsFault>
+        ensures fresh { IfOk result (λ operators. operators.items ≡ replicate n (fresh self.old.vcids)) }
+        ensures issued { OnOk result (self.new ≡ record self.old { issued = self.old.issued + n }) }
+        ensures many { IsErrOf result OperatorsFault.TooMany ↔ (65535 < self.old.issued + n) }
+        ensures refused { OnErr result (self.new ≡ self.old) }
+    {
+        let Some(issued) = self.issued.checked_add(n) else {
+            return Err(OperatorsFault::TooMany);
+        };
+        let Ok(operators) = issue(self.alloc, &self.vcids, n) else {
+            return Err(OperatorsFault::NoMemory);
+        };
+        self.issued = issued;
+        Ok(operators)
+    }
+
+    /// Brings the frame at the front of the octets to its channel, under the channel's lock.
+    pub fn bring(
+        &self,
+        rt: &impl Wait,
+        operator: &mut Operator,
+        octets: &[u8],
+    ) -> Result<Brought, BringFault>
+        requires ours { operator.old.vcids ≡ self.now.vcids }
+        ensures answer { MatchResult result (λ brought. IsBrought self.now octets.now brought.vcid brought.reply) (IsBringFault self.now octets.now) }
+        ensures counted { IfOk result (λ brought. operator.new ≡ counted brought.vcid operator.old) }
+        ensures refused { OnErr result (operator.new ≡ operator.old) }
+    {
+        let (place, Located { vcid, frame }) = self
+            .place_frame(octets)
+            .map_err(BringFault::Locate)?;
+        let Ok(reply) = self.desks[place].lock(rt).frame(&frame) else {
+            return Err(BringFault::NoMemory);
+        };
+        operator.raise(place, vcid);
+        Ok(Brought { vcid, reply })
+    }
+
+    /// Lets the oldest data field out of a channel's buffer, under the channel's lock.
+    pub fn release(
+        &self,
+        rt: &impl Wait,
+        operator: &mut Operator,
+        vcid: u8,
+    ) -> Result<Delivery, ReleaseRefused>
+        requires ours { operator.old.vcids ≡ self.now.vcids }
+        ensures answer { MatchResult result (IsReleased self.now vcid) (IsReleaseRefused self.now vcid) }
+        ensures counted { OnOk result (operator.new ≡ counted vcid operator.old) }
+        ensures refused { OnErr result (operator.new ≡ operator.old) }
+    {
+        let Some(place) = place_of(&self.vcids, vcid) else {
+            return Err(ReleaseRefused::UnknownChannel);
+        };
+        let delivery = self.desks[place].lock(rt).release()?;
+        operator.raise(place, vcid);
+        Ok(delivery)
+    }
+
+    /// Takes the oldest packet of a channel's queue with this APID, under the channel's lock.
+    pub fn take(
+        &self,
+        rt: &impl Wait,
+        operator: &mut Operator,
+        vcid: u8,
+        apid: u16,
+    ) -> Result<Vec<u8>, TakeRefused>
+        requires ours { operator.old.vcids ≡ self.now.vcids }
+        ensures answer { MatchResult result (λ packet. IsTaken self.now vcid apid packet.items) (IsTakeRefused self.now vcid apid) }
+        ensures counted { OnOk result (operator.new ≡ counted vcid operator.old) }
+        ensures refused { OnErr result (operator.new ≡ operator.old) }
+    {
+        let Some(place) = place_of(&self.vcids, vcid) else {
+            return Err(TakeRefused::UnknownChannel);
+        };
+        let packet = self.desks[place].lock(rt).take(apid)?;
+        operator.raise(place, vcid);
+        Ok(packet)
+    }
+
+    /// A channel's CLCW, under the channel's lock.
+    pub fn clcw(&self, rt: &impl Wait, vcid: u8, link: Link) -> Result<u32, UnknownChannel>
+        ensures { MatchResult result (IsReported self.now vcid link) (λ _. ¬ Contains self.now.vcids vcid) }
+    {
+        let Some(place) = place_of(&self.vcids, vcid) else {
+            return Err(UnknownChannel);
+        };
+        let word = self.desks[place].lock(rt).channel().clcw(link);
+        Ok(word)
+    }
+
+    /// Passes the gate once, under the lock of the channel if there is one.
+    pub(crate) fn pass<G: Gate, R: Wait>(&self, rt: &R, gate: &G, vcid: u8) {
+        let Some(place) = place_of(&self.vcids, vcid) else {
+            gate.pass(vcid);
+            return;
+        };
+        let desk = self.desks[place].lock(rt);
+        gate.pass(vcid);
+        drop(desk);
+    }
+
+    /// Ends the station: takes the channels out of their locks and compares their journals with the operators' counts.
+    pub fn close(self, operators: Vec<Operator>) -> Result<Vec<Channel>, CloseFault>
+        requires ours { All (λ o. o.vcids ≡ self.vcids) operators.items }
+        ensures all { IfOk result (λ _. self.issued ≤ vec_len operators) }
+        ensures balanced { IfOk result (λ channels. AreInBalance self.vcids operators.items channels.items) }
+        ensures channels { IfOk result (λ channels. map (λ c. c.settings.vcid) channels.items ≡ self.vcids) }
+        ensures fault { IfErr result (IsCloseFault self operators.items) }
+    {
+        if operators.len() < usize::from(self.issued) {
+            return Err(CloseFault::Missing(self, operators));
+        }
+        let Ok(room) = Vec::with_capacity(self.alloc, self.desks.len()) else {
+            return Err(CloseFault::NoMemory(self, operators));
+        };
+        let Station {
+            alloc: _,
+            scid: _,
+            vcids,
+            issued: _,
+            desks,
+        } = self;
+        let channels = take_out(desks, room);
+        if are_in_balance(&vcids, &operators, &channels) {
+            Ok(channels)
+        } else {
+            Err(CloseFault::Unbalanced(channels, operators))
+        }
+    }
+}
+
+// Whether a channel has this id.
+fn has_vcid(list: &[Settings], vcid: u8) -> bool
+    ensures { IsTrue result ↔ Any (λ s. s.vcid ≡ vcid) list.now }
+{
+    list.iter().any(|settings| settings.vcid == vcid)
+}
+
+// The first virtual channel id that stands earlier in the list, too.
+fn double_vcid(list: &[Settings]) -> Option<u8>
+    ensures { MatchOption result (HaveDistinctVcids list.now) (IsFirstDouble list.now) }
+{
+    for (i, settings) in list.iter().enumerate() {
+        if has_vcid(&list[..i], settings.vcid) {
+            return Some(settings.vcid);
+        }
+    }
+    None
+}
+
+// Whether each of the settings makes a channel; else which are the first that don't.
+fn check_each(list: &[Settings]) -> Result<(), (u8, SettingsFault)>
+    ensures { MatchResult result (λ _. All IsAllowed list.now) (λ fault. IsFirstRefused list.now fault.0 fault.1) }
+{
+    for settings in list {
+        if let Err(fault) = settings.check() {
+            return Err((settings.vcid, fault));
+        }
+    }
+    Ok(())
+}
+
+// Whether a station can be made by these settings.
+fn check(scid: u16, list: &[Settings]) -> Result<(), StationFault>
+    ensures { MatchResult result (λ _. AreStationSettings scid list.now) (IsStationFault scid list.now) }
+{
+    if scid > 1023 {
+        return Err(StationFault::BadScid);
+    }
+    if list.is_empty() {
+        return Err(StationFault::NoChannel);
+    }
+    if let Some(vcid) = double_vcid(list) {
+        return Err(StationFault::DoubleVcid(vcid));
+    }
+    match check_each(list) {
+        Ok(()) => Ok(()),
+        Err((vcid, fault)) => Err(StationFault::Settings(vcid, fault)),
+    }
+}
+
+// A station by settings that were checked.
+fn start(alloc: Global, scid: u16, list: Vec<Settings>) -> Result<Station, NoMemory>
+    ensures { IfOk result (λ station. station ≡ record { scid = scid; vcids = vcids_of list.items; issued = 0 }) }
+{
+    let mut vcids = Vec::with_capacity(alloc, list.len())?;
+    let mut desks = Vec::with_capacity(alloc, list.len())?;
+    for settings in list {
+        vcids.push_reserved(settings.vcid);
+        let Ok(desk) = Desk::new(alloc, settings) else {
+            return Err(NoMemory);
+        };
+        desks.push_reserved(CachePadded::new(Mutex::new(desk)));
+    }
+    Ok(Station {
+        alloc,
+        scid,
+        vcids,
+        issued: 0,
+        desks,
+    })
+}
+
+// Operators that have counted nothing.
+fn issue(alloc: Global, vcids: &[u8], n: u16) -> Result<Vec<Operator>, NoMemory>
+    ensures { IfOk result (λ operators. operators.items ≡ replicate n (fresh vcids.now)) }
+{
+    let mut operators = Vec::with_capacity(alloc, usize::from(n))?;
+    for _ in 0..n {
+        operators.push_reserved(Operator::new(alloc, vcids)?);
+    }
+    Ok(operators)
+}
+
+// Takes the channels out of their locks, into a list with room for them. Of each no more is known than its type says.
+fn take_out(desks: Vec<CachePadded<Mutex<Desk>>>, mut room: Vec<Channel>) -> Vec<Channel>
+    requires empty { vec_len room ≡ 0 }
+    requires room { vec_len desks ≤ vec_capacity room }
+    ensures { vec_len result ≡ vec_len desks }
+{
+    for desk in desks {
+        room.push_reserved(desk.into_inner().into_inner().into_channel());
+    }
+    room
+}

@@ -1,0 +1,261 @@
+//! Each call is made; where it answers want of memory, what stood before stands now, and the call is made again.
+
+ghost use Rattle.std.specs.Prelude.{◌≡◌, ◌∷◌, [], IfOk, replicate};
+ghost use Rattle.tc_station.specs.Tally.{fresh};
+
+use super::*;
+use std::process::Abort;
+use std::sync::Wait;
+use tc_channel::{Event, NoMemory, Octets, ReleaseFault, SettingsFault, TakeFault};
+use tc_link::read_frame;
+
+// A station of one channel with one operator, and the journal that the channel must have.
+#[derive(Drop)]
+struct Short {
+    alloc: Global,
+    station: Station,
+    operator: Operator,
+    journal: Vec<Event>,
+    ghost ours: { operator.vcids ≡ station.vcids },
+}
+
+fn new_station(rt: &impl Abort, alloc: Global) -> Result<Station, Fail> {
+    match Station::new(alloc, 42, settings_of(alloc, &[1])?) {
+        Ok(station) => Ok(station),
+        Err(fault) => {
+            assert_eq!(rt; fault, StationFault::NoMemory);
+            Ok(Station::new(alloc, 42, settings_of(alloc, &[1])?)?)
+        }
+    }
+}
+
+fn new_operators(rt: &impl Abort, station: &mut Station, n: u16) -> Result<Vec<Operator>, Fail>
+    ensures { IfOk result (λ operators. operators.items ≡ replicate n (fresh station.new.vcids)) }
+{
+    match station.operators(n) {
+        Ok(operators) => Ok(operators),
+        Err(fault) => {
+            assert_eq!(rt; fault, OperatorsFault::NoMemory);
+            Ok(station.operators(n)?)
+        }
+    }
+}
+
+// A copy, where one growth may be refused.
+fn copied(alloc: Global, octets: &[u8]) -> Result<Octets, Fail> {
+    match Octets::copied(alloc, octets) {
+        Ok(copy) => Ok(copy),
+        Err(_) => Ok(Octets::copied(alloc, octets)?),
+    }
+}
+
+impl Short {
+    fn new(rt: &impl Abort, alloc: Global) -> Result<Short, Fail> {
+        let mut station = new_station(rt, alloc)?;
+        let operator = new_operators(rt, &mut station, 1)?
+            .pop()
+            .ok_or("an operator")?;
+        Ok(Short {
+            alloc,
+            station,
+            operator,
+            journal: Vec::new(alloc),
+        })
+    }
+
+    fn word(&self, rt: &impl Wait) -> Result<u32, Fail> {
+        Ok(self.station.clcw(rt, 1, NO_FLAG)?)
+    }
+
+    // The operator has counted what is in the journal, and the word is this one.
+    fn check(&self, rt: &(impl Wait + Abort), word: u32) -> Result<(), Fail> {
+        assert_eq!(rt; self.operator.count(1), Some(self.journal.len() as u64));
+        assert_eq!(rt; self.word(rt)?, word);
+        Ok(())
+    }
+
+    fn note(&mut self, event: Event) -> Result<(), Fail> {
+        if self.journal.reserve(1).is_err() {
+            self.journal.reserve(1)?;
+        }
+        self.journal.push(event)?;
+        Ok(())
+    }
+
+    fn bring(
+        &mut self,
+        rt: &(impl Wait + Abort),
+        reply: FrameReply,
+        word: u32,
+    ) -> Result<(), Fail> {
+        let before = self.word(rt)?;
+        let brought = match self.station.bring(rt, &mut self.operator, &FRAME) {
+            Ok(brought) => brought,
+            Err(fault) => {
+                assert_eq!(rt; fault, BringFault::NoMemory);
+                self.check(rt, before)?;
+                self.station.bring(rt, &mut self.operator, &FRAME)?
+            }
+        };
+        assert_eq!(rt; brought, Brought { vcid: 1, reply });
+        let octets = copied(self.alloc, &FRAME)?;
+        self.note(Event::Frame(octets))?;
+        self.check(rt, word)
+    }
+
+    fn release(&mut self, rt: &(impl Wait + Abort)) -> Result<(), Fail> {
+        let before = self.word(rt)?;
+        let delivery = match self.station.release(rt, &mut self.operator, 1) {
+            Ok(delivery) => delivery,
+            Err(fault) => {
+                assert_eq!(rt; fault, ReleaseRefused::NoMemory);
+                self.check(rt, before)?;
+                self.station.release(rt, &mut self.operator, 1)?
+            }
+        };
+        assert_eq!(rt; delivery, ONE);
+        self.note(Event::Release)?;
+        self.check(rt, before)
+    }
+
+    fn take(&mut self, rt: &(impl Wait + Abort)) -> Result<(), Fail> {
+        let before = self.word(rt)?;
+        let packet = match self.station.take(rt, &mut self.operator, 1, 5) {
+            Ok(packet) => packet,
+            Err(fault) => {
+                assert_eq!(rt; fault, TakeRefused::NoMemory);
+                self.check(rt, before)?;
+                self.station.take(rt, &mut self.operator, 1, 5)?
+            }
+        };
+        assert_eq!(rt; packet.as_slice(), PACKET.as_slice());
+        self.note(Event::Take(5))?;
+        self.check(rt, before)
+    }
+
+    // Closes the station, whose channel has the journal that it must have.
+    fn close(self, rt: &impl Abort) -> Result<(), Fail> {
+        let Short {
+            alloc,
+            station,
+            operator,
+            journal,
+        } = self;
+        let operators = vec_of(alloc, operator)?;
+        let channels = match station.close(operators) {
+            Ok(channels) => channels,
+            Err(CloseFault::NoMemory(station, operators)) => station.close(operators)?,
+            Err(_) => return Err("neither closed nor without memory".into()),
+        };
+        assert_eq!(rt; channels.len(), 1);
+        assert_eq!(rt; channels[0].journal(), journal.as_slice());
+        Ok(())
+    }
+}
+
+// The operator alone. One growth may be refused.
+fn vec_of(alloc: Global, operator: Operator) -> Result<Vec<Operator>, Fail>
+    ensures { IfOk result (λ operators. operators.items ≡ operator ∷ []) }
+{
+    let mut operators = match Vec::with_capacity(alloc, 1) {
+        Ok(operators) => operators,
+        Err(_) => Vec::with_capacity(alloc, 1)?,
+    };
+    operators.push(operator)?;
+    Ok(operators)
+}
+
+#[test]
+fn growth_of_a_new_station(rt: HostRuntime) -> Result<(), Fail> {
+    let station = new_station(&rt, rt.alloc())?;
+    assert_eq!(rt; station.clcw(&rt, 1, NO_FLAG), Ok(0x01040000));
+    Ok(())
+}
+
+#[test]
+fn growth_of_operators(rt: HostRuntime) -> Result<(), Fail> {
+    let mut station = new_station(&rt, rt.alloc())?;
+    let operators = new_operators(&rt, &mut station, 3)?;
+    assert_eq!(rt; operators.len(), 3);
+    for operator in &operators {
+        assert_eq!(rt; operator.count(1), Some(0));
+    }
+    // None was issued by a refused call.
+    assert_eq!(rt; new_operators(&rt, &mut station, 65532)?.len(), 65532);
+    Ok(())
+}
+
+#[test]
+fn growth_of_each_call_of_a_station(rt: HostRuntime) -> Result<(), Fail> {
+    let mut short = Short::new(&rt, rt.alloc())?;
+    short.bring(&rt, BUFFERED, 0x01040001)?;
+    short.release(&rt)?;
+    short.take(&rt)?;
+    let behind = FrameReply {
+        act: Act {
+            event: 4,
+            accepted: false,
+        },
+        delivery: NOTHING,
+    };
+    short.bring(&rt, behind, 0x01040001)?;
+    short.bring(&rt, behind, 0x01040001)?;
+    short.close(&rt)
+}
+
+fn new_desk(rt: &impl Abort, alloc: Global) -> Result<Desk, Fail> {
+    match Desk::new(alloc, settings(alloc, 1)?) {
+        Ok(desk) => Ok(desk),
+        Err(fault) => {
+            assert_eq!(rt; fault, SettingsFault::NoMemory);
+            Ok(Desk::new(alloc, settings(alloc, 1)?)?)
+        }
+    }
+}
+
+// The journal's length, the CLCW, and how many fields and packets wait.
+fn told(desk: &Desk) -> (usize, u32, usize, Option<usize>) {
+    let channel = desk.channel();
+    (
+        channel.journal().len(),
+        channel.clcw(NO_FLAG),
+        channel.buffered(),
+        channel.queued(5),
+    )
+}
+
+#[test]
+fn growth_of_each_call_of_a_desk(rt: HostRuntime) -> Result<(), Fail> {
+    let mut desk = new_desk(&rt, rt.alloc())?;
+    let frame = read_frame(&FRAME)?;
+    let reply = match desk.frame(&frame) {
+        Ok(reply) => reply,
+        Err(NoMemory) => {
+            assert_eq!(rt; told(&desk), (0, 0x01040000, 0, Some(0)));
+            desk.frame(&frame)?
+        }
+    };
+    assert_eq!(rt; reply, BUFFERED);
+    let delivery = match desk.release() {
+        Ok(delivery) => delivery,
+        Err(fault) => {
+            assert_eq!(rt; fault, ReleaseFault::NoMemory);
+            assert_eq!(rt; told(&desk), (1, 0x01040001, 1, Some(0)));
+            desk.release()?
+        }
+    };
+    assert_eq!(rt; delivery, ONE);
+    let packet = match desk.take(5) {
+        Ok(packet) => packet,
+        Err(fault) => {
+            assert_eq!(rt; fault, TakeFault::NoMemory);
+            assert_eq!(rt; told(&desk), (2, 0x01040001, 0, Some(1)));
+            desk.take(5)?
+        }
+    };
+    assert_eq!(rt; packet.as_slice(), PACKET.as_slice());
+    assert_eq!(rt; desk.take(5).err(), Some(TakeFault::Empty));
+    assert_eq!(rt; desk.release(), Err(ReleaseFault::Empty));
+    assert_eq!(rt; told(&desk), (3, 0x01040001, 0, Some(0)));
+    Ok(())
+}

@@ -1,0 +1,222 @@
+//! Workers: lists of jobs, each done by a thread of its own.
+
+ghost use Rattle.std.specs.Prelude.{◌≡◌, ◌<◌, ◌≤◌, ◌/◌, ℕ, List, All, Option, None, Some, length, map, slice_index_or, OnOk, OnErr, MatchResult};
+ghost use Rattle.std.specs.List.{AllByRecursion};
+ghost use Rattle.std.specs.Thread.{IsSync};
+ghost use Rattle.tc_station.specs.Tally.{Tally};
+ghost use Rattle.tc_station.specs.Lowest.{lower};
+
+use crate::faults::{BringFault, ReleaseRefused, TakeRefused, WorkFault};
+use crate::operator::Operator;
+use crate::station::Station;
+use std::sync::Wait;
+use std::thread::{Threads, join_mut};
+use tc_channel::{Items, NoMemory, Octets};
+
+/// What each worker passes once, while it holds the lock of its list's channel, before it does its jobs.
+pub trait Gate {
+    fn pass(&self, vcid: u8);
+}
+
+/// A gate that is open to all.
+#[derive(Clone, Copy, Debug, PartialEq, Eq)]
+pub struct FreeGate;
+
+impl Gate for FreeGate {
+    fn pass(&self, _vcid: u8) {}
+}
+
+/// An operation to make.
+#[derive(Debug, Drop, PartialEq, Eq)]
+pub enum Order {
+    /// Bring these octets to the channel that their frame names.
+    Bring(Octets),
+    /// Release the oldest data field of the list's channel.
+    Release,
+    /// Take the oldest packet of the list's channel with this APID.
+    Take(u16),
+}
+
+/// An order, and the line of the script that gave it.
+#[derive(Debug, Drop, PartialEq, Eq)]
+pub struct Job {
+    pub line: u32,
+    pub order: Order,
+}
+
+/// The jobs of one worker, in their order.
+#[derive(Debug, Drop, PartialEq, Eq)]
+pub struct WorkList {
+    /// The virtual channel id of the list's channel.
+    pub vcid: u8,
+    pub jobs: Items<Job>,
+}
+
+impl Station {
+    ghost use Rattle.tc_station.specs.Work.{Shift, IsDone, IsWorked, AreWorked, IsTallyOf, NoCountFalls, IsRaised, line_of};
+
+    /// Does each list of jobs in a thread of its own, with the operator of its place. A refusal other than for memory is
+    /// passed over. A list whose job is refused for memory is given up there; the others are done in full, and the lowest such
+    /// line is told. Lists whose threads can't be started are done one after the other. Nothing grows but in the operations.
+    pub fn work<G: Gate + Sync, R: Threads + Wait + Sync>(
+        &self,
+        rt: &R,
+        gate: &G,
+        operators: &mut Vec<Operator>,
+        lists: &[WorkList],
+    ) -> Result<(), WorkFault>
+        requires as_many { length operators.old.items ≡ length lists.now }
+        requires ours { All (λ o. o.vcids ≡ self.now.vcids) operators.old.items }
+        ensures worked { (line : Option ℕ) × AreWorked self.now lists.now line operators.old.items operators.new.items
+            × MatchResult result (λ _. line ≡ None) (λ fault. line ≡ Some (line_of fault)) }
+        ensures kept { map (λ o. o.vcids) operators.new.items ≡ map (λ o. o.vcids) operators.old.items }
+        ensures risen { (k : ℕ) (o : Tally) → k < length lists.now → NoCountFalls (slice_index_or operators.old.items k o) (slice_index_or operators.new.items k o) }
+        ensures raised { OnOk result ((k : ℕ) (l : WorkList) (o : Tally) → k < length lists.now →
+            IsRaised self.now (slice_index_or lists.now k l) (slice_index_or operators.old.items k o) (slice_index_or operators.new.items k o)) }
+    {
+        match self.work_all(rt, gate, lists, operators.as_mut_slice()) {
+            None => Ok(()),
+            Some(line) => Err(WorkFault::NoMemory { line }),
+        }
+    }
+
+    // Does the lists, and answers the lowest line that was refused for memory.
+    #[cycle(work)]
+    fn work_all<G: Gate + Sync, R: Threads + Wait + Sync>(
+        &self,
+        rt: &R,
+        gate: &G,
+        lists: &[WorkList],
+        operators: &mut [Operator],
+    ) -> Option<u32>
+        requires as_many { length operators.old ≡ length lists.now }
+        requires ours { All (λ o. o.vcids ≡ self.now.vcids) operators.old }
+        ensures { AreWorked self.now lists.now result operators.old operators.new }
+    {
+        if lists.len() < 2 {
+            return self.work_one(rt, gate, lists, operators);
+        }
+        let half = lists.len() / 2;
+        let (front_lists, back_lists) = lists.split_at(half);
+        let (front, back) = operators.split_at_mut(half);
+        self.work_halves(rt, gate, front_lists, back_lists, front, back)
+    }
+
+    // Does one half of the lists in a thread of its own.
+    #[cycle(work)]
+    fn work_halves<G: Gate + Sync, R: Threads + Wait + Sync>(
+        &self,
+        rt: &R,
+        gate: &G,
+        front_lists: &[WorkList],
+        back_lists: &[WorkList],
+        front: &mut [Operator],
+        back: &mut [Operator],
+    ) -> Option<u32>
+        requires front_some { 0 < length front_lists.now }
+        requires back_some { 0 < length back_lists.now }
+        requires front_as_many { length front.old ≡ length front_lists.now }
+        requires front_ours { All (λ o. o.vcids ≡ self.now.vcids) front.old }
+        requires back_as_many { length back.old ≡ length back_lists.now }
+        requires back_ours { All (λ o. o.vcids ≡ self.now.vcids) back.old }
+        ensures { (a : Option ℕ) × (b : Option ℕ) × (result ≡ lower a b)
+            × AreWorked self.now front_lists.now a front.old front.new × AreWorked self.now back_lists.now b back.old back.new }
+    {
+        let mut first = || -> Option<u32>
+            requires { IsSync R.row × IsSync G.row × (length front.now ≡ length front_lists.now) × All (λ o. o.vcids ≡ self.now.vcids) front.now }
+            ensures { AreWorked self.entry.now front_lists.entry.now result front.entry.now front.exit.now }
+        { self.work_all(rt, gate, front_lists, front) };
+        let mut second = || -> Option<u32>
+            requires { IsSync R.row × IsSync G.row × (length back.now ≡ length back_lists.now) × All (λ o. o.vcids ≡ self.now.vcids) back.now }
+            ensures { AreWorked self.entry.now back_lists.entry.now result back.entry.now back.exit.now }
+        { self.work_all(rt, gate, back_lists, back) };
+        let (a, b) = join_mut(rt, &mut first, &mut second);
+        lower_line(a, b)
+    }
+
+    // Does the list, if there is one.
+    fn work_one<G: Gate, R: Wait>(
+        &self,
+        rt: &R,
+        gate: &G,
+        lists: &[WorkList],
+        operators: &mut [Operator],
+    ) -> Option<u32>
+        requires one { length lists.now < 2 }
+        requires as_many { length operators.old ≡ length lists.now }
+        requires ours { All (λ o. o.vcids ≡ self.now.vcids) operators.old }
+        ensures { AreWorked self.now lists.now result operators.old operators.new }
+    {
+        if lists.is_empty() {
+            return None;
+        }
+        self.do_list(rt, gate, &lists[0], &mut operators[0])
+    }
+
+    // Passes the gate, and does the jobs of a list in order, up to the first that is refused for memory.
+    fn do_list<G: Gate, R: Wait>(
+        &self,
+        rt: &R,
+        gate: &G,
+        list: &WorkList,
+        operator: &mut Operator,
+    ) -> Option<u32>
+        requires ours { operator.old.vcids ≡ self.now.vcids }
+        ensures tally { IsTallyOf self.now operator.old }
+        ensures worked { IsWorked self.now list.now result operator.old operator.new }
+    {
+        self.pass(rt, gate, list.vcid);
+        operator.has_a_count_for_each_channel();
+        for job in list.jobs.as_slice() {
+            let Ok(()) = self.do_job(rt, list.vcid, &job.order, operator) else {
+                return Some(job.line);
+            };
+        }
+        None
+    }
+
+    // Does a job, unless memory is refused. Any other refusal is passed over.
+    fn do_job<R: Wait>(
+        &self,
+        rt: &R,
+        vcid: u8,
+        order: &Order,
+        operator: &mut Operator,
+    ) -> Result<(), NoMemory>
+        requires ours { operator.old.vcids ≡ self.now.vcids }
+        ensures done { OnOk result (IsDone self.now vcid order.now operator.old operator.new) }
+        ensures refused { OnErr result (operator.new ≡ operator.old) }
+    {
+        match order {
+            Order::Bring(octets) => match self.bring(rt, operator, octets) {
+                Ok(_) => Ok(()),
+                Err(BringFault::Locate(_)) => Ok(()),
+                Err(BringFault::NoMemory) => Err(NoMemory),
+            },
+            Order::Release => match self.release(rt, operator, vcid) {
+                Ok(_) => Ok(()),
+                Err(ReleaseRefused::UnknownChannel) => Ok(()),
+                Err(ReleaseRefused::Empty) => Ok(()),
+                Err(ReleaseRefused::NoMemory) => Err(NoMemory),
+            },
+            Order::Take(apid) => match self.take(rt, operator, vcid, *apid) {
+                Ok(_) => Ok(()),
+                Err(TakeRefused::UnknownChannel) => Ok(()),
+                Err(TakeRefused::NoQueue) => Ok(()),
+                Err(TakeRefused::Empty) => Ok(()),
+                Err(TakeRefused::NoMemory) => Err(NoMemory),
+            },
+        }
+    }
+}
+
+// The lower of two lines.
+fn lower_line(a: Option<u32>, b: Option<u32>) -> Option<u32>
+    ensures { result ≡ lower a b }
+{
+    match (a, b) {
+        (None, b) => b,
+        (Some(a), None) => Some(a),
+        (Some(a), Some(b)) => Some(a.min(b)),
+    }
+}
