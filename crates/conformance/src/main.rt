@@ -1,0 +1,117 @@
+//! Does the scripts of the folder that it runs in, and tells each that is answered otherwise than
+//! expected.
+//!
+//! The file `index` has a line for each case, in the order of their names: the name, the spacecraft
+//! id, and the text of the fault with which the script ends, if it does. `NAME.script` is the script,
+//! and `NAME.out` what it is answered. Scripts at the limit of their size are made here.
+#![tactic(auto)]
+
+ghost use Rattle.std.specs.Prelude.{◌≤◌};
+
+mod case;
+mod large;
+mod outcome;
+
+use anyhow::{Context, Result, anyhow};
+use case::{Case, parse_case};
+use large::large_cases;
+use outcome::{compare, perform};
+use std::fs;
+use std::process::ExitCode;
+use std::rt::Files;
+
+fn main(rt: HostRuntime) -> ExitCode {
+    match check_all(&rt) {
+        Ok(true) => ExitCode::SUCCESS,
+        Ok(false) => ExitCode::FAILURE,
+        Err(error) => {
+            let _ = eprintln!(rt; "{error:#}");
+            ExitCode::FAILURE
+        }
+    }
+}
+
+/// How many cases were done, and how many of them agree.
+#[derive(Clone, Copy, Debug)]
+struct Tally {
+    cases: u32,
+    agreeing: u32,
+}
+
+impl Tally {
+    fn count(&mut self, agrees: bool) {
+        self.cases = self.cases.saturating_add(1);
+        if agrees {
+            self.agreeing = self.agreeing.saturating_add(1);
+        }
+    }
+}
+
+// Prints how many cases agree, and each that doesn't. Answers whether all do.
+fn check_all<R: Files + AllocGlobal + Print>(rt: &R) -> Result<bool> {
+    let mut tally = Tally {
+        cases: 0,
+        agreeing: 0,
+    };
+    check_index(rt, &mut tally)?;
+    check_large(rt, &mut tally)?;
+    let Tally { cases, agreeing } = tally;
+    println!(rt; "{agreeing} of {cases} cases agree")?;
+    Ok(agreeing == cases)
+}
+
+fn check_index<R: Files + AllocGlobal + Print>(rt: &R, tally: &mut Tally) -> Result<()> {
+    let index = fs::read_to_string(rt, "index").context("index")?;
+    let mut last = b"".as_slice();
+    for line in index.as_str().lines() {
+        let Some(case) = parse_case(line) else {
+            return Err(anyhow!("no case in a line of the index: {line}"));
+        };
+        if case.name.as_bytes() <= last {
+            return Err(anyhow!("the index isn't sorted: {line}"));
+        }
+        last = case.name.as_bytes();
+        let script = read(rt, format!(in rt.alloc(); "{}.script", case.name)?)?;
+        let answers = read(rt, format!(in rt.alloc(); "{}.out", case.name)?)?;
+        tally.count(agrees(rt, &case, script.as_slice(), answers.as_slice())?);
+    }
+    Ok(())
+}
+
+fn read<R: Files + AllocGlobal>(rt: &R, path: String) -> Result<Vec<u8>> {
+    match fs::read(rt, path.as_str()) {
+        Ok(octets) => Ok(octets),
+        Err(error) => Err(anyhow!("{path}: {error}")),
+    }
+}
+
+fn check_large<R: AllocGlobal + Print>(rt: &R, tally: &mut Tally) -> Result<()> {
+    for large in large_cases(rt.alloc())? {
+        let case = Case {
+            name: large.name,
+            scid: 42,
+            fault: large.fault,
+        };
+        tally.count(agrees(rt, &case, large.script.as_slice(), b"")?);
+    }
+    Ok(())
+}
+
+// Whether a script leads to what it is to lead to. Where it doesn't, it is told.
+fn agrees<R: AllocGlobal + Print>(
+    rt: &R,
+    case: &Case,
+    script: &[u8],
+    answers: &[u8],
+) -> Result<bool>
+    requires { case.now.scid ≤ 1023 }
+{
+    let outcome = perform(rt, rt.alloc(), case.scid, script)?;
+    match compare(&outcome, answers, case.fault) {
+        None => Ok(true),
+        Some(difference) => {
+            println!(rt; "{}: {difference}", case.name)?;
+            Ok(false)
+        }
+    }
+}

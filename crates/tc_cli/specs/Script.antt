@@ -1,0 +1,65 @@
+-- The lines of a script, one after the other, and where a script ends early.
+use Rattle.std.specs.Prelude.{◌≡◌, ◌≢◌, ◌<◌, ◌≤◌, ℕ, ◌+◌, List, [], ◌∷◌, ◌++◌, ◌⊎◌, length, All, Option, None, Ok, Err, IfSome}
+use Rattle.tc_cli.specs.Word.{words}
+use Rattle.tc_cli.specs.Line.{line_of}
+use Rattle.tc_cli.specs.Phase.{Phase, Setup, Does, IsBad}
+use Rattle.tc_cli.specs.declared.line.Line.{Line as Said}
+use Rattle.tc_cli.specs.declared.fault.Reason.{Reason}
+use Rattle.tc_cli.specs.declared.fault.Reason.TheVariants.{NoMemory}
+use Rattle.tc_cli.specs.declared.fault.ScriptFault.{ScriptFault}
+use Rattle.tc_cli.specs.declared.fault.ScriptFault.TheVariants.{Line, Read, TooLong, Write}
+
+-- the octets are a line, which has no line feed, and what follows it: a line ends at a line feed, or where the octets end
+pub record IsFirstLine (octets line after : List ℕ) : Type 0 where
+  pub one : All (λ octet. octet ≢ 10) line
+  pub parts : (octets ≡ line ++ 10 ∷ after) ⊎ ((octets ≡ line) × (after ≡ []))
+  pub shorter : length after < length octets
+
+-- the line is good, and leads from the one phase to the other
+abbrev pub IsDone : Phase → List ℕ → Phase → Type 0
+IsDone phase line new = (said : Said) × (line_of (words line) ≡ Ok said) × Does phase said new
+
+-- the first lines of a script are good: so many of them lead to this phase, and leave these octets
+pub data Leads (script : List ℕ) : ℕ → Phase → List ℕ → Type 0 where
+  starts : Leads script 0 (Setup None) script
+  goes_on : {count : ℕ} {phase new : Phase} {rest line after : List ℕ}
+      → Leads script count phase rest → IsFirstLine rest line after → IsDone phase line new → Leads script (count + 1) new after
+
+-- why the line is bad that comes at a phase, memory aside
+abbrev pub IsBadLine : Phase → List ℕ → Reason → Type 0
+IsBadLine phase line reason =
+    (line_of (words line) ≡ Err reason) ⊎ ((said : Said) × (line_of (words line) ≡ Ok said) × IsBad phase said reason)
+
+-- the line with this number is the first bad one, and this is why
+pub record IsFirstBad (script : List ℕ) (number : ℕ) (reason : Reason) : Type 0 where
+  pub before : ℕ
+  pub phase : Phase
+  pub rest : List ℕ
+  pub line : List ℕ
+  pub after : List ℕ
+  pub leads : Leads script before phase rest
+  pub next : IsFirstLine rest line after
+  pub number_is : number ≡ before + 1
+  pub bad : IsBadLine phase line reason
+
+-- each line of the script is good
+abbrev pub IsGood : List ℕ → Type 0
+IsGood script = (count : ℕ) × (phase : Phase) × Leads script count phase []
+
+-- how many octets a script may have
+abbrev pub limit : ℕ
+limit = 1048576
+
+-- why a script isn't read; that it is too long says something of a reader whose octets are known
+abbrev pub IsReadFault : Option (List ℕ) → ScriptFault → Type 0
+IsReadFault known Read = Unit {0}
+IsReadFault known TooLong = IfSome known (λ octets. limit < length octets)
+IsReadFault known (Line number reason) = (number ≡ 0) × (reason ≡ NoMemory)
+IsReadFault known Write = ⊥
+
+-- why a script with these octets ends early
+abbrev pub IsFault : List ℕ → ScriptFault → Type 0
+IsFault script Read = Unit {0}
+IsFault script TooLong = limit < length script
+IsFault script (Line number reason) = (reason ≡ NoMemory) ⊎ ((length script ≤ limit) × IsFirstBad script number reason)
+IsFault script Write = length script ≤ limit

@@ -1,0 +1,78 @@
+//! What a script is answered.
+
+use std::fmt;
+use tc_channel::{Delivery, FrameReply, Octets};
+use tc_link::FrameFault;
+
+/// What an operation answers.
+#[derive(Debug, Drop)]
+pub(crate) enum Answer {
+    Frame { vcid: u8, reply: FrameReply },
+    Release { vcid: u8, delivery: Delivery },
+    Take { vcid: u8, apid: u16, packet: Octets },
+    Clcw { vcid: u8, word: u32 },
+    Refused(Refusal),
+}
+
+/// Why an operation is refused.
+#[derive(Clone, Copy, Debug, PartialEq, Eq)]
+pub(crate) enum Refusal {
+    Octets(FrameFault),
+    OtherSpacecraft,
+    UnknownChannel,
+    NoQueue,
+    Empty,
+}
+
+impl fmt::Display for Answer {
+    fn fmt<W: fmt::Write>(&self, f: &mut fmt::Formatter<W>) -> fmt::Result {
+        match self {
+            Answer::Frame { vcid, reply } => {
+                let event = reply.act.event;
+                let accepted = u8::from(reply.act.accepted);
+                write!(f, "frame {vcid} E{event} accepted {accepted}")?;
+                write_delivery(f, &reply.delivery)
+            }
+            Answer::Release { vcid, delivery } => {
+                write!(f, "release {vcid}")?;
+                write_delivery(f, delivery)
+            }
+            Answer::Take { vcid, apid, packet } => {
+                write!(f, "take {vcid} {apid} ")?;
+                write_octets(f, packet.as_slice())
+            }
+            Answer::Clcw { vcid, word } => write!(f, "clcw {vcid} {word:08x}"),
+            Answer::Refused(refusal) => write!(f, "refused {refusal}"),
+        }
+    }
+}
+
+fn write_delivery<W: fmt::Write>(f: &mut fmt::Formatter<W>, delivery: &Delivery) -> fmt::Result {
+    let queued = delivery.queued;
+    let dropped = delivery.dropped;
+    let rest = u8::from(delivery.rest);
+    write!(f, " queued {queued} dropped {dropped} rest {rest}")
+}
+
+fn write_octets<W: fmt::Write>(f: &mut fmt::Formatter<W>, octets: &[u8]) -> fmt::Result {
+    for octet in octets {
+        write!(f, "{octet:02x}")?;
+    }
+    Ok(())
+}
+
+impl fmt::Display for Refusal {
+    fn fmt<W: fmt::Write>(&self, f: &mut fmt::Formatter<W>) -> fmt::Result {
+        f.write_str(match self {
+            Refusal::Octets(FrameFault::Short) => "short",
+            Refusal::Octets(FrameFault::Version) => "version",
+            Refusal::Octets(FrameFault::Spare) => "spare",
+            Refusal::Octets(FrameFault::LengthSmall) => "length",
+            Refusal::Octets(FrameFault::Truncated) => "truncated",
+            Refusal::OtherSpacecraft => "spacecraft",
+            Refusal::UnknownChannel => "channel",
+            Refusal::NoQueue => "no queue",
+            Refusal::Empty => "empty",
+        })
+    }
+}

@@ -1,0 +1,21 @@
+//! Scripts for a telecommand receiver: lines of text are read, checked and answered.
+//!
+//! `run_script` reads a script from a reader, does its lines in order, and writes an answer for each
+//! operation and then a report. `parse_line` reads one line.
+#![tactic(auto)]
+
+mod answer;
+mod fault;
+mod line;
+mod operation;
+mod reading;
+mod report;
+mod script;
+mod session;
+#[cfg(test)]
+mod tests;
+mod word;
+
+pub use fault::{Reason, ScriptFault};
+pub use line::{Line, parse_line};
+pub use script::run_script;

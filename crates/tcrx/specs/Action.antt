@@ -1,0 +1,8 @@
+-- What a command line may ask for.
+use Rattle.std.specs.Prelude.{◌≤◌}
+use Rattle.tcrx.specs.declared.command_line.Action.{Action}
+use Rattle.tcrx.specs.declared.command_line.Action.TheVariants.{Run}
+
+-- a spacecraft id has 10 bits
+abbrev pub IsAllowed : Action → Type 0
+IsAllowed (Run scid) = scid ≤ 1023

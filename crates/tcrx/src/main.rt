@@ -1,0 +1,66 @@
+//! `tcrx`: a telecommand receiver that does a script from standard input.
+#![tactic(auto)]
+
+ghost use Rattle.std.specs.Prelude.{◌≤◌};
+
+mod command_line;
+
+use command_line::{Action, judge};
+use std::env::Env;
+use std::io::BufWriter;
+use std::process::ExitCode;
+use std::{env, io};
+use tc_cli::{Reason, ScriptFault, run_script};
+
+/// The exit status of a bad command line.
+const BAD_COMMAND_LINE: u8 = 2;
+
+fn main(rt: HostRuntime) -> ExitCode {
+    match words(&rt) {
+        Ok(words) => obey(&rt, words.as_slice()),
+        Err(error) => {
+            let _ = eprintln!(rt; "{error}");
+            ExitCode::from(BAD_COMMAND_LINE)
+        }
+    }
+}
+
+// The words of the command line, which are text.
+fn words<R: Env + AllocGlobal>(rt: &R) -> io::Result<Vec<String>> {
+    Ok(env::args(rt)?.collect(rt.alloc())?)
+}
+
+// Judges the words before anything is read, and does what they ask for.
+fn obey<R: AllocGlobal + Input + Print + Eprint>(rt: &R, words: &[String]) -> ExitCode {
+    match judge(rt.alloc(), words) {
+        Ok(Action::Run { scid }) => run(rt, scid),
+        Err(answer) => match answer.print(rt) {
+            Ok(()) => ExitCode::from(answer.exit_code() as u8),
+            Err(_) => ExitCode::from(BAD_COMMAND_LINE),
+        },
+    }
+}
+
+fn run<R: AllocGlobal + Input + Print + Eprint>(rt: &R, scid: u16) -> ExitCode
+    requires { scid ≤ 1023 }
+{
+    match run_on_streams(rt, scid) {
+        Ok(()) => ExitCode::SUCCESS,
+        Err(fault) => {
+            let _ = eprintln!(rt; "{fault}");
+            ExitCode::FAILURE
+        }
+    }
+}
+
+fn run_on_streams<R: AllocGlobal + Input + Print>(rt: &R, scid: u16) -> Result<(), ScriptFault>
+    requires { scid ≤ 1023 }
+{
+    let Ok(mut writer) = BufWriter::new(rt.alloc(), io::writer(rt)) else {
+        return Err(ScriptFault::Line {
+            line: 0,
+            reason: Reason::NoMemory,
+        });
+    };
+    run_script(rt, rt.alloc(), scid, &mut rt.reader(), &mut writer)
+}
