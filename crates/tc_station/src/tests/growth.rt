@@ -172,6 +172,7 @@ fn growth_of_a_new_station(rt: HostRuntime) -> Result<(), Fail> {
     Ok(())
 }
 
+// The station closes with just these operators: a refused call has issued none, else one would be missing.
 #[test]
 fn growth_of_operators(rt: HostRuntime) -> Result<(), Fail> {
     let mut station = new_station(&rt, rt.alloc())?;
@@ -180,8 +181,12 @@ fn growth_of_operators(rt: HostRuntime) -> Result<(), Fail> {
     for operator in &operators {
         assert_eq!(rt; operator.count(1), Some(0));
     }
-    // None was issued by a refused call.
-    assert_eq!(rt; new_operators(&rt, &mut station, 65532)?.len(), 65532);
+    let channels = match station.close(operators) {
+        Ok(channels) => channels,
+        Err(CloseFault::NoMemory(station, operators)) => station.close(operators)?,
+        Err(_) => return Err("neither closed nor without memory".into()),
+    };
+    assert_eq!(rt; channels.len(), 1);
     Ok(())
 }
 
