@@ -19,6 +19,7 @@ use outcome::{compare, perform};
 use std::fs;
 use std::process::ExitCode;
 use std::rt::Files;
+use std::sync::Wait;
 
 fn main(rt: HostRuntime) -> ExitCode {
     match check_all(&rt) {
@@ -48,7 +49,7 @@ impl Tally {
 }
 
 // Prints how many cases agree, and each that doesn't. Answers whether all do.
-fn check_all<R: Files + AllocGlobal + Print>(rt: &R) -> Result<bool> {
+fn check_all<R: Files + AllocGlobal + Print + Wait>(rt: &R) -> Result<bool> {
     let mut tally = Tally {
         cases: 0,
         agreeing: 0,
@@ -60,7 +61,7 @@ fn check_all<R: Files + AllocGlobal + Print>(rt: &R) -> Result<bool> {
     Ok(agreeing == cases)
 }
 
-fn check_index<R: Files + AllocGlobal + Print>(rt: &R, tally: &mut Tally) -> Result<()> {
+fn check_index<R: Files + AllocGlobal + Print + Wait>(rt: &R, tally: &mut Tally) -> Result<()> {
     let index = fs::read_to_string(rt, "index").context("index")?;
     let mut last = b"".as_slice();
     for line in index.as_str().lines() {
@@ -85,7 +86,7 @@ fn read<R: Files + AllocGlobal>(rt: &R, path: String) -> Result<Vec<u8>> {
     }
 }
 
-fn check_large<R: AllocGlobal + Print>(rt: &R, tally: &mut Tally) -> Result<()> {
+fn check_large<R: AllocGlobal + Print + Wait>(rt: &R, tally: &mut Tally) -> Result<()> {
     for large in large_cases(rt.alloc())? {
         let case = Case {
             name: large.name,
@@ -98,7 +99,7 @@ fn check_large<R: AllocGlobal + Print>(rt: &R, tally: &mut Tally) -> Result<()> 
 }
 
 // Whether a script leads to what it is to lead to. Where it doesn't, it is told.
-fn agrees<R: AllocGlobal + Print>(
+fn agrees<R: AllocGlobal + Print + Wait>(
     rt: &R,
     case: &Case,
     script: &[u8],

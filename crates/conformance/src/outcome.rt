@@ -4,6 +4,7 @@ ghost use Rattle.std.specs.Prelude.{◌≡◌, ◌≤◌, ◌↔◌, IsNone, str
 
 use std::alloc::{AllocError, Global};
 use std::fmt;
+use std::sync::Wait;
 use tc_cli::run_script;
 
 /// What a script is answered, and the text of the fault with which it ends.
@@ -22,7 +23,7 @@ pub(crate) enum Difference<'a> {
 }
 
 /// Does a script in memory.
-pub(crate) fn perform<T>(
+pub(crate) fn perform<T: Wait>(
     rt: &T,
     alloc: Global,
     scid: u16,

@@ -1,3 +1,4 @@
+pub mod Configurations
 pub mod Lines
 pub mod Numbers
 pub mod Scripts

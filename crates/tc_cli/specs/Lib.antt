@@ -1,7 +1,10 @@
 pub mod Word
 pub mod Number
 pub mod Line
+pub mod Configuration
 pub mod Phase
 pub mod Script
+pub mod Manned
 pub mod Operation
 pub mod Session
+pub mod Report

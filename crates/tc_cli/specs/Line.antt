@@ -1,5 +1,5 @@
 -- What a line says, by its words.
-use Rattle.std.specs.Prelude.{ℕ, Bool, ◌==◌, List, [], ◌∷◌, slice_index, nat_eq, codes, Option, Some, None, Result, Ok, Err, if◌then◌else◌}
+use Rattle.std.specs.Prelude.{ℕ, Bool, ◌==◌, List, [], ◌∷◌, slice_index, nat_eq, codes, Some, None, Result, Ok, Err, if◌then◌else◌}
 use Rattle.std.specs.Cmp.Lexicographic.{pointwise}
 use Rattle.hex.specs.Hex.{decode_of}
 use Rattle.hex.specs.declared.FromHexError.{FromHexError}

@@ -1,78 +1,69 @@
--- What an operation answers, and what it leaves of the channel.
-use Rattle.std.specs.Prelude.{ℕ, ◌==◌, false, List, [], ◌∷◌, take, Option, Some, None, if◌then◌else◌}
-use Rattle.tc_link.specs.Frame.{header_of, named_length, fault_of}
+-- What the operations of a script are answered. Of a channel in its lock only the type is known, so each answer is the one
+-- at some moment of some channel.
+use Rattle.std.specs.Prelude.{◌≡◌, ℕ, false, List, Contains}
 use Rattle.tc_link.specs.declared.Link.{Link}
-use Rattle.tc_channel.specs.Journal.{History, with_event}
-use Rattle.tc_channel.specs.Reply.{frame_reply, release_reply, waiting_packets, buffered_fields, clcw}
-use Rattle.tc_channel.specs.declared.event.Event.TheVariants as events
+use Rattle.tc_station.specs.Roster.{Roster}
+use Rattle.tc_station.specs.Location.{IsLocateFault}
+use Rattle.tc_station.specs.Moments.{IsBrought, IsReleased, IsTaken, IsReported}
+use Rattle.tc_station.specs.Faults.{IsReleaseRefused, IsTakeRefused}
+use Rattle.tc_station.specs.declared.faults.ReleaseRefused.TheVariants as release_refusals
+use Rattle.tc_station.specs.declared.faults.TakeRefused.TheVariants as take_refusals
 use Rattle.tc_cli.specs.declared.answer.Refusal.{Refusal}
-use Rattle.tc_cli.specs.declared.answer.Refusal.TheVariants.{Octets, OtherSpacecraft, UnknownChannel, NoQueue, Empty}
+use Rattle.tc_cli.specs.declared.answer.Refusal.TheVariants.{Unlocated, UnknownChannel, NoQueue, Empty}
 use Rattle.tc_cli.specs.declared.answer.Answer.{Answer}
 use Rattle.tc_cli.specs.declared.answer.Answer.TheVariants.{Frame, Release, Take, Clcw, Refused}
 
-pub record Outcome : Type 0 where
-  pub answer : Answer
-  pub after : History
+abbrev pub IsFrameRefusal : Roster → List ℕ → Refusal → Type 0
+IsFrameRefusal station octets (Unlocated fault) = IsLocateFault station octets fault
+IsFrameRefusal station octets UnknownChannel = ⊥
+IsFrameRefusal station octets NoQueue = ⊥
+IsFrameRefusal station octets Empty = ⊥
 
--- an operation that is refused leaves the channel as it was
-abbrev pub refused : History → Refusal → Outcome
-refused channel refusal = record { answer = Refused refusal; after = channel }
+abbrev pub IsFrameAnswer : Roster → List ℕ → Answer → Type 0
+IsFrameAnswer station octets (Frame vcid reply) = IsBrought station octets vcid reply
+IsFrameAnswer station octets (Refused refusal) = IsFrameRefusal station octets refusal
+IsFrameAnswer station octets (Release vcid delivery) = ⊥
+IsFrameAnswer station octets (Take vcid apid packet) = ⊥
+IsFrameAnswer station octets (Clcw vcid word) = ⊥
 
--- why the frame that octets begin with isn't taken in: they are no frame, or it is for another
-abbrev pub refusal_of : ℕ → ℕ → List ℕ → Option Refusal
-refusal_of scid vcid octets = elim (fault_of octets) [
-  | Some fault ↦ Some (Octets fault)
-  | None ↦ if (header_of octets).scid == scid
-      then (if (header_of octets).vcid == vcid then None else Some UnknownChannel)
-      else Some OtherSpacecraft
-]
+abbrev pub IsReleaseRefusal : Roster → ℕ → Refusal → Type 0
+IsReleaseRefusal station vcid (Unlocated fault) = ⊥
+IsReleaseRefusal station vcid UnknownChannel = IsReleaseRefused station vcid release_refusals.UnknownChannel
+IsReleaseRefusal station vcid NoQueue = ⊥
+IsReleaseRefusal station vcid Empty = IsReleaseRefused station vcid release_refusals.Empty
 
--- the frame that octets begin with, without fill
-abbrev pub frame_at : List ℕ → List ℕ
-frame_at octets = take (named_length octets) octets
+abbrev pub IsReleaseAnswer : Roster → ℕ → Answer → Type 0
+IsReleaseAnswer station vcid (Release v delivery) = (v ≡ vcid) × IsReleased station vcid delivery
+IsReleaseAnswer station vcid (Refused refusal) = IsReleaseRefusal station vcid refusal
+IsReleaseAnswer station vcid (Frame v reply) = ⊥
+IsReleaseAnswer station vcid (Take v apid packet) = ⊥
+IsReleaseAnswer station vcid (Clcw v word) = ⊥
 
-abbrev pub brought : History → List ℕ → Outcome
-brought channel frame = record {
-  answer = Frame channel.settings.vcid (frame_reply channel.settings channel.journal frame);
-  after = with_event channel (events.Frame frame);
-}
+abbrev pub IsTakeRefusal : Roster → ℕ → ℕ → Refusal → Type 0
+IsTakeRefusal station vcid apid (Unlocated fault) = ⊥
+IsTakeRefusal station vcid apid UnknownChannel = IsTakeRefused station vcid apid take_refusals.UnknownChannel
+IsTakeRefusal station vcid apid NoQueue = IsTakeRefused station vcid apid take_refusals.NoQueue
+IsTakeRefusal station vcid apid Empty = IsTakeRefused station vcid apid take_refusals.Empty
 
-abbrev pub frame_outcome : ℕ → History → List ℕ → Outcome
-frame_outcome scid channel octets = elim (refusal_of scid channel.settings.vcid octets) [
-  | Some refusal ↦ refused channel refusal
-  | None ↦ brought channel (frame_at octets)
-]
-
--- the outcome at a channel that has these data fields in its buffer
-abbrev pub released : History → List (List ℕ) → Outcome
-released channel [] = refused channel Empty
-released channel (field ∷ fields) = record {
-  answer = Release channel.settings.vcid (release_reply channel.settings channel.journal);
-  after = with_event channel events.Release;
-}
-
-abbrev pub release_outcome : History → ℕ → Outcome
-release_outcome channel vcid =
-    if vcid == channel.settings.vcid then released channel (buffered_fields channel.settings channel.journal)
-    else refused channel UnknownChannel
-
--- the outcome at a channel where these packets with the APID wait, if it has such a queue
-abbrev pub taken : History → ℕ → Option (List (List ℕ)) → Outcome
-taken channel apid None = refused channel NoQueue
-taken channel apid (Some []) = refused channel Empty
-taken channel apid (Some (packet ∷ others)) = record {
-  answer = Take channel.settings.vcid apid packet;
-  after = with_event channel (events.Take apid);
-}
-
-abbrev pub take_outcome : History → ℕ → ℕ → Outcome
-take_outcome channel vcid apid =
-    if vcid == channel.settings.vcid then taken channel apid (waiting_packets channel.settings channel.journal apid)
-    else refused channel UnknownChannel
+abbrev pub IsTakeAnswer : Roster → ℕ → ℕ → Answer → Type 0
+IsTakeAnswer station vcid apid (Take v a packet) = (v ≡ vcid) × (a ≡ apid) × IsTaken station vcid apid packet
+IsTakeAnswer station vcid apid (Refused refusal) = IsTakeRefusal station vcid apid refusal
+IsTakeAnswer station vcid apid (Frame v reply) = ⊥
+IsTakeAnswer station vcid apid (Release v delivery) = ⊥
+IsTakeAnswer station vcid apid (Clcw v word) = ⊥
 
 abbrev pub no_flags : Link
 no_flags = record { no_rf = false; no_bit_lock = false }
 
-abbrev pub clcw_answer : History → ℕ → Answer
-clcw_answer channel vcid =
-    if vcid == channel.settings.vcid then Clcw vcid (clcw channel.settings channel.journal no_flags) else Refused UnknownChannel
+abbrev pub IsClcwRefusal : Roster → ℕ → Refusal → Type 0
+IsClcwRefusal station vcid (Unlocated fault) = ⊥
+IsClcwRefusal station vcid UnknownChannel = ¬ Contains station.vcids vcid
+IsClcwRefusal station vcid NoQueue = ⊥
+IsClcwRefusal station vcid Empty = ⊥
+
+abbrev pub IsClcwAnswer : Roster → ℕ → Answer → Type 0
+IsClcwAnswer station vcid (Clcw v word) = (v ≡ vcid) × IsReported station vcid no_flags word
+IsClcwAnswer station vcid (Refused refusal) = IsClcwRefusal station vcid refusal
+IsClcwAnswer station vcid (Frame v reply) = ⊥
+IsClcwAnswer station vcid (Release v delivery) = ⊥
+IsClcwAnswer station vcid (Take v apid packet) = ⊥

@@ -1,5 +1,5 @@
 -- The lines of a script, one after the other, and where a script ends early.
-use Rattle.std.specs.Prelude.{◌≡◌, ◌≢◌, ◌<◌, ◌≤◌, ℕ, ◌+◌, List, [], ◌∷◌, ◌++◌, ◌⊎◌, length, All, Option, None, Ok, Err, IfSome}
+use Rattle.std.specs.Prelude.{◌≡◌, ◌≢◌, ◌<◌, ◌≤◌, ℕ, ◌+◌, List, [], ◌∷◌, ◌++◌, ◌⊎◌, length, All, Option, Ok, Err, IfSome}
 use Rattle.tc_cli.specs.Word.{words}
 use Rattle.tc_cli.specs.Line.{line_of}
 use Rattle.tc_cli.specs.Phase.{Phase, Setup, Does, IsBad}
@@ -7,7 +7,7 @@ use Rattle.tc_cli.specs.declared.line.Line.{Line as Said}
 use Rattle.tc_cli.specs.declared.fault.Reason.{Reason}
 use Rattle.tc_cli.specs.declared.fault.Reason.TheVariants.{NoMemory}
 use Rattle.tc_cli.specs.declared.fault.ScriptFault.{ScriptFault}
-use Rattle.tc_cli.specs.declared.fault.ScriptFault.TheVariants.{Line, Read, TooLong, Write}
+use Rattle.tc_cli.specs.declared.fault.ScriptFault.TheVariants.{Line, Read, TooLong, Write, Unbalanced}
 
 -- the octets are a line, which has no line feed, and what follows it: a line ends at a line feed, or where the octets end
 pub record IsFirstLine (octets line after : List ℕ) : Type 0 where
@@ -21,7 +21,7 @@ IsDone phase line new = (said : Said) × (line_of (words line) ≡ Ok said) × D
 
 -- the first lines of a script are good: so many of them lead to this phase, and leave these octets
 pub data Leads (script : List ℕ) : ℕ → Phase → List ℕ → Type 0 where
-  starts : Leads script 0 (Setup None) script
+  starts : Leads script 0 (Setup []) script
   goes_on : {count : ℕ} {phase new : Phase} {rest line after : List ℕ}
       → Leads script count phase rest → IsFirstLine rest line after → IsDone phase line new → Leads script (count + 1) new after
 
@@ -56,6 +56,15 @@ IsReadFault known Read = Unit {0}
 IsReadFault known TooLong = IfSome known (λ octets. limit < length octets)
 IsReadFault known (Line number reason) = (number ≡ 0) × (reason ≡ NoMemory)
 IsReadFault known Write = ⊥
+IsReadFault known Unbalanced = ⊥
+
+-- why a script of so many good lines gets no report, or not the whole of it
+abbrev pub IsReportFault : ℕ → ScriptFault → Type 0
+IsReportFault lines Read = ⊥
+IsReportFault lines TooLong = ⊥
+IsReportFault lines (Line number reason) = (number ≡ lines) × (reason ≡ NoMemory)
+IsReportFault lines Write = Unit {0}
+IsReportFault lines Unbalanced = Unit {0}
 
 -- why a script with these octets ends early
 abbrev pub IsFault : List ℕ → ScriptFault → Type 0
@@ -63,3 +72,4 @@ IsFault script Read = Unit {0}
 IsFault script TooLong = limit < length script
 IsFault script (Line number reason) = (reason ≡ NoMemory) ⊎ ((length script ≤ limit) × IsFirstBad script number reason)
 IsFault script Write = length script ≤ limit
+IsFault script Unbalanced = (length script ≤ limit) × IsGood script

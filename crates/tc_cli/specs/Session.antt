@@ -1,9 +1,10 @@
--- How far a script has come: its phase, the channel that an operation finds, and what a line is answered.
-use Rattle.std.specs.Prelude.{◌≡◌, ℕ, [], Option, Some, None}
-use Rattle.tc_channel.specs.Journal.{History}
-use Rattle.tc_channel.specs.Settings.{IsAllowed}
+-- How far a script has come: its phase, the station that an operation finds, and what a line is answered.
+use Rattle.std.specs.Prelude.{◌≡◌, ℕ, Option, Some, None}
+use Rattle.tc_station.specs.Roster.{Roster}
+use Rattle.tc_station.specs.StationSettings.{vcids_of}
 use Rattle.tc_cli.specs.Phase.{Phase, Setup, Operation}
-use Rattle.tc_cli.specs.Operation.{Outcome, frame_outcome, release_outcome, take_outcome, clcw_answer}
+use Rattle.tc_cli.specs.Manned.{Manned, newly_manned, after_answer}
+use Rattle.tc_cli.specs.Operation.{IsFrameAnswer, IsReleaseAnswer, IsTakeAnswer, IsClcwAnswer}
 use Rattle.tc_cli.specs.declared.answer.Answer.{Answer}
 use Rattle.tc_cli.specs.declared.line.Line.{Line}
 use Rattle.tc_cli.specs.declared.line.Line.TheVariants.{Blank, Channel, Queue, Frame, Release, Take, Clcw}
@@ -11,32 +12,25 @@ use Rattle.tc_cli.specs.declared.session.Session.{Session}
 use Rattle.tc_cli.specs.declared.session.Session.TheVariants.{SettingUp, Operating}
 
 abbrev pub phase_of : Session → Phase
-phase_of (SettingUp settings) = Setup settings
-phase_of (Operating channel) = Operation
+phase_of (SettingUp list) = Setup list
+phase_of (Operating manned) = Operation
 
--- settings that were taken make a channel
-abbrev pub IsChecked : Session → Type 0
-IsChecked (SettingUp None) = Unit {0}
-IsChecked (SettingUp (Some settings)) = IsAllowed settings
-IsChecked (Operating channel) = Unit {0}
+-- the station that operations find: a new one where none came before
+abbrev pub manned_for : ℕ → Session → Manned
+manned_for scid (SettingUp list) = newly_manned scid (vcids_of list)
+manned_for scid (Operating manned) = manned
 
--- the channel that operations find: a new one where none came before
-abbrev pub channel_of : Session → Option History
-channel_of (SettingUp None) = None
-channel_of (SettingUp (Some settings)) = Some (record { settings = settings; journal = [] })
-channel_of (Operating channel) = Some channel
+-- an operation is answered at the station that it finds, and is counted
+abbrev pub IsOperated : ℕ → (Roster → Answer → Type 0) → Session → Session → Option Answer → Type 0
+IsOperated scid IsAnswer old new answer =
+    (a : Answer) × IsAnswer (manned_for scid old).station a × (answer ≡ Some a) × (new ≡ Operating (after_answer a (manned_for scid old)))
 
--- an operation is answered by its outcome at the channel that it finds, and leaves what the outcome leaves
-abbrev pub IsOperated : (History → Outcome) → Session → Session → Option Answer → Type 0
-IsOperated outcome old new answer =
-    (channel : History) × (channel_of old ≡ Some channel) × (new ≡ Operating (outcome channel).after) × (answer ≡ Some (outcome channel).answer)
-
--- what a line is answered: an operation its outcome, and any other line nothing
+-- what a line is answered: an operation its answer, and any other line nothing
 abbrev pub IsAnswered : ℕ → Session → Line → Session → Option Answer → Type 0
 IsAnswered scid old Blank new answer = answer ≡ None
 IsAnswered scid old (Channel vcid width buffer first) new answer = answer ≡ None
 IsAnswered scid old (Queue vcid apid capacity) new answer = answer ≡ None
-IsAnswered scid old (Frame octets) new answer = IsOperated (λ channel. frame_outcome scid channel octets) old new answer
-IsAnswered scid old (Release vcid) new answer = IsOperated (λ channel. release_outcome channel vcid) old new answer
-IsAnswered scid old (Take vcid apid) new answer = IsOperated (λ channel. take_outcome channel vcid apid) old new answer
-IsAnswered scid old (Clcw vcid) new answer = IsOperated (λ channel. record { answer = clcw_answer channel vcid; after = channel }) old new answer
+IsAnswered scid old (Frame octets) new answer = IsOperated scid (λ station. IsFrameAnswer station octets) old new answer
+IsAnswered scid old (Release vcid) new answer = IsOperated scid (λ station. IsReleaseAnswer station vcid) old new answer
+IsAnswered scid old (Take vcid apid) new answer = IsOperated scid (λ station. IsTakeAnswer station vcid apid) old new answer
+IsAnswered scid old (Clcw vcid) new answer = IsOperated scid (λ station. IsClcwAnswer station vcid) old new answer

@@ -3,6 +3,7 @@
 use std::fmt;
 use tc_channel::{Delivery, FrameReply, Octets};
 use tc_link::FrameFault;
+use tc_station::LocateFault;
 
 /// What an operation answers.
 #[derive(Debug, Drop)]
@@ -17,8 +18,8 @@ pub(crate) enum Answer {
 /// Why an operation is refused.
 #[derive(Clone, Copy, Debug, PartialEq, Eq)]
 pub(crate) enum Refusal {
-    Octets(FrameFault),
-    OtherSpacecraft,
+    /// Octets that are no frame for a channel of the station.
+    Unlocated(LocateFault),
     UnknownChannel,
     NoQueue,
     Empty,
@@ -64,12 +65,13 @@ fn write_octets<W: fmt::Write>(f: &mut fmt::Formatter<W>, octets: &[u8]) -> fmt:
 impl fmt::Display for Refusal {
     fn fmt<W: fmt::Write>(&self, f: &mut fmt::Formatter<W>) -> fmt::Result {
         f.write_str(match self {
-            Refusal::Octets(FrameFault::Short) => "short",
-            Refusal::Octets(FrameFault::Version) => "version",
-            Refusal::Octets(FrameFault::Spare) => "spare",
-            Refusal::Octets(FrameFault::LengthSmall) => "length",
-            Refusal::Octets(FrameFault::Truncated) => "truncated",
-            Refusal::OtherSpacecraft => "spacecraft",
+            Refusal::Unlocated(LocateFault::Frame(FrameFault::Short)) => "short",
+            Refusal::Unlocated(LocateFault::Frame(FrameFault::Version)) => "version",
+            Refusal::Unlocated(LocateFault::Frame(FrameFault::Spare)) => "spare",
+            Refusal::Unlocated(LocateFault::Frame(FrameFault::LengthSmall)) => "length",
+            Refusal::Unlocated(LocateFault::Frame(FrameFault::Truncated)) => "truncated",
+            Refusal::Unlocated(LocateFault::OtherSpacecraft) => "spacecraft",
+            Refusal::Unlocated(LocateFault::UnknownChannel) => "channel",
             Refusal::UnknownChannel => "channel",
             Refusal::NoQueue => "no queue",
             Refusal::Empty => "empty",

@@ -28,7 +28,7 @@ pub enum Reason {
     /// An operation stands before any channel.
     #[error("no channel")]
     NoChannel,
-    /// There is a channel already.
+    /// There is a channel with this virtual channel id already.
     #[error("double channel")]
     DoubleChannel,
     /// A queue is for a channel that isn't there.
@@ -88,4 +88,7 @@ pub enum ScriptFault {
     /// The writer failed.
     #[error("line 0: cannot write")]
     Write,
+    /// The channels' journals and the operators' counts differ at the end.
+    #[error("line 0: unbalanced")]
+    Unbalanced,
 }

@@ -5,9 +5,10 @@
 #![tactic(auto)]
 
 mod answer;
+mod configuration;
 mod fault;
 mod line;
-mod operation;
+mod manned;
 mod reading;
 mod report;
 mod script;

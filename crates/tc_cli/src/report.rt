@@ -1,12 +1,55 @@
 //! The final report.
 
-use crate::operation::NO_FLAGS;
+ghost use Rattle.std.specs.Prelude.{◌≡◌, ◌≤◌, All, vec_len, IfOk, IfErr};
+ghost use Rattle.tc_cli.specs.Report.{AreRising, AreBalanced};
+ghost use Rattle.tc_cli.specs.Script.{IsReportFault};
+
+use crate::fault::{Reason, ScriptFault};
+use crate::manned::NO_FLAGS;
 use std::io;
 use std::io::Write;
 use tc_channel::Channel;
+use tc_station::{CloseFault, Operator, Station};
 
-/// Writes what a channel has come to, and then how many packets wait in each of its queues.
-pub(crate) fn write_report<W: Write>(channel: &Channel, writer: &mut W) -> io::Result<()> {
+/// Closes the station of a script with so many lines. The channels stand in rising virtual channel
+/// id, each in balance with the counts of the operators.
+pub(crate) fn close(
+    station: Station,
+    operators: Vec<Operator>,
+    lines: u32,
+) -> Result<Vec<Channel>, ScriptFault>
+    requires ours { All (λ o. o.vcids ≡ station.vcids) operators.items }
+    requires all { station.issued ≤ vec_len operators }
+    ensures rising { IfOk result (λ channels. AreRising channels.items) }
+    ensures balanced { IfOk result (λ channels. AreBalanced station.vcids operators.items channels.items) }
+    ensures fault { IfErr result (IsReportFault lines) }
+{
+    match station.close(operators) {
+        Ok(mut channels) => {
+            channels.sort_unstable_by_key(|channel| channel.settings().vcid);
+            Ok(channels)
+        }
+        Err(CloseFault::Unbalanced(_, _)) => Err(ScriptFault::Unbalanced),
+        Err(CloseFault::NoMemory(_, _)) => Err(ScriptFault::Line {
+            line: lines,
+            reason: Reason::NoMemory,
+        }),
+        Err(CloseFault::Missing(_, _)) => unreachable!(),
+    }
+}
+
+/// Writes the report of each channel.
+pub(crate) fn write_report<W: Write>(channels: &[Channel], writer: &mut W) -> io::Result<()>
+    requires { AreRising channels.now }
+{
+    for channel in channels {
+        write_channel(channel, writer)?;
+    }
+    Ok(())
+}
+
+// Writes what a channel has come to, and then how many packets wait in each of its queues.
+fn write_channel<W: Write>(channel: &Channel, writer: &mut W) -> io::Result<()> {
     let settings = channel.settings();
     let vcid = settings.vcid;
     let word = channel.clcw(NO_FLAGS);

@@ -1,24 +1,26 @@
 //! A script from its octets to its answers.
 
 ghost use Rattle.std.specs.Prelude.{◌≡◌, ◌⊎◌, ◌≤◌, length, IfOk, IfErr, OnOk, IfSome};
-ghost use Rattle.tc_cli.specs.Script.{IsFault, IsGood, IsDone, IsBadLine, limit};
-ghost use Rattle.tc_cli.specs.Session.{IsChecked, phase_of};
+ghost use Rattle.tc_cli.specs.Script.{IsFault, IsGood, IsDone, IsBadLine, IsReportFault, limit};
+ghost use Rattle.tc_cli.specs.Session.{phase_of};
 
 use crate::answer::Answer;
+use crate::configuration::Configuration;
 use crate::fault::{Reason, ScriptFault};
 use crate::line::parse_line;
 use crate::reading::{next_line, read_whole};
-use crate::report::write_report;
+use crate::report::{close, write_report};
 use crate::session::Session;
 use std::alloc::Global;
 use std::io::{Read, Write};
+use std::sync::Wait;
 
 /// Reads a script, does its lines in order and writes their answers, and then the final report.
 ///
 /// Where the octets of the reader are known, a script is done to its end only if each line is good,
 /// and a bad line that ends it is the first one.
-pub fn run_script<T, R: Read, W: Write>(
-    _rt: &T,
+pub fn run_script<T: Wait, R: Read, W: Write>(
+    rt: &T,
     alloc: Global,
     scid: u16,
     reader: &mut R,
@@ -29,7 +31,7 @@ pub fn run_script<T, R: Read, W: Write>(
     ensures fault { IfErr result (λ fault. IfSome (R.remaining reader.old) (λ script. IsFault script fault)) }
 {
     let script = read_whole(alloc, reader)?;
-    let done = run_lines(alloc, scid, script.as_slice(), writer);
+    let done = run_lines(rt, alloc, scid, script.as_slice(), writer);
     match writer.flush() {
         Ok(()) => done,
         Err(_) => Err(ScriptFault::Write),
@@ -37,21 +39,23 @@ pub fn run_script<T, R: Read, W: Write>(
 }
 
 fn run_lines<W: Write>(
+    rt: &impl Wait,
     alloc: Global,
     scid: u16,
     script: &[u8],
     writer: &mut W,
 ) -> Result<(), ScriptFault>
-    requires { length script.now ≤ limit }
+    requires spacecraft { scid ≤ 1023 }
+    requires within { length script.now ≤ limit }
     ensures good { OnOk result (IsGood script.now) }
     ensures fault { IfErr result (IsFault script.now) }
 {
-    let mut session = Session::SettingUp(None);
+    let mut session = Session::SettingUp(Configuration::new(alloc));
     let mut rest = script;
     let mut line = 0u32;
     while let Some((octets, after)) = next_line(rest) {
         line += 1;
-        let (next, answer) = match perform_line(alloc, scid, session, octets) {
+        let (next, answer) = match perform_line(rt, alloc, scid, session, octets) {
             Ok(done) => done,
             Err(reason) => return Err(ScriptFault::Line { line, reason }),
         };
@@ -59,22 +63,22 @@ fn run_lines<W: Write>(
         session = next;
         rest = after;
     }
-    report(alloc, session, line, writer)
+    report(alloc, scid, session, line, writer)
 }
 
 fn perform_line(
+    rt: &impl Wait,
     alloc: Global,
     scid: u16,
     session: Session,
     octets: &[u8],
 ) -> Result<(Session, Option<Answer>), Reason>
-    requires { IsChecked session }
-    ensures checked { IfOk result (λ done. IsChecked done.0) }
+    requires { scid ≤ 1023 }
     ensures done { IfOk result (λ done. IsDone (phase_of session) octets.now (phase_of done.0)) }
     ensures reason { IfErr result (λ reason. (reason ≡ Reason.NoMemory) ⊎ IsBadLine (phase_of session) octets.now reason) }
 {
     let said = parse_line(alloc, octets)?;
-    session.perform(alloc, scid, said)
+    session.perform(rt, alloc, scid, said)
 }
 
 fn write_answer<W: Write>(answer: Option<Answer>, writer: &mut W) -> Result<(), ScriptFault>
@@ -89,19 +93,31 @@ fn write_answer<W: Write>(answer: Option<Answer>, writer: &mut W) -> Result<(), 
 // The report at the end of a script with so many lines. Where no channel was set up there is none.
 fn report<W: Write>(
     alloc: Global,
+    scid: u16,
     session: Session,
     lines: u32,
     writer: &mut W,
 ) -> Result<(), ScriptFault>
-    requires { IsChecked session }
-    ensures fault { IfErr result (λ fault. (fault ≡ ScriptFault.Write) ⊎ (fault ≡ ScriptFault.Line lines Reason.NoMemory)) }
+    requires { scid ≤ 1023 }
+    ensures fault { IfErr result (IsReportFault lines) }
 {
-    match session.start(alloc) {
-        Ok(channel) => write_report(&channel, writer).map_err(|_| ScriptFault::Write),
-        Err(Reason::NoChannel) => Ok(()),
-        Err(reason) => Err(ScriptFault::Line {
+    let manned = match session.start(alloc, scid) {
+        Ok(manned) => manned,
+        Err(Reason::NoChannel) => return Ok(()),
+        Err(reason) => {
+            return Err(ScriptFault::Line {
+                line: lines,
+                reason,
+            });
+        }
+    };
+    let (station, operator) = manned.into_parts();
+    let Ok(operators) = vec![in alloc; operator] else {
+        return Err(ScriptFault::Line {
             line: lines,
-            reason,
-        }),
-    }
+            reason: Reason::NoMemory,
+        });
+    };
+    let channels = close(station, operators, lines)?;
+    write_report(&channels, writer).map_err(|_| ScriptFault::Write)
 }

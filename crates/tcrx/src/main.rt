@@ -9,6 +9,7 @@ use command_line::{Action, judge};
 use std::env::Env;
 use std::io::BufWriter;
 use std::process::ExitCode;
+use std::sync::Wait;
 use std::{env, io};
 use tc_cli::{Reason, ScriptFault, run_script};
 
@@ -31,7 +32,7 @@ fn words<R: Env + AllocGlobal>(rt: &R) -> io::Result<Vec<String>> {
 }
 
 // Judges the words before anything is read, and does what they ask for.
-fn obey<R: AllocGlobal + Input + Print + Eprint>(rt: &R, words: &[String]) -> ExitCode {
+fn obey<R: AllocGlobal + Input + Print + Eprint + Wait>(rt: &R, words: &[String]) -> ExitCode {
     match judge(rt.alloc(), words) {
         Ok(Action::Run { scid }) => run(rt, scid),
         Err(answer) => match answer.print(rt) {
@@ -41,7 +42,7 @@ fn obey<R: AllocGlobal + Input + Print + Eprint>(rt: &R, words: &[String]) -> Ex
     }
 }
 
-fn run<R: AllocGlobal + Input + Print + Eprint>(rt: &R, scid: u16) -> ExitCode
+fn run<R: AllocGlobal + Input + Print + Eprint + Wait>(rt: &R, scid: u16) -> ExitCode
     requires { scid ≤ 1023 }
 {
     match run_on_streams(rt, scid) {
@@ -53,7 +54,7 @@ fn run<R: AllocGlobal + Input + Print + Eprint>(rt: &R, scid: u16) -> ExitCode
     }
 }
 
-fn run_on_streams<R: AllocGlobal + Input + Print>(rt: &R, scid: u16) -> Result<(), ScriptFault>
+fn run_on_streams<R: AllocGlobal + Input + Print + Wait>(rt: &R, scid: u16) -> Result<(), ScriptFault>
     requires { scid ≤ 1023 }
 {
     let Ok(mut writer) = BufWriter::new(rt.alloc(), io::writer(rt)) else {

@@ -5,6 +5,7 @@ use super::{ANSWERS, SCRIPT};
 use crate::{Line, Reason, ScriptFault, parse_line, run_script};
 use std::alloc::Global;
 use std::process::Abort;
+use std::sync::Wait;
 
 #[test]
 fn parse_line_growth(rt: HostRuntime) {
@@ -28,49 +29,59 @@ fn room<T: Abort>(rt: &T, alloc: Global) -> Vec<u8> {
     }
 }
 
-/// The first two lines have no answer, and each after them has one.
-fn check_refused<T: Abort>(rt: &T, fault: ScriptFault, answers: &[u8]) {
+/// The first lines, so many of them, have no answer, and each after them has one.
+fn check_refused<T: Abort>(
+    rt: &T,
+    fault: ScriptFault,
+    answers: &[u8],
+    expected: &str,
+    setups: u32,
+    lines: u32,
+) {
     let ScriptFault::Line { line, reason } = fault else {
         panic!(rt; "another fault");
     };
     assert_eq!(rt; reason, Reason::NoMemory);
-    assert!(rt; line <= 11);
+    assert!(rt; line <= lines);
     let answered = answers.iter().filter(|octet| **octet == b'\n').count();
-    assert_eq!(rt; answered, line.saturating_sub(3) as usize, "at line {line}");
-    assert!(rt; ANSWERS.as_bytes().starts_with(answers));
+    let before = line.saturating_sub(setups.saturating_add(1)) as usize;
+    // The growths of the report come after the last line's answer.
+    let told = answered == before || (line == lines && answered == before.saturating_add(1));
+    assert!(rt; told, "{answered} answers at line {line}");
+    assert!(rt; expected.as_bytes().starts_with(answers));
+}
+
+/// A script whose first lines, so many of them, set up channels, is done to its end, at once or after a
+/// growth was refused.
+fn check_script<T: Abort + Wait + AllocGlobal>(
+    rt: &T,
+    script: &str,
+    expected: &str,
+    setups: u32,
+    lines: u32,
+) {
+    let mut answers = room(rt, rt.alloc());
+    let mut reader = script.as_bytes();
+    if let Err(fault) = run_script(rt, rt.alloc(), 42, &mut reader, &mut answers) {
+        check_refused(rt, fault, answers.as_slice(), expected, setups, lines);
+        answers.clear();
+        let mut reader = script.as_bytes();
+        let done = run_script(rt, rt.alloc(), 42, &mut reader, &mut answers);
+        assert_eq!(rt; done, Ok(()));
+    }
+    assert_eq!(rt; answers.as_slice(), expected.as_bytes());
 }
 
 #[test]
 fn run_script_growth(rt: HostRuntime) {
-    let mut answers = room(&rt, rt.alloc());
-    let mut reader = SCRIPT.as_bytes();
-    if let Err(fault) = run_script(&rt, rt.alloc(), 42, &mut reader, &mut answers) {
-        check_refused(&rt, fault, answers.as_slice());
-        answers.clear();
-        let mut reader = SCRIPT.as_bytes();
-        let done = run_script(&rt, rt.alloc(), 42, &mut reader, &mut answers);
-        assert_eq!(rt; done, Ok(()));
-    }
-    assert_eq!(rt; answers.as_slice(), ANSWERS.as_bytes());
+    check_script(&rt, SCRIPT, ANSWERS, 2, 11);
 }
 
-/// The channel is made for the report alone, whose lines come after the last line.
+/// The station is made for the report alone, whose lines come after the last line.
 #[test]
 fn report_growth(rt: HostRuntime) {
-    let script = "channel 1 10 1 0\nqueue 1 5 1\n\n";
-    let report = "final 1 01040000 events 0 buffered 0\nqueue 1 5 0\n";
-    let mut answers = room(&rt, rt.alloc());
-    let mut reader = script.as_bytes();
-    if let Err(fault) = run_script(&rt, rt.alloc(), 42, &mut reader, &mut answers) {
-        let ScriptFault::Line { line, reason } = fault else {
-            panic!(rt; "another fault");
-        };
-        assert_eq!(rt; reason, Reason::NoMemory);
-        assert!(rt; line == 0 || line == 2 || line == 3);
-        assert!(rt; answers.is_empty());
-        let mut reader = script.as_bytes();
-        let done = run_script(&rt, rt.alloc(), 42, &mut reader, &mut answers);
-        assert_eq!(rt; done, Ok(()));
-    }
-    assert_eq!(rt; answers.as_slice(), report.as_bytes());
+    let script = "channel 1 10 1 0\nqueue 1 5 1\nchannel 0 10 1 0\n\n";
+    let report =
+        "final 0 01000000 events 0 buffered 0\nfinal 1 01040000 events 0 buffered 0\nqueue 1 5 0\n";
+    check_script(&rt, script, report, 4, 4);
 }

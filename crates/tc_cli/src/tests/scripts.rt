@@ -1,12 +1,16 @@
 //! Scripts, their answers and their faults.
 
-use super::{ANSWERS, SCRIPT, run};
+use super::{ANSWERS, SCRIPT, TWO_CHANNELS, TWO_CHANNELS_ANSWERS, TWO_CHANNELS_REPORT, run};
 use std::alloc::AllocError;
 use std::process::Abort;
+use std::sync::Wait;
 use std::test::Fail;
 
 /// Runs each script and compares its answers and the text of its fault.
-fn compare<T: Abort + AllocGlobal>(rt: &T, cases: &[(&str, &str, &str)]) -> Result<(), AllocError> {
+fn compare<T: Abort + AllocGlobal + Wait>(
+    rt: &T,
+    cases: &[(&str, &str, &str)],
+) -> Result<(), AllocError> {
     for (script, answers, fault) in cases {
         let (found, text) = run(rt, rt.alloc(), script.as_bytes())?;
         assert!(rt;
@@ -21,6 +25,36 @@ fn compare<T: Abort + AllocGlobal>(rt: &T, cases: &[(&str, &str, &str)]) -> Resu
 #[test]
 fn a_frame_becomes_a_packet(rt: HostRuntime) -> Result<(), Fail> {
     compare(&rt, &[(SCRIPT, ANSWERS, "")])?;
+    Ok(())
+}
+
+#[test]
+fn channels_keep_apart(rt: HostRuntime) -> Result<(), Fail> {
+    let asked = format!(in rt.alloc(); "{TWO_CHANNELS}clcw 2\nclcw 1\n")?;
+    let told = "clcw 2 01080000\nclcw 1 01040201\n";
+    let answers = format!(in rt.alloc(); "{TWO_CHANNELS_ANSWERS}{TWO_CHANNELS_REPORT}")?;
+    let more = format!(in rt.alloc(); "{TWO_CHANNELS_ANSWERS}{told}{TWO_CHANNELS_REPORT}")?;
+    compare(
+        &rt,
+        &[
+            (TWO_CHANNELS, answers.as_str(), ""),
+            (asked.as_str(), more.as_str(), ""),
+        ],
+    )?;
+    Ok(())
+}
+
+/// Channels whose lines don't stand in rising order, one with its queue lines among those of others.
+#[test]
+fn a_report_is_in_rising_order(rt: HostRuntime) -> Result<(), Fail> {
+    compare(
+        &rt,
+        &[(
+            "channel 9 10 1 7\nchannel 63 10 1 0\nqueue 9 3 1\nchannel 0 10 1 0\nqueue 63 1 1\nqueue 9 2 1\n",
+            "final 0 01000000 events 0 buffered 0\nfinal 9 01240007 events 0 buffered 0\nqueue 9 3 0\nqueue 9 2 0\nfinal 63 01fc0000 events 0 buffered 0\nqueue 63 1 0\n",
+            "",
+        )],
+    )?;
     Ok(())
 }
 
@@ -115,7 +149,22 @@ fn bad_lines_end_a_script(rt: HostRuntime) -> Result<(), Fail> {
             (
                 "channel 1 10 1 0\nchannel 64 10 1 0\n",
                 "",
-                "line 2: double channel",
+                "line 2: bad channel",
+            ),
+            (
+                "channel 1 10 1 0\nchannel 2 9 1 0\n",
+                "",
+                "line 2: bad window",
+            ),
+            (
+                "channel 1 10 1 0\nchannel 2 10 65 0\n",
+                "",
+                "line 2: bad buffer",
+            ),
+            (
+                "channel 1 10 1 0\nchannel 2 10 1 0\nchannel 1 9 1 0\n",
+                "",
+                "line 3: double channel",
             ),
             (
                 "channel 1 10 1 0\nqueue 3 5 1\n",

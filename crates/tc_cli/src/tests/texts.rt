@@ -34,6 +34,7 @@ fn faults(rt: HostRuntime) -> Result<(), Fail> {
         (ScriptFault::Read, "line 0: cannot read"),
         (ScriptFault::TooLong, "line 0: too long"),
         (ScriptFault::Write, "line 0: cannot write"),
+        (ScriptFault::Unbalanced, "line 0: unbalanced"),
     ] {
         let found = fault.to_string(rt.alloc())?;
         assert_eq!(rt; found.as_str(), text);

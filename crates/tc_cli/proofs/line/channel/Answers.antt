@@ -1,8 +1,7 @@
-use Rattle.std.proofs.Common.{◌≡◌, List, ◌∷◌, Err, refl, ◌∙◌, ap}
+use Rattle.std.proofs.Common.{◌≡◌, ◌∷◌, refl, ◌∙◌, ap}
 use Rattle.std.proofs.lemmas.Result.{err_from_is_err_and}
 use Rattle.tc_cli.specs.Word.{words}
 use Rattle.tc_cli.specs.Line.{channel_of}
-use Rattle.tc_cli.specs.declared.fault.Reason.TheVariants.{WordCount}
 use Rattle.tc_cli.proofs.Lines.{channel-more}
 use Rattle.tc_cli.proofs.line.channel.Goals as goal
 

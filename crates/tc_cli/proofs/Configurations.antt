@@ -1,0 +1,35 @@
+-- A configuration has none of the faults that settings of a station may have, but that it is empty.
+use Rattle.std.proofs.Common.{◌≡◌, ℕ, ◌<◌, List, length, get_or, sym, ap, ◌∙◌, subst, arith}
+use Rattle.std.proofs.lemmas.List.{get_or-take, get_or_default, length-take}
+use Rattle.std.proofs.lemmas.Option.{get_or_from_slice_get, slice_get_within}
+use Rattle.std.specs.Prelude.{All}
+use Rattle.tc_channel.specs.declared.settings.Settings.{Settings}
+use Rattle.tc_channel.specs.declared.settings.SettingsFault.{SettingsFault}
+use Rattle.tc_channel.specs.declared.settings.SettingsFault.TheVariants.{BadVcid, BadWindow, BadBuffer, BadApid, DoubleApid, BadCapacity, NoMemory}
+use Rattle.tc_channel.specs.Settings.{IsAllowed, IsFault}
+use Rattle.tc_station.specs.StationSettings.{HaveDistinctVcids, IsFirstDouble, IsFirstRefused}
+use Rattle.tc_cli.specs.Configuration.{IsAt}
+
+pub no-fault : (s : Settings) (f : SettingsFault) → IsAllowed s → IsFault s f → ⊥
+no-fault s BadVcid a h = h a.vcid
+no-fault s BadWindow a h = h.1 a.width
+no-fault s BadBuffer a h = h.2 a.buffer
+no-fault s BadApid a h = h.3 a.apids
+no-fault s DoubleApid a h = h.4 a.apart
+no-fault s BadCapacity a h = h.5 a.capacities
+no-fault s NoMemory a h = h
+
+pub no-double : (list : List Settings) (vcid : ℕ) → HaveDistinctVcids list → IsFirstDouble list vcid → ⊥
+no-double list vcid distinct (i, s, at, v, before, (k, t, kt, is, tv)) =
+    let ki : k < i = omega (arith, length-take i list) in
+    let il : i < length list = slice_get_within list i s at in
+    let there : get_or list k s ≡ t = get_or_default list k s t (omega arith) ∙ (sym (get_or-take i list k t ki) ∙ is) in
+    distinct k i s ki il (ap (λ (u : Settings). u.vcid) there ∙ (tv ∙ (sym v ∙ sym (ap (λ (u : Settings). u.vcid) (get_or_from_slice_get list i s s at)))))
+
+pub no-refusal : (list : List Settings) (vcid : ℕ) (f : SettingsFault) → All IsAllowed list → IsFirstRefused list vcid f → ⊥
+no-refusal list vcid f allowed (i, s, at, v, fault, before) =
+    no-fault s f (subst IsAllowed (get_or_from_slice_get list i s s at) (allowed i s (slice_get_within list i s at))) fault
+
+-- the settings that stand at the place that was found
+pub found : (list : List Settings) (vcid place : ℕ) (x : Settings) → (s : Settings) × IsAt list vcid place s → x ≡ get_or list place x → IsAt list vcid place x
+found list vcid place x (s, (at, v)) is = subst (IsAt list vcid place) (sym (is ∙ get_or_from_slice_get list place s x at)) (at, v)

@@ -1,0 +1,35 @@
+-- The settings of the channels that a script has set up, in the order of their lines.
+use Rattle.std.specs.Prelude.{◌≡◌, ℕ, List, [], ◌∷◌, ◌++◌, All, Any, slice_get, slice_set, Some}
+use Rattle.tc_channel.specs.declared.settings.Settings.{Settings}
+use Rattle.tc_channel.specs.Settings.{IsAllowed}
+use Rattle.tc_station.specs.StationSettings.{HaveDistinctVcids}
+
+-- a station can have these settings, as soon as there are some
+pub record IsConfiguration (list : List Settings) : Type 0 where
+  pub distinct : HaveDistinctVcids list
+  pub allowed : All IsAllowed list
+
+-- there is a channel with this id
+abbrev pub IsThere : List Settings → ℕ → Type 0
+IsThere list vcid = Any (λ (s : Settings). s.vcid ≡ vcid) list
+
+-- the settings with this id, at their place
+abbrev pub IsAt : List Settings → ℕ → ℕ → Settings → Type 0
+IsAt list vcid place s = (slice_get list place ≡ Some s) × (s.vcid ≡ vcid)
+
+-- the settings of a channel line
+abbrev pub settings_of : ℕ → ℕ → ℕ → ℕ → Settings
+settings_of vcid width buffer first = record { vcid = vcid; width = width; buffer = buffer; first = first; queues = [] }
+
+-- the settings after a queue line
+abbrev pub with_queue : Settings → ℕ → ℕ → Settings
+with_queue s apid capacity = record s { queues = s.queues ++ record { apid = apid; capacity = capacity } ∷ [] }
+
+-- a channel is set up besides, with the id of no other
+abbrev pub AddsChannel : List Settings → Settings → List Settings → Type 0
+AddsChannel list s new = ¬ IsThere list s.vcid × IsAllowed s × (new ≡ list ++ s ∷ [])
+
+-- the channel with this id gets a queue besides, and the others stay
+abbrev pub AddsQueue : List Settings → ℕ → ℕ → ℕ → List Settings → Type 0
+AddsQueue list vcid apid capacity new =
+    (place : ℕ) × (s : Settings) × IsAt list vcid place s × IsAllowed (with_queue s apid capacity) × (new ≡ slice_set list place (with_queue s apid capacity))

@@ -1,0 +1,141 @@
+//! The channels that a script sets up.
+
+ghost use Rattle.std.specs.Prelude.{◌≡◌, ◌≢◌, ◌≤◌, ◌⊎◌, [], IfOk, IfErr, OnOk, MatchOption, MatchResult};
+ghost use Rattle.tc_channel.specs.Settings.{IsAllowed};
+ghost use Rattle.tc_cli.specs.Configuration.{AddsChannel, AddsQueue, IsThere, IsAt, settings_of, with_queue};
+ghost use Rattle.tc_cli.specs.Phase.{IsChannelRefused, IsQueueRefused, IsSettingsReason};
+ghost use Rattle.tc_station.specs.StationSettings.{vcids_of};
+
+use crate::fault::Reason;
+use std::alloc::Global;
+use std::marker::Model;
+use std::mem;
+use tc_channel::{Items, QueueSetting, Settings};
+use tc_station::{Station, StationFault};
+
+/// The settings of the channels so far, in the order of their lines. A station can have them, as
+/// soon as there are some.
+#[derive(Drop)]
+pub(crate) struct Configuration {
+    channels: Vec<Settings>,
+}
+
+impl Model for Configuration {
+    ghost use Rattle.std.specs.Prelude.{List};
+    ghost use Rattle.tc_channel.specs.declared.settings.Settings.{Settings};
+    ghost use Rattle.tc_cli.specs.Configuration.{IsConfiguration};
+
+    ghost Value = { List Settings };
+
+    ghost view = { λ o. o.channels.items };
+
+    ghost invariant = { λ o. IsConfiguration o.channels.items };
+}
+
+impl Configuration {
+    /// No channel.
+    pub(crate) fn new(alloc: Global) -> Configuration
+        ensures { result ≡ [] }
+    {
+        Configuration {
+            channels: Vec::new(alloc),
+        }
+    }
+
+    /// With the channel of a channel line besides.
+    pub(crate) fn with_channel(self, settings: Settings) -> Result<Configuration, Reason>
+        ensures done { IfOk result (AddsChannel self settings) }
+        ensures reason { IfErr result (λ reason. (reason ≡ Reason.NoMemory) ⊎ IsChannelRefused self settings reason) }
+    {
+        let Configuration { mut channels } = self;
+        if place_of(&channels, settings.vcid).is_some() {
+            return Err(Reason::DoubleChannel);
+        }
+        check(&settings)?;
+        match channels.push(settings) {
+            Ok(()) => Ok(Configuration { channels }),
+            Err(_) => Err(Reason::NoMemory),
+        }
+    }
+
+    /// With the queue of a queue line besides.
+    pub(crate) fn with_queue(
+        self,
+        alloc: Global,
+        vcid: u8,
+        queue: QueueSetting,
+    ) -> Result<Configuration, Reason>
+        ensures done { IfOk result (AddsQueue self vcid queue.apid queue.capacity) }
+        ensures reason { IfErr result (λ reason. (reason ≡ Reason.NoMemory) ⊎ IsQueueRefused self vcid queue.apid queue.capacity reason) }
+    {
+        let Configuration { mut channels } = self;
+        let Some(place) = place_of(&channels, vcid) else {
+            return Err(Reason::UnknownChannel);
+        };
+        let settings = &mut channels[place];
+        add_queue(alloc, settings, queue)?;
+        check(settings)?;
+        Ok(Configuration { channels })
+    }
+
+    /// A station with these channels.
+    pub(crate) fn station(self, alloc: Global, scid: u16) -> Result<Station, Reason>
+        requires { scid ≤ 1023 }
+        ensures station { IfOk result (λ station. station ≡ record { scid = scid; vcids = vcids_of self; issued = 0 }) }
+        ensures some { OnOk result (self ≢ []) }
+        ensures reason { IfErr result (λ reason. (reason ≡ Reason.NoMemory) ⊎ ((reason ≡ Reason.NoChannel) × (self ≡ []))) }
+    {
+        let Configuration { channels } = self;
+        match Station::new(alloc, scid, channels) {
+            Ok(station) => Ok(station),
+            Err(StationFault::NoChannel) => Err(Reason::NoChannel),
+            Err(StationFault::NoMemory) => Err(Reason::NoMemory),
+            // A configuration has none of the other faults.
+            Err(StationFault::BadScid) => unreachable!(),
+            Err(StationFault::DoubleVcid(_)) => unreachable!(),
+            Err(StationFault::Settings(_, _)) => unreachable!(),
+        }
+    }
+}
+
+/// The settings of a channel line.
+pub(crate) fn without_queues(alloc: Global, vcid: u8, width: u8, buffer: u8, first: u8) -> Settings
+    ensures { result ≡ settings_of vcid width buffer first }
+{
+    Settings {
+        vcid,
+        width,
+        buffer,
+        first,
+        queues: Items::from(Vec::new(alloc)),
+    }
+}
+
+// The place of the settings with this id.
+fn place_of(list: &[Settings], vcid: u8) -> Option<usize>
+    ensures { MatchOption result (¬ IsThere list.now vcid) (λ place. (s : Settings) × IsAt list.now vcid place s) }
+{
+    list.iter().position(|settings| settings.vcid == vcid)
+}
+
+// Whether a channel can have these settings.
+fn check(settings: &Settings) -> Result<(), Reason>
+    ensures { MatchResult result (λ _. IsAllowed settings.now) (IsSettingsReason settings.now) }
+{
+    settings.check()?;
+    Ok(())
+}
+
+// One queue more.
+fn add_queue(alloc: Global, settings: &mut Settings, queue: QueueSetting) -> Result<(), Reason>
+    ensures done { OnOk result (settings.new ≡ with_queue settings.old queue.apid queue.capacity) }
+    ensures reason { IfErr result (λ reason. reason ≡ Reason.NoMemory) }
+{
+    let there = mem::replace(&mut settings.queues, Items::from(Vec::new(alloc)));
+    let mut queues = there.into_vec();
+    if queues.push(queue).is_err() {
+        return Err(Reason::NoMemory);
+    }
+    settings.queues = Items::from(queues);
+    Ok(())
+}

@@ -1,0 +1,131 @@
+//! A station with its operator, and what the operations of a script are answered.
+
+ghost use Rattle.std.specs.Prelude.{◌≡◌, IfOk, IfErr, OnErr};
+ghost use Rattle.tc_cli.specs.Manned.{newly_manned, after_answer};
+ghost use Rattle.tc_cli.specs.Operation.{IsFrameAnswer, IsReleaseAnswer, IsTakeAnswer, IsClcwAnswer};
+
+use crate::answer::{Answer, Refusal};
+use crate::fault::Reason;
+use std::marker::Model;
+use std::sync::Wait;
+use tc_channel::Octets;
+use tc_link::Link;
+use tc_station::{
+    BringFault, Operator, OperatorsFault, ReleaseRefused, Station, TakeRefused, UnknownChannel,
+};
+
+/// Neither link flag is set: the program has no radio.
+pub(crate) const NO_FLAGS: Link = Link {
+    no_rf: false,
+    no_bit_lock: false,
+};
+
+/// A station with the one operator that it has issued.
+#[derive(Drop)]
+pub(crate) struct MannedStation {
+    station: Station,
+    operator: Operator,
+}
+
+impl Model for MannedStation {
+    ghost use Rattle.std.specs.Prelude.{◌≡◌};
+    ghost use Rattle.tc_cli.specs.Manned.{Manned};
+
+    ghost Value = { Manned };
+
+    ghost view = { λ o. record { station = o.station; operator = o.operator } };
+
+    ghost invariant = { λ o. (o.operator.vcids ≡ o.station.vcids) × (o.station.issued ≡ 1) };
+}
+
+impl MannedStation {
+    /// A station that has issued no operator yet, with its first one.
+    pub(crate) fn new(mut station: Station) -> Result<MannedStation, Reason>
+        requires { station.issued ≡ 0 }
+        ensures manned { IfOk result (λ manned. manned ≡ newly_manned station.scid station.vcids) }
+        ensures reason { IfErr result (λ reason. reason ≡ Reason.NoMemory) }
+    {
+        match station.operators(1) {
+            Ok(mut operators) => match operators.pop() {
+                Some(operator) => Ok(MannedStation { station, operator }),
+                None => unreachable!(),
+            },
+            Err(OperatorsFault::NoMemory) => Err(Reason::NoMemory),
+            Err(OperatorsFault::TooMany) => unreachable!(),
+        }
+    }
+
+    /// The station and its operator, apart.
+    pub(crate) fn into_parts(self) -> (Station, Operator)
+        ensures station { result.0 ≡ self.station }
+        ensures operator { result.1 ≡ self.operator }
+        ensures ours { result.1.vcids ≡ result.0.vcids }
+        ensures one { result.0.issued ≡ 1 }
+    {
+        let MannedStation { station, operator } = self;
+        (station, operator)
+    }
+
+    /// Brings octets to the channel that their frame names.
+    pub(crate) fn bring(&mut self, rt: &impl Wait, octets: &[u8]) -> Result<Answer, Reason>
+        ensures answer { IfOk result (IsFrameAnswer self.old.station octets.now) }
+        ensures counted { IfOk result (λ answer. self.new ≡ after_answer answer self.old) }
+        ensures reason { IfErr result (λ reason. reason ≡ Reason.NoMemory) }
+        ensures refused { OnErr result (self.new ≡ self.old) }
+    {
+        match self.station.bring(rt, &mut self.operator, octets) {
+            Ok(brought) => Ok(Answer::Frame {
+                vcid: brought.vcid,
+                reply: brought.reply,
+            }),
+            Err(BringFault::Locate(fault)) => Ok(Answer::Refused(Refusal::Unlocated(fault))),
+            Err(BringFault::NoMemory) => Err(Reason::NoMemory),
+        }
+    }
+
+    /// Releases the oldest data field of a channel's buffer.
+    pub(crate) fn release(&mut self, rt: &impl Wait, vcid: u8) -> Result<Answer, Reason>
+        ensures answer { IfOk result (IsReleaseAnswer self.old.station vcid) }
+        ensures counted { IfOk result (λ answer. self.new ≡ after_answer answer self.old) }
+        ensures reason { IfErr result (λ reason. reason ≡ Reason.NoMemory) }
+        ensures refused { OnErr result (self.new ≡ self.old) }
+    {
+        match self.station.release(rt, &mut self.operator, vcid) {
+            Ok(delivery) => Ok(Answer::Release { vcid, delivery }),
+            Err(ReleaseRefused::UnknownChannel) => Ok(Answer::Refused(Refusal::UnknownChannel)),
+            Err(ReleaseRefused::Empty) => Ok(Answer::Refused(Refusal::Empty)),
+            Err(ReleaseRefused::NoMemory) => Err(Reason::NoMemory),
+        }
+    }
+
+    /// Takes the oldest packet of a channel's queue.
+    pub(crate) fn take(&mut self, rt: &impl Wait, vcid: u8, apid: u16) -> Result<Answer, Reason>
+        ensures answer { IfOk result (IsTakeAnswer self.old.station vcid apid) }
+        ensures counted { IfOk result (λ answer. self.new ≡ after_answer answer self.old) }
+        ensures reason { IfErr result (λ reason. reason ≡ Reason.NoMemory) }
+        ensures refused { OnErr result (self.new ≡ self.old) }
+    {
+        match self.station.take(rt, &mut self.operator, vcid, apid) {
+            Ok(packet) => Ok(Answer::Take {
+                vcid,
+                apid,
+                packet: Octets::from(packet),
+            }),
+            Err(TakeRefused::UnknownChannel) => Ok(Answer::Refused(Refusal::UnknownChannel)),
+            Err(TakeRefused::NoQueue) => Ok(Answer::Refused(Refusal::NoQueue)),
+            Err(TakeRefused::Empty) => Ok(Answer::Refused(Refusal::Empty)),
+            Err(TakeRefused::NoMemory) => Err(Reason::NoMemory),
+        }
+    }
+
+    /// Reports a channel's CLCW.
+    pub(crate) fn clcw(&self, rt: &impl Wait, vcid: u8) -> Answer
+        ensures answer { IsClcwAnswer self.now.station vcid result }
+        ensures counted { after_answer result self.now ≡ self.now }
+    {
+        match self.station.clcw(rt, vcid, NO_FLAGS) {
+            Ok(word) => Answer::Clcw { vcid, word },
+            Err(UnknownChannel) => Answer::Refused(Refusal::UnknownChannel),
+        }
+    }
+}
