@@ -3,6 +3,7 @@ mod frames;
 mod packets;
 mod reassembly;
 mod replay;
+mod sharing;
 
 ghost use Rattle.std.specs.Prelude.{◌≡◌, ◌∷◌, [], IfOk};
 ghost use Rattle.tc_station.specs.StationSettings.{vcids_of};
