@@ -1,5 +1,6 @@
 mod farm;
 mod frames;
+mod gate;
 mod packets;
 mod reassembly;
 mod replay;

@@ -1,0 +1,128 @@
+//! Two workers meet at a gate while each holds the lock of its list's channel.
+
+ghost use Rattle.std.specs.Prelude.{◌≡◌, IfOk, replicate};
+ghost use Rattle.tc_station.specs.Tally.{fresh};
+
+use super::*;
+use std::sync::atomic::{AtomicBool, Ordering};
+use std::thread::yield_now;
+use tc_channel::Octets;
+use tc_station::{Gate, Job, Order, WorkList};
+
+// Whoever passes for channel 1 waits for one who passes for another channel, and the other way round, for so many turns
+// at most. Who didn't see the other says so.
+#[derive(Drop)]
+struct Meeting {
+    turns: u32,
+    first_came: AtomicBool,
+    second_came: AtomicBool,
+    ran_out: AtomicBool,
+}
+
+impl Meeting {
+    fn new(turns: u32) -> Meeting {
+        Meeting {
+            turns,
+            first_came: AtomicBool::new(false),
+            second_came: AtomicBool::new(false),
+            ran_out: AtomicBool::new(false),
+        }
+    }
+
+    // Whether someone passed for channel 1, and whether for another.
+    fn came(&self) -> (bool, bool) {
+        (
+            self.first_came.load(Ordering::SeqCst),
+            self.second_came.load(Ordering::SeqCst),
+        )
+    }
+
+    fn has_run_out(&self) -> bool {
+        self.ran_out.load(Ordering::SeqCst)
+    }
+
+    fn waits_in_vain_for(&self, other: &AtomicBool) -> bool {
+        for turn in 0..self.turns {
+            if other.load(Ordering::SeqCst) {
+                return false;
+            }
+            if turn % 1024 == 1023 {
+                yield_now();
+            }
+        }
+        true
+    }
+
+    fn meet(&self, own: &AtomicBool, other: &AtomicBool) {
+        own.store(true, Ordering::SeqCst);
+        if self.waits_in_vain_for(other) {
+            self.ran_out.store(true, Ordering::SeqCst);
+        }
+    }
+}
+
+impl Gate for Meeting {
+    fn pass(&self, vcid: u8) {
+        if vcid == 1 {
+            self.meet(&self.first_came, &self.second_came);
+        } else {
+            self.meet(&self.second_came, &self.first_came);
+        }
+    }
+}
+
+// One job: to bring this frame.
+fn list_of_one(alloc: Global, vcid: u8, line: u32, digits: &str) -> Result<WorkList, Fail> {
+    let octets = Octets::from(hex::decode(alloc, digits)?);
+    let mut jobs = Vec::new(alloc);
+    jobs.push(Job {
+        line,
+        order: Order::Bring(octets),
+    })?;
+    Ok(WorkList {
+        vcid,
+        jobs: Items::from(jobs),
+    })
+}
+
+// A station with channels 1 and 2, and two operators.
+fn new_crew(alloc: Global) -> Result<(Station, Vec<Operator>), Fail>
+    ensures { IfOk result (λ crew. crew.1.items ≡ replicate 2 (fresh crew.0.vcids)) }
+{
+    let first = settings(alloc, 1, 10, 1, 0)?;
+    let second = settings(alloc, 2, 10, 1, 0)?;
+    let mut station = Station::new(alloc, 42, list_of_two(alloc, first, second)?)?;
+    let operators = station.operators(2)?;
+    Ok((station, operators))
+}
+
+// An Unlock for each channel.
+fn two_unlocks(alloc: Global) -> Result<[WorkList; 2], Fail> {
+    Ok([
+        list_of_one(alloc, 1, 1, "302a04050000")?,
+        list_of_one(alloc, 2, 2, "302a08050000")?,
+    ])
+}
+
+#[test]
+fn workers_of_two_channels_meet(rt: HostRuntime) -> Result<(), Fail> {
+    let lists = two_unlocks(rt.alloc())?;
+    let (station, mut operators) = new_crew(rt.alloc())?;
+    let gate = Meeting::new(100_000_000);
+    assert_eq!(rt; station.work(&rt, &gate, &mut operators, &lists), Ok(()));
+    assert_eq!(rt; gate.came(), (true, true));
+    assert!(rt; !gate.has_run_out());
+    let channels = station.close(operators)?;
+    assert_eq!(rt; channels.len(), 2);
+    assert_eq!(rt; channels[0].journal().len(), 1);
+    assert_eq!(rt; channels[1].journal().len(), 1);
+    Ok(())
+}
+
+#[test]
+fn who_passes_alone_says_so(rt: HostRuntime) {
+    let gate = Meeting::new(1_000);
+    gate.pass(1);
+    assert_eq!(rt; gate.came(), (true, false));
+    assert!(rt; gate.has_run_out());
+}
