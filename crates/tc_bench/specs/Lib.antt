@@ -1,0 +1,4 @@
+pub mod Score
+pub mod Sent
+pub mod Round
+pub mod Median

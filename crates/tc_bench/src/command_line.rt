@@ -1,0 +1,32 @@
+//! The command line.
+
+ghost use Rattle.std.specs.Prelude.{◌≡◌};
+
+/// What a command line asks for.
+#[derive(Clone, Copy, Debug, PartialEq, Eq)]
+pub(crate) enum Action {
+    /// Do the load, and print its scores.
+    Scores,
+    /// Print how many frames a second threads get answered.
+    Threads,
+    /// Print what a read of a status costs.
+    Status,
+}
+
+/// What the words ask for, the program's name first.
+pub(crate) fn judge(words: &[String]) -> Option<Action> {
+    match words {
+        [] | [_] => Some(Action::Scores),
+        [_, word] => named(word.as_str()),
+        _ => None,
+    }
+}
+
+// The one that a word names.
+fn named(word: &str) -> Option<Action> {
+    match word {
+        "threads" => Some(Action::Threads),
+        "status" => Some(Action::Status),
+        _ => None,
+    }
+}

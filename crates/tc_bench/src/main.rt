@@ -1,0 +1,74 @@
+//! `tc_bench`: a fixed load for stations, and what it costs.
+//!
+//! With no argument it does the load and prints scores that each answer changes: a receiver that answers otherwise prints
+//! others. With `threads` it prints how many frames a second several threads get answered, and with `status` what a read of
+//! a status costs.
+#![tactic(auto)]
+
+mod command_line;
+mod crew;
+mod measure;
+mod round;
+mod score;
+mod scores;
+mod sender;
+mod source;
+mod station;
+mod status;
+mod threads;
+mod workers;
+
+use anyhow::Result;
+use command_line::{Action, judge};
+use std::env;
+use std::env::Env;
+use std::process::ExitCode;
+use std::sync::Wait;
+use std::thread::Threads;
+use std::time::Clock;
+
+/// The exit status of a bad command line.
+const BAD_COMMAND_LINE: u8 = 2;
+
+fn main(rt: HostRuntime) -> ExitCode {
+    match words(&rt) {
+        Ok(words) => obey(&rt, words.as_slice()),
+        Err(error) => {
+            let _ = eprintln!(rt; "{error:#}");
+            ExitCode::from(BAD_COMMAND_LINE)
+        }
+    }
+}
+
+// The words of the command line.
+fn words<R: Env + AllocGlobal>(rt: &R) -> Result<Vec<String>> {
+    Ok(env::args(rt)?.collect(rt.alloc())?)
+}
+
+fn obey<R: Threads + Wait + Clock + Sync + AllocGlobal + Print + Eprint>(
+    rt: &R,
+    words: &[String],
+) -> ExitCode {
+    let Some(action) = judge(words) else {
+        let _ = eprintln!(rt; "usage: tc_bench [threads | status]");
+        return ExitCode::from(BAD_COMMAND_LINE);
+    };
+    match perform(rt, action) {
+        Ok(()) => ExitCode::SUCCESS,
+        Err(error) => {
+            let _ = eprintln!(rt; "{error:#}");
+            ExitCode::FAILURE
+        }
+    }
+}
+
+fn perform<R: Threads + Wait + Clock + Sync + AllocGlobal + Print>(
+    rt: &R,
+    action: Action,
+) -> Result<()> {
+    match action {
+        Action::Scores => scores::print(rt),
+        Action::Threads => threads::print(rt),
+        Action::Status => status::print(rt),
+    }
+}

@@ -1,0 +1,71 @@
+//! The scores of the load.
+
+use crate::crew::{Crew, NO_FLAG};
+use crate::round::make_round;
+use crate::score::Score;
+use crate::sender::senders;
+use crate::station::APID;
+use crate::workers::work;
+use anyhow::{Result, anyhow};
+use std::alloc::Global;
+use std::sync::Wait;
+use std::thread::Threads;
+use tc_channel::Channel;
+
+const ONE: [u8; 1] = [1];
+
+const FOUR: [u8; 4] = [1, 2, 3, 63];
+
+/// Does the load on one channel, on four channels in turn, and on four channels by workers, and prints a score for each.
+pub(crate) fn print<R: Threads + Wait + Sync + AllocGlobal + Print>(rt: &R) -> Result<()> {
+    let one = in_turn(rt, rt.alloc(), &ONE, 20_000)?;
+    println!(rt; "one channel {one:016x}")?;
+    let four = in_turn(rt, rt.alloc(), &FOUR, 5_000)?;
+    println!(rt; "four channels {four:016x}")?;
+    let workers = by_workers(rt, rt.alloc(), &FOUR, 5_000)?;
+    println!(rt; "four workers {workers:016x}")?;
+    Ok(())
+}
+
+// One thread makes a round on each channel in turn, so many times. Each answer is added.
+fn in_turn(rt: &impl Wait, alloc: Global, vcids: &[u8], rounds: u32) -> Result<u64> {
+    let senders = senders(alloc, vcids)?;
+    let mut crew = Crew::new(alloc, vcids)?;
+    let mut score = Score::new();
+    for number in 0..rounds {
+        for sender in &senders {
+            make_round(rt, &mut crew, sender, (number % 256) as u8, &mut score)?;
+        }
+    }
+    add_channels(&mut score, &crew.close(alloc)?)?;
+    Ok(score.value())
+}
+
+// A worker for each channel makes as many rounds there. What the closed channels tell is added.
+fn by_workers<R: Threads + Wait + Sync>(
+    rt: &R,
+    alloc: Global,
+    vcids: &[u8],
+    rounds: u32,
+) -> Result<u64> {
+    let senders = senders(alloc, vcids)?;
+    let channels = work(rt, alloc, vcids, &senders, rounds)?;
+    let mut score = Score::new();
+    add_channels(&mut score, &channels)?;
+    Ok(score.value())
+}
+
+// Adds what closed channels tell.
+fn add_channels(score: &mut Score, channels: &[Channel]) -> Result<()> {
+    for channel in channels {
+        let Some(queued) = channel.queued(APID) else {
+            return Err(anyhow!("no queue"));
+        };
+        score.add(u64::from(channel.settings().vcid));
+        score.add(u64::from(channel.clcw(NO_FLAG)));
+        score.add(channel.journal().len() as u64);
+        score.add(channel.buffered() as u64);
+        score.add(queued as u64);
+    }
+    Ok(())
+}

@@ -1,0 +1,170 @@
+//! How many frames a second several threads get answered.
+
+ghost use Rattle.std.specs.Prelude.{◌≡◌, ◌<◌, ◌≤◌, All, length};
+
+use crate::measure::{median_of, per_second};
+use crate::sender::{Sender, Sent, senders};
+use crate::station::{APID, new_station};
+use anyhow::{Result, anyhow};
+use std::alloc::Global;
+use std::sync::Wait;
+use std::thread::Threads;
+use std::time::{Clock, Instant};
+use std::{fmt, thread};
+use tc_station::{Operator, Station};
+
+/// How many frames each thread brings.
+const FRAMES: u32 = 200_000;
+
+/// What each thread does on its channel, again and again.
+#[derive(Clone, Copy, Debug, PartialEq, Eq)]
+enum Load {
+    /// Brings the next Type-AD frame, releases its data field, and takes its packet.
+    Sequenced,
+    /// Brings a Type-BD frame, and takes a packet.
+    Bypassing,
+}
+
+impl fmt::Display for Load {
+    fn fmt<W: fmt::Write>(&self, f: &mut fmt::Formatter<W>) -> fmt::Result {
+        f.write_str(match self {
+            Load::Sequenced => "AD frames, released and taken",
+            Load::Bypassing => "BD frames, taken",
+        })
+    }
+}
+
+/// Prints the frames that were answered in a second, by as many threads as channels, and by several on one.
+pub(crate) fn print<R: Threads + Wait + Clock + Sync + AllocGlobal + Print>(rt: &R) -> Result<()> {
+    print_line(rt, Load::Sequenced, &[1])?;
+    print_line(rt, Load::Sequenced, &[1, 2])?;
+    print_line(rt, Load::Sequenced, &[1, 2, 3, 4])?;
+    print_line(rt, Load::Bypassing, &[1])?;
+    print_line(rt, Load::Bypassing, &[1, 2])?;
+    print_line(rt, Load::Bypassing, &[1, 2, 3, 4])?;
+    print_line(rt, Load::Bypassing, &[1, 1])?;
+    print_line(rt, Load::Bypassing, &[1, 1, 1, 1])
+}
+
+// A thread for each of the virtual channels.
+fn print_line<R: Threads + Wait + Clock + Sync + AllocGlobal + Print>(
+    rt: &R,
+    load: Load,
+    vcids: &[u8],
+) -> Result<()> {
+    let rate = median_of(|| frames_per_second(rt, rt.alloc(), load, vcids))?;
+    println!(rt; "{load}, by threads on channels {vcids:?}: {rate} a second")?;
+    Ok(())
+}
+
+fn frames_per_second<R: Threads + Wait + Clock + Sync>(
+    rt: &R,
+    alloc: Global,
+    load: Load,
+    vcids: &[u8],
+) -> Result<u128> {
+    let senders = senders(alloc, vcids)?;
+    let mut station = new_station(alloc, &[1, 2, 3, 4])?;
+    let mut operators = station.operators(u16::try_from(senders.len())?)?;
+    let start = Instant::now(rt)?;
+    run_all(rt, &station, load, &senders, operators.as_mut_slice());
+    let time = start.elapsed(rt)?;
+    check_counts(load, &senders, &operators)?;
+    let frames = u64::from(FRAMES) * senders.len() as u64;
+    Ok(per_second(frames, time.as_nanos()))
+}
+
+// Each sender's frames by a thread of its own, with the operator of its place.
+fn run_all<R: Threads + Wait + Sync>(
+    rt: &R,
+    station: &Station,
+    load: Load,
+    senders: &[Sender],
+    operators: &mut [Operator],
+)
+    requires as_many { length operators.old ≡ length senders.now }
+    requires ours { All (λ o. o.vcids ≡ station.now.vcids) operators.old }
+{
+    if senders.is_empty() {
+        return;
+    }
+    thread::for_each_mut(
+        rt,
+        operators,
+        senders.len(),
+        &|i: usize, operator: &mut Operator| -> ()
+            requires ours { operator.old.vcids ≡ station.now.vcids }
+            requires inside { i < length senders.now }
+        { run(rt, station, load, &senders[i], operator) },
+    );
+}
+
+// Brings all frames, and stops where a call is refused.
+fn run<R: Wait>(rt: &R, station: &Station, load: Load, sender: &Sender, operator: &mut Operator)
+    requires { operator.old.vcids ≡ station.now.vcids }
+{
+    for number in 0..FRAMES {
+        let octet = (number % 256) as u8;
+        let answered = match load {
+            Load::Sequenced => sequenced(rt, station, sender, octet, operator),
+            Load::Bypassing => bypassing(rt, station, sender, octet, operator),
+        };
+        if !answered {
+            return;
+        }
+    }
+}
+
+// Whether all three operations were answered.
+fn sequenced<R: Wait>(
+    rt: &R,
+    station: &Station,
+    sender: &Sender,
+    octet: u8,
+    operator: &mut Operator,
+) -> bool
+    requires { operator.old.vcids ≡ station.now.vcids }
+    ensures { operator.new.vcids ≡ operator.old.vcids }
+{
+    let octets = sender.octets(Sent::Sequenced(octet));
+    station.bring(rt, operator, octets).is_ok()
+        && station.release(rt, operator, sender.vcid()).is_ok()
+        && station.take(rt, operator, sender.vcid(), APID).is_ok()
+}
+
+// Whether both operations were answered.
+fn bypassing<R: Wait>(
+    rt: &R,
+    station: &Station,
+    sender: &Sender,
+    octet: u8,
+    operator: &mut Operator,
+) -> bool
+    requires { operator.old.vcids ≡ station.now.vcids }
+    ensures { operator.new.vcids ≡ operator.old.vcids }
+{
+    let octets = sender.octets(Sent::Bypassing(octet));
+    station.bring(rt, operator, octets).is_ok()
+        && station.take(rt, operator, sender.vcid(), APID).is_ok()
+}
+
+// How many operations each frame is.
+fn operations(load: Load) -> u64
+    ensures { result ≤ 3 }
+{
+    match load {
+        Load::Sequenced => 3,
+        Load::Bypassing => 2,
+    }
+}
+
+// No operation was refused: each operator has counted all of its own.
+fn check_counts(load: Load, senders: &[Sender], operators: &[Operator]) -> Result<()> {
+    let wanted = u64::from(FRAMES) * operations(load);
+    for (sender, operator) in senders.iter().zip(operators) {
+        if operator.count(sender.vcid()) != Some(wanted) {
+            return Err(anyhow!("an operation was refused"));
+        }
+    }
+    Ok(())
+}

@@ -1,0 +1,66 @@
+//! The load by workers, a list of jobs for each channel.
+
+ghost use Rattle.std.specs.Prelude.{◌≡◌, length, vec_len, IfOk};
+
+use crate::round::second;
+use crate::sender::{Sender, Sent};
+use crate::station::{APID, new_station};
+use anyhow::Result;
+use std::alloc::{AllocError, Global};
+use std::sync::Wait;
+use std::thread::Threads;
+use tc_channel::{Channel, Items, Octets};
+use tc_station::{FreeGate, Job, Order, WorkList};
+
+/// Makes rounds on each channel, by a worker of its own, and closes the station.
+pub(crate) fn work<R: Threads + Wait + Sync>(
+    rt: &R,
+    alloc: Global,
+    vcids: &[u8],
+    senders: &[Sender],
+    rounds: u32,
+) -> Result<Vec<Channel>> {
+    let lists = work_lists(alloc, senders, rounds)?;
+    let mut station = new_station(alloc, vcids)?;
+    let mut operators = station.operators(u16::try_from(lists.len())?)?;
+    station.work(rt, &FreeGate, &mut operators, &lists)?;
+    Ok(station.close(operators)?)
+}
+
+fn work_lists(alloc: Global, senders: &[Sender], rounds: u32) -> Result<Vec<WorkList>, AllocError> {
+    let mut lists = Vec::with_capacity(alloc, senders.len())?;
+    for sender in senders {
+        lists.push(work_list(alloc, sender, rounds)?)?;
+    }
+    Ok(lists)
+}
+
+fn work_list(alloc: Global, sender: &Sender, rounds: u32) -> Result<WorkList, AllocError> {
+    let mut jobs = Vec::new(alloc);
+    for number in 0..rounds {
+        add_round(alloc, &mut jobs, sender, number)?;
+    }
+    Ok(WorkList {
+        vcid: sender.vcid(),
+        jobs: Items::from(jobs),
+    })
+}
+
+// The jobs of a round, whose number stands for the line.
+fn add_round(
+    alloc: Global,
+    jobs: &mut Vec<Job>,
+    sender: &Sender,
+    line: u32,
+) -> Result<(), AllocError> {
+    let number = (line % 256) as u8;
+    for sent in [Sent::Sequenced(number), second(number)] {
+        let octets = Octets::copied(alloc, sender.octets(sent))?;
+        let order = Order::Bring(octets);
+        jobs.push(Job { line, order })?;
+    }
+    for order in [Order::Release, Order::Take(APID)] {
+        jobs.push(Job { line, order })?;
+    }
+    Ok(())
+}
