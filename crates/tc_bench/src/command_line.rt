@@ -1,6 +1,6 @@
 //! The command line.
 
-ghost use Rattle.std.specs.Prelude.{◌≡◌};
+ghost use Rattle.std.specs.Prelude.{◌≡◌, ◌<◌, length};
 
 /// What a command line asks for.
 #[derive(Clone, Copy, Debug, PartialEq, Eq)]
@@ -14,7 +14,10 @@ pub(crate) enum Action {
 }
 
 /// What the words ask for, the program's name first.
-pub(crate) fn judge(words: &[String]) -> Option<Action> {
+pub(crate) fn judge(words: &[String]) -> Option<Action>
+    ensures alone { length words.now < 2 → result ≡ Some Action.Scores }
+    ensures many { 2 < length words.now → result ≡ None }
+{
     match words {
         [] | [_] => Some(Action::Scores),
         [_, word] => named(word.as_str()),

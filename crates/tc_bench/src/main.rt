@@ -25,7 +25,7 @@ use std::env::Env;
 use std::process::ExitCode;
 use std::sync::Wait;
 use std::thread::Threads;
-use std::time::Clock;
+use std::time::{Clock, CpuClock};
 
 /// The exit status of a bad command line.
 const BAD_COMMAND_LINE: u8 = 2;
@@ -45,7 +45,7 @@ fn words<R: Env + AllocGlobal>(rt: &R) -> Result<Vec<String>> {
     Ok(env::args(rt)?.collect(rt.alloc())?)
 }
 
-fn obey<R: Threads + Wait + Clock + Sync + AllocGlobal + Print + Eprint>(
+fn obey<R: Threads + Wait + Clock + CpuClock + Sync + AllocGlobal + Print + Eprint>(
     rt: &R,
     words: &[String],
 ) -> ExitCode {
@@ -62,7 +62,7 @@ fn obey<R: Threads + Wait + Clock + Sync + AllocGlobal + Print + Eprint>(
     }
 }
 
-fn perform<R: Threads + Wait + Clock + Sync + AllocGlobal + Print>(
+fn perform<R: Threads + Wait + Clock + CpuClock + Sync + AllocGlobal + Print>(
     rt: &R,
     action: Action,
 ) -> Result<()> {

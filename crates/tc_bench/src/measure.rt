@@ -4,20 +4,54 @@ ghost use Rattle.std.specs.Prelude.{◌≡◌, ◌*◌, ◌/◌, max};
 ghost use Rattle.tc_bench.specs.Median.{IsMedian};
 
 use anyhow::Result;
+use std::time::{Clock, CpuClock, Duration, Instant};
 
 /// How often each measurement is made.
-pub(crate) const RUNS: usize = 5;
+const RUNS: usize = 5;
 
-/// How many of them are done in a second, where so many took so many nanoseconds.
-pub(crate) fn per_second(count: u64, nanoseconds: u128) -> u128
-    ensures { result ≡ count * 1000000000 / max nanoseconds 1 }
-{
-    u128::from(count) * 1_000_000_000 / nanoseconds.max(1)
+/// What one of many took, in picoseconds.
+#[derive(Clone, Copy, Debug)]
+pub(crate) struct Cost {
+    /// By the clock.
+    pub(crate) time: u128,
+    /// Of the processors, all threads together.
+    pub(crate) processor: u128,
 }
 
-/// How many tenths of a nanosecond one of them took, where so many took so many nanoseconds.
-pub(crate) fn tenths_of_each(count: u64, nanoseconds: u128) -> u128 {
-    nanoseconds.saturating_mul(10) / u128::from(count.max(1))
+/// When a measurement began.
+#[derive(Clone, Copy)]
+pub(crate) struct Start {
+    time: Instant,
+    processor: Duration,
+}
+
+impl Start {
+    pub(crate) fn now<R: Clock + CpuClock>(rt: &R) -> Result<Start> {
+        let processor = rt.process_cpu_time()?;
+        let time = Instant::now(rt)?;
+        Ok(Start { time, processor })
+    }
+
+    /// What each of so many took since then.
+    pub(crate) fn cost_of_each<R: Clock + CpuClock>(&self, rt: &R, count: u64) -> Result<Cost> {
+        let time = self.time.elapsed(rt)?;
+        let processor = rt.process_cpu_time()?.saturating_sub(self.processor);
+        Ok(Cost {
+            time: picoseconds_of_each(time, count),
+            processor: picoseconds_of_each(processor, count),
+        })
+    }
+}
+
+fn picoseconds_of_each(all: Duration, count: u64) -> u128 {
+    all.as_nanos().saturating_mul(1000) / u128::from(count.max(1))
+}
+
+/// How many there are in a second, where each takes so many picoseconds.
+pub(crate) fn per_second(picoseconds: u128) -> u128
+    ensures { result ≡ 1000000000000 / max picoseconds 1 }
+{
+    1_000_000_000_000 / picoseconds.max(1)
 }
 
 /// The figure in the middle.
@@ -29,14 +63,23 @@ pub(crate) fn median(figures: [u128; RUNS]) -> u128
     sorted[RUNS / 2]
 }
 
-/// The median of what so many measurements give.
-pub(crate) fn median_of<F: FnMut() -> Result<u128>>(mut measure: F) -> Result<u128>
+/// The medians of five measurements.
+pub(crate) fn median_of<F: FnMut() -> Result<Cost>>(mut measure: F) -> Result<Cost>
     requires { F.IsAlwaysCallable measure }
 {
-    let first = measure()?;
-    let second = measure()?;
-    let third = measure()?;
-    let fourth = measure()?;
-    let fifth = measure()?;
-    Ok(median([first, second, third, fourth, fifth]))
+    let a = measure()?;
+    let b = measure()?;
+    let c = measure()?;
+    let d = measure()?;
+    let e = measure()?;
+    Ok(Cost {
+        time: median([a.time, b.time, c.time, d.time, e.time]),
+        processor: median([
+            a.processor,
+            b.processor,
+            c.processor,
+            d.processor,
+            e.processor,
+        ]),
+    })
 }

@@ -1,4 +1,4 @@
-//! A channel whose status is published again and again.
+//! Threads that write a status word again and again.
 
 ghost use Rattle.std.specs.Prelude.{◌≡◌};
 
@@ -6,11 +6,53 @@ use crate::station::settings;
 use anyhow::Result;
 use std::alloc::Global;
 use std::sync::atomic::{AtomicBool, AtomicU64, Ordering};
+use std::thread;
 use tc_channel::Channel;
 use tc_status::{Publisher, Watcher};
 
-/// How many publications are made at most where nobody stops them.
+/// The CLCW of a new channel 1.
+pub(crate) const STATUS: u64 = 0x01040000;
+
+/// How often is written at most where nobody stops it, and how often is looked at most for a start.
 const MOST: u64 = 1_000_000_000;
+
+/// What a writing and a reading thread tell each other.
+#[derive(Drop)]
+pub(crate) struct Signals {
+    started: AtomicBool,
+    stopped: AtomicBool,
+}
+
+impl Signals {
+    pub(crate) fn new() -> Signals {
+        Signals {
+            started: AtomicBool::new(false),
+            stopped: AtomicBool::new(false),
+        }
+    }
+
+    /// Gives the processor up until the writer has started.
+    pub(crate) fn wait_for_start(&self) {
+        for _ in 0..MOST {
+            if self.started.load(Ordering::SeqCst) {
+                return;
+            }
+            thread::yield_now();
+        }
+    }
+
+    pub(crate) fn stop(&self) {
+        self.stopped.store(true, Ordering::SeqCst);
+    }
+
+    fn start(&self) {
+        self.started.store(true, Ordering::SeqCst);
+    }
+
+    fn is_stopped(&self) -> bool {
+        self.stopped.load(Ordering::SeqCst)
+    }
+}
 
 /// A channel, and the publisher of its status.
 #[derive(Drop)]
@@ -31,10 +73,11 @@ impl Source {
         Ok(self.publisher.watcher()?)
     }
 
-    /// Publishes until it is stopped, and answers how often.
-    pub(crate) fn publish_until(&mut self, stopped: &AtomicBool) -> u64 {
+    /// Publishes the same status until it is stopped, and answers how often.
+    pub(crate) fn publish_until_stopped(&mut self, signals: &Signals) -> u64 {
+        signals.start();
         for count in 0..MOST {
-            if stopped.load(Ordering::SeqCst) {
+            if signals.is_stopped() {
                 return count;
             }
             self.publisher.publish(&self.channel);
@@ -43,13 +86,14 @@ impl Source {
     }
 }
 
-/// Stores the word of a new channel until it is stopped, and answers how often.
-pub(crate) fn store_until(word: &AtomicU64, stopped: &AtomicBool) -> u64 {
+/// Stores the status until it is stopped, and answers how often.
+pub(crate) fn store_until_stopped(word: &AtomicU64, signals: &Signals) -> u64 {
+    signals.start();
     for count in 0..MOST {
-        if stopped.load(Ordering::SeqCst) {
+        if signals.is_stopped() {
             return count;
         }
-        word.store(0x01040000, Ordering::SeqCst);
+        word.store(STATUS, Ordering::SeqCst);
     }
     MOST
 }

@@ -1,25 +1,24 @@
 //! What a read of a status costs, beside a bare load of an atomic word.
 
-use crate::measure::{median_of, tenths_of_each};
-use crate::source::{Source, store_until};
+use crate::measure::{Cost, Start, median_of};
+use crate::source::{STATUS, Signals, Source, store_until_stopped};
 use anyhow::{Result, anyhow};
 use crossbeam_utils::CachePadded;
-use std::sync::atomic::{AtomicBool, AtomicU64, Ordering};
+use std::sync::atomic::{AtomicU64, Ordering};
 use std::thread::{Threads, join};
-use std::time::{Clock, Instant};
+use std::time::{Clock, CpuClock};
 use tc_status::Watcher;
 
 /// How many reads are timed together.
-const READS: u64 = 5_000_000;
+const READS: u64 = 50_000_000;
 
 /// Prints what a read costs alone, and while another thread writes the word.
-pub(crate) fn print<R: Threads + Clock + Sync + AllocGlobal + Print>(rt: &R) -> Result<()> {
-    let mut source = Source::new(rt.alloc())?;
-    let mut watcher = source.watcher()?;
-    let word = CachePadded::new(AtomicU64::new(0x01040000));
-    let load = median_of(|| loads(rt, &word))?;
-    let read = median_of(|| reads(rt, &mut watcher))?;
-    let load_beside = median_of(|| loads_beside_stores(rt, &word))?;
+pub(crate) fn print<R: Threads + Clock + CpuClock + Sync + AllocGlobal + Print>(
+    rt: &R,
+) -> Result<()> {
+    let load = median_of(|| loads_alone(rt))?;
+    let read = median_of(|| reads_alone(rt))?;
+    let load_beside = median_of(|| loads_beside_stores(rt))?;
     let read_beside = median_of(|| reads_beside_publications(rt))?;
     print_line(rt, "a load of a word", load)?;
     print_line(rt, "a read of a status", read)?;
@@ -35,77 +34,96 @@ pub(crate) fn print<R: Threads + Clock + Sync + AllocGlobal + Print>(rt: &R) -> 
     )
 }
 
-fn print_line(rt: &impl Print, what: &str, tenths: u128) -> Result<()> {
-    println!(rt; "{what}: {}.{} ns", tenths / 10, tenths % 10)?;
+// Beside the time stands the processor time, of both threads where there are two.
+fn print_line(rt: &impl Print, what: &str, cost: Cost) -> Result<()> {
+    let (time, processor) = (cost.time / 100, cost.processor / 100);
+    println!(rt;
+        "{what}: {}.{} ns, {}.{} ns of processor",
+        time / 10,
+        time % 10,
+        processor / 10,
+        processor % 10
+    )?;
     Ok(())
 }
 
-// Tenths of a nanosecond for each load.
-fn loads(rt: &impl Clock, word: &AtomicU64) -> Result<u128> {
-    let start = Instant::now(rt)?;
+fn loads<R: Clock + CpuClock>(rt: &R, word: &AtomicU64) -> Result<Cost> {
+    let start = Start::now(rt)?;
     let mut sum: u64 = 0;
     for _ in 0..READS {
         sum = sum.wrapping_add(word.load(Ordering::SeqCst));
     }
-    let time = start.elapsed(rt)?;
+    let cost = start.cost_of_each(rt, READS)?;
     check_sum(sum)?;
-    Ok(tenths_of_each(READS, time.as_nanos()))
+    Ok(cost)
 }
 
-// Tenths of a nanosecond for each read.
-fn reads(rt: &impl Clock, watcher: &mut Watcher) -> Result<u128> {
-    let start = Instant::now(rt)?;
+fn reads<R: Clock + CpuClock>(rt: &R, watcher: &mut Watcher) -> Result<Cost> {
+    let start = Start::now(rt)?;
     let mut sum: u64 = 0;
     for _ in 0..READS {
         sum = sum.wrapping_add(u64::from(watcher.read()));
     }
-    let time = start.elapsed(rt)?;
+    let cost = start.cost_of_each(rt, READS)?;
     check_sum(sum)?;
-    Ok(tenths_of_each(READS, time.as_nanos()))
+    Ok(cost)
 }
 
-// The words were read: each is the CLCW 0x01040000.
+// Each read gave the one word.
 fn check_sum(sum: u64) -> Result<()> {
-    if sum == READS.wrapping_mul(0x01040000) {
+    if sum == READS.wrapping_mul(STATUS) {
         Ok(())
     } else {
         Err(anyhow!("another word was read"))
     }
 }
 
-fn loads_beside_stores<R: Threads + Clock>(rt: &R, word: &AtomicU64) -> Result<u128> {
-    let stopped = AtomicBool::new(false);
-    let (stores, tenths) = join(
+fn loads_alone<R: Clock + CpuClock>(rt: &R) -> Result<Cost> {
+    let word = CachePadded::new(AtomicU64::new(STATUS));
+    loads(rt, &word)
+}
+
+fn reads_alone<R: Clock + CpuClock + AllocGlobal>(rt: &R) -> Result<Cost> {
+    let mut watcher = Source::new(rt.alloc())?.watcher()?;
+    reads(rt, &mut watcher)
+}
+
+fn loads_beside_stores<R: Threads + Clock + CpuClock>(rt: &R) -> Result<Cost> {
+    let word = CachePadded::new(AtomicU64::new(STATUS));
+    let signals = CachePadded::new(Signals::new());
+    let (stores, cost) = join(
         rt,
-        || store_until(word, &stopped),
+        || store_until_stopped(&word, &signals),
         || {
-            let tenths = loads(rt, word);
-            stopped.store(true, Ordering::SeqCst);
-            tenths
+            signals.wait_for_start();
+            let cost = loads(rt, &word);
+            signals.stop();
+            cost
         },
     );
     check_beside(stores)?;
-    tenths
+    cost
 }
 
-fn reads_beside_publications<R: Threads + Clock + AllocGlobal>(rt: &R) -> Result<u128> {
+fn reads_beside_publications<R: Threads + Clock + CpuClock + AllocGlobal>(rt: &R) -> Result<Cost> {
     let mut source = Source::new(rt.alloc())?;
     let mut watcher = source.watcher()?;
-    let stopped = AtomicBool::new(false);
-    let (publications, tenths) = join(
+    let signals = CachePadded::new(Signals::new());
+    let (publications, cost) = join(
         rt,
-        || source.publish_until(&stopped),
+        || source.publish_until_stopped(&signals),
         || {
-            let tenths = reads(rt, &mut watcher);
-            stopped.store(true, Ordering::SeqCst);
-            tenths
+            signals.wait_for_start();
+            let cost = reads(rt, &mut watcher);
+            signals.stop();
+            cost
         },
     );
     check_beside(publications)?;
-    tenths
+    cost
 }
 
-// The other thread wrote as long as this one read.
+// The other thread wrote, too.
 fn check_beside(writes: u64) -> Result<()> {
     if writes == 0 {
         return Err(anyhow!("no thread wrote beside the reads"));

@@ -2,14 +2,14 @@
 
 ghost use Rattle.std.specs.Prelude.{◌≡◌, ◌<◌, ◌≤◌, All, length};
 
-use crate::measure::{median_of, per_second};
+use crate::measure::{Cost, Start, median_of, per_second};
 use crate::sender::{Sender, Sent, senders};
 use crate::station::{APID, new_station};
 use anyhow::{Result, anyhow};
 use std::alloc::Global;
 use std::sync::Wait;
 use std::thread::Threads;
-use std::time::{Clock, Instant};
+use std::time::{Clock, CpuClock};
 use std::{fmt, thread};
 use tc_station::{Operator, Station};
 
@@ -35,7 +35,9 @@ impl fmt::Display for Load {
 }
 
 /// Prints the frames that were answered in a second, by as many threads as channels, and by several on one.
-pub(crate) fn print<R: Threads + Wait + Clock + Sync + AllocGlobal + Print>(rt: &R) -> Result<()> {
+pub(crate) fn print<R: Threads + Wait + Clock + CpuClock + Sync + AllocGlobal + Print>(
+    rt: &R,
+) -> Result<()> {
     print_line(rt, Load::Sequenced, &[1])?;
     print_line(rt, Load::Sequenced, &[1, 2])?;
     print_line(rt, Load::Sequenced, &[1, 2, 3, 4])?;
@@ -47,31 +49,34 @@ pub(crate) fn print<R: Threads + Wait + Clock + Sync + AllocGlobal + Print>(rt: 
 }
 
 // A thread for each of the virtual channels.
-fn print_line<R: Threads + Wait + Clock + Sync + AllocGlobal + Print>(
+fn print_line<R: Threads + Wait + Clock + CpuClock + Sync + AllocGlobal + Print>(
     rt: &R,
     load: Load,
     vcids: &[u8],
 ) -> Result<()> {
-    let rate = median_of(|| frames_per_second(rt, rt.alloc(), load, vcids))?;
-    println!(rt; "{load}, by threads on channels {vcids:?}: {rate} a second")?;
+    let Cost { time, processor } = median_of(|| cost_of_each(rt, rt.alloc(), load, vcids))?;
+    let (rate, nanoseconds) = (per_second(time), processor / 1000);
+    println!(rt;
+        "{load}, by threads on channels {vcids:?}: {rate} a second, {nanoseconds} ns of processor each"
+    )?;
     Ok(())
 }
 
-fn frames_per_second<R: Threads + Wait + Clock + Sync>(
+// What each frame takes, of those of all threads.
+fn cost_of_each<R: Threads + Wait + Clock + CpuClock + Sync>(
     rt: &R,
     alloc: Global,
     load: Load,
     vcids: &[u8],
-) -> Result<u128> {
+) -> Result<Cost> {
     let senders = senders(alloc, vcids)?;
     let mut station = new_station(alloc, &[1, 2, 3, 4])?;
     let mut operators = station.operators(u16::try_from(senders.len())?)?;
-    let start = Instant::now(rt)?;
+    let start = Start::now(rt)?;
     run_all(rt, &station, load, &senders, operators.as_mut_slice());
-    let time = start.elapsed(rt)?;
+    let cost = start.cost_of_each(rt, u64::from(FRAMES).saturating_mul(senders.len() as u64))?;
     check_counts(load, &senders, &operators)?;
-    let frames = u64::from(FRAMES) * senders.len() as u64;
-    Ok(per_second(frames, time.as_nanos()))
+    Ok(cost)
 }
 
 // Each sender's frames by a thread of its own, with the operator of its place.
