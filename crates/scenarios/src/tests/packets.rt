@@ -16,6 +16,21 @@ fn a_packet_from_its_frame_to_its_taker(rt: HostRuntime) -> Result<(), Fail> {
     play(&rt, rt.alloc(), &steps)
 }
 
+// V(R) is the same on both channels once it is set, so that channel 2 accepts the AD frame, too.
+#[test]
+fn a_packet_on_each_channel(rt: HostRuntime) -> Result<(), Fail> {
+    let steps = [
+        // Set V(R) to 200.
+        Frame("302a0407008200c8", discarded(8)),
+        Frame("002a040cc8c01005c0000000aa", accepted(1)),
+        Clcw(0x010402c9),
+        Release(Ok(ONE)),
+        Take(5, Ok("1005c0000000aa")),
+        Events(4),
+    ];
+    play(&rt, rt.alloc(), &steps)
+}
+
 #[test]
 fn fill_after_a_frame(rt: HostRuntime) -> Result<(), Fail> {
     let steps = [
