@@ -13,6 +13,8 @@ use Rattle.tc_station.specs.declared.faults.ReleaseRefused.{ReleaseRefused}
 use Rattle.tc_station.specs.declared.faults.ReleaseRefused.TheVariants as release_refusals
 use Rattle.tc_station.specs.declared.faults.TakeRefused.{TakeRefused}
 use Rattle.tc_station.specs.declared.faults.TakeRefused.TheVariants as take_refusals
+use Rattle.tc_station.specs.declared.faults.WatcherFault.{WatcherFault}
+use Rattle.tc_station.specs.declared.faults.WatcherFault.TheVariants as watcher_faults
 use Rattle.tc_station.specs.declared.faults.CloseFault.{CloseFault}
 use Rattle.tc_station.specs.declared.faults.CloseFault.TheVariants.{Missing, NoMemory, Unbalanced}
 
@@ -36,6 +38,10 @@ IsTakeRefused station vcid apid take_refusals.UnknownChannel = ¬ Contains stati
 IsTakeRefused station vcid apid take_refusals.NoQueue = Contains station.vcids vcid × AtSomeMoment (λ s journal. waiting_packets s journal apid ≡ None)
 IsTakeRefused station vcid apid take_refusals.Empty = Contains station.vcids vcid × AtSomeMoment (λ s journal. waiting_packets s journal apid ≡ Some [])
 IsTakeRefused station vcid apid take_refusals.NoMemory = Contains station.vcids vcid
+
+abbrev pub IsWatcherFault : Roster → ℕ → WatcherFault → Type 0
+IsWatcherFault station vcid watcher_faults.UnknownChannel = ¬ Contains station.vcids vcid
+IsWatcherFault station vcid watcher_faults.NoMemory = Contains station.vcids vcid
 
 -- the first of these that applies; the channels are handed back only where the counts don't tell their journals
 abbrev pub IsCloseFault : Roster → List Tally → CloseFault → Type 0

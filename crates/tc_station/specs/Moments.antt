@@ -2,13 +2,14 @@
 -- answer is the reply at some moment of some channel.
 use Rattle.std.specs.Prelude.{◌≡◌, ℕ, List, Contains, slice_get, Option, Some}
 use Rattle.std.specs.Option.{option_and_then}
-use Rattle.tc_link.specs.declared.Link.{Link}
 use Rattle.tc_channel.specs.declared.settings.Settings.{Settings}
 use Rattle.tc_channel.specs.declared.event.Event.{Event}
+use Rattle.tc_channel.specs.declared.event.Event.TheVariants.{Frame}
 use Rattle.tc_channel.specs.declared.reply.Delivery.{Delivery}
 use Rattle.tc_channel.specs.declared.reply.FrameReply.{FrameReply}
+use Rattle.tc_channel.specs.Journal.{History, with_event}
 use Rattle.tc_channel.specs.Run.{IsLawful}
-use Rattle.tc_channel.specs.Reply.{frame_reply, release_reply, waiting_packets, clcw}
+use Rattle.tc_channel.specs.Reply.{frame_reply, release_reply, waiting_packets}
 use Rattle.tc_station.specs.Roster.{Roster}
 use Rattle.tc_station.specs.Location.{IsLocated}
 
@@ -21,6 +22,12 @@ abbrev pub IsBrought : Roster → List ℕ → ℕ → FrameReply → Type 0
 IsBrought station octets vcid reply =
     (frame : List ℕ) × IsLocated station octets vcid frame × AtSomeMoment (λ s journal. reply ≡ frame_reply s journal frame)
 
+-- the same, and a watcher has seen the journal with the frame at its end
+abbrev pub IsBroughtWatched : Roster → List ℕ → ℕ → FrameReply → History → Type 0
+IsBroughtWatched station octets vcid reply seen =
+    (frame : List ℕ) × IsLocated station octets vcid frame
+    × AtSomeMoment (λ s journal. (reply ≡ frame_reply s journal frame) × (seen ≡ with_event (record { settings = s; journal = journal }) (Frame frame)))
+
 abbrev pub IsReleased : Roster → ℕ → Delivery → Type 0
 IsReleased station vcid delivery = Contains station.vcids vcid × AtSomeMoment (λ s journal. delivery ≡ release_reply s journal)
 
@@ -29,5 +36,6 @@ abbrev pub IsTaken : Roster → ℕ → ℕ → List ℕ → Type 0
 IsTaken station vcid apid packet =
     Contains station.vcids vcid × AtSomeMoment (λ s journal. option_and_then (λ packets. slice_get packets 0) (waiting_packets s journal apid) ≡ Some packet)
 
-abbrev pub IsReported : Roster → ℕ → Link → ℕ → Type 0
-IsReported station vcid link word = Contains station.vcids vcid × AtSomeMoment (λ s journal. word ≡ clcw s journal link)
+-- the watcher has seen a moment of a channel
+abbrev pub IsWatched : Roster → ℕ → History → Type 0
+IsWatched station vcid seen = Contains station.vcids vcid × IsLawful seen.settings seen.journal

@@ -6,6 +6,7 @@ ghost use Rattle.tc_channel.specs.Settings.{IsAllowed, IsRefusal};
 ghost use Rattle.tc_channel.specs.Journal.{with_event};
 ghost use Rattle.tc_channel.specs.Run.{IsLawful};
 ghost use Rattle.tc_channel.specs.Reply.{frame_reply, release_reply, waiting_packets, buffered_fields};
+ghost use Rattle.tc_status.specs.Board.{IsBeginning};
 
 use std::alloc::Global;
 use std::marker::Model;
@@ -14,30 +15,39 @@ use tc_channel::{
     TakeFault,
 };
 use tc_link::Frame;
+use tc_status::{Publisher, Watcher, meet};
 
-/// The channel behind a lock. A call that is refused leaves it as it was.
+/// The channel behind a lock, and the publisher of its status. A call that is refused leaves it as it was; one that is
+/// answered publishes the channel before it returns, so that at rest just the channel's journal is published.
 #[derive(Drop)]
 pub struct Desk {
     channel: Channel,
+    publisher: Publisher,
 }
 
 impl Model for Desk {
+    ghost use Rattle.std.specs.Prelude.{◌≡◌};
     ghost use Rattle.tc_station.specs.Desk.{AtDesk};
 
     ghost Value = { AtDesk };
 
-    ghost view = { λ d. record { channel = d.channel } };
+    ghost view = { λ d. record { channel = d.channel; board = d.publisher.board } };
+
+    ghost invariant = { λ d. d.publisher.published ≡ d.channel };
 }
 
 impl Desk {
-    /// A desk with a new channel.
+    /// A desk with a new channel, on a board of its own.
     pub fn new(alloc: Global, settings: Settings) -> Result<Desk, SettingsFault>
         ensures settings { IfOk result (λ desk. desk.channel.settings ≡ settings) }
         ensures journal { IfOk result (λ desk. desk.channel.journal ≡ []) }
         ensures fault { MatchResult result (λ _. IsAllowed settings) (IsRefusal settings) }
     {
         let channel = Channel::new(alloc, settings)?;
-        Ok(Desk { channel })
+        let Ok(publisher) = Publisher::new(alloc, &channel) else {
+            return Err(SettingsFault::NoMemory);
+        };
+        Ok(Desk { channel, publisher })
     }
 
     /// The channel.
@@ -53,8 +63,11 @@ impl Desk {
         ensures reply { IfOk result (λ reply. reply ≡ frame_reply self.old.channel.settings self.old.channel.journal frame.now) }
         ensures done { OnOk result (self.new.channel ≡ with_event self.old.channel (Event.Frame frame.now)) }
         ensures refused { OnErr result (self.new ≡ self.old) }
+        ensures board { self.new.board ≡ self.old.board }
     {
-        self.channel.frame(frame)
+        let reply = self.channel.frame(frame)?;
+        self.publisher.publish(&self.channel);
+        Ok(reply)
     }
 
     /// The channel lets the oldest data field out of its buffer.
@@ -64,8 +77,11 @@ impl Desk {
         ensures reply { IfOk result (λ delivery. delivery ≡ release_reply self.old.channel.settings self.old.channel.journal) }
         ensures done { OnOk result (self.new.channel ≡ with_event self.old.channel Event.Release) }
         ensures refused { OnErr result (self.new ≡ self.old) }
+        ensures board { self.new.board ≡ self.old.board }
     {
-        self.channel.release()
+        let delivery = self.channel.release()?;
+        self.publisher.publish(&self.channel);
+        Ok(delivery)
     }
 
     /// The channel gives the oldest packet of the queue with this APID.
@@ -76,15 +92,44 @@ impl Desk {
         ensures reply { IfOk result (λ packet. option_and_then (λ ps. slice_get ps 0) (waiting_packets self.old.channel.settings self.old.channel.journal apid) ≡ Some packet.items) }
         ensures done { OnOk result (self.new.channel ≡ with_event self.old.channel (Event.Take apid)) }
         ensures refused { OnErr result (self.new ≡ self.old) }
+        ensures board { self.new.board ≡ self.old.board }
     {
-        self.channel.take(apid)
+        let packet = self.channel.take(apid)?;
+        self.publisher.publish(&self.channel);
+        Ok(packet)
+    }
+
+    /// A watcher of this desk's board, which has seen the channel as it is.
+    pub fn watcher(&mut self) -> Result<Watcher, NoMemory>
+        ensures board { IfOk result (λ watcher. watcher.board ≡ self.old.board) }
+        ensures seen { IfOk result (λ watcher. watcher.seen ≡ self.old.channel) }
+        ensures lawful { IsLawful self.old.channel.settings self.old.channel.journal }
+        ensures unchanged { self.new ≡ self.old }
+    {
+        // It ensures that the journal is lawful.
+        let _ = self.channel.journal();
+        self.publisher.watcher()
+    }
+
+    /// Lets a watcher of this desk's board see the channel as it is, so that all its reads are of that moment or later ones.
+    pub fn meet(&mut self, watcher: &mut Watcher)
+        requires { watcher.old.board ≡ self.old.board }
+        ensures desk { self.new ≡ self.old }
+        ensures board { watcher.new.board ≡ watcher.old.board }
+        ensures seen { watcher.new.seen ≡ self.old.channel }
+        ensures later { IsBeginning watcher.old.seen self.old.channel }
+    {
+        meet(&mut self.publisher, watcher);
     }
 
     /// The channel, out of the desk.
     pub(crate) fn into_channel(self) -> Channel
         ensures { result ≡ self.channel }
     {
-        let Desk { channel } = self;
+        let Desk {
+            channel,
+            publisher: _,
+        } = self;
         channel
     }
 }

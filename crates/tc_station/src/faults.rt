@@ -54,10 +54,14 @@ pub enum OperatorsFault {
     NoMemory,
 }
 
-/// The station has no such virtual channel.
+/// Why no watcher of a channel was made.
 #[derive(Clone, Copy, Debug, PartialEq, Eq, Error)]
-#[error("the station has no such virtual channel")]
-pub struct UnknownChannel;
+pub enum WatcherFault {
+    #[error("the station has no such virtual channel")]
+    UnknownChannel,
+    #[error("no memory")]
+    NoMemory,
+}
 
 /// Why a channel of the station released no data field.
 #[derive(Clone, Copy, Debug, PartialEq, Eq, Error)]

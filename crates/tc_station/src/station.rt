@@ -3,6 +3,10 @@
 ghost use Rattle.std.specs.Prelude.{◌≡◌, ◌≢◌, ◌≤◌, ◌<◌, ◌+◌, ◌==◌, ◌↔◌, [], List, ℕ, All, AllPairs, Any, Contains, IsTrue, length, map, position, replicate, Some, vec_len, vec_capacity, IfOk, IfErr, IsErrOf, OnOk, OnErr, MatchOption, MatchResult};
 ghost use Rattle.tc_link.specs.Frame.{IsWhole, BeginsWith, header_of};
 ghost use Rattle.tc_channel.specs.Settings.{IsAllowed};
+ghost use Rattle.tc_channel.specs.Journal.{with_event};
+ghost use Rattle.tc_channel.specs.Run.{IsLawful};
+ghost use Rattle.tc_channel.specs.Reply.{frame_reply, clcw};
+ghost use Rattle.tc_status.specs.Board.{IsBeginning};
 ghost use Rattle.tc_station.specs.Tally.{counted, fresh};
 ghost use Rattle.tc_station.specs.Balance.{AreInBalance};
 ghost use Rattle.tc_station.specs.StationSettings.{vcids_of, HaveDistinctVcids, IsFirstDouble, IsFirstRefused, AreStationSettings, IsStationFault};
@@ -11,7 +15,7 @@ use crate::closing::are_in_balance;
 use crate::desk::Desk;
 use crate::faults::{
     BringFault, CloseFault, LocateFault, OperatorsFault, ReleaseRefused, StationFault, TakeRefused,
-    UnknownChannel,
+    WatcherFault,
 };
 use crate::operator::{Operator, place_of};
 use crate::work::Gate;
@@ -19,8 +23,9 @@ use crossbeam_utils::CachePadded;
 use std::alloc::Global;
 use std::marker::Model;
 use std::sync::{Mutex, Wait};
-use tc_channel::{Channel, Delivery, FrameReply, NoMemory, Settings, SettingsFault};
+use tc_channel::{Channel, Delivery, Event, FrameReply, NoMemory, Settings, SettingsFault};
 use tc_link::{Frame, Link, read_frame};
+use tc_status::Watcher;
 
 /// A frame for a channel of the station.
 #[derive(Debug, Drop)]
@@ -62,8 +67,8 @@ impl Model for Station {
 
 impl Station {
     ghost use Rattle.tc_station.specs.Location.{IsLocated, IsPlaced, IsLocateFault, IsBringFault};
-    ghost use Rattle.tc_station.specs.Moments.{IsBrought, IsReleased, IsTaken, IsReported};
-    ghost use Rattle.tc_station.specs.Faults.{IsReleaseRefused, IsTakeRefused, IsCloseFault};
+    ghost use Rattle.tc_station.specs.Moments.{IsBrought, IsBroughtWatched, IsReleased, IsTaken, IsWatched};
+    ghost use Rattle.tc_station.specs.Faults.{IsReleaseRefused, IsTakeRefused, IsWatcherFault, IsCloseFault};
 
     /// A station with a new channel for each of the settings. On a refusal the settings are dropped.
     pub fn new(alloc: Global, scid: u16, list: Vec<Settings>) -> Result<Station, StationFault>
@@ -181,15 +186,53 @@ impl Station {
         Ok(packet)
     }
 
-    /// A channel's CLCW, under the channel's lock.
-    pub fn clcw(&self, rt: &impl Wait, vcid: u8, link: Link) -> Result<u32, UnknownChannel>
-        ensures { MatchResult result (IsReported self.now vcid link) (λ _. ¬ Contains self.now.vcids vcid) }
+    /// A watcher of a channel's status, made under the channel's lock.
+    pub fn watcher(&self, rt: &impl Wait, vcid: u8) -> Result<Watcher, WatcherFault>
+        ensures { MatchResult result (λ watcher. IsWatched self.now vcid watcher.seen) (IsWatcherFault self.now vcid) }
     {
         let Some(place) = place_of(&self.vcids, vcid) else {
-            return Err(UnknownChannel);
+            return Err(WatcherFault::UnknownChannel);
         };
-        let word = self.desks[place].lock(rt).channel().clcw(link);
-        Ok(word)
+        let Ok(watcher) = self.desks[place].lock(rt).watcher() else {
+            return Err(WatcherFault::NoMemory);
+        };
+        Ok(watcher)
+    }
+
+    /// The CLCW of a moment of the watcher's channel, with these link flags: one load, which takes no lock and waits for nobody.
+    ///
+    /// The moment is no earlier than that of the read before.
+    pub fn watch(&self, watcher: &mut Watcher, link: Link) -> u32
+        ensures board { watcher.new.board ≡ watcher.old.board }
+        ensures later { IsBeginning watcher.old.seen watcher.new.seen }
+        ensures word { result ≡ clcw watcher.new.seen.settings watcher.new.seen.journal link }
+        ensures allowed { IsAllowed watcher.new.seen.settings }
+        ensures lawful { IsLawful watcher.new.seen.settings watcher.new.seen.journal }
+    {
+        watcher.read() + u32::from(link.no_rf) * (1 << 15) + u32::from(link.no_bit_lock) * (1 << 14)
+    }
+
+    /// Brings the frame at the front of the octets to its channel, and makes a watcher that has seen the channel take it,
+    /// under one hold of the channel's lock. So all that the watcher reads is of that moment or later ones.
+    pub fn bring_watched(
+        &self,
+        rt: &impl Wait,
+        operator: &mut Operator,
+        octets: &[u8],
+    ) -> Result<(Brought, Watcher), BringFault>
+        requires ours { operator.old.vcids ≡ self.now.vcids }
+        ensures answer { MatchResult result (λ answer. IsBroughtWatched self.now octets.now answer.0.vcid answer.0.reply answer.1.seen) (IsBringFault self.now octets.now) }
+        ensures counted { IfOk result (λ answer. operator.new ≡ counted answer.0.vcid operator.old) }
+        ensures refused { OnErr result (operator.new ≡ operator.old) }
+    {
+        let (place, Located { vcid, frame }) = self
+            .place_frame(octets)
+            .map_err(BringFault::Locate)?;
+        let Ok((reply, watcher)) = frame_watched(&mut self.desks[place].lock(rt), &frame) else {
+            return Err(BringFault::NoMemory);
+        };
+        operator.raise(place, vcid);
+        Ok((Brought { vcid, reply }, watcher))
     }
 
     /// Passes the gate once, under the lock of the channel if there is one.
@@ -326,4 +369,19 @@ fn take_out(desks: Vec<CachePadded<Mutex<Desk>>>, mut room: Vec<Channel>) -> Vec
         room.push_reserved(desk.into_inner().into_inner().into_channel());
     }
     room
+}
+
+// The desk takes a frame in, and a watcher of its board sees it do so.
+fn frame_watched(desk: &mut Desk, frame: &Frame) -> Result<(FrameReply, Watcher), NoMemory>
+    ensures lawful { IsLawful desk.old.channel.settings desk.old.channel.journal }
+    ensures reply { IfOk result (λ answer. answer.0 ≡ frame_reply desk.old.channel.settings desk.old.channel.journal frame.now) }
+    ensures board { IfOk result (λ answer. answer.1.board ≡ desk.new.board) }
+    ensures seen { IfOk result (λ answer. answer.1.seen ≡ with_event desk.old.channel (Event.Frame frame.now)) }
+    ensures done { OnOk result (desk.new.channel ≡ with_event desk.old.channel (Event.Frame frame.now)) }
+    ensures refused { OnErr result (desk.new ≡ desk.old) }
+{
+    let mut watcher = desk.watcher()?;
+    let reply = desk.frame(frame)?;
+    desk.meet(&mut watcher);
+    Ok((reply, watcher))
 }

@@ -2,6 +2,7 @@ mod closing;
 mod faults;
 mod growth;
 mod refusals;
+mod status;
 mod work;
 
 ghost use Rattle.std.specs.Prelude.{◌≡◌, IfOk};
@@ -108,7 +109,13 @@ impl Manned {
     fn new(alloc: Global, vcids: &[u8]) -> Result<Manned, Fail>
         ensures { IfOk result (λ crew. crew.station.vcids ≡ vcids.now) }
     {
-        let mut station = Station::new(alloc, 42, settings_of(alloc, vcids)?)?;
+        Manned::by(alloc, settings_of(alloc, vcids)?)
+    }
+
+    fn by(alloc: Global, list: Vec<Settings>) -> Result<Manned, Fail>
+        ensures { IfOk result (λ crew. crew.station.vcids ≡ vcids_of list.items) }
+    {
+        let mut station = Station::new(alloc, 42, list)?;
         let operator = station.operators(1)?.pop().ok_or("an operator")?;
         Ok(Manned { station, operator })
     }

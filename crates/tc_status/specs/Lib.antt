@@ -1,1 +1,4 @@
 pub mod Board
+
+-- a board's identity, for the crates above
+pub use Rattle.atomic_table.specs.Seated.{TableId}

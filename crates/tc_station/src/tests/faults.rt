@@ -58,7 +58,8 @@ fn faults_of_octets_have_texts(rt: HostRuntime) -> Result<(), Fail> {
 fn faults_of_operations_have_texts(rt: HostRuntime) -> Result<(), Fail> {
     let alloc = rt.alloc();
     let unknown = "the station has no such virtual channel";
-    check_text(&rt, alloc, &UnknownChannel, unknown)?;
+    check_text(&rt, alloc, &WatcherFault::UnknownChannel, unknown)?;
+    check_text(&rt, alloc, &WatcherFault::NoMemory, "no memory")?;
     check_text(&rt, alloc, &ReleaseRefused::UnknownChannel, unknown)?;
     check_text(&rt, alloc, &ReleaseRefused::Empty, "the buffer is empty")?;
     check_text(&rt, alloc, &ReleaseRefused::NoMemory, "no memory")?;

@@ -8,13 +8,15 @@ use std::process::Abort;
 use std::sync::Wait;
 use tc_channel::{Event, NoMemory, Octets, ReleaseFault, SettingsFault, TakeFault};
 use tc_link::read_frame;
+use tc_status::Watcher;
 
-// A station of one channel with one operator, and the journal that the channel must have.
+// A station of one channel with one operator and one watcher, and the journal that the channel must have.
 #[derive(Drop)]
 struct Short {
     alloc: Global,
     station: Station,
     operator: Operator,
+    watcher: Watcher,
     journal: Vec<Event>,
     ghost ours: { operator.vcids ≡ station.vcids },
 }
@@ -41,6 +43,16 @@ fn new_operators(rt: &impl Abort, station: &mut Station, n: u16) -> Result<Vec<O
     }
 }
 
+fn new_watcher(rt: &(impl Wait + Abort), station: &Station) -> Result<Watcher, Fail> {
+    match station.watcher(rt, 1) {
+        Ok(watcher) => Ok(watcher),
+        Err(fault) => {
+            assert_eq!(rt; fault, WatcherFault::NoMemory);
+            Ok(station.watcher(rt, 1)?)
+        }
+    }
+}
+
 // A copy, where one growth may be refused.
 fn copied(alloc: Global, octets: &[u8]) -> Result<Octets, Fail> {
     match Octets::copied(alloc, octets) {
@@ -50,28 +62,29 @@ fn copied(alloc: Global, octets: &[u8]) -> Result<Octets, Fail> {
 }
 
 impl Short {
-    fn new(rt: &impl Abort, alloc: Global) -> Result<Short, Fail> {
+    fn new(rt: &(impl Wait + Abort), alloc: Global) -> Result<Short, Fail> {
         let mut station = new_station(rt, alloc)?;
         let operator = new_operators(rt, &mut station, 1)?
             .pop()
             .ok_or("an operator")?;
+        let watcher = new_watcher(rt, &station)?;
         Ok(Short {
             alloc,
             station,
             operator,
+            watcher,
             journal: Vec::new(alloc),
         })
     }
 
-    fn word(&self, rt: &impl Wait) -> Result<u32, Fail> {
-        Ok(self.station.clcw(rt, 1, NO_FLAG)?)
+    fn word(&mut self) -> u32 {
+        self.station.watch(&mut self.watcher, NO_FLAG)
     }
 
     // The operator has counted what is in the journal, and the word is this one.
-    fn check(&self, rt: &(impl Wait + Abort), word: u32) -> Result<(), Fail> {
+    fn check(&mut self, rt: &impl Abort, word: u32) {
         assert_eq!(rt; self.operator.count(1), Some(self.journal.len() as u64));
-        assert_eq!(rt; self.word(rt)?, word);
-        Ok(())
+        assert_eq!(rt; self.word(), word);
     }
 
     fn note(&mut self, event: Event) -> Result<(), Fail> {
@@ -88,49 +101,75 @@ impl Short {
         reply: FrameReply,
         word: u32,
     ) -> Result<(), Fail> {
-        let before = self.word(rt)?;
+        let before = self.word();
         let brought = match self.station.bring(rt, &mut self.operator, &FRAME) {
             Ok(brought) => brought,
             Err(fault) => {
                 assert_eq!(rt; fault, BringFault::NoMemory);
-                self.check(rt, before)?;
+                self.check(rt, before);
                 self.station.bring(rt, &mut self.operator, &FRAME)?
             }
         };
         assert_eq!(rt; brought, Brought { vcid: 1, reply });
         let octets = copied(self.alloc, &FRAME)?;
         self.note(Event::Frame(octets))?;
-        self.check(rt, word)
+        self.check(rt, word);
+        Ok(())
+    }
+
+    fn bring_watched(
+        &mut self,
+        rt: &(impl Wait + Abort),
+        reply: FrameReply,
+        word: u32,
+    ) -> Result<(), Fail> {
+        let before = self.word();
+        let (brought, mut own) = match self.station.bring_watched(rt, &mut self.operator, &FRAME) {
+            Ok(answer) => answer,
+            Err(fault) => {
+                assert_eq!(rt; fault, BringFault::NoMemory);
+                self.check(rt, before);
+                self.station.bring_watched(rt, &mut self.operator, &FRAME)?
+            }
+        };
+        assert_eq!(rt; brought, Brought { vcid: 1, reply });
+        assert_eq!(rt; own.read(), word);
+        let octets = copied(self.alloc, &FRAME)?;
+        self.note(Event::Frame(octets))?;
+        self.check(rt, word);
+        Ok(())
     }
 
     fn release(&mut self, rt: &(impl Wait + Abort)) -> Result<(), Fail> {
-        let before = self.word(rt)?;
+        let before = self.word();
         let delivery = match self.station.release(rt, &mut self.operator, 1) {
             Ok(delivery) => delivery,
             Err(fault) => {
                 assert_eq!(rt; fault, ReleaseRefused::NoMemory);
-                self.check(rt, before)?;
+                self.check(rt, before);
                 self.station.release(rt, &mut self.operator, 1)?
             }
         };
         assert_eq!(rt; delivery, ONE);
         self.note(Event::Release)?;
-        self.check(rt, before)
+        self.check(rt, before);
+        Ok(())
     }
 
     fn take(&mut self, rt: &(impl Wait + Abort)) -> Result<(), Fail> {
-        let before = self.word(rt)?;
+        let before = self.word();
         let packet = match self.station.take(rt, &mut self.operator, 1, 5) {
             Ok(packet) => packet,
             Err(fault) => {
                 assert_eq!(rt; fault, TakeRefused::NoMemory);
-                self.check(rt, before)?;
+                self.check(rt, before);
                 self.station.take(rt, &mut self.operator, 1, 5)?
             }
         };
         assert_eq!(rt; packet.as_slice(), PACKET.as_slice());
         self.note(Event::Take(5))?;
-        self.check(rt, before)
+        self.check(rt, before);
+        Ok(())
     }
 
     // Closes the station, whose channel has the journal that it must have.
@@ -139,6 +178,7 @@ impl Short {
             alloc,
             station,
             operator,
+            watcher: _,
             journal,
         } = self;
         let operators = vec_of(alloc, operator)?;
@@ -168,7 +208,8 @@ fn vec_of(alloc: Global, operator: Operator) -> Result<Vec<Operator>, Fail>
 #[test]
 fn growth_of_a_new_station(rt: HostRuntime) -> Result<(), Fail> {
     let station = new_station(&rt, rt.alloc())?;
-    assert_eq!(rt; station.clcw(&rt, 1, NO_FLAG), Ok(0x01040000));
+    let mut watcher = new_watcher(&rt, &station)?;
+    assert_eq!(rt; station.watch(&mut watcher, NO_FLAG), 0x01040000);
     Ok(())
 }
 
@@ -190,21 +231,32 @@ fn growth_of_operators(rt: HostRuntime) -> Result<(), Fail> {
     Ok(())
 }
 
+// The reply to a frame that comes again.
+const BEHIND: FrameReply = FrameReply {
+    act: Act {
+        event: 4,
+        accepted: false,
+    },
+    delivery: NOTHING,
+};
+
 #[test]
 fn growth_of_each_call_of_a_station(rt: HostRuntime) -> Result<(), Fail> {
     let mut short = Short::new(&rt, rt.alloc())?;
     short.bring(&rt, BUFFERED, 0x01040001)?;
     short.release(&rt)?;
     short.take(&rt)?;
-    let behind = FrameReply {
-        act: Act {
-            event: 4,
-            accepted: false,
-        },
-        delivery: NOTHING,
-    };
-    short.bring(&rt, behind, 0x01040001)?;
-    short.bring(&rt, behind, 0x01040001)?;
+    short.bring(&rt, BEHIND, 0x01040001)?;
+    short.bring(&rt, BEHIND, 0x01040001)?;
+    short.close(&rt)
+}
+
+#[test]
+fn growth_of_watched_frames(rt: HostRuntime) -> Result<(), Fail> {
+    let mut short = Short::new(&rt, rt.alloc())?;
+    short.bring_watched(&rt, BUFFERED, 0x01040001)?;
+    short.release(&rt)?;
+    short.bring_watched(&rt, BEHIND, 0x01040001)?;
     short.close(&rt)
 }
 
@@ -214,6 +266,17 @@ fn new_desk(rt: &impl Abort, alloc: Global) -> Result<Desk, Fail> {
         Err(fault) => {
             assert_eq!(rt; fault, SettingsFault::NoMemory);
             Ok(Desk::new(alloc, settings(alloc, 1)?)?)
+        }
+    }
+}
+
+// A watcher of the desk, which then has seen its channel's journal.
+fn new_watcher_of(rt: &impl Abort, desk: &mut Desk) -> Result<Watcher, Fail> {
+    match desk.watcher() {
+        Ok(watcher) => Ok(watcher),
+        Err(NoMemory) => {
+            assert_eq!(rt; told(desk), (0, 0x01040000, 0, Some(0)));
+            Ok(desk.watcher()?)
         }
     }
 }
@@ -232,11 +295,13 @@ fn told(desk: &Desk) -> (usize, u32, usize, Option<usize>) {
 #[test]
 fn growth_of_each_call_of_a_desk(rt: HostRuntime) -> Result<(), Fail> {
     let mut desk = new_desk(&rt, rt.alloc())?;
+    let mut watcher = new_watcher_of(&rt, &mut desk)?;
     let frame = read_frame(&FRAME)?;
     let reply = match desk.frame(&frame) {
         Ok(reply) => reply,
         Err(NoMemory) => {
             assert_eq!(rt; told(&desk), (0, 0x01040000, 0, Some(0)));
+            assert_eq!(rt; watcher.read(), 0x01040000);
             desk.frame(&frame)?
         }
     };
@@ -262,5 +327,6 @@ fn growth_of_each_call_of_a_desk(rt: HostRuntime) -> Result<(), Fail> {
     assert_eq!(rt; desk.take(5).err(), Some(TakeFault::Empty));
     assert_eq!(rt; desk.release(), Err(ReleaseFault::Empty));
     assert_eq!(rt; told(&desk), (3, 0x01040001, 0, Some(0)));
+    assert_eq!(rt; watcher.read(), 0x01040001);
     Ok(())
 }

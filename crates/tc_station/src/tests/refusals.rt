@@ -48,6 +48,8 @@ fn check_unplaced(rt: &(impl Wait + Abort), crew: &mut Manned, octets: &[u8], fa
     }
     let brought = crew.station.bring(rt, &mut crew.operator, octets);
     assert_eq!(rt; brought, Err(BringFault::Locate(fault)));
+    let watched = crew.station.bring_watched(rt, &mut crew.operator, octets);
+    assert_eq!(rt; watched.err(), Some(BringFault::Locate(fault)));
     assert_eq!(rt; crew.operator.count(1), Some(0));
 }
 
@@ -86,7 +88,8 @@ fn operations_on_no_channel_and_on_none_there(rt: HostRuntime) -> Result<(), Fai
     assert_eq!(rt; no_queue.err(), Some(TakeRefused::NoQueue));
     let empty = station.take(&rt, &mut operator, 1, 5);
     assert_eq!(rt; empty.err(), Some(TakeRefused::Empty));
-    assert_eq!(rt; station.clcw(&rt, 2, NO_FLAG), Err(UnknownChannel));
+    let unknown = station.watcher(&rt, 2);
+    assert_eq!(rt; unknown.err(), Some(WatcherFault::UnknownChannel));
     assert_eq!(rt; operator.count(1), Some(0));
     assert_eq!(rt; operator.count(2), None);
     Ok(())
