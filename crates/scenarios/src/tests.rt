@@ -5,6 +5,7 @@ mod packets;
 mod reassembly;
 mod replay;
 mod sharing;
+mod watching;
 
 ghost use Rattle.std.specs.Prelude.{◌≡◌, ◌∷◌, [], IfOk};
 ghost use Rattle.tc_station.specs.StationSettings.{vcids_of};
@@ -57,7 +58,8 @@ fn list_of_two(
     Ok(list)
 }
 
-// A channel's CLCW with both link flags 0, if the station has that channel.
+// A channel's CLCW with both link flags 0, as a new watcher reads it, if the station has that channel.
 fn status_of(station: &Station, rt: &impl Wait, vcid: u8) -> Option<u32> {
-    station.clcw(rt, vcid, NO_FLAG).ok()
+    let mut watcher = station.watcher(rt, vcid).ok()?;
+    Some(station.watch(&mut watcher, NO_FLAG))
 }

@@ -41,9 +41,10 @@ impl Crew {
         Ok(())
     }
 
-    /// Reads the status of a channel.
+    /// Reads the status of a channel, by a new watcher.
     pub(crate) fn status(&self, rt: &impl Wait, vcid: u8, score: &mut Score) -> Result<()> {
-        score.add(u64::from(self.station.clcw(rt, vcid, NO_FLAG)?));
+        let mut watcher = self.station.watcher(rt, vcid)?;
+        score.add(u64::from(self.station.watch(&mut watcher, NO_FLAG)));
         Ok(())
     }
 

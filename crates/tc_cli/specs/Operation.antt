@@ -4,7 +4,8 @@ use Rattle.std.specs.Prelude.{◌≡◌, ℕ, false, List, Contains}
 use Rattle.tc_link.specs.declared.Link.{Link}
 use Rattle.tc_station.specs.Roster.{Roster}
 use Rattle.tc_station.specs.Location.{IsLocateFault}
-use Rattle.tc_station.specs.Moments.{IsBrought, IsReleased, IsTaken, IsReported}
+use Rattle.tc_channel.specs.Reply.{clcw}
+use Rattle.tc_station.specs.Moments.{AtSomeMoment, IsBrought, IsReleased, IsTaken}
 use Rattle.tc_station.specs.Faults.{IsReleaseRefused, IsTakeRefused}
 use Rattle.tc_station.specs.declared.faults.ReleaseRefused.TheVariants as release_refusals
 use Rattle.tc_station.specs.declared.faults.TakeRefused.TheVariants as take_refusals
@@ -55,6 +56,10 @@ IsTakeAnswer station vcid apid (Clcw v word) = ⊥
 abbrev pub no_flags : Link
 no_flags = record { no_rf = false; no_bit_lock = false }
 
+-- the CLCW of a moment of a channel
+abbrev pub IsStatus : ℕ → Type 0
+IsStatus word = AtSomeMoment (λ s journal. word ≡ clcw s journal no_flags)
+
 abbrev pub IsClcwRefusal : Roster → ℕ → Refusal → Type 0
 IsClcwRefusal station vcid (Unlocated fault) = ⊥
 IsClcwRefusal station vcid UnknownChannel = ¬ Contains station.vcids vcid
@@ -62,7 +67,7 @@ IsClcwRefusal station vcid NoQueue = ⊥
 IsClcwRefusal station vcid Empty = ⊥
 
 abbrev pub IsClcwAnswer : Roster → ℕ → Answer → Type 0
-IsClcwAnswer station vcid (Clcw v word) = (v ≡ vcid) × IsReported station vcid no_flags word
+IsClcwAnswer station vcid (Clcw v word) = (v ≡ vcid) × Contains station.vcids vcid × IsStatus word
 IsClcwAnswer station vcid (Refused refusal) = IsClcwRefusal station vcid refusal
 IsClcwAnswer station vcid (Frame v reply) = ⊥
 IsClcwAnswer station vcid (Release v delivery) = ⊥

@@ -78,6 +78,20 @@ impl Configuration {
         Ok(Configuration { channels })
     }
 
+    /// The ids of the channels, in their order.
+    pub(crate) fn vcids(&self, alloc: Global) -> Result<Vec<u8>, Reason>
+        ensures vcids { IfOk result (λ vcids. vcids.items ≡ vcids_of self.now) }
+        ensures reason { IfErr result (λ reason. reason ≡ Reason.NoMemory) }
+    {
+        let Ok(mut vcids) = Vec::with_capacity(alloc, self.channels.len()) else {
+            return Err(Reason::NoMemory);
+        };
+        for settings in &self.channels {
+            vcids.push_reserved(settings.vcid);
+        }
+        Ok(vcids)
+    }
+
     /// A station with these channels.
     pub(crate) fn station(self, alloc: Global, scid: u16) -> Result<Station, Reason>
         requires { scid ≤ 1023 }

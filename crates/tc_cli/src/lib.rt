@@ -15,6 +15,7 @@ mod script;
 mod session;
 #[cfg(test)]
 mod tests;
+mod watchers;
 mod word;
 
 pub use fault::{Reason, ScriptFault};

@@ -1,30 +1,25 @@
 //! A station with its operator, and what the operations of a script are answered.
 
-ghost use Rattle.std.specs.Prelude.{◌≡◌, IfOk, IfErr, OnErr};
+ghost use Rattle.std.specs.Prelude.{◌≡◌, IfOk, IfErr, OnOk, OnErr};
 ghost use Rattle.tc_cli.specs.Manned.{newly_manned, after_answer};
+ghost use Rattle.tc_station.specs.Tally.{fresh};
 ghost use Rattle.tc_cli.specs.Operation.{IsFrameAnswer, IsReleaseAnswer, IsTakeAnswer, IsClcwAnswer};
 
 use crate::answer::{Answer, Refusal};
 use crate::fault::Reason;
+use crate::watchers::Watchers;
+use std::alloc::Global;
 use std::marker::Model;
 use std::sync::Wait;
 use tc_channel::Octets;
-use tc_link::Link;
-use tc_station::{
-    BringFault, Operator, OperatorsFault, ReleaseRefused, Station, TakeRefused, UnknownChannel,
-};
+use tc_station::{BringFault, Operator, OperatorsFault, ReleaseRefused, Station, TakeRefused};
 
-/// Neither link flag is set: the program has no radio.
-pub(crate) const NO_FLAGS: Link = Link {
-    no_rf: false,
-    no_bit_lock: false,
-};
-
-/// A station with the one operator that it has issued.
+/// A station with the one operator that it has issued, and a watcher for each channel.
 #[derive(Drop)]
 pub(crate) struct MannedStation {
     station: Station,
     operator: Operator,
+    watchers: Watchers,
 }
 
 impl Model for MannedStation {
@@ -35,24 +30,30 @@ impl Model for MannedStation {
 
     ghost view = { λ o. record { station = o.station; operator = o.operator } };
 
-    ghost invariant = { λ o. (o.operator.vcids ≡ o.station.vcids) × (o.station.issued ≡ 1) };
+    ghost invariant = { λ o. (o.operator.vcids ≡ o.station.vcids) × (o.station.issued ≡ 1) × (o.watchers ≡ o.station.vcids) };
 }
 
 impl MannedStation {
-    /// A station that has issued no operator yet, with its first one.
-    pub(crate) fn new(mut station: Station) -> Result<MannedStation, Reason>
-        requires { station.issued ≡ 0 }
+    /// A station that has issued no operator yet, with its first one, and with watchers of the
+    /// channels with these ids, which are all.
+    pub(crate) fn new(
+        rt: &impl Wait,
+        alloc: Global,
+        mut station: Station,
+        vcids: Vec<u8>,
+    ) -> Result<MannedStation, Reason>
+        requires new { station.issued ≡ 0 }
+        requires all { vcids.items ≡ station.vcids }
         ensures manned { IfOk result (λ manned. manned ≡ newly_manned station.scid station.vcids) }
         ensures reason { IfErr result (λ reason. reason ≡ Reason.NoMemory) }
     {
-        match station.operators(1) {
-            Ok(mut operators) => match operators.pop() {
-                Some(operator) => Ok(MannedStation { station, operator }),
-                None => unreachable!(),
-            },
-            Err(OperatorsFault::NoMemory) => Err(Reason::NoMemory),
-            Err(OperatorsFault::TooMany) => unreachable!(),
-        }
+        let operator = only_operator(&mut station)?;
+        let watchers = Watchers::new(rt, alloc, &station, vcids)?;
+        Ok(MannedStation {
+            station,
+            operator,
+            watchers,
+        })
     }
 
     /// The station and its operator, apart.
@@ -62,7 +63,11 @@ impl MannedStation {
         ensures ours { result.1.vcids ≡ result.0.vcids }
         ensures one { result.0.issued ≡ 1 }
     {
-        let MannedStation { station, operator } = self;
+        let MannedStation {
+            station,
+            operator,
+            watchers: _,
+        } = self;
         (station, operator)
     }
 
@@ -118,14 +123,31 @@ impl MannedStation {
         }
     }
 
-    /// Reports a channel's CLCW.
-    pub(crate) fn clcw(&self, rt: &impl Wait, vcid: u8) -> Answer
-        ensures answer { IsClcwAnswer self.now.station vcid result }
-        ensures counted { after_answer result self.now ≡ self.now }
+    /// Reports a channel's CLCW, by its watcher.
+    pub(crate) fn clcw(&mut self, vcid: u8) -> Answer
+        ensures answer { IsClcwAnswer self.old.station vcid result }
+        ensures counted { self.new ≡ after_answer result self.old }
     {
-        match self.station.clcw(rt, vcid, NO_FLAGS) {
-            Ok(word) => Answer::Clcw { vcid, word },
-            Err(UnknownChannel) => Answer::Refused(Refusal::UnknownChannel),
+        match self.watchers.watch(&self.station, vcid) {
+            Some(word) => Answer::Clcw { vcid, word },
+            None => Answer::Refused(Refusal::UnknownChannel),
         }
+    }
+}
+
+// The first operator that a station issues.
+fn only_operator(station: &mut Station) -> Result<Operator, Reason>
+    requires { station.old.issued ≡ 0 }
+    ensures operator { IfOk result (λ operator. operator ≡ fresh station.old.vcids) }
+    ensures issued { OnOk result (station.new ≡ record station.old { issued = 1 }) }
+    ensures reason { IfErr result (λ reason. reason ≡ Reason.NoMemory) }
+{
+    match station.operators(1) {
+        Ok(mut operators) => match operators.pop() {
+            Some(operator) => Ok(operator),
+            None => unreachable!(),
+        },
+        Err(OperatorsFault::NoMemory) => Err(Reason::NoMemory),
+        Err(OperatorsFault::TooMany) => unreachable!(),
     }
 }

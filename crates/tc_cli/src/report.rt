@@ -5,7 +5,7 @@ ghost use Rattle.tc_cli.specs.Report.{AreRising, AreBalanced};
 ghost use Rattle.tc_cli.specs.Script.{IsReportFault};
 
 use crate::fault::{Reason, ScriptFault};
-use crate::manned::NO_FLAGS;
+use crate::watchers::NO_FLAGS;
 use std::io;
 use std::io::Write;
 use tc_channel::Channel;

@@ -63,7 +63,7 @@ fn run_lines<W: Write>(
         session = next;
         rest = after;
     }
-    report(alloc, scid, session, line, writer)
+    report(rt, alloc, scid, session, line, writer)
 }
 
 fn perform_line(
@@ -92,6 +92,7 @@ fn write_answer<W: Write>(answer: Option<Answer>, writer: &mut W) -> Result<(), 
 
 // The report at the end of a script with so many lines. Where no channel was set up there is none.
 fn report<W: Write>(
+    rt: &impl Wait,
     alloc: Global,
     scid: u16,
     session: Session,
@@ -101,7 +102,7 @@ fn report<W: Write>(
     requires { scid ≤ 1023 }
     ensures fault { IfErr result (IsReportFault lines) }
 {
-    let manned = match session.start(alloc, scid) {
+    let manned = match session.start(rt, alloc, scid) {
         Ok(manned) => manned,
         Err(Reason::NoChannel) => return Ok(()),
         Err(reason) => {

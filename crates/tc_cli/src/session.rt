@@ -56,23 +56,23 @@ impl Session {
                 Ok((self.add_queue(alloc, vcid, queue)?, None))
             }
             Line::Frame(octets) => {
-                let mut manned = self.start(alloc, scid)?;
+                let mut manned = self.start(rt, alloc, scid)?;
                 let answer = manned.bring(rt, octets.as_slice())?;
                 Ok((Session::Operating(manned), Some(answer)))
             }
             Line::Release(vcid) => {
-                let mut manned = self.start(alloc, scid)?;
+                let mut manned = self.start(rt, alloc, scid)?;
                 let answer = manned.release(rt, vcid)?;
                 Ok((Session::Operating(manned), Some(answer)))
             }
             Line::Take(vcid, apid) => {
-                let mut manned = self.start(alloc, scid)?;
+                let mut manned = self.start(rt, alloc, scid)?;
                 let answer = manned.take(rt, vcid, apid)?;
                 Ok((Session::Operating(manned), Some(answer)))
             }
             Line::Clcw(vcid) => {
-                let manned = self.start(alloc, scid)?;
-                let answer = manned.clcw(rt, vcid);
+                let mut manned = self.start(rt, alloc, scid)?;
+                let answer = manned.clcw(vcid);
                 Ok((Session::Operating(manned), Some(answer)))
             }
         }
@@ -106,7 +106,12 @@ impl Session {
     }
 
     /// The station with its operator, made by what was set up where no operation came before.
-    pub(crate) fn start(self, alloc: Global, scid: u16) -> Result<MannedStation, Reason>
+    pub(crate) fn start(
+        self,
+        rt: &impl Wait,
+        alloc: Global,
+        scid: u16,
+    ) -> Result<MannedStation, Reason>
         requires { scid ≤ 1023 }
         ensures manned { IfOk result (λ manned. manned ≡ manned_for scid self) }
         ensures some { OnOk result (phase_of self ≢ Setup []) }
@@ -114,7 +119,10 @@ impl Session {
     {
         match self {
             Session::Operating(manned) => Ok(manned),
-            Session::SettingUp(list) => MannedStation::new(list.station(alloc, scid)?),
+            Session::SettingUp(list) => {
+                let vcids = list.vcids(alloc)?;
+                MannedStation::new(rt, alloc, list.station(alloc, scid)?, vcids)
+            }
         }
     }
 }

@@ -75,8 +75,12 @@ fn with_zeros(alloc: Global, digits: &str, zeros: usize) -> Result<Vec<u8>, Fail
 }
 
 // Channels that took 64 BD frames whose segments fill them. The first begins a packet of 65,542 octets.
-fn with_a_long_run(rt: &(impl Wait + Abort), alloc: Global) -> Result<Replay, Fail> {
-    let mut replay = Replay::new(alloc, 10, 1, 0)?;
+fn with_a_long_run(
+    rt: &(impl Wait + Abort),
+    alloc: Global,
+    bringing: Bringing,
+) -> Result<Replay, Fail> {
+    let mut replay = Replay::new(alloc, bringing, (10, 1, 0))?;
     let first = with_zeros(alloc, "202a07ff00401005c000ffff", 1_012)?;
     replay.frame(rt, first, accepted(6))?;
     for _ in 0..63 {
@@ -97,22 +101,40 @@ fn queued_at_once() -> Result<FrameReply, FrameFault> {
     })
 }
 
+fn play_the_longest_unit(
+    rt: &(impl Wait + Abort),
+    alloc: Global,
+    bringing: Bringing,
+) -> Result<(), Fail> {
+    let mut replay = with_a_long_run(rt, alloc, bringing)?;
+    let last = with_zeros(alloc, "202a058b0080", 390)?;
+    replay.frame(rt, last, queued_at_once())?;
+    replay.play(rt, &[Clcw(0x01040200)])?;
+    let packet = with_zeros(alloc, "1005c000ffff", 65_536)?;
+    replay.take(rt, 5, Ok(packet));
+    replay.close(rt)
+}
+
 #[test]
 fn the_longest_unit(rt: HostRuntime) -> Result<(), Fail> {
-    let mut replay = with_a_long_run(&rt, rt.alloc())?;
-    let last = with_zeros(rt.alloc(), "202a058b0080", 390)?;
-    replay.frame(&rt, last, queued_at_once())?;
-    replay.play(&rt, &[Clcw(0x01040200)])?;
-    let packet = with_zeros(rt.alloc(), "1005c000ffff", 65_536)?;
-    replay.take(&rt, 5, Ok(packet));
-    replay.close(&rt)
+    play_the_longest_unit(&rt, rt.alloc(), Bringing::Plain)?;
+    play_the_longest_unit(&rt, rt.alloc(), Bringing::Watched)
+}
+
+fn play_a_unit_that_is_too_long(
+    rt: &(impl Wait + Abort),
+    alloc: Global,
+    bringing: Bringing,
+) -> Result<(), Fail> {
+    let mut replay = with_a_long_run(rt, alloc, bringing)?;
+    let last = with_zeros(alloc, "202a058c0080", 391)?;
+    replay.frame(rt, last, accepted(6))?;
+    replay.take(rt, 5, Err(TakeFault::Empty));
+    replay.close(rt)
 }
 
 #[test]
 fn a_unit_that_is_too_long(rt: HostRuntime) -> Result<(), Fail> {
-    let mut replay = with_a_long_run(&rt, rt.alloc())?;
-    let last = with_zeros(rt.alloc(), "202a058c0080", 391)?;
-    replay.frame(&rt, last, accepted(6))?;
-    replay.take(&rt, 5, Err(TakeFault::Empty));
-    replay.close(&rt)
+    play_a_unit_that_is_too_long(&rt, rt.alloc(), Bringing::Plain)?;
+    play_a_unit_that_is_too_long(&rt, rt.alloc(), Bringing::Watched)
 }

@@ -66,23 +66,57 @@ pub(super) enum Step<'a> {
     Events(usize),
 }
 
+// How frames are brought to the station.
+#[derive(Clone, Copy, PartialEq, Eq)]
+pub(super) enum Bringing {
+    Plain,
+    // With a watcher of each frame's channel.
+    Watched,
+}
+
 // A station for spacecraft 42 with virtual channels 1 and 2 and one operator.
 #[derive(Drop)]
 struct Crew {
+    bringing: Bringing,
     station: Station,
     operator: Operator,
     ghost ours: { operator.vcids ≡ station.vcids },
 }
 
 impl Crew {
-    fn new(alloc: Global, first: Settings, second: Settings) -> Result<Crew, Fail> {
+    fn new(
+        alloc: Global,
+        bringing: Bringing,
+        first: Settings,
+        second: Settings,
+    ) -> Result<Crew, Fail> {
         let mut station = Station::new(alloc, 42, list_of_two(alloc, first, second)?)?;
         let operator = station.operators(1)?.pop().ok_or("an operator")?;
-        Ok(Crew { station, operator })
+        Ok(Crew {
+            bringing,
+            station,
+            operator,
+        })
     }
 
-    fn bring(&mut self, rt: &impl Wait, octets: &[u8]) -> Result<Brought, BringFault> {
-        self.station.bring(rt, &mut self.operator, octets)
+    // Brings octets. Where the frame is watched, it also tells what its watcher reads at once.
+    fn bring(
+        &mut self,
+        rt: &impl Wait,
+        octets: &[u8],
+    ) -> Result<(Brought, Option<u32>), BringFault> {
+        match self.bringing {
+            Bringing::Plain => {
+                let brought = self.station.bring(rt, &mut self.operator, octets)?;
+                Ok((brought, None))
+            }
+            Bringing::Watched => {
+                let (brought, mut watcher) = self
+                    .station
+                    .bring_watched(rt, &mut self.operator, octets)?;
+                Ok((brought, Some(self.station.watch(&mut watcher, NO_FLAG))))
+            }
+        }
     }
 
     fn release(&mut self, rt: &impl Wait, vcid: u8) -> Result<Delivery, ReleaseRefused> {
@@ -94,14 +128,19 @@ impl Crew {
     }
 
     fn close(self, alloc: Global) -> Result<Vec<Channel>, Fail> {
-        let Crew { station, operator } = self;
+        let Crew {
+            bringing: _,
+            station,
+            operator,
+        } = self;
         let mut operators = Vec::new(alloc);
         operators.push(operator)?;
         Ok(station.close(operators)?)
     }
 }
 
-// Brings octets to a channel of the station and to one that stands alone, which answer alike.
+// Brings octets to a channel of the station and to one that stands alone, which answer alike. A watcher of the frame at
+// once reads what the one that stands alone tells.
 fn bring_to_both(
     rt: &(impl Wait + Abort),
     crew: &mut Crew,
@@ -113,7 +152,11 @@ fn bring_to_both(
         Ok(frame) => {
             let reply = alone.frame(&frame)?;
             let vcid = alone.settings().vcid;
-            assert_eq!(rt; brought, Ok(Brought { vcid, reply }));
+            let word = match crew.bringing {
+                Bringing::Plain => None,
+                Bringing::Watched => Some(alone.clcw(NO_FLAG)),
+            };
+            assert_eq!(rt; brought, Ok((Brought { vcid, reply }, word)));
             Ok(Ok(reply))
         }
         Err(fault) => {
@@ -207,9 +250,14 @@ pub(super) struct Replay {
 
 impl Replay {
     // The settings are those of channel 1. Channel 2 has the same, but its first V(R) is 100.
-    pub(super) fn new(alloc: Global, width: u8, buffer: u8, first: u8) -> Result<Replay, Fail> {
+    pub(super) fn new(
+        alloc: Global,
+        bringing: Bringing,
+        (width, buffer, first): (u8, u8, u8),
+    ) -> Result<Replay, Fail> {
         let crew = Crew::new(
             alloc,
+            bringing,
             settings(alloc, 1, width, buffer, first)?,
             settings(alloc, 2, width, buffer, 100)?,
         )?;
@@ -330,14 +378,17 @@ pub(super) fn play(rt: &(impl Wait + Abort), alloc: Global, steps: &[Step]) -> R
     play_by(rt, alloc, (10, 1, 0), steps)
 }
 
-// Plays the steps on channels with this width, buffer and first V(R), and closes.
+// Plays the steps on channels with this width, buffer and first V(R), and closes; in each manner of bringing frames.
 pub(super) fn play_by(
     rt: &(impl Wait + Abort),
     alloc: Global,
-    (width, buffer, first): (u8, u8, u8),
+    shape: (u8, u8, u8),
     steps: &[Step],
 ) -> Result<(), Fail> {
-    let mut replay = Replay::new(alloc, width, buffer, first)?;
-    replay.play(rt, steps)?;
-    replay.close(rt)
+    for bringing in [Bringing::Plain, Bringing::Watched] {
+        let mut replay = Replay::new(alloc, bringing, shape)?;
+        replay.play(rt, steps)?;
+        replay.close(rt)?;
+    }
+    Ok(())
 }

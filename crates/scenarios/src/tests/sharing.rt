@@ -18,7 +18,7 @@ fn new_station(alloc: Global) -> Result<Station, Fail>
 }
 
 // The AD frame of 13 octets with this N(S) for virtual channel 1 that carries one packet.
-fn for_channel_1(ns: u8) -> [u8; 13] {
+pub(super) fn for_channel_1(ns: u8) -> [u8; 13] {
     [
         0x00, 0x2a, 0x04, 0x0c, ns, 0xc0, 0x10, 0x05, 0xc0, 0x00, 0x00, 0x00, 0xaa,
     ]
@@ -31,7 +31,7 @@ fn for_channel_2(ns: u8) -> [u8; 13] {
 }
 
 // Brings a frame and releases its channel, whose buffer may be empty again by then. Any other refusal is none that is due.
-fn bring_and_release(
+pub(super) fn bring_and_release(
     rt: &impl Wait,
     station: &Station,
     operator: &mut Operator,

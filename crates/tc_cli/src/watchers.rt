@@ -1,0 +1,99 @@
+//! A watcher for each channel of a station.
+
+ghost use Rattle.std.specs.Prelude.{◌≡◌, ◌<◌, All, Contains, length, vec_len, IfOk, IfErr, MatchOption};
+ghost use Rattle.tc_cli.specs.Operation.{IsStatus};
+
+use crate::fault::Reason;
+use std::alloc::Global;
+use std::marker::Model;
+use std::sync::Wait;
+use tc_link::Link;
+use tc_station::{Station, WatcherFault};
+use tc_status::Watcher;
+
+/// Neither link flag is set: the program has no radio.
+pub(crate) const NO_FLAGS: Link = Link {
+    no_rf: false,
+    no_bit_lock: false,
+};
+
+/// Virtual channel ids, each with a watcher. A contract sees the ids.
+#[derive(Drop)]
+pub(crate) struct Watchers {
+    vcids: Vec<u8>,
+    watchers: Vec<Watcher>,
+}
+
+impl Model for Watchers {
+    ghost use Rattle.std.specs.Prelude.{◌≡◌, List, ℕ, vec_len};
+
+    ghost Value = { List ℕ };
+
+    ghost view = { λ o. o.vcids.items };
+
+    ghost invariant = { λ o. vec_len o.watchers ≡ vec_len o.vcids };
+}
+
+impl Watchers {
+    /// A watcher for each of these channels of a station.
+    pub(crate) fn new(
+        rt: &impl Wait,
+        alloc: Global,
+        station: &Station,
+        vcids: Vec<u8>,
+    ) -> Result<Watchers, Reason>
+        requires { vcids.items ≡ station.now.vcids }
+        ensures vcids { IfOk result (λ watchers. watchers ≡ vcids.items) }
+        ensures reason { IfErr result (λ reason. reason ≡ Reason.NoMemory) }
+    {
+        let watchers = watch_each(rt, alloc, station, &vcids)?;
+        Ok(Watchers { vcids, watchers })
+    }
+
+    /// The CLCW of a channel with one of the ids, with both link flags 0.
+    pub(crate) fn watch(&mut self, station: &Station, vcid: u8) -> Option<u32>
+        ensures ids { self.new ≡ self.old }
+        ensures word { MatchOption result (¬ Contains self.old vcid) (λ word. Contains self.old vcid × IsStatus word) }
+    {
+        let place = place_of(&self.vcids, vcid)?;
+        Some(station.watch(&mut self.watchers[place], NO_FLAGS))
+    }
+}
+
+// A watcher for each of the channels.
+fn watch_each(
+    rt: &impl Wait,
+    alloc: Global,
+    station: &Station,
+    vcids: &[u8],
+) -> Result<Vec<Watcher>, Reason>
+    requires { All (Contains station.now.vcids) vcids.now }
+    ensures each { IfOk result (λ watchers. vec_len watchers ≡ length vcids.now) }
+    ensures reason { IfErr result (λ reason. reason ≡ Reason.NoMemory) }
+{
+    let Ok(mut watchers) = Vec::with_capacity(alloc, vcids.len()) else {
+        return Err(Reason::NoMemory);
+    };
+    for vcid in vcids {
+        watchers.push_reserved(watch_one(rt, station, *vcid)?);
+    }
+    Ok(watchers)
+}
+
+fn watch_one(rt: &impl Wait, station: &Station, vcid: u8) -> Result<Watcher, Reason>
+    requires { Contains station.now.vcids vcid }
+    ensures { IfErr result (λ reason. reason ≡ Reason.NoMemory) }
+{
+    match station.watcher(rt, vcid) {
+        Ok(watcher) => Ok(watcher),
+        Err(WatcherFault::NoMemory) => Err(Reason::NoMemory),
+        Err(WatcherFault::UnknownChannel) => unreachable!(),
+    }
+}
+
+// The place of an id.
+fn place_of(vcids: &[u8], vcid: u8) -> Option<usize>
+    ensures { MatchOption result (¬ Contains vcids.now vcid) (λ place. (place < length vcids.now) × Contains vcids.now vcid) }
+{
+    vcids.iter().position(|v| *v == vcid)
+}
