@@ -2,9 +2,11 @@
 //! frames, release their data fields and take their packets.
 //!
 //! A contract sees a [`Desk`], which is what lies under a lock, as its channel and the board of its status word, and each call
-//! of a desk has the contract of the channel's call. Whenever the lock is free, the word is the CLCW of the channel's journal;
-//! a watcher reads it without the lock. Of a locked value only the type is known, so a call of the [`Station`] promises less: what it answers
-//! is what FARM-1 and the queues answer at some lawful journal. [`Station::close`] ties the journals to the operators' counts.
+//! of a desk has the contract of the channel's call. Whenever the lock is free, the word is the CLCW of the channel's journal,
+//! with both link flags 0; a watcher reads it without the lock.
+//!
+//! Of a locked value only the type is known, so a call of the [`Station`] promises less: what it answers is what FARM-1 and
+//! the queues answer at some lawful journal. [`Station::close`] ties the journals to the operators' counts.
 #![tactic(auto)]
 
 mod closing;
