@@ -80,16 +80,16 @@ fn watch_by_both<R: Threads + Sync>(
 fn bring_and_watch<R: Threads + Wait + Sync>(
     rt: &R,
     station: &Station,
-    operators: (&mut Operator, &mut Operator),
-    watchers: (&mut Watcher, &mut Watcher),
+    one: &mut Operator,
+    two: &mut Operator,
+    first: &mut Watcher,
+    second: &mut Watcher,
 ) -> bool
-    requires one { operators.0.old.vcids ≡ station.now.vcids }
-    requires two { operators.1.old.vcids ≡ station.now.vcids }
-    ensures one { operators.0.new.vcids ≡ operators.0.old.vcids }
-    ensures two { operators.1.new.vcids ≡ operators.1.old.vcids }
+    requires one { one.old.vcids ≡ station.now.vcids }
+    requires two { two.old.vcids ≡ station.now.vcids }
+    ensures one { one.new.vcids ≡ one.old.vcids }
+    ensures two { two.new.vcids ≡ two.old.vcids }
 {
-    let (one, two) = operators;
-    let (first, second) = watchers;
     let mut bring = || -> bool
         requires { IsSync R.row × (one.now.vcids ≡ station.now.vcids) × (two.now.vcids ≡ station.now.vcids) }
         ensures { (one.exit.now.vcids ≡ one.entry.now.vcids) × (two.exit.now.vcids ≡ two.entry.now.vcids) }
@@ -117,12 +117,7 @@ fn no_watcher_sees_v_r_fall(rt: HostRuntime) -> Result<(), Fail> {
     let mut one = operators.pop().ok_or("a first operator")?;
     let mut first = station.watcher(&rt, 1)?;
     let mut second = station.watcher(&rt, 1)?;
-    let done = bring_and_watch(
-        &rt,
-        &station,
-        (&mut one, &mut two),
-        (&mut first, &mut second),
-    );
+    let done = bring_and_watch(&rt, &station, &mut one, &mut two, &mut first, &mut second);
     assert!(rt; done);
     check_last(&rt, &station, &mut first);
     check_last(&rt, &station, &mut second);
