@@ -1,14 +1,20 @@
 -- A configuration has none of the faults that settings of a station may have, but that it is empty.
-use Rattle.std.proofs.Common.{◌≡◌, ℕ, ◌<◌, List, length, get_or, sym, ap, ◌∙◌, subst, arith}
-use Rattle.std.proofs.lemmas.List.{get_or-take, get_or_default, length-take}
+use Rattle.std.proofs.Common.{◌≡◌, ◌≢◌, ℕ, ◌<◌, ◌≤◌, true, eqb, List, length, map, take, get_or, sym, ap, ◌∙◌, subst, arith}
+use Rattle.std.proofs.lemmas.Bool.{eqb-true}
+use Rattle.std.proofs.lemmas.Bool.Decides.{Decides-eqb}
+use Rattle.std.proofs.lemmas.List.{get_or-map, get_or-take, get_or_default, length-map, length-take}
+use Rattle.std.proofs.lemmas.List.Folds.{Any-from_list_any}
+use Rattle.std.proofs.lemmas.Map.Made.{IsDistinct-from_AllPairs}
+use Rattle.std.proofs.lemmas.Map.Steps.{length-le_from_distinct_below}
 use Rattle.std.proofs.lemmas.Option.{get_or_from_slice_get, slice_get_within}
-use Rattle.std.specs.Prelude.{All}
+use Rattle.std.specs.List.{list_any}
+use Rattle.std.specs.Prelude.{All, AllPairs}
 use Rattle.tc_channel.specs.declared.settings.Settings.{Settings}
 use Rattle.tc_channel.specs.declared.settings.SettingsFault.{SettingsFault}
 use Rattle.tc_channel.specs.declared.settings.SettingsFault.TheVariants.{BadVcid, BadWindow, BadBuffer, BadApid, DoubleApid, BadCapacity, NoMemory}
 use Rattle.tc_channel.specs.Settings.{IsAllowed, IsFault}
 use Rattle.tc_station.specs.StationSettings.{HaveDistinctVcids, IsFirstDouble, IsFirstRefused}
-use Rattle.tc_cli.specs.Configuration.{IsAt}
+use Rattle.tc_cli.specs.Configuration.{IsAt, IsConfiguration, settings_of}
 
 pub no-fault : (s : Settings) (f : SettingsFault) → IsAllowed s → IsFault s f → ⊥
 no-fault s BadVcid a h = h a.vcid
@@ -29,6 +35,28 @@ no-double list vcid distinct (i, s, at, v, before, (k, t, kt, is, tv)) =
 pub no-refusal : (list : List Settings) (vcid : ℕ) (f : SettingsFault) → All IsAllowed list → IsFirstRefused list vcid f → ⊥
 no-refusal list vcid f allowed (i, s, at, v, fault, before) =
     no-fault s f (subst IsAllowed (get_or_from_slice_get list i s s at) (allowed i s (slice_get_within list i s at))) fault
+
+-- ids have 6 bits, and no two are the same
+pub few : (list : List Settings) → IsConfiguration list → length list ≤ 64
+few list c =
+    let of : Settings → ℕ = λ s. s.vcid in
+    let none : Settings = settings_of 0 0 0 0 in
+    let apart : AllPairs (λ x y. x ≢ y) (map of list) =
+    λ i j d ij jl. λ same.
+    let jm : j < length list = omega (arith, length-map list of) in
+    let im : i < length list = omega arith in
+    c.distinct i j none ij jm (sym (get_or-map of list i none d im) ∙ (same ∙ get_or-map of list j none d jm))
+    in
+    let small : (q : ℕ) → list_any (eqb q) (map of list) ≡ true → q < 64 =
+    λ q h.
+    let w = Any-from_list_any (eqb q) (map of list) h in
+    let kl : w.0 < length list = omega (arith, length-map list of, w.2) in
+    let a : IsAllowed (get_or list w.0 none) = c.allowed w.0 none kl in
+    let e : q ≡ (get_or list w.0 none).vcid = eqb-true q w.1 w.4 ∙ (sym w.3 ∙ get_or-map of list w.0 none w.1 kl) in
+    let v : (get_or list w.0 none).vcid ≤ 63 = a.vcid in
+    omega (arith, e, v)
+    in
+    rw (← length-map list of) (length-le_from_distinct_below (map of list) 64 (IsDistinct-from_AllPairs Decides-eqb (map of list) apart) small)
 
 -- the settings that stand at the place that was found
 pub found : (list : List Settings) (vcid place : ℕ) (x : Settings) → (s : Settings) × IsAt list vcid place s → x ≡ get_or list place x → IsAt list vcid place x

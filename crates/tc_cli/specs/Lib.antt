@@ -8,3 +8,5 @@ pub mod Manned
 pub mod Operation
 pub mod Session
 pub mod Report
+pub mod Parting
+pub mod Parallel

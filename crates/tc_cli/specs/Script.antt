@@ -58,13 +58,17 @@ IsReadFault known (Line number reason) = (number ≡ 0) × (reason ≡ NoMemory)
 IsReadFault known Write = ⊥
 IsReadFault known Unbalanced = ⊥
 
+-- why the station of a script of so many lines isn't closed in balance
+abbrev pub IsCloseFault : ℕ → ScriptFault → Type 0
+IsCloseFault lines fault = (fault ≡ Unbalanced) ⊎ (fault ≡ Line lines NoMemory)
+
 -- why a script of so many good lines gets no report, or not the whole of it
 abbrev pub IsReportFault : ℕ → ScriptFault → Type 0
-IsReportFault lines Read = ⊥
-IsReportFault lines TooLong = ⊥
-IsReportFault lines (Line number reason) = (number ≡ lines) × (reason ≡ NoMemory)
-IsReportFault lines Write = Unit {0}
-IsReportFault lines Unbalanced = Unit {0}
+IsReportFault lines fault = (fault ≡ Write) ⊎ IsCloseFault lines fault
+
+-- why jobs aren't all done, or their station isn't closed in balance
+abbrev pub IsWorkFault : ScriptFault → Type 0
+IsWorkFault fault = (fault ≡ Unbalanced) ⊎ ((line : ℕ) × (fault ≡ Line line NoMemory))
 
 -- why a script with these octets ends early
 abbrev pub IsFault : List ℕ → ScriptFault → Type 0

@@ -1,8 +1,9 @@
 //! The channels that a script sets up.
 
-ghost use Rattle.std.specs.Prelude.{◌≡◌, ◌≢◌, ◌≤◌, ◌⊎◌, [], IfOk, IfErr, OnOk, MatchOption, MatchResult};
+ghost use Rattle.std.specs.Prelude.{◌≡◌, ◌≢◌, ◌≤◌, ◌⊎◌, [], length, map, IfOk, IfErr, OnOk, MatchOption, MatchResult};
 ghost use Rattle.tc_channel.specs.Settings.{IsAllowed};
 ghost use Rattle.tc_cli.specs.Configuration.{AddsChannel, AddsQueue, IsThere, IsAt, settings_of, with_queue};
+ghost use Rattle.tc_cli.specs.Parting.{empty_list};
 ghost use Rattle.tc_cli.specs.Phase.{IsChannelRefused, IsQueueRefused, IsSettingsReason};
 ghost use Rattle.tc_station.specs.StationSettings.{vcids_of};
 
@@ -11,7 +12,7 @@ use std::alloc::Global;
 use std::marker::Model;
 use std::mem;
 use tc_channel::{Items, QueueSetting, Settings};
-use tc_station::{Station, StationFault};
+use tc_station::{Station, StationFault, WorkList};
 
 /// The settings of the channels so far, in the order of their lines. A station can have them, as
 /// soon as there are some.
@@ -92,6 +93,22 @@ impl Configuration {
         Ok(vcids)
     }
 
+    /// An empty list of jobs for each channel.
+    pub(crate) fn lists(&self, alloc: Global) -> Result<Vec<WorkList>, Reason>
+        ensures lists { IfOk result (λ lists. lists.items ≡ map empty_list self.now) }
+        ensures few { length self.now ≤ 64 }
+        ensures reason { IfErr result (λ reason. reason ≡ Reason.NoMemory) }
+    {
+        let lists = self
+            .channels
+            .iter()
+            .map(|settings| without_jobs(alloc, settings.vcid));
+        match lists.collect(alloc) {
+            Ok(lists) => Ok(lists),
+            Err(_) => Err(Reason::NoMemory),
+        }
+    }
+
     /// A station with these channels.
     pub(crate) fn station(self, alloc: Global, scid: u16) -> Result<Station, Reason>
         requires { scid ≤ 1023 }
@@ -122,6 +139,15 @@ pub(crate) fn without_queues(alloc: Global, vcid: u8, width: u8, buffer: u8, fir
         buffer,
         first,
         queues: Items::from(Vec::new(alloc)),
+    }
+}
+
+fn without_jobs(alloc: Global, vcid: u8) -> WorkList
+    ensures { result ≡ record { vcid = vcid; jobs = [] } }
+{
+    WorkList {
+        vcid,
+        jobs: Items::from(Vec::new(alloc)),
     }
 }
 

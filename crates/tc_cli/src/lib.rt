@@ -1,7 +1,8 @@
 //! Scripts for a telecommand receiver: lines of text are read, checked and answered.
 //!
 //! `run_script` reads a script from a reader, does its lines in order, and writes an answer for each
-//! operation and then a report. `parse_line` reads one line.
+//! operation and then a report. `parallel_script` does the operations of each channel by a worker of its
+//! own, and writes the report alone. `parse_line` reads one line.
 #![tactic(auto)]
 
 mod answer;
@@ -9,6 +10,8 @@ mod configuration;
 mod fault;
 mod line;
 mod manned;
+mod parallel;
+mod parting;
 mod reading;
 mod report;
 mod script;
@@ -20,4 +23,5 @@ mod word;
 
 pub use fault::{Reason, ScriptFault};
 pub use line::{Line, parse_line};
+pub use parallel::parallel_script;
 pub use script::run_script;

@@ -2,7 +2,7 @@
 
 ghost use Rattle.std.specs.Prelude.{◌≡◌, ◌≤◌, All, vec_len, IfOk, IfErr};
 ghost use Rattle.tc_cli.specs.Report.{AreRising, AreBalanced};
-ghost use Rattle.tc_cli.specs.Script.{IsReportFault};
+ghost use Rattle.tc_cli.specs.Script.{IsCloseFault};
 
 use crate::fault::{Reason, ScriptFault};
 use crate::watchers::NO_FLAGS;
@@ -22,7 +22,7 @@ pub(crate) fn close(
     requires all { station.issued ≤ vec_len operators }
     ensures rising { IfOk result (λ channels. AreRising channels.items) }
     ensures balanced { IfOk result (λ channels. AreBalanced station.vcids operators.items channels.items) }
-    ensures fault { IfErr result (IsReportFault lines) }
+    ensures fault { IfErr result (IsCloseFault lines) }
 {
     match station.close(operators) {
         Ok(mut channels) => {

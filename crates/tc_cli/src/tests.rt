@@ -1,6 +1,7 @@
 //! What no clause says: worked scripts, texts, streams that fail, and growths that are refused.
 
 mod growths;
+mod parallel;
 mod scripts;
 mod streams;
 mod texts;

@@ -2,10 +2,11 @@
 //! leaves what stood before, and then answers the same.
 
 use super::{ANSWERS, SCRIPT};
-use crate::{Line, Reason, ScriptFault, parse_line, run_script};
+use crate::{Line, Reason, ScriptFault, parallel_script, parse_line, run_script};
 use std::alloc::Global;
 use std::process::Abort;
 use std::sync::Wait;
+use tc_station::FreeGate;
 
 #[test]
 fn parse_line_growth(rt: HostRuntime) {
@@ -84,4 +85,25 @@ fn report_growth(rt: HostRuntime) {
     let report =
         "final 0 01000000 events 0 buffered 0\nfinal 1 01040000 events 0 buffered 0\nqueue 1 5 0\n";
     check_script(&rt, script, report, 4, 4);
+}
+
+/// Nothing is written unless the whole script is done.
+#[test]
+fn parallel_script_growth(rt: HostRuntime) {
+    let report = "final 1 01040801 events 4 buffered 0\nqueue 1 5 0\n";
+    let mut found = room(&rt, rt.alloc());
+    let mut reader = SCRIPT.as_bytes();
+    let done = parallel_script(&rt, rt.alloc(), &FreeGate, 42, &mut reader, &mut found);
+    if let Err(fault) = done {
+        let ScriptFault::Line { line, reason } = fault else {
+            panic!(rt; "another fault");
+        };
+        assert_eq!(rt; reason, Reason::NoMemory);
+        assert!(rt; line <= 11);
+        assert!(rt; found.is_empty());
+        let mut reader = SCRIPT.as_bytes();
+        let done = parallel_script(&rt, rt.alloc(), &FreeGate, 42, &mut reader, &mut found);
+        assert_eq!(rt; done, Ok(()));
+    }
+    assert_eq!(rt; found.as_slice(), report.as_bytes());
 }

@@ -1,0 +1,31 @@
+-- How far a script is parted: its phase, the jobs so far, and what a line gives to them.
+use Rattle.std.specs.Prelude.{◌≡◌, ℕ}
+use Rattle.tc_station.specs.declared.work.Order.TheVariants as orders
+use Rattle.tc_cli.specs.Parting.{Parted, newly_parted, IsGiven, IsFrameGiven}
+use Rattle.tc_cli.specs.Phase.{Phase, Setup, Operation}
+use Rattle.tc_cli.specs.declared.line.Line.{Line}
+use Rattle.tc_cli.specs.declared.line.Line.TheVariants.{Blank, Channel, Queue, Frame, Release, Take, Clcw}
+use Rattle.tc_cli.specs.declared.parallel.Plan.{Plan}
+use Rattle.tc_cli.specs.declared.parallel.Plan.TheVariants.{SettingUp, Parting}
+
+abbrev pub phase_of : Plan → Phase
+phase_of (SettingUp list) = Setup list
+phase_of (Parting parted) = Operation
+
+-- the jobs that an operation finds: none of a new station where no operation came before
+abbrev pub parted_for : ℕ → Plan → Parted
+parted_for scid (SettingUp list) = newly_parted scid list
+parted_for scid (Parting parted) = parted
+
+abbrev pub Parts : ℕ → (Parted → Parted → Type 0) → Plan → Plan → Type 0
+Parts scid Gives old new = (parted : Parted) × Gives (parted_for scid old) parted × (new ≡ Parting parted)
+
+-- the job of a line is given to its channel; a CLCW is no job, and neither is a line that sets up
+abbrev pub IsParted : ℕ → ℕ → Plan → Line → Plan → Type 0
+IsParted scid line old Blank new = Unit {0}
+IsParted scid line old (Channel vcid width buffer first) new = Unit {0}
+IsParted scid line old (Queue vcid apid capacity) new = Unit {0}
+IsParted scid line old (Frame octets) new = Parts scid (IsFrameGiven line octets) old new
+IsParted scid line old (Release vcid) new = Parts scid (IsGiven vcid (record { line = line; order = orders.Release })) old new
+IsParted scid line old (Take vcid apid) new = Parts scid (IsGiven vcid (record { line = line; order = orders.Take apid })) old new
+IsParted scid line old (Clcw vcid) new = Parts scid (λ before after. after ≡ before) old new

@@ -1,0 +1,138 @@
+//! Jobs, parted by the channels that they are for, and done by a worker for each channel.
+
+ghost use Rattle.std.specs.Prelude.{◌≡◌, ◌≢◌, ◌≤◌, ◌⊎◌, [], IfOk, IfErr, OnOk, MatchOption};
+ghost use Rattle.tc_cli.specs.Parting.{newly_parted, IsGiven, IsFrameGiven, IsListed, IsListAt, IsWorkedOut, with_job};
+ghost use Rattle.tc_cli.specs.Report.{AreRising};
+ghost use Rattle.tc_cli.specs.Script.{IsWorkFault};
+
+use crate::configuration::Configuration;
+use crate::fault::{Reason, ScriptFault};
+use crate::report::close;
+use std::alloc::Global;
+use std::marker::Model;
+use std::mem;
+use std::sync::Wait;
+use std::thread::Threads;
+use tc_channel::{Channel, Items, Octets};
+use tc_station::{Gate, Job, OperatorsFault, Order, Station, WorkFault, WorkList};
+
+/// A station that has issued no operator, and a list of jobs for each of its channels.
+#[derive(Drop)]
+pub(crate) struct Parted {
+    station: Station,
+    lists: Vec<WorkList>,
+}
+
+impl Model for Parted {
+    ghost use Rattle.std.specs.Prelude.{◌≡◌, ◌≤◌, length};
+    ghost use Rattle.tc_cli.specs.Parting.{Parted};
+
+    ghost Value = { Parted };
+
+    ghost view = { λ o. record { station = o.station; lists = o.lists.items } };
+
+    ghost invariant = { λ o. (o.station.issued ≡ 0) × (length o.lists.items ≤ 64) };
+}
+
+impl Parted {
+    /// A station with these channels, and no job yet.
+    pub(crate) fn new(
+        alloc: Global,
+        scid: u16,
+        configuration: Configuration,
+    ) -> Result<Parted, Reason>
+        requires { scid ≤ 1023 }
+        ensures parted { IfOk result (λ parted. parted ≡ newly_parted scid configuration) }
+        ensures some { OnOk result (configuration ≢ []) }
+        ensures reason { IfErr result (λ reason. (reason ≡ Reason.NoMemory) ⊎ ((reason ≡ Reason.NoChannel) × (configuration ≡ []))) }
+    {
+        let lists = configuration.lists(alloc)?;
+        let station = configuration.station(alloc, scid)?;
+        Ok(Parted { station, lists })
+    }
+
+    /// With the octets of a line for the channel that their frame names.
+    pub(crate) fn with_frame(
+        self,
+        alloc: Global,
+        line: u32,
+        octets: Octets,
+    ) -> Result<Parted, Reason>
+        ensures given { IfOk result (IsFrameGiven line octets self) }
+        ensures reason { IfErr result (λ reason. reason ≡ Reason.NoMemory) }
+    {
+        let vcid = match self.station.locate(octets.as_slice()) {
+            Ok(located) => located.vcid,
+            Err(_) => return Ok(self),
+        };
+        let order = Order::Bring(octets);
+        self.with_job(alloc, vcid, Job { line, order })
+    }
+
+    /// With a job for a channel, where there is such a channel.
+    pub(crate) fn with_job(self, alloc: Global, vcid: u8, job: Job) -> Result<Parted, Reason>
+        ensures given { IfOk result (IsGiven vcid job self) }
+        ensures reason { IfErr result (λ reason. reason ≡ Reason.NoMemory) }
+    {
+        let Parted { station, mut lists } = self;
+        let Some(place) = place_of(&lists, vcid) else {
+            return Ok(Parted { station, lists });
+        };
+        let list = &mut lists[place];
+        add_job(alloc, list, job)?;
+        Ok(Parted { station, lists })
+    }
+
+    /// Does the jobs of a script with so many lines, by a worker for each list, and closes the station.
+    pub(crate) fn work<T: Threads + Wait + Sync, G: Gate + Sync>(
+        self,
+        rt: &T,
+        gate: &G,
+        lines: u32,
+    ) -> Result<Vec<Channel>, ScriptFault>
+        ensures rising { IfOk result (λ channels. AreRising channels.items) }
+        ensures worked { IfOk result (λ channels. IsWorkedOut self channels.items) }
+        ensures fault { IfErr result IsWorkFault }
+    {
+        let Parted { mut station, lists } = self;
+        let mut operators = match station.operators(lists.len() as u16) {
+            Ok(operators) => operators,
+            Err(OperatorsFault::NoMemory) => return Err(no_memory(lines)),
+            Err(OperatorsFault::TooMany) => unreachable!(),
+        };
+        match station.work(rt, gate, &mut operators, &lists) {
+            Ok(()) => close(station, operators, lines),
+            Err(WorkFault::NoMemory { line }) => Err(no_memory(line)),
+        }
+    }
+}
+
+// The place of the list of this channel.
+fn place_of(lists: &[WorkList], vcid: u8) -> Option<usize>
+    ensures { MatchOption result (¬ IsListed lists.now vcid) (λ place. (l : WorkList) × IsListAt lists.now vcid place l) }
+{
+    lists.iter().position(|list| list.vcid == vcid)
+}
+
+fn no_memory(line: u32) -> ScriptFault
+    ensures { result ≡ ScriptFault.Line line Reason.NoMemory }
+{
+    ScriptFault::Line {
+        line,
+        reason: Reason::NoMemory,
+    }
+}
+
+// One job more.
+fn add_job(alloc: Global, list: &mut WorkList, job: Job) -> Result<(), Reason>
+    ensures done { OnOk result (list.new ≡ with_job list.old job) }
+    ensures reason { IfErr result (λ reason. reason ≡ Reason.NoMemory) }
+{
+    let there = mem::replace(&mut list.jobs, Items::from(Vec::new(alloc)));
+    let mut jobs = there.into_vec();
+    if jobs.push(job).is_err() {
+        return Err(Reason::NoMemory);
+    }
+    list.jobs = Items::from(jobs);
+    Ok(())
+}
