@@ -1,10 +1,10 @@
 //! The command line.
 
-ghost use Rattle.std.specs.Prelude.{IfOk};
+ghost use Rattle.std.specs.Prelude.{◌≤◌, IfOk, IfSome};
 ghost use Rattle.tcrx.specs.Action.{IsAllowed};
 
 use clap::error::ErrorKind;
-use clap::{Arg, ArgAction, Command, Error, value_parser};
+use clap::{Arg, ArgAction, ArgMatches, Command, Error, value_parser};
 use std::alloc::Global;
 use std::convert::AsStr;
 
@@ -16,6 +16,8 @@ const MAX_SCID: u16 = 1023;
 pub(crate) enum Action {
     /// Do a script for the spacecraft.
     Run { scid: u16 },
+    /// Do a script for the spacecraft, with a worker for each channel.
+    Parallel { scid: u16 },
 }
 
 /// What the words ask for, the program's name first. An error is what to print: help, or why the
@@ -25,33 +27,50 @@ pub(crate) fn judge<'a, S: AsStr>(alloc: Global, words: &'a [S]) -> Result<Actio
 {
     let mut command = command(alloc)?;
     let matches = command.try_get_matches_from_mut(words)?;
-    if let Some(("run", run)) = matches.subcommand() {
-        if let Some(scid) = run.get_one::<u16>("scid") {
-            if scid <= MAX_SCID {
-                return Ok(Action::Run { scid });
-            }
+    if let Some(("run", found)) = matches.subcommand() {
+        if let Some(scid) = scid_of(found) {
+            return Ok(Action::Run { scid });
+        }
+    }
+    if let Some(("parallel", found)) = matches.subcommand() {
+        if let Some(scid) = scid_of(found) {
+            return Ok(Action::Parallel { scid });
         }
     }
     Err(command.error(ErrorKind::MissingSubcommand, "no command is given")?)
 }
 
+fn scid_of(matches: &ArgMatches) -> Option<u16>
+    ensures { IfSome result (λ scid. scid ≤ 1023) }
+{
+    let scid = matches.get_one::<u16>("scid")?;
+    if scid <= MAX_SCID { Some(scid) } else { None }
+}
+
 fn command<'a>(alloc: Global) -> Result<Command<'a>, Error> {
-    let scid = Arg::new(alloc, "scid")
+    let run = Command::new(alloc, "run")
+        .about("Does the lines of a script in order and prints their answers")
+        .arg(spacecraft(alloc))?;
+    let parallel = Command::new(alloc, "parallel")
+        .about("Does a script with a worker for each channel and prints the final report")
+        .arg(spacecraft(alloc))?;
+    let command = Command::new(alloc, "tcrx")
+        .about("Receives telecommand frames: does a script that it reads from standard input")
+        .disable_help_subcommand(true)
+        .subcommand_required(true)
+        .subcommand(run)?
+        .subcommand(parallel)?;
+    Ok(command)
+}
+
+fn spacecraft<'a>(alloc: Global) -> Arg<'a> {
+    Arg::new(alloc, "scid")
         .long("scid")
         .value_name("N")
         .required(true)
         .action(ArgAction::Set)
         .value_parser(value_parser!(u16).range(0..=1023))
-        .help("The spacecraft id, from 0 to 1023");
-    let run = Command::new(alloc, "run")
-        .about("Does the lines of a script in order and prints their answers")
-        .arg(scid)?;
-    let command = Command::new(alloc, "tcrx")
-        .about("Receives telecommand frames: does a script that it reads from standard input")
-        .disable_help_subcommand(true)
-        .subcommand_required(true)
-        .subcommand(run)?;
-    Ok(command)
+        .help("The spacecraft id, from 0 to 1023")
 }
 
 #[cfg(test)]
@@ -96,7 +115,12 @@ mod tests {
         assert_eq!(rt; refused(&rt, &[]), (2, true));
         assert_eq!(rt; refused(&rt, &["tcrx", "walk", "--scid", "1"]), (2, true));
         assert_eq!(rt;
-            refused(&rt, &["tcrx", "parallel", "--scid", "1"]),
+            taken(&rt, &["tcrx", "parallel", "--scid", "1"]),
+            Action::Parallel { scid: 1 }
+        );
+        assert_eq!(rt; refused(&rt, &["tcrx", "parallel"]), (2, true));
+        assert_eq!(rt;
+            refused(&rt, &["tcrx", "parallel", "--scid", "1024"]),
             (2, true)
         );
     }
@@ -105,6 +129,7 @@ mod tests {
     fn help_is_asked_for(rt: HostRuntime) {
         assert_eq!(rt; refused(&rt, &["tcrx", "--help"]), (0, false));
         assert_eq!(rt; refused(&rt, &["tcrx", "run", "--help"]), (0, false));
+        assert_eq!(rt; refused(&rt, &["tcrx", "parallel", "--help"]), (0, false));
     }
 
     /// A growth that is refused is answered with status 2.

@@ -10,8 +10,10 @@ use std::env::Env;
 use std::io::BufWriter;
 use std::process::ExitCode;
 use std::sync::Wait;
+use std::thread::Threads;
 use std::{env, io};
-use tc_cli::{Reason, ScriptFault, run_script};
+use tc_cli::{Reason, ScriptFault, parallel_script, run_script};
+use tc_station::FreeGate;
 
 /// The exit status of a bad command line.
 const BAD_COMMAND_LINE: u8 = 2;
@@ -32,9 +34,13 @@ fn words<R: Env + AllocGlobal>(rt: &R) -> io::Result<Vec<String>> {
 }
 
 // Judges the words before anything is read, and does what they ask for.
-fn obey<R: AllocGlobal + Input + Print + Eprint + Wait>(rt: &R, words: &[String]) -> ExitCode {
+fn obey<R: AllocGlobal + Input + Print + Eprint + Threads + Wait + Sync>(
+    rt: &R,
+    words: &[String],
+) -> ExitCode {
     match judge(rt.alloc(), words) {
-        Ok(Action::Run { scid }) => run(rt, scid),
+        Ok(Action::Run { scid }) => tell(rt, run(rt, scid)),
+        Ok(Action::Parallel { scid }) => tell(rt, parallel(rt, scid)),
         Err(answer) => match answer.print(rt) {
             Ok(()) => ExitCode::from(answer.exit_code() as u8),
             Err(_) => ExitCode::from(BAD_COMMAND_LINE),
@@ -42,10 +48,9 @@ fn obey<R: AllocGlobal + Input + Print + Eprint + Wait>(rt: &R, words: &[String]
     }
 }
 
-fn run<R: AllocGlobal + Input + Print + Eprint + Wait>(rt: &R, scid: u16) -> ExitCode
-    requires { scid ≤ 1023 }
-{
-    match run_on_streams(rt, scid) {
+// The exit status of a script. Why it ended early goes to standard error.
+fn tell<R: Eprint>(rt: &R, done: Result<(), ScriptFault>) -> ExitCode {
+    match done {
         Ok(()) => ExitCode::SUCCESS,
         Err(fault) => {
             let _ = eprintln!(rt; "{fault}");
@@ -54,14 +59,35 @@ fn run<R: AllocGlobal + Input + Print + Eprint + Wait>(rt: &R, scid: u16) -> Exi
     }
 }
 
-fn run_on_streams<R: AllocGlobal + Input + Print + Wait>(rt: &R, scid: u16) -> Result<(), ScriptFault>
+const NO_WRITER: ScriptFault = ScriptFault::Line {
+    line: 0,
+    reason: Reason::NoMemory,
+};
+
+fn run<R: AllocGlobal + Input + Print + Wait>(rt: &R, scid: u16) -> Result<(), ScriptFault>
     requires { scid ≤ 1023 }
 {
     let Ok(mut writer) = BufWriter::new(rt.alloc(), io::writer(rt)) else {
-        return Err(ScriptFault::Line {
-            line: 0,
-            reason: Reason::NoMemory,
-        });
+        return Err(NO_WRITER);
     };
     run_script(rt, rt.alloc(), scid, &mut rt.reader(), &mut writer)
+}
+
+fn parallel<R: AllocGlobal + Input + Print + Threads + Wait + Sync>(
+    rt: &R,
+    scid: u16,
+) -> Result<(), ScriptFault>
+    requires { scid ≤ 1023 }
+{
+    let Ok(mut writer) = BufWriter::new(rt.alloc(), io::writer(rt)) else {
+        return Err(NO_WRITER);
+    };
+    parallel_script(
+        rt,
+        rt.alloc(),
+        &FreeGate,
+        scid,
+        &mut rt.reader(),
+        &mut writer,
+    )
 }
