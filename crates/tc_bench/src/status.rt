@@ -12,6 +12,9 @@ use tc_status::Watcher;
 /// How many reads are timed together.
 const READS: u64 = 50_000_000;
 
+/// How many loads are timed together: enough for the other thread to get a processor of its own meanwhile.
+const LOADS: u64 = 500_000_000;
+
 /// Prints what a read costs alone, and while another thread writes the word.
 pub(crate) fn print<R: Threads + Clock + CpuClock + Sync + AllocGlobal + Print>(
     rt: &R,
@@ -50,11 +53,11 @@ fn print_line(rt: &impl Print, what: &str, cost: Cost) -> Result<()> {
 fn loads<R: Clock + CpuClock>(rt: &R, word: &AtomicU64) -> Result<Cost> {
     let start = Start::now(rt)?;
     let mut sum: u64 = 0;
-    for _ in 0..READS {
+    for _ in 0..LOADS {
         sum = sum.wrapping_add(word.load(Ordering::SeqCst));
     }
-    let cost = start.cost_of_each(rt, READS)?;
-    check_sum(sum)?;
+    let cost = start.cost_of_each(rt, LOADS)?;
+    check_sum(LOADS, sum)?;
     Ok(cost)
 }
 
@@ -65,13 +68,13 @@ fn reads<R: Clock + CpuClock>(rt: &R, watcher: &mut Watcher) -> Result<Cost> {
         sum = sum.wrapping_add(u64::from(watcher.read()));
     }
     let cost = start.cost_of_each(rt, READS)?;
-    check_sum(sum)?;
+    check_sum(READS, sum)?;
     Ok(cost)
 }
 
-// Each read gave the one word.
-fn check_sum(sum: u64) -> Result<()> {
-    if sum == READS.wrapping_mul(STATUS) {
+// So many reads gave the one word each.
+fn check_sum(count: u64, sum: u64) -> Result<()> {
+    if sum == count.wrapping_mul(STATUS) {
         Ok(())
     } else {
         Err(anyhow!("another word was read"))
