@@ -95,10 +95,11 @@ pub type WordTable = Table<(), View, Channel, BoardRule, Global>;
 /// A seat at a board, which has no bytes.
 pub type BoardSeat = Seat<(), View>;
 
-/// The word's table, and after it octets that are never used: what each read touches lies on other cache lines than the
-/// next channel's fields.
+/// The word's table, between octets that are never used. Those before it keep what a read goes through off the pair of
+/// cache lines that the word lies on, which processors fetch together; those after it keep it off the next channel's.
 #[derive(Drop)]
 pub struct Board {
+    pub before: [u64; 16],
     pub table: WordTable,
-    pub apart: [u64; 8],
+    pub after: [u64; 16],
 }

@@ -48,8 +48,9 @@ impl Publisher {
             return Err(NoMemory);
         };
         let board = Board {
+            before: [0; 16],
             table,
-            apart: [0; 8],
+            after: [0; 16],
         };
         let Ok(board) = Arc::new(alloc, board) else {
             return Err(NoMemory);
