@@ -3,7 +3,8 @@
 //!
 //! The file `index` has a line for each case, in the order of their names: the name, the spacecraft
 //! id, and the text of the fault with which the script ends, if it does. `NAME.script` is the script,
-//! and `NAME.out` what it is answered. Scripts at the limit of their size are made here.
+//! `NAME.out` what it is answered line by line, and `NAME.parallel.out` what is reported of it where each
+//! channel has a worker. Scripts at the limit of their size are made here.
 #![tactic(auto)]
 
 ghost use Rattle.std.specs.Prelude.{◌≤◌};
@@ -15,11 +16,12 @@ mod outcome;
 use anyhow::{Context, Result, anyhow};
 use case::{Case, parse_case};
 use large::large_cases;
-use outcome::{compare, perform};
+use outcome::{Command, compare, perform};
 use std::fs;
 use std::process::ExitCode;
 use std::rt::Files;
 use std::sync::Wait;
+use std::thread::Threads;
 
 fn main(rt: HostRuntime) -> ExitCode {
     match check_all(&rt) {
@@ -49,7 +51,7 @@ impl Tally {
 }
 
 // Prints how many cases agree, and each that doesn't. Answers whether all do.
-fn check_all<R: Files + AllocGlobal + Print + Wait>(rt: &R) -> Result<bool> {
+fn check_all<R: Files + AllocGlobal + Print + Threads + Wait + Sync>(rt: &R) -> Result<bool> {
     let mut tally = Tally {
         cases: 0,
         agreeing: 0,
@@ -61,7 +63,10 @@ fn check_all<R: Files + AllocGlobal + Print + Wait>(rt: &R) -> Result<bool> {
     Ok(agreeing == cases)
 }
 
-fn check_index<R: Files + AllocGlobal + Print + Wait>(rt: &R, tally: &mut Tally) -> Result<()> {
+fn check_index<R: Files + AllocGlobal + Print + Threads + Wait + Sync>(
+    rt: &R,
+    tally: &mut Tally,
+) -> Result<()> {
     let index = fs::read_to_string(rt, "index").context("index")?;
     let mut last = b"".as_slice();
     for line in index.as_str().lines() {
@@ -74,7 +79,22 @@ fn check_index<R: Files + AllocGlobal + Print + Wait>(rt: &R, tally: &mut Tally)
         last = case.name.as_bytes();
         let script = read(rt, format!(in rt.alloc(); "{}.script", case.name)?)?;
         let answers = read(rt, format!(in rt.alloc(); "{}.out", case.name)?)?;
-        tally.count(agrees(rt, &case, script.as_slice(), answers.as_slice())?);
+        let report = read(rt, format!(in rt.alloc(); "{}.parallel.out", case.name)?)?;
+        let runs = agrees(
+            rt,
+            &case,
+            Command::Run,
+            script.as_slice(),
+            answers.as_slice(),
+        )?;
+        let works = agrees(
+            rt,
+            &case,
+            Command::Parallel,
+            script.as_slice(),
+            report.as_slice(),
+        )?;
+        tally.count(runs && works);
     }
     Ok(())
 }
@@ -86,32 +106,38 @@ fn read<R: Files + AllocGlobal>(rt: &R, path: String) -> Result<Vec<u8>> {
     }
 }
 
-fn check_large<R: AllocGlobal + Print + Wait>(rt: &R, tally: &mut Tally) -> Result<()> {
+fn check_large<R: AllocGlobal + Print + Threads + Wait + Sync>(
+    rt: &R,
+    tally: &mut Tally,
+) -> Result<()> {
     for large in large_cases(rt.alloc())? {
         let case = Case {
             name: large.name,
             scid: 42,
             fault: large.fault,
         };
-        tally.count(agrees(rt, &case, large.script.as_slice(), b"")?);
+        let runs = agrees(rt, &case, Command::Run, large.script.as_slice(), b"")?;
+        let works = agrees(rt, &case, Command::Parallel, large.script.as_slice(), b"")?;
+        tally.count(runs && works);
     }
     Ok(())
 }
 
 // Whether a script leads to what it is to lead to. Where it doesn't, it is told.
-fn agrees<R: AllocGlobal + Print + Wait>(
+fn agrees<R: AllocGlobal + Print + Threads + Wait + Sync>(
     rt: &R,
     case: &Case,
+    command: Command,
     script: &[u8],
     answers: &[u8],
 ) -> Result<bool>
     requires { case.now.scid ≤ 1023 }
 {
-    let outcome = perform(rt, rt.alloc(), case.scid, script)?;
+    let outcome = perform(rt, rt.alloc(), command, case.scid, script)?;
     match compare(&outcome, answers, case.fault) {
         None => Ok(true),
         Some(difference) => {
-            println!(rt; "{}: {difference}", case.name)?;
+            println!(rt; "{command} {}: {difference}", case.name)?;
             Ok(false)
         }
     }

@@ -5,7 +5,9 @@ ghost use Rattle.std.specs.Prelude.{◌≡◌, ◌≤◌, ◌↔◌, IsNone, str
 use std::alloc::{AllocError, Global};
 use std::fmt;
 use std::sync::Wait;
-use tc_cli::run_script;
+use std::thread::Threads;
+use tc_cli::{parallel_script, run_script};
+use tc_station::FreeGate;
 
 /// What a script is answered, and the text of the fault with which it ends.
 #[derive(Debug, Drop)]
@@ -22,10 +24,29 @@ pub(crate) enum Difference<'a> {
     Fault { found: &'a str, expected: &'a str },
 }
 
+/// How a script is done.
+#[derive(Clone, Copy, Debug)]
+pub(crate) enum Command {
+    /// Line by line, with an answer for each operation.
+    Run,
+    /// With a worker for each channel, and the final report alone.
+    Parallel,
+}
+
+impl fmt::Display for Command {
+    fn fmt<W: fmt::Write>(&self, f: &mut fmt::Formatter<W>) -> fmt::Result {
+        f.write_str(match self {
+            Command::Run => "run",
+            Command::Parallel => "parallel",
+        })
+    }
+}
+
 /// Does a script in memory.
-pub(crate) fn perform<T: Wait>(
+pub(crate) fn perform<T: Threads + Wait + Sync>(
     rt: &T,
     alloc: Global,
+    command: Command,
     scid: u16,
     script: &[u8],
 ) -> Result<Outcome, AllocError>
@@ -33,7 +54,13 @@ pub(crate) fn perform<T: Wait>(
 {
     let mut reader = script;
     let mut answers = Vec::new(alloc);
-    let fault = match run_script(rt, alloc, scid, &mut reader, &mut answers) {
+    let done = match command {
+        Command::Run => run_script(rt, alloc, scid, &mut reader, &mut answers),
+        Command::Parallel => {
+            parallel_script(rt, alloc, &FreeGate, scid, &mut reader, &mut answers)
+        }
+    };
+    let fault = match done {
         Ok(()) => String::new(alloc),
         Err(fault) => fault.to_string(alloc)?,
     };
