@@ -1,10 +1,10 @@
 -- What the operations of a script are answered. Of a channel in its lock only the type is known, so each answer is the one
 -- at some moment of some channel.
-use Rattle.std.specs.Prelude.{◌≡◌, ℕ, false, List, Contains}
-use Rattle.tc_link.specs.declared.Link.{Link}
+use Rattle.std.specs.Prelude.{◌≡◌, ℕ, List, Contains}
 use Rattle.tc_station.specs.Roster.{Roster}
 use Rattle.tc_station.specs.Location.{IsLocateFault}
 use Rattle.tc_channel.specs.Reply.{clcw}
+use Rattle.tc_status.specs.Board.{no_flag}
 use Rattle.tc_station.specs.Moments.{AtSomeMoment, IsBrought, IsReleased, IsTaken}
 use Rattle.tc_station.specs.Faults.{IsReleaseRefused, IsTakeRefused}
 use Rattle.tc_station.specs.declared.faults.ReleaseRefused.TheVariants as release_refusals
@@ -53,12 +53,9 @@ IsTakeAnswer station vcid apid (Frame v reply) = ⊥
 IsTakeAnswer station vcid apid (Release v delivery) = ⊥
 IsTakeAnswer station vcid apid (Clcw v word) = ⊥
 
-abbrev pub no_flags : Link
-no_flags = record { no_rf = false; no_bit_lock = false }
-
--- the CLCW of a moment of a channel
+-- the CLCW of a moment of a channel, with both link flags 0
 abbrev pub IsStatus : ℕ → Type 0
-IsStatus word = AtSomeMoment (λ s journal. word ≡ clcw s journal no_flags)
+IsStatus word = AtSomeMoment (λ s journal. word ≡ clcw s journal no_flag)
 
 abbrev pub IsClcwRefusal : Roster → ℕ → Refusal → Type 0
 IsClcwRefusal station vcid (Unlocated fault) = ⊥

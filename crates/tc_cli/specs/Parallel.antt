@@ -20,9 +20,9 @@ parted_for scid (Parting parted) = parted
 abbrev pub Parts : ℕ → (Parted → Parted → Type 0) → Plan → Plan → Type 0
 Parts scid Gives old new = (parted : Parted) × Gives (parted_for scid old) parted × (new ≡ Parting parted)
 
--- the job of a line is given to its channel; a CLCW is no job, and neither is a line that sets up
+-- the job of a line is given to its channel; a CLCW is no job, and neither is a blank line. What a line sets up is told by its phase
 abbrev pub IsParted : ℕ → ℕ → Plan → Line → Plan → Type 0
-IsParted scid line old Blank new = Unit {0}
+IsParted scid line old Blank new = new ≡ old
 IsParted scid line old (Channel vcid width buffer first) new = Unit {0}
 IsParted scid line old (Queue vcid apid capacity) new = Unit {0}
 IsParted scid line old (Frame octets) new = Parts scid (IsFrameGiven line octets) old new

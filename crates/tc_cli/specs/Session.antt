@@ -25,9 +25,9 @@ abbrev pub IsOperated : ℕ → (Roster → Answer → Type 0) → Session → S
 IsOperated scid IsAnswer old new answer =
     (a : Answer) × IsAnswer (manned_for scid old).station a × (answer ≡ Some a) × (new ≡ Operating (after_answer a (manned_for scid old)))
 
--- what a line is answered: an operation its answer, and any other line nothing
+-- what a line is answered: an operation its answer, and any other line nothing; a blank line leaves all as it is
 abbrev pub IsAnswered : ℕ → Session → Line → Session → Option Answer → Type 0
-IsAnswered scid old Blank new answer = answer ≡ None
+IsAnswered scid old Blank new answer = (answer ≡ None) × (new ≡ old)
 IsAnswered scid old (Channel vcid width buffer first) new answer = answer ≡ None
 IsAnswered scid old (Queue vcid apid capacity) new answer = answer ≡ None
 IsAnswered scid old (Frame octets) new answer = IsOperated scid (λ station. IsFrameAnswer station octets) old new answer
