@@ -1,6 +1,6 @@
 //! Two threads, each with an operator of its own, make operations on one station.
 
-ghost use Rattle.std.specs.Prelude.{◌≡◌, IfOk};
+ghost use Rattle.std.specs.Prelude.{◌≡◌};
 
 use super::*;
 use std::process::Abort;
@@ -9,28 +9,26 @@ use tc_channel::Channel;
 use tc_station::{CloseFault, ReleaseRefused};
 
 // Channels 1 and 2 with the window 10, room for 64 fields and V(R) 0 first.
-fn new_station(alloc: Global) -> Result<Station, Fail>
-    ensures { IfOk result (λ station. station.issued ≡ 0) }
-{
+fn new_station(alloc: Global) -> Result<Station, Fail> {
     let first = settings(alloc, 1, 10, 64, 0)?;
     let second = settings(alloc, 2, 10, 64, 0)?;
     Ok(Station::new(alloc, 42, list_of_two(alloc, first, second)?)?)
 }
 
-// The AD frame of 13 octets with this N(S) for virtual channel 1 that carries one packet.
-pub(super) fn for_channel_1(ns: u8) -> [u8; 13] {
+// The third octet of the frames for virtual channels 1 and 2.
+pub(super) const TO_CHANNEL_1: u8 = 0x04;
+
+const TO_CHANNEL_2: u8 = 0x08;
+
+// The AD frame of 13 octets with this third octet and this N(S) that carries one packet.
+pub(super) fn ad_frame(third: u8, ns: u8) -> [u8; 13] {
     [
-        0x00, 0x2a, 0x04, 0x0c, ns, 0xc0, 0x10, 0x05, 0xc0, 0x00, 0x00, 0x00, 0xaa,
+        0x00, 0x2a, third, 0x0c, ns, 0xc0, 0x10, 0x05, 0xc0, 0x00, 0x00, 0x00, 0xaa,
     ]
 }
 
-fn for_channel_2(ns: u8) -> [u8; 13] {
-    [
-        0x00, 0x2a, 0x08, 0x0c, ns, 0xc0, 0x10, 0x05, 0xc0, 0x00, 0x00, 0x00, 0xaa,
-    ]
-}
-
-// Brings a frame and releases its channel, whose buffer may be empty again by then. Any other refusal is none that is due.
+// Brings a frame and releases its channel, whose buffer the other thread may have emptied by then. Says whether nothing
+// else was refused.
 pub(super) fn bring_and_release(
     rt: &impl Wait,
     station: &Station,
@@ -50,7 +48,7 @@ pub(super) fn bring_and_release(
     }
 }
 
-// 300 turns on channel 1 and then on channel 2, with rising numbers. Says whether no refusal came that isn't due.
+// 300 turns on channel 1 and then on channel 2, with rising numbers. Says whether nothing else was refused.
 fn take_turns(rt: &impl Wait, station: &Station, operator: &mut Operator) -> bool
     requires { operator.old.vcids ≡ station.now.vcids }
     ensures { operator.new.vcids ≡ operator.old.vcids }
@@ -58,8 +56,8 @@ fn take_turns(rt: &impl Wait, station: &Station, operator: &mut Operator) -> boo
     let mut done = true;
     for turn in 0..300u16 {
         let ns = (turn % 256) as u8;
-        let first = bring_and_release(rt, station, operator, 1, &for_channel_1(ns));
-        let second = bring_and_release(rt, station, operator, 2, &for_channel_2(ns));
+        let first = bring_and_release(rt, station, operator, 1, &ad_frame(TO_CHANNEL_1, ns));
+        let second = bring_and_release(rt, station, operator, 2, &ad_frame(TO_CHANNEL_2, ns));
         done = done && first && second;
     }
     done

@@ -3,21 +3,22 @@
 ghost use Rattle.std.specs.Prelude.{◌≡◌};
 ghost use Rattle.std.specs.Thread.{IsSync};
 
-use super::sharing::{bring_and_release, for_channel_1};
+use super::sharing::{TO_CHANNEL_1, ad_frame, bring_and_release};
 use super::*;
 use std::process::Abort;
 use std::thread::{Threads, join_mut};
 use tc_link::read_clcw;
 use tc_status::Watcher;
 
-// Brings the frames with N(S) 0 to 119, with a release after each. Says whether no refusal came that isn't due.
+// Brings the frames with N(S) 0 to 119, with a release after each. Says whether nothing else was refused than a release
+// of a buffer that the other thread had emptied.
 fn bring_all(rt: &impl Wait, station: &Station, operator: &mut Operator) -> bool
     requires { operator.old.vcids ≡ station.now.vcids }
     ensures { operator.new.vcids ≡ operator.old.vcids }
 {
     let mut done = true;
     for ns in 0..120u8 {
-        done = bring_and_release(rt, station, operator, 1, &for_channel_1(ns)) && done;
+        done = bring_and_release(rt, station, operator, 1, &ad_frame(TO_CHANNEL_1, ns)) && done;
     }
     done
 }
