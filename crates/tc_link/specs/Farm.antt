@@ -1,4 +1,4 @@
--- The table of FARM-1 (this project's profile of CCSDS 232.1-B).
+-- The table of FARM-1 (this project's profile of CCSDS 232.1-B, 6.3).
 use Rattle.std.specs.Prelude.{ℕ, ◌+◌, ◌%◌, Bool, true, false, Option, Some, None, unwrap_or}
 use Rattle.tc_link.specs.declared.command.Command.{Command}
 use Rattle.tc_link.specs.declared.command.Command.TheVariants.{Unlock, SetVr}

@@ -270,6 +270,7 @@ impl Farm {
         }
     }
 
+    /// The six components. A caller of [`Farm::step`] reads here whether the state is S2.
     pub fn report(&self) -> Report
         ensures report { result ≡ self.now.report }
         ensures farm_b { result.farm_b < 4 }

@@ -1,6 +1,6 @@
 //! Transfer frames.
 
-ghost use Rattle.std.specs.Prelude.{◌≡◌, ◌<◌, ◌≤◌, ℕ, List, length, drop, take, IfOk, OnErr, MatchResult};
+ghost use Rattle.std.specs.Prelude.{◌≡◌, ◌≤◌, ℕ, List, length, drop, IfOk, OnErr, MatchResult};
 ghost use Rattle.tc_link.specs.Command.{kind_of};
 ghost use Rattle.tc_link.specs.Frame.{IsWhole, BeginsWith, header_of, fault_of};
 
@@ -61,6 +61,7 @@ impl<'a> Frame<'a> {
         self.octets
     }
 
+    /// What the primary header says, apart from the length. It allocates nothing.
     pub fn header(&self) -> Header
         ensures { result ≡ header_of self.now }
     {

@@ -1,17 +1,17 @@
 //! Laws over the definitions of this layer.
 
-ghost use Rattle.std.specs.Prelude.{◌≡◌, ◌≢◌, ◌⊎◌, ◌<◌, ◌≤◌, ◌+◌, ◌-◌, ◌%◌, ◌^◌, ◌++◌, ◌↔◌, ℕ, Bool, List, false, IsSome, IsTrue};
+ghost use Rattle.std.specs.Prelude.{◌≡◌, ◌≢◌, ◌⊎◌, ◌<◌, ◌≤◌, ◌+◌, ◌%◌, ◌^◌, ◌++◌, ◌↔◌, ℕ, Bool, List, false, IsSome, IsTrue};
 ghost use Rattle.tc_link.specs.declared.frame.Header.{Header};
 ghost use Rattle.tc_link.specs.declared.command.Kind.{Kind};
 ghost use Rattle.tc_link.specs.declared.farm.Report.{Report};
-ghost use Rattle.tc_link.specs.declared.farm.State.TheVariants.{S1, S3};
+ghost use Rattle.tc_link.specs.declared.farm.State.TheVariants.{S1, S2, S3};
 ghost use Rattle.tc_link.specs.declared.clcw.Link.{Link};
 ghost use Rattle.tc_link.specs.Frame.{IsFrame, IsHeader, IsField, IsWhole, BeginsWith};
 ghost use Rattle.tc_link.specs.Window.{some_of_first};
-ghost use Rattle.tc_link.specs.Farm.{Row, E1, E8, entry, frame_row, after};
+ghost use Rattle.tc_link.specs.Farm.{Row, E1, E8, E10, entry, frame_row, after};
 ghost use Rattle.tc_link.specs.Clcw.{IsClcw, word_of, fields_of, reported};
 
-/// At most one prefix of any octets is a frame.
+/// No octets begin with two different frames.
 pub fn each_input_begins_with_one_frame_at_most()
     ensures { (octets one other : List ℕ) → BeginsWith octets one → BeginsWith octets other → one ≡ other }
 {}
@@ -31,9 +31,11 @@ pub fn some_of_the_first_is_some_number()
     ensures { (n : ℕ) (passes : ℕ → Bool) → IsTrue (some_of_first n passes) ↔ ((k : ℕ) × (1 ≤ k) × (k ≤ n) × IsTrue (passes k)) }
 {}
 
-/// Where no AD frame finds room in S2, the table has an entry for every frame.
-pub fn an_ad_frame_without_room_has_an_entry()
-    ensures { (width : ℕ) (r : Report) (kind : Kind) → IsSome (entry (frame_row width r.vr kind false) r) }
+/// Where an AD frame that comes in S2 finds no room, the table has an entry for every arrival.
+pub fn each_arrival_has_an_entry()
+    ensures frame { (width : ℕ) (r : Report) (kind : Kind) (room : Bool) → ((ns : ℕ) → kind ≡ Kind.Ad ns → r.state ≡ S2 → room ≡ false)
+        → IsSome (entry (frame_row width r.vr kind room) r) }
+    ensures release { (r : Report) → IsSome (entry E10 r) }
 {}
 
 /// V(R) changes by one where an expected frame is accepted, to the number of a Set V(R) in S1 or S2, and in no other way.

@@ -204,6 +204,7 @@ fn growth_of_a_written_frame(rt: HostRuntime) -> Result<(), Fail> {
     let octets = match write_frame(rt.alloc(), &HEADER, &FIELD) {
         Ok(octets) => octets,
         Err(fault) => {
+            let _ = println!(rt; "refused: write_frame");
             assert_eq!(rt; fault, WriteFault::NoMemory);
             write_frame(rt.alloc(), &HEADER, &FIELD)?
         }

@@ -1,6 +1,6 @@
 //! Writing transfer frames.
 
-ghost use Rattle.std.specs.Prelude.{◌≡◌, ◌<◌, ◌≤◌, ◌+◌, None, length, unwrap_or, IfOk, IfErr, OnOk};
+ghost use Rattle.std.specs.Prelude.{◌≡◌, ◌<◌, ◌≤◌, None, length, unwrap_or, IfOk, IfErr, OnOk};
 ghost use Rattle.tc_link.specs.Frame.{IsFrame, IsOctets, header_of, version_of, spare_of, named_length, write_fault_of};
 
 use crate::frame::Header;
