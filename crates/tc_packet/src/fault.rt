@@ -9,13 +9,13 @@ use thiserror::Error;
 pub struct NoMemory;
 
 impl From<AllocError> for NoMemory {
-    fn from(_e: AllocError) -> NoMemory {
+    fn from(_error: AllocError) -> NoMemory {
         NoMemory
     }
 }
 
 impl<T: Drop> From<AllocFailed<T>> for NoMemory {
-    fn from(_e: AllocFailed<T>) -> NoMemory {
+    fn from(_error: AllocFailed<T>) -> NoMemory {
         NoMemory
     }
 }

@@ -10,7 +10,7 @@ pub fn each_unit_has_one_cut()
     ensures only { (unit : List ℕ) (ps : List (List ℕ)) (rest : List ℕ) → IsCut unit ps rest → (ps ≡ packets_of unit) × (rest ≡ rest_of unit) }
 {}
 
-/// At most one prefix of any octets is a packet.
+/// No octets begin with two different packets.
 pub fn each_input_begins_with_one_packet_at_most()
     ensures { (octets : List ℕ) (n m : ℕ) → IsPacket (take n octets) → IsPacket (take m octets) → take n octets ≡ take m octets }
 {}

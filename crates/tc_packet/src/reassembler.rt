@@ -53,7 +53,7 @@ impl Reassembler {
         Ok(Reassembler { alloc, runs })
     }
 
-    /// The unit that this field would end, in a list of its own.
+    /// The unit that this field would end, in a list of its own, which is the one allocation.
     #[tactic(auto, using(crate::proofs::KeptRuns::read_within))]
     pub fn unit_after(&self, service: Service, field: &[u8]) -> Result<Option<Vec<u8>>, NoMemory>
         requires { 0 < length field.now }

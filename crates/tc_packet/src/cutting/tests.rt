@@ -46,7 +46,10 @@ fn growth_of_a_cut(rt: HostRuntime) -> Result<(), Fail> {
     let unit = packets.as_flattened();
     let made = match cut(rt.alloc(), unit) {
         Ok(made) => made,
-        Err(NoMemory) => cut(rt.alloc(), unit)?,
+        Err(NoMemory) => {
+            let _ = println!(rt; "refused: cut");
+            cut(rt.alloc(), unit)?
+        }
     };
     check_cut(&rt, &made, 5, b"");
     Ok(())

@@ -33,10 +33,13 @@ fn check_only_run(rt: &impl Abort, reassembler: &Reassembler, expected: Option<&
     }
 }
 
-fn new(rt: &impl Abort, alloc: Global) -> Result<Reassembler, Fail> {
+fn new(rt: &(impl Abort + Print), alloc: Global) -> Result<Reassembler, Fail> {
     let reassembler = match Reassembler::new(alloc) {
         Ok(reassembler) => reassembler,
-        Err(NoMemory) => Reassembler::new(alloc)?,
+        Err(NoMemory) => {
+            let _ = println!(rt; "refused: Reassembler::new");
+            Reassembler::new(alloc)?
+        }
     };
     check_only_run(rt, &reassembler, None);
     Ok(reassembler)
@@ -44,7 +47,7 @@ fn new(rt: &impl Abort, alloc: Global) -> Result<Reassembler, Fail> {
 
 // Takes a field, and checks the unit and the open run before and after.
 fn push(
-    rt: &impl Abort,
+    rt: &(impl Abort + Print),
     reassembler: &mut Reassembler,
     field: &[u8],
     run: [Option<&[u8]>; 2],
@@ -56,6 +59,8 @@ fn push(
     let unit = match reassembler.push(Service::Bd, field) {
         Ok(unit) => unit,
         Err(NoMemory) => {
+            let part = read_segment(field[0]).part;
+            let _ = println!(rt; "refused: push, {part:?}");
             check_only_run(rt, reassembler, before);
             reassembler.push(Service::Bd, field)?
         }
@@ -66,7 +71,7 @@ fn push(
 }
 
 // A reassembler with `SHORT_RUN` open.
-fn opened(rt: &impl Abort, alloc: Global) -> Result<Reassembler, Fail> {
+fn opened(rt: &(impl Abort + Print), alloc: Global) -> Result<Reassembler, Fail> {
     let mut reassembler = new(rt, alloc)?;
     push(rt, &mut reassembler, &FIRST, [None, Some(&SHORT_RUN)], None)?;
     Ok(reassembler)
@@ -132,6 +137,7 @@ fn growth_of_a_unit_asked_for(rt: HostRuntime) -> Result<(), Fail> {
         let unit = match reassembler.unit_after(Service::Bd, field) {
             Ok(unit) => unit,
             Err(NoMemory) => {
+                let _ = println!(rt; "refused: unit_after");
                 check_only_run(&rt, &reassembler, Some(&SHORT_RUN));
                 reassembler.unit_after(Service::Bd, field)?
             }
