@@ -12,6 +12,7 @@ use Rattle.tc_link.specs.declared.Place.TheVariants.{Expected, Ahead, Behind, Ou
 use Rattle.tc_link.specs.Window.{place_of}
 use Rattle.tc_link.specs.Frame.{header_of}
 use Rattle.tc_link.specs.Command.{kind_of}
+use Rattle.tc_link.proofs.Entries.{room-from_E1, enters}
 use Rattle.tc_link.specs.Farm.{Row, E1, E2, E3, E4, E5, E6, E7, E8, E9, E10, row_at, frame_row, entry_at, entry, after}
 use Rattle.tc_channel.specs.declared.settings.Settings.{Settings}
 use Rattle.tc_channel.specs.declared.event.Event.{Event}
@@ -29,20 +30,7 @@ SoundAt S3 wait lockout room = (lockout ≡ true) × (wait ≡ true → room ≡
 abbrev pub Sound : Bool → Report → Type 0
 Sound room r = SoundAt r.state r.wait r.lockout room
 
--- which rows a frame without room has
-pub room-from_E1 : (width vr : ℕ) (kind : Kind) (room : Bool) → frame_row width vr kind room ≡ E1 → room ≡ true
-room-from_E1 width vr (Ad ns) room e = at (place_of width vr ns) room e where
-  at : (place : Place) (room : Bool) → row_at place room ≡ E1 → room ≡ true
-  at Expected true e = refl
-  at Expected false e = absurd cc
-  at Ahead room e = absurd cc
-  at Behind room e = absurd cc
-  at Outside room e = absurd cc
-room-from_E1 width vr Bd room e = absurd cc
-room-from_E1 width vr (Bc Unlock) room e = absurd cc
-room-from_E1 width vr (Bc (SetVr x)) room e = absurd cc
-room-from_E1 width vr Invalid room e = absurd cc
-
+-- E2 is met without room alone
 pub full-from_E2 : (width vr : ℕ) (kind : Kind) (room : Bool) → frame_row width vr kind room ≡ E2 → room ≡ false
 full-from_E2 width vr (Ad ns) room e = at (place_of width vr ns) room e where
   at : (place : Place) (room : Bool) → row_at place room ≡ E2 → room ≡ false
@@ -61,39 +49,6 @@ room-at_E1 c b octets e = room-from_E1 c.width b.report.vr (kind_of (header_of o
 
 full-at_E2 : (c : Settings) (b : ChannelState) (octets : List ℕ) → row_of c b octets ≡ E2 → has_room c b ≡ false
 full-at_E2 c b octets e = full-from_E2 c.width b.report.vr (kind_of (header_of octets) (drop 5 octets)) (has_room c b) e
-
--- each row but E1 has an entry in S2
-pub enters : (row : Row) (st : State) (r : Report) → (st ≡ S2 → row ≢ E1) → IsSome (entry_at row st r)
-enters E1 S2 r h = absurd (h refl refl)
-enters E1 S1 r h = refl
-enters E1 S3 r h = refl
-enters E2 S1 r h = refl
-enters E2 S2 r h = refl
-enters E2 S3 r h = refl
-enters E3 S1 r h = refl
-enters E3 S2 r h = refl
-enters E3 S3 r h = refl
-enters E4 S1 r h = refl
-enters E4 S2 r h = refl
-enters E4 S3 r h = refl
-enters E5 S1 r h = refl
-enters E5 S2 r h = refl
-enters E5 S3 r h = refl
-enters E6 S1 r h = refl
-enters E6 S2 r h = refl
-enters E6 S3 r h = refl
-enters E7 S1 r h = refl
-enters E7 S2 r h = refl
-enters E7 S3 r h = refl
-enters (E8 x) S1 r h = refl
-enters (E8 x) S2 r h = refl
-enters (E8 x) S3 r h = refl
-enters E9 S1 r h = refl
-enters E9 S2 r h = refl
-enters E9 S3 r h = refl
-enters E10 S1 r h = refl
-enters E10 S2 r h = refl
-enters E10 S3 r h = refl
 
 -- an entry keeps it, where room stays or E1 is met in S1
 abbrev pub Left : Row → State → Report → Report

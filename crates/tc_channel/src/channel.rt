@@ -1,10 +1,10 @@
 //! A channel and its journal.
 
-ghost use Rattle.std.specs.Prelude.{List, ℕ, ◌≡◌, ◌≢◌, ◌∷◌, ◌++◌, [], ◌<◌, ◌↔◌, length, IfOk, OnOk, OnErr, IsErrOf, MatchResult, IsSome, IsTrue, Some, None, Option, option_map};
+ghost use Rattle.std.specs.Prelude.{List, ℕ, ◌≡◌, [], ◌<◌, ◌↔◌, length, IfOk, OnOk, OnErr, IsErrOf, MatchResult, IsSome, IsTrue, Some, None, Option, option_map};
 ghost use Rattle.std.specs.Option.{option_copied};
 ghost use Rattle.tc_channel.specs.Settings.{IsAllowed, IsRefusal};
 ghost use Rattle.tc_channel.specs.Journal.{with_event};
-ghost use Rattle.tc_channel.specs.Run.{run, IsLawful, first_of, field_of};
+ghost use Rattle.tc_channel.specs.Run.{run, IsLawful, first_of};
 ghost use Rattle.tc_channel.specs.Reply.{frame_reply, release_reply, take_reply, waiting_packets, buffered_fields, clcw as clcw_of};
 ghost use Rattle.tc_channel.specs.Era.{CountsUpInItsEra};
 ghost use Rattle.tc_channel.specs.Channel.{Follows, FollowsKind, Ends, EndsAtOnce, buffered_of, with_field};
@@ -64,8 +64,10 @@ impl Channel {
     }
 
     /// Takes a frame in, of whatever virtual channel. An accepted AD data field is buffered; of an accepted BD data field
-    /// the packets of the unit that it ends are queued at once.
+    /// the packets of the unit that it ends are queued at once. It copies the octets for the journal, an accepted AD data
+    /// field for the buffer, and each packet that is queued.
     pub fn frame(&mut self, frame: &Frame) -> Result<FrameReply, NoMemory>
+        ensures allowed { IsAllowed self.old.settings }
         ensures lawful { IsLawful self.old.settings self.old.journal }
         ensures reply { IfOk result (λ reply. reply ≡ frame_reply self.old.settings self.old.journal frame.now) }
         ensures done { OnOk result (self.new ≡ with_event self.old (Event.Frame frame.now)) }
@@ -91,8 +93,10 @@ impl Channel {
         })
     }
 
-    /// Lets the oldest data field out of the buffer, and queues the packets of the unit that it ends.
+    /// Lets the oldest data field out of the buffer, and queues the packets of the unit that it ends. It makes that unit, the
+    /// list of its packets and a copy of each that is queued.
     pub fn release(&mut self) -> Result<Delivery, ReleaseFault>
+        ensures allowed { IsAllowed self.old.settings }
         ensures lawful { IsLawful self.old.settings self.old.journal }
         ensures empty { IsErrOf result ReleaseFault.Empty ↔ (buffered_fields self.old.settings self.old.journal ≡ []) }
         ensures reply { IfOk result (λ delivery. delivery ≡ release_reply self.old.settings self.old.journal) }
@@ -112,8 +116,9 @@ impl Channel {
         Ok(planned.delivery)
     }
 
-    /// Takes the oldest packet out of the queue with this APID. The packet is moved, not copied.
+    /// Takes the oldest packet out of the queue with this APID. The packet is moved, not copied; the journal alone may grow.
     pub fn take(&mut self, apid: u16) -> Result<Vec<u8>, TakeFault>
+        ensures allowed { IsAllowed self.old.settings }
         ensures lawful { IsLawful self.old.settings self.old.journal }
         ensures no_queue { IsErrOf result TakeFault.NoQueue ↔ (waiting_packets self.old.settings self.old.journal apid ≡ None) }
         ensures empty { IsErrOf result TakeFault.Empty ↔ (waiting_packets self.old.settings self.old.journal apid ≡ Some []) }
@@ -243,7 +248,7 @@ fn put_field(fields: &mut HeapCircularBuffer<Octets>, field: Option<Octets>)
     }
 }
 
-// Passes a BD field to reassembly. It is the last growth of a call, and its first change.
+// Passes a BD field to reassembly. Nothing grows after it in a call, and nothing has changed before it.
 fn pass_bypass(reassembler: &mut Reassembler, kind: Kind, field: &[u8]) -> Result<(), NoMemory>
     requires { 0 < length field.now }
     ensures ok { OnOk result (FollowsKind kind reassembler.old reassembler.new field.now) }

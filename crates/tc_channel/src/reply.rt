@@ -54,13 +54,13 @@ pub enum TakeFault {
 }
 
 impl From<AllocError> for NoMemory {
-    fn from(_e: AllocError) -> NoMemory {
+    fn from(_error: AllocError) -> NoMemory {
         NoMemory
     }
 }
 
 impl From<tc_packet::NoMemory> for NoMemory {
-    fn from(_e: tc_packet::NoMemory) -> NoMemory {
+    fn from(_error: tc_packet::NoMemory) -> NoMemory {
         NoMemory
     }
 }
@@ -68,7 +68,7 @@ impl From<tc_packet::NoMemory> for NoMemory {
 impl From<AllocError> for ReleaseFault {
     ghost from_gives = { λ _ e. e ≡ release_faults.NoMemory };
 
-    fn from(_e: AllocError) -> ReleaseFault {
+    fn from(_error: AllocError) -> ReleaseFault {
         ReleaseFault::NoMemory
     }
 }
@@ -76,7 +76,7 @@ impl From<AllocError> for ReleaseFault {
 impl From<NoMemory> for ReleaseFault {
     ghost from_gives = { λ _ e. e ≡ release_faults.NoMemory };
 
-    fn from(_e: NoMemory) -> ReleaseFault {
+    fn from(_error: NoMemory) -> ReleaseFault {
         ReleaseFault::NoMemory
     }
 }
@@ -84,7 +84,7 @@ impl From<NoMemory> for ReleaseFault {
 impl From<AllocError> for TakeFault {
     ghost from_gives = { λ _ e. e ≡ take_faults.NoMemory };
 
-    fn from(_e: AllocError) -> TakeFault {
+    fn from(_error: AllocError) -> TakeFault {
         TakeFault::NoMemory
     }
 }

@@ -4,7 +4,6 @@ ghost use Rattle.std.specs.Prelude.{◌≡◌, ◌↔◌, Any, IsTrue, MatchResu
 ghost use Rattle.tc_channel.specs.Settings.{AreApart};
 
 use crate::items::Items;
-use std::alloc::AllocError;
 use tc_link::Window;
 use thiserror::Error;
 

@@ -1,21 +1,21 @@
--- What the calls of a station answer. Of a channel in its lock no more is known than that its journal is lawful, so each
--- answer is the reply at some moment of some channel.
-use Rattle.std.specs.Prelude.{◌≡◌, ℕ, List, Contains, slice_get, Option, Some}
-use Rattle.std.specs.Option.{option_and_then}
+-- What the calls of a station answer. Of a channel in its lock no more is known than that its settings are allowed and its
+-- journal is lawful, so each answer is the reply at some moment of some channel.
+use Rattle.std.specs.Prelude.{◌≡◌, ◌≢◌, [], ℕ, List, Contains, Some}
 use Rattle.tc_channel.specs.declared.settings.Settings.{Settings}
 use Rattle.tc_channel.specs.declared.event.Event.{Event}
 use Rattle.tc_channel.specs.declared.event.Event.TheVariants.{Frame}
 use Rattle.tc_channel.specs.declared.reply.Delivery.{Delivery}
 use Rattle.tc_channel.specs.declared.reply.FrameReply.{FrameReply}
+use Rattle.tc_channel.specs.Settings.{IsAllowed}
 use Rattle.tc_channel.specs.Journal.{History, with_event}
 use Rattle.tc_channel.specs.Run.{IsLawful}
-use Rattle.tc_channel.specs.Reply.{frame_reply, release_reply, waiting_packets}
+use Rattle.tc_channel.specs.Reply.{frame_reply, release_reply, take_reply, buffered_fields}
 use Rattle.tc_station.specs.Roster.{Roster}
 use Rattle.tc_station.specs.Location.{IsLocated}
 
 -- some channel's journal at some moment
 abbrev pub AtSomeMoment : (Settings → List Event → Type 0) → Type 0
-AtSomeMoment P = (s : Settings) × (journal : List Event) × IsLawful s journal × P s journal
+AtSomeMoment P = (s : Settings) × (journal : List Event) × IsAllowed s × IsLawful s journal × P s journal
 
 -- the octets were for this channel, and this is the reply to their frame
 abbrev pub IsBrought : Roster → List ℕ → ℕ → FrameReply → Type 0
@@ -28,14 +28,16 @@ IsBroughtWatched station octets vcid reply seen =
     (frame : List ℕ) × IsLocated station octets vcid frame
     × AtSomeMoment (λ s journal. (reply ≡ frame_reply s journal frame) × (seen ≡ with_event (record { settings = s; journal = journal }) (Frame frame)))
 
+-- a data field waited, and this became of it
 abbrev pub IsReleased : Roster → ℕ → Delivery → Type 0
-IsReleased station vcid delivery = Contains station.vcids vcid × AtSomeMoment (λ s journal. delivery ≡ release_reply s journal)
+IsReleased station vcid delivery =
+    Contains station.vcids vcid × AtSomeMoment (λ s journal. (buffered_fields s journal ≢ []) × (delivery ≡ release_reply s journal))
 
 -- the packet is the oldest that waited
 abbrev pub IsTaken : Roster → ℕ → ℕ → List ℕ → Type 0
 IsTaken station vcid apid packet =
-    Contains station.vcids vcid × AtSomeMoment (λ s journal. option_and_then (λ packets. slice_get packets 0) (waiting_packets s journal apid) ≡ Some packet)
+    Contains station.vcids vcid × AtSomeMoment (λ s journal. take_reply s journal apid ≡ Some packet)
 
 -- the watcher has seen a moment of a channel
 abbrev pub IsWatched : Roster → ℕ → History → Type 0
-IsWatched station vcid seen = Contains station.vcids vcid × IsLawful seen.settings seen.journal
+IsWatched station vcid seen = Contains station.vcids vcid × IsAllowed seen.settings × IsLawful seen.settings seen.journal

@@ -1,6 +1,6 @@
 //! Whether the journals of a closed station are in balance with the operators' counts.
 
-ghost use Rattle.std.specs.Prelude.{◌≡◌, ◌<◌, ◌*◌, ◌↔◌, length, IsTrue, All};
+ghost use Rattle.std.specs.Prelude.{◌≡◌, ◌<◌, ◌↔◌, length, IsTrue, All};
 ghost use Rattle.tc_station.specs.Balance.{counted_by_all, IsInBalance, AreInBalance};
 
 use crate::operator::Operator;

@@ -1,11 +1,10 @@
 //! What lies under the lock of a channel.
 
-ghost use Rattle.std.specs.Prelude.{◌≡◌, ◌↔◌, [], IfOk, OnOk, OnErr, IsErrOf, MatchResult, slice_get, Some, None};
-ghost use Rattle.std.specs.Option.{option_and_then};
+ghost use Rattle.std.specs.Prelude.{◌≡◌, ◌↔◌, [], IfOk, OnOk, OnErr, IsErrOf, MatchResult, Some, None};
 ghost use Rattle.tc_channel.specs.Settings.{IsAllowed, IsRefusal};
 ghost use Rattle.tc_channel.specs.Journal.{with_event};
 ghost use Rattle.tc_channel.specs.Run.{IsLawful};
-ghost use Rattle.tc_channel.specs.Reply.{frame_reply, release_reply, waiting_packets, buffered_fields};
+ghost use Rattle.tc_channel.specs.Reply.{frame_reply, release_reply, take_reply, waiting_packets, buffered_fields};
 ghost use Rattle.tc_status.specs.Board.{IsBeginning};
 
 use std::alloc::Global;
@@ -37,7 +36,7 @@ impl Model for Desk {
 }
 
 impl Desk {
-    /// A desk with a new channel, on a board of its own.
+    /// A desk with a new channel, on a board of its own. It takes the memory of both.
     pub fn new(alloc: Global, settings: Settings) -> Result<Desk, SettingsFault>
         ensures settings { IfOk result (λ desk. desk.channel.settings ≡ settings) }
         ensures journal { IfOk result (λ desk. desk.channel.journal ≡ []) }
@@ -57,8 +56,9 @@ impl Desk {
         &self.channel
     }
 
-    /// The channel takes a frame in.
+    /// The channel takes a frame in. No more is allocated than by the channel, here and in the next two calls.
     pub fn frame(&mut self, frame: &Frame) -> Result<FrameReply, NoMemory>
+        ensures allowed { IsAllowed self.old.channel.settings }
         ensures lawful { IsLawful self.old.channel.settings self.old.channel.journal }
         ensures reply { IfOk result (λ reply. reply ≡ frame_reply self.old.channel.settings self.old.channel.journal frame.now) }
         ensures done { OnOk result (self.new.channel ≡ with_event self.old.channel (Event.Frame frame.now)) }
@@ -72,6 +72,7 @@ impl Desk {
 
     /// The channel lets the oldest data field out of its buffer.
     pub fn release(&mut self) -> Result<Delivery, ReleaseFault>
+        ensures allowed { IsAllowed self.old.channel.settings }
         ensures lawful { IsLawful self.old.channel.settings self.old.channel.journal }
         ensures empty { IsErrOf result ReleaseFault.Empty ↔ (buffered_fields self.old.channel.settings self.old.channel.journal ≡ []) }
         ensures reply { IfOk result (λ delivery. delivery ≡ release_reply self.old.channel.settings self.old.channel.journal) }
@@ -86,10 +87,11 @@ impl Desk {
 
     /// The channel gives the oldest packet of the queue with this APID.
     pub fn take(&mut self, apid: u16) -> Result<Vec<u8>, TakeFault>
+        ensures allowed { IsAllowed self.old.channel.settings }
         ensures lawful { IsLawful self.old.channel.settings self.old.channel.journal }
         ensures no_queue { IsErrOf result TakeFault.NoQueue ↔ (waiting_packets self.old.channel.settings self.old.channel.journal apid ≡ None) }
         ensures empty { IsErrOf result TakeFault.Empty ↔ (waiting_packets self.old.channel.settings self.old.channel.journal apid ≡ Some []) }
-        ensures reply { IfOk result (λ packet. option_and_then (λ ps. slice_get ps 0) (waiting_packets self.old.channel.settings self.old.channel.journal apid) ≡ Some packet.items) }
+        ensures reply { IfOk result (λ packet. take_reply self.old.channel.settings self.old.channel.journal apid ≡ Some packet.items) }
         ensures done { OnOk result (self.new.channel ≡ with_event self.old.channel (Event.Take apid)) }
         ensures refused { OnErr result (self.new ≡ self.old) }
         ensures board { self.new.board ≡ self.old.board }
@@ -99,15 +101,16 @@ impl Desk {
         Ok(packet)
     }
 
-    /// A watcher of this desk's board, which has seen the channel as it is.
+    /// A watcher of this desk's board, which has seen the channel as it is. It takes what the publisher's call takes.
     pub fn watcher(&mut self) -> Result<Watcher, NoMemory>
         ensures board { IfOk result (λ watcher. watcher.board ≡ self.old.board) }
         ensures seen { IfOk result (λ watcher. watcher.seen ≡ self.old.channel) }
+        ensures allowed { IsAllowed self.old.channel.settings }
         ensures lawful { IsLawful self.old.channel.settings self.old.channel.journal }
         ensures unchanged { self.new ≡ self.old }
     {
-        // It ensures that the journal is lawful.
-        let _ = self.channel.journal();
+        // It ensures that the settings are allowed and the journal is lawful.
+        let _ = self.channel.report();
         self.publisher.watcher()
     }
 

@@ -1,6 +1,6 @@
 //! Operators: who makes operations on the channels of a station.
 
-ghost use Rattle.std.specs.Prelude.{◌≡◌, ◌==◌, ◌<◌, length, position, replicate, slice_index, slice_set, option_map, Some, IfOk, MatchOption, Contains};
+ghost use Rattle.std.specs.Prelude.{◌≡◌, ◌==◌, ◌<◌, length, position, slice_index, Some, IfOk, MatchOption, Contains};
 ghost use Rattle.tc_station.specs.Tally.{raised, counted, count_in, fresh};
 
 use crossbeam_utils::CachePadded;
@@ -42,8 +42,8 @@ impl Count {
     fn raise(&mut self)
         ensures { self.new ≡ raised self.old }
     {
-        let count = *self.padded;
-        self.padded = CachePadded::new(count.saturating_add(1));
+        let count: &mut u64 = &mut self.padded;
+        *count = count.saturating_add(1);
     }
 }
 

@@ -1,7 +1,7 @@
 //! The station: a lock for each channel.
 
-ghost use Rattle.std.specs.Prelude.{◌≡◌, ◌≢◌, ◌≤◌, ◌<◌, ◌+◌, ◌==◌, ◌↔◌, [], List, ℕ, All, AllPairs, Any, Contains, IsTrue, length, map, position, replicate, Some, vec_len, vec_capacity, IfOk, IfErr, IsErrOf, OnOk, OnErr, MatchOption, MatchResult};
-ghost use Rattle.tc_link.specs.Frame.{IsWhole, BeginsWith, header_of};
+ghost use Rattle.std.specs.Prelude.{◌≡◌, ◌≤◌, ◌<◌, ◌+◌, ◌↔◌, All, Any, IsTrue, map, replicate, vec_len, vec_capacity, IfOk, IfErr, IsErrOf, OnOk, OnErr, MatchOption, MatchResult};
+ghost use Rattle.tc_link.specs.Frame.{BeginsWith};
 ghost use Rattle.tc_channel.specs.Settings.{IsAllowed};
 ghost use Rattle.tc_channel.specs.Journal.{with_event};
 ghost use Rattle.tc_channel.specs.Run.{IsLawful};
@@ -70,7 +70,8 @@ impl Station {
     ghost use Rattle.tc_station.specs.Moments.{IsBrought, IsBroughtWatched, IsReleased, IsTaken, IsWatched};
     ghost use Rattle.tc_station.specs.Faults.{IsReleaseRefused, IsTakeRefused, IsWatcherFault, IsCloseFault};
 
-    /// A station with a new channel for each of the settings. On a refusal the settings are dropped.
+    /// A station with a new channel for each of the settings: two lists, and what each channel and its board take. On a
+    /// refusal the settings are dropped.
     pub fn new(alloc: Global, scid: u16, list: Vec<Settings>) -> Result<Station, StationFault>
         ensures made { IfOk result (λ station. station ≡ record { scid = scid; vcids = vcids_of list.items; issued = 0 }) }
         ensures fault { MatchResult result (λ _. AreStationSettings scid list.items) (IsStationFault scid list.items) }
@@ -106,7 +107,7 @@ impl Station {
         Ok((place, Located { vcid, frame }))
     }
 
-    /// Issues operators: at most 65,535 over the station's life.
+    /// Issues operators: at most 65,535 over the station's life. Each takes a list of ids and one of counts.
     pub fn operators(&mut self, n: u16) -> Result<Vec<Operator>, OperatorsFault>
         ensures fresh { IfOk result (λ operators. operators.items ≡ replicate n (fresh self.old.vcids)) }
         ensures issued { OnOk result (self.new ≡ record self.old { issued = self.old.issued + n }) }
@@ -123,7 +124,8 @@ impl Station {
         Ok(operators)
     }
 
-    /// Brings the frame at the front of the octets to its channel, under the channel's lock.
+    /// Brings the frame at the front of the octets to its channel, under the channel's lock. What the channel's own call takes
+    /// is all that is allocated, here and in the next two calls.
     pub fn bring(
         &self,
         rt: &impl Wait,
@@ -246,7 +248,8 @@ impl Station {
         drop(desk);
     }
 
-    /// Ends the station: takes the channels out of their locks and compares their journals with the operators' counts.
+    /// Ends the station: takes the channels out of their locks and compares their journals with the operators' counts. The
+    /// list of the channels is the one allocation, and it is made before the station is taken apart.
     pub fn close(self, operators: Vec<Operator>) -> Result<Vec<Channel>, CloseFault>
         requires ours { All (λ o. o.vcids ≡ self.vcids) operators.items }
         ensures all { IfOk result (λ _. self.issued ≤ vec_len operators) }
@@ -373,6 +376,7 @@ fn take_out(desks: Vec<CachePadded<Mutex<Desk>>>, mut room: Vec<Channel>) -> Vec
 
 // The desk takes a frame in, and a watcher of its board sees it do so.
 fn frame_watched(desk: &mut Desk, frame: &Frame) -> Result<(FrameReply, Watcher), NoMemory>
+    ensures allowed { IsAllowed desk.old.channel.settings }
     ensures lawful { IsLawful desk.old.channel.settings desk.old.channel.journal }
     ensures reply { IfOk result (λ answer. answer.0 ≡ frame_reply desk.old.channel.settings desk.old.channel.journal frame.now) }
     ensures board { IfOk result (λ answer. answer.1.board ≡ desk.new.board) }

@@ -5,7 +5,7 @@ mod refusals;
 mod status;
 mod work;
 
-ghost use Rattle.std.specs.Prelude.{◌≡◌, IfOk};
+ghost use Rattle.std.specs.Prelude.{◌≡◌, ◌∷◌, [], IfOk};
 ghost use Rattle.tc_station.specs.StationSettings.{vcids_of};
 
 use crate::*;
@@ -119,4 +119,19 @@ impl Manned {
         let operator = station.operators(1)?.pop().ok_or("an operator")?;
         Ok(Manned { station, operator })
     }
+}
+
+// A station of channels 1 and 2, with room for 64 data fields each.
+fn two_channels(alloc: Global) -> Result<Manned, Fail>
+    ensures { IfOk result (λ crew. crew.station.vcids ≡ 1 ∷ 2 ∷ []) }
+{
+    let first = Settings {
+        buffer: 64,
+        ..settings(alloc, 1)?
+    };
+    let second = Settings {
+        buffer: 64,
+        ..settings(alloc, 2)?
+    };
+    Manned::by(alloc, vec![in alloc; first, second]?)
 }

@@ -1,7 +1,6 @@
 //! Workers: lists of jobs, each done by a thread of its own.
 
-ghost use Rattle.std.specs.Prelude.{◌≡◌, ◌<◌, ◌≤◌, ◌/◌, ℕ, List, All, Option, None, Some, length, map, slice_index_or, OnOk, OnErr, MatchResult};
-ghost use Rattle.std.specs.List.{AllByRecursion};
+ghost use Rattle.std.specs.Prelude.{◌≡◌, ◌<◌, ℕ, All, Option, None, Some, length, map, slice_index_or, OnOk, OnErr, MatchResult};
 ghost use Rattle.std.specs.Thread.{IsSync};
 ghost use Rattle.tc_station.specs.Tally.{Tally};
 ghost use Rattle.tc_station.specs.Lowest.{lower};
@@ -13,7 +12,7 @@ use std::sync::Wait;
 use std::thread::{Threads, join_mut};
 use tc_channel::{Items, NoMemory, Octets};
 
-/// What each worker passes once, while it holds the lock of its list's channel, before it does its jobs.
+/// What each worker passes once, under the lock of its list's channel, before it does its jobs.
 pub trait Gate {
     fn pass(&self, vcid: u8);
 }
@@ -53,11 +52,12 @@ pub struct WorkList {
 }
 
 impl Station {
-    ghost use Rattle.tc_station.specs.Work.{Shift, IsDone, IsWorked, AreWorked, IsTallyOf, NoCountFalls, IsRaised, line_of};
+    ghost use Rattle.tc_station.specs.Work.{IsDone, IsWorked, AreWorked, IsTallyOf, NoCountFalls, IsRaised, line_of};
 
     /// Does each list of jobs in a thread of its own, with the operator of its place. A refusal other than for memory is
     /// passed over. A list whose job is refused for memory is given up there; the others are done in full, and the lowest such
-    /// line is told. Lists whose threads can't be started are done one after the other. Nothing grows but in the operations.
+    /// line is told. Where no further thread starts, the thread that is there works off what is left, list by list. Nothing
+    /// grows but in the operations.
     pub fn work<G: Gate + Sync, R: Threads + Wait + Sync>(
         &self,
         rt: &R,

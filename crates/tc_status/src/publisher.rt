@@ -37,7 +37,8 @@ impl Model for Publisher {
 }
 
 impl Publisher {
-    /// Makes a board for the channel's settings. The channel's journal counts as published.
+    /// Makes a board by the settings of a channel, whose journal so far is its first publication. The board and its word are
+    /// the two allocations.
     pub fn new(alloc: Global, channel: &Channel) -> Result<Publisher, NoMemory>
         ensures { IfOk result (λ publisher. publisher.published ≡ channel.now) }
     {
@@ -67,7 +68,7 @@ impl Publisher {
         store::<Brand>(&self.board, &mut self.seat, channel);
     }
 
-    /// A watcher of this board, which has seen what was published.
+    /// A watcher of this board, which has seen what was published. It is refused only where the board can count no more owners.
     pub fn watcher(&mut self) -> Result<Watcher, NoMemory>
         ensures board { IfOk result (λ watcher. watcher.board ≡ self.old.board) }
         ensures seen { IfOk result (λ watcher. watcher.seen ≡ self.old.published) }

@@ -81,15 +81,25 @@ fn growth_of_a_board_and_of_a_watcher(rt: HostRuntime) -> Result<(), Fail> {
     let mut publisher = match Publisher::new(rt.alloc(), &channel) {
         Ok(publisher) => publisher,
         Err(NoMemory) => {
+            let _ = println!(rt; "refused: Publisher::new");
             assert_eq!(rt; channel.clcw(NO_FLAG), 0x01040001);
             Publisher::new(rt.alloc(), &channel)?
         }
     };
-    let mut watcher = match publisher.watcher() {
+    let mut old = match publisher.watcher() {
         Ok(watcher) => watcher,
         Err(NoMemory) => publisher.watcher()?,
     };
+    let mut new = match publisher.watcher() {
+        Ok(watcher) => watcher,
+        Err(NoMemory) => {
+            let _ = println!(rt; "refused: Publisher::watcher");
+            assert_eq!(rt; old.read(), 0x01040001);
+            publisher.watcher()?
+        }
+    };
     assert_eq!(rt; channel.journal().len(), 1);
-    assert_eq!(rt; watcher.read(), 0x01040001);
+    assert_eq!(rt; old.read(), 0x01040001);
+    assert_eq!(rt; new.read(), 0x01040001);
     Ok(())
 }

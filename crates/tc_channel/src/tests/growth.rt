@@ -47,10 +47,11 @@ struct Short {
 }
 
 impl Short {
-    fn new(rt: &impl Abort, alloc: Global) -> Result<Short, Fail> {
+    fn new(rt: &(impl Abort + Print), alloc: Global) -> Result<Short, Fail> {
         let channel = match Channel::new(alloc, settings(alloc)?) {
             Ok(channel) => channel,
             Err(fault) => {
+                let _ = println!(rt; "refused: Channel::new");
                 assert_eq!(rt; fault, SettingsFault::NoMemory);
                 Channel::new(alloc, settings(alloc)?)?
             }
@@ -77,6 +78,13 @@ impl Short {
         assert_eq!(rt; self.told(), told);
     }
 
+    // The CLCW, how many fields are buffered, and how many packets wait for APID 5.
+    fn compare(&self, rt: &impl Abort, word: u32, fields: usize, packets: usize) {
+        assert_eq!(rt; self.channel.clcw(NO_FLAG), word);
+        assert_eq!(rt; self.channel.buffered(), fields);
+        assert_eq!(rt; self.channel.queued(5), Some(packets));
+    }
+
     fn note(&mut self, event: Event) -> Result<(), Fail> {
         if self.journal.reserve(1).is_err() {
             self.journal.reserve(1)?;
@@ -87,7 +95,7 @@ impl Short {
 
     fn frame(
         &mut self,
-        rt: &impl Abort,
+        rt: &(impl Abort + Print),
         octets: &[u8],
         act: Act,
         delivery: Delivery,
@@ -97,6 +105,7 @@ impl Short {
         let reply = match self.channel.frame(&frame) {
             Ok(reply) => reply,
             Err(NoMemory) => {
+                let _ = println!(rt; "refused: frame, event {}", act.event);
                 self.check(rt, told);
                 self.channel.frame(&frame)?
             }
@@ -104,15 +113,16 @@ impl Short {
         assert_eq!(rt; reply, FrameReply { act, delivery });
         let octets = copied(self.alloc, octets)?;
         self.note(Event::Frame(octets))?;
-        self.check(rt, self.told());
+        assert_eq!(rt; self.channel.journal(), self.journal.as_slice());
         Ok(())
     }
 
-    fn release(&mut self, rt: &impl Abort, delivery: Delivery) -> Result<(), Fail> {
+    fn release(&mut self, rt: &(impl Abort + Print), delivery: Delivery) -> Result<(), Fail> {
         let told = self.told();
         let answer = match self.channel.release() {
             Ok(answer) => answer,
             Err(fault) => {
+                let _ = println!(rt; "refused: release");
                 assert_eq!(rt; fault, ReleaseFault::NoMemory);
                 self.check(rt, told);
                 self.channel.release()?
@@ -120,15 +130,16 @@ impl Short {
         };
         assert_eq!(rt; answer, delivery);
         self.note(Event::Release)?;
-        self.check(rt, self.told());
+        assert_eq!(rt; self.channel.journal(), self.journal.as_slice());
         Ok(())
     }
 
-    fn take(&mut self, rt: &impl Abort, packet: &[u8]) -> Result<(), Fail> {
+    fn take(&mut self, rt: &(impl Abort + Print), packet: &[u8]) -> Result<(), Fail> {
         let told = self.told();
         let answer = match self.channel.take(5) {
             Ok(answer) => answer,
             Err(fault) => {
+                let _ = println!(rt; "refused: take");
                 assert_eq!(rt; fault, TakeFault::NoMemory);
                 self.check(rt, told);
                 self.channel.take(5)?
@@ -136,7 +147,7 @@ impl Short {
         };
         assert_eq!(rt; answer.as_slice(), packet);
         self.note(Event::Take(5))?;
-        self.check(rt, self.told());
+        assert_eq!(rt; self.channel.journal(), self.journal.as_slice());
         Ok(())
     }
 }
@@ -162,8 +173,11 @@ fn growth_of_each_call_of_a_channel(rt: HostRuntime) -> Result<(), Fail> {
             short.frame(&rt, &ad_frame(0xff), discarded(4), NOTHING)?;
         }
         short.frame(&rt, &ad_frame(0), accepted(1), NOTHING)?;
+        short.compare(&rt, 0x01040001, 1, 0);
         short.release(&rt, ONE)?;
+        short.compare(&rt, 0x01040001, 0, 1);
         short.take(&rt, &PACKET)?;
+        short.compare(&rt, 0x01040001, 0, 0);
     }
     Ok(())
 }
@@ -173,7 +187,10 @@ fn growth_of_a_frame_without_room(rt: HostRuntime) -> Result<(), Fail> {
     let mut short = Short::new(&rt, rt.alloc())?;
     short.frame(&rt, &ad_frame(0), accepted(1), NOTHING)?;
     short.frame(&rt, &ad_frame(1), discarded(2), NOTHING)?;
-    short.frame(&rt, &ad_frame(0), discarded(4), NOTHING)
+    short.compare(&rt, 0x01041801, 1, 0);
+    short.frame(&rt, &ad_frame(0), discarded(4), NOTHING)?;
+    short.compare(&rt, 0x01041801, 1, 0);
+    Ok(())
 }
 
 #[test]
@@ -185,6 +202,9 @@ fn growth_of_a_unit_of_two_packets(rt: HostRuntime) -> Result<(), Fail> {
         rest: false,
     };
     short.frame(&rt, &TWO_PACKETS, accepted(6), delivery)?;
+    short.compare(&rt, 0x01040200, 0, 2);
     short.take(&rt, &PACKET)?;
-    short.take(&rt, &[0x10, 0x05, 0xc0, 0x01, 0x00, 0x00, 0xbb])
+    short.take(&rt, &[0x10, 0x05, 0xc0, 0x01, 0x00, 0x00, 0xbb])?;
+    short.compare(&rt, 0x01040200, 0, 0);
+    Ok(())
 }

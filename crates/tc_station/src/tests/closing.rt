@@ -27,15 +27,18 @@ fn an_operator_of_another_station_is_out_of_balance(rt: HostRuntime) -> Result<(
     let Manned {
         station,
         mut operator,
-    } = Manned::new(alloc, &[1, 2])?;
-    let other = Manned::new(alloc, &[1, 2])?;
+    } = two_channels(alloc)?;
+    let other = two_channels(alloc)?;
     station.bring(&rt, &mut operator, &FRAME)?;
     let mut operators = Vec::new(alloc);
     operators.push(other.operator)?;
     match station.close(operators) {
         Err(CloseFault::Unbalanced(channels, operators)) => {
             assert_eq!(rt; channels.len(), 2);
+            assert_eq!(rt; channels[0].journal().len(), 1);
+            assert_eq!(rt; channels[1].journal().len(), 0);
             assert_eq!(rt; operators.len(), 1);
+            assert_eq!(rt; operators[0].count(1), Some(0));
         }
         _ => return Err("closed".into()),
     }

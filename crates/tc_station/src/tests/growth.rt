@@ -21,32 +21,39 @@ struct Short {
     ghost ours: { operator.vcids ≡ station.vcids },
 }
 
-fn new_station(rt: &impl Abort, alloc: Global) -> Result<Station, Fail> {
+fn new_station(rt: &(impl Abort + Print), alloc: Global) -> Result<Station, Fail> {
     match Station::new(alloc, 42, settings_of(alloc, &[1])?) {
         Ok(station) => Ok(station),
         Err(fault) => {
+            let _ = println!(rt; "refused: Station::new");
             assert_eq!(rt; fault, StationFault::NoMemory);
             Ok(Station::new(alloc, 42, settings_of(alloc, &[1])?)?)
         }
     }
 }
 
-fn new_operators(rt: &impl Abort, station: &mut Station, n: u16) -> Result<Vec<Operator>, Fail>
+fn new_operators(
+    rt: &(impl Abort + Print),
+    station: &mut Station,
+    n: u16,
+) -> Result<Vec<Operator>, Fail>
     ensures { IfOk result (λ operators. operators.items ≡ replicate n (fresh station.new.vcids)) }
 {
     match station.operators(n) {
         Ok(operators) => Ok(operators),
         Err(fault) => {
+            let _ = println!(rt; "refused: operators");
             assert_eq!(rt; fault, OperatorsFault::NoMemory);
             Ok(station.operators(n)?)
         }
     }
 }
 
-fn new_watcher(rt: &(impl Wait + Abort), station: &Station) -> Result<Watcher, Fail> {
+fn new_watcher(rt: &(impl Wait + Abort + Print), station: &Station) -> Result<Watcher, Fail> {
     match station.watcher(rt, 1) {
         Ok(watcher) => Ok(watcher),
         Err(fault) => {
+            let _ = println!(rt; "refused: Station::watcher");
             assert_eq!(rt; fault, WatcherFault::NoMemory);
             Ok(station.watcher(rt, 1)?)
         }
@@ -62,7 +69,7 @@ fn copied(alloc: Global, octets: &[u8]) -> Result<Octets, Fail> {
 }
 
 impl Short {
-    fn new(rt: &(impl Wait + Abort), alloc: Global) -> Result<Short, Fail> {
+    fn new(rt: &(impl Wait + Abort + Print), alloc: Global) -> Result<Short, Fail> {
         let mut station = new_station(rt, alloc)?;
         let operator = new_operators(rt, &mut station, 1)?
             .pop()
@@ -97,7 +104,7 @@ impl Short {
 
     fn bring(
         &mut self,
-        rt: &(impl Wait + Abort),
+        rt: &(impl Wait + Abort + Print),
         reply: FrameReply,
         word: u32,
     ) -> Result<(), Fail> {
@@ -105,6 +112,7 @@ impl Short {
         let brought = match self.station.bring(rt, &mut self.operator, &FRAME) {
             Ok(brought) => brought,
             Err(fault) => {
+                let _ = println!(rt; "refused: bring, event {}", reply.act.event);
                 assert_eq!(rt; fault, BringFault::NoMemory);
                 self.check(rt, before);
                 self.station.bring(rt, &mut self.operator, &FRAME)?
@@ -119,7 +127,7 @@ impl Short {
 
     fn bring_watched(
         &mut self,
-        rt: &(impl Wait + Abort),
+        rt: &(impl Wait + Abort + Print),
         reply: FrameReply,
         word: u32,
     ) -> Result<(), Fail> {
@@ -127,6 +135,7 @@ impl Short {
         let (brought, mut own) = match self.station.bring_watched(rt, &mut self.operator, &FRAME) {
             Ok(answer) => answer,
             Err(fault) => {
+                let _ = println!(rt; "refused: bring_watched, event {}", reply.act.event);
                 assert_eq!(rt; fault, BringFault::NoMemory);
                 self.check(rt, before);
                 self.station.bring_watched(rt, &mut self.operator, &FRAME)?
@@ -140,11 +149,12 @@ impl Short {
         Ok(())
     }
 
-    fn release(&mut self, rt: &(impl Wait + Abort)) -> Result<(), Fail> {
+    fn release(&mut self, rt: &(impl Wait + Abort + Print)) -> Result<(), Fail> {
         let before = self.word();
         let delivery = match self.station.release(rt, &mut self.operator, 1) {
             Ok(delivery) => delivery,
             Err(fault) => {
+                let _ = println!(rt; "refused: Station::release");
                 assert_eq!(rt; fault, ReleaseRefused::NoMemory);
                 self.check(rt, before);
                 self.station.release(rt, &mut self.operator, 1)?
@@ -156,11 +166,12 @@ impl Short {
         Ok(())
     }
 
-    fn take(&mut self, rt: &(impl Wait + Abort)) -> Result<(), Fail> {
+    fn take(&mut self, rt: &(impl Wait + Abort + Print)) -> Result<(), Fail> {
         let before = self.word();
         let packet = match self.station.take(rt, &mut self.operator, 1, 5) {
             Ok(packet) => packet,
             Err(fault) => {
+                let _ = println!(rt; "refused: Station::take");
                 assert_eq!(rt; fault, TakeRefused::NoMemory);
                 self.check(rt, before);
                 self.station.take(rt, &mut self.operator, 1, 5)?
@@ -173,7 +184,7 @@ impl Short {
     }
 
     // Closes the station, whose channel has the journal that it must have.
-    fn close(self, rt: &impl Abort) -> Result<(), Fail> {
+    fn close(self, rt: &(impl Abort + Print)) -> Result<(), Fail> {
         let Short {
             alloc,
             station,
@@ -184,7 +195,10 @@ impl Short {
         let operators = vec_of(alloc, operator)?;
         let channels = match station.close(operators) {
             Ok(channels) => channels,
-            Err(CloseFault::NoMemory(station, operators)) => station.close(operators)?,
+            Err(CloseFault::NoMemory(station, operators)) => {
+                let _ = println!(rt; "refused: close");
+                station.close(operators)?
+            }
             Err(_) => return Err("neither closed nor without memory".into()),
         };
         assert_eq!(rt; channels.len(), 1);
@@ -260,10 +274,11 @@ fn growth_of_watched_frames(rt: HostRuntime) -> Result<(), Fail> {
     short.close(&rt)
 }
 
-fn new_desk(rt: &impl Abort, alloc: Global) -> Result<Desk, Fail> {
+fn new_desk(rt: &(impl Abort + Print), alloc: Global) -> Result<Desk, Fail> {
     match Desk::new(alloc, settings(alloc, 1)?) {
         Ok(desk) => Ok(desk),
         Err(fault) => {
+            let _ = println!(rt; "refused: Desk::new");
             assert_eq!(rt; fault, SettingsFault::NoMemory);
             Ok(Desk::new(alloc, settings(alloc, 1)?)?)
         }
@@ -271,10 +286,11 @@ fn new_desk(rt: &impl Abort, alloc: Global) -> Result<Desk, Fail> {
 }
 
 // A watcher of the desk, which then has seen its channel's journal.
-fn new_watcher_of(rt: &impl Abort, desk: &mut Desk) -> Result<Watcher, Fail> {
+fn new_watcher_of(rt: &(impl Abort + Print), desk: &mut Desk) -> Result<Watcher, Fail> {
     match desk.watcher() {
         Ok(watcher) => Ok(watcher),
         Err(NoMemory) => {
+            let _ = println!(rt; "refused: Desk::watcher");
             assert_eq!(rt; told(desk), (0, 0x01040000, 0, Some(0)));
             Ok(desk.watcher()?)
         }
@@ -300,6 +316,7 @@ fn growth_of_each_call_of_a_desk(rt: HostRuntime) -> Result<(), Fail> {
     let reply = match desk.frame(&frame) {
         Ok(reply) => reply,
         Err(NoMemory) => {
+            let _ = println!(rt; "refused: Desk::frame");
             assert_eq!(rt; told(&desk), (0, 0x01040000, 0, Some(0)));
             assert_eq!(rt; watcher.read(), 0x01040000);
             desk.frame(&frame)?
@@ -309,6 +326,7 @@ fn growth_of_each_call_of_a_desk(rt: HostRuntime) -> Result<(), Fail> {
     let delivery = match desk.release() {
         Ok(delivery) => delivery,
         Err(fault) => {
+            let _ = println!(rt; "refused: Desk::release");
             assert_eq!(rt; fault, ReleaseFault::NoMemory);
             assert_eq!(rt; told(&desk), (1, 0x01040001, 1, Some(0)));
             desk.release()?
@@ -318,6 +336,7 @@ fn growth_of_each_call_of_a_desk(rt: HostRuntime) -> Result<(), Fail> {
     let packet = match desk.take(5) {
         Ok(packet) => packet,
         Err(fault) => {
+            let _ = println!(rt; "refused: Desk::take");
             assert_eq!(rt; fault, TakeFault::NoMemory);
             assert_eq!(rt; told(&desk), (2, 0x01040001, 0, Some(1)));
             desk.take(5)?

@@ -36,15 +36,6 @@ fn each_answer_of_a_desk_is_published(rt: HostRuntime) -> Result<(), Fail> {
     Ok(())
 }
 
-// A station of channels 1 and 2, with room for 64 data fields each.
-fn two_channels(alloc: Global) -> Result<Manned, Fail> {
-    let mut list = settings_of(alloc, &[1, 2])?;
-    for settings in &mut list {
-        settings.buffer = 64;
-    }
-    Manned::by(alloc, list)
-}
-
 #[test]
 fn each_watcher_reads_its_own_channel(rt: HostRuntime) -> Result<(), Fail> {
     let Manned {

@@ -3,7 +3,6 @@ ghost use Rattle.tc_station.specs.Tally.{fresh};
 
 use super::*;
 use std::process::Abort;
-use std::sync::Wait;
 use tc_channel::{Event, Octets};
 
 const UNLOCK: [u8; 6] = [0x30, 0x2a, 0x04, 0x05, 0x00, 0x00];
@@ -50,13 +49,17 @@ fn new_crew(alloc: Global) -> Result<(Station, Vec<Operator>), Fail>
 }
 
 // How many Unlocks were answered, by the lowest line that memory was refused for.
-fn answered(rt: &impl Abort, done: Result<(), WorkFault>) -> u64
+fn answered(rt: &(impl Abort + Print), done: Result<(), WorkFault>) -> u64
     ensures { result ≤ 2 }
 {
     match done {
         Ok(()) => 2,
-        Err(WorkFault::NoMemory { line: 5 }) => 0,
+        Err(WorkFault::NoMemory { line: 5 }) => {
+            let _ = println!(rt; "refused: work, first line");
+            0
+        }
         Err(fault) => {
+            let _ = println!(rt; "refused: work, second line");
             assert_eq!(rt; fault, WorkFault::NoMemory { line: 6 });
             1
         }
