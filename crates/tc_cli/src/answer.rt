@@ -55,9 +55,16 @@ fn write_delivery<W: fmt::Write>(f: &mut fmt::Formatter<W>, delivery: &Delivery)
     write!(f, " queued {queued} dropped {dropped} rest {rest}")
 }
 
+// So many octets are made into digits at a time.
+const AT_ONCE: usize = 64;
+
+// Two digits for each octet. A packet may have 65,542, so that digits for all of it at once would be a growth.
 fn write_octets<W: fmt::Write>(f: &mut fmt::Formatter<W>, octets: &[u8]) -> fmt::Result {
-    for octet in octets {
-        write!(f, "{octet:02x}")?;
+    let mut room = [0u8; 2 * AT_ONCE];
+    for some in octets.chunks(AT_ONCE) {
+        let digits = &mut room[..2 * some.len()];
+        hex::encode_to_slice(some, digits).map_err(|_| fmt::Error)?;
+        f.write_str(str::from_utf8(digits).map_err(|_| fmt::Error)?)?;
     }
     Ok(())
 }

@@ -52,7 +52,7 @@ pub enum Reason {
     /// A queue isn't of 1 to 256 packets.
     #[error("bad capacity")]
     BadCapacity,
-    /// A growth was refused while the line was handled.
+    /// Memory was wanting for what the line needs.
     #[error("no memory")]
     NoMemory,
 }
@@ -76,7 +76,8 @@ impl From<SettingsFault> for Reason {
 /// Why a script ended early. Lines are numbered from 1; the whole script has the number 0.
 #[derive(Clone, Copy, Debug, PartialEq, Eq, Error)]
 pub enum ScriptFault {
-    /// The line is bad. Nothing of it was done; the lines before it were answered.
+    /// The line is bad, and nothing of it was done; or memory was wanting there: at 0 for the script as it was read, at the
+    /// number of lines for its end. `run_script` has answered the lines before it, `parallel_script` has written nothing.
     #[error("line {line}: {reason}")]
     Line { line: u32, reason: Reason },
     /// The reader failed. No line was done.

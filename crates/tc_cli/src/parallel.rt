@@ -1,7 +1,8 @@
 //! Scripts whose channels are worked side by side.
 
 ghost use Rattle.std.specs.Prelude.{◌≡◌, ◌≢◌, ◌⊎◌, ◌≤◌, [], length, IfOk, IfErr, OnOk, IfSome, MatchResult};
-ghost use Rattle.tc_cli.specs.Parallel.{phase_of, parted_for, IsParted};
+ghost use Rattle.tc_cli.specs.Parallel.{phase_of, parted_for, IsParted, Parts};
+ghost use Rattle.tc_cli.specs.Parting.{IsGiven};
 ghost use Rattle.tc_cli.specs.Phase.{Does, IsBad, Setup, Operation};
 ghost use Rattle.tc_cli.specs.Report.{AreRising};
 ghost use Rattle.tc_cli.specs.Script.{IsFault, IsGood, IsDone, IsBadLine, limit};
@@ -20,7 +21,8 @@ use tc_channel::{Channel, QueueSetting};
 use tc_station::{Gate, Job, Order};
 
 /// Reads a script and checks each of its lines; then does its frames, releases and takes by one worker
-/// for each channel, and writes the final report alone.
+/// for each channel, and writes the final report alone. The script is read whole, and all its jobs are
+/// kept before the first one is done.
 ///
 /// Each worker passes the gate once, while it holds its channel's lock. Where the octets of the reader
 /// are known, nothing is done unless each line is good, and a bad line that is told is the first one.
@@ -137,24 +139,28 @@ impl Plan {
                 let parted = self.start(alloc, scid)?;
                 Ok(Plan::Parting(parted.with_frame(alloc, line, octets)?))
             }
-            Line::Release(vcid) => {
-                let job = Job {
-                    line,
-                    order: Order::Release,
-                };
-                let parted = self.start(alloc, scid)?;
-                Ok(Plan::Parting(parted.with_job(alloc, vcid, job)?))
-            }
-            Line::Take(vcid, apid) => {
-                let job = Job {
-                    line,
-                    order: Order::Take(apid),
-                };
-                let parted = self.start(alloc, scid)?;
-                Ok(Plan::Parting(parted.with_job(alloc, vcid, job)?))
-            }
+            Line::Release(vcid) => self.with_order(alloc, scid, vcid, line, Order::Release),
+            Line::Take(vcid, apid) => self.with_order(alloc, scid, vcid, line, Order::Take(apid)),
             Line::Clcw(_) => Ok(Plan::Parting(self.start(alloc, scid)?)),
         }
+    }
+
+    // With the order that a line gives to a channel.
+    fn with_order(
+        self,
+        alloc: Global,
+        scid: u16,
+        vcid: u8,
+        line: u32,
+        order: Order,
+    ) -> Result<Plan, Reason>
+        requires { scid ≤ 1023 }
+        ensures some { OnOk result (phase_of self ≢ Setup []) }
+        ensures given { IfOk result (Parts scid (IsGiven vcid (record { line = line; order = order })) self) }
+        ensures reason { IfErr result (λ reason. (reason ≡ Reason.NoMemory) ⊎ ((reason ≡ Reason.NoChannel) × (phase_of self ≡ Setup []))) }
+    {
+        let parted = self.start(alloc, scid)?;
+        Ok(Plan::Parting(parted.with_job(alloc, vcid, Job { line, order })?))
     }
 
     // What is set up, where no operation came before.

@@ -1,6 +1,6 @@
 //! Reading a script, and taking it apart into lines.
 
-ghost use Rattle.std.specs.Prelude.{◌≡◌, ◌≢◌, ◌≤◌, ◌<◌, [], ◌∷◌, ◌++◌, length, vec_len, IfOk, IfErr, IfSome, MatchOption};
+ghost use Rattle.std.specs.Prelude.{◌≡◌, ◌≤◌, [], vec_len, IfOk, IfErr, IfSome, MatchOption};
 ghost use Rattle.tc_cli.specs.Script.{IsFirstLine, IsReadFault};
 
 use crate::fault::{Reason, ScriptFault};

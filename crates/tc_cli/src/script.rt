@@ -17,6 +17,7 @@ use std::sync::Wait;
 
 /// Reads a script, does its lines in order and writes their answers, and then the final report.
 ///
+/// The script, of 1,048,576 octets at most, is read whole and kept before the first line is done.
 /// Where the octets of the reader are known, a script is done to its end only if each line is good,
 /// and a bad line that ends it is the first one.
 pub fn run_script<T: Wait, R: Read, W: Write>(

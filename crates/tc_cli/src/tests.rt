@@ -28,6 +28,9 @@ const TWO_CHANNELS_ANSWERS: &str =
 const TWO_CHANNELS_REPORT: &str =
     "final 1 01040201 events 2 buffered 1\nqueue 1 5 1\nfinal 2 01080000 events 2 buffered 0\nqueue 2 7 1\n";
 
+/// The final report of `SCRIPT`.
+const REPORT: &str = "final 1 01040801 events 4 buffered 0\nqueue 1 5 0\n";
+
 /// What a script for spacecraft 42 is answered, and the text of its fault, which is empty without
 /// one.
 fn run<T: Wait>(rt: &T, alloc: Global, script: &[u8]) -> Result<(Vec<u8>, String), AllocError> {

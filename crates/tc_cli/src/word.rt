@@ -1,6 +1,6 @@
 //! The words of a line, and the numbers that words are.
 
-ghost use Rattle.std.specs.Prelude.{◌≡◌, ◌≢◌, ◌<◌, ◌≤◌, [], ◌∷◌, length, drop, not, MatchOption, MatchResult, OnOk, IfOk, IfErr};
+ghost use Rattle.std.specs.Prelude.{◌≡◌, ◌≢◌, ◌<◌, [], ◌∷◌, length, not, MatchOption, MatchResult, OnOk, IfErr};
 ghost use Rattle.std.specs.List.{list_all, take_while};
 ghost use Rattle.tc_cli.specs.Word.{is_separator as is_separator_octet, words};
 ghost use Rattle.tc_cli.specs.Number.{is_digit, decimal_of, number_of};

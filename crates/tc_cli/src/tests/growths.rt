@@ -1,7 +1,7 @@
 //! Calls that take memory. With ample memory each answers at once; with one growth refused each
 //! leaves what stood before, and then answers the same.
 
-use super::{ANSWERS, SCRIPT};
+use super::{ANSWERS, REPORT, SCRIPT};
 use crate::{Line, Reason, ScriptFault, parallel_script, parse_line, run_script};
 use std::alloc::Global;
 use std::process::Abort;
@@ -12,7 +12,10 @@ use tc_station::FreeGate;
 fn parse_line_growth(rt: HostRuntime) {
     let text = b"frame 302a04050000".as_slice();
     let line = match parse_line(rt.alloc(), text) {
-        Err(Reason::NoMemory) => parse_line(rt.alloc(), text),
+        Err(Reason::NoMemory) => {
+            let _ = println!(rt; "refused: parse_line");
+            parse_line(rt.alloc(), text)
+        }
         parsed => parsed,
     };
     let unlock = [0x30, 0x2a, 0x04, 0x05, 0, 0];
@@ -54,7 +57,7 @@ fn check_refused<T: Abort>(
 
 /// A script whose first lines, so many of them, set up channels, is done to its end, at once or after a
 /// growth was refused.
-fn check_script<T: Abort + Wait + AllocGlobal>(
+fn check_script<T: Abort + Print + Wait + AllocGlobal>(
     rt: &T,
     script: &str,
     expected: &str,
@@ -64,6 +67,7 @@ fn check_script<T: Abort + Wait + AllocGlobal>(
     let mut answers = room(rt, rt.alloc());
     let mut reader = script.as_bytes();
     if let Err(fault) = run_script(rt, rt.alloc(), 42, &mut reader, &mut answers) {
+        let _ = println!(rt; "refused: run_script, {fault}");
         check_refused(rt, fault, answers.as_slice(), expected, setups, lines);
         answers.clear();
         let mut reader = script.as_bytes();
@@ -90,7 +94,6 @@ fn report_growth(rt: HostRuntime) {
 /// Nothing is written unless the whole script is done.
 #[test]
 fn parallel_script_growth(rt: HostRuntime) {
-    let report = "final 1 01040801 events 4 buffered 0\nqueue 1 5 0\n";
     let mut found = room(&rt, rt.alloc());
     let mut reader = SCRIPT.as_bytes();
     let done = parallel_script(&rt, rt.alloc(), &FreeGate, 42, &mut reader, &mut found);
@@ -98,6 +101,7 @@ fn parallel_script_growth(rt: HostRuntime) {
         let ScriptFault::Line { line, reason } = fault else {
             panic!(rt; "another fault");
         };
+        let _ = println!(rt; "refused: parallel_script, {fault}");
         assert_eq!(rt; reason, Reason::NoMemory);
         assert!(rt; line <= 11);
         assert!(rt; found.is_empty());
@@ -105,5 +109,5 @@ fn parallel_script_growth(rt: HostRuntime) {
         let done = parallel_script(&rt, rt.alloc(), &FreeGate, 42, &mut reader, &mut found);
         assert_eq!(rt; done, Ok(()));
     }
-    assert_eq!(rt; found.as_slice(), report.as_bytes());
+    assert_eq!(rt; found.as_slice(), REPORT.as_bytes());
 }

@@ -1,6 +1,6 @@
 //! Scripts whose channels are worked side by side.
 
-use super::{SCRIPT, TWO_CHANNELS, TWO_CHANNELS_REPORT, text_of};
+use super::{REPORT, SCRIPT, TWO_CHANNELS, TWO_CHANNELS_REPORT, text_of};
 use crate::parallel_script;
 use std::alloc::{AllocError, Global};
 use std::process::Abort;
@@ -44,11 +44,7 @@ fn reports_alone(rt: HostRuntime) -> Result<(), Fail> {
     compare(
         &rt,
         &[
-            (
-                SCRIPT,
-                "final 1 01040801 events 4 buffered 0\nqueue 1 5 0\n",
-                "",
-            ),
+            (SCRIPT, REPORT, ""),
             (TWO_CHANNELS, TWO_CHANNELS_REPORT, ""),
             ("", "", ""),
             (

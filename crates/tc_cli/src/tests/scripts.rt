@@ -73,8 +73,67 @@ fn commands_are_obeyed(rt: HostRuntime) -> Result<(), Fail> {
                 "frame 1 E9 accepted 0 queued 0 dropped 0 rest 0\nframe 1 E9 accepted 0 queued 0 dropped 0 rest 0\nfinal 1 01040000 events 2 buffered 0\n",
                 "",
             ),
+            (
+                "channel 1 10 1 0\nframe 302a040700820105\nframe 302a0406008200\nframe 302a0406000000\nclcw 1\nframe 302a04050700\nclcw 1\n",
+                "frame 1 E9 accepted 0 queued 0 dropped 0 rest 0\nframe 1 E9 accepted 0 queued 0 dropped 0 rest 0\nframe 1 E9 accepted 0 queued 0 dropped 0 rest 0\nclcw 1 01040000\nframe 1 E7 accepted 0 queued 0 dropped 0 rest 0\nclcw 1 01040200\nfinal 1 01040200 events 4 buffered 0\n",
+                "",
+            ),
         ],
     )?;
+    Ok(())
+}
+
+#[test]
+fn the_farm_b_counter_wraps(rt: HostRuntime) -> Result<(), Fail> {
+    compare(
+        &rt,
+        &[(
+            "channel 1 10 1 0\nframe 302a04050000\nclcw 1\nframe 302a04050000\nclcw 1\nframe 302a04050000\nclcw 1\nframe 302a04050000\nclcw 1\n",
+            "frame 1 E7 accepted 0 queued 0 dropped 0 rest 0\nclcw 1 01040200\nframe 1 E7 accepted 0 queued 0 dropped 0 rest 0\nclcw 1 01040400\nframe 1 E7 accepted 0 queued 0 dropped 0 rest 0\nclcw 1 01040600\nframe 1 E7 accepted 0 queued 0 dropped 0 rest 0\nclcw 1 01040000\nfinal 1 01040000 events 4 buffered 0\n",
+            "",
+        )],
+    )?;
+    Ok(())
+}
+
+#[test]
+fn a_frame_comes_twice(rt: HostRuntime) -> Result<(), Fail> {
+    compare(
+        &rt,
+        &[(
+            "channel 1 10 1 0\nframe 002a040c00c01005c0000000aa\nframe 002a040c00c01005c0000000aa\nclcw 1\n",
+            "frame 1 E1 accepted 1 queued 0 dropped 0 rest 0\nframe 1 E4 accepted 0 queued 0 dropped 0 rest 0\nclcw 1 01040001\nfinal 1 01040001 events 2 buffered 1\n",
+            "",
+        )],
+    )?;
+    Ok(())
+}
+
+/// One frame in each part of the window of a channel that starts: the width, the first V(R) and N(S); the event, whether the
+/// frame is accepted, and the CLCW.
+#[test]
+fn windows_are_kept(rt: HostRuntime) -> Result<(), Fail> {
+    for (width, first, number, event, accepted, word) in [
+        (10, 0, "04", "E3", 0, "01040800"),
+        (10, 0, "fb", "E4", 0, "01040000"),
+        (10, 0, "fa", "E5", 0, "01042000"),
+        (10, 255, "ff", "E1", 1, "01040000"),
+        (254, 0, "7e", "E3", 0, "01040800"),
+        (254, 0, "7f", "E5", 0, "01042000"),
+        (254, 0, "80", "E5", 0, "01042000"),
+        (254, 0, "81", "E4", 0, "01040000"),
+        (2, 0, "01", "E5", 0, "01042000"),
+        (2, 0, "ff", "E4", 0, "01040000"),
+        (2, 0, "fe", "E5", 0, "01042000"),
+    ] {
+        let script = format!(in rt.alloc();
+            "channel 1 {width} 1 {first}\nframe 002a040c{number}c01005c0000000aa\nclcw 1\n"
+        )?;
+        let answers = format!(in rt.alloc();
+            "frame 1 {event} accepted {accepted} queued 0 dropped 0 rest 0\nclcw 1 {word}\nfinal 1 {word} events 1 buffered {accepted}\n"
+        )?;
+        compare(&rt, &[(script.as_str(), answers.as_str(), "")])?;
+    }
     Ok(())
 }
 

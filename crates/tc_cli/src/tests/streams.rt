@@ -1,10 +1,11 @@
 //! Streams that fail, and scripts at the limit.
 
-use super::{ANSWERS, SCRIPT, run, text_of};
-use crate::{ScriptFault, run_script};
+use super::{ANSWERS, REPORT, SCRIPT, run, text_of};
+use crate::{ScriptFault, parallel_script, run_script};
 use std::io;
 use std::io::{ErrorKind, Read, Write};
 use std::test::Fail;
+use tc_station::FreeGate;
 
 /// Gives a few octets a read, and fails at a read.
 #[derive(Drop)]
@@ -101,6 +102,31 @@ fn a_read_fails(rt: HostRuntime) -> Result<(), Fail> {
 }
 
 #[test]
+fn a_read_fails_in_parallel(rt: HostRuntime) -> Result<(), Fail> {
+    let mut passed = false;
+    for fails_at in 1..10 {
+        let mut reader = Failing {
+            rest: SCRIPT.as_bytes(),
+            most: 50,
+            reads: 0,
+            fails_at,
+        };
+        let mut report: Vec<u8> = Vec::new(rt.alloc());
+        let done = parallel_script(&rt, rt.alloc(), &FreeGate, 42, &mut reader, &mut report);
+        if reader.reads < fails_at {
+            assert_eq!(rt; done, Ok(()));
+            assert_eq!(rt; report.as_slice(), REPORT.as_bytes());
+            passed = true;
+        } else {
+            assert_eq!(rt; done, Err(ScriptFault::Read));
+            assert!(rt; report.is_empty());
+        }
+    }
+    assert!(rt; passed);
+    Ok(())
+}
+
+#[test]
 fn a_write_fails(rt: HostRuntime) -> Result<(), Fail> {
     let mut passed = false;
     let mut failed = false;
@@ -124,6 +150,49 @@ fn a_write_fails(rt: HostRuntime) -> Result<(), Fail> {
         }
     }
     assert!(rt; passed && failed);
+    Ok(())
+}
+
+#[test]
+fn a_write_fails_in_parallel(rt: HostRuntime) -> Result<(), Fail> {
+    let mut passed = false;
+    let mut failed = false;
+    for fails_at in 1..100 {
+        let mut writer = Full {
+            kept: Vec::new(rt.alloc()),
+            writes: 0,
+            fails_at,
+            fails_to_flush: false,
+        };
+        let mut reader = SCRIPT.as_bytes();
+        let done = parallel_script(&rt, rt.alloc(), &FreeGate, 42, &mut reader, &mut writer);
+        if writer.writes < fails_at {
+            assert_eq!(rt; done, Ok(()));
+            assert_eq!(rt; writer.kept.as_slice(), REPORT.as_bytes());
+            passed = true;
+        } else {
+            assert_eq!(rt; done, Err(ScriptFault::Write));
+            assert!(rt; REPORT.as_bytes().starts_with(writer.kept.as_slice()));
+            failed = true;
+        }
+    }
+    assert!(rt; passed && failed);
+    Ok(())
+}
+
+#[test]
+fn a_flush_fails_in_parallel(rt: HostRuntime) -> Result<(), Fail> {
+    for script in [SCRIPT, ""] {
+        let mut writer = Full {
+            kept: Vec::new(rt.alloc()),
+            writes: 0,
+            fails_at: 0,
+            fails_to_flush: true,
+        };
+        let mut reader = script.as_bytes();
+        let done = parallel_script(&rt, rt.alloc(), &FreeGate, 42, &mut reader, &mut writer);
+        assert_eq!(rt; done, Err(ScriptFault::Write), "at {script:?}");
+    }
     Ok(())
 }
 
