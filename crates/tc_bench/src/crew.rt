@@ -1,9 +1,8 @@
 //! A station with one operator.
 
-ghost use Rattle.std.specs.Prelude.{◌≡◌, IfOk};
+ghost use Rattle.std.specs.Prelude.{◌≡◌};
 
 use crate::score::Score;
-use crate::sender::{Sender, Sent};
 use crate::station::{APID, new_station};
 use anyhow::{Result, anyhow};
 use std::alloc::Global;

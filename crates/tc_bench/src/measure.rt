@@ -1,6 +1,6 @@
 //! Figures out of times.
 
-ghost use Rattle.std.specs.Prelude.{◌≡◌, ◌*◌, ◌/◌, max};
+ghost use Rattle.std.specs.Prelude.{◌≡◌, ◌/◌, max};
 ghost use Rattle.tc_bench.specs.Median.{IsMedian};
 
 use anyhow::Result;

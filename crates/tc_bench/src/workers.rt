@@ -1,6 +1,6 @@
 //! The load by workers, a list of jobs for each channel.
 
-ghost use Rattle.std.specs.Prelude.{◌≡◌, length, vec_len, IfOk};
+ghost use Rattle.std.specs.Prelude.{length, IfOk};
 
 use crate::round::second;
 use crate::sender::{Sender, Sent};

@@ -139,6 +139,7 @@ mod tests {
         let action = match judge(rt.alloc(), words.as_slice()) {
             Ok(action) => action,
             Err(answer) => {
+                let _ = println!(rt; "refused: judge");
                 assert_eq!(rt; answer.kind(), ErrorKind::OutOfMemory);
                 assert_eq!(rt; answer.exit_code(), 2);
                 assert!(rt; answer.use_stderr());

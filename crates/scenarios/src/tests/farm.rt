@@ -143,9 +143,3 @@ fn the_farm_b_counter_wraps(rt: HostRuntime) -> Result<(), Fail> {
     ];
     play(&rt, rt.alloc(), &steps)
 }
-
-#[test]
-fn an_unlock_with_a_number(rt: HostRuntime) -> Result<(), Fail> {
-    let steps = [Frame("302a04050700", discarded(7)), Clcw(0x01040200)];
-    play(&rt, rt.alloc(), &steps)
-}

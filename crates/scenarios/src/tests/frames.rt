@@ -30,6 +30,7 @@ fn a_reserved_frame_and_an_unknown_command(rt: HostRuntime) -> Result<(), Fail> 
     play(&rt, rt.alloc(), &steps)
 }
 
+// The unlock that comes after them has N(S) 7, at which nobody looks.
 #[test]
 fn commands_that_are_none(rt: HostRuntime) -> Result<(), Fail> {
     let steps = [
@@ -37,6 +38,8 @@ fn commands_that_are_none(rt: HostRuntime) -> Result<(), Fail> {
         Frame("302a0406008200", discarded(9)),
         Frame("302a0406000000", discarded(9)),
         Clcw(0x01040000),
+        Frame("302a04050700", discarded(7)),
+        Clcw(0x01040200),
     ];
     play(&rt, rt.alloc(), &steps)
 }
