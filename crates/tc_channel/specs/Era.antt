@@ -41,7 +41,7 @@ pub record IsEra (s : Settings) (journal before later : List Event) (x : ℕ) : 
 abbrev pub accepted_since : Settings → List Event → List Event → List Accepted
 accepted_since s before journal = drop (length (run s before).accepted) (run s journal).accepted
 
--- the accepted frames count up from x, and V(R) is the next number, modulo 256
+-- modulo 256, the accepted frames have the numbers from x on, one after the other, and V(R) is the one after them
 pub record CountsUp (s : Settings) (journal before : List Event) (x : ℕ) : Type 0 where
   pub numbers : (i : ℕ) (a : Accepted) → slice_get (accepted_since s before journal) i ≡ Some a → a.ns ≡ (x + i) % 256
   pub vr : (run s journal).report.vr ≡ (x + length (accepted_since s before journal)) % 256

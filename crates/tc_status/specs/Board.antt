@@ -54,7 +54,7 @@ told v w = record v { told = w.seen }
 abbrev pub IsBehind : History → View → Type 0
 IsBehind published v = v.live ≡ true → IsBeginning v.seen published × IsBeginning v.told published
 
--- the rule: the publisher has the first seat, the word is that of what it has published, and each live seat is behind it
+-- what holds of a board at every moment: the first seat is the publisher's, whose publication the word is of, and no live seat is ahead of it
 pub record IsBoard (words : List ℕ) (views : List View) : Type 0 where
   pub publisher : View
   pub first : get_elem? views 0 ≡ some publisher
@@ -72,7 +72,7 @@ pub record IsRead (before : Me Unit View) (found : ℕ) (after : Me Unit View) :
   pub word : found ≡ status_word after.0.seen
   pub later : IsBeginning before.0.seen after.0.seen
 
--- what was told is a beginning of what was seen, and needs to be known no longer
+-- what was seen begins with what was told, which needs to be known no longer
 pub record IsCompared (before after : Me Unit View) : Type 0 where
   pub seat : after ≡ (view before.0.seen, before.1)
   pub later : IsBeginning before.0.told before.0.seen

@@ -1,4 +1,4 @@
-//! Each call is made; where it answers want of memory, what stood before stands now, and the call is made again.
+//! Each call is made; want of memory must have left what stood before as it was, and then the call is made again.
 
 ghost use Rattle.std.specs.Prelude.{◌≡◌, ◌∷◌, [], IfOk, replicate};
 ghost use Rattle.tc_station.specs.Tally.{fresh};
