@@ -254,14 +254,15 @@ const BEHIND: FrameReply = FrameReply {
     delivery: NOTHING,
 };
 
+// The journal grows with the first event and with the fifth, which is the take: it makes no other growth.
 #[test]
 fn growth_of_each_call_of_a_station(rt: HostRuntime) -> Result<(), Fail> {
     let mut short = Short::new(&rt, rt.alloc())?;
     short.bring(&rt, BUFFERED, 0x01040001)?;
+    short.bring(&rt, BEHIND, 0x01040001)?;
+    short.bring(&rt, BEHIND, 0x01040001)?;
     short.release(&rt)?;
     short.take(&rt)?;
-    short.bring(&rt, BEHIND, 0x01040001)?;
-    short.bring(&rt, BEHIND, 0x01040001)?;
     short.close(&rt)
 }
 
