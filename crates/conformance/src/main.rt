@@ -9,14 +9,11 @@
 
 ghost use Rattle.std.specs.Prelude.{◌≤◌};
 
-mod case;
-mod large;
 mod outcome;
 
 use anyhow::{Context, Result, anyhow};
-use case::{Case, parse_case};
-use large::large_cases;
-use outcome::{Command, compare, perform};
+use cases::{Case, compare, large_cases, parse_case};
+use outcome::{Command, perform};
 use std::fs;
 use std::process::ExitCode;
 use std::rt::Files;
@@ -134,7 +131,8 @@ fn agrees<R: AllocGlobal + Print + Threads + Wait + Sync>(
     requires { case.now.scid ≤ 1023 }
 {
     let outcome = perform(rt, rt.alloc(), command, case.scid, script)?;
-    match compare(&outcome, answers, case.fault) {
+    let fault = outcome.fault.as_str();
+    match compare(&outcome.answers, fault, answers, case.fault) {
         None => Ok(true),
         Some(difference) => {
             println!(rt; "{command} {}: {difference}", case.name)?;

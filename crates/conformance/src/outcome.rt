@@ -1,6 +1,6 @@
-//! What a script leads to, beside what it is to lead to.
+//! What a script leads to.
 
-ghost use Rattle.std.specs.Prelude.{◌≡◌, ◌≤◌, ◌↔◌, IsNone, string_bytes};
+ghost use Rattle.std.specs.Prelude.{◌≤◌};
 
 use std::alloc::{AllocError, Global};
 use std::fmt;
@@ -12,16 +12,8 @@ use tc_station::FreeGate;
 /// What a script is answered, and the text of the fault with which it ends.
 #[derive(Debug, Drop)]
 pub(crate) struct Outcome {
-    answers: Vec<u8>,
-    fault: String,
-}
-
-/// Where an outcome isn't the expected one.
-#[derive(Debug, Drop)]
-pub(crate) enum Difference<'a> {
-    /// The first line that differs.
-    Answers { line: usize },
-    Fault { found: &'a str, expected: &'a str },
+    pub(crate) answers: Vec<u8>,
+    pub(crate) fault: String,
 }
 
 /// How a script is done.
@@ -65,50 +57,4 @@ pub(crate) fn perform<T: Threads + Wait + Sync>(
         Err(fault) => fault.to_string(alloc)?,
     };
     Ok(Outcome { answers, fault })
-}
-
-/// The first difference between an outcome and the answers and the fault that are expected.
-pub(crate) fn compare<'a>(
-    outcome: &'a Outcome,
-    answers: &[u8],
-    fault: &'a str,
-) -> Option<Difference<'a>>
-    ensures { IsNone result ↔ ((outcome.now.answers.items ≡ answers.now) × (string_bytes outcome.now.fault ≡ fault.now)) }
-{
-    if outcome.answers.as_slice() != answers {
-        let line = common_lines(outcome.answers.as_slice(), answers).saturating_add(1);
-        return Some(Difference::Answers { line });
-    }
-    let found = outcome.fault.as_str();
-    if found.as_bytes() != fault.as_bytes() {
-        return Some(Difference::Fault {
-            found,
-            expected: fault,
-        });
-    }
-    None
-}
-
-// How many lines are the same at the front of both.
-fn common_lines(found: &[u8], expected: &[u8]) -> usize {
-    found
-        .iter()
-        .zip(expected)
-        .take_while(|(found, expected)| found == expected)
-        .filter(|(octet, _)| **octet == b'\n')
-        .count()
-}
-
-impl fmt::Display for Difference<'_> {
-    fn fmt<W: fmt::Write>(&self, f: &mut fmt::Formatter<W>) -> fmt::Result {
-        match self {
-            Difference::Answers { line } => write!(f, "the answers differ from line {line} on"),
-            Difference::Fault { found, expected } => {
-                write!(
-                    f,
-                    "the script ends with {found:?}, and not with {expected:?}"
-                )
-            }
-        }
-    }
 }

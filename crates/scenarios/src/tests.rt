@@ -1,9 +1,7 @@
-mod farm;
-mod frames;
 mod gate;
-mod packets;
-mod reassembly;
+mod longest;
 mod replay;
+mod rows;
 mod sharing;
 mod watching;
 

@@ -5,13 +5,10 @@
 //! a status costs.
 #![tactic(auto)]
 
-mod command_line;
 mod crew;
 mod measure;
 mod round;
-mod score;
 mod scores;
-mod sender;
 mod source;
 mod station;
 mod status;
@@ -19,7 +16,7 @@ mod threads;
 mod workers;
 
 use anyhow::Result;
-use command_line::{Action, judge};
+use bench_parts::{Action, judge};
 use std::env;
 use std::env::Env;
 use std::process::ExitCode;

@@ -1,13 +1,8 @@
 //! Figures out of times.
 
-ghost use Rattle.std.specs.Prelude.{◌≡◌, ◌/◌, max};
-ghost use Rattle.tc_bench.specs.Median.{IsMedian};
-
 use anyhow::Result;
+use bench_parts::{median, picoseconds_of_each};
 use std::time::{Clock, CpuClock, Duration, Instant};
-
-/// How often each measurement is made.
-const RUNS: usize = 5;
 
 /// What one of many took, in picoseconds.
 #[derive(Clone, Copy, Debug)]
@@ -41,26 +36,6 @@ impl Start {
             processor: picoseconds_of_each(processor, count),
         })
     }
-}
-
-fn picoseconds_of_each(all: Duration, count: u64) -> u128 {
-    all.as_nanos().saturating_mul(1000) / u128::from(count.max(1))
-}
-
-/// How many there are in a second, where each takes so many picoseconds.
-pub(crate) fn per_second(picoseconds: u128) -> u128
-    ensures { result ≡ 1000000000000 / max picoseconds 1 }
-{
-    1_000_000_000_000 / picoseconds.max(1)
-}
-
-/// The figure in the middle.
-pub(crate) fn median(figures: [u128; RUNS]) -> u128
-    ensures { IsMedian figures result }
-{
-    let mut sorted = figures;
-    sorted.sort_unstable();
-    sorted[RUNS / 2]
 }
 
 /// The medians of five measurements.

@@ -1,26 +1,10 @@
 //! One round of the load on a channel.
 
-ghost use Rattle.std.specs.Prelude.{◌≡◌};
-ghost use Rattle.tc_bench.specs.Round.{second_of};
-
 use crate::crew::Crew;
-use crate::score::Score;
-use crate::sender::{Sender, Sent};
 use anyhow::Result;
+use bench_parts::{Score, Sender, Sent, second};
+use std::alloc::Global;
 use std::sync::Wait;
-
-/// The frame that follows the accepted one in its round: the same again, one that bypasses the window, one that is ahead,
-/// or an Unlock.
-pub(crate) fn second(number: u8) -> Sent
-    ensures { result ≡ second_of number }
-{
-    match number % 4 {
-        0 => Sent::Sequenced(number),
-        1 => Sent::Bypassing(number),
-        2 => Sent::Sequenced(number.wrapping_add(2)),
-        _ => Sent::Unlock,
-    }
-}
 
 /// Brings the frame with this number, which is the next one, and a second; reads the status; releases and takes.
 pub(crate) fn make_round(
@@ -35,4 +19,13 @@ pub(crate) fn make_round(
     crew.status(rt, sender.vcid(), score)?;
     crew.release(rt, sender.vcid(), score)?;
     crew.take(rt, sender.vcid(), score)
+}
+
+/// A sender for each of the virtual channels, in their order.
+pub(crate) fn senders(alloc: Global, vcids: &[u8]) -> Result<Vec<Sender>> {
+    let mut senders = Vec::with_capacity(alloc, vcids.len())?;
+    for vcid in vcids {
+        senders.push(Sender::new(alloc, *vcid)?)?;
+    }
+    Ok(senders)
 }

@@ -1,12 +1,11 @@
 //! The scores of the load.
 
 use crate::crew::{Crew, NO_FLAG};
-use crate::round::make_round;
-use crate::score::Score;
-use crate::sender::senders;
+use crate::round::{make_round, senders};
 use crate::station::APID;
 use crate::workers::work;
 use anyhow::{Result, anyhow};
+use bench_parts::Score;
 use std::alloc::Global;
 use std::sync::Wait;
 use std::thread::Threads;

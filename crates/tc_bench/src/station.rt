@@ -4,12 +4,10 @@ ghost use Rattle.std.specs.Prelude.{◌≡◌, IfOk};
 ghost use Rattle.tc_station.specs.StationSettings.{vcids_of};
 
 use anyhow::Result;
+use bench_parts::SCID;
 use std::alloc::{AllocError, Global};
 use tc_channel::{Items, QueueSetting, Settings};
 use tc_station::Station;
-
-/// The spacecraft that the stations serve.
-pub(crate) const SCID: u16 = 42;
 
 /// The application whose packets the stations queue.
 pub(crate) const APID: u16 = 5;

@@ -2,10 +2,11 @@
 
 ghost use Rattle.std.specs.Prelude.{◌≡◌, ◌<◌, ◌≤◌, All, length};
 
-use crate::measure::{Cost, Start, median_of, per_second};
-use crate::sender::{Sender, Sent, senders};
+use crate::measure::{Cost, Start, median_of};
+use crate::round::senders;
 use crate::station::{APID, new_station};
 use anyhow::{Result, anyhow};
+use bench_parts::{Sender, Sent, per_second};
 use std::alloc::Global;
 use std::sync::Wait;
 use std::thread::Threads;

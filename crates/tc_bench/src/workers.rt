@@ -2,10 +2,9 @@
 
 ghost use Rattle.std.specs.Prelude.{length, IfOk};
 
-use crate::round::second;
-use crate::sender::{Sender, Sent};
 use crate::station::{APID, new_station};
 use anyhow::Result;
+use bench_parts::{Sender, Sent, second};
 use std::alloc::{AllocError, Global};
 use std::sync::Wait;
 use std::thread::Threads;

@@ -14,8 +14,6 @@ mod laws;
 mod queues;
 mod reply;
 mod settings;
-#[cfg(test)]
-mod tests;
 
 pub use channel::Channel;
 pub use event::Event;

@@ -2,10 +2,11 @@
 use Rattle.std.proofs.Common.{◌≡◌, ◌≤◌, ℕ, ◌+◌, List, [], ◌⊎◌, Result, Ok, Err, inl, inr, length, refl}
 use Rattle.std.specs.Prelude.{OnOk}
 use Rattle.tc_cli.specs.Phase.{Phase}
-use Rattle.tc_cli.specs.Script.{IsFirstLine, Leads, IsBadLine, IsFirstBad, IsGood, limit}
-use Rattle.tc_cli.specs.declared.fault.Reason.{Reason}
-use Rattle.tc_cli.specs.declared.fault.Reason.TheVariants.{NoMemory}
-use Rattle.tc_cli.specs.declared.fault.ScriptFault.{ScriptFault}
+use Rattle.tc_cli.specs.Script.{Leads, IsBadLine, IsFirstBad, IsGood}
+use Rattle.tc_text.specs.Reading.{IsFirstLine, limit}
+use Rattle.tc_text.specs.declared.fault.Reason.{Reason}
+use Rattle.tc_text.specs.declared.fault.Reason.TheVariants.{NoMemory}
+use Rattle.tc_text.specs.declared.fault.ScriptFault.{ScriptFault}
 
 -- a bad line after good ones is the first bad one
 pub first-bad : (script rest line after : List ℕ) (before : ℕ) (phase : Phase) (reason : Reason)

@@ -1,8 +1,6 @@
-pub mod Word
-pub mod Number
-pub mod Line
 pub mod Configuration
 pub mod Phase
+pub mod Stage
 pub mod Script
 pub mod Manned
 pub mod Operation

@@ -1,24 +1,22 @@
--- How far a script is parted: its phase, the jobs so far, and what a line gives to them.
+-- A script whose operations are parted by their channels: the jobs so far, and what a line gives to them.
 use Rattle.std.specs.Prelude.{◌≡◌, ℕ}
 use Rattle.tc_station.specs.declared.work.Order.TheVariants as orders
 use Rattle.tc_cli.specs.Parting.{Parted, newly_parted, IsGiven, IsFrameGiven}
-use Rattle.tc_cli.specs.Phase.{Phase, Setup, Operation}
-use Rattle.tc_cli.specs.declared.line.Line.{Line}
-use Rattle.tc_cli.specs.declared.line.Line.TheVariants.{Blank, Channel, Queue, Frame, Release, Take, Clcw}
-use Rattle.tc_cli.specs.declared.parallel.Plan.{Plan}
-use Rattle.tc_cli.specs.declared.parallel.Plan.TheVariants.{SettingUp, Parting}
+use Rattle.tc_text.specs.declared.line.Line.{Line}
+use Rattle.tc_text.specs.declared.line.Line.TheVariants.{Blank, Channel, Queue, Frame, Release, Take, Clcw}
+use Rattle.tc_cli.specs.declared.stage.Stage.{Stage}
+use Rattle.tc_cli.specs.declared.stage.Stage.TheVariants.{SettingUp, Operating}
 
-abbrev pub phase_of : Plan → Phase
-phase_of (SettingUp list) = Setup list
-phase_of (Parting parted) = Operation
+abbrev pub Plan : Type 0
+Plan = Stage Parted
 
 -- the jobs that an operation finds: none of a new station where no operation came before
 abbrev pub parted_for : ℕ → Plan → Parted
 parted_for scid (SettingUp list) = newly_parted scid list
-parted_for scid (Parting parted) = parted
+parted_for scid (Operating parted) = parted
 
 abbrev pub Parts : ℕ → (Parted → Parted → Type 0) → Plan → Plan → Type 0
-Parts scid Gives old new = (parted : Parted) × Gives (parted_for scid old) parted × (new ≡ Parting parted)
+Parts scid Gives old new = (parted : Parted) × Gives (parted_for scid old) parted × (new ≡ Operating parted)
 
 -- the job of a line is given to its channel; a CLCW is no job, and neither is a blank line. What a line sets up is told by its phase
 abbrev pub IsParted : ℕ → ℕ → Plan → Line → Plan → Type 0

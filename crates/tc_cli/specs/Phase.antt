@@ -2,13 +2,13 @@
 use Rattle.std.specs.Prelude.{◌≡◌, ◌≢◌, ℕ, List, [], ◌⊎◌}
 use Rattle.tc_channel.specs.declared.settings.Settings.{Settings}
 use Rattle.tc_channel.specs.declared.settings.SettingsFault.{SettingsFault}
-use Rattle.tc_channel.specs.declared.settings.SettingsFault.TheVariants as faults
 use Rattle.tc_channel.specs.Settings.{IsFault}
 use Rattle.tc_cli.specs.Configuration.{IsThere, IsAt, AddsChannel, AddsQueue, settings_of, with_queue}
-use Rattle.tc_cli.specs.declared.fault.Reason.{Reason}
-use Rattle.tc_cli.specs.declared.fault.Reason.TheVariants.{TooLate, NoChannel, DoubleChannel, UnknownChannel, BadVcid, BadWindow, BadBuffer, BadApid, DoubleApid, BadCapacity, NoMemory}
-use Rattle.tc_cli.specs.declared.line.Line.{Line}
-use Rattle.tc_cli.specs.declared.line.Line.TheVariants.{Blank, Channel, Queue, Frame, Release, Take, Clcw}
+use Rattle.tc_text.specs.declared.fault.Reason.{Reason}
+use Rattle.tc_text.specs.declared.fault.Reason.TheVariants.{TooLate, NoChannel, DoubleChannel, UnknownChannel}
+use Rattle.tc_text.specs.Reason.{reason_of}
+use Rattle.tc_text.specs.declared.line.Line.{Line}
+use Rattle.tc_text.specs.declared.line.Line.TheVariants.{Blank, Channel, Queue, Frame, Release, Take, Clcw}
 
 -- before the first operation the settings of the channels so far; from then on nothing is set up any more
 pub data Phase : Type 0 where
@@ -30,16 +30,6 @@ Does phase (Frame octets) new = Operates phase new
 Does phase (Release vcid) new = Operates phase new
 Does phase (Take vcid apid) new = Operates phase new
 Does phase (Clcw vcid) new = Operates phase new
-
--- the reason for a fault of the settings
-abbrev pub reason_of : SettingsFault → Reason
-reason_of faults.BadVcid = BadVcid
-reason_of faults.BadWindow = BadWindow
-reason_of faults.BadBuffer = BadBuffer
-reason_of faults.BadApid = BadApid
-reason_of faults.DoubleApid = DoubleApid
-reason_of faults.BadCapacity = BadCapacity
-reason_of faults.NoMemory = NoMemory
 
 -- no channel can have the settings, and this is why
 abbrev pub IsSettingsReason : Settings → Reason → Type 0

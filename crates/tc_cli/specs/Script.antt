@@ -1,19 +1,14 @@
 -- The lines of a script, one after the other, and where a script ends early.
-use Rattle.std.specs.Prelude.{◌≡◌, ◌≢◌, ◌<◌, ◌≤◌, ℕ, ◌+◌, List, [], ◌∷◌, ◌++◌, ◌⊎◌, length, All, Option, Ok, Err, IfSome}
-use Rattle.tc_cli.specs.Word.{words}
-use Rattle.tc_cli.specs.Line.{line_of}
+use Rattle.std.specs.Prelude.{◌≡◌, ◌<◌, ◌≤◌, ℕ, ◌+◌, List, [], ◌⊎◌, length, Ok, Err}
+use Rattle.tc_text.specs.Reading.{IsFirstLine, limit}
+use Rattle.tc_text.specs.Word.{words}
+use Rattle.tc_text.specs.Line.{line_of}
 use Rattle.tc_cli.specs.Phase.{Phase, Setup, Does, IsBad}
-use Rattle.tc_cli.specs.declared.line.Line.{Line as Said}
-use Rattle.tc_cli.specs.declared.fault.Reason.{Reason}
-use Rattle.tc_cli.specs.declared.fault.Reason.TheVariants.{NoMemory}
-use Rattle.tc_cli.specs.declared.fault.ScriptFault.{ScriptFault}
-use Rattle.tc_cli.specs.declared.fault.ScriptFault.TheVariants.{Line, Read, TooLong, Write, Unbalanced}
-
--- the octets are a line, which has no line feed, and what follows it: a line ends at a line feed, or where the octets end
-pub record IsFirstLine (octets line after : List ℕ) : Type 0 where
-  pub one : All (λ octet. octet ≢ 10) line
-  pub parts : (octets ≡ line ++ 10 ∷ after) ⊎ ((octets ≡ line) × (after ≡ []))
-  pub shorter : length after < length octets
+use Rattle.tc_text.specs.declared.line.Line.{Line as Said}
+use Rattle.tc_text.specs.declared.fault.Reason.{Reason}
+use Rattle.tc_text.specs.declared.fault.Reason.TheVariants.{NoMemory}
+use Rattle.tc_text.specs.declared.fault.ScriptFault.{ScriptFault}
+use Rattle.tc_text.specs.declared.fault.ScriptFault.TheVariants.{Line, Read, TooLong, Write, Unbalanced}
 
 -- the line is good, and leads from the one phase to the other
 abbrev pub IsDone : Phase → List ℕ → Phase → Type 0
@@ -45,18 +40,6 @@ pub record IsFirstBad (script : List ℕ) (number : ℕ) (reason : Reason) : Typ
 -- each line of the script is good
 abbrev pub IsGood : List ℕ → Type 0
 IsGood script = (count : ℕ) × (phase : Phase) × Leads script count phase []
-
--- how many octets a script may have
-abbrev pub limit : ℕ
-limit = 1048576
-
--- why a script isn't read; that it is too long says something of a reader whose octets are known
-abbrev pub IsReadFault : Option (List ℕ) → ScriptFault → Type 0
-IsReadFault known Read = Unit {0}
-IsReadFault known TooLong = IfSome known (λ octets. limit < length octets)
-IsReadFault known (Line number reason) = (number ≡ 0) × (reason ≡ NoMemory)
-IsReadFault known Write = ⊥
-IsReadFault known Unbalanced = ⊥
 
 -- why the station of a script of so many lines isn't closed in balance
 abbrev pub IsCloseFault : ℕ → ScriptFault → Type 0

@@ -1,19 +1,17 @@
--- How far a script has come: its phase, the station that an operation finds, and what a line is answered.
+-- A script whose lines are done in order: the station that an operation finds, and what a line is answered.
 use Rattle.std.specs.Prelude.{◌≡◌, ℕ, Option, Some, None}
 use Rattle.tc_station.specs.Roster.{Roster}
 use Rattle.tc_station.specs.StationSettings.{vcids_of}
-use Rattle.tc_cli.specs.Phase.{Phase, Setup, Operation}
 use Rattle.tc_cli.specs.Manned.{Manned, newly_manned, after_answer}
 use Rattle.tc_cli.specs.Operation.{IsFrameAnswer, IsReleaseAnswer, IsTakeAnswer, IsClcwAnswer}
 use Rattle.tc_cli.specs.declared.answer.Answer.{Answer}
-use Rattle.tc_cli.specs.declared.line.Line.{Line}
-use Rattle.tc_cli.specs.declared.line.Line.TheVariants.{Blank, Channel, Queue, Frame, Release, Take, Clcw}
-use Rattle.tc_cli.specs.declared.session.Session.{Session}
-use Rattle.tc_cli.specs.declared.session.Session.TheVariants.{SettingUp, Operating}
+use Rattle.tc_text.specs.declared.line.Line.{Line}
+use Rattle.tc_text.specs.declared.line.Line.TheVariants.{Blank, Channel, Queue, Frame, Release, Take, Clcw}
+use Rattle.tc_cli.specs.declared.stage.Stage.{Stage}
+use Rattle.tc_cli.specs.declared.stage.Stage.TheVariants.{SettingUp, Operating}
 
-abbrev pub phase_of : Session → Phase
-phase_of (SettingUp list) = Setup list
-phase_of (Operating manned) = Operation
+abbrev pub Session : Type 0
+Session = Stage Manned
 
 -- the station that operations find: a new one where none came before
 abbrev pub manned_for : ℕ → Session → Manned

@@ -7,12 +7,12 @@ ghost use Rattle.tc_cli.specs.Parting.{empty_list};
 ghost use Rattle.tc_cli.specs.Phase.{IsChannelRefused, IsQueueRefused, IsSettingsReason};
 ghost use Rattle.tc_station.specs.StationSettings.{vcids_of};
 
-use crate::fault::Reason;
 use std::alloc::Global;
 use std::marker::Model;
 use std::mem;
 use tc_channel::{Items, QueueSetting, Settings};
 use tc_station::{Station, StationFault, WorkList};
+use tc_text::Reason;
 
 /// The settings of the channels so far, in the order of their lines. A station can have them, as
 /// soon as there are some.

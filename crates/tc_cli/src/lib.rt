@@ -7,21 +7,15 @@
 
 mod answer;
 mod configuration;
-mod fault;
-mod line;
 mod manned;
 mod parallel;
 mod parting;
-mod reading;
 mod report;
 mod script;
 mod session;
-#[cfg(test)]
-mod tests;
+mod stage;
 mod watchers;
-mod word;
 
-pub use fault::{Reason, ScriptFault};
-pub use line::{Line, parse_line};
 pub use parallel::parallel_script;
 pub use script::run_script;
+pub use tc_text::{Line, Reason, ScriptFault, parse_line};

@@ -6,13 +6,13 @@ ghost use Rattle.tc_station.specs.Tally.{fresh};
 ghost use Rattle.tc_cli.specs.Operation.{IsFrameAnswer, IsReleaseAnswer, IsTakeAnswer, IsClcwAnswer};
 
 use crate::answer::{Answer, Refusal};
-use crate::fault::Reason;
 use crate::watchers::Watchers;
 use std::alloc::Global;
 use std::marker::Model;
 use std::sync::Wait;
 use tc_channel::Octets;
 use tc_station::{BringFault, Operator, OperatorsFault, ReleaseRefused, Station, TakeRefused};
+use tc_text::Reason;
 
 /// A station with the one operator that it has issued, and a watcher for each channel.
 #[derive(Drop)]

@@ -1,24 +1,25 @@
 //! Scripts whose channels are worked side by side.
 
-ghost use Rattle.std.specs.Prelude.{◌≡◌, ◌≢◌, ◌⊎◌, ◌≤◌, [], length, IfOk, IfErr, OnOk, IfSome, MatchResult};
-ghost use Rattle.tc_cli.specs.Parallel.{phase_of, parted_for, IsParted, Parts};
+ghost use Rattle.std.specs.Prelude.{◌≡◌, ◌≢◌, ◌⊎◌, ◌≤◌, [], length, IfOk, IfErr, OnOk, IfSome};
+ghost use Rattle.tc_cli.specs.Parallel.{parted_for, IsParted, Parts};
 ghost use Rattle.tc_cli.specs.Parting.{IsGiven};
-ghost use Rattle.tc_cli.specs.Phase.{Does, IsBad, Setup, Operation};
+ghost use Rattle.tc_cli.specs.Phase.{Does, IsBad, Setup};
 ghost use Rattle.tc_cli.specs.Report.{AreRising};
-ghost use Rattle.tc_cli.specs.Script.{IsFault, IsGood, IsDone, IsBadLine, limit};
+ghost use Rattle.tc_cli.specs.Script.{IsFault, IsGood, IsDone, IsBadLine};
+ghost use Rattle.tc_cli.specs.Stage.{phase_of};
+ghost use Rattle.tc_text.specs.Reading.{limit};
 
 use crate::configuration::{Configuration, without_queues};
-use crate::fault::{Reason, ScriptFault};
-use crate::line::{Line, parse_line};
 use crate::parting::Parted;
-use crate::reading::{next_line, read_whole};
 use crate::report::write_report;
+use crate::stage::Stage;
 use std::alloc::Global;
 use std::io::{Read, Write};
 use std::sync::Wait;
 use std::thread::Threads;
 use tc_channel::{Channel, QueueSetting};
 use tc_station::{Gate, Job, Order};
+use tc_text::{Line, Reason, ScriptFault, next_line, parse_line, read_whole};
 
 /// Reads a script and checks each of its lines; then does its frames, releases and takes by one worker
 /// for each channel, and writes the final report alone. The script is read whole, and all its jobs are
@@ -69,12 +70,8 @@ fn work_lines<T: Threads + Wait + Sync, G: Gate + Sync>(
     }
 }
 
-// How far a script is parted: first its channels are set up, then its jobs are given to them.
-#[derive(Drop)]
-enum Plan {
-    SettingUp(Configuration),
-    Parting(Parted),
-}
+// How far a script has come whose operations are parted by their channels, to be done later.
+type Plan = Stage<Parted>;
 
 // What is to be done by a script, and how many lines it has.
 fn part_lines(alloc: Global, scid: u16, script: &[u8]) -> Result<(Plan, u32), ScriptFault>
@@ -83,7 +80,7 @@ fn part_lines(alloc: Global, scid: u16, script: &[u8]) -> Result<(Plan, u32), Sc
     ensures good { OnOk result (IsGood script.now) }
     ensures fault { IfErr result (IsFault script.now) }
 {
-    let mut plan = Plan::SettingUp(Configuration::new(alloc));
+    let mut plan = Stage::SettingUp(Configuration::new(alloc));
     let mut rest = script;
     let mut line = 0u32;
     while let Some((octets, after)) = next_line(rest) {
@@ -106,8 +103,8 @@ fn part_line(alloc: Global, scid: u16, plan: Plan, line: u32, octets: &[u8]) -> 
     plan.with_line(alloc, scid, line, said)
 }
 
-impl Plan {
-    // With what a line says. A bad line ends the script, so it gives no plan back.
+impl Stage<Parted> {
+    // With what a line says.
     fn with_line(self, alloc: Global, scid: u16, line: u32, said: Line) -> Result<Plan, Reason>
         requires { scid ≤ 1023 }
         ensures done { IfOk result (λ new. Does (phase_of self) said (phase_of new)) }
@@ -121,27 +118,19 @@ impl Plan {
                 width,
                 buffer,
                 first,
-            } => {
-                let settings = without_queues(alloc, vcid, width, buffer, first);
-                let list = self.configuration()?;
-                Ok(Plan::SettingUp(list.with_channel(settings)?))
-            }
+            } => self.with_channel(without_queues(alloc, vcid, width, buffer, first)),
             Line::Queue {
                 vcid,
                 apid,
                 capacity,
-            } => {
-                let queue = QueueSetting { apid, capacity };
-                let list = self.configuration()?;
-                Ok(Plan::SettingUp(list.with_queue(alloc, vcid, queue)?))
-            }
+            } => self.with_queue(alloc, vcid, QueueSetting { apid, capacity }),
             Line::Frame(octets) => {
                 let parted = self.start(alloc, scid)?;
-                Ok(Plan::Parting(parted.with_frame(alloc, line, octets)?))
+                Ok(Stage::Operating(parted.with_frame(alloc, line, octets)?))
             }
             Line::Release(vcid) => self.with_order(alloc, scid, vcid, line, Order::Release),
             Line::Take(vcid, apid) => self.with_order(alloc, scid, vcid, line, Order::Take(apid)),
-            Line::Clcw(_) => Ok(Plan::Parting(self.start(alloc, scid)?)),
+            Line::Clcw(_) => Ok(Stage::Operating(self.start(alloc, scid)?)),
         }
     }
 
@@ -160,17 +149,7 @@ impl Plan {
         ensures reason { IfErr result (λ reason. (reason ≡ Reason.NoMemory) ⊎ ((reason ≡ Reason.NoChannel) × (phase_of self ≡ Setup []))) }
     {
         let parted = self.start(alloc, scid)?;
-        Ok(Plan::Parting(parted.with_job(alloc, vcid, Job { line, order })?))
-    }
-
-    // What is set up, where no operation came before.
-    fn configuration(self) -> Result<Configuration, Reason>
-        ensures { MatchResult result (λ list. phase_of self ≡ Setup list) (λ reason. (reason ≡ Reason.TooLate) × (phase_of self ≡ Operation)) }
-    {
-        match self {
-            Plan::SettingUp(list) => Ok(list),
-            Plan::Parting(_) => Err(Reason::TooLate),
-        }
+        Ok(Stage::Operating(parted.with_job(alloc, vcid, Job { line, order })?))
     }
 
     // The jobs so far, of a station made by what was set up where no operation came before.
@@ -181,8 +160,8 @@ impl Plan {
         ensures reason { IfErr result (λ reason. (reason ≡ Reason.NoMemory) ⊎ ((reason ≡ Reason.NoChannel) × (phase_of self ≡ Setup []))) }
     {
         match self {
-            Plan::Parting(parted) => Ok(parted),
-            Plan::SettingUp(list) => Parted::new(alloc, scid, list),
+            Stage::Operating(parted) => Ok(parted),
+            Stage::SettingUp(list) => Parted::new(alloc, scid, list),
         }
     }
 }

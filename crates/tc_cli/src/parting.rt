@@ -6,7 +6,6 @@ ghost use Rattle.tc_cli.specs.Report.{AreRising};
 ghost use Rattle.tc_cli.specs.Script.{IsWorkFault};
 
 use crate::configuration::Configuration;
-use crate::fault::{Reason, ScriptFault};
 use crate::report::close;
 use std::alloc::Global;
 use std::marker::Model;
@@ -15,6 +14,7 @@ use std::sync::Wait;
 use std::thread::Threads;
 use tc_channel::{Channel, Items, Octets};
 use tc_station::{Gate, Job, OperatorsFault, Order, Station, WorkFault, WorkList};
+use tc_text::{Reason, ScriptFault};
 
 /// A station that has issued no operator, and a list of jobs for each of its channels.
 #[derive(Drop)]

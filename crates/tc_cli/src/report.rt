@@ -4,12 +4,12 @@ ghost use Rattle.std.specs.Prelude.{◌≡◌, ◌≤◌, All, vec_len, IfOk, If
 ghost use Rattle.tc_cli.specs.Report.{AreRising, AreBalanced};
 ghost use Rattle.tc_cli.specs.Script.{IsCloseFault};
 
-use crate::fault::{Reason, ScriptFault};
 use crate::watchers::NO_FLAGS;
 use std::io;
 use std::io::Write;
 use tc_channel::Channel;
 use tc_station::{CloseFault, Operator, Station};
+use tc_text::{Reason, ScriptFault};
 
 /// Closes the station of a script with so many lines. The channels stand in rising virtual channel
 /// id, each in balance with the counts of the operators.

@@ -1,19 +1,19 @@
 //! A script from its octets to its answers.
 
 ghost use Rattle.std.specs.Prelude.{◌≡◌, ◌⊎◌, ◌≤◌, length, IfOk, IfErr, OnOk, IfSome};
-ghost use Rattle.tc_cli.specs.Script.{IsFault, IsGood, IsDone, IsBadLine, IsReportFault, limit};
-ghost use Rattle.tc_cli.specs.Session.{phase_of};
+ghost use Rattle.tc_cli.specs.Script.{IsFault, IsGood, IsDone, IsBadLine, IsReportFault};
+ghost use Rattle.tc_text.specs.Reading.{limit};
+ghost use Rattle.tc_cli.specs.Stage.{phase_of};
 
 use crate::answer::Answer;
 use crate::configuration::Configuration;
-use crate::fault::{Reason, ScriptFault};
-use crate::line::parse_line;
-use crate::reading::{next_line, read_whole};
 use crate::report::{close, write_report};
 use crate::session::Session;
+use crate::stage::Stage;
 use std::alloc::Global;
 use std::io::{Read, Write};
 use std::sync::Wait;
+use tc_text::{Reason, ScriptFault, next_line, parse_line, read_whole};
 
 /// Reads a script, does its lines in order and writes their answers, and then the final report.
 ///
@@ -51,7 +51,7 @@ fn run_lines<W: Write>(
     ensures good { OnOk result (IsGood script.now) }
     ensures fault { IfErr result (IsFault script.now) }
 {
-    let mut session = Session::SettingUp(Configuration::new(alloc));
+    let mut session = Stage::SettingUp(Configuration::new(alloc));
     let mut rest = script;
     let mut line = 0u32;
     while let Some((octets, after)) = next_line(rest) {

@@ -1,36 +1,35 @@
-//! A script that is being done: first its channels are set up, then it operates.
+//! A script whose lines are done in order: at the first operation its station is made.
 
-ghost use Rattle.std.specs.Prelude.{◌≡◌, ◌≢◌, ◌≤◌, ◌⊎◌, [], IfOk, IfErr, OnOk, MatchResult};
-ghost use Rattle.tc_cli.specs.Phase.{Does, IsBad, Setup, Operation};
-ghost use Rattle.tc_cli.specs.Session.{phase_of, manned_for, IsAnswered};
+ghost use Rattle.std.specs.Prelude.{◌≡◌, ◌≢◌, ◌≤◌, ◌⊎◌, [], IfOk, IfErr, OnOk};
+ghost use Rattle.tc_cli.specs.Operation.{IsFrameAnswer, IsReleaseAnswer, IsTakeAnswer, IsClcwAnswer};
+ghost use Rattle.tc_cli.specs.Phase.{Does, IsBad, IsBadOperation, Operates, Setup};
+ghost use Rattle.tc_cli.specs.Session.{manned_for, IsAnswered, IsOperated};
+ghost use Rattle.tc_cli.specs.Stage.{phase_of};
 
 use crate::answer::Answer;
-use crate::configuration::{Configuration, without_queues};
-use crate::fault::Reason;
-use crate::line::Line;
+use crate::configuration::without_queues;
 use crate::manned::MannedStation;
+use crate::stage::Stage;
 use std::alloc::Global;
 use std::sync::Wait;
-use tc_channel::{QueueSetting, Settings};
+use tc_channel::{Octets, QueueSetting};
+use tc_text::{Line, Reason};
 
-/// How far a script has come. The station is made at the first operation, with the channels that are
-/// set up by then.
-#[derive(Drop)]
-pub(crate) enum Session {
-    SettingUp(Configuration),
-    Operating(MannedStation),
-}
+/// How far a script has come whose operations are done one after the other.
+pub(crate) type Session = Stage<MannedStation>;
 
-impl Session {
-    /// Does a line; an operation has an answer. A bad line ends the script, so it gives no session
-    /// back.
+/// What became of a line: how far the script has come, and what an operation is answered.
+pub(crate) type Performed = (Session, Option<Answer>);
+
+impl Stage<MannedStation> {
+    /// Does a line; an operation has an answer.
     pub(crate) fn perform(
         self,
         rt: &impl Wait,
         alloc: Global,
         scid: u16,
         line: Line,
-    ) -> Result<(Session, Option<Answer>), Reason>
+    ) -> Result<Performed, Reason>
         requires { scid ≤ 1023 }
         ensures done { IfOk result (λ done. Does (phase_of self) line (phase_of done.0)) }
         ensures answer { IfOk result (λ done. IsAnswered scid self line done.0 done.1) }
@@ -45,7 +44,7 @@ impl Session {
                 first,
             } => {
                 let settings = without_queues(alloc, vcid, width, buffer, first);
-                Ok((self.add_channel(settings)?, None))
+                Ok((self.with_channel(settings)?, None))
             }
             Line::Queue {
                 vcid,
@@ -53,56 +52,76 @@ impl Session {
                 capacity,
             } => {
                 let queue = QueueSetting { apid, capacity };
-                Ok((self.add_queue(alloc, vcid, queue)?, None))
+                Ok((self.with_queue(alloc, vcid, queue)?, None))
             }
-            Line::Frame(octets) => {
-                let mut manned = self.start(rt, alloc, scid)?;
-                let answer = manned.bring(rt, octets.as_slice())?;
-                Ok((Session::Operating(manned), Some(answer)))
-            }
-            Line::Release(vcid) => {
-                let mut manned = self.start(rt, alloc, scid)?;
-                let answer = manned.release(rt, vcid)?;
-                Ok((Session::Operating(manned), Some(answer)))
-            }
-            Line::Take(vcid, apid) => {
-                let mut manned = self.start(rt, alloc, scid)?;
-                let answer = manned.take(rt, vcid, apid)?;
-                Ok((Session::Operating(manned), Some(answer)))
-            }
-            Line::Clcw(vcid) => {
-                let mut manned = self.start(rt, alloc, scid)?;
-                let answer = manned.clcw(vcid);
-                Ok((Session::Operating(manned), Some(answer)))
-            }
+            Line::Frame(octets) => self.bring(rt, alloc, scid, octets),
+            Line::Release(vcid) => self.release(rt, alloc, scid, vcid),
+            Line::Take(vcid, apid) => self.take(rt, alloc, scid, vcid, apid),
+            Line::Clcw(vcid) => self.clcw(rt, alloc, scid, vcid),
         }
     }
 
-    fn add_channel(self, settings: Settings) -> Result<Session, Reason>
-        requires { settings.queues ≡ [] }
-        ensures done { IfOk result (λ done. Does (phase_of self) (Line.Channel settings.vcid settings.width settings.buffer settings.first) (phase_of done)) }
-        ensures reason { IfErr result (λ reason. (reason ≡ Reason.NoMemory) ⊎ IsBad (phase_of self) (Line.Channel settings.vcid settings.width settings.buffer settings.first) reason) }
+    fn bring(
+        self,
+        rt: &impl Wait,
+        alloc: Global,
+        scid: u16,
+        octets: Octets,
+    ) -> Result<Performed, Reason>
+        requires { scid ≤ 1023 }
+        ensures done { IfOk result (λ done. Operates (phase_of self) (phase_of done.0)) }
+        ensures answer { IfOk result (λ done. IsOperated scid (λ station. IsFrameAnswer station octets) self done.0 done.1) }
+        ensures reason { IfErr result (λ reason. (reason ≡ Reason.NoMemory) ⊎ IsBadOperation (phase_of self) reason) }
     {
-        let list = self.configuration()?;
-        Ok(Session::SettingUp(list.with_channel(settings)?))
+        let mut manned = self.start(rt, alloc, scid)?;
+        let answer = manned.bring(rt, octets.as_slice())?;
+        Ok((Stage::Operating(manned), Some(answer)))
     }
 
-    fn add_queue(self, alloc: Global, vcid: u8, queue: QueueSetting) -> Result<Session, Reason>
-        ensures done { IfOk result (λ done. Does (phase_of self) (Line.Queue vcid queue.apid queue.capacity) (phase_of done)) }
-        ensures reason { IfErr result (λ reason. (reason ≡ Reason.NoMemory) ⊎ IsBad (phase_of self) (Line.Queue vcid queue.apid queue.capacity) reason) }
+    fn release(
+        self,
+        rt: &impl Wait,
+        alloc: Global,
+        scid: u16,
+        vcid: u8,
+    ) -> Result<Performed, Reason>
+        requires { scid ≤ 1023 }
+        ensures done { IfOk result (λ done. Operates (phase_of self) (phase_of done.0)) }
+        ensures answer { IfOk result (λ done. IsOperated scid (λ station. IsReleaseAnswer station vcid) self done.0 done.1) }
+        ensures reason { IfErr result (λ reason. (reason ≡ Reason.NoMemory) ⊎ IsBadOperation (phase_of self) reason) }
     {
-        let list = self.configuration()?;
-        Ok(Session::SettingUp(list.with_queue(alloc, vcid, queue)?))
+        let mut manned = self.start(rt, alloc, scid)?;
+        let answer = manned.release(rt, vcid)?;
+        Ok((Stage::Operating(manned), Some(answer)))
     }
 
-    // What is set up, where no operation came before.
-    fn configuration(self) -> Result<Configuration, Reason>
-        ensures { MatchResult result (λ list. phase_of self ≡ Setup list) (λ reason. (reason ≡ Reason.TooLate) × (phase_of self ≡ Operation)) }
+    fn take(
+        self,
+        rt: &impl Wait,
+        alloc: Global,
+        scid: u16,
+        vcid: u8,
+        apid: u16,
+    ) -> Result<Performed, Reason>
+        requires { scid ≤ 1023 }
+        ensures done { IfOk result (λ done. Operates (phase_of self) (phase_of done.0)) }
+        ensures answer { IfOk result (λ done. IsOperated scid (λ station. IsTakeAnswer station vcid apid) self done.0 done.1) }
+        ensures reason { IfErr result (λ reason. (reason ≡ Reason.NoMemory) ⊎ IsBadOperation (phase_of self) reason) }
     {
-        match self {
-            Session::SettingUp(list) => Ok(list),
-            Session::Operating(_) => Err(Reason::TooLate),
-        }
+        let mut manned = self.start(rt, alloc, scid)?;
+        let answer = manned.take(rt, vcid, apid)?;
+        Ok((Stage::Operating(manned), Some(answer)))
+    }
+
+    fn clcw(self, rt: &impl Wait, alloc: Global, scid: u16, vcid: u8) -> Result<Performed, Reason>
+        requires { scid ≤ 1023 }
+        ensures done { IfOk result (λ done. Operates (phase_of self) (phase_of done.0)) }
+        ensures answer { IfOk result (λ done. IsOperated scid (λ station. IsClcwAnswer station vcid) self done.0 done.1) }
+        ensures reason { IfErr result (λ reason. (reason ≡ Reason.NoMemory) ⊎ IsBadOperation (phase_of self) reason) }
+    {
+        let mut manned = self.start(rt, alloc, scid)?;
+        let answer = manned.clcw(vcid);
+        Ok((Stage::Operating(manned), Some(answer)))
     }
 
     /// The station with its operator, made by what was set up where no operation came before.
@@ -118,8 +137,8 @@ impl Session {
         ensures reason { IfErr result (λ reason. (reason ≡ Reason.NoMemory) ⊎ ((reason ≡ Reason.NoChannel) × (phase_of self ≡ Setup []))) }
     {
         match self {
-            Session::Operating(manned) => Ok(manned),
-            Session::SettingUp(list) => {
+            Stage::Operating(manned) => Ok(manned),
+            Stage::SettingUp(list) => {
                 let vcids = list.vcids(alloc)?;
                 MannedStation::new(rt, alloc, list.station(alloc, scid)?, vcids)
             }

@@ -3,13 +3,13 @@
 ghost use Rattle.std.specs.Prelude.{◌≡◌, ◌<◌, All, Contains, length, vec_len, IfOk, IfErr, MatchOption};
 ghost use Rattle.tc_cli.specs.Operation.{IsStatus};
 
-use crate::fault::Reason;
 use std::alloc::Global;
 use std::marker::Model;
 use std::sync::Wait;
 use tc_link::Link;
 use tc_station::{Station, WatcherFault};
 use tc_status::Watcher;
+use tc_text::Reason;
 
 /// Neither link flag is set: the program has no radio.
 pub(crate) const NO_FLAGS: Link = Link {

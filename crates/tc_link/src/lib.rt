@@ -11,8 +11,6 @@ mod command;
 mod farm;
 mod frame;
 mod laws;
-#[cfg(test)]
-mod tests;
 mod window;
 mod writing;
 

@@ -24,6 +24,3 @@ pub fn cut(alloc: Global, unit: &[u8]) -> Result<Cut<'_>, NoMemory>
     }
     Ok(Cut { packets, rest })
 }
-
-#[cfg(test)]
-mod tests;

@@ -19,16 +19,3 @@ impl<T: Drop> From<AllocFailed<T>> for NoMemory {
         NoMemory
     }
 }
-
-#[cfg(test)]
-mod tests {
-    use super::*;
-    use std::test::Fail;
-
-    #[test]
-    fn says_what_is_wanting(rt: HostRuntime) -> Result<(), Fail> {
-        let text = format!(in rt.alloc(); "{}", NoMemory)?;
-        assert_eq!(rt; text.as_str(), "no memory");
-        Ok(())
-    }
-}

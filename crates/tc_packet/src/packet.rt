@@ -53,39 +53,3 @@ pub fn read_packet(octets: &[u8]) -> Option<Packet<'_>>
         octets: &octets[..length],
     })
 }
-
-#[cfg(test)]
-mod tests {
-    use super::*;
-
-    #[test]
-    fn reads_the_packet_at_the_front(rt: HostRuntime) {
-        let command = b"\x10\x05\xc0\x00\x00\x00\xaa\xff";
-        let expected = Packet {
-            telecommand: true,
-            secondary: false,
-            apid: 5,
-            flags: 3,
-            count: 0,
-            octets: &command[..7],
-        };
-        assert_eq!(rt; read_packet(command), Some(expected));
-
-        let segment = b"\x18\x05\x40\x01\x00\x01\xaa\xbb";
-        let expected = Packet {
-            telecommand: true,
-            secondary: true,
-            apid: 5,
-            flags: 1,
-            count: 1,
-            octets: segment,
-        };
-        assert_eq!(rt; read_packet(segment), Some(expected));
-    }
-
-    #[test]
-    fn reads_no_packet_of_another_version_or_cut_short(rt: HostRuntime) {
-        assert_eq!(rt; read_packet(b"\x10\x05\xc0\x00\x00\x00"), None);
-        assert_eq!(rt; read_packet(b"\x30\x05\xc0\x00\x00\x00\xaa"), None);
-    }
-}

@@ -198,6 +198,3 @@ fn extend(run: &mut Option<Vec<u8>>, body: &[u8]) -> Result<(), NoMemory>
     }
     Ok(())
 }
-
-#[cfg(test)]
-mod tests;

@@ -40,20 +40,3 @@ fn part_of(sequence_flags: u8) -> Part
         _ => Part::Unsegmented,
     }
 }
-
-#[cfg(test)]
-mod tests {
-    use super::*;
-
-    #[test]
-    fn reads_each_part(rt: HostRuntime) {
-        for (octet, part, map) in [
-            (0xc0, Part::Unsegmented, 0),
-            (0x41, Part::First, 1),
-            (0x3f, Part::Continuing, 63),
-            (0x80, Part::Last, 0),
-        ] {
-            assert_eq!(rt; read_segment(octet), Segment { part, map }, "of {octet}");
-        }
-    }
-}

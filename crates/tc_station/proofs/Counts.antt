@@ -1,21 +1,17 @@
 -- What one job does to the count of a channel.
-use Rattle.std.proofs.Common.{◌≡◌, ◌≢◌, ℕ, zero, suc, ◌+◌, ◌*◌, ◌<◌, ◌≤◌, List, [], ◌∷◌, length, take, get_or, set, min, max, cond, Bool, true, false, Option, Some, None, refl, sym, ap, ◌∙◌, subst, inl, inr, eq-eqb, arith, rules}
-use Rattle.std.specs.Prelude.{◌==◌, ◌&&◌, nat_lt, position, is_none, slice_index, Contains}
-use Rattle.std.proofs.lemmas.Bool.{cases_eq, cond_below, cond_above, le-ltb}
+use Rattle.std.proofs.Common.{◌≡◌, ℕ, zero, suc, ◌+◌, ◌<◌, ◌≤◌, List, [], ◌∷◌, length, take, get_or, set, min, max, cond, Bool, true, false, Option, Some, None, refl, sym, ap, ◌∙◌, subst, eq-eqb, arith}
+use Rattle.std.specs.Prelude.{◌==◌, ◌&&◌, nat_lt, is_none, slice_index, Contains}
+use Rattle.std.proofs.lemmas.Bool.{le-ltb}
 use Rattle.std.proofs.lemmas.Bool.Decides.{nat_tests}
 use Rattle.std.proofs.lemmas.List.{get_or-take, get_or-set_same, get_or-set_other, length-set, length-take}
-use Rattle.std.proofs.lemmas.List.Quantifiers.{position-Some}
-use Rattle.tc_link.specs.Bits.{word_at}
 use Rattle.tc_link.specs.declared.frame.FrameFault.{FrameFault}
 use Rattle.tc_link.specs.Frame.{BeginsWith, header_of, fault_of, version_of, spare_of, named_length}
 use Rattle.tc_station.specs.Roster.{Roster}
-use Rattle.tc_station.specs.Tally.{Tally, counted, raised, raised_at}
+use Rattle.tc_station.specs.Tally.{raised, raised_at}
 use Rattle.tc_station.specs.Location.{IsLocated, IsLocateFault}
 use Rattle.tc_station.specs.declared.faults.LocateFault.{LocateFault}
 use Rattle.tc_station.specs.declared.faults.LocateFault.TheVariants.{Frame, OtherSpacecraft, UnknownChannel}
-use Rattle.tc_station.specs.declared.work.Order.{Order}
-use Rattle.tc_station.specs.declared.work.Order.TheVariants.{Bring, Release, Take}
-use Rattle.tc_station.specs.Work.{IsDone, IsTallyOf, is_for, brings_to, is_other, raised_by, NoCountFalls}
+use Rattle.tc_station.specs.Work.{is_for, raised_by}
 
 front : (octets frame : List ℕ) (k : ℕ) → frame ≡ take (length frame) octets → k < length frame → get_or octets k 0 ≡ get_or frame k 0
 front octets frame k e lt = sym (ap (λ xs. get_or xs k 0) e ∙ get_or-take (length frame) octets k 0 lt)

@@ -1,5 +1,5 @@
 -- Which settings make a station, and why others do not. The spacecraft id has 10 bits (CCSDS 232.0-B, 4.1.2.5).
-use Rattle.std.specs.Prelude.{◌≡◌, ◌≢◌, ℕ, ◌<◌, ◌≤◌, List, [], All, AllPairs, Any, length, map, take, slice_get, Some}
+use Rattle.std.specs.Prelude.{◌≡◌, ◌≢◌, ℕ, ◌≤◌, List, [], All, AllPairs, Any, map, take, slice_get, Some}
 use Rattle.tc_channel.specs.declared.settings.Settings.{Settings}
 use Rattle.tc_channel.specs.declared.settings.SettingsFault.{SettingsFault}
 use Rattle.tc_channel.specs.Settings.{IsAllowed, IsFault}

@@ -14,8 +14,6 @@ mod desk;
 mod faults;
 mod operator;
 mod station;
-#[cfg(test)]
-mod tests;
 mod work;
 
 pub use desk::Desk;

@@ -8,8 +8,6 @@
 mod board;
 mod laws;
 mod publisher;
-#[cfg(test)]
-mod tests;
 mod watcher;
 
 pub use laws::each_seat_is_behind_the_publisher;

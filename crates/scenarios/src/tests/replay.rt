@@ -1,74 +1,27 @@
-//! The same operations on a channel of a station and on a channel that stands alone.
+//! The lines of a script on channels of a station and on channels that stand alone.
 
 ghost use Rattle.std.specs.Prelude.{◌≡◌};
 
 use super::*;
 use std::process::Abort;
-use tc_channel::{Channel, Delivery, FrameReply, ReleaseFault, TakeFault};
-use tc_link::{Act, FrameFault, read_frame};
+use tc_channel::{Channel, Delivery, FrameReply, Octets, ReleaseFault, TakeFault};
+use tc_link::{FrameFault, read_frame};
 use tc_station::{BringFault, Brought, LocateFault, ReleaseRefused, TakeRefused};
+use tc_text::{Line, parse_line};
 
-// No unit was ended.
-pub(super) const NOTHING: Delivery = Delivery {
-    queued: 0,
-    dropped: 0,
-    rest: false,
-};
-
-// One packet was queued, and nothing was left.
-pub(super) const ONE: Delivery = Delivery {
-    queued: 1,
-    dropped: 0,
-    rest: false,
-};
-
-pub(super) fn delivery(queued: u32, dropped: u32, rest: bool) -> Delivery {
-    Delivery {
-        queued,
-        dropped,
-        rest,
-    }
-}
-
-// The reply to a frame that was accepted by this event, and delivered nothing.
-pub(super) fn accepted(event: u8) -> Result<FrameReply, FrameFault> {
-    Ok(FrameReply {
-        act: Act {
-            event,
-            accepted: true,
-        },
-        delivery: NOTHING,
-    })
-}
-
-// The reply to a frame that was discarded or obeyed.
-pub(super) fn discarded(event: u8) -> Result<FrameReply, FrameFault> {
-    Ok(FrameReply {
-        act: Act {
-            event,
-            accepted: false,
-        },
-        delivery: NOTHING,
-    })
-}
-
-// An operation on virtual channel 1 with what it is answered there, or a look at that channel.
+// What is done on virtual channel 1 of stations and of channels with this width, buffer and first V(R): lines of a script, and what
+// each is answered.
 #[derive(Clone, Copy)]
-pub(super) enum Step<'a> {
-    // A frame, in hexadecimal digits.
-    Frame(&'a str, Result<FrameReply, FrameFault>),
-    Release(Result<Delivery, ReleaseFault>),
-    // The packet is in hexadecimal digits.
-    Take(u16, Result<&'a str, TakeFault>),
-    // The CLCW with both link flags 0.
-    Clcw(u32),
-    // How many events the journal has.
-    Events(usize),
+pub(super) struct Row<'a> {
+    pub(super) name: &'a str,
+    pub(super) shape: (u8, u8, u8),
+    pub(super) script: &'a str,
+    pub(super) answers: &'a str,
 }
 
 // How frames are brought to the station.
 #[derive(Clone, Copy, PartialEq, Eq)]
-pub(super) enum Bringing {
+enum Bringing {
     Plain,
     // With a watcher of each frame's channel.
     Watched,
@@ -211,14 +164,65 @@ fn take_from_both(
     packet
 }
 
-fn check_packet(
-    rt: &impl Abort,
-    packet: Result<Vec<u8>, TakeFault>,
-    expected: Result<Vec<u8>, TakeFault>,
-) {
-    let as_expected = packet.as_deref().ok() == expected.as_deref().ok();
-    assert!(rt; as_expected, "another packet is expected");
-    assert_eq!(rt; packet.err(), expected.err());
+// What a script prints of these answers.
+fn text_of_frame(
+    alloc: Global,
+    answer: Result<FrameReply, FrameFault>,
+) -> Result<String, AllocError> {
+    let reply = match answer {
+        Ok(reply) => reply,
+        Err(fault) => {
+            let why = match fault {
+                FrameFault::Short => "short",
+                FrameFault::Version => "version",
+                FrameFault::Spare => "spare",
+                FrameFault::LengthSmall => "length",
+                FrameFault::Truncated => "truncated",
+            };
+            return format!(in alloc; "refused {why}");
+        }
+    };
+    let event = reply.act.event;
+    let accepted = u8::from(reply.act.accepted);
+    let delivery = text_of_delivery(alloc, reply.delivery)?;
+    format!(in alloc; "frame 1 E{event} accepted {accepted} {delivery}")
+}
+
+fn text_of_delivery(alloc: Global, delivery: Delivery) -> Result<String, AllocError> {
+    let queued = delivery.queued;
+    let dropped = delivery.dropped;
+    let rest = u8::from(delivery.rest);
+    format!(in alloc; "queued {queued} dropped {dropped} rest {rest}")
+}
+
+fn text_of_release(
+    alloc: Global,
+    answer: Result<Delivery, ReleaseFault>,
+) -> Result<String, AllocError> {
+    match answer {
+        Ok(delivery) => {
+            let delivery = text_of_delivery(alloc, delivery)?;
+            format!(in alloc; "release 1 {delivery}")
+        }
+        Err(ReleaseFault::Empty) => "refused empty".to_string(alloc),
+        Err(ReleaseFault::NoMemory) => "no memory".to_string(alloc),
+    }
+}
+
+fn text_of_take(
+    alloc: Global,
+    apid: u16,
+    answer: Result<Vec<u8>, TakeFault>,
+) -> Result<String, Fail> {
+    match answer {
+        Ok(packet) => {
+            let digits = hex::encode(alloc, packet.as_slice())?;
+            Ok(format!(in alloc; "take 1 {apid} {digits}")?)
+        }
+        Err(TakeFault::NoQueue) => Ok("refused no queue".to_string(alloc)?),
+        Err(TakeFault::Empty) => Ok("refused empty".to_string(alloc)?),
+        Err(TakeFault::NoMemory) => Ok("no memory".to_string(alloc)?),
+    }
 }
 
 // A channel that left the station is as the one that stood alone. A journal may be too long to be shown.
@@ -232,7 +236,8 @@ fn check_alike(rt: &impl Abort, closed: &Channel, alone: &Channel) {
 }
 
 // The same frame for virtual channel 2 in place of 1.
-fn for_channel_2(mut octets: Vec<u8>) -> Vec<u8> {
+fn for_channel_2(octets: Octets) -> Vec<u8> {
+    let mut octets = octets.into_vec();
     if let Some(third) = octets.get_mut(2) {
         *third = third.wrapping_add(4);
     }
@@ -241,7 +246,7 @@ fn for_channel_2(mut octets: Vec<u8>) -> Vec<u8> {
 
 // Channels 1 and 2 of a station, and beside them a channel with the settings of each that stands alone.
 #[derive(Drop)]
-pub(super) struct Replay {
+struct Replay {
     alloc: Global,
     crew: Crew,
     first: Channel,
@@ -250,7 +255,7 @@ pub(super) struct Replay {
 
 impl Replay {
     // The settings are those of channel 1. Channel 2 has the same, but its first V(R) is 100.
-    pub(super) fn new(
+    fn new(
         alloc: Global,
         bringing: Bringing,
         (width, buffer, first): (u8, u8, u8),
@@ -280,85 +285,80 @@ impl Replay {
         assert_eq!(rt; status_of(station, rt, 2), Some(second));
     }
 
-    // Octets arrive, on channel 1 and then on channel 2. Channel 1 answers as expected.
-    pub(super) fn frame(
+    // Octets arrive, on channel 1 and then on channel 2. What channel 1 answers.
+    fn frame(
         &mut self,
         rt: &(impl Wait + Abort),
-        octets: Vec<u8>,
-        expected: Result<FrameReply, FrameFault>,
-    ) -> Result<(), Fail> {
-        let reply = bring_to_both(rt, &mut self.crew, &mut self.first, &octets)?;
-        assert_eq!(rt; reply, expected);
+        octets: Octets,
+    ) -> Result<Result<FrameReply, FrameFault>, Fail> {
+        let reply = bring_to_both(rt, &mut self.crew, &mut self.first, octets.as_slice())?;
         self.check_words(rt);
         let octets = for_channel_2(octets);
         let _ = bring_to_both(rt, &mut self.crew, &mut self.second, &octets)?;
         self.check_words(rt);
-        Ok(())
+        Ok(reply)
     }
 
-    fn release(&mut self, rt: &(impl Wait + Abort), expected: Result<Delivery, ReleaseFault>) {
+    fn release(&mut self, rt: &(impl Wait + Abort)) -> Result<Delivery, ReleaseFault> {
         let delivery = release_both(rt, &mut self.crew, &mut self.first);
-        assert_eq!(rt; delivery, expected);
         self.check_words(rt);
         let _ = release_both(rt, &mut self.crew, &mut self.second);
         self.check_words(rt);
+        delivery
     }
 
-    // Takes a packet from channel 1, which answers as expected, and then from channel 2.
-    pub(super) fn take(
-        &mut self,
-        rt: &(impl Wait + Abort),
-        apid: u16,
-        expected: Result<Vec<u8>, TakeFault>,
-    ) {
+    // Takes a packet from channel 1 and then from channel 2. What channel 1 answers.
+    fn take(&mut self, rt: &(impl Wait + Abort), apid: u16) -> Result<Vec<u8>, TakeFault> {
         let packet = take_from_both(rt, &mut self.crew, &mut self.first, apid);
-        check_packet(rt, packet, expected);
         self.check_words(rt);
         let _ = take_from_both(rt, &mut self.crew, &mut self.second, apid);
         self.check_words(rt);
+        packet
     }
 
-    fn step(&mut self, rt: &(impl Wait + Abort), step: Step) -> Result<(), Fail> {
-        match step {
-            Step::Frame(digits, expected) => {
-                let octets = hex::decode(self.alloc, digits)?;
-                self.frame(rt, octets, expected)
+    // The text of the CLCW that the station tells of channel 1.
+    fn clcw(&self, rt: &impl Wait) -> Result<String, Fail> {
+        let word = status_of(&self.crew.station, rt, 1).ok_or("a status")?;
+        Ok(format!(in self.alloc; "clcw 1 {word:08x}")?)
+    }
+
+    // Does an operation, and tells what it is answered.
+    fn operate(&mut self, rt: &(impl Wait + Abort), line: Line) -> Result<String, Fail> {
+        match line {
+            Line::Frame(octets) => {
+                let answer = self.frame(rt, octets)?;
+                Ok(text_of_frame(self.alloc, answer)?)
             }
-            Step::Release(expected) => {
-                self.release(rt, expected);
-                Ok(())
-            }
-            Step::Take(apid, Ok(digits)) => {
-                let packet = hex::decode(self.alloc, digits)?;
-                self.take(rt, apid, Ok(packet));
-                Ok(())
-            }
-            Step::Take(apid, Err(fault)) => {
-                self.take(rt, apid, Err(fault));
-                Ok(())
-            }
-            Step::Clcw(word) => {
-                assert_eq!(rt; status_of(&self.crew.station, rt, 1), Some(word));
-                Ok(())
-            }
-            Step::Events(count) => {
-                assert_eq!(rt; self.first.journal().len(), count);
-                Ok(())
-            }
+            Line::Release(_) => Ok(text_of_release(self.alloc, self.release(rt))?),
+            Line::Take(_, apid) => text_of_take(self.alloc, apid, self.take(rt, apid)),
+            Line::Clcw(_) => self.clcw(rt),
+            _ => Err("a line that is no operation".into()),
         }
     }
 
-    // Each step in turn.
-    pub(super) fn play(&mut self, rt: &(impl Wait + Abort), steps: &[Step]) -> Result<(), Fail> {
+    // Each line in turn, which is answered as expected; channel 1 has an event for each operation that was answered.
+    fn play(&mut self, rt: &(impl Wait + Abort), row: &Row) -> Result<(), Fail> {
         self.check_words(rt);
-        for step in steps {
-            self.step(rt, *step)?;
+        let mut answers = row.answers.lines();
+        let mut events = 0usize;
+        for line in row.script.lines() {
+            let Ok(line) = parse_line(self.alloc, line.as_bytes()) else {
+                return Err("a bad line".into());
+            };
+            let expected = answers.next().ok_or("an answer")?;
+            let told = self.operate(rt, line)?;
+            assert_eq!(rt; told.as_str(), expected, "{}", row.name);
+            if !expected.starts_with("refused ") && !expected.starts_with("clcw ") {
+                events = events.saturating_add(1);
+            }
+            assert_eq!(rt; self.first.journal().len(), events, "{}", row.name);
         }
+        assert_eq!(rt; answers.next(), None, "{}", row.name);
         Ok(())
     }
 
     // Closes the station: its channels are as those that stand alone.
-    pub(super) fn close(self, rt: &impl Abort) -> Result<(), Fail> {
+    fn close(self, rt: &impl Abort) -> Result<(), Fail> {
         let Replay {
             alloc,
             crew,
@@ -373,22 +373,22 @@ impl Replay {
     }
 }
 
-// Plays the steps on channels with the window 10, room for one field and V(R) 0 first, and closes.
-pub(super) fn play(rt: &(impl Wait + Abort), alloc: Global, steps: &[Step]) -> Result<(), Fail> {
-    play_by(rt, alloc, (10, 1, 0), steps)
-}
-
-// Plays the steps on channels with this width, buffer and first V(R), and closes; in each manner of bringing frames.
-pub(super) fn play_by(
+fn play_row(
     rt: &(impl Wait + Abort),
     alloc: Global,
-    shape: (u8, u8, u8),
-    steps: &[Step],
+    bringing: Bringing,
+    row: &Row,
 ) -> Result<(), Fail> {
-    for bringing in [Bringing::Plain, Bringing::Watched] {
-        let mut replay = Replay::new(alloc, bringing, shape)?;
-        replay.play(rt, steps)?;
-        replay.close(rt)?;
+    let mut replay = Replay::new(alloc, bringing, row.shape)?;
+    replay.play(rt, row)?;
+    replay.close(rt)
+}
+
+// Plays each row, with frames that are brought in each manner, and closes the stations.
+pub(super) fn play_rows(rt: &(impl Wait + Abort), alloc: Global, rows: &[Row]) -> Result<(), Fail> {
+    for row in rows {
+        play_row(rt, alloc, Bringing::Plain, row)?;
+        play_row(rt, alloc, Bringing::Watched, row)?;
     }
     Ok(())
 }

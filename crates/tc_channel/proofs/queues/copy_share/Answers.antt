@@ -1,4 +1,4 @@
-use Rattle.std.proofs.Common.{inl, inr, arith}
+use Rattle.std.proofs.Common.{rules, inl, inr, arith}
 use Rattle.tc_channel.proofs.Copies.{copy-next, pass-next, full-next}
 use Rattle.tc_channel.proofs.queues.copy_share.Goals as goal
 use Rattle.tc_channel.proofs.queues.copy_share.Goals.{then-room-gt0+then-packet+then-packet-queue+in_ok-copy+in_ok-push, else-room-gt0, else-room-gt0-via-then-room-gt0+then-packet+else-packet-queue, else-room-gt0-via-then-room-gt0+else-packet, else-room-gt0-via-else-room-gt0}
@@ -13,3 +13,6 @@ loop-packet-preserved c = elim c.if-room-gt0.branch [
     | else-room-gt0-via-else-room-gt0 w' ↦ full-next c.loop-packet.copies.items _ c.args.place c.loop-packet.room _ _ (omega arith) c.loop-packet.invariant
   ])
 ]
+
+pub loop-packet-init : goal.loop-packet-init
+loop-packet-init c = search rules

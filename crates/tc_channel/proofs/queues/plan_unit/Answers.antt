@@ -33,3 +33,6 @@ overflow_cast-delivery-2 c =
     let within = copies-within c.args.unit.now ps c.args.queues.now c.in_ok-copies.copies.items c.requires.within only.0 c.requires.distinct is in
     let l = length-map c.in_ok-cut.cut.packets.items (λ (p : Packet). p.octets.now) in
     grind (arith, common_steps)
+
+pub returns : goal.returns
+returns c = grind (arith, common_steps)

@@ -6,3 +6,9 @@ use Rattle.tc_cli.proofs.report.close.Goals as goal
 pub returns-in-Ok-clause-rising : goal.returns-in-Ok-clause-rising
 returns-in-Ok-clause-rising c =
     IsNonDecreasingBy-from_sort_by_key vcid_of _ c.sort_unstable_by_key.ensures.sorted (λ a r q k. search rules)
+
+pub returns-in-Err-Unbalanced-clause-rising : goal.returns-in-Err-Unbalanced-clause-rising
+returns-in-Err-Unbalanced-clause-rising c = search rules
+
+pub returns-in-Err-Unbalanced-clause-balanced : goal.returns-in-Err-Unbalanced-clause-balanced
+returns-in-Err-Unbalanced-clause-balanced c = search rules

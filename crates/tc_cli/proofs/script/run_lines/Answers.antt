@@ -1,6 +1,6 @@
 use Rattle.std.proofs.Common.{arith}
 use Rattle.tc_cli.specs.Script.{starts, goes_on}
-use Rattle.tc_cli.specs.Session.{phase_of}
+use Rattle.tc_cli.specs.Stage.{phase_of}
 use Rattle.tc_cli.proofs.Scripts.{first-bad, good-end}
 use Rattle.tc_cli.proofs.script.run_lines.Goals as goal
 

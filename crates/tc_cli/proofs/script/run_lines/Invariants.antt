@@ -1,6 +1,6 @@
 use Rattle.std.proofs.Common.{◌≤◌, ◌+◌, length}
 use Rattle.tc_cli.specs.Script.{Leads}
-use Rattle.tc_cli.specs.Session.{phase_of}
+use Rattle.tc_cli.specs.Stage.{phase_of}
 use Rattle.tc_cli.proofs.script.run_lines.Given as goal
 
 -- each line so far was good; it had at least one octet, its line feed or its only one

@@ -1,4 +1,4 @@
-use Rattle.std.proofs.Common.{◌≡◌, ◌∷◌, [], ◌++◌, nat_lt, ◌∙◌, ap, refl, arith}
+use Rattle.std.proofs.Common.{rules, ◌≡◌, ◌∷◌, [], ◌++◌, nat_lt, ◌∙◌, ap, refl, arith}
 use Rattle.std.proofs.lemmas.Grind.{common_steps}
 use Rattle.tc_link.specs.Farm.{frame_row, number_of, accepts}
 use Rattle.tc_channel.specs.declared.event.Event.TheVariants.{Frame}
@@ -46,3 +46,9 @@ returns-clause-reply c =
     let event : c.step-act.result.event ≡ number_of (row_of f.settings (run f.settings f.journal.items) c.args.frame.now) = c.step-act.ensures.event ∙ ap number_of is in
     let accepted : c.step-act.result.accepted ≡ accepts (row_of f.settings (run f.settings f.journal.items) c.args.frame.now) (run f.settings f.journal.items).report = c.step-act.ensures.accepted ∙ rw (is, c.self.invariant.report) refl in
     rw (← c.self.view_is, d, ← event, ← accepted) refl
+
+pub invariant_of-self-in_err-pass_bypass : goal.invariant_of-self-in_err-pass_bypass
+invariant_of-self-in_err-pass_bypass c = search rules
+
+pub returns-in_err-pass_bypass-clause-refused : goal.returns-in_err-pass_bypass-clause-refused
+returns-in_err-pass_bypass-clause-refused c = search rules

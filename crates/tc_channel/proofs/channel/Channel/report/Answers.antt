@@ -1,4 +1,4 @@
-use Rattle.std.proofs.Common.{subst}
+use Rattle.std.proofs.Common.{rules, subst}
 use Rattle.tc_channel.specs.Journal.{History}
 use Rattle.tc_channel.specs.Era.{CountsUpInItsEra}
 use Rattle.tc_channel.proofs.Eras.{era-law}
@@ -7,3 +7,6 @@ use Rattle.tc_channel.proofs.channel.Channel.report.Goals as goal
 pub returns-clause-era : goal.returns-clause-era
 returns-clause-era c =
     subst (λ (h : History). CountsUpInItsEra h.settings h.journal) c.self.view_is (era-law c.self.inside.settings c.self.inside.journal.items c.self.invariant.allowed c.self.invariant.lawful)
+
+pub returns-clause-report : goal.returns-clause-report
+returns-clause-report c = search rules

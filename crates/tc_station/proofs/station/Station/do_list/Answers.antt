@@ -1,4 +1,4 @@
-use Rattle.std.proofs.Common.{◌∙◌, rules, arith}
+use Rattle.std.proofs.Common.{◌∙◌, rules}
 use Rattle.tc_station.proofs.Works.{one-more, same-vcids}
 use Rattle.tc_station.proofs.station.Station.do_list.Goals as goal
 

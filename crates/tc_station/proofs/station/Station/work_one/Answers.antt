@@ -1,4 +1,4 @@
-use Rattle.std.proofs.Common.{sym, subst, rules, arith}
+use Rattle.std.proofs.Common.{sym, subst, rules}
 use Rattle.tc_station.specs.Work.{IsTallyOf, IsWorked}
 use Rattle.tc_station.proofs.Works.{one-worked}
 use Rattle.tc_station.proofs.station.Station.work_one.Goals as goal

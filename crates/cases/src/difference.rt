@@ -1,0 +1,59 @@
+//! Where a script isn't answered as expected.
+
+ghost use Rattle.std.specs.Prelude.{◌≡◌, ◌↔◌, IsNone};
+
+use std::fmt;
+
+/// Where what a script led to isn't what is expected.
+#[derive(Debug, Drop)]
+pub enum Difference<'a> {
+    /// The first line that differs.
+    Answers { line: usize },
+    Fault { found: &'a str, expected: &'a str },
+}
+
+/// The first difference between the answers and the text of the fault that a script led to and those that are expected.
+pub fn compare<'a>(
+    answers: &[u8],
+    fault: &'a str,
+    expected_answers: &[u8],
+    expected_fault: &'a str,
+) -> Option<Difference<'a>>
+    ensures { IsNone result ↔ ((answers.now ≡ expected_answers.now) × (fault.now ≡ expected_fault.now)) }
+{
+    if answers != expected_answers {
+        let line = common_lines(answers, expected_answers).saturating_add(1);
+        return Some(Difference::Answers { line });
+    }
+    if fault.as_bytes() != expected_fault.as_bytes() {
+        return Some(Difference::Fault {
+            found: fault,
+            expected: expected_fault,
+        });
+    }
+    None
+}
+
+// How many lines are the same at the front of both.
+fn common_lines(found: &[u8], expected: &[u8]) -> usize {
+    found
+        .iter()
+        .zip(expected)
+        .take_while(|(found, expected)| found == expected)
+        .filter(|(octet, _)| **octet == b'\n')
+        .count()
+}
+
+impl fmt::Display for Difference<'_> {
+    fn fmt<W: fmt::Write>(&self, f: &mut fmt::Formatter<W>) -> fmt::Result {
+        match self {
+            Difference::Answers { line } => write!(f, "the answers differ from line {line} on"),
+            Difference::Fault { found, expected } => {
+                write!(
+                    f,
+                    "the script ends with {found:?}, and not with {expected:?}"
+                )
+            }
+        }
+    }
+}

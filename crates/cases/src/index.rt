@@ -1,0 +1,28 @@
+//! Cases, as the index lists them.
+
+ghost use Rattle.std.specs.Prelude.{◌≤◌, IfSome};
+
+use tc_text::spacecraft_id;
+
+/// A script, and how it is to end.
+#[derive(Clone, Copy, Debug)]
+pub struct Case<'a> {
+    pub name: &'a str,
+    /// The spacecraft id, at most 1,023.
+    pub scid: u16,
+    /// The text of the fault; empty where the script is done to its end.
+    pub fault: &'a str,
+}
+
+/// The case that a line of the index names: its name, the spacecraft id, and then the fault, if any.
+pub fn parse_case(line: &str) -> Option<Case<'_>>
+    ensures { IfSome result (λ case. case.scid ≤ 1023) }
+{
+    let (name, rest) = line.split_once(' ')?;
+    let (number, fault) = match rest.split_once(' ') {
+        Some(parts) => parts,
+        None => (rest, ""),
+    };
+    let scid = spacecraft_id(number.parse::<u16>().ok()?)?;
+    Some(Case { name, scid, fault })
+}

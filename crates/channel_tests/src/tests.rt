@@ -1,0 +1,5 @@
+mod channel;
+mod cutting;
+mod link;
+mod packets;
+mod reassembler;

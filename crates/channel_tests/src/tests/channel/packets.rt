@@ -1,0 +1,56 @@
+//! Packets on their way from a frame to a queue.
+
+use super::Step::{Ad, Clcw, Filled, Holds, Release, Take};
+use super::*;
+
+#[test]
+fn a_packet_from_its_frame_to_its_taker(rt: HostRuntime) -> Result<(), Fail> {
+    let steps = [
+        Ad(0, accepted(1)),
+        Clcw(0x01040001),
+        Holds(1, 0),
+        Release(Ok(ONE)),
+        Holds(0, 1),
+        Take(6, Err(TakeFault::NoQueue)),
+        Take(5, Ok(&PACKET)),
+        Take(5, Err(TakeFault::Empty)),
+    ];
+    play(&rt, rt.alloc(), &steps)
+}
+
+#[test]
+fn what_a_channel_tells(rt: HostRuntime) -> Result<(), Fail> {
+    let channel = Channel::new(rt.alloc(), settings(rt.alloc(), 7)?)?;
+    assert_eq!(&rt; *channel.settings(), settings(rt.alloc(), 7)?);
+    assert_eq!(&rt; channel.report().vr, 7);
+    assert_eq!(&rt; channel.buffered(), 0);
+    assert_eq!(&rt; channel.queued(5), Some(0));
+    assert_eq!(&rt; channel.queued(6), None);
+    Ok(())
+}
+
+#[test]
+fn fill_after_a_frame(rt: HostRuntime) -> Result<(), Fail> {
+    let filled = [
+        0x00, 0x2a, 0x04, 0x0c, 0x00, 0xc0, 0x10, 0x05, 0xc0, 0x00, 0x00, 0x00, 0xaa, 0x55, 0x55,
+        0x55,
+    ];
+    let steps = [
+        Filled(&filled, &filled[..13], accepted(1)),
+        Clcw(0x01040001),
+        Release(Ok(ONE)),
+        Take(5, Ok(&PACKET)),
+    ];
+    play(&rt, rt.alloc(), &steps)
+}
+
+#[test]
+fn octets_in_and_out(rt: HostRuntime) -> Result<(), Fail> {
+    let octets = Octets::copied(rt.alloc(), &PACKET)?;
+    assert_eq!(&rt; octets.len(), 7);
+    assert!(&rt; !octets.is_empty());
+    assert_eq!(&rt; octets.as_slice(), PACKET.as_slice());
+    let vec: Vec<u8> = octets.into();
+    assert_eq!(&rt; vec.as_slice(), PACKET.as_slice());
+    Ok(())
+}

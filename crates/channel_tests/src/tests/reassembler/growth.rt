@@ -1,0 +1,172 @@
+//! Each call is made; where it answers want of memory, no run has changed, and the call is made again.
+
+use std::alloc::Global;
+use std::process::Abort;
+use std::test::Fail;
+use tc_packet::{NoMemory, Reassembler, Service, read_segment};
+
+// All fields are of this MAP, and all bodies of this octet.
+const MAP: u8 = 5;
+
+const FIRST: [u8; 4] = [0x40 | MAP, 5, 5, 5];
+
+const CONTINUING: [u8; 40] = [5; 40];
+
+const LAST: [u8; 9] = [0x80 | MAP, 5, 5, 5, 5, 5, 5, 5, 5];
+
+const UNSEGMENTED: [u8; 3] = [0xc0 | MAP, 5, 5];
+
+// What `FIRST` leaves open; the same with the body of `CONTINUING`; the units that end both with `LAST`.
+const SHORT_RUN: [u8; 3] = [5; 3];
+
+const LONG_RUN: [u8; 42] = [5; 42];
+
+const SHORT_UNIT: [u8; 11] = [5; 11];
+
+const LONG_UNIT: [u8; 50] = [5; 50];
+
+// The open run of a stream is what an empty last segment would make a unit of.
+fn check_run(
+    rt: &impl Abort,
+    reassembler: &Reassembler,
+    service: Service,
+    map: u8,
+    expected: Option<&[u8]>,
+) -> Result<(), Fail> {
+    let close = [0x80 | (map & 0x3f)];
+    let run = match reassembler.unit_after(service, &close) {
+        Ok(run) => run,
+        Err(NoMemory) => reassembler.unit_after(service, &close)?,
+    };
+    assert_eq!(rt; run.as_deref(), expected, "{service:?}, MAP {map}");
+    Ok(())
+}
+
+// The stream of `MAP` on BD has this open run, and no other stream has one.
+fn check_only_run(
+    rt: &impl Abort,
+    reassembler: &Reassembler,
+    expected: Option<&[u8]>,
+) -> Result<(), Fail> {
+    for map in 0..64 {
+        check_run(rt, reassembler, Service::Ad, map, None)?;
+        let expected = if map == MAP { expected } else { None };
+        check_run(rt, reassembler, Service::Bd, map, expected)?;
+    }
+    Ok(())
+}
+
+fn new(rt: &(impl Abort + Print), alloc: Global) -> Result<Reassembler, Fail> {
+    let reassembler = match Reassembler::new(alloc) {
+        Ok(reassembler) => reassembler,
+        Err(NoMemory) => {
+            let _ = println!(rt; "refused: Reassembler::new");
+            Reassembler::new(alloc)?
+        }
+    };
+    check_only_run(rt, &reassembler, None)?;
+    Ok(reassembler)
+}
+
+// Takes a field, and checks the unit and the open run before and after.
+fn push(
+    rt: &(impl Abort + Print),
+    reassembler: &mut Reassembler,
+    field: &[u8],
+    run: [Option<&[u8]>; 2],
+    expected: Option<&[u8]>,
+) -> Result<(), Fail> {
+    let [before, after] = run;
+    assert!(rt; !field.is_empty());
+    check_only_run(rt, reassembler, before)?;
+    let unit = match reassembler.push(Service::Bd, field) {
+        Ok(unit) => unit,
+        Err(NoMemory) => {
+            let part = read_segment(field[0]).part;
+            let _ = println!(rt; "refused: push, {part:?}");
+            check_only_run(rt, reassembler, before)?;
+            reassembler.push(Service::Bd, field)?
+        }
+    };
+    assert_eq!(rt; unit.as_deref(), expected);
+    check_only_run(rt, reassembler, after)?;
+    Ok(())
+}
+
+// A reassembler with `SHORT_RUN` open.
+fn opened(rt: &(impl Abort + Print), alloc: Global) -> Result<Reassembler, Fail> {
+    let mut reassembler = new(rt, alloc)?;
+    push(rt, &mut reassembler, &FIRST, [None, Some(&SHORT_RUN)], None)?;
+    Ok(reassembler)
+}
+
+#[test]
+fn growth_of_a_new_reassembler(rt: HostRuntime) -> Result<(), Fail> {
+    new(&rt, rt.alloc())?;
+    Ok(())
+}
+
+#[test]
+fn growth_of_a_first_segment(rt: HostRuntime) -> Result<(), Fail> {
+    let mut reassembler = opened(&rt, rt.alloc())?;
+    let open = Some(SHORT_RUN.as_slice());
+    push(&rt, &mut reassembler, &FIRST, [open, open], None)
+}
+
+#[test]
+fn growth_of_a_continuing_segment(rt: HostRuntime) -> Result<(), Fail> {
+    let mut reassembler = opened(&rt, rt.alloc())?;
+    let grown = [Some(SHORT_RUN.as_slice()), Some(LONG_RUN.as_slice())];
+    push(&rt, &mut reassembler, &CONTINUING, grown, None)?;
+    push(
+        &rt,
+        &mut reassembler,
+        &LAST,
+        [Some(&LONG_RUN), None],
+        Some(&LONG_UNIT),
+    )
+}
+
+#[test]
+fn growth_of_a_last_segment(rt: HostRuntime) -> Result<(), Fail> {
+    let mut reassembler = opened(&rt, rt.alloc())?;
+    push(
+        &rt,
+        &mut reassembler,
+        &LAST,
+        [Some(&SHORT_RUN), None],
+        Some(&SHORT_UNIT),
+    )
+}
+
+#[test]
+fn growth_of_an_unsegmented_unit(rt: HostRuntime) -> Result<(), Fail> {
+    let mut reassembler = opened(&rt, rt.alloc())?;
+    let dropped = [Some(SHORT_RUN.as_slice()), None];
+    push(&rt, &mut reassembler, &UNSEGMENTED, dropped, Some(&[5, 5]))
+}
+
+#[test]
+fn growth_of_a_unit_asked_for(rt: HostRuntime) -> Result<(), Fail> {
+    let reassembler = opened(&rt, rt.alloc())?;
+    let units = [
+        (LAST.as_slice(), Some(SHORT_UNIT.as_slice())),
+        (UNSEGMENTED.as_slice(), Some([5, 5].as_slice())),
+        (FIRST.as_slice(), None),
+        (CONTINUING.as_slice(), None),
+    ];
+    for (field, expected) in units {
+        assert!(rt; !field.is_empty());
+        let unit = match reassembler.unit_after(Service::Bd, field) {
+            Ok(unit) => unit,
+            Err(NoMemory) => {
+                let _ = println!(rt; "refused: unit_after");
+                check_only_run(&rt, &reassembler, Some(&SHORT_RUN))?;
+                reassembler.unit_after(Service::Bd, field)?
+            }
+        };
+        assert_eq!(rt; unit.as_deref(), expected);
+        check_only_run(&rt, &reassembler, Some(&SHORT_RUN))?;
+    }
+    Ok(())
+}

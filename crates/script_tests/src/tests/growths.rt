@@ -1,0 +1,113 @@
+//! Calls that take memory. With ample memory each answers at once; with one growth refused each
+//! leaves what stood before, and then answers the same.
+
+use super::{ANSWERS, REPORT, SCRIPT};
+use std::alloc::Global;
+use std::process::Abort;
+use std::sync::Wait;
+use tc_cli::{Line, Reason, ScriptFault, parallel_script, parse_line, run_script};
+use tc_station::FreeGate;
+
+#[test]
+fn parse_line_growth(rt: HostRuntime) {
+    let text = b"frame 302a04050000".as_slice();
+    let line = match parse_line(rt.alloc(), text) {
+        Err(Reason::NoMemory) => {
+            let _ = println!(rt; "refused: parse_line");
+            parse_line(rt.alloc(), text)
+        }
+        parsed => parsed,
+    };
+    let unlock = [0x30, 0x2a, 0x04, 0x05, 0, 0];
+    match line {
+        Ok(Line::Frame(octets)) => assert_eq!(rt; octets.as_slice(), unlock.as_slice()),
+        _ => panic!(rt; "the line isn't read"),
+    }
+}
+
+/// Room for the answers, so that the writer takes no memory later.
+fn room<T: Abort>(rt: &T, alloc: Global) -> Vec<u8> {
+    match Vec::with_capacity(alloc, 1000) {
+        Ok(room) => room,
+        Err(_) => Vec::with_capacity(alloc, 1000).expect(rt, "memory"),
+    }
+}
+
+/// The first lines, so many of them, have no answer, and each after them has one.
+fn check_refused<T: Abort>(
+    rt: &T,
+    fault: ScriptFault,
+    answers: &[u8],
+    expected: &str,
+    setups: u32,
+    lines: u32,
+) {
+    let ScriptFault::Line { line, reason } = fault else {
+        panic!(rt; "another fault");
+    };
+    assert_eq!(rt; reason, Reason::NoMemory);
+    assert!(rt; line <= lines);
+    let answered = answers.iter().filter(|octet| **octet == b'\n').count();
+    let before = line.saturating_sub(setups.saturating_add(1)) as usize;
+    // The growths of the report come after the last line's answer.
+    let told = answered == before || (line == lines && answered == before.saturating_add(1));
+    assert!(rt; told, "{answered} answers at line {line}");
+    assert!(rt; expected.as_bytes().starts_with(answers));
+}
+
+/// A script whose first lines, so many of them, set up channels, is done to its end, at once or after a
+/// growth was refused.
+fn check_script<T: Abort + Print + Wait + AllocGlobal>(
+    rt: &T,
+    script: &str,
+    expected: &str,
+    setups: u32,
+    lines: u32,
+) {
+    let mut answers = room(rt, rt.alloc());
+    let mut reader = script.as_bytes();
+    if let Err(fault) = run_script(rt, rt.alloc(), 42, &mut reader, &mut answers) {
+        let _ = println!(rt; "refused: run_script, {fault}");
+        check_refused(rt, fault, answers.as_slice(), expected, setups, lines);
+        answers.clear();
+        let mut reader = script.as_bytes();
+        let done = run_script(rt, rt.alloc(), 42, &mut reader, &mut answers);
+        assert_eq!(rt; done, Ok(()));
+    }
+    assert_eq!(rt; answers.as_slice(), expected.as_bytes());
+}
+
+#[test]
+fn run_script_growth(rt: HostRuntime) {
+    check_script(&rt, SCRIPT, ANSWERS, 2, 11);
+}
+
+/// The station is made for the report alone, whose lines come after the last line.
+#[test]
+fn report_growth(rt: HostRuntime) {
+    let script = "channel 1 10 1 0\nqueue 1 5 1\nchannel 0 10 1 0\n\n";
+    let report =
+        "final 0 01000000 events 0 buffered 0\nfinal 1 01040000 events 0 buffered 0\nqueue 1 5 0\n";
+    check_script(&rt, script, report, 4, 4);
+}
+
+/// Nothing is written unless the whole script is done.
+#[test]
+fn parallel_script_growth(rt: HostRuntime) {
+    let mut found = room(&rt, rt.alloc());
+    let mut reader = SCRIPT.as_bytes();
+    let done = parallel_script(&rt, rt.alloc(), &FreeGate, 42, &mut reader, &mut found);
+    if let Err(fault) = done {
+        let ScriptFault::Line { line, reason } = fault else {
+            panic!(rt; "another fault");
+        };
+        let _ = println!(rt; "refused: parallel_script, {fault}");
+        assert_eq!(rt; reason, Reason::NoMemory);
+        assert!(rt; line <= 11);
+        assert!(rt; found.is_empty());
+        let mut reader = SCRIPT.as_bytes();
+        let done = parallel_script(&rt, rt.alloc(), &FreeGate, 42, &mut reader, &mut found);
+        assert_eq!(rt; done, Ok(()));
+    }
+    assert_eq!(rt; found.as_slice(), REPORT.as_bytes());
+}

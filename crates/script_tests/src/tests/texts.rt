@@ -1,0 +1,43 @@
+//! The text of each reason and each fault.
+
+use std::test::Fail;
+use tc_cli::{Reason, ScriptFault};
+
+#[test]
+fn reasons(rt: HostRuntime) -> Result<(), Fail> {
+    for (reason, text) in [
+        (Reason::UnknownCommand, "line 7: unknown command"),
+        (Reason::WordCount, "line 7: wrong number of words"),
+        (Reason::BadNumber, "line 7: bad number"),
+        (Reason::BadHex, "line 7: bad hex"),
+        (Reason::TooLate, "line 7: too late"),
+        (Reason::NoChannel, "line 7: no channel"),
+        (Reason::DoubleChannel, "line 7: double channel"),
+        (Reason::UnknownChannel, "line 7: unknown channel"),
+        (Reason::BadVcid, "line 7: bad channel"),
+        (Reason::BadWindow, "line 7: bad window"),
+        (Reason::BadBuffer, "line 7: bad buffer"),
+        (Reason::BadApid, "line 7: bad application"),
+        (Reason::DoubleApid, "line 7: double application"),
+        (Reason::BadCapacity, "line 7: bad capacity"),
+        (Reason::NoMemory, "line 7: no memory"),
+    ] {
+        let found = ScriptFault::Line { line: 7, reason }.to_string(rt.alloc())?;
+        assert_eq!(rt; found.as_str(), text);
+    }
+    Ok(())
+}
+
+#[test]
+fn faults(rt: HostRuntime) -> Result<(), Fail> {
+    for (fault, text) in [
+        (ScriptFault::Read, "line 0: cannot read"),
+        (ScriptFault::TooLong, "line 0: too long"),
+        (ScriptFault::Write, "line 0: cannot write"),
+        (ScriptFault::Unbalanced, "line 0: unbalanced"),
+    ] {
+        let found = fault.to_string(rt.alloc())?;
+        assert_eq!(rt; found.as_str(), text);
+    }
+    Ok(())
+}

@@ -1,0 +1,139 @@
+mod board;
+mod closing;
+mod desk_growth;
+mod faults;
+mod growth;
+mod refusals;
+mod status;
+mod work;
+
+ghost use Rattle.std.specs.Prelude.{◌≡◌, ◌∷◌, [], IfOk};
+ghost use Rattle.tc_station.specs.StationSettings.{vcids_of};
+
+use std::alloc::{AllocError, Global};
+use std::test::Fail;
+use tc_channel::{Delivery, FrameReply, Items, QueueSetting, Settings};
+use tc_link::{Act, Link};
+use tc_station::{Operator, Station};
+
+// No unit was ended.
+const NOTHING: Delivery = Delivery {
+    queued: 0,
+    dropped: 0,
+    rest: false,
+};
+
+// One packet was queued, and nothing was left.
+const ONE: Delivery = Delivery {
+    queued: 1,
+    dropped: 0,
+    rest: false,
+};
+
+const NO_FLAG: Link = Link {
+    no_rf: false,
+    no_bit_lock: false,
+};
+
+const PACKET: [u8; 7] = [0x10, 0x05, 0xc0, 0x00, 0x00, 0x00, 0xaa];
+
+// The AD frame with N(S) 0 for spacecraft 42 and virtual channel 1 that carries `PACKET`.
+const FRAME: [u8; 13] = [
+    0x00, 0x2a, 0x04, 0x0c, 0x00, 0xc0, 0x10, 0x05, 0xc0, 0x00, 0x00, 0x00, 0xaa,
+];
+
+// The same for spacecraft 43, or for virtual channel 2, or for both.
+const OTHER_SPACECRAFT: [u8; 13] = [
+    0x00, 0x2b, 0x04, 0x0c, 0x00, 0xc0, 0x10, 0x05, 0xc0, 0x00, 0x00, 0x00, 0xaa,
+];
+
+const OTHER_CHANNEL: [u8; 13] = [
+    0x00, 0x2a, 0x08, 0x0c, 0x00, 0xc0, 0x10, 0x05, 0xc0, 0x00, 0x00, 0x00, 0xaa,
+];
+
+const OTHER_BOTH: [u8; 13] = [
+    0x00, 0x2b, 0x08, 0x0c, 0x00, 0xc0, 0x10, 0x05, 0xc0, 0x00, 0x00, 0x00, 0xaa,
+];
+
+// The reply to a frame that is accepted and buffered.
+const BUFFERED: FrameReply = FrameReply {
+    act: Act {
+        event: 1,
+        accepted: true,
+    },
+    delivery: NOTHING,
+};
+
+// The window 10, one buffered field, V(R) 0 first, and a queue of capacity 1 for APID 5. One growth may be refused.
+fn settings(alloc: Global, vcid: u8) -> Result<Settings, AllocError>
+    ensures { IfOk result (λ s. s.vcid ≡ vcid) }
+{
+    let queue = QueueSetting {
+        apid: 5,
+        capacity: 1,
+    };
+    let queues = match Vec::from_slice(alloc, &[queue]) {
+        Ok(queues) => queues,
+        Err(_) => Vec::from_slice(alloc, &[queue])?,
+    };
+    Ok(Settings {
+        vcid,
+        width: 10,
+        buffer: 1,
+        first: 0,
+        queues: Items::from(queues),
+    })
+}
+
+// Settings for each of these virtual channels. One growth may be refused.
+fn settings_of(alloc: Global, vcids: &[u8]) -> Result<Vec<Settings>, AllocError>
+    ensures { IfOk result (λ list. vcids_of list.items ≡ vcids.now) }
+{
+    let mut list = match Vec::with_capacity(alloc, vcids.len()) {
+        Ok(list) => list,
+        Err(_) => Vec::with_capacity(alloc, vcids.len())?,
+    };
+    for vcid in vcids {
+        list.push(settings(alloc, *vcid)?)?;
+    }
+    Ok(list)
+}
+
+// A station for spacecraft 42, with one operator.
+#[derive(Drop)]
+struct Manned {
+    station: Station,
+    operator: Operator,
+    ghost ours: { operator.vcids ≡ station.vcids },
+}
+
+impl Manned {
+    fn new(alloc: Global, vcids: &[u8]) -> Result<Manned, Fail>
+        ensures { IfOk result (λ crew. crew.station.vcids ≡ vcids.now) }
+    {
+        Manned::by(alloc, settings_of(alloc, vcids)?)
+    }
+
+    fn by(alloc: Global, list: Vec<Settings>) -> Result<Manned, Fail>
+        ensures { IfOk result (λ crew. crew.station.vcids ≡ vcids_of list.items) }
+    {
+        let mut station = Station::new(alloc, 42, list)?;
+        let operator = station.operators(1)?.pop().ok_or("an operator")?;
+        Ok(Manned { station, operator })
+    }
+}
+
+// A station of channels 1 and 2, with room for 64 data fields each.
+fn two_channels(alloc: Global) -> Result<Manned, Fail>
+    ensures { IfOk result (λ crew. crew.station.vcids ≡ 1 ∷ 2 ∷ []) }
+{
+    let first = Settings {
+        buffer: 64,
+        ..settings(alloc, 1)?
+    };
+    let second = Settings {
+        buffer: 64,
+        ..settings(alloc, 2)?
+    };
+    Manned::by(alloc, vec![in alloc; first, second]?)
+}

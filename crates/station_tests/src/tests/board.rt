@@ -1,0 +1,107 @@
+//! Boards: publishers and watchers of a channel that stands alone.
+
+use std::alloc::{AllocError, Global};
+use std::test::Fail;
+use tc_channel::{Channel, NoMemory, QueueSetting, Settings, SettingsFault};
+use tc_link::{Link, read_frame};
+use tc_status::{Publisher, meet};
+
+const NO_FLAG: Link = Link {
+    no_rf: false,
+    no_bit_lock: false,
+};
+
+// Virtual channel 1, a window of 10, a buffer of one, V(R) 0, and a queue of one packet for APID 5.
+fn settings(alloc: Global) -> Result<Settings, AllocError> {
+    let queue = QueueSetting {
+        apid: 5,
+        capacity: 1,
+    };
+    Ok(Settings {
+        vcid: 1,
+        width: 10,
+        buffer: 1,
+        first: 0,
+        queues: Vec::from_slice(alloc, &[queue])?.into(),
+    })
+}
+
+fn new_channel(alloc: Global) -> Result<Channel, SettingsFault> {
+    let Ok(settings) = settings(alloc) else {
+        return Err(SettingsFault::NoMemory);
+    };
+    Channel::new(alloc, settings)
+}
+
+// The AD frame of 13 octets with this N(S), for spacecraft 42 and virtual channel 1.
+fn ad_frame(ns: u8) -> [u8; 13] {
+    [
+        0x00, 0x2a, 0x04, 0x0c, ns, 0xc0, 0x10, 0x05, 0xc0, 0x00, 0x00, 0x00, 0xaa,
+    ]
+}
+
+#[test]
+fn each_watcher_reads_what_was_published_last(rt: HostRuntime) -> Result<(), Fail> {
+    let mut channel = new_channel(rt.alloc())?;
+    let mut publisher = Publisher::new(rt.alloc(), &channel)?;
+    let mut old = publisher.watcher()?;
+    assert_eq!(rt; old.read(), 0x01040000);
+
+    channel.frame(&read_frame(&ad_frame(0))?)?;
+    assert_eq!(rt; old.read(), 0x01040000, "before the publication");
+    publisher.publish(&channel);
+    assert_eq!(rt; old.read(), 0x01040001);
+
+    let reply = channel.frame(&read_frame(&ad_frame(1))?)?;
+    assert_eq!(rt; reply.act.event, 2);
+    publisher.publish(&channel);
+    let mut new = publisher.watcher()?;
+    assert_eq!(rt; new.read(), 0x01041801);
+    assert_eq!(rt; old.read(), 0x01041801);
+
+    meet(&mut publisher, &mut old);
+    assert_eq!(rt; old.read(), 0x01041801, "after a meeting");
+    Ok(())
+}
+
+// Each call is made again where a growth was refused, and must then answer as with ample memory.
+#[test]
+fn growth_of_a_board_and_of_a_watcher(rt: HostRuntime) -> Result<(), Fail> {
+    let mut channel = match new_channel(rt.alloc()) {
+        Ok(channel) => channel,
+        Err(fault) => {
+            assert_eq!(rt; fault, SettingsFault::NoMemory);
+            new_channel(rt.alloc())?
+        }
+    };
+    let octets = ad_frame(0);
+    let frame = read_frame(&octets)?;
+    if let Err(NoMemory) = channel.frame(&frame) {
+        assert_eq!(rt; channel.journal().len(), 0);
+        channel.frame(&frame)?;
+    }
+    let mut publisher = match Publisher::new(rt.alloc(), &channel) {
+        Ok(publisher) => publisher,
+        Err(NoMemory) => {
+            let _ = println!(rt; "refused: Publisher::new");
+            assert_eq!(rt; channel.clcw(NO_FLAG), 0x01040001);
+            Publisher::new(rt.alloc(), &channel)?
+        }
+    };
+    let mut old = match publisher.watcher() {
+        Ok(watcher) => watcher,
+        Err(NoMemory) => publisher.watcher()?,
+    };
+    let mut new = match publisher.watcher() {
+        Ok(watcher) => watcher,
+        Err(NoMemory) => {
+            let _ = println!(rt; "refused: Publisher::watcher");
+            assert_eq!(rt; old.read(), 0x01040001);
+            publisher.watcher()?
+        }
+    };
+    assert_eq!(rt; channel.journal().len(), 1);
+    assert_eq!(rt; old.read(), 0x01040001);
+    assert_eq!(rt; new.read(), 0x01040001);
+    Ok(())
+}

@@ -1,0 +1,287 @@
+//! Each call is made; want of memory must have left what stood before as it was, and then the call is made again.
+
+ghost use Rattle.std.specs.Prelude.{◌≡◌, ◌∷◌, [], IfOk, replicate};
+ghost use Rattle.tc_station.specs.Tally.{fresh};
+
+use super::*;
+use std::process::Abort;
+use std::sync::Wait;
+use tc_channel::{Event, Octets};
+use tc_station::{
+    BringFault, Brought, CloseFault, OperatorsFault, ReleaseRefused, StationFault, TakeRefused,
+    WatcherFault,
+};
+use tc_status::Watcher;
+
+// A station of one channel with one operator and one watcher, and the journal that the channel must have.
+#[derive(Drop)]
+struct Short {
+    alloc: Global,
+    station: Station,
+    operator: Operator,
+    watcher: Watcher,
+    journal: Vec<Event>,
+    ghost ours: { operator.vcids ≡ station.vcids },
+}
+
+fn new_station(rt: &(impl Abort + Print), alloc: Global) -> Result<Station, Fail> {
+    match Station::new(alloc, 42, settings_of(alloc, &[1])?) {
+        Ok(station) => Ok(station),
+        Err(fault) => {
+            let _ = println!(rt; "refused: Station::new");
+            assert_eq!(rt; fault, StationFault::NoMemory);
+            Ok(Station::new(alloc, 42, settings_of(alloc, &[1])?)?)
+        }
+    }
+}
+
+fn new_operators(
+    rt: &(impl Abort + Print),
+    station: &mut Station,
+    n: u16,
+) -> Result<Vec<Operator>, Fail>
+    ensures { IfOk result (λ operators. operators.items ≡ replicate n (fresh station.new.vcids)) }
+{
+    match station.operators(n) {
+        Ok(operators) => Ok(operators),
+        Err(fault) => {
+            let _ = println!(rt; "refused: operators");
+            assert_eq!(rt; fault, OperatorsFault::NoMemory);
+            Ok(station.operators(n)?)
+        }
+    }
+}
+
+fn new_watcher(rt: &(impl Wait + Abort + Print), station: &Station) -> Result<Watcher, Fail> {
+    match station.watcher(rt, 1) {
+        Ok(watcher) => Ok(watcher),
+        Err(fault) => {
+            let _ = println!(rt; "refused: Station::watcher");
+            assert_eq!(rt; fault, WatcherFault::NoMemory);
+            Ok(station.watcher(rt, 1)?)
+        }
+    }
+}
+
+// A copy, where one growth may be refused.
+fn copied(alloc: Global, octets: &[u8]) -> Result<Octets, Fail> {
+    match Octets::copied(alloc, octets) {
+        Ok(copy) => Ok(copy),
+        Err(_) => Ok(Octets::copied(alloc, octets)?),
+    }
+}
+
+impl Short {
+    fn new(rt: &(impl Wait + Abort + Print), alloc: Global) -> Result<Short, Fail> {
+        let mut station = new_station(rt, alloc)?;
+        let operator = new_operators(rt, &mut station, 1)?
+            .pop()
+            .ok_or("an operator")?;
+        let watcher = new_watcher(rt, &station)?;
+        Ok(Short {
+            alloc,
+            station,
+            operator,
+            watcher,
+            journal: Vec::new(alloc),
+        })
+    }
+
+    fn word(&mut self) -> u32 {
+        self.station.watch(&mut self.watcher, NO_FLAG)
+    }
+
+    // The operator has counted what is in the journal, and the word is this one.
+    fn check(&mut self, rt: &impl Abort, word: u32) {
+        assert_eq!(rt; self.operator.count(1), Some(self.journal.len() as u64));
+        assert_eq!(rt; self.word(), word);
+    }
+
+    fn note(&mut self, event: Event) -> Result<(), Fail> {
+        if self.journal.reserve(1).is_err() {
+            self.journal.reserve(1)?;
+        }
+        self.journal.push(event)?;
+        Ok(())
+    }
+
+    fn bring(
+        &mut self,
+        rt: &(impl Wait + Abort + Print),
+        reply: FrameReply,
+        word: u32,
+    ) -> Result<(), Fail> {
+        let before = self.word();
+        let brought = match self.station.bring(rt, &mut self.operator, &FRAME) {
+            Ok(brought) => brought,
+            Err(fault) => {
+                let _ = println!(rt; "refused: bring, event {}", reply.act.event);
+                assert_eq!(rt; fault, BringFault::NoMemory);
+                self.check(rt, before);
+                self.station.bring(rt, &mut self.operator, &FRAME)?
+            }
+        };
+        assert_eq!(rt; brought, Brought { vcid: 1, reply });
+        let octets = copied(self.alloc, &FRAME)?;
+        self.note(Event::Frame(octets))?;
+        self.check(rt, word);
+        Ok(())
+    }
+
+    fn bring_watched(
+        &mut self,
+        rt: &(impl Wait + Abort + Print),
+        reply: FrameReply,
+        word: u32,
+    ) -> Result<(), Fail> {
+        let before = self.word();
+        let (brought, mut own) = match self.station.bring_watched(rt, &mut self.operator, &FRAME) {
+            Ok(answer) => answer,
+            Err(fault) => {
+                let _ = println!(rt; "refused: bring_watched, event {}", reply.act.event);
+                assert_eq!(rt; fault, BringFault::NoMemory);
+                self.check(rt, before);
+                self.station.bring_watched(rt, &mut self.operator, &FRAME)?
+            }
+        };
+        assert_eq!(rt; brought, Brought { vcid: 1, reply });
+        assert_eq!(rt; own.read(), word);
+        let octets = copied(self.alloc, &FRAME)?;
+        self.note(Event::Frame(octets))?;
+        self.check(rt, word);
+        Ok(())
+    }
+
+    fn release(&mut self, rt: &(impl Wait + Abort + Print)) -> Result<(), Fail> {
+        let before = self.word();
+        let delivery = match self.station.release(rt, &mut self.operator, 1) {
+            Ok(delivery) => delivery,
+            Err(fault) => {
+                let _ = println!(rt; "refused: Station::release");
+                assert_eq!(rt; fault, ReleaseRefused::NoMemory);
+                self.check(rt, before);
+                self.station.release(rt, &mut self.operator, 1)?
+            }
+        };
+        assert_eq!(rt; delivery, ONE);
+        self.note(Event::Release)?;
+        self.check(rt, before);
+        Ok(())
+    }
+
+    fn take(&mut self, rt: &(impl Wait + Abort + Print)) -> Result<(), Fail> {
+        let before = self.word();
+        let packet = match self.station.take(rt, &mut self.operator, 1, 5) {
+            Ok(packet) => packet,
+            Err(fault) => {
+                let _ = println!(rt; "refused: Station::take");
+                assert_eq!(rt; fault, TakeRefused::NoMemory);
+                self.check(rt, before);
+                self.station.take(rt, &mut self.operator, 1, 5)?
+            }
+        };
+        assert_eq!(rt; packet.as_slice(), PACKET.as_slice());
+        self.note(Event::Take(5))?;
+        self.check(rt, before);
+        Ok(())
+    }
+
+    // The journal grows with the first event and with the fifth, which is the take: it makes no other growth.
+    fn operate(&mut self, rt: &(impl Wait + Abort + Print)) -> Result<(), Fail> {
+        self.bring(rt, BUFFERED, 0x01040001)?;
+        self.bring(rt, BEHIND, 0x01040001)?;
+        self.bring(rt, BEHIND, 0x01040001)?;
+        self.release(rt)?;
+        self.take(rt)
+    }
+
+    fn operate_watched(&mut self, rt: &(impl Wait + Abort + Print)) -> Result<(), Fail> {
+        self.bring_watched(rt, BUFFERED, 0x01040001)?;
+        self.release(rt)?;
+        self.bring_watched(rt, BEHIND, 0x01040001)
+    }
+
+    // Closes the station, whose channel has the journal that it must have.
+    fn close(self, rt: &(impl Abort + Print)) -> Result<(), Fail> {
+        let Short {
+            alloc,
+            station,
+            operator,
+            watcher: _,
+            journal,
+        } = self;
+        let operators = vec_of(alloc, operator)?;
+        let channels = match station.close(operators) {
+            Ok(channels) => channels,
+            Err(CloseFault::NoMemory(station, operators)) => {
+                let _ = println!(rt; "refused: close");
+                station.close(operators)?
+            }
+            Err(_) => return Err("neither closed nor without memory".into()),
+        };
+        assert_eq!(rt; channels.len(), 1);
+        assert_eq!(rt; channels[0].journal(), journal.as_slice());
+        Ok(())
+    }
+}
+
+// The operator alone. One growth may be refused.
+fn vec_of(alloc: Global, operator: Operator) -> Result<Vec<Operator>, Fail>
+    ensures { IfOk result (λ operators. operators.items ≡ operator ∷ []) }
+{
+    let mut operators = match Vec::with_capacity(alloc, 1) {
+        Ok(operators) => operators,
+        Err(_) => Vec::with_capacity(alloc, 1)?,
+    };
+    operators.push(operator)?;
+    Ok(operators)
+}
+
+#[test]
+fn growth_of_a_new_station(rt: HostRuntime) -> Result<(), Fail> {
+    let station = new_station(&rt, rt.alloc())?;
+    let mut watcher = new_watcher(&rt, &station)?;
+    assert_eq!(rt; station.watch(&mut watcher, NO_FLAG), 0x01040000);
+    Ok(())
+}
+
+// The station closes with just these operators: a refused call has issued none, else one would be missing.
+#[test]
+fn growth_of_operators(rt: HostRuntime) -> Result<(), Fail> {
+    let mut station = new_station(&rt, rt.alloc())?;
+    let operators = new_operators(&rt, &mut station, 3)?;
+    assert_eq!(rt; operators.len(), 3);
+    for operator in &operators {
+        assert_eq!(rt; operator.count(1), Some(0));
+    }
+    let channels = match station.close(operators) {
+        Ok(channels) => channels,
+        Err(CloseFault::NoMemory(station, operators)) => station.close(operators)?,
+        Err(_) => return Err("neither closed nor without memory".into()),
+    };
+    assert_eq!(rt; channels.len(), 1);
+    Ok(())
+}
+
+// The reply to a frame that comes again.
+const BEHIND: FrameReply = FrameReply {
+    act: Act {
+        event: 4,
+        accepted: false,
+    },
+    delivery: NOTHING,
+};
+
+#[test]
+fn growth_of_each_call_of_a_station(rt: HostRuntime) -> Result<(), Fail> {
+    let mut short = Short::new(&rt, rt.alloc())?;
+    short.operate(&rt)?;
+    short.close(&rt)
+}
+
+#[test]
+fn growth_of_watched_frames(rt: HostRuntime) -> Result<(), Fail> {
+    let mut short = Short::new(&rt, rt.alloc())?;
+    short.operate_watched(&rt)?;
+    short.close(&rt)
+}

@@ -1,0 +1,100 @@
+use super::*;
+use std::process::Abort;
+use std::sync::Wait;
+use tc_channel::SettingsFault;
+use tc_link::FrameFault;
+use tc_station::{
+    BringFault, LocateFault, OperatorsFault, ReleaseRefused, StationFault, TakeRefused,
+    WatcherFault,
+};
+
+fn fault_of(alloc: Global, scid: u16, vcids: &[u8]) -> Result<StationFault, Fail> {
+    match Station::new(alloc, scid, settings_of(alloc, vcids)?) {
+        Ok(_) => Err("a station".into()),
+        Err(fault) => Ok(fault),
+    }
+}
+
+#[test]
+fn settings_that_make_no_station(rt: HostRuntime) -> Result<(), Fail> {
+    let alloc = rt.alloc();
+    assert_eq!(rt; fault_of(alloc, 1024, &[])?, StationFault::BadScid);
+    assert_eq!(rt; fault_of(alloc, 1023, &[])?, StationFault::NoChannel);
+    assert_eq!(rt;
+        fault_of(alloc, 42, &[64, 64])?,
+        StationFault::DoubleVcid(64)
+    );
+    assert_eq!(rt;
+        fault_of(alloc, 42, &[64])?,
+        StationFault::Settings(64, SettingsFault::BadVcid)
+    );
+    Ok(())
+}
+
+#[test]
+fn more_operators_than_have_numbers(rt: HostRuntime) -> Result<(), Fail> {
+    let alloc = rt.alloc();
+    let mut station = Station::new(alloc, 42, settings_of(alloc, &[1])?)?;
+    assert_eq!(rt; station.operators(65535)?.len(), 65535);
+    match station.operators(1) {
+        Ok(_) => panic!(&rt; "one more"),
+        Err(fault) => assert_eq!(rt; fault, OperatorsFault::TooMany),
+    }
+    assert_eq!(rt; station.operators(0)?.len(), 0);
+    Ok(())
+}
+
+// Octets for no channel are refused alike where they are located and where they are brought.
+fn check_unplaced(rt: &(impl Wait + Abort), crew: &mut Manned, octets: &[u8], fault: LocateFault) {
+    match crew.station.locate(octets) {
+        Ok(_) => panic!(rt; "located"),
+        Err(other) => assert_eq!(rt; other, fault),
+    }
+    let brought = crew.station.bring(rt, &mut crew.operator, octets);
+    assert_eq!(rt; brought, Err(BringFault::Locate(fault)));
+    let watched = crew.station.bring_watched(rt, &mut crew.operator, octets);
+    assert_eq!(rt; watched.err(), Some(BringFault::Locate(fault)));
+    assert_eq!(rt; crew.operator.count(1), Some(0));
+}
+
+#[test]
+fn octets_for_no_channel(rt: HostRuntime) -> Result<(), Fail> {
+    let mut crew = Manned::new(rt.alloc(), &[1])?;
+    check_unplaced(
+        &rt,
+        &mut crew,
+        &OTHER_SPACECRAFT,
+        LocateFault::OtherSpacecraft,
+    );
+    check_unplaced(&rt, &mut crew, &OTHER_CHANNEL, LocateFault::UnknownChannel);
+    check_unplaced(&rt, &mut crew, &OTHER_BOTH, LocateFault::OtherSpacecraft);
+    let short = LocateFault::Frame(FrameFault::Short);
+    check_unplaced(&rt, &mut crew, &FRAME[..3], short);
+    let located = crew.station.locate(&FRAME)?;
+    assert_eq!(rt; located.vcid, 1);
+    assert_eq!(rt; located.frame.octets(), FRAME.as_slice());
+    Ok(())
+}
+
+#[test]
+fn operations_on_no_channel_and_on_none_there(rt: HostRuntime) -> Result<(), Fail> {
+    let Manned {
+        station,
+        mut operator,
+    } = Manned::new(rt.alloc(), &[1])?;
+    let unknown = station.release(&rt, &mut operator, 2);
+    assert_eq!(rt; unknown, Err(ReleaseRefused::UnknownChannel));
+    let empty = station.release(&rt, &mut operator, 1);
+    assert_eq!(rt; empty, Err(ReleaseRefused::Empty));
+    let unknown = station.take(&rt, &mut operator, 2, 5);
+    assert_eq!(rt; unknown.err(), Some(TakeRefused::UnknownChannel));
+    let no_queue = station.take(&rt, &mut operator, 1, 6);
+    assert_eq!(rt; no_queue.err(), Some(TakeRefused::NoQueue));
+    let empty = station.take(&rt, &mut operator, 1, 5);
+    assert_eq!(rt; empty.err(), Some(TakeRefused::Empty));
+    let unknown = station.watcher(&rt, 2);
+    assert_eq!(rt; unknown.err(), Some(WatcherFault::UnknownChannel));
+    assert_eq!(rt; operator.count(1), Some(0));
+    assert_eq!(rt; operator.count(2), None);
+    Ok(())
+}

@@ -1,0 +1,74 @@
+use super::*;
+use tc_link::read_frame;
+use tc_station::{Brought, Desk};
+
+// As `FRAME`, with N(S) 1.
+const NEXT: [u8; 13] = [
+    0x00, 0x2a, 0x04, 0x0c, 0x01, 0xc0, 0x10, 0x05, 0xc0, 0x00, 0x00, 0x00, 0xaa,
+];
+
+#[test]
+fn a_watcher_that_met_its_desk_reads_the_frame(rt: HostRuntime) -> Result<(), Fail> {
+    let alloc = rt.alloc();
+    let mut desk = Desk::new(alloc, settings(alloc, 1)?)?;
+    let mut watcher = desk.watcher()?;
+    assert_eq!(rt; watcher.read(), 0x01040000);
+    let reply = desk.frame(&read_frame(&FRAME)?)?;
+    assert_eq!(rt; reply, BUFFERED);
+    desk.meet(&mut watcher);
+    assert_eq!(rt; watcher.read(), 0x01040001);
+    Ok(())
+}
+
+// The second frame finds no room, and the release lets FARM-1 go on.
+#[test]
+fn each_answer_of_a_desk_is_published(rt: HostRuntime) -> Result<(), Fail> {
+    let alloc = rt.alloc();
+    let mut desk = Desk::new(alloc, settings(alloc, 1)?)?;
+    let mut watcher = desk.watcher()?;
+    desk.frame(&read_frame(&FRAME)?)?;
+    assert_eq!(rt; watcher.read(), 0x01040001);
+    desk.frame(&read_frame(&NEXT)?)?;
+    assert_eq!(rt; watcher.read(), 0x01041801);
+    desk.release()?;
+    assert_eq!(rt; watcher.read(), 0x01040801);
+    desk.take(5)?;
+    assert_eq!(rt; watcher.read(), 0x01040801);
+    Ok(())
+}
+
+#[test]
+fn each_watcher_reads_its_own_channel(rt: HostRuntime) -> Result<(), Fail> {
+    let Manned {
+        station,
+        mut operator,
+    } = two_channels(rt.alloc())?;
+    let mut first = station.watcher(&rt, 1)?;
+    let mut second = station.watcher(&rt, 2)?;
+    station.bring(&rt, &mut operator, &FRAME)?;
+    assert_eq!(rt; station.watch(&mut first, NO_FLAG), 0x01040001);
+    assert_eq!(rt; station.watch(&mut second, NO_FLAG), 0x01080000);
+    let (brought, mut own) = station.bring_watched(&rt, &mut operator, &NEXT)?;
+    let reply = BUFFERED;
+    assert_eq!(rt; brought, Brought { vcid: 1, reply });
+    assert_eq!(rt; own.read(), 0x01040002);
+    assert_eq!(rt; operator.count(1), Some(2));
+    assert_eq!(rt; operator.count(2), Some(0));
+    Ok(())
+}
+
+#[test]
+fn link_flags_are_those_of_the_reader(rt: HostRuntime) -> Result<(), Fail> {
+    let Manned {
+        station,
+        operator: _,
+    } = Manned::new(rt.alloc(), &[1])?;
+    let mut watcher = station.watcher(&rt, 1)?;
+    let both = Link {
+        no_rf: true,
+        no_bit_lock: true,
+    };
+    assert_eq!(rt; station.watch(&mut watcher, both), 0x0104c000);
+    assert_eq!(rt; station.watch(&mut watcher, NO_FLAG), 0x01040000);
+    Ok(())
+}

@@ -1,0 +1,148 @@
+ghost use Rattle.std.specs.Prelude.{◌≡◌, ◌≤◌, ◌∷◌, [], IfOk};
+ghost use Rattle.tc_station.specs.Tally.{fresh};
+
+use super::*;
+use std::process::Abort;
+use tc_channel::{Event, Octets};
+use tc_station::{CloseFault, FreeGate, Job, Order, WorkFault, WorkList};
+
+const UNLOCK: [u8; 6] = [0x30, 0x2a, 0x04, 0x05, 0x00, 0x00];
+
+// A job that brings an Unlock to virtual channel 1. One growth may be refused.
+fn unlock(alloc: Global, line: u32) -> Result<Job, Fail> {
+    let octets = match Octets::copied(alloc, &UNLOCK) {
+        Ok(octets) => octets,
+        Err(_) => Octets::copied(alloc, &UNLOCK)?,
+    };
+    Ok(Job {
+        line,
+        order: Order::Bring(octets),
+    })
+}
+
+// Two Unlocks, on lines 5 and 6. One growth may be refused.
+fn two_unlocks(alloc: Global) -> Result<WorkList, Fail> {
+    let mut jobs = match Vec::with_capacity(alloc, 2) {
+        Ok(jobs) => jobs,
+        Err(_) => Vec::with_capacity(alloc, 2)?,
+    };
+    jobs.push(unlock(alloc, 5)?)?;
+    jobs.push(unlock(alloc, 6)?)?;
+    Ok(WorkList {
+        vcid: 1,
+        jobs: Items::from(jobs),
+    })
+}
+
+// A station of one channel with one operator, in a list as `work` takes it. One growth may be refused.
+fn new_crew(alloc: Global) -> Result<(Station, Vec<Operator>), Fail>
+    ensures { IfOk result (λ crew. crew.1.items ≡ fresh crew.0.vcids ∷ []) }
+{
+    let mut station = match Station::new(alloc, 42, settings_of(alloc, &[1])?) {
+        Ok(station) => station,
+        Err(_) => Station::new(alloc, 42, settings_of(alloc, &[1])?)?,
+    };
+    let operators = match station.operators(1) {
+        Ok(operators) => operators,
+        Err(_) => station.operators(1)?,
+    };
+    Ok((station, operators))
+}
+
+// How many Unlocks were answered, by the lowest line that memory was refused for.
+fn answered(rt: &(impl Abort + Print), done: Result<(), WorkFault>) -> u64
+    ensures { result ≤ 2 }
+{
+    match done {
+        Ok(()) => 2,
+        Err(WorkFault::NoMemory { line: 5 }) => {
+            let _ = println!(rt; "refused: work, first line");
+            0
+        }
+        Err(fault) => {
+            let _ = println!(rt; "refused: work, second line");
+            assert_eq!(rt; fault, WorkFault::NoMemory { line: 6 });
+            1
+        }
+    }
+}
+
+#[test]
+fn growth_of_work(rt: HostRuntime) -> Result<(), Fail> {
+    let alloc = rt.alloc();
+    let lists = [two_unlocks(alloc)?];
+    let (station, mut operators) = new_crew(alloc)?;
+    let first = answered(&rt, station.work(&rt, &FreeGate, &mut operators, &lists));
+    assert_eq!(rt; operators[0].count(1), Some(first));
+    // The next growth isn't refused.
+    let second = answered(&rt, station.work(&rt, &FreeGate, &mut operators, &lists));
+    assert!(rt; first == 2 || second == 2);
+    assert_eq!(rt; operators[0].count(1), Some(first + second));
+    let channels = match station.close(operators) {
+        Ok(channels) => channels,
+        Err(CloseFault::NoMemory(station, operators)) => station.close(operators)?,
+        Err(_) => return Err("neither closed nor without memory".into()),
+    };
+    assert_eq!(rt; channels.len(), 1);
+    assert_eq!(rt; channels[0].journal().len() as u64, first + second);
+    Ok(())
+}
+
+// Lists on channels 1, 2 and 9, of which the last isn't there.
+fn three_lists(alloc: Global) -> Result<[WorkList; 3], Fail> {
+    let release = Job {
+        line: 2,
+        order: Order::Release,
+    };
+    let take = Job {
+        line: 3,
+        order: Order::Take(5),
+    };
+    let nowhere = Job {
+        line: 4,
+        order: Order::Release,
+    };
+    let mut first = Vec::new(alloc);
+    first.push(release)?;
+    first.push(unlock(alloc, 5)?)?;
+    let mut second = Vec::new(alloc);
+    second.push(take)?;
+    second.push(unlock(alloc, 6)?)?;
+    let mut third = Vec::new(alloc);
+    third.push(nowhere)?;
+    third.push(unlock(alloc, 7)?)?;
+    Ok([
+        WorkList {
+            vcid: 1,
+            jobs: Items::from(first),
+        },
+        WorkList {
+            vcid: 2,
+            jobs: Items::from(second),
+        },
+        WorkList {
+            vcid: 9,
+            jobs: Items::from(third),
+        },
+    ])
+}
+
+#[test]
+fn refusals_are_passed_over(rt: HostRuntime) -> Result<(), Fail> {
+    let alloc = rt.alloc();
+    let lists = three_lists(alloc)?;
+    let mut station = Station::new(alloc, 42, settings_of(alloc, &[1, 2])?)?;
+    let mut operators = station.operators(3)?;
+    station.work(&rt, &FreeGate, &mut operators, &lists)?;
+    for operator in &operators {
+        assert_eq!(rt; operator.count(1), Some(1));
+        assert_eq!(rt; operator.count(2), Some(0));
+    }
+    let channels = station.close(operators)?;
+    assert_eq!(rt; channels.len(), 2);
+    let unlock = Event::Frame(Octets::copied(alloc, &UNLOCK)?);
+    assert_eq!(rt; channels[0].journal().len(), 3);
+    assert_eq!(rt; &channels[0].journal()[0], &unlock);
+    assert_eq!(rt; channels[1].journal().len(), 0);
+    Ok(())
+}

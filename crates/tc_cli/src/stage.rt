@@ -1,0 +1,54 @@
+//! How far a script has come: first its channels are set up, then it operates.
+
+ghost use Rattle.std.specs.Prelude.{◌≡◌, ◌⊎◌, [], IfOk, IfErr, MatchResult};
+ghost use Rattle.tc_cli.specs.Phase.{Does, IsBad, Setup, Operation};
+ghost use Rattle.tc_cli.specs.Stage.{phase_of};
+
+use crate::configuration::Configuration;
+use std::alloc::Global;
+use tc_channel::{QueueSetting, Settings};
+use tc_text::{Line, Reason};
+
+/// How far a script has come. What operates is made at the first operation, with the channels that are
+/// set up by then. A bad line ends a script, so no stage is given back with its reason.
+#[derive(Drop)]
+pub(crate) enum Stage<O> {
+    SettingUp(Configuration),
+    Operating(O),
+}
+
+impl<O: Drop> Stage<O> {
+    /// With the channel of a channel line besides.
+    pub(crate) fn with_channel(self, settings: Settings) -> Result<Stage<O>, Reason>
+        requires { settings.queues ≡ [] }
+        ensures done { IfOk result (λ done. Does (phase_of self) (Line.Channel settings.vcid settings.width settings.buffer settings.first) (phase_of done)) }
+        ensures reason { IfErr result (λ reason. (reason ≡ Reason.NoMemory) ⊎ IsBad (phase_of self) (Line.Channel settings.vcid settings.width settings.buffer settings.first) reason) }
+    {
+        let list = self.configuration()?;
+        Ok(Stage::SettingUp(list.with_channel(settings)?))
+    }
+
+    /// With the queue of a queue line besides.
+    pub(crate) fn with_queue(
+        self,
+        alloc: Global,
+        vcid: u8,
+        queue: QueueSetting,
+    ) -> Result<Stage<O>, Reason>
+        ensures done { IfOk result (λ done. Does (phase_of self) (Line.Queue vcid queue.apid queue.capacity) (phase_of done)) }
+        ensures reason { IfErr result (λ reason. (reason ≡ Reason.NoMemory) ⊎ IsBad (phase_of self) (Line.Queue vcid queue.apid queue.capacity) reason) }
+    {
+        let list = self.configuration()?;
+        Ok(Stage::SettingUp(list.with_queue(alloc, vcid, queue)?))
+    }
+
+    // What is set up, where no operation came before.
+    fn configuration(self) -> Result<Configuration, Reason>
+        ensures { MatchResult result (λ list. phase_of self ≡ Setup list) (λ reason. (reason ≡ Reason.TooLate) × (phase_of self ≡ Operation)) }
+    {
+        match self {
+            Stage::SettingUp(list) => Ok(list),
+            Stage::Operating(_) => Err(Reason::TooLate),
+        }
+    }
+}

@@ -1,0 +1,76 @@
+-- What a line says, by its words.
+use Rattle.std.specs.Prelude.{ℕ, Bool, ◌==◌, List, [], ◌∷◌, slice_index, nat_eq, codes, Some, None, Result, Ok, Err, if◌then◌else◌}
+use Rattle.std.specs.Cmp.Lexicographic.{pointwise}
+use Rattle.hex.specs.Hex.{decode_of}
+use Rattle.hex.specs.declared.FromHexError.{FromHexError}
+use Rattle.tc_text.specs.Number.{number_of}
+use Rattle.tc_text.specs.declared.fault.Reason.{Reason}
+use Rattle.tc_text.specs.declared.fault.Reason.TheVariants.{UnknownCommand, WordCount, BadNumber, BadHex}
+use Rattle.tc_text.specs.declared.line.Line.{Line}
+use Rattle.tc_text.specs.declared.line.Line.TheVariants.{Blank, Channel, Queue, Frame, Release, Take, Clcw}
+
+-- what follows where a word is a number within its bound
+abbrev pub with_number : ℕ → List ℕ → (ℕ → Result Line Reason) → Result Line Reason
+with_number most word next = elim (number_of most word) [ None ↦ Err BadNumber | Some number ↦ next number ]
+
+abbrev pub channel_of : List (List ℕ) → Result Line Reason
+channel_of [] = Err WordCount
+channel_of (v ∷ []) = Err WordCount
+channel_of (v ∷ w ∷ []) = Err WordCount
+channel_of (v ∷ w ∷ b ∷ []) = Err WordCount
+channel_of (v ∷ w ∷ b ∷ f ∷ []) =
+    with_number 255 v (λ vcid. with_number 255 w (λ width. with_number 255 b (λ buffer. with_number 255 f (λ first.
+    Ok (Channel vcid width buffer first)))))
+channel_of (v ∷ w ∷ b ∷ f ∷ more ∷ rest) = Err WordCount
+
+abbrev pub queue_of : List (List ℕ) → Result Line Reason
+queue_of [] = Err WordCount
+queue_of (v ∷ []) = Err WordCount
+queue_of (v ∷ a ∷ []) = Err WordCount
+queue_of (v ∷ a ∷ c ∷ []) =
+    with_number 255 v (λ vcid. with_number 65535 a (λ apid. with_number 65535 c (λ capacity. Ok (Queue vcid apid capacity))))
+queue_of (v ∷ a ∷ c ∷ more ∷ rest) = Err WordCount
+
+abbrev pub decoded : Result (List ℕ) FromHexError → Result Line Reason
+decoded (Ok octets) = Ok (Frame octets)
+decoded (Err fault) = Err BadHex
+
+abbrev pub frame_of : List (List ℕ) → Result Line Reason
+frame_of [] = Err WordCount
+frame_of (digits ∷ []) = decoded (decode_of digits)
+frame_of (digits ∷ more ∷ rest) = Err WordCount
+
+abbrev pub release_of : List (List ℕ) → Result Line Reason
+release_of [] = Err WordCount
+release_of (v ∷ []) = with_number 255 v (λ vcid. Ok (Release vcid))
+release_of (v ∷ more ∷ rest) = Err WordCount
+
+abbrev pub take_of : List (List ℕ) → Result Line Reason
+take_of [] = Err WordCount
+take_of (v ∷ []) = Err WordCount
+take_of (v ∷ a ∷ []) = with_number 255 v (λ vcid. with_number 65535 a (λ apid. Ok (Take vcid apid)))
+take_of (v ∷ a ∷ more ∷ rest) = Err WordCount
+
+abbrev pub clcw_of : List (List ℕ) → Result Line Reason
+clcw_of [] = Err WordCount
+clcw_of (v ∷ []) = with_number 255 v (λ vcid. Ok (Clcw vcid))
+clcw_of (v ∷ more ∷ rest) = Err WordCount
+
+abbrev pub is_comment : List ℕ → Bool
+is_comment word = slice_index word 0 == 35
+
+abbrev pub is : List ℕ → List ℕ → Bool
+is word text = pointwise nat_eq word text
+
+-- what the words of a line say, or the first of the reasons why they say nothing
+unfoldable pub line_of : List (List ℕ) → Result Line Reason
+line_of [] = Ok Blank
+line_of (command ∷ arguments) =
+    if is_comment command then Ok Blank
+    else if is command (codes "channel") then channel_of arguments
+    else if is command (codes "queue") then queue_of arguments
+    else if is command (codes "frame") then frame_of arguments
+    else if is command (codes "release") then release_of arguments
+    else if is command (codes "take") then take_of arguments
+    else if is command (codes "clcw") then clcw_of arguments
+    else Err UnknownCommand

@@ -1,0 +1,15 @@
+-- Why no channel can have the settings of a line.
+use Rattle.tc_channel.specs.declared.settings.SettingsFault.{SettingsFault}
+use Rattle.tc_channel.specs.declared.settings.SettingsFault.TheVariants as faults
+use Rattle.tc_text.specs.declared.fault.Reason.{Reason}
+use Rattle.tc_text.specs.declared.fault.Reason.TheVariants.{BadVcid, BadWindow, BadBuffer, BadApid, DoubleApid, BadCapacity, NoMemory}
+
+-- the reason for a fault of the settings
+abbrev pub reason_of : SettingsFault → Reason
+reason_of faults.BadVcid = BadVcid
+reason_of faults.BadWindow = BadWindow
+reason_of faults.BadBuffer = BadBuffer
+reason_of faults.BadApid = BadApid
+reason_of faults.DoubleApid = DoubleApid
+reason_of faults.BadCapacity = BadCapacity
+reason_of faults.NoMemory = NoMemory

@@ -1,0 +1,15 @@
+//! Scripts as text: their octets are read and taken apart into lines, and a line into its words, which say what is to be done.
+//!
+//! `read_whole` reads a script, `next_line` takes its first line off, and `parse_line` says what a line says.
+#![tactic(auto)]
+
+mod fault;
+mod line;
+mod reading;
+mod spacecraft;
+mod word;
+
+pub use fault::{Reason, ScriptFault};
+pub use line::{Line, parse_line};
+pub use reading::{MAX_OCTETS, next_line, read_whole};
+pub use spacecraft::spacecraft_id;

@@ -1,0 +1,141 @@
+//! Lines of a script.
+
+ghost use Rattle.std.specs.Prelude.{◌≡◌, ◌⊎◌, IfOk, IfErr};
+ghost use Rattle.tc_text.specs.Word.{words};
+ghost use Rattle.tc_text.specs.Line.{line_of, channel_of, queue_of, frame_of, release_of, take_of, clcw_of};
+
+use crate::fault::Reason;
+use crate::word::{large_number, next_argument, next_word, no_more, small_number};
+use hex::FromHexError;
+use std::alloc::Global;
+use tc_channel::Octets;
+
+/// What a line says.
+#[derive(Debug, Drop, PartialEq, Eq)]
+pub enum Line {
+    /// Nothing: no words, or a comment.
+    Blank,
+    /// A virtual channel with its window's width, the number of data fields that its buffer takes
+    /// and the first V(R).
+    Channel {
+        vcid: u8,
+        width: u8,
+        buffer: u8,
+        first: u8,
+    },
+    /// A packet queue of a virtual channel, with its APID and the number of packets that it takes.
+    Queue {
+        vcid: u8,
+        apid: u16,
+        capacity: u16,
+    },
+    /// Octets that arrive.
+    Frame(Octets),
+    /// Lets the oldest data field out of the buffer of a virtual channel.
+    Release(u8),
+    /// Takes the oldest packet of a virtual channel with an APID.
+    Take(u8, u16),
+    /// Asks for the CLCW of a virtual channel.
+    Clcw(u8),
+}
+
+/// Reads a line, which is given without its line feed. Only a frame's octets take memory.
+#[tactic(auto, unfolding(crate::specs::Line::line_of))]
+pub fn parse_line(alloc: Global, octets: &[u8]) -> Result<Line, Reason>
+    ensures line { IfOk result (λ line. line_of (words octets.now) ≡ Ok line) }
+    ensures reason { IfErr result (λ reason. (reason ≡ Reason.NoMemory) ⊎ (line_of (words octets.now) ≡ Err reason)) }
+{
+    let Some((command, arguments)) = next_word(octets) else {
+        return Ok(Line::Blank);
+    };
+    if command[0] == b'#' {
+        Ok(Line::Blank)
+    } else if command == b"channel".as_slice() {
+        channel(arguments)
+    } else if command == b"queue".as_slice() {
+        queue(arguments)
+    } else if command == b"frame".as_slice() {
+        frame(alloc, arguments)
+    } else if command == b"release".as_slice() {
+        release(arguments)
+    } else if command == b"take".as_slice() {
+        take(arguments)
+    } else if command == b"clcw".as_slice() {
+        clcw(arguments)
+    } else {
+        Err(Reason::UnknownCommand)
+    }
+}
+
+fn channel(arguments: &[u8]) -> Result<Line, Reason>
+    ensures line { IfOk result (λ line. channel_of (words arguments.now) ≡ Ok line) }
+    ensures reason { IfErr result (λ reason. channel_of (words arguments.now) ≡ Err reason) }
+{
+    let (vcid, rest) = next_argument(arguments)?;
+    let (width, rest) = next_argument(rest)?;
+    let (buffer, rest) = next_argument(rest)?;
+    let (first, rest) = next_argument(rest)?;
+    no_more(rest)?;
+    Ok(Line::Channel {
+        vcid: small_number(vcid)?,
+        width: small_number(width)?,
+        buffer: small_number(buffer)?,
+        first: small_number(first)?,
+    })
+}
+
+fn queue(arguments: &[u8]) -> Result<Line, Reason>
+    ensures line { IfOk result (λ line. queue_of (words arguments.now) ≡ Ok line) }
+    ensures reason { IfErr result (λ reason. queue_of (words arguments.now) ≡ Err reason) }
+{
+    let (vcid, rest) = next_argument(arguments)?;
+    let (apid, rest) = next_argument(rest)?;
+    let (capacity, rest) = next_argument(rest)?;
+    no_more(rest)?;
+    Ok(Line::Queue {
+        vcid: small_number(vcid)?,
+        apid: large_number(apid)?,
+        capacity: large_number(capacity)?,
+    })
+}
+
+fn frame(alloc: Global, arguments: &[u8]) -> Result<Line, Reason>
+    ensures line { IfOk result (λ line. frame_of (words arguments.now) ≡ Ok line) }
+    ensures reason { IfErr result (λ reason. (reason ≡ Reason.NoMemory) ⊎ (frame_of (words arguments.now) ≡ Err reason)) }
+{
+    let (digits, rest) = next_argument(arguments)?;
+    no_more(rest)?;
+    match hex::decode(alloc, digits) {
+        Ok(octets) => Ok(Line::Frame(Octets::from(octets))),
+        Err(FromHexError::OutOfMemory) => Err(Reason::NoMemory),
+        Err(_) => Err(Reason::BadHex),
+    }
+}
+
+fn release(arguments: &[u8]) -> Result<Line, Reason>
+    ensures line { IfOk result (λ line. release_of (words arguments.now) ≡ Ok line) }
+    ensures reason { IfErr result (λ reason. release_of (words arguments.now) ≡ Err reason) }
+{
+    let (vcid, rest) = next_argument(arguments)?;
+    no_more(rest)?;
+    Ok(Line::Release(small_number(vcid)?))
+}
+
+fn take(arguments: &[u8]) -> Result<Line, Reason>
+    ensures line { IfOk result (λ line. take_of (words arguments.now) ≡ Ok line) }
+    ensures reason { IfErr result (λ reason. take_of (words arguments.now) ≡ Err reason) }
+{
+    let (vcid, rest) = next_argument(arguments)?;
+    let (apid, rest) = next_argument(rest)?;
+    no_more(rest)?;
+    Ok(Line::Take(small_number(vcid)?, large_number(apid)?))
+}
+
+fn clcw(arguments: &[u8]) -> Result<Line, Reason>
+    ensures line { IfOk result (λ line. clcw_of (words arguments.now) ≡ Ok line) }
+    ensures reason { IfErr result (λ reason. clcw_of (words arguments.now) ≡ Err reason) }
+{
+    let (vcid, rest) = next_argument(arguments)?;
+    no_more(rest)?;
+    Ok(Line::Clcw(small_number(vcid)?))
+}
