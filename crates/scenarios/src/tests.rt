@@ -10,7 +10,6 @@ ghost use Rattle.tc_station.specs.StationSettings.{vcids_of};
 
 use std::alloc::{AllocError, Global};
 use std::sync::Wait;
-use std::test::Fail;
 use tc_channel::{Items, QueueSetting, Settings};
 use tc_link::Link;
 use tc_station::{Operator, Station};

@@ -11,7 +11,7 @@ ghost use Rattle.std.specs.Prelude.{◌≡◌, ◌∷◌, [], IfOk};
 ghost use Rattle.tc_station.specs.StationSettings.{vcids_of};
 
 use std::alloc::{AllocError, Global};
-use std::test::Fail;
+use std::process::Abort;
 use tc_channel::{Delivery, FrameReply, Items, QueueSetting, Settings};
 use tc_link::{Act, Link};
 use tc_station::{Operator, Station};
@@ -108,32 +108,37 @@ struct Manned {
 }
 
 impl Manned {
-    fn new(alloc: Global, vcids: &[u8]) -> Result<Manned, Fail>
-        ensures { IfOk result (λ crew. crew.station.vcids ≡ vcids.now) }
+    fn new(rt: &impl Abort, alloc: Global, vcids: &[u8]) -> Manned
+        ensures { result.station.vcids ≡ vcids.now }
     {
-        Manned::by(alloc, settings_of(alloc, vcids)?)
+        Manned::by(rt, alloc, settings_of(alloc, vcids).expect(rt, "settings"))
     }
 
-    fn by(alloc: Global, list: Vec<Settings>) -> Result<Manned, Fail>
-        ensures { IfOk result (λ crew. crew.station.vcids ≡ vcids_of list.items) }
+    fn by(rt: &impl Abort, alloc: Global, list: Vec<Settings>) -> Manned
+        ensures { result.station.vcids ≡ vcids_of list.items }
     {
-        let mut station = Station::new(alloc, 42, list)?;
-        let operator = station.operators(1)?.pop().ok_or("an operator")?;
-        Ok(Manned { station, operator })
+        let mut station = Station::new(alloc, 42, list).expect(rt, "a station");
+        let mut operators = station.operators(1).expect(rt, "operators");
+        let operator = operators.pop().expect(rt, "an operator");
+        Manned { station, operator }
     }
 }
 
 // A station of channels 1 and 2, with room for 64 data fields each.
-fn two_channels(alloc: Global) -> Result<Manned, Fail>
-    ensures { IfOk result (λ crew. crew.station.vcids ≡ 1 ∷ 2 ∷ []) }
+fn two_channels(rt: &impl Abort, alloc: Global) -> Manned
+    ensures { result.station.vcids ≡ 1 ∷ 2 ∷ [] }
 {
     let first = Settings {
         buffer: 64,
-        ..settings(alloc, 1)?
+        ..settings(alloc, 1).expect(rt, "settings")
     };
     let second = Settings {
         buffer: 64,
-        ..settings(alloc, 2)?
+        ..settings(alloc, 2).expect(rt, "settings")
     };
-    Manned::by(alloc, vec![in alloc; first, second]?)
+    Manned::by(
+        rt,
+        alloc,
+        vec![in alloc; first, second].expect(rt, "a list"),
+    )
 }

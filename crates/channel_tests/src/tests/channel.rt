@@ -4,7 +4,6 @@ mod packets;
 
 use std::alloc::{AllocError, Global};
 use std::process::Abort;
-use std::test::Fail;
 use tc_channel::{
     Channel, Delivery, Event, FrameReply, Items, NoMemory, Octets, QueueSetting, ReleaseFault,
     Settings, SettingsFault, TakeFault,
@@ -87,7 +86,7 @@ struct Watched {
 }
 
 impl Watched {
-    fn new(alloc: Global, settings: Settings) -> Result<Watched, Fail> {
+    fn new(alloc: Global, settings: Settings) -> Result<Watched, SettingsFault> {
         Ok(Watched {
             alloc,
             channel: Channel::new(alloc, settings)?,
@@ -95,48 +94,35 @@ impl Watched {
         })
     }
 
-    fn frame(
-        &mut self,
-        rt: &impl Abort,
-        given: &[u8],
-        kept: &[u8],
-        expected: FrameReply,
-    ) -> Result<(), Fail> {
-        let reply = self.channel.frame(&read_frame(given)?)?;
+    fn frame(&mut self, rt: &impl Abort, given: &[u8], kept: &[u8], expected: FrameReply) {
+        let reply = self
+            .channel
+            .frame(&read_frame(given).expect(rt, "an answer"))
+            .expect(rt, "an answer");
         assert_eq!(rt; reply, expected);
-        let octets = Octets::copied(self.alloc, kept)?;
-        self.journal.push(Event::Frame(octets))?;
-        Ok(())
+        let octets = Octets::copied(self.alloc, kept).expect(rt, "an answer");
+        self.journal
+            .push(Event::Frame(octets))
+            .expect(rt, "an answer");
     }
 
-    fn release(
-        &mut self,
-        rt: &impl Abort,
-        expected: Result<Delivery, ReleaseFault>,
-    ) -> Result<(), Fail> {
+    fn release(&mut self, rt: &impl Abort, expected: Result<Delivery, ReleaseFault>) {
         assert_eq!(rt; self.channel.release(), expected);
         if expected.is_ok() {
-            self.journal.push(Event::Release)?;
+            self.journal.push(Event::Release).expect(rt, "an answer");
         }
-        Ok(())
     }
 
-    fn take(
-        &mut self,
-        rt: &impl Abort,
-        apid: u16,
-        expected: Result<&[u8], TakeFault>,
-    ) -> Result<(), Fail> {
+    fn take(&mut self, rt: &impl Abort, apid: u16, expected: Result<&[u8], TakeFault>) {
         let answer = self.channel.take(apid);
         assert_eq!(rt; answer.as_deref().ok(), expected.ok());
         assert_eq!(rt; answer.err(), expected.err());
         if expected.is_ok() {
-            self.journal.push(Event::Take(apid))?;
+            self.journal.push(Event::Take(apid)).expect(rt, "an answer");
         }
-        Ok(())
     }
 
-    fn step(&mut self, rt: &impl Abort, step: Step) -> Result<(), Fail> {
+    fn step(&mut self, rt: &impl Abort, step: Step) {
         let reply = |act| FrameReply {
             act,
             delivery: NOTHING,
@@ -151,23 +137,20 @@ impl Watched {
             Step::Take(apid, expected) => self.take(rt, apid, expected),
             Step::Clcw(word) => {
                 assert_eq!(rt; self.channel.clcw(NO_FLAG), word);
-                Ok(())
             }
             Step::Holds(fields, packets) => {
                 assert_eq!(rt; self.channel.buffered(), fields);
                 assert_eq!(rt; self.channel.queued(5), Some(packets));
-                Ok(())
             }
         }
     }
 
     // Each step in turn; after each the journal is as it must be.
-    fn play(&mut self, rt: &impl Abort, steps: &[Step]) -> Result<(), Fail> {
+    fn play(&mut self, rt: &impl Abort, steps: &[Step]) {
         for step in steps {
-            self.step(rt, *step)?;
+            self.step(rt, *step);
             assert_eq!(rt; self.channel.journal(), self.journal.as_slice());
         }
-        Ok(())
     }
 }
 
@@ -177,6 +160,8 @@ const NO_FLAG: Link = Link {
 };
 
 // On a channel whose V(R) is 0 first.
-fn play(rt: &impl Abort, alloc: Global, steps: &[Step]) -> Result<(), Fail> {
-    Watched::new(alloc, settings(alloc, 0)?)?.play(rt, steps)
+fn play(rt: &impl Abort, alloc: Global, steps: &[Step]) {
+    Watched::new(alloc, settings(alloc, 0).expect(rt, "an answer"))
+        .expect(rt, "an answer")
+        .play(rt, steps)
 }

@@ -1,8 +1,7 @@
 //! Units that are cut into packets.
 
-use std::alloc::Global;
+use std::alloc::{AllocError, Global};
 use std::process::Abort;
-use std::test::Fail;
 use tc_packet::{Cut, NoMemory, cut};
 
 const PACKET: [u8; 7] = [0x10, 0x05, 0xc0, 0x00, 0x00, 0x00, 0xaa];
@@ -17,7 +16,7 @@ fn check_cut(rt: &impl Abort, cut: &Cut<'_>, count: usize, rest: &[u8]) {
 }
 
 // So many packets like `PACKET`, and these octets after them.
-fn packets_and(alloc: Global, count: usize, rest: &[u8]) -> Result<Vec<u8>, Fail> {
+fn packets_and(alloc: Global, count: usize, rest: &[u8]) -> Result<Vec<u8>, AllocError> {
     let mut unit = Vec::new(alloc);
     for _ in 0..count {
         unit.extend_from_slice(&PACKET)?;
@@ -27,33 +26,40 @@ fn packets_and(alloc: Global, count: usize, rest: &[u8]) -> Result<Vec<u8>, Fail
 }
 
 #[test]
-fn cuts_packets_and_leaves_the_rest(rt: HostRuntime) -> Result<(), Fail> {
+fn cuts_packets_and_leaves_the_rest(rt: HostRuntime) {
     for (count, rest) in [(1, b"\xff".as_slice()), (0, b"".as_slice())] {
-        let unit = packets_and(rt.alloc(), count, rest)?;
-        check_cut(&rt, &cut(rt.alloc(), &unit)?, count, rest);
+        let unit = packets_and(rt.alloc(), count, rest).expect(&rt, "an answer");
+        check_cut(
+            &rt,
+            &cut(rt.alloc(), &unit).expect(&rt, "an answer"),
+            count,
+            rest,
+        );
     }
-    Ok(())
 }
 
 #[test]
-fn cuts_as_many_packets_as_the_largest_unit_has(rt: HostRuntime) -> Result<(), Fail> {
-    let unit = packets_and(rt.alloc(), 9_363, b"\xff")?;
+fn cuts_as_many_packets_as_the_largest_unit_has(rt: HostRuntime) {
+    let unit = packets_and(rt.alloc(), 9_363, b"\xff").expect(&rt, "an answer");
     assert_eq!(rt; unit.len(), 65_542);
-    check_cut(&rt, &cut(rt.alloc(), &unit)?, 9_363, b"\xff");
-    Ok(())
+    check_cut(
+        &rt,
+        &cut(rt.alloc(), &unit).expect(&rt, "an answer"),
+        9_363,
+        b"\xff",
+    );
 }
 
 #[test]
-fn growth_of_a_cut(rt: HostRuntime) -> Result<(), Fail> {
+fn growth_of_a_cut(rt: HostRuntime) {
     let packets = [PACKET, PACKET, PACKET, PACKET, PACKET];
     let unit = packets.as_flattened();
     let made = match cut(rt.alloc(), unit) {
         Ok(made) => made,
         Err(NoMemory) => {
             let _ = println!(rt; "refused: cut");
-            cut(rt.alloc(), unit)?
+            cut(rt.alloc(), unit).expect(&rt, "an answer")
         }
     };
     check_cut(&rt, &made, 5, b"");
-    Ok(())
 }

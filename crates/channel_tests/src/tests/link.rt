@@ -1,7 +1,7 @@
 //! Frames, FARM-1 by itself and CLCWs.
 
 use std::alloc::Global;
-use std::test::Fail;
+use std::process::Abort;
 use tc_link::{
     Act, Arrival, ClcwFields, Command, Farm, FrameFault, Header, Kind, Link, State, Window,
     WriteFault, clcw_word, kind, read_clcw, read_frame, write_frame,
@@ -14,10 +14,10 @@ fn ad_frame(ns: u8) -> [u8; 13] {
     ]
 }
 
-fn first_act(width: u8, octets: &[u8]) -> Result<Act, Fail> {
-    let mut farm = Farm::new(Window::new(width).ok_or("a width")?, 0);
-    let frame = read_frame(octets)?;
-    Ok(arrive(&mut farm, kind(&frame), true))
+fn first_act(rt: &impl Abort, width: u8, octets: &[u8]) -> Act {
+    let mut farm = Farm::new(Window::new(width).expect(rt, "a width"), 0);
+    let frame = read_frame(octets).expect(rt, "a frame");
+    arrive(&mut farm, kind(&frame), true)
 }
 
 // A frame comes; in S2 it finds no room.
@@ -45,8 +45,8 @@ fn discarded(event: u8) -> Act {
 }
 
 #[test]
-fn a_full_buffer_then_a_lockout_then_an_unlock(rt: HostRuntime) -> Result<(), Fail> {
-    let mut farm = Farm::new(Window::new(10).ok_or("a width")?, 0);
+fn a_full_buffer_then_a_lockout_then_an_unlock(rt: HostRuntime) {
+    let mut farm = Farm::new(Window::new(10).expect(&rt, "a width"), 0);
     let accepted = Act {
         event: 1,
         accepted: true,
@@ -66,11 +66,10 @@ fn a_full_buffer_then_a_lockout_then_an_unlock(rt: HostRuntime) -> Result<(), Fa
         discarded(7)
     );
     assert_eq!(rt; word(&farm), 0x01040201);
-    Ok(())
 }
 
 #[test]
-fn the_widest_and_the_narrowest_window(rt: HostRuntime) -> Result<(), Fail> {
+fn the_widest_and_the_narrowest_window(rt: HostRuntime) {
     for (width, ns, event) in [
         (254, 0x7e, 3),
         (254, 0x7f, 5),
@@ -80,10 +79,9 @@ fn the_widest_and_the_narrowest_window(rt: HostRuntime) -> Result<(), Fail> {
         (2, 0xff, 4),
         (2, 0xfe, 5),
     ] {
-        let act = first_act(width, &ad_frame(ns))?;
+        let act = first_act(&rt, width, &ad_frame(ns));
         assert_eq!(rt; act, discarded(event), "width {width}, N(S) {ns}");
     }
-    Ok(())
 }
 
 #[test]
@@ -109,7 +107,7 @@ fn fault(octets: &[u8]) -> Option<FrameFault> {
 }
 
 #[test]
-fn the_text_of_each_fault(rt: HostRuntime) -> Result<(), Fail> {
+fn the_text_of_each_fault(rt: HostRuntime) {
     for (fault, text) in [
         (FrameFault::Short, "fewer than 5 octets"),
         (FrameFault::Version, "the version isn't 0"),
@@ -123,9 +121,14 @@ fn the_text_of_each_fault(rt: HostRuntime) -> Result<(), Fail> {
             "the frame length names more octets than there are",
         ),
     ] {
-        assert_eq!(rt; fault.to_string(rt.alloc())?.as_str(), text);
+        assert_eq!(rt;
+            fault
+                .to_string(rt.alloc())
+                .expect(&rt, "an answer")
+                .as_str(),
+            text
+        );
     }
-    Ok(())
 }
 
 const HEADER: Header = Header {
@@ -143,22 +146,20 @@ fn write_refusal(alloc: Global, header: &Header, field: &[u8]) -> Option<WriteFa
 }
 
 #[test]
-fn a_frame_is_written(rt: HostRuntime) -> Result<(), Fail> {
-    let octets = write_frame(rt.alloc(), &HEADER, &FIELD)?;
+fn a_frame_is_written(rt: HostRuntime) {
+    let octets = write_frame(rt.alloc(), &HEADER, &FIELD).expect(&rt, "an answer");
     assert_eq!(rt; octets.as_slice(), ad_frame(0).as_slice());
-    Ok(())
 }
 
 #[test]
-fn the_longest_frame_is_written_and_read_back(rt: HostRuntime) -> Result<(), Fail> {
+fn the_longest_frame_is_written_and_read_back(rt: HostRuntime) {
     let field = [0u8; 1019];
-    let octets = write_frame(rt.alloc(), &HEADER, &field)?;
+    let octets = write_frame(rt.alloc(), &HEADER, &field).expect(&rt, "an answer");
     assert_eq!(rt; octets.len(), 1024);
     assert_eq!(rt; &octets[..5], [0x00, 0x2a, 0x07, 0xff, 0x00].as_slice());
-    let frame = read_frame(&octets)?;
+    let frame = read_frame(&octets).expect(&rt, "an answer");
     assert_eq!(rt; frame.header(), HEADER);
     assert_eq!(rt; frame.field(), field.as_slice());
-    Ok(())
 }
 
 #[test]
@@ -186,7 +187,7 @@ fn each_fault_of_what_is_to_be_written(rt: HostRuntime) {
 }
 
 #[test]
-fn the_text_of_each_write_fault(rt: HostRuntime) -> Result<(), Fail> {
+fn the_text_of_each_write_fault(rt: HostRuntime) {
     for (fault, text) in [
         (
             WriteFault::BadField,
@@ -199,34 +200,38 @@ fn the_text_of_each_write_fault(rt: HostRuntime) -> Result<(), Fail> {
         ),
         (WriteFault::NoMemory, "no memory"),
     ] {
-        assert_eq!(rt; fault.to_string(rt.alloc())?.as_str(), text);
+        assert_eq!(rt;
+            fault
+                .to_string(rt.alloc())
+                .expect(&rt, "an answer")
+                .as_str(),
+            text
+        );
     }
-    Ok(())
 }
 
 #[test]
-fn growth_of_a_written_frame(rt: HostRuntime) -> Result<(), Fail> {
+fn growth_of_a_written_frame(rt: HostRuntime) {
     let octets = match write_frame(rt.alloc(), &HEADER, &FIELD) {
         Ok(octets) => octets,
         Err(fault) => {
             let _ = println!(rt; "refused: write_frame");
             assert_eq!(rt; fault, WriteFault::NoMemory);
-            write_frame(rt.alloc(), &HEADER, &FIELD)?
+            write_frame(rt.alloc(), &HEADER, &FIELD).expect(&rt, "an answer")
         }
     };
     assert_eq!(rt; octets.as_slice(), ad_frame(0).as_slice());
-    Ok(())
 }
 
 #[test]
-fn words_are_written_and_read(rt: HostRuntime) -> Result<(), Fail> {
-    let farm = Farm::new(Window::new(10).ok_or("a width")?, 0);
+fn words_are_written_and_read(rt: HostRuntime) {
+    let farm = Farm::new(Window::new(10).expect(&rt, "a width"), 0);
     let both = Link {
         no_rf: true,
         no_bit_lock: true,
     };
     assert_eq!(rt; clcw_word(&farm.report(), 1, both), 0x0104c000);
-    let fields = read_clcw(0x01041801).ok_or("a CLCW")?;
+    let fields = read_clcw(0x01041801).expect(&rt, "a CLCW");
     let expected = ClcwFields {
         status: 0,
         vcid: 1,
@@ -241,9 +246,8 @@ fn words_are_written_and_read(rt: HostRuntime) -> Result<(), Fail> {
         vr: 1,
     };
     assert_eq!(rt; fields, expected);
-    assert_eq!(rt; read_clcw(0x05040000).ok_or("a CLCW")?.status, 1);
+    assert_eq!(rt; read_clcw(0x05040000).expect(&rt, "a CLCW").status, 1);
     for word in [0x81040000, 0x21040000, 0x00040000, 0x01050000, 0x01040100] {
         assert_eq!(rt; read_clcw(word), None, "{word:08x}");
     }
-    Ok(())
 }

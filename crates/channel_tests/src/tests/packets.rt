@@ -1,6 +1,5 @@
 //! Segment headers, packets and the text of the one fault.
 
-use std::test::Fail;
 use tc_packet::{NoMemory, Packet, Part, Segment, read_packet, read_segment};
 
 #[test]
@@ -47,8 +46,7 @@ fn reads_no_packet_of_another_version_or_cut_short(rt: HostRuntime) {
 }
 
 #[test]
-fn says_what_is_wanting(rt: HostRuntime) -> Result<(), Fail> {
-    let text = format!(in rt.alloc(); "{}", NoMemory)?;
+fn says_what_is_wanting(rt: HostRuntime) {
+    let text = format!(in rt.alloc(); "{}", NoMemory).expect(&rt, "an answer");
     assert_eq!(rt; text.as_str(), "no memory");
-    Ok(())
 }

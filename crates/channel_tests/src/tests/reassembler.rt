@@ -5,8 +5,7 @@ mod streams;
 use definition::Given;
 use std::alloc::Global;
 use std::process::Abort;
-use std::test::Fail;
-use tc_packet::{Reassembler, Service};
+use tc_packet::{NoMemory, Reassembler, Service};
 
 // A reassembler, and all that was ever given to it.
 #[derive(Drop)]
@@ -17,7 +16,7 @@ struct Watched {
 }
 
 impl Watched {
-    fn new(alloc: Global) -> Result<Watched, Fail> {
+    fn new(alloc: Global) -> Result<Watched, NoMemory> {
         Ok(Watched {
             alloc,
             reassembler: Reassembler::new(alloc)?,
@@ -26,29 +25,40 @@ impl Watched {
     }
 
     // The unit that the field ends: the same by both calls and by the definition over the whole stream.
-    fn push(
-        &mut self,
-        rt: &impl Abort,
-        service: Service,
-        field: &[u8],
-    ) -> Result<Option<Vec<u8>>, Fail> {
+    fn push(&mut self, rt: &impl Abort, service: Service, field: &[u8]) -> Option<Vec<u8>> {
         assert!(rt; !field.is_empty());
-        let expected = definition::unit_after(self.alloc, &self.given, service, field)?;
-        let after = self.reassembler.unit_after(service, field)?;
+        let expected = definition::unit_after(self.alloc, &self.given, service, field).expect(
+            rt,
+            "an answer",
+        );
+        let after = self
+            .reassembler
+            .unit_after(service, field)
+            .expect(rt, "an answer");
         assert_eq!(rt; after, expected);
-        let unit = self.reassembler.push(service, field)?;
+        let unit = self
+            .reassembler
+            .push(service, field)
+            .expect(rt, "an answer");
         assert_eq!(rt; unit, expected);
-        let field = Vec::from_slice(self.alloc, field)?;
-        self.given.push(Given { service, field })?;
-        Ok(unit)
+        let field = Vec::from_slice(self.alloc, field).expect(rt, "an answer");
+        self.given
+            .push(Given { service, field })
+            .expect(rt, "an answer");
+        unit
     }
 
     // The open run of the stream is what an empty last segment would make a unit of.
-    fn check_run(&self, rt: &impl Abort, service: Service, map: u8) -> Result<(), Fail> {
+    fn check_run(&self, rt: &impl Abort, service: Service, map: u8) {
         let close = [0x80 | (map & 0x3f)];
-        let expected = definition::unit_after(self.alloc, &self.given, service, &close)?;
-        let run = self.reassembler.unit_after(service, &close)?;
+        let expected = definition::unit_after(self.alloc, &self.given, service, &close).expect(
+            rt,
+            "an answer",
+        );
+        let run = self
+            .reassembler
+            .unit_after(service, &close)
+            .expect(rt, "an answer");
         assert_eq!(rt; run, expected);
-        Ok(())
     }
 }

@@ -1,9 +1,10 @@
 //! Two workers meet at a gate while each holds the lock of its list's channel.
 
-ghost use Rattle.std.specs.Prelude.{◌≡◌, IfOk, replicate};
+ghost use Rattle.std.specs.Prelude.{◌≡◌, replicate};
 ghost use Rattle.tc_station.specs.Tally.{fresh};
 
 use super::*;
+use std::process::Abort;
 use std::sync::atomic::{AtomicBool, Ordering};
 use std::thread::yield_now;
 use tc_channel::Octets;
@@ -72,8 +73,8 @@ impl Gate for Meeting {
 }
 
 // One job: to bring this frame.
-fn list_of_one(alloc: Global, vcid: u8, line: u32, digits: &str) -> Result<WorkList, Fail> {
-    let octets = Octets::from(hex::decode(alloc, digits)?);
+fn list_of_one(alloc: Global, vcid: u8, line: u32, octets: &[u8]) -> Result<WorkList, AllocError> {
+    let octets = Octets::copied(alloc, octets)?;
     let mut jobs = Vec::new(alloc);
     jobs.push(Job {
         line,
@@ -86,37 +87,37 @@ fn list_of_one(alloc: Global, vcid: u8, line: u32, digits: &str) -> Result<WorkL
 }
 
 // A station with channels 1 and 2, and two operators.
-fn new_crew(alloc: Global) -> Result<(Station, Vec<Operator>), Fail>
-    ensures { IfOk result (λ crew. crew.1.items ≡ replicate 2 (fresh crew.0.vcids)) }
+fn new_crew(rt: &impl Abort, alloc: Global) -> (Station, Vec<Operator>)
+    ensures { result.1.items ≡ replicate 2 (fresh result.0.vcids) }
 {
-    let first = settings(alloc, 1, 10, 1, 0)?;
-    let second = settings(alloc, 2, 10, 1, 0)?;
-    let mut station = Station::new(alloc, 42, list_of_two(alloc, first, second)?)?;
-    let operators = station.operators(2)?;
-    Ok((station, operators))
+    let first = settings(alloc, 1, 10, 1, 0).expect(rt, "settings");
+    let second = settings(alloc, 2, 10, 1, 0).expect(rt, "settings");
+    let list = list_of_two(alloc, first, second).expect(rt, "a list");
+    let mut station = Station::new(alloc, 42, list).expect(rt, "a station");
+    let operators = station.operators(2).expect(rt, "operators");
+    (station, operators)
 }
 
 // An Unlock for each channel.
-fn two_unlocks(alloc: Global) -> Result<[WorkList; 2], Fail> {
+fn two_unlocks(alloc: Global) -> Result<[WorkList; 2], AllocError> {
     Ok([
-        list_of_one(alloc, 1, 1, "302a04050000")?,
-        list_of_one(alloc, 2, 2, "302a08050000")?,
+        list_of_one(alloc, 1, 1, &[0x30, 0x2a, 0x04, 0x05, 0x00, 0x00])?,
+        list_of_one(alloc, 2, 2, &[0x30, 0x2a, 0x08, 0x05, 0x00, 0x00])?,
     ])
 }
 
 #[test]
-fn workers_of_two_channels_meet(rt: HostRuntime) -> Result<(), Fail> {
-    let lists = two_unlocks(rt.alloc())?;
-    let (station, mut operators) = new_crew(rt.alloc())?;
+fn workers_of_two_channels_meet(rt: HostRuntime) {
+    let lists = two_unlocks(rt.alloc()).expect(&rt, "an answer");
+    let (station, mut operators) = new_crew(&rt, rt.alloc());
     let gate = Meeting::new(100_000_000);
     assert_eq!(rt; station.work(&rt, &gate, &mut operators, &lists), Ok(()));
     assert_eq!(rt; gate.came(), (true, true));
     assert!(rt; !gate.has_run_out());
-    let channels = station.close(operators)?;
+    let channels = station.close(operators).expect(&rt, "an answer");
     assert_eq!(rt; channels.len(), 2);
     assert_eq!(rt; channels[0].journal().len(), 1);
     assert_eq!(rt; channels[1].journal().len(), 1);
-    Ok(())
 }
 
 #[test]

@@ -40,14 +40,16 @@ fn answers(alloc: Global) -> Result<String, AllocError> {
 }
 
 #[test]
-fn the_longest_unit(rt: HostRuntime) -> Result<(), Fail> {
-    let script = script(rt.alloc(), "202a058b0080", 390)?;
-    let mut answers = answers(rt.alloc())?;
-    answers.push_str(
-        "frame 1 E6 accepted 1 queued 1 dropped 0 rest 0\nclcw 1 01040200\ntake 1 5 1005c000ffff",
-    )?;
-    add_zeros(&mut answers, 65_536)?;
-    answers.push_str("\n")?;
+fn the_longest_unit(rt: HostRuntime) {
+    let script = script(rt.alloc(), "202a058b0080", 390).expect(&rt, "an answer");
+    let mut answers = answers(rt.alloc()).expect(&rt, "an answer");
+    answers
+        .push_str(
+            "frame 1 E6 accepted 1 queued 1 dropped 0 rest 0\nclcw 1 01040200\ntake 1 5 1005c000ffff",
+        )
+        .expect(&rt, "an answer");
+    add_zeros(&mut answers, 65_536).expect(&rt, "an answer");
+    answers.push_str("\n").expect(&rt, "an answer");
     let row = Row {
         name: "the longest unit",
         shape: (10, 1, 0),
@@ -58,12 +60,14 @@ fn the_longest_unit(rt: HostRuntime) -> Result<(), Fail> {
 }
 
 #[test]
-fn a_unit_that_is_too_long(rt: HostRuntime) -> Result<(), Fail> {
-    let script = script(rt.alloc(), "202a058c0080", 391)?;
-    let mut answers = answers(rt.alloc())?;
-    answers.push_str(
-        "frame 1 E6 accepted 1 queued 0 dropped 0 rest 0\nclcw 1 01040200\nrefused empty\n",
-    )?;
+fn a_unit_that_is_too_long(rt: HostRuntime) {
+    let script = script(rt.alloc(), "202a058c0080", 391).expect(&rt, "an answer");
+    let mut answers = answers(rt.alloc()).expect(&rt, "an answer");
+    answers
+        .push_str(
+            "frame 1 E6 accepted 1 queued 0 dropped 0 rest 0\nclcw 1 01040200\nrefused empty\n",
+        )
+        .expect(&rt, "an answer");
     let row = Row {
         name: "a unit that is too long",
         shape: (10, 1, 0),

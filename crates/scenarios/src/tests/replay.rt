@@ -38,18 +38,21 @@ struct Crew {
 
 impl Crew {
     fn new(
+        rt: &impl Abort,
         alloc: Global,
         bringing: Bringing,
         first: Settings,
         second: Settings,
-    ) -> Result<Crew, Fail> {
-        let mut station = Station::new(alloc, 42, list_of_two(alloc, first, second)?)?;
-        let operator = station.operators(1)?.pop().ok_or("an operator")?;
-        Ok(Crew {
+    ) -> Crew {
+        let list = list_of_two(alloc, first, second).expect(rt, "a list");
+        let mut station = Station::new(alloc, 42, list).expect(rt, "a station");
+        let mut operators = station.operators(1).expect(rt, "operators");
+        let operator = operators.pop().expect(rt, "an operator");
+        Crew {
             bringing,
             station,
             operator,
-        })
+        }
     }
 
     // Brings octets. Where the frame is watched, it also tells what its watcher reads at once.
@@ -80,15 +83,15 @@ impl Crew {
         self.station.take(rt, &mut self.operator, vcid, apid)
     }
 
-    fn close(self, alloc: Global) -> Result<Vec<Channel>, Fail> {
+    fn close(self, rt: &impl Abort, alloc: Global) -> Vec<Channel> {
         let Crew {
             bringing: _,
             station,
             operator,
         } = self;
         let mut operators = Vec::new(alloc);
-        operators.push(operator)?;
-        Ok(station.close(operators)?)
+        operators.push(operator).expect(rt, "a list");
+        station.close(operators).expect(rt, "a closed station")
     }
 }
 
@@ -99,23 +102,23 @@ fn bring_to_both(
     crew: &mut Crew,
     alone: &mut Channel,
     octets: &[u8],
-) -> Result<Result<FrameReply, FrameFault>, Fail> {
+) -> Result<FrameReply, FrameFault> {
     let brought = crew.bring(rt, octets);
     match read_frame(octets) {
         Ok(frame) => {
-            let reply = alone.frame(&frame)?;
+            let reply = alone.frame(&frame).expect(rt, "an answer");
             let vcid = alone.settings().vcid;
             let word = match crew.bringing {
                 Bringing::Plain => None,
                 Bringing::Watched => Some(alone.clcw(NO_FLAG)),
             };
             assert_eq!(rt; brought, Ok((Brought { vcid, reply }, word)));
-            Ok(Ok(reply))
+            Ok(reply)
         }
         Err(fault) => {
             let refused = BringFault::Locate(LocateFault::Frame(fault));
             assert_eq!(rt; brought, Err(refused));
-            Ok(Err(fault))
+            Err(fault)
         }
     }
 }
@@ -213,15 +216,15 @@ fn text_of_take(
     alloc: Global,
     apid: u16,
     answer: Result<Vec<u8>, TakeFault>,
-) -> Result<String, Fail> {
+) -> Result<String, AllocError> {
     match answer {
         Ok(packet) => {
             let digits = hex::encode(alloc, packet.as_slice())?;
-            Ok(format!(in alloc; "take 1 {apid} {digits}")?)
+            format!(in alloc; "take 1 {apid} {digits}")
         }
-        Err(TakeFault::NoQueue) => Ok("refused no queue".to_string(alloc)?),
-        Err(TakeFault::Empty) => Ok("refused empty".to_string(alloc)?),
-        Err(TakeFault::NoMemory) => Ok("no memory".to_string(alloc)?),
+        Err(TakeFault::NoQueue) => "refused no queue".to_string(alloc),
+        Err(TakeFault::Empty) => "refused empty".to_string(alloc),
+        Err(TakeFault::NoMemory) => "no memory".to_string(alloc),
     }
 }
 
@@ -256,24 +259,19 @@ struct Replay {
 impl Replay {
     // The settings are those of channel 1. Channel 2 has the same, but its first V(R) is 100.
     fn new(
+        rt: &impl Abort,
         alloc: Global,
         bringing: Bringing,
         (width, buffer, first): (u8, u8, u8),
-    ) -> Result<Replay, Fail> {
-        let crew = Crew::new(
+    ) -> Replay {
+        let one = || settings(alloc, 1, width, buffer, first).expect(rt, "settings");
+        let other = || settings(alloc, 2, width, buffer, 100).expect(rt, "settings");
+        Replay {
             alloc,
-            bringing,
-            settings(alloc, 1, width, buffer, first)?,
-            settings(alloc, 2, width, buffer, 100)?,
-        )?;
-        let first = Channel::new(alloc, settings(alloc, 1, width, buffer, first)?)?;
-        let second = Channel::new(alloc, settings(alloc, 2, width, buffer, 100)?)?;
-        Ok(Replay {
-            alloc,
-            crew,
-            first,
-            second,
-        })
+            crew: Crew::new(rt, alloc, bringing, one(), other()),
+            first: Channel::new(alloc, one()).expect(rt, "a channel"),
+            second: Channel::new(alloc, other()).expect(rt, "a channel"),
+        }
     }
 
     // The station tells of each channel what the one that stands alone tells.
@@ -290,13 +288,13 @@ impl Replay {
         &mut self,
         rt: &(impl Wait + Abort),
         octets: Octets,
-    ) -> Result<Result<FrameReply, FrameFault>, Fail> {
-        let reply = bring_to_both(rt, &mut self.crew, &mut self.first, octets.as_slice())?;
+    ) -> Result<FrameReply, FrameFault> {
+        let reply = bring_to_both(rt, &mut self.crew, &mut self.first, octets.as_slice());
         self.check_words(rt);
         let octets = for_channel_2(octets);
-        let _ = bring_to_both(rt, &mut self.crew, &mut self.second, &octets)?;
+        let _ = bring_to_both(rt, &mut self.crew, &mut self.second, &octets);
         self.check_words(rt);
-        Ok(reply)
+        reply
     }
 
     fn release(&mut self, rt: &(impl Wait + Abort)) -> Result<Delivery, ReleaseFault> {
@@ -317,36 +315,32 @@ impl Replay {
     }
 
     // The text of the CLCW that the station tells of channel 1.
-    fn clcw(&self, rt: &impl Wait) -> Result<String, Fail> {
-        let word = status_of(&self.crew.station, rt, 1).ok_or("a status")?;
-        Ok(format!(in self.alloc; "clcw 1 {word:08x}")?)
+    fn clcw(&self, rt: &(impl Wait + Abort)) -> Result<String, AllocError> {
+        let word = status_of(&self.crew.station, rt, 1).expect(rt, "a status");
+        format!(in self.alloc; "clcw 1 {word:08x}")
     }
 
     // Does an operation, and tells what it is answered.
-    fn operate(&mut self, rt: &(impl Wait + Abort), line: Line) -> Result<String, Fail> {
-        match line {
-            Line::Frame(octets) => {
-                let answer = self.frame(rt, octets)?;
-                Ok(text_of_frame(self.alloc, answer)?)
-            }
-            Line::Release(_) => Ok(text_of_release(self.alloc, self.release(rt))?),
+    fn operate(&mut self, rt: &(impl Wait + Abort), line: Line) -> String {
+        let told = match line {
+            Line::Frame(octets) => text_of_frame(self.alloc, self.frame(rt, octets)),
+            Line::Release(_) => text_of_release(self.alloc, self.release(rt)),
             Line::Take(_, apid) => text_of_take(self.alloc, apid, self.take(rt, apid)),
             Line::Clcw(_) => self.clcw(rt),
-            _ => Err("a line that is no operation".into()),
-        }
+            _ => panic!(rt; "a line that is no operation"),
+        };
+        told.expect(rt, "a text")
     }
 
     // Each line in turn, which is answered as expected; channel 1 has an event for each operation that was answered.
-    fn play(&mut self, rt: &(impl Wait + Abort), row: &Row) -> Result<(), Fail> {
+    fn play(&mut self, rt: &(impl Wait + Abort), row: &Row) {
         self.check_words(rt);
         let mut answers = row.answers.lines();
         let mut events = 0usize;
         for line in row.script.lines() {
-            let Ok(line) = parse_line(self.alloc, line.as_bytes()) else {
-                return Err("a bad line".into());
-            };
-            let expected = answers.next().ok_or("an answer")?;
-            let told = self.operate(rt, line)?;
+            let line = parse_line(self.alloc, line.as_bytes()).expect(rt, "a line");
+            let expected = answers.next().expect(rt, "an answer");
+            let told = self.operate(rt, line);
             assert_eq!(rt; told.as_str(), expected, "{}", row.name);
             if !expected.starts_with("refused ") && !expected.starts_with("clcw ") {
                 events = events.saturating_add(1);
@@ -354,41 +348,33 @@ impl Replay {
             assert_eq!(rt; self.first.journal().len(), events, "{}", row.name);
         }
         assert_eq!(rt; answers.next(), None, "{}", row.name);
-        Ok(())
     }
 
     // Closes the station: its channels are as those that stand alone.
-    fn close(self, rt: &impl Abort) -> Result<(), Fail> {
+    fn close(self, rt: &impl Abort) {
         let Replay {
             alloc,
             crew,
             first,
             second,
         } = self;
-        let channels = crew.close(alloc)?;
+        let channels = crew.close(rt, alloc);
         assert_eq!(rt; channels.len(), 2);
         check_alike(rt, &channels[0], &first);
         check_alike(rt, &channels[1], &second);
-        Ok(())
     }
 }
 
-fn play_row(
-    rt: &(impl Wait + Abort),
-    alloc: Global,
-    bringing: Bringing,
-    row: &Row,
-) -> Result<(), Fail> {
-    let mut replay = Replay::new(alloc, bringing, row.shape)?;
-    replay.play(rt, row)?;
+fn play_row(rt: &(impl Wait + Abort), alloc: Global, bringing: Bringing, row: &Row) {
+    let mut replay = Replay::new(rt, alloc, bringing, row.shape);
+    replay.play(rt, row);
     replay.close(rt)
 }
 
 // Plays each row, with frames that are brought in each manner, and closes the stations.
-pub(super) fn play_rows(rt: &(impl Wait + Abort), alloc: Global, rows: &[Row]) -> Result<(), Fail> {
+pub(super) fn play_rows(rt: &(impl Wait + Abort), alloc: Global, rows: &[Row]) {
     for row in rows {
-        play_row(rt, alloc, Bringing::Plain, row)?;
-        play_row(rt, alloc, Bringing::Watched, row)?;
+        play_row(rt, alloc, Bringing::Plain, row);
+        play_row(rt, alloc, Bringing::Watched, row);
     }
-    Ok(())
 }

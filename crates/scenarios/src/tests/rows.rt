@@ -4,7 +4,7 @@ use super::replay::{Row, play_rows};
 use super::*;
 
 #[test]
-fn farm_1_takes_frames(rt: HostRuntime) -> Result<(), Fail> {
+fn farm_1_takes_frames(rt: HostRuntime) {
     let rows = [
         Row {
             name: "channels that start",
@@ -65,7 +65,7 @@ fn farm_1_takes_frames(rt: HostRuntime) -> Result<(), Fail> {
 }
 
 #[test]
-fn one_frame_in_each_part_of_the_window(rt: HostRuntime) -> Result<(), Fail> {
+fn one_frame_in_each_part_of_the_window(rt: HostRuntime) {
     let rows = [
         Row {
             name: "N(S) 4 in a window of 10",
@@ -138,7 +138,7 @@ fn one_frame_in_each_part_of_the_window(rt: HostRuntime) -> Result<(), Fail> {
 }
 
 #[test]
-fn frames_that_are_none_or_invalid(rt: HostRuntime) -> Result<(), Fail> {
+fn frames_that_are_none_or_invalid(rt: HostRuntime) {
     let rows = [
         Row {
             name: "octets that are no frame",
@@ -163,7 +163,7 @@ fn frames_that_are_none_or_invalid(rt: HostRuntime) -> Result<(), Fail> {
 }
 
 #[test]
-fn packets_reach_their_queues(rt: HostRuntime) -> Result<(), Fail> {
+fn packets_reach_their_queues(rt: HostRuntime) {
     let rows = [
         Row {
             name: "a packet from its frame to its taker",
@@ -206,7 +206,7 @@ fn packets_reach_their_queues(rt: HostRuntime) -> Result<(), Fail> {
 }
 
 #[test]
-fn segments_make_units(rt: HostRuntime) -> Result<(), Fail> {
+fn segments_make_units(rt: HostRuntime) {
     let rows = [
         Row {
             name: "a packet in two segments",

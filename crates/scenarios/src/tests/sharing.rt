@@ -9,10 +9,11 @@ use tc_channel::Channel;
 use tc_station::{CloseFault, ReleaseRefused};
 
 // Channels 1 and 2 with the window 10, room for 64 fields and V(R) 0 first.
-fn new_station(alloc: Global) -> Result<Station, Fail> {
-    let first = settings(alloc, 1, 10, 64, 0)?;
-    let second = settings(alloc, 2, 10, 64, 0)?;
-    Ok(Station::new(alloc, 42, list_of_two(alloc, first, second)?)?)
+fn new_station(rt: &impl Abort, alloc: Global) -> Station {
+    let first = settings(alloc, 1, 10, 64, 0).expect(rt, "settings");
+    let second = settings(alloc, 2, 10, 64, 0).expect(rt, "settings");
+    let list = list_of_two(alloc, first, second).expect(rt, "a list");
+    Station::new(alloc, 42, list).expect(rt, "a station")
 }
 
 // The third octet of the frames for virtual channels 1 and 2.
@@ -100,25 +101,24 @@ fn check_journal(rt: &impl Abort, channel: &Channel, vcid: u8, counted: Option<u
 }
 
 #[test]
-fn two_operators_on_one_station(rt: HostRuntime) -> Result<(), Fail> {
+fn two_operators_on_one_station(rt: HostRuntime) {
     let alloc = rt.alloc();
-    let mut station = new_station(alloc)?;
-    let mut operators = station.operators(2)?;
-    let mut two = operators.pop().ok_or("a second operator")?;
-    let mut one = operators.pop().ok_or("a first operator")?;
+    let mut station = new_station(&rt, alloc);
+    let mut operators = station.operators(2).expect(&rt, "an answer");
+    let mut two = operators.pop().expect(&rt, "a second operator");
+    let mut one = operators.pop().expect(&rt, "a first operator");
     assert!(rt; share(&rt, &station, &mut one, &mut two));
     let first = counted_by_both(&one, &two, 1);
     let second = counted_by_both(&one, &two, 2);
-    operators.push(one)?;
+    operators.push(one).expect(&rt, "an answer");
     let (station, mut operators) = match station.close(operators) {
         Err(CloseFault::Missing(station, operators)) => (station, operators),
-        _ => return Err("closed without the second operator".into()),
+        _ => panic!(rt; "closed without the second operator"),
     };
     assert_eq!(rt; operators.len(), 1);
-    operators.push(two)?;
-    let channels = station.close(operators)?;
+    operators.push(two).expect(&rt, "an answer");
+    let channels = station.close(operators).expect(&rt, "an answer");
     assert_eq!(rt; channels.len(), 2);
     check_journal(&rt, &channels[0], 1, first);
     check_journal(&rt, &channels[1], 2, second);
-    Ok(())
 }

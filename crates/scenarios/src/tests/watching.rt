@@ -108,19 +108,19 @@ fn check_last(rt: &impl Abort, station: &Station, watcher: &mut Watcher) {
 }
 
 #[test]
-fn no_watcher_sees_v_r_fall(rt: HostRuntime) -> Result<(), Fail> {
+fn no_watcher_sees_v_r_fall(rt: HostRuntime) {
     let alloc = rt.alloc();
-    let mut list = Vec::with_capacity(alloc, 1)?;
-    list.push(settings(alloc, 1, 254, 64, 0)?)?;
-    let mut station = Station::new(alloc, 42, list)?;
-    let mut operators = station.operators(2)?;
-    let mut two = operators.pop().ok_or("a second operator")?;
-    let mut one = operators.pop().ok_or("a first operator")?;
-    let mut first = station.watcher(&rt, 1)?;
-    let mut second = station.watcher(&rt, 1)?;
+    let mut list = Vec::with_capacity(alloc, 1).expect(&rt, "an answer");
+    list.push(settings(alloc, 1, 254, 64, 0).expect(&rt, "an answer"))
+        .expect(&rt, "an answer");
+    let mut station = Station::new(alloc, 42, list).expect(&rt, "an answer");
+    let mut operators = station.operators(2).expect(&rt, "an answer");
+    let mut two = operators.pop().expect(&rt, "a second operator");
+    let mut one = operators.pop().expect(&rt, "a first operator");
+    let mut first = station.watcher(&rt, 1).expect(&rt, "an answer");
+    let mut second = station.watcher(&rt, 1).expect(&rt, "an answer");
     let done = bring_and_watch(&rt, &station, &mut one, &mut two, &mut first, &mut second);
     assert!(rt; done);
     check_last(&rt, &station, &mut first);
     check_last(&rt, &station, &mut second);
-    Ok(())
 }

@@ -1,7 +1,6 @@
 //! Boards: publishers and watchers of a channel that stands alone.
 
 use std::alloc::{AllocError, Global};
-use std::test::Fail;
 use tc_channel::{Channel, NoMemory, QueueSetting, Settings, SettingsFault};
 use tc_link::{Link, read_frame};
 use tc_status::{Publisher, meet};
@@ -41,67 +40,69 @@ fn ad_frame(ns: u8) -> [u8; 13] {
 }
 
 #[test]
-fn each_watcher_reads_what_was_published_last(rt: HostRuntime) -> Result<(), Fail> {
-    let mut channel = new_channel(rt.alloc())?;
-    let mut publisher = Publisher::new(rt.alloc(), &channel)?;
-    let mut old = publisher.watcher()?;
+fn each_watcher_reads_what_was_published_last(rt: HostRuntime) {
+    let mut channel = new_channel(rt.alloc()).expect(&rt, "an answer");
+    let mut publisher = Publisher::new(rt.alloc(), &channel).expect(&rt, "an answer");
+    let mut old = publisher.watcher().expect(&rt, "an answer");
     assert_eq!(rt; old.read(), 0x01040000);
 
-    channel.frame(&read_frame(&ad_frame(0))?)?;
+    channel
+        .frame(&read_frame(&ad_frame(0)).expect(&rt, "an answer"))
+        .expect(&rt, "an answer");
     assert_eq!(rt; old.read(), 0x01040000, "before the publication");
     publisher.publish(&channel);
     assert_eq!(rt; old.read(), 0x01040001);
 
-    let reply = channel.frame(&read_frame(&ad_frame(1))?)?;
+    let reply = channel
+        .frame(&read_frame(&ad_frame(1)).expect(&rt, "an answer"))
+        .expect(&rt, "an answer");
     assert_eq!(rt; reply.act.event, 2);
     publisher.publish(&channel);
-    let mut new = publisher.watcher()?;
+    let mut new = publisher.watcher().expect(&rt, "an answer");
     assert_eq!(rt; new.read(), 0x01041801);
     assert_eq!(rt; old.read(), 0x01041801);
 
     meet(&mut publisher, &mut old);
     assert_eq!(rt; old.read(), 0x01041801, "after a meeting");
-    Ok(())
 }
 
 // Each call is made again where a growth was refused, and must then answer as with ample memory.
 #[test]
-fn growth_of_a_board_and_of_a_watcher(rt: HostRuntime) -> Result<(), Fail> {
+fn growth_of_a_board_and_of_a_watcher(rt: HostRuntime) {
     let mut channel = match new_channel(rt.alloc()) {
         Ok(channel) => channel,
         Err(fault) => {
             assert_eq!(rt; fault, SettingsFault::NoMemory);
-            new_channel(rt.alloc())?
+            new_channel(rt.alloc()).expect(&rt, "an answer")
         }
     };
     let octets = ad_frame(0);
-    let frame = read_frame(&octets)?;
+    let frame = read_frame(&octets).expect(&rt, "an answer");
     if let Err(NoMemory) = channel.frame(&frame) {
         assert_eq!(rt; channel.journal().len(), 0);
-        channel.frame(&frame)?;
+        channel.frame(&frame).expect(&rt, "an answer");
     }
     let mut publisher = match Publisher::new(rt.alloc(), &channel) {
         Ok(publisher) => publisher,
         Err(NoMemory) => {
             let _ = println!(rt; "refused: Publisher::new");
             assert_eq!(rt; channel.clcw(NO_FLAG), 0x01040001);
-            Publisher::new(rt.alloc(), &channel)?
+            Publisher::new(rt.alloc(), &channel).expect(&rt, "an answer")
         }
     };
     let mut old = match publisher.watcher() {
         Ok(watcher) => watcher,
-        Err(NoMemory) => publisher.watcher()?,
+        Err(NoMemory) => publisher.watcher().expect(&rt, "an answer"),
     };
     let mut new = match publisher.watcher() {
         Ok(watcher) => watcher,
         Err(NoMemory) => {
             let _ = println!(rt; "refused: Publisher::watcher");
             assert_eq!(rt; old.read(), 0x01040001);
-            publisher.watcher()?
+            publisher.watcher().expect(&rt, "an answer")
         }
     };
     assert_eq!(rt; channel.journal().len(), 1);
     assert_eq!(rt; old.read(), 0x01040001);
     assert_eq!(rt; new.read(), 0x01040001);
-    Ok(())
 }

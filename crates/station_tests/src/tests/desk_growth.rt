@@ -1,7 +1,6 @@
 //! Each call of a desk is made; want of memory must have left the desk as it was, and then the call is made again.
 
 use super::*;
-use std::process::Abort;
 use tc_channel::{NoMemory, ReleaseFault, SettingsFault, TakeFault};
 use tc_link::read_frame;
 use tc_station::Desk;
@@ -54,32 +53,32 @@ struct Short {
     watcher: Watcher,
 }
 
-fn new_desk(rt: &(impl Abort + Print), alloc: Global) -> Result<Desk, Fail> {
-    match Desk::new(alloc, settings(alloc, 1)?) {
-        Ok(desk) => Ok(desk),
+fn new_desk(rt: &(impl Abort + Print), alloc: Global) -> Desk {
+    match Desk::new(alloc, settings(alloc, 1).expect(rt, "an answer")) {
+        Ok(desk) => desk,
         Err(fault) => {
             let _ = println!(rt; "refused: Desk::new");
             assert_eq!(rt; fault, SettingsFault::NoMemory);
-            Ok(Desk::new(alloc, settings(alloc, 1)?)?)
+            Desk::new(alloc, settings(alloc, 1).expect(rt, "an answer")).expect(rt, "an answer")
         }
     }
 }
 
-fn new_watcher(rt: &impl Print, desk: &mut Desk) -> Result<Watcher, Fail> {
+fn new_watcher(rt: &(impl Abort + Print), desk: &mut Desk) -> Watcher {
     match desk.watcher() {
-        Ok(watcher) => Ok(watcher),
+        Ok(watcher) => watcher,
         Err(NoMemory) => {
             let _ = println!(rt; "refused: Desk::watcher");
-            Ok(desk.watcher()?)
+            desk.watcher().expect(rt, "an answer")
         }
     }
 }
 
 impl Short {
-    fn new(rt: &(impl Abort + Print), alloc: Global) -> Result<Short, Fail> {
-        let mut desk = new_desk(rt, alloc)?;
-        let watcher = new_watcher(rt, &mut desk)?;
-        Ok(Short { desk, watcher })
+    fn new(rt: &(impl Abort + Print), alloc: Global) -> Short {
+        let mut desk = new_desk(rt, alloc);
+        let watcher = new_watcher(rt, &mut desk);
+        Short { desk, watcher }
     }
 
     fn check(&mut self, rt: &impl Abort, told: Told) {
@@ -94,64 +93,60 @@ impl Short {
         assert_eq!(rt; found, told);
     }
 
-    fn frame(&mut self, rt: &(impl Abort + Print)) -> Result<(), Fail> {
-        let frame = read_frame(&FRAME)?;
+    fn frame(&mut self, rt: &(impl Abort + Print)) {
+        let frame = read_frame(&FRAME).expect(rt, "an answer");
         let reply = match self.desk.frame(&frame) {
             Ok(reply) => reply,
             Err(NoMemory) => {
                 let _ = println!(rt; "refused: Desk::frame");
                 self.check(rt, AT_FIRST);
-                self.desk.frame(&frame)?
+                self.desk.frame(&frame).expect(rt, "an answer")
             }
         };
         assert_eq!(rt; reply, BUFFERED);
-        Ok(())
     }
 
-    fn release(&mut self, rt: &(impl Abort + Print)) -> Result<(), Fail> {
+    fn release(&mut self, rt: &(impl Abort + Print)) {
         let delivery = match self.desk.release() {
             Ok(delivery) => delivery,
             Err(fault) => {
                 let _ = println!(rt; "refused: Desk::release");
                 assert_eq!(rt; fault, ReleaseFault::NoMemory);
                 self.check(rt, AFTER_THE_FRAME);
-                self.desk.release()?
+                self.desk.release().expect(rt, "an answer")
             }
         };
         assert_eq!(rt; delivery, ONE);
-        Ok(())
     }
 
-    fn take(&mut self, rt: &(impl Abort + Print)) -> Result<(), Fail> {
+    fn take(&mut self, rt: &(impl Abort + Print)) {
         let packet = match self.desk.take(5) {
             Ok(packet) => packet,
             Err(fault) => {
                 let _ = println!(rt; "refused: Desk::take");
                 assert_eq!(rt; fault, TakeFault::NoMemory);
                 self.check(rt, AFTER_THE_RELEASE);
-                self.desk.take(5)?
+                self.desk.take(5).expect(rt, "an answer")
             }
         };
         assert_eq!(rt; packet.as_slice(), PACKET.as_slice());
-        Ok(())
     }
 
-    fn operate(&mut self, rt: &(impl Abort + Print)) -> Result<(), Fail> {
+    fn operate(&mut self, rt: &(impl Abort + Print)) {
         self.check(rt, AT_FIRST);
-        self.frame(rt)?;
+        self.frame(rt);
         self.check(rt, AFTER_THE_FRAME);
-        self.release(rt)?;
+        self.release(rt);
         self.check(rt, AFTER_THE_RELEASE);
         self.take(rt)
     }
 }
 
 #[test]
-fn growth_of_each_call_of_a_desk(rt: HostRuntime) -> Result<(), Fail> {
-    let mut short = Short::new(&rt, rt.alloc())?;
-    short.operate(&rt)?;
+fn growth_of_each_call_of_a_desk(rt: HostRuntime) {
+    let mut short = Short::new(&rt, rt.alloc());
+    short.operate(&rt);
     assert_eq!(rt; short.desk.take(5).err(), Some(TakeFault::Empty));
     assert_eq!(rt; short.desk.release(), Err(ReleaseFault::Empty));
     short.check(&rt, AT_LAST);
-    Ok(())
 }

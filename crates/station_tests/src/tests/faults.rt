@@ -1,5 +1,4 @@
 use super::*;
-use std::process::Abort;
 use tc_channel::SettingsFault;
 use tc_link::FrameFault;
 use tc_station::{
@@ -7,18 +6,15 @@ use tc_station::{
     WatcherFault, WorkFault,
 };
 
-fn check_text(
-    rt: &impl Abort,
-    alloc: Global,
-    fault: &impl std::fmt::Display,
-    text: &str,
-) -> Result<(), Fail> {
-    assert_eq!(rt; fault.to_string(alloc)?.as_str(), text);
-    Ok(())
+fn check_text(rt: &impl Abort, alloc: Global, fault: &impl std::fmt::Display, text: &str) {
+    assert_eq!(rt;
+        fault.to_string(alloc).expect(rt, "an answer").as_str(),
+        text
+    );
 }
 
 #[test]
-fn faults_of_settings_have_texts(rt: HostRuntime) -> Result<(), Fail> {
+fn faults_of_settings_have_texts(rt: HostRuntime) {
     let alloc = rt.alloc();
     for (fault, text) in [
         (StationFault::BadScid, "the spacecraft id is over 1023"),
@@ -33,13 +29,12 @@ fn faults_of_settings_have_texts(rt: HostRuntime) -> Result<(), Fail> {
         ),
         (StationFault::NoMemory, "no memory"),
     ] {
-        check_text(&rt, alloc, &fault, text)?;
+        check_text(&rt, alloc, &fault, text);
     }
-    Ok(())
 }
 
 #[test]
-fn faults_of_octets_have_texts(rt: HostRuntime) -> Result<(), Fail> {
+fn faults_of_octets_have_texts(rt: HostRuntime) {
     let alloc = rt.alloc();
     for (fault, text) in [
         (LocateFault::Frame(FrameFault::Short), "fewer than 5 octets"),
@@ -52,57 +47,57 @@ fn faults_of_octets_have_texts(rt: HostRuntime) -> Result<(), Fail> {
             "the station has no such virtual channel",
         ),
     ] {
-        check_text(&rt, alloc, &fault, text)?;
-        check_text(&rt, alloc, &BringFault::Locate(fault), text)?;
+        check_text(&rt, alloc, &fault, text);
+        check_text(&rt, alloc, &BringFault::Locate(fault), text);
     }
     check_text(&rt, alloc, &BringFault::NoMemory, "no memory")
 }
 
 #[test]
-fn faults_of_operations_have_texts(rt: HostRuntime) -> Result<(), Fail> {
+fn faults_of_operations_have_texts(rt: HostRuntime) {
     let alloc = rt.alloc();
     let unknown = "the station has no such virtual channel";
-    check_text(&rt, alloc, &WatcherFault::UnknownChannel, unknown)?;
-    check_text(&rt, alloc, &WatcherFault::NoMemory, "no memory")?;
-    check_text(&rt, alloc, &ReleaseRefused::UnknownChannel, unknown)?;
-    check_text(&rt, alloc, &ReleaseRefused::Empty, "the buffer is empty")?;
-    check_text(&rt, alloc, &ReleaseRefused::NoMemory, "no memory")?;
-    check_text(&rt, alloc, &TakeRefused::UnknownChannel, unknown)?;
+    check_text(&rt, alloc, &WatcherFault::UnknownChannel, unknown);
+    check_text(&rt, alloc, &WatcherFault::NoMemory, "no memory");
+    check_text(&rt, alloc, &ReleaseRefused::UnknownChannel, unknown);
+    check_text(&rt, alloc, &ReleaseRefused::Empty, "the buffer is empty");
+    check_text(&rt, alloc, &ReleaseRefused::NoMemory, "no memory");
+    check_text(&rt, alloc, &TakeRefused::UnknownChannel, unknown);
     check_text(
         &rt,
         alloc,
         &TakeRefused::NoQueue,
         "no queue with that application process identifier",
-    )?;
-    check_text(&rt, alloc, &TakeRefused::Empty, "the queue is empty")?;
+    );
+    check_text(&rt, alloc, &TakeRefused::Empty, "the queue is empty");
     check_text(&rt, alloc, &TakeRefused::NoMemory, "no memory")
 }
 
 #[test]
-fn faults_of_operators_have_texts(rt: HostRuntime) -> Result<(), Fail> {
+fn faults_of_operators_have_texts(rt: HostRuntime) {
     let alloc = rt.alloc();
     check_text(
         &rt,
         alloc,
         &OperatorsFault::TooMany,
         "more than 65535 operators",
-    )?;
-    check_text(&rt, alloc, &OperatorsFault::NoMemory, "no memory")?;
+    );
+    check_text(&rt, alloc, &OperatorsFault::NoMemory, "no memory");
     let refused = WorkFault::NoMemory { line: 12 };
-    check_text(&rt, alloc, &refused, "line 12: no memory")?;
-    let Manned { station, operator } = Manned::new(alloc, &[1])?;
-    let missing = CloseFault::Missing(station, vec![in alloc]?);
-    check_text(&rt, alloc, &missing, "an operator is missing")?;
+    check_text(&rt, alloc, &refused, "line 12: no memory");
+    let Manned { station, operator } = Manned::new(&rt, alloc, &[1]);
+    let missing = CloseFault::Missing(station, vec![in alloc].expect(&rt, "an answer"));
+    check_text(&rt, alloc, &missing, "an operator is missing");
     let mut operators = Vec::new(alloc);
-    operators.push(operator)?;
+    operators.push(operator).expect(&rt, "an answer");
     let unbalanced = CloseFault::Unbalanced(Vec::new(alloc), operators);
     check_text(
         &rt,
         alloc,
         &unbalanced,
         "the operators' counts and the journals differ",
-    )?;
-    let other = Manned::new(alloc, &[1])?;
-    let no_memory = CloseFault::NoMemory(other.station, vec![in alloc]?);
+    );
+    let other = Manned::new(&rt, alloc, &[1]);
+    let no_memory = CloseFault::NoMemory(other.station, vec![in alloc].expect(&rt, "an answer"));
     check_text(&rt, alloc, &no_memory, "no memory")
 }

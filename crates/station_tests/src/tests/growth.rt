@@ -4,7 +4,6 @@ ghost use Rattle.std.specs.Prelude.{◌≡◌, ◌∷◌, [], IfOk, replicate};
 ghost use Rattle.tc_station.specs.Tally.{fresh};
 
 use super::*;
-use std::process::Abort;
 use std::sync::Wait;
 use tc_channel::{Event, Octets};
 use tc_station::{
@@ -24,67 +23,66 @@ struct Short {
     ghost ours: { operator.vcids ≡ station.vcids },
 }
 
-fn new_station(rt: &(impl Abort + Print), alloc: Global) -> Result<Station, Fail> {
-    match Station::new(alloc, 42, settings_of(alloc, &[1])?) {
-        Ok(station) => Ok(station),
+fn new_station(rt: &(impl Abort + Print), alloc: Global) -> Station {
+    match Station::new(alloc, 42, settings_of(alloc, &[1]).expect(rt, "an answer")) {
+        Ok(station) => station,
         Err(fault) => {
             let _ = println!(rt; "refused: Station::new");
             assert_eq!(rt; fault, StationFault::NoMemory);
-            Ok(Station::new(alloc, 42, settings_of(alloc, &[1])?)?)
+            Station::new(alloc, 42, settings_of(alloc, &[1]).expect(rt, "an answer")).expect(
+                rt,
+                "an answer",
+            )
         }
     }
 }
 
-fn new_operators(
-    rt: &(impl Abort + Print),
-    station: &mut Station,
-    n: u16,
-) -> Result<Vec<Operator>, Fail>
-    ensures { IfOk result (λ operators. operators.items ≡ replicate n (fresh station.new.vcids)) }
+fn new_operators(rt: &(impl Abort + Print), station: &mut Station, n: u16) -> Vec<Operator>
+    ensures { result.items ≡ replicate n (fresh station.new.vcids) }
 {
     match station.operators(n) {
-        Ok(operators) => Ok(operators),
+        Ok(operators) => operators,
         Err(fault) => {
             let _ = println!(rt; "refused: operators");
             assert_eq!(rt; fault, OperatorsFault::NoMemory);
-            Ok(station.operators(n)?)
+            station.operators(n).expect(rt, "an answer")
         }
     }
 }
 
-fn new_watcher(rt: &(impl Wait + Abort + Print), station: &Station) -> Result<Watcher, Fail> {
+fn new_watcher(rt: &(impl Wait + Abort + Print), station: &Station) -> Watcher {
     match station.watcher(rt, 1) {
-        Ok(watcher) => Ok(watcher),
+        Ok(watcher) => watcher,
         Err(fault) => {
             let _ = println!(rt; "refused: Station::watcher");
             assert_eq!(rt; fault, WatcherFault::NoMemory);
-            Ok(station.watcher(rt, 1)?)
+            station.watcher(rt, 1).expect(rt, "an answer")
         }
     }
 }
 
 // A copy, where one growth may be refused.
-fn copied(alloc: Global, octets: &[u8]) -> Result<Octets, Fail> {
+fn copied(alloc: Global, octets: &[u8]) -> Result<Octets, AllocError> {
     match Octets::copied(alloc, octets) {
         Ok(copy) => Ok(copy),
-        Err(_) => Ok(Octets::copied(alloc, octets)?),
+        Err(_) => Octets::copied(alloc, octets),
     }
 }
 
 impl Short {
-    fn new(rt: &(impl Wait + Abort + Print), alloc: Global) -> Result<Short, Fail> {
-        let mut station = new_station(rt, alloc)?;
-        let operator = new_operators(rt, &mut station, 1)?
+    fn new(rt: &(impl Wait + Abort + Print), alloc: Global) -> Short {
+        let mut station = new_station(rt, alloc);
+        let operator = new_operators(rt, &mut station, 1)
             .pop()
-            .ok_or("an operator")?;
-        let watcher = new_watcher(rt, &station)?;
-        Ok(Short {
+            .expect(rt, "an operator");
+        let watcher = new_watcher(rt, &station);
+        Short {
             alloc,
             station,
             operator,
             watcher,
             journal: Vec::new(alloc),
-        })
+        }
     }
 
     fn word(&mut self) -> u32 {
@@ -97,7 +95,7 @@ impl Short {
         assert_eq!(rt; self.word(), word);
     }
 
-    fn note(&mut self, event: Event) -> Result<(), Fail> {
+    fn note(&mut self, event: Event) -> Result<(), AllocError> {
         if self.journal.reserve(1).is_err() {
             self.journal.reserve(1)?;
         }
@@ -105,12 +103,7 @@ impl Short {
         Ok(())
     }
 
-    fn bring(
-        &mut self,
-        rt: &(impl Wait + Abort + Print),
-        reply: FrameReply,
-        word: u32,
-    ) -> Result<(), Fail> {
+    fn bring(&mut self, rt: &(impl Wait + Abort + Print), reply: FrameReply, word: u32) {
         let before = self.word();
         let brought = match self.station.bring(rt, &mut self.operator, &FRAME) {
             Ok(brought) => brought,
@@ -118,22 +111,18 @@ impl Short {
                 let _ = println!(rt; "refused: bring, event {}", reply.act.event);
                 assert_eq!(rt; fault, BringFault::NoMemory);
                 self.check(rt, before);
-                self.station.bring(rt, &mut self.operator, &FRAME)?
+                self.station
+                    .bring(rt, &mut self.operator, &FRAME)
+                    .expect(rt, "an answer")
             }
         };
         assert_eq!(rt; brought, Brought { vcid: 1, reply });
-        let octets = copied(self.alloc, &FRAME)?;
-        self.note(Event::Frame(octets))?;
+        let octets = copied(self.alloc, &FRAME).expect(rt, "an answer");
+        self.note(Event::Frame(octets)).expect(rt, "an answer");
         self.check(rt, word);
-        Ok(())
     }
 
-    fn bring_watched(
-        &mut self,
-        rt: &(impl Wait + Abort + Print),
-        reply: FrameReply,
-        word: u32,
-    ) -> Result<(), Fail> {
+    fn bring_watched(&mut self, rt: &(impl Wait + Abort + Print), reply: FrameReply, word: u32) {
         let before = self.word();
         let (brought, mut own) = match self.station.bring_watched(rt, &mut self.operator, &FRAME) {
             Ok(answer) => answer,
@@ -141,18 +130,19 @@ impl Short {
                 let _ = println!(rt; "refused: bring_watched, event {}", reply.act.event);
                 assert_eq!(rt; fault, BringFault::NoMemory);
                 self.check(rt, before);
-                self.station.bring_watched(rt, &mut self.operator, &FRAME)?
+                self.station
+                    .bring_watched(rt, &mut self.operator, &FRAME)
+                    .expect(rt, "an answer")
             }
         };
         assert_eq!(rt; brought, Brought { vcid: 1, reply });
         assert_eq!(rt; own.read(), word);
-        let octets = copied(self.alloc, &FRAME)?;
-        self.note(Event::Frame(octets))?;
+        let octets = copied(self.alloc, &FRAME).expect(rt, "an answer");
+        self.note(Event::Frame(octets)).expect(rt, "an answer");
         self.check(rt, word);
-        Ok(())
     }
 
-    fn release(&mut self, rt: &(impl Wait + Abort + Print)) -> Result<(), Fail> {
+    fn release(&mut self, rt: &(impl Wait + Abort + Print)) {
         let before = self.word();
         let delivery = match self.station.release(rt, &mut self.operator, 1) {
             Ok(delivery) => delivery,
@@ -160,16 +150,17 @@ impl Short {
                 let _ = println!(rt; "refused: Station::release");
                 assert_eq!(rt; fault, ReleaseRefused::NoMemory);
                 self.check(rt, before);
-                self.station.release(rt, &mut self.operator, 1)?
+                self.station
+                    .release(rt, &mut self.operator, 1)
+                    .expect(rt, "an answer")
             }
         };
         assert_eq!(rt; delivery, ONE);
-        self.note(Event::Release)?;
+        self.note(Event::Release).expect(rt, "an answer");
         self.check(rt, before);
-        Ok(())
     }
 
-    fn take(&mut self, rt: &(impl Wait + Abort + Print)) -> Result<(), Fail> {
+    fn take(&mut self, rt: &(impl Wait + Abort + Print)) {
         let before = self.word();
         let packet = match self.station.take(rt, &mut self.operator, 1, 5) {
             Ok(packet) => packet,
@@ -177,32 +168,33 @@ impl Short {
                 let _ = println!(rt; "refused: Station::take");
                 assert_eq!(rt; fault, TakeRefused::NoMemory);
                 self.check(rt, before);
-                self.station.take(rt, &mut self.operator, 1, 5)?
+                self.station
+                    .take(rt, &mut self.operator, 1, 5)
+                    .expect(rt, "an answer")
             }
         };
         assert_eq!(rt; packet.as_slice(), PACKET.as_slice());
-        self.note(Event::Take(5))?;
+        self.note(Event::Take(5)).expect(rt, "an answer");
         self.check(rt, before);
-        Ok(())
     }
 
     // The journal grows with the first event and with the fifth, which is the take: it makes no other growth.
-    fn operate(&mut self, rt: &(impl Wait + Abort + Print)) -> Result<(), Fail> {
-        self.bring(rt, BUFFERED, 0x01040001)?;
-        self.bring(rt, BEHIND, 0x01040001)?;
-        self.bring(rt, BEHIND, 0x01040001)?;
-        self.release(rt)?;
+    fn operate(&mut self, rt: &(impl Wait + Abort + Print)) {
+        self.bring(rt, BUFFERED, 0x01040001);
+        self.bring(rt, BEHIND, 0x01040001);
+        self.bring(rt, BEHIND, 0x01040001);
+        self.release(rt);
         self.take(rt)
     }
 
-    fn operate_watched(&mut self, rt: &(impl Wait + Abort + Print)) -> Result<(), Fail> {
-        self.bring_watched(rt, BUFFERED, 0x01040001)?;
-        self.release(rt)?;
+    fn operate_watched(&mut self, rt: &(impl Wait + Abort + Print)) {
+        self.bring_watched(rt, BUFFERED, 0x01040001);
+        self.release(rt);
         self.bring_watched(rt, BEHIND, 0x01040001)
     }
 
     // Closes the station, whose channel has the journal that it must have.
-    fn close(self, rt: &(impl Abort + Print)) -> Result<(), Fail> {
+    fn close(self, rt: &(impl Abort + Print)) {
         let Short {
             alloc,
             station,
@@ -210,23 +202,22 @@ impl Short {
             watcher: _,
             journal,
         } = self;
-        let operators = vec_of(alloc, operator)?;
+        let operators = vec_of(alloc, operator).expect(rt, "an answer");
         let channels = match station.close(operators) {
             Ok(channels) => channels,
             Err(CloseFault::NoMemory(station, operators)) => {
                 let _ = println!(rt; "refused: close");
-                station.close(operators)?
+                station.close(operators).expect(rt, "an answer")
             }
-            Err(_) => return Err("neither closed nor without memory".into()),
+            Err(_) => panic!(rt; "neither closed nor without memory"),
         };
         assert_eq!(rt; channels.len(), 1);
         assert_eq!(rt; channels[0].journal(), journal.as_slice());
-        Ok(())
     }
 }
 
 // The operator alone. One growth may be refused.
-fn vec_of(alloc: Global, operator: Operator) -> Result<Vec<Operator>, Fail>
+fn vec_of(alloc: Global, operator: Operator) -> Result<Vec<Operator>, AllocError>
     ensures { IfOk result (λ operators. operators.items ≡ operator ∷ []) }
 {
     let mut operators = match Vec::with_capacity(alloc, 1) {
@@ -238,29 +229,29 @@ fn vec_of(alloc: Global, operator: Operator) -> Result<Vec<Operator>, Fail>
 }
 
 #[test]
-fn growth_of_a_new_station(rt: HostRuntime) -> Result<(), Fail> {
-    let station = new_station(&rt, rt.alloc())?;
-    let mut watcher = new_watcher(&rt, &station)?;
+fn growth_of_a_new_station(rt: HostRuntime) {
+    let station = new_station(&rt, rt.alloc());
+    let mut watcher = new_watcher(&rt, &station);
     assert_eq!(rt; station.watch(&mut watcher, NO_FLAG), 0x01040000);
-    Ok(())
 }
 
 // The station closes with just these operators: a refused call has issued none, else one would be missing.
 #[test]
-fn growth_of_operators(rt: HostRuntime) -> Result<(), Fail> {
-    let mut station = new_station(&rt, rt.alloc())?;
-    let operators = new_operators(&rt, &mut station, 3)?;
+fn growth_of_operators(rt: HostRuntime) {
+    let mut station = new_station(&rt, rt.alloc());
+    let operators = new_operators(&rt, &mut station, 3);
     assert_eq!(rt; operators.len(), 3);
     for operator in &operators {
         assert_eq!(rt; operator.count(1), Some(0));
     }
     let channels = match station.close(operators) {
         Ok(channels) => channels,
-        Err(CloseFault::NoMemory(station, operators)) => station.close(operators)?,
-        Err(_) => return Err("neither closed nor without memory".into()),
+        Err(CloseFault::NoMemory(station, operators)) => station
+            .close(operators)
+            .expect(&rt, "an answer"),
+        Err(_) => panic!(rt; "neither closed nor without memory"),
     };
     assert_eq!(rt; channels.len(), 1);
-    Ok(())
 }
 
 // The reply to a frame that comes again.
@@ -273,15 +264,15 @@ const BEHIND: FrameReply = FrameReply {
 };
 
 #[test]
-fn growth_of_each_call_of_a_station(rt: HostRuntime) -> Result<(), Fail> {
-    let mut short = Short::new(&rt, rt.alloc())?;
-    short.operate(&rt)?;
+fn growth_of_each_call_of_a_station(rt: HostRuntime) {
+    let mut short = Short::new(&rt, rt.alloc());
+    short.operate(&rt);
     short.close(&rt)
 }
 
 #[test]
-fn growth_of_watched_frames(rt: HostRuntime) -> Result<(), Fail> {
-    let mut short = Short::new(&rt, rt.alloc())?;
-    short.operate_watched(&rt)?;
+fn growth_of_watched_frames(rt: HostRuntime) {
+    let mut short = Short::new(&rt, rt.alloc());
+    short.operate_watched(&rt);
     short.close(&rt)
 }

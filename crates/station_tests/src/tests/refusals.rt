@@ -1,5 +1,4 @@
 use super::*;
-use std::process::Abort;
 use std::sync::Wait;
 use tc_channel::SettingsFault;
 use tc_link::FrameFault;
@@ -8,40 +7,46 @@ use tc_station::{
     WatcherFault,
 };
 
-fn fault_of(alloc: Global, scid: u16, vcids: &[u8]) -> Result<StationFault, Fail> {
-    match Station::new(alloc, scid, settings_of(alloc, vcids)?) {
-        Ok(_) => Err("a station".into()),
-        Err(fault) => Ok(fault),
+fn fault_of(rt: &impl Abort, alloc: Global, scid: u16, vcids: &[u8]) -> StationFault {
+    let list = settings_of(alloc, vcids).expect(rt, "settings");
+    match Station::new(alloc, scid, list) {
+        Ok(_) => panic!(rt; "a station"),
+        Err(fault) => fault,
     }
 }
 
 #[test]
-fn settings_that_make_no_station(rt: HostRuntime) -> Result<(), Fail> {
+fn settings_that_make_no_station(rt: HostRuntime) {
     let alloc = rt.alloc();
-    assert_eq!(rt; fault_of(alloc, 1024, &[])?, StationFault::BadScid);
-    assert_eq!(rt; fault_of(alloc, 1023, &[])?, StationFault::NoChannel);
+    assert_eq!(rt; fault_of(&rt, alloc, 1024, &[]), StationFault::BadScid);
+    assert_eq!(rt; fault_of(&rt, alloc, 1023, &[]), StationFault::NoChannel);
     assert_eq!(rt;
-        fault_of(alloc, 42, &[64, 64])?,
+        fault_of(&rt, alloc, 42, &[64, 64]),
         StationFault::DoubleVcid(64)
     );
     assert_eq!(rt;
-        fault_of(alloc, 42, &[64])?,
+        fault_of(&rt, alloc, 42, &[64]),
         StationFault::Settings(64, SettingsFault::BadVcid)
     );
-    Ok(())
 }
 
 #[test]
-fn more_operators_than_have_numbers(rt: HostRuntime) -> Result<(), Fail> {
+fn more_operators_than_have_numbers(rt: HostRuntime) {
     let alloc = rt.alloc();
-    let mut station = Station::new(alloc, 42, settings_of(alloc, &[1])?)?;
-    assert_eq!(rt; station.operators(65535)?.len(), 65535);
+    let mut station = Station::new(
+        alloc,
+        42,
+        settings_of(alloc, &[1]).expect(&rt, "an answer"),
+    ).expect(&rt, "an answer");
+    assert_eq!(rt;
+        station.operators(65535).expect(&rt, "an answer").len(),
+        65535
+    );
     match station.operators(1) {
         Ok(_) => panic!(&rt; "one more"),
         Err(fault) => assert_eq!(rt; fault, OperatorsFault::TooMany),
     }
-    assert_eq!(rt; station.operators(0)?.len(), 0);
-    Ok(())
+    assert_eq!(rt; station.operators(0).expect(&rt, "an answer").len(), 0);
 }
 
 // Octets for no channel are refused alike where they are located and where they are brought.
@@ -58,8 +63,8 @@ fn check_unplaced(rt: &(impl Wait + Abort), crew: &mut Manned, octets: &[u8], fa
 }
 
 #[test]
-fn octets_for_no_channel(rt: HostRuntime) -> Result<(), Fail> {
-    let mut crew = Manned::new(rt.alloc(), &[1])?;
+fn octets_for_no_channel(rt: HostRuntime) {
+    let mut crew = Manned::new(&rt, rt.alloc(), &[1]);
     check_unplaced(
         &rt,
         &mut crew,
@@ -70,18 +75,17 @@ fn octets_for_no_channel(rt: HostRuntime) -> Result<(), Fail> {
     check_unplaced(&rt, &mut crew, &OTHER_BOTH, LocateFault::OtherSpacecraft);
     let short = LocateFault::Frame(FrameFault::Short);
     check_unplaced(&rt, &mut crew, &FRAME[..3], short);
-    let located = crew.station.locate(&FRAME)?;
+    let located = crew.station.locate(&FRAME).expect(&rt, "an answer");
     assert_eq!(rt; located.vcid, 1);
     assert_eq!(rt; located.frame.octets(), FRAME.as_slice());
-    Ok(())
 }
 
 #[test]
-fn operations_on_no_channel_and_on_none_there(rt: HostRuntime) -> Result<(), Fail> {
+fn operations_on_no_channel_and_on_none_there(rt: HostRuntime) {
     let Manned {
         station,
         mut operator,
-    } = Manned::new(rt.alloc(), &[1])?;
+    } = Manned::new(&rt, rt.alloc(), &[1]);
     let unknown = station.release(&rt, &mut operator, 2);
     assert_eq!(rt; unknown, Err(ReleaseRefused::UnknownChannel));
     let empty = station.release(&rt, &mut operator, 1);
@@ -96,5 +100,4 @@ fn operations_on_no_channel_and_on_none_there(rt: HostRuntime) -> Result<(), Fai
     assert_eq!(rt; unknown.err(), Some(WatcherFault::UnknownChannel));
     assert_eq!(rt; operator.count(1), Some(0));
     assert_eq!(rt; operator.count(2), None);
-    Ok(())
 }

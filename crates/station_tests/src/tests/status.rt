@@ -8,67 +8,77 @@ const NEXT: [u8; 13] = [
 ];
 
 #[test]
-fn a_watcher_that_met_its_desk_reads_the_frame(rt: HostRuntime) -> Result<(), Fail> {
+fn a_watcher_that_met_its_desk_reads_the_frame(rt: HostRuntime) {
     let alloc = rt.alloc();
-    let mut desk = Desk::new(alloc, settings(alloc, 1)?)?;
-    let mut watcher = desk.watcher()?;
+    let mut desk = Desk::new(alloc, settings(alloc, 1).expect(&rt, "an answer")).expect(
+        &rt,
+        "an answer",
+    );
+    let mut watcher = desk.watcher().expect(&rt, "an answer");
     assert_eq!(rt; watcher.read(), 0x01040000);
-    let reply = desk.frame(&read_frame(&FRAME)?)?;
+    let reply = desk
+        .frame(&read_frame(&FRAME).expect(&rt, "an answer"))
+        .expect(&rt, "an answer");
     assert_eq!(rt; reply, BUFFERED);
     desk.meet(&mut watcher);
     assert_eq!(rt; watcher.read(), 0x01040001);
-    Ok(())
 }
 
 // The second frame finds no room, and the release lets FARM-1 go on.
 #[test]
-fn each_answer_of_a_desk_is_published(rt: HostRuntime) -> Result<(), Fail> {
+fn each_answer_of_a_desk_is_published(rt: HostRuntime) {
     let alloc = rt.alloc();
-    let mut desk = Desk::new(alloc, settings(alloc, 1)?)?;
-    let mut watcher = desk.watcher()?;
-    desk.frame(&read_frame(&FRAME)?)?;
+    let mut desk = Desk::new(alloc, settings(alloc, 1).expect(&rt, "an answer")).expect(
+        &rt,
+        "an answer",
+    );
+    let mut watcher = desk.watcher().expect(&rt, "an answer");
+    desk.frame(&read_frame(&FRAME).expect(&rt, "an answer"))
+        .expect(&rt, "an answer");
     assert_eq!(rt; watcher.read(), 0x01040001);
-    desk.frame(&read_frame(&NEXT)?)?;
+    desk.frame(&read_frame(&NEXT).expect(&rt, "an answer"))
+        .expect(&rt, "an answer");
     assert_eq!(rt; watcher.read(), 0x01041801);
-    desk.release()?;
+    desk.release().expect(&rt, "an answer");
     assert_eq!(rt; watcher.read(), 0x01040801);
-    desk.take(5)?;
+    desk.take(5).expect(&rt, "an answer");
     assert_eq!(rt; watcher.read(), 0x01040801);
-    Ok(())
 }
 
 #[test]
-fn each_watcher_reads_its_own_channel(rt: HostRuntime) -> Result<(), Fail> {
+fn each_watcher_reads_its_own_channel(rt: HostRuntime) {
     let Manned {
         station,
         mut operator,
-    } = two_channels(rt.alloc())?;
-    let mut first = station.watcher(&rt, 1)?;
-    let mut second = station.watcher(&rt, 2)?;
-    station.bring(&rt, &mut operator, &FRAME)?;
+    } = two_channels(&rt, rt.alloc());
+    let mut first = station.watcher(&rt, 1).expect(&rt, "an answer");
+    let mut second = station.watcher(&rt, 2).expect(&rt, "an answer");
+    station
+        .bring(&rt, &mut operator, &FRAME)
+        .expect(&rt, "an answer");
     assert_eq!(rt; station.watch(&mut first, NO_FLAG), 0x01040001);
     assert_eq!(rt; station.watch(&mut second, NO_FLAG), 0x01080000);
-    let (brought, mut own) = station.bring_watched(&rt, &mut operator, &NEXT)?;
+    let (brought, mut own) = station
+        .bring_watched(&rt, &mut operator, &NEXT)
+        .expect(&rt, "an answer");
     let reply = BUFFERED;
     assert_eq!(rt; brought, Brought { vcid: 1, reply });
     assert_eq!(rt; own.read(), 0x01040002);
     assert_eq!(rt; operator.count(1), Some(2));
     assert_eq!(rt; operator.count(2), Some(0));
-    Ok(())
 }
 
 #[test]
-fn link_flags_are_those_of_the_reader(rt: HostRuntime) -> Result<(), Fail> {
+fn link_flags_are_those_of_the_reader(rt: HostRuntime) {
     let Manned {
         station,
         operator: _,
-    } = Manned::new(rt.alloc(), &[1])?;
-    let mut watcher = station.watcher(&rt, 1)?;
+    } = Manned::new(&rt, rt.alloc(), &[1]);
+    let mut watcher = station.watcher(&rt, 1).expect(&rt, "an answer");
     let both = Link {
         no_rf: true,
         no_bit_lock: true,
     };
     assert_eq!(rt; station.watch(&mut watcher, both), 0x0104c000);
     assert_eq!(rt; station.watch(&mut watcher, NO_FLAG), 0x01040000);
-    Ok(())
 }

@@ -2,14 +2,13 @@ ghost use Rattle.std.specs.Prelude.{◌≡◌, ◌≤◌, ◌∷◌, [], IfOk};
 ghost use Rattle.tc_station.specs.Tally.{fresh};
 
 use super::*;
-use std::process::Abort;
 use tc_channel::{Event, Octets};
 use tc_station::{CloseFault, FreeGate, Job, Order, WorkFault, WorkList};
 
 const UNLOCK: [u8; 6] = [0x30, 0x2a, 0x04, 0x05, 0x00, 0x00];
 
 // A job that brings an Unlock to virtual channel 1. One growth may be refused.
-fn unlock(alloc: Global, line: u32) -> Result<Job, Fail> {
+fn unlock(alloc: Global, line: u32) -> Result<Job, AllocError> {
     let octets = match Octets::copied(alloc, &UNLOCK) {
         Ok(octets) => octets,
         Err(_) => Octets::copied(alloc, &UNLOCK)?,
@@ -21,7 +20,7 @@ fn unlock(alloc: Global, line: u32) -> Result<Job, Fail> {
 }
 
 // Two Unlocks, on lines 5 and 6. One growth may be refused.
-fn two_unlocks(alloc: Global) -> Result<WorkList, Fail> {
+fn two_unlocks(alloc: Global) -> Result<WorkList, AllocError> {
     let mut jobs = match Vec::with_capacity(alloc, 2) {
         Ok(jobs) => jobs,
         Err(_) => Vec::with_capacity(alloc, 2)?,
@@ -35,18 +34,22 @@ fn two_unlocks(alloc: Global) -> Result<WorkList, Fail> {
 }
 
 // A station of one channel with one operator, in a list as `work` takes it. One growth may be refused.
-fn new_crew(alloc: Global) -> Result<(Station, Vec<Operator>), Fail>
-    ensures { IfOk result (λ crew. crew.1.items ≡ fresh crew.0.vcids ∷ []) }
+fn new_crew(rt: &impl Abort, alloc: Global) -> (Station, Vec<Operator>)
+    ensures { result.1.items ≡ fresh result.0.vcids ∷ [] }
 {
-    let mut station = match Station::new(alloc, 42, settings_of(alloc, &[1])?) {
+    let list = settings_of(alloc, &[1]).expect(rt, "settings");
+    let mut station = match Station::new(alloc, 42, list) {
         Ok(station) => station,
-        Err(_) => Station::new(alloc, 42, settings_of(alloc, &[1])?)?,
+        Err(_) => {
+            let list = settings_of(alloc, &[1]).expect(rt, "settings");
+            Station::new(alloc, 42, list).expect(rt, "a station")
+        }
     };
     let operators = match station.operators(1) {
         Ok(operators) => operators,
-        Err(_) => station.operators(1)?,
+        Err(_) => station.operators(1).expect(rt, "operators"),
     };
-    Ok((station, operators))
+    (station, operators)
 }
 
 // How many Unlocks were answered, by the lowest line that memory was refused for.
@@ -68,10 +71,10 @@ fn answered(rt: &(impl Abort + Print), done: Result<(), WorkFault>) -> u64
 }
 
 #[test]
-fn growth_of_work(rt: HostRuntime) -> Result<(), Fail> {
+fn growth_of_work(rt: HostRuntime) {
     let alloc = rt.alloc();
-    let lists = [two_unlocks(alloc)?];
-    let (station, mut operators) = new_crew(alloc)?;
+    let lists = [two_unlocks(alloc).expect(&rt, "jobs")];
+    let (station, mut operators) = new_crew(&rt, alloc);
     let first = answered(&rt, station.work(&rt, &FreeGate, &mut operators, &lists));
     assert_eq!(rt; operators[0].count(1), Some(first));
     // The next growth isn't refused.
@@ -80,16 +83,17 @@ fn growth_of_work(rt: HostRuntime) -> Result<(), Fail> {
     assert_eq!(rt; operators[0].count(1), Some(first + second));
     let channels = match station.close(operators) {
         Ok(channels) => channels,
-        Err(CloseFault::NoMemory(station, operators)) => station.close(operators)?,
-        Err(_) => return Err("neither closed nor without memory".into()),
+        Err(CloseFault::NoMemory(station, operators)) => station
+            .close(operators)
+            .expect(&rt, "an answer"),
+        Err(_) => panic!(rt; "neither closed nor without memory"),
     };
     assert_eq!(rt; channels.len(), 1);
     assert_eq!(rt; channels[0].journal().len() as u64, first + second);
-    Ok(())
 }
 
 // Lists on channels 1, 2 and 9, of which the last isn't there.
-fn three_lists(alloc: Global) -> Result<[WorkList; 3], Fail> {
+fn three_lists(alloc: Global) -> Result<[WorkList; 3], AllocError> {
     let release = Job {
         line: 2,
         order: Order::Release,
@@ -128,21 +132,27 @@ fn three_lists(alloc: Global) -> Result<[WorkList; 3], Fail> {
 }
 
 #[test]
-fn refusals_are_passed_over(rt: HostRuntime) -> Result<(), Fail> {
+fn refusals_are_passed_over(rt: HostRuntime) {
     let alloc = rt.alloc();
-    let lists = three_lists(alloc)?;
-    let mut station = Station::new(alloc, 42, settings_of(alloc, &[1, 2])?)?;
-    let mut operators = station.operators(3)?;
-    station.work(&rt, &FreeGate, &mut operators, &lists)?;
+    let lists = three_lists(alloc).expect(&rt, "an answer");
+    let mut station = Station::new(
+        alloc,
+        42,
+        settings_of(alloc, &[1, 2]).expect(&rt, "an answer"),
+    )
+    .expect(&rt, "an answer");
+    let mut operators = station.operators(3).expect(&rt, "an answer");
+    station
+        .work(&rt, &FreeGate, &mut operators, &lists)
+        .expect(&rt, "an answer");
     for operator in &operators {
         assert_eq!(rt; operator.count(1), Some(1));
         assert_eq!(rt; operator.count(2), Some(0));
     }
-    let channels = station.close(operators)?;
+    let channels = station.close(operators).expect(&rt, "an answer");
     assert_eq!(rt; channels.len(), 2);
-    let unlock = Event::Frame(Octets::copied(alloc, &UNLOCK)?);
+    let unlock = Event::Frame(Octets::copied(alloc, &UNLOCK).expect(&rt, "an answer"));
     assert_eq!(rt; channels[0].journal().len(), 3);
     assert_eq!(rt; &channels[0].journal()[0], &unlock);
     assert_eq!(rt; channels[1].journal().len(), 0);
-    Ok(())
 }

@@ -9,7 +9,7 @@ fn with_queues(
     width: u8,
     buffer: u8,
     queues: &[(u16, u16)],
-) -> Result<Settings, Fail> {
+) -> Result<Settings, AllocError> {
     let mut made = Vec::new(alloc);
     for &(apid, capacity) in queues {
         made.push(QueueSetting { apid, capacity })?;
@@ -24,7 +24,7 @@ fn with_queues(
 }
 
 #[test]
-fn each_fault_of_settings(rt: HostRuntime) -> Result<(), Fail> {
+fn each_fault_of_settings(rt: HostRuntime) {
     let one = [(5, 1)];
     let twice = [(5, 1), (5, 1)];
     for (vcid, width, buffer, queues, fault) in [
@@ -41,15 +41,17 @@ fn each_fault_of_settings(rt: HostRuntime) -> Result<(), Fail> {
         (1, 10, 1, [(5, 257)].as_slice(), Some(BadCapacity)),
         (1, 3, 1, [(5, 0)].as_slice(), Some(BadWindow)),
     ] {
-        let settings = with_queues(rt.alloc(), vcid, width, buffer, queues)?;
+        let settings = with_queues(rt.alloc(), vcid, width, buffer, queues).expect(
+            &rt,
+            "an answer",
+        );
         assert_eq!(&rt; settings.check().err(), fault);
         assert_eq!(&rt; Channel::new(rt.alloc(), settings).err(), fault);
     }
-    Ok(())
 }
 
 #[test]
-fn the_text_of_each_fault(rt: HostRuntime) -> Result<(), Fail> {
+fn the_text_of_each_fault(rt: HostRuntime) {
     for (fault, text) in [
         (BadVcid, "bad virtual channel identifier"),
         (BadWindow, "bad window width"),
@@ -62,13 +64,25 @@ fn the_text_of_each_fault(rt: HostRuntime) -> Result<(), Fail> {
         (BadCapacity, "bad queue capacity"),
         (SettingsFault::NoMemory, "no memory"),
     ] {
-        assert_eq!(&rt; fault.to_string(rt.alloc())?.as_str(), text);
+        assert_eq!(&rt;
+            fault
+                .to_string(rt.alloc())
+                .expect(&rt, "an answer")
+                .as_str(),
+            text
+        );
     }
     for (fault, text) in [
         (ReleaseFault::Empty, "the buffer is empty"),
         (ReleaseFault::NoMemory, "no memory"),
     ] {
-        assert_eq!(&rt; fault.to_string(rt.alloc())?.as_str(), text);
+        assert_eq!(&rt;
+            fault
+                .to_string(rt.alloc())
+                .expect(&rt, "an answer")
+                .as_str(),
+            text
+        );
     }
     for (fault, text) in [
         (
@@ -78,8 +92,19 @@ fn the_text_of_each_fault(rt: HostRuntime) -> Result<(), Fail> {
         (TakeFault::Empty, "the queue is empty"),
         (TakeFault::NoMemory, "no memory"),
     ] {
-        assert_eq!(&rt; fault.to_string(rt.alloc())?.as_str(), text);
+        assert_eq!(&rt;
+            fault
+                .to_string(rt.alloc())
+                .expect(&rt, "an answer")
+                .as_str(),
+            text
+        );
     }
-    assert_eq!(&rt; NoMemory.to_string(rt.alloc())?.as_str(), "no memory");
-    Ok(())
+    assert_eq!(&rt;
+        NoMemory
+            .to_string(rt.alloc())
+            .expect(&rt, "an answer")
+            .as_str(),
+        "no memory"
+    );
 }

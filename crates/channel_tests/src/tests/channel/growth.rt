@@ -4,10 +4,10 @@ use super::*;
 use tc_link::Report;
 
 // A copy, where one growth may be refused.
-fn copied(alloc: Global, octets: &[u8]) -> Result<Octets, Fail> {
+fn copied(alloc: Global, octets: &[u8]) -> Result<Octets, AllocError> {
     match Octets::copied(alloc, octets) {
         Ok(copy) => Ok(copy),
-        Err(_) => Ok(Octets::copied(alloc, octets)?),
+        Err(_) => Octets::copied(alloc, octets),
     }
 }
 
@@ -47,21 +47,21 @@ struct Short {
 }
 
 impl Short {
-    fn new(rt: &(impl Abort + Print), alloc: Global) -> Result<Short, Fail> {
-        let channel = match Channel::new(alloc, settings(alloc)?) {
+    fn new(rt: &(impl Abort + Print), alloc: Global) -> Short {
+        let channel = match Channel::new(alloc, settings(alloc).expect(rt, "an answer")) {
             Ok(channel) => channel,
             Err(fault) => {
                 let _ = println!(rt; "refused: Channel::new");
                 assert_eq!(rt; fault, SettingsFault::NoMemory);
-                Channel::new(alloc, settings(alloc)?)?
+                Channel::new(alloc, settings(alloc).expect(rt, "an answer")).expect(rt, "an answer")
             }
         };
         assert_eq!(rt; channel.journal().len(), 0);
-        Ok(Short {
+        Short {
             alloc,
             channel,
             journal: Vec::new(alloc),
-        })
+        }
     }
 
     fn told(&self) -> Told {
@@ -85,7 +85,7 @@ impl Short {
         assert_eq!(rt; self.channel.queued(5), Some(packets));
     }
 
-    fn note(&mut self, event: Event) -> Result<(), Fail> {
+    fn note(&mut self, event: Event) -> Result<(), AllocError> {
         if self.journal.reserve(1).is_err() {
             self.journal.reserve(1)?;
         }
@@ -93,31 +93,24 @@ impl Short {
         Ok(())
     }
 
-    fn frame(
-        &mut self,
-        rt: &(impl Abort + Print),
-        octets: &[u8],
-        act: Act,
-        delivery: Delivery,
-    ) -> Result<(), Fail> {
+    fn frame(&mut self, rt: &(impl Abort + Print), octets: &[u8], act: Act, delivery: Delivery) {
         let told = self.told();
-        let frame = read_frame(octets)?;
+        let frame = read_frame(octets).expect(rt, "an answer");
         let reply = match self.channel.frame(&frame) {
             Ok(reply) => reply,
             Err(NoMemory) => {
                 let _ = println!(rt; "refused: frame, event {}", act.event);
                 self.check(rt, told);
-                self.channel.frame(&frame)?
+                self.channel.frame(&frame).expect(rt, "an answer")
             }
         };
         assert_eq!(rt; reply, FrameReply { act, delivery });
-        let octets = copied(self.alloc, octets)?;
-        self.note(Event::Frame(octets))?;
+        let octets = copied(self.alloc, octets).expect(rt, "an answer");
+        self.note(Event::Frame(octets)).expect(rt, "an answer");
         assert_eq!(rt; self.channel.journal(), self.journal.as_slice());
-        Ok(())
     }
 
-    fn release(&mut self, rt: &(impl Abort + Print), delivery: Delivery) -> Result<(), Fail> {
+    fn release(&mut self, rt: &(impl Abort + Print), delivery: Delivery) {
         let told = self.told();
         let answer = match self.channel.release() {
             Ok(answer) => answer,
@@ -125,16 +118,15 @@ impl Short {
                 let _ = println!(rt; "refused: release");
                 assert_eq!(rt; fault, ReleaseFault::NoMemory);
                 self.check(rt, told);
-                self.channel.release()?
+                self.channel.release().expect(rt, "an answer")
             }
         };
         assert_eq!(rt; answer, delivery);
-        self.note(Event::Release)?;
+        self.note(Event::Release).expect(rt, "an answer");
         assert_eq!(rt; self.channel.journal(), self.journal.as_slice());
-        Ok(())
     }
 
-    fn take(&mut self, rt: &(impl Abort + Print), packet: &[u8]) -> Result<(), Fail> {
+    fn take(&mut self, rt: &(impl Abort + Print), packet: &[u8]) {
         let told = self.told();
         let answer = match self.channel.take(5) {
             Ok(answer) => answer,
@@ -142,13 +134,12 @@ impl Short {
                 let _ = println!(rt; "refused: take");
                 assert_eq!(rt; fault, TakeFault::NoMemory);
                 self.check(rt, told);
-                self.channel.take(5)?
+                self.channel.take(5).expect(rt, "an answer")
             }
         };
         assert_eq!(rt; answer.as_slice(), packet);
-        self.note(Event::Take(5))?;
+        self.note(Event::Take(5)).expect(rt, "an answer");
         assert_eq!(rt; self.channel.journal(), self.journal.as_slice());
-        Ok(())
     }
 }
 
@@ -159,52 +150,48 @@ const TWO_PACKETS: [u8; 20] = [
 ];
 
 #[test]
-fn growth_of_a_new_channel(rt: HostRuntime) -> Result<(), Fail> {
-    Short::new(&rt, rt.alloc())?;
-    Ok(())
+fn growth_of_a_new_channel(rt: HostRuntime) {
+    Short::new(&rt, rt.alloc());
 }
 
 // So many frames that are discarded come before, so that the journal grows in each call once.
 #[test]
-fn growth_of_each_call_of_a_channel(rt: HostRuntime) -> Result<(), Fail> {
+fn growth_of_each_call_of_a_channel(rt: HostRuntime) {
     for earlier in 0..5 {
-        let mut short = Short::new(&rt, rt.alloc())?;
+        let mut short = Short::new(&rt, rt.alloc());
         for _ in 0..earlier {
-            short.frame(&rt, &ad_frame(0xff), discarded(4), NOTHING)?;
+            short.frame(&rt, &ad_frame(0xff), discarded(4), NOTHING);
         }
-        short.frame(&rt, &ad_frame(0), accepted(1), NOTHING)?;
+        short.frame(&rt, &ad_frame(0), accepted(1), NOTHING);
         short.compare(&rt, 0x01040001, 1, 0);
-        short.release(&rt, ONE)?;
+        short.release(&rt, ONE);
         short.compare(&rt, 0x01040001, 0, 1);
-        short.take(&rt, &PACKET)?;
+        short.take(&rt, &PACKET);
         short.compare(&rt, 0x01040001, 0, 0);
     }
-    Ok(())
 }
 
 #[test]
-fn growth_of_a_frame_without_room(rt: HostRuntime) -> Result<(), Fail> {
-    let mut short = Short::new(&rt, rt.alloc())?;
-    short.frame(&rt, &ad_frame(0), accepted(1), NOTHING)?;
-    short.frame(&rt, &ad_frame(1), discarded(2), NOTHING)?;
+fn growth_of_a_frame_without_room(rt: HostRuntime) {
+    let mut short = Short::new(&rt, rt.alloc());
+    short.frame(&rt, &ad_frame(0), accepted(1), NOTHING);
+    short.frame(&rt, &ad_frame(1), discarded(2), NOTHING);
     short.compare(&rt, 0x01041801, 1, 0);
-    short.frame(&rt, &ad_frame(0), discarded(4), NOTHING)?;
+    short.frame(&rt, &ad_frame(0), discarded(4), NOTHING);
     short.compare(&rt, 0x01041801, 1, 0);
-    Ok(())
 }
 
 #[test]
-fn growth_of_a_unit_of_two_packets(rt: HostRuntime) -> Result<(), Fail> {
-    let mut short = Short::new(&rt, rt.alloc())?;
+fn growth_of_a_unit_of_two_packets(rt: HostRuntime) {
+    let mut short = Short::new(&rt, rt.alloc());
     let delivery = Delivery {
         queued: 2,
         dropped: 0,
         rest: false,
     };
-    short.frame(&rt, &TWO_PACKETS, accepted(6), delivery)?;
+    short.frame(&rt, &TWO_PACKETS, accepted(6), delivery);
     short.compare(&rt, 0x01040200, 0, 2);
-    short.take(&rt, &PACKET)?;
-    short.take(&rt, &[0x10, 0x05, 0xc0, 0x01, 0x00, 0x00, 0xbb])?;
+    short.take(&rt, &PACKET);
+    short.take(&rt, &[0x10, 0x05, 0xc0, 0x01, 0x00, 0x00, 0xbb]);
     short.compare(&rt, 0x01040200, 0, 0);
-    Ok(())
 }

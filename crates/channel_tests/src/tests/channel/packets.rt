@@ -4,7 +4,7 @@ use super::Step::{Ad, Clcw, Filled, Holds, Release, Take};
 use super::*;
 
 #[test]
-fn a_packet_from_its_frame_to_its_taker(rt: HostRuntime) -> Result<(), Fail> {
+fn a_packet_from_its_frame_to_its_taker(rt: HostRuntime) {
     let steps = [
         Ad(0, accepted(1)),
         Clcw(0x01040001),
@@ -19,18 +19,19 @@ fn a_packet_from_its_frame_to_its_taker(rt: HostRuntime) -> Result<(), Fail> {
 }
 
 #[test]
-fn what_a_channel_tells(rt: HostRuntime) -> Result<(), Fail> {
-    let channel = Channel::new(rt.alloc(), settings(rt.alloc(), 7)?)?;
-    assert_eq!(&rt; *channel.settings(), settings(rt.alloc(), 7)?);
+fn what_a_channel_tells(rt: HostRuntime) {
+    let settings = settings(rt.alloc(), 7).expect(&rt, "settings");
+    let channel = Channel::new(rt.alloc(), settings).expect(&rt, "a channel");
+    let told = super::settings(rt.alloc(), 7).expect(&rt, "settings");
+    assert_eq!(&rt; *channel.settings(), told);
     assert_eq!(&rt; channel.report().vr, 7);
     assert_eq!(&rt; channel.buffered(), 0);
     assert_eq!(&rt; channel.queued(5), Some(0));
     assert_eq!(&rt; channel.queued(6), None);
-    Ok(())
 }
 
 #[test]
-fn fill_after_a_frame(rt: HostRuntime) -> Result<(), Fail> {
+fn fill_after_a_frame(rt: HostRuntime) {
     let filled = [
         0x00, 0x2a, 0x04, 0x0c, 0x00, 0xc0, 0x10, 0x05, 0xc0, 0x00, 0x00, 0x00, 0xaa, 0x55, 0x55,
         0x55,
@@ -45,12 +46,11 @@ fn fill_after_a_frame(rt: HostRuntime) -> Result<(), Fail> {
 }
 
 #[test]
-fn octets_in_and_out(rt: HostRuntime) -> Result<(), Fail> {
-    let octets = Octets::copied(rt.alloc(), &PACKET)?;
+fn octets_in_and_out(rt: HostRuntime) {
+    let octets = Octets::copied(rt.alloc(), &PACKET).expect(&rt, "an answer");
     assert_eq!(&rt; octets.len(), 7);
     assert!(&rt; !octets.is_empty());
     assert_eq!(&rt; octets.as_slice(), PACKET.as_slice());
     let vec: Vec<u8> = octets.into();
     assert_eq!(&rt; vec.as_slice(), PACKET.as_slice());
-    Ok(())
 }

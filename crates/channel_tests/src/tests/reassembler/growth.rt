@@ -2,7 +2,6 @@
 
 use std::alloc::Global;
 use std::process::Abort;
-use std::test::Fail;
 use tc_packet::{NoMemory, Reassembler, Service, read_segment};
 
 // All fields are of this MAP, and all bodies of this octet.
@@ -32,40 +31,36 @@ fn check_run(
     service: Service,
     map: u8,
     expected: Option<&[u8]>,
-) -> Result<(), Fail> {
+) {
     let close = [0x80 | (map & 0x3f)];
     let run = match reassembler.unit_after(service, &close) {
         Ok(run) => run,
-        Err(NoMemory) => reassembler.unit_after(service, &close)?,
+        Err(NoMemory) => reassembler
+            .unit_after(service, &close)
+            .expect(rt, "an answer"),
     };
     assert_eq!(rt; run.as_deref(), expected, "{service:?}, MAP {map}");
-    Ok(())
 }
 
 // The stream of `MAP` on BD has this open run, and no other stream has one.
-fn check_only_run(
-    rt: &impl Abort,
-    reassembler: &Reassembler,
-    expected: Option<&[u8]>,
-) -> Result<(), Fail> {
+fn check_only_run(rt: &impl Abort, reassembler: &Reassembler, expected: Option<&[u8]>) {
     for map in 0..64 {
-        check_run(rt, reassembler, Service::Ad, map, None)?;
+        check_run(rt, reassembler, Service::Ad, map, None);
         let expected = if map == MAP { expected } else { None };
-        check_run(rt, reassembler, Service::Bd, map, expected)?;
+        check_run(rt, reassembler, Service::Bd, map, expected);
     }
-    Ok(())
 }
 
-fn new(rt: &(impl Abort + Print), alloc: Global) -> Result<Reassembler, Fail> {
+fn new(rt: &(impl Abort + Print), alloc: Global) -> Reassembler {
     let reassembler = match Reassembler::new(alloc) {
         Ok(reassembler) => reassembler,
         Err(NoMemory) => {
             let _ = println!(rt; "refused: Reassembler::new");
-            Reassembler::new(alloc)?
+            Reassembler::new(alloc).expect(rt, "an answer")
         }
     };
-    check_only_run(rt, &reassembler, None)?;
-    Ok(reassembler)
+    check_only_run(rt, &reassembler, None);
+    reassembler
 }
 
 // Takes a field, and checks the unit and the open run before and after.
@@ -75,49 +70,47 @@ fn push(
     field: &[u8],
     run: [Option<&[u8]>; 2],
     expected: Option<&[u8]>,
-) -> Result<(), Fail> {
+) {
     let [before, after] = run;
     assert!(rt; !field.is_empty());
-    check_only_run(rt, reassembler, before)?;
+    check_only_run(rt, reassembler, before);
     let unit = match reassembler.push(Service::Bd, field) {
         Ok(unit) => unit,
         Err(NoMemory) => {
             let part = read_segment(field[0]).part;
             let _ = println!(rt; "refused: push, {part:?}");
-            check_only_run(rt, reassembler, before)?;
-            reassembler.push(Service::Bd, field)?
+            check_only_run(rt, reassembler, before);
+            reassembler.push(Service::Bd, field).expect(rt, "an answer")
         }
     };
     assert_eq!(rt; unit.as_deref(), expected);
-    check_only_run(rt, reassembler, after)?;
-    Ok(())
+    check_only_run(rt, reassembler, after);
 }
 
 // A reassembler with `SHORT_RUN` open.
-fn opened(rt: &(impl Abort + Print), alloc: Global) -> Result<Reassembler, Fail> {
-    let mut reassembler = new(rt, alloc)?;
-    push(rt, &mut reassembler, &FIRST, [None, Some(&SHORT_RUN)], None)?;
-    Ok(reassembler)
+fn opened(rt: &(impl Abort + Print), alloc: Global) -> Reassembler {
+    let mut reassembler = new(rt, alloc);
+    push(rt, &mut reassembler, &FIRST, [None, Some(&SHORT_RUN)], None);
+    reassembler
 }
 
 #[test]
-fn growth_of_a_new_reassembler(rt: HostRuntime) -> Result<(), Fail> {
-    new(&rt, rt.alloc())?;
-    Ok(())
+fn growth_of_a_new_reassembler(rt: HostRuntime) {
+    new(&rt, rt.alloc());
 }
 
 #[test]
-fn growth_of_a_first_segment(rt: HostRuntime) -> Result<(), Fail> {
-    let mut reassembler = opened(&rt, rt.alloc())?;
+fn growth_of_a_first_segment(rt: HostRuntime) {
+    let mut reassembler = opened(&rt, rt.alloc());
     let open = Some(SHORT_RUN.as_slice());
     push(&rt, &mut reassembler, &FIRST, [open, open], None)
 }
 
 #[test]
-fn growth_of_a_continuing_segment(rt: HostRuntime) -> Result<(), Fail> {
-    let mut reassembler = opened(&rt, rt.alloc())?;
+fn growth_of_a_continuing_segment(rt: HostRuntime) {
+    let mut reassembler = opened(&rt, rt.alloc());
     let grown = [Some(SHORT_RUN.as_slice()), Some(LONG_RUN.as_slice())];
-    push(&rt, &mut reassembler, &CONTINUING, grown, None)?;
+    push(&rt, &mut reassembler, &CONTINUING, grown, None);
     push(
         &rt,
         &mut reassembler,
@@ -128,8 +121,8 @@ fn growth_of_a_continuing_segment(rt: HostRuntime) -> Result<(), Fail> {
 }
 
 #[test]
-fn growth_of_a_last_segment(rt: HostRuntime) -> Result<(), Fail> {
-    let mut reassembler = opened(&rt, rt.alloc())?;
+fn growth_of_a_last_segment(rt: HostRuntime) {
+    let mut reassembler = opened(&rt, rt.alloc());
     push(
         &rt,
         &mut reassembler,
@@ -140,15 +133,15 @@ fn growth_of_a_last_segment(rt: HostRuntime) -> Result<(), Fail> {
 }
 
 #[test]
-fn growth_of_an_unsegmented_unit(rt: HostRuntime) -> Result<(), Fail> {
-    let mut reassembler = opened(&rt, rt.alloc())?;
+fn growth_of_an_unsegmented_unit(rt: HostRuntime) {
+    let mut reassembler = opened(&rt, rt.alloc());
     let dropped = [Some(SHORT_RUN.as_slice()), None];
     push(&rt, &mut reassembler, &UNSEGMENTED, dropped, Some(&[5, 5]))
 }
 
 #[test]
-fn growth_of_a_unit_asked_for(rt: HostRuntime) -> Result<(), Fail> {
-    let reassembler = opened(&rt, rt.alloc())?;
+fn growth_of_a_unit_asked_for(rt: HostRuntime) {
+    let reassembler = opened(&rt, rt.alloc());
     let units = [
         (LAST.as_slice(), Some(SHORT_UNIT.as_slice())),
         (UNSEGMENTED.as_slice(), Some([5, 5].as_slice())),
@@ -161,12 +154,13 @@ fn growth_of_a_unit_asked_for(rt: HostRuntime) -> Result<(), Fail> {
             Ok(unit) => unit,
             Err(NoMemory) => {
                 let _ = println!(rt; "refused: unit_after");
-                check_only_run(&rt, &reassembler, Some(&SHORT_RUN))?;
-                reassembler.unit_after(Service::Bd, field)?
+                check_only_run(&rt, &reassembler, Some(&SHORT_RUN));
+                reassembler
+                    .unit_after(Service::Bd, field)
+                    .expect(&rt, "an answer")
             }
         };
         assert_eq!(rt; unit.as_deref(), expected);
-        check_only_run(&rt, &reassembler, Some(&SHORT_RUN))?;
+        check_only_run(&rt, &reassembler, Some(&SHORT_RUN));
     }
-    Ok(())
 }
