@@ -80,7 +80,7 @@ shares-meant ps (w ∷ ws) =
     omega (arith, sum_by-cons length (share ps w) (map (share ps) ws), sum_by-cons (meant ps) w.apid (apids_of ws), length-take (w.packets.capacity - length w.packets.items) (filter (is_for w.apid) ps))
 
 -- no more packets are queued than there are
-queued-within : (ps : List (List ℕ)) (ws : List PacketQueue) → AreDistinct (apids_of ws) → sum_by length (map (share ps) ws) ≤ length ps
+pub queued-within : (ps : List (List ℕ)) (ws : List PacketQueue) → AreDistinct (apids_of ws) → sum_by length (map (share ps) ws) ≤ length ps
 queued-within ps ws apart = let a = shares-meant ps ws in let b = all-meant ps (apids_of ws) apart in omega arith
 
 -- a unit has no more packets than octets

@@ -1,5 +1,7 @@
 pub mod Runs
 pub mod Sound
+pub mod BufferSize
+pub mod Delivered
 pub mod StateQueues
 pub mod Streams
 pub mod Shares

@@ -110,7 +110,7 @@ unfolding passed_on
 release-queues c b runs unit new are ends is = is ∙ ap (λ (x : Option (List ℕ)). map held (with_shares (packets_in x) b.queues)) (ends-unit Ad (first_of (buffer b)) b runs unit are ends)
 
 -- how many copies there are
-queued-is : (ps : List (List ℕ)) (qs : List Queue) → sum_by length (map (share ps) (map held qs)) ≡ queued_of ps qs
+pub queued-is : (ps : List (List ℕ)) (qs : List Queue) → sum_by length (map (share ps) (map held qs)) ≡ queued_of ps qs
 queued-is ps [] = refl
 queued-is ps (q ∷ qs) =
     sum_by-cons length (share ps (held q)) (map (share ps) (map held qs)) ∙ ap (λ (x : List (List ℕ)). length x + sum_by length (map (share ps) (map held qs))) (one-share ps q)

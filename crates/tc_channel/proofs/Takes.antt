@@ -125,7 +125,7 @@ pub has-first : (xs : List (List ℕ)) → 0 < length xs → IsSome (slice_get x
 has-first [] some = absurd (omega arith)
 has-first (x ∷ xs) some = refl
 
-same-apids : (qs : List Queue) → apids_of (map held qs) ≡ apids qs
+pub same-apids : (qs : List Queue) → apids_of (map held qs) ≡ apids qs
 same-apids [] = refl
 same-apids (q ∷ qs) = ap (λ (x : List ℕ). q.apid ∷ x) (same-apids qs)
 

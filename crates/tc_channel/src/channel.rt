@@ -139,6 +139,7 @@ impl Channel {
     /// FARM-1's components.
     pub fn report(&self) -> Report
         ensures report { result ≡ (run self.now.settings self.now.journal).report }
+        ensures farm_b { result.farm_b < 4 }
         ensures allowed { IsAllowed self.now.settings }
         ensures lawful { IsLawful self.now.settings self.now.journal }
         ensures era { CountsUpInItsEra self.now.settings self.now.journal }
@@ -149,6 +150,7 @@ impl Channel {
     /// The communications link control word.
     pub fn clcw(&self, link: Link) -> u32
         ensures word { result ≡ clcw_of self.now.settings self.now.journal link }
+        ensures allowed { IsAllowed self.now.settings }
         ensures lawful { IsLawful self.now.settings self.now.journal }
     {
         clcw_word(&self.farm.report(), self.settings.vcid, link)

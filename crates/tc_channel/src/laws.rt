@@ -1,8 +1,12 @@
 //! Laws over the definitions.
 
-ghost use Rattle.std.specs.Prelude.{List, ℕ, ◌≡◌, ◌++◌};
+ghost use Rattle.std.specs.Prelude.{List, ℕ, ◌≡◌, ◌≤◌, ◌<◌, ◌+◌, ◌^◌, ◌++◌, Option, length};
+ghost use Rattle.tc_channel.specs.ChannelState.{buffer};
 ghost use Rattle.std.specs.List.{AllByRecursion};
 ghost use Rattle.tc_link.specs.Frame.{IsWhole};
+ghost use Rattle.tc_link.specs.declared.Link.{Link};
+ghost use Rattle.tc_channel.specs.Admission.{packets_in};
+ghost use Rattle.tc_channel.specs.Reply.{clcw, delivery_of};
 ghost use Rattle.tc_channel.specs.declared.settings.Settings.{Settings};
 ghost use Rattle.tc_channel.specs.declared.event.Event.{Event};
 ghost use Rattle.tc_channel.specs.Settings.{IsAllowed};
@@ -41,4 +45,19 @@ pub fn a_longer_run_goes_on()
     ensures grows { (s : Settings) (past future : List Event) → Grows (run s past) (run s (past ++ future)) }
     ensures lawful_before { (s : Settings) (past future : List Event) → IsLawful s (past ++ future) → IsLawful s past }
     ensures lawful_after { (s : Settings) (past future : List Event) → IsLawful s (past ++ future) → AreSteps s (run s past) future }
+{}
+
+/// The buffer never holds more data fields than its size.
+pub fn buffer_keeps_to_its_size()
+    ensures { (s : Settings) (journal : List Event) → length (buffer (run s journal)) ≤ s.buffer }
+{}
+
+/// What a unit is cut into is queued or dropped, each packet once.
+pub fn each_packet_is_queued_or_dropped()
+    ensures { (s : Settings) (journal : List Event) (unit : Option (List ℕ)) → IsAllowed s → (delivery_of unit (run s journal).queues).queued + (delivery_of unit (run s journal).queues).dropped ≡ length (packets_in unit) }
+{}
+
+/// A CLCW has 32 bits.
+pub fn each_clcw_fits_its_word()
+    ensures { (s : Settings) (journal : List Event) (link : Link) → IsAllowed s → IsLawful s journal → clcw s journal link < 2 ^ 32 }
 {}

@@ -4,7 +4,8 @@
 //! that journal: FARM-1's components, the buffered data fields, the open runs of reassembly and the
 //! packet queues. The laws over these definitions are the contracts of [`wait_means_no_room`],
 //! [`each_frame_has_a_step`], [`each_journal_has_an_era`], [`accepted_frames_count_up`],
-//! [`queues_keep_to_their_capacity`] and [`a_longer_run_goes_on`].
+//! [`queues_keep_to_their_capacity`], [`buffer_keeps_to_its_size`], [`each_packet_is_queued_or_dropped`],
+//! [`each_clcw_fits_its_word`] and [`a_longer_run_goes_on`].
 #![tactic(auto)]
 
 mod channel;
@@ -19,8 +20,9 @@ pub use channel::Channel;
 pub use event::Event;
 pub use items::{Items, Octets};
 pub use laws::{
-    a_longer_run_goes_on, accepted_frames_count_up, each_frame_has_a_step, each_journal_has_an_era,
-    queues_keep_to_their_capacity, wait_means_no_room,
+    a_longer_run_goes_on, accepted_frames_count_up, buffer_keeps_to_its_size,
+    each_clcw_fits_its_word, each_frame_has_a_step, each_journal_has_an_era,
+    each_packet_is_queued_or_dropped, queues_keep_to_their_capacity, wait_means_no_room,
 };
 pub use reply::{Delivery, FrameReply, NoMemory, ReleaseFault, TakeFault};
 pub use settings::{QueueSetting, Settings, SettingsFault};

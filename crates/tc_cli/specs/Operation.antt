@@ -5,7 +5,7 @@ use Rattle.tc_station.specs.Roster.{Roster}
 use Rattle.tc_station.specs.Location.{IsLocateFault}
 use Rattle.tc_channel.specs.Reply.{clcw}
 use Rattle.tc_status.specs.Board.{no_flag}
-use Rattle.tc_station.specs.Moments.{AtSomeMoment, IsBrought, IsReleased, IsTaken}
+use Rattle.tc_station.specs.Moments.{AtSomeMomentOf, IsBrought, IsReleased, IsTaken}
 use Rattle.tc_station.specs.Faults.{IsReleaseRefused, IsTakeRefused}
 use Rattle.tc_station.specs.declared.faults.ReleaseRefused.TheVariants as release_refusals
 use Rattle.tc_station.specs.declared.faults.TakeRefused.TheVariants as take_refusals
@@ -53,9 +53,9 @@ IsTakeAnswer station vcid apid (Frame v reply) = ⊥
 IsTakeAnswer station vcid apid (Release v delivery) = ⊥
 IsTakeAnswer station vcid apid (Clcw v word) = ⊥
 
--- the CLCW of a moment of a channel, with both link flags 0
-abbrev pub IsStatus : ℕ → Type 0
-IsStatus word = AtSomeMoment (λ s journal. word ≡ clcw s journal no_flag)
+-- the CLCW of a moment of the channel with this id, with both link flags 0
+abbrev pub IsStatusOf : ℕ → ℕ → Type 0
+IsStatusOf vcid word = AtSomeMomentOf vcid (λ s journal. word ≡ clcw s journal no_flag)
 
 abbrev pub IsClcwRefusal : Roster → ℕ → Refusal → Type 0
 IsClcwRefusal station vcid (Unlocated fault) = ⊥
@@ -64,7 +64,7 @@ IsClcwRefusal station vcid NoQueue = ⊥
 IsClcwRefusal station vcid Empty = ⊥
 
 abbrev pub IsClcwAnswer : Roster → ℕ → Answer → Type 0
-IsClcwAnswer station vcid (Clcw v word) = (v ≡ vcid) × Contains station.vcids vcid × IsStatus word
+IsClcwAnswer station vcid (Clcw v word) = (v ≡ vcid) × Contains station.vcids vcid × IsStatusOf vcid word
 IsClcwAnswer station vcid (Refused refusal) = IsClcwRefusal station vcid refusal
 IsClcwAnswer station vcid (Frame v reply) = ⊥
 IsClcwAnswer station vcid (Release v delivery) = ⊥

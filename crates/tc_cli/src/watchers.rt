@@ -1,7 +1,7 @@
 //! A watcher for each channel of a station.
 
-ghost use Rattle.std.specs.Prelude.{◌≡◌, ◌<◌, All, Contains, length, vec_len, IfOk, IfErr, MatchOption};
-ghost use Rattle.tc_cli.specs.Operation.{IsStatus};
+ghost use Rattle.std.specs.Prelude.{◌≡◌, ◌<◌, All, Contains, length, map, slice_index, IfOk, IfErr, MatchOption};
+ghost use Rattle.tc_cli.specs.Operation.{IsStatusOf};
 
 use std::alloc::Global;
 use std::marker::Model;
@@ -25,13 +25,13 @@ pub(crate) struct Watchers {
 }
 
 impl Model for Watchers {
-    ghost use Rattle.std.specs.Prelude.{◌≡◌, List, ℕ, vec_len};
+    ghost use Rattle.std.specs.Prelude.{◌≡◌, List, ℕ, map};
 
     ghost Value = { List ℕ };
 
     ghost view = { λ o. o.vcids.items };
 
-    ghost invariant = { λ o. vec_len o.watchers ≡ vec_len o.vcids };
+    ghost invariant = { λ o. map (λ w. w.seen.settings.vcid) o.watchers.items ≡ o.vcids.items };
 }
 
 impl Watchers {
@@ -53,7 +53,7 @@ impl Watchers {
     /// The CLCW of a channel with one of the ids, with both link flags 0.
     pub(crate) fn watch(&mut self, station: &Station, vcid: u8) -> Option<u32>
         ensures ids { self.new ≡ self.old }
-        ensures word { MatchOption result (¬ Contains self.old vcid) (λ word. Contains self.old vcid × IsStatus word) }
+        ensures word { MatchOption result (¬ Contains self.old vcid) (λ word. Contains self.old vcid × IsStatusOf vcid word) }
     {
         let place = place_of(&self.vcids, vcid)?;
         Some(station.watch(&mut self.watchers[place], NO_FLAGS))
@@ -68,7 +68,7 @@ fn watch_each(
     vcids: &[u8],
 ) -> Result<Vec<Watcher>, Reason>
     requires { All (Contains station.now.vcids) vcids.now }
-    ensures each { IfOk result (λ watchers. vec_len watchers ≡ length vcids.now) }
+    ensures each { IfOk result (λ watchers. map (λ w. w.seen.settings.vcid) watchers.items ≡ vcids.now) }
     ensures reason { IfErr result (λ reason. reason ≡ Reason.NoMemory) }
 {
     let Ok(mut watchers) = Vec::with_capacity(alloc, vcids.len()) else {
@@ -82,7 +82,8 @@ fn watch_each(
 
 fn watch_one(rt: &impl Wait, station: &Station, vcid: u8) -> Result<Watcher, Reason>
     requires { Contains station.now.vcids vcid }
-    ensures { IfErr result (λ reason. reason ≡ Reason.NoMemory) }
+    ensures own { IfOk result (λ watcher. watcher.seen.settings.vcid ≡ vcid) }
+    ensures reason { IfErr result (λ reason. reason ≡ Reason.NoMemory) }
 {
     match station.watcher(rt, vcid) {
         Ok(watcher) => Ok(watcher),
@@ -93,7 +94,7 @@ fn watch_one(rt: &impl Wait, station: &Station, vcid: u8) -> Result<Watcher, Rea
 
 // The place of an id.
 fn place_of(vcids: &[u8], vcid: u8) -> Option<usize>
-    ensures { MatchOption result (¬ Contains vcids.now vcid) (λ place. (place < length vcids.now) × Contains vcids.now vcid) }
+    ensures { MatchOption result (¬ Contains vcids.now vcid) (λ place. (place < length vcids.now) × (slice_index vcids.now place ≡ vcid) × Contains vcids.now vcid) }
 {
     vcids.iter().position(|v| *v == vcid)
 }

@@ -23,14 +23,14 @@ pub fn clcw_word(report: &Report, vcid: u8, link: Link) -> u32
     ensures { result ≡ word_of report.now vcid link }
 {
     (1 << 24)
-        + vcid as u32 * (1 << 18)
+        + u32::from(vcid) * (1 << 18)
         + u32::from(link.no_rf) * (1 << 15)
         + u32::from(link.no_bit_lock) * (1 << 14)
         + u32::from(report.lockout) * (1 << 13)
         + u32::from(report.wait) * (1 << 12)
         + u32::from(report.retransmit) * (1 << 11)
-        + report.farm_b as u32 * (1 << 9)
-        + report.vr as u32
+        + u32::from(report.farm_b) * (1 << 9)
+        + u32::from(report.vr)
 }
 
 /// What a CLCW says (CCSDS 232.0-B, 4.2), apart from the fields that are fixed.

@@ -1,6 +1,7 @@
 //! FARM-1, the receiving side of COP-1.
 
 ghost use Rattle.std.specs.Prelude.{◌≡◌, ◌<◌, true, false, IsSome};
+ghost use Rattle.tc_link.specs.Window.{IsWidth};
 ghost use Rattle.tc_link.specs.Farm.{E1, E2, E3, E5, E6, E7, E8, E10, row_of, number_of, entry, accepts, after, first_report};
 
 use crate::command::{Command, Kind};
@@ -274,7 +275,10 @@ impl Farm {
     pub fn report(&self) -> Report
         ensures report { result ≡ self.now.report }
         ensures farm_b { result.farm_b < 4 }
+        ensures width { IsWidth self.now.width }
     {
+        // Asked, so that the width is known.
+        let _place = self.window.place(0, 0);
         self.report
     }
 

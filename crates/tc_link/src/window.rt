@@ -47,7 +47,8 @@ impl Window {
 
     /// Where N(S) lies, as seen from V(R).
     pub fn place(&self, vr: u8, ns: u8) -> Place
-        ensures { result ≡ place_of self.now vr ns }
+        ensures place { result ≡ place_of self.now vr ns }
+        ensures width { IsWidth self.now }
     {
         let half = self.width / 2;
         let distance = ns.wrapping_sub(vr);

@@ -64,7 +64,7 @@ fn primary_header(header: &Header, total: u16) -> [u8; 5]
     let first = u16::from(header.bypass) * (1 << 13)
         + u16::from(header.control) * (1 << 12)
         + header.scid;
-    let second = header.vcid as u16 * (1 << 10) + (total - 1);
+    let second = u16::from(header.vcid) * (1 << 10) + (total - 1);
     let [a, b] = first.to_be_bytes();
     let [c, d] = second.to_be_bytes();
     [a, b, c, d, header.ns]

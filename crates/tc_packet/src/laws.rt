@@ -1,7 +1,8 @@
 //! Laws over the definitions of this crate.
 
 ghost use Rattle.std.specs.Prelude.{◌≡◌, ◌<◌, ◌↔◌, ℕ, List, Option, Some, take};
-ghost use Rattle.tc_packet.specs.Reassembly.{IsLeftByFields, IsOpenRun, IsUnit, IsWithinLimit, open_run, unit_at};
+ghost use Rattle.tc_packet.specs.declared.reassembler.Service.{Service};
+ghost use Rattle.tc_packet.specs.Reassembly.{IsLeftByFields, IsOpenRun, IsUnit, IsWithinLimit, open_run, place_of, stream_count, unit_at};
 ghost use Rattle.tc_packet.specs.SpacePacket.{IsCut, IsPacket, packets_of, rest_of};
 
 /// The cut of a unit is this one, and no other.
@@ -30,4 +31,10 @@ pub fn each_run_within_the_limit_is_left_by_fields()
     ensures left { (map : ℕ) (run : Option (List ℕ)) → map < 64 → IsWithinLimit run → IsLeftByFields map run }
     ensures only { (fields : List (List ℕ)) → IsWithinLimit (open_run fields) }
     ensures units { (fields : List (List ℕ)) (field : List ℕ) → IsWithinLimit (unit_at fields field) }
+{}
+
+/// Each stream has a place of its own among the open runs.
+pub fn each_stream_has_a_place_of_its_own()
+    ensures within { (service : Service) (map : ℕ) → map < 64 → place_of service map < stream_count }
+    ensures own { (service other : Service) (map id : ℕ) → map < 64 → id < 64 → place_of service map ≡ place_of other id → (service ≡ other) × (map ≡ id) }
 {}

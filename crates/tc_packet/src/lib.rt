@@ -3,7 +3,7 @@
 //! Laws over the definitions stand as contracts of functions with empty bodies:
 //! [`each_unit_has_one_cut`], [`each_input_begins_with_one_packet_at_most`],
 //! [`an_open_run_looks_back_over_its_stream`], [`a_unit_looks_back_over_its_stream`],
-//! [`each_run_within_the_limit_is_left_by_fields`].
+//! [`each_run_within_the_limit_is_left_by_fields`], [`each_stream_has_a_place_of_its_own`].
 #![tactic(auto)]
 
 mod cutting;
@@ -18,7 +18,7 @@ pub use fault::NoMemory;
 pub use laws::{
     a_unit_looks_back_over_its_stream, an_open_run_looks_back_over_its_stream,
     each_input_begins_with_one_packet_at_most, each_run_within_the_limit_is_left_by_fields,
-    each_unit_has_one_cut,
+    each_stream_has_a_place_of_its_own, each_unit_has_one_cut,
 };
 pub use packet::{Cut, Packet, read_packet};
 pub use reassembler::{Reassembler, Service};

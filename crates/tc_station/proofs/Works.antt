@@ -181,11 +181,11 @@ jobs-keep station own (j ∷ js) a b done = jobs-keep station own js done.0 b do
 -- of one list
 list-rises : (station : Roster) (list : WorkList) (line : Option ℕ) (a b : Tally) → IsWorked station list line a b → NoCountFalls a b
 list-rises station list None a b w = jobs-rise station list.vcid list.jobs a b w
-list-rises station list (Some line) a b w = jobs-rise station list.vcid (take w.0 list.jobs) a b w.4
+list-rises station list (Some line) a b w = jobs-rise station list.vcid (take w.0 list.jobs) a b w.5
 
 list-keeps : (station : Roster) (list : WorkList) (line : Option ℕ) (a b : Tally) → IsWorked station list line a b → b.vcids ≡ a.vcids
 list-keeps station list None a b w = jobs-keep station list.vcid list.jobs a b w
-list-keeps station list (Some line) a b w = jobs-keep station list.vcid (take w.0 list.jobs) a b w.4
+list-keeps station list (Some line) a b w = jobs-keep station list.vcid (take w.0 list.jobs) a b w.5
 
 list-raises : (station : Roster) (list : WorkList) (line : Option ℕ) (a b : Tally) → line ≡ None → IsTallyOf station a → IsWorked station list line a b → IsRaised station list a b
 list-raises station list None a b none f w = λ v place at. let r = steps station list.vcid list.jobs a b w f v place at in (r.low, r.high)

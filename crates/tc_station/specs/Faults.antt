@@ -8,7 +8,7 @@ use Rattle.tc_channel.specs.declared.reply.TakeFault.TheVariants as take
 use Rattle.tc_station.specs.Roster.{Roster}
 use Rattle.tc_station.specs.Tally.{Tally}
 use Rattle.tc_station.specs.Balance.{AreInBalance}
-use Rattle.tc_station.specs.Moments.{AtSomeMoment}
+use Rattle.tc_station.specs.Moments.{AtSomeMomentOf}
 use Rattle.tc_station.specs.declared.faults.ReleaseRefused.{ReleaseRefused}
 use Rattle.tc_station.specs.declared.faults.ReleaseRefused.TheVariants as release_refusals
 use Rattle.tc_station.specs.declared.faults.TakeRefused.{TakeRefused}
@@ -30,13 +30,13 @@ take_refused take.NoMemory = take_refusals.NoMemory
 
 abbrev pub IsReleaseRefused : Roster → ℕ → ReleaseRefused → Type 0
 IsReleaseRefused station vcid release_refusals.UnknownChannel = ¬ Contains station.vcids vcid
-IsReleaseRefused station vcid release_refusals.Empty = Contains station.vcids vcid × AtSomeMoment (λ s journal. buffered_fields s journal ≡ [])
+IsReleaseRefused station vcid release_refusals.Empty = Contains station.vcids vcid × AtSomeMomentOf vcid (λ s journal. buffered_fields s journal ≡ [])
 IsReleaseRefused station vcid release_refusals.NoMemory = Contains station.vcids vcid
 
 abbrev pub IsTakeRefused : Roster → ℕ → ℕ → TakeRefused → Type 0
 IsTakeRefused station vcid apid take_refusals.UnknownChannel = ¬ Contains station.vcids vcid
-IsTakeRefused station vcid apid take_refusals.NoQueue = Contains station.vcids vcid × AtSomeMoment (λ s journal. waiting_packets s journal apid ≡ None)
-IsTakeRefused station vcid apid take_refusals.Empty = Contains station.vcids vcid × AtSomeMoment (λ s journal. waiting_packets s journal apid ≡ Some [])
+IsTakeRefused station vcid apid take_refusals.NoQueue = Contains station.vcids vcid × AtSomeMomentOf vcid (λ s journal. waiting_packets s journal apid ≡ None)
+IsTakeRefused station vcid apid take_refusals.Empty = Contains station.vcids vcid × AtSomeMomentOf vcid (λ s journal. waiting_packets s journal apid ≡ Some [])
 IsTakeRefused station vcid apid take_refusals.NoMemory = Contains station.vcids vcid
 
 abbrev pub IsWatcherFault : Roster → ℕ → WatcherFault → Type 0

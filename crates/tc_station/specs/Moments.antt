@@ -13,6 +13,10 @@ use Rattle.tc_channel.specs.Reply.{frame_reply, release_reply, take_reply, buffe
 use Rattle.tc_station.specs.Roster.{Roster}
 use Rattle.tc_station.specs.Location.{IsLocated}
 
+-- the journal of a channel with this id at some moment
+abbrev pub AtSomeMomentOf : ℕ → (Settings → List Event → Type 0) → Type 0
+AtSomeMomentOf vcid P = (s : Settings) × (journal : List Event) × IsAllowed s × IsLawful s journal × (s.vcid ≡ vcid) × P s journal
+
 -- some channel's journal at some moment
 abbrev pub AtSomeMoment : (Settings → List Event → Type 0) → Type 0
 AtSomeMoment P = (s : Settings) × (journal : List Event) × IsAllowed s × IsLawful s journal × P s journal
@@ -20,24 +24,24 @@ AtSomeMoment P = (s : Settings) × (journal : List Event) × IsAllowed s × IsLa
 -- the octets were for this channel, and this is the reply to their frame
 abbrev pub IsBrought : Roster → List ℕ → ℕ → FrameReply → Type 0
 IsBrought station octets vcid reply =
-    (frame : List ℕ) × IsLocated station octets vcid frame × AtSomeMoment (λ s journal. reply ≡ frame_reply s journal frame)
+    (frame : List ℕ) × IsLocated station octets vcid frame × AtSomeMomentOf vcid (λ s journal. reply ≡ frame_reply s journal frame)
 
 -- the same, and a watcher has seen the journal with the frame at its end
 abbrev pub IsBroughtWatched : Roster → List ℕ → ℕ → FrameReply → History → Type 0
 IsBroughtWatched station octets vcid reply seen =
     (frame : List ℕ) × IsLocated station octets vcid frame
-    × AtSomeMoment (λ s journal. (reply ≡ frame_reply s journal frame) × (seen ≡ with_event (record { settings = s; journal = journal }) (Frame frame)))
+    × AtSomeMomentOf vcid (λ s journal. (reply ≡ frame_reply s journal frame) × (seen ≡ with_event (record { settings = s; journal = journal }) (Frame frame)))
 
 -- a data field waited, and this became of it
 abbrev pub IsReleased : Roster → ℕ → Delivery → Type 0
 IsReleased station vcid delivery =
-    Contains station.vcids vcid × AtSomeMoment (λ s journal. (buffered_fields s journal ≢ []) × (delivery ≡ release_reply s journal))
+    Contains station.vcids vcid × AtSomeMomentOf vcid (λ s journal. (buffered_fields s journal ≢ []) × (delivery ≡ release_reply s journal))
 
 -- the packet is the oldest that waited
 abbrev pub IsTaken : Roster → ℕ → ℕ → List ℕ → Type 0
 IsTaken station vcid apid packet =
-    Contains station.vcids vcid × AtSomeMoment (λ s journal. take_reply s journal apid ≡ Some packet)
+    Contains station.vcids vcid × AtSomeMomentOf vcid (λ s journal. take_reply s journal apid ≡ Some packet)
 
 -- the watcher has seen a moment of a channel
 abbrev pub IsWatched : Roster → ℕ → History → Type 0
-IsWatched station vcid seen = Contains station.vcids vcid × IsAllowed seen.settings × IsLawful seen.settings seen.journal
+IsWatched station vcid seen = Contains station.vcids vcid × (seen.settings.vcid ≡ vcid) × IsAllowed seen.settings × IsLawful seen.settings seen.journal

@@ -1,5 +1,5 @@
 -- What workers do: the jobs of each list, and the counts of its operator before and after.
-use Rattle.std.specs.Prelude.{◌≡◌, ℕ, ◌+◌, ◌≤◌, ◌==◌, ◌&&◌, ◌⊎◌, Bool, false, min, max, List, [], ◌∷◌, length, map, take, slice_get, slice_index, position, Option, Some, None, is_none, count_by}
+use Rattle.std.specs.Prelude.{◌≡◌, ℕ, ◌+◌, ◌≤◌, ◌==◌, ◌&&◌, ◌⊎◌, Bool, false, Contains, min, max, List, [], ◌∷◌, length, map, take, slice_get, slice_index, position, Option, Some, None, is_none, count_by}
 use Rattle.std.specs.List.{AllByRecursion}
 use Rattle.tc_link.specs.Frame.{header_of, fault_of}
 use Rattle.tc_station.specs.Roster.{Roster}
@@ -27,11 +27,17 @@ abbrev pub AreDone : Roster → ℕ → List Job → Tally → Tally → Type 0
 AreDone station vcid [] before after = after ≡ before
 AreDone station vcid (job ∷ jobs) before after = (mid : Tally) × IsDone station vcid job.order before mid × AreDone station vcid jobs mid after
 
+-- a job of this channel's list that memory may be wanting for: what comes to no channel is passed over
+abbrev pub MayWantMemory : Roster → ℕ → Order → Type 0
+MayWantMemory station vcid (Bring octets) = (v : ℕ) × (frame : List ℕ) × IsLocated station octets v frame
+MayWantMemory station vcid Release = Contains station.vcids vcid
+MayWantMemory station vcid (Take apid) = Contains station.vcids vcid
+
 -- all jobs of the list were done; or those before the one of this line, which was refused for memory
 abbrev pub IsWorked : Roster → WorkList → Option ℕ → Tally → Tally → Type 0
 IsWorked station list None before after = AreDone station list.vcid list.jobs before after
 IsWorked station list (Some line) before after =
-    (n : ℕ) × (job : Job) × (slice_get list.jobs n ≡ Some job) × (job.line ≡ line) × AreDone station list.vcid (take n list.jobs) before after
+    (n : ℕ) × (job : Job) × (slice_get list.jobs n ≡ Some job) × (job.line ≡ line) × MayWantMemory station list.vcid job.order × AreDone station list.vcid (take n list.jobs) before after
 
 -- what became of a list
 pub record Shift : Type 0 where

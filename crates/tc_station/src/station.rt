@@ -1,6 +1,7 @@
 //! The station: a lock for each channel.
 
-ghost use Rattle.std.specs.Prelude.{◌≡◌, ◌≤◌, ◌<◌, ◌+◌, ◌↔◌, All, Any, IsTrue, map, replicate, vec_len, vec_capacity, IfOk, IfErr, IsErrOf, OnOk, OnErr, MatchOption, MatchResult};
+ghost use Rattle.std.specs.Prelude.{◌≡◌, ◌≤◌, ◌<◌, ◌+◌, ◌↔◌, All, Any, IsTrue, length, map, replicate, vec_len, vec_capacity, IfOk, IfErr, IsErrOf, OnOk, OnErr, MatchOption, MatchResult};
+ghost use Rattle.std.specs.Sync.Mutex.{mutex_guard_value};
 ghost use Rattle.tc_link.specs.Frame.{BeginsWith};
 ghost use Rattle.tc_channel.specs.Settings.{IsAllowed};
 ghost use Rattle.tc_channel.specs.Journal.{with_event};
@@ -22,7 +23,7 @@ use crate::work::Gate;
 use crossbeam_utils::CachePadded;
 use std::alloc::Global;
 use std::marker::Model;
-use std::sync::{Mutex, Wait};
+use std::sync::{Mutex, MutexGuard, Wait};
 use tc_channel::{Channel, Delivery, Event, FrameReply, NoMemory, Settings, SettingsFault};
 use tc_link::{Frame, Link, read_frame};
 use tc_status::Watcher;
@@ -140,7 +141,7 @@ impl Station {
         let (place, Located { vcid, frame }) = self
             .place_frame(octets)
             .map_err(BringFault::Locate)?;
-        let Ok(reply) = self.desks[place].lock(rt).frame(&frame) else {
+        let Ok(reply) = self.lock_desk(rt, place, vcid).frame(&frame) else {
             return Err(BringFault::NoMemory);
         };
         operator.raise(place, vcid);
@@ -162,7 +163,7 @@ impl Station {
         let Some(place) = place_of(&self.vcids, vcid) else {
             return Err(ReleaseRefused::UnknownChannel);
         };
-        let delivery = self.desks[place].lock(rt).release()?;
+        let delivery = self.lock_desk(rt, place, vcid).release()?;
         operator.raise(place, vcid);
         Ok(delivery)
     }
@@ -183,7 +184,7 @@ impl Station {
         let Some(place) = place_of(&self.vcids, vcid) else {
             return Err(TakeRefused::UnknownChannel);
         };
-        let packet = self.desks[place].lock(rt).take(apid)?;
+        let packet = self.lock_desk(rt, place, vcid).take(apid)?;
         operator.raise(place, vcid);
         Ok(packet)
     }
@@ -195,7 +196,7 @@ impl Station {
         let Some(place) = place_of(&self.vcids, vcid) else {
             return Err(WatcherFault::UnknownChannel);
         };
-        let Ok(watcher) = self.desks[place].lock(rt).watcher() else {
+        let Ok(watcher) = self.lock_desk(rt, place, vcid).watcher() else {
             return Err(WatcherFault::NoMemory);
         };
         Ok(watcher)
@@ -230,11 +231,26 @@ impl Station {
         let (place, Located { vcid, frame }) = self
             .place_frame(octets)
             .map_err(BringFault::Locate)?;
-        let Ok((reply, watcher)) = frame_watched(&mut self.desks[place].lock(rt), &frame) else {
+        let Ok((reply, watcher)) = frame_watched(&mut self.lock_desk(rt, place, vcid), &frame)
+        else {
             return Err(BringFault::NoMemory);
         };
         operator.raise(place, vcid);
         Ok((Brought { vcid, reply }, watcher))
+    }
+
+    // The desk of the channel at this place, behind its lock. Contracts know of what is under a lock just what its type says,
+    // so the desk is asked for its id; another's would never be given out.
+    fn lock_desk<R: Wait>(&self, rt: &R, place: usize, vcid: u8) -> MutexGuard<'_, Desk>
+        requires inside { place < length self.now.vcids }
+        ensures own { (mutex_guard_value result).channel.settings.vcid ≡ vcid }
+    {
+        let desk = self.desks[place].lock(rt);
+        if desk.channel().settings().vcid != vcid {
+            for _ in rt.forever() {}
+            unreachable!()
+        }
+        desk
     }
 
     /// Passes the gate once, under the lock of the channel if there is one.

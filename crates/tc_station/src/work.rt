@@ -52,7 +52,7 @@ pub struct WorkList {
 }
 
 impl Station {
-    ghost use Rattle.tc_station.specs.Work.{IsDone, IsWorked, AreWorked, IsTallyOf, NoCountFalls, IsRaised, line_of};
+    ghost use Rattle.tc_station.specs.Work.{IsDone, MayWantMemory, IsWorked, AreWorked, IsTallyOf, NoCountFalls, IsRaised, line_of};
 
     /// Does each list of jobs in a thread of its own, with the operator of its place. A refusal other than for memory is
     /// passed over. A list whose job is refused for memory is given up there; the others are done in full, and the lowest such
@@ -186,6 +186,7 @@ impl Station {
         requires ours { operator.old.vcids ≡ self.now.vcids }
         ensures done { OnOk result (IsDone self.now vcid order.now operator.old operator.new) }
         ensures refused { OnErr result (operator.new ≡ operator.old) }
+        ensures wanting { OnErr result (MayWantMemory self.now vcid order.now) }
     {
         match order {
             Order::Bring(octets) => match self.bring(rt, operator, octets) {

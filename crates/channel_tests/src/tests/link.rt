@@ -251,3 +251,22 @@ fn words_are_written_and_read(rt: HostRuntime) {
         assert_eq!(rt; read_clcw(word), None, "{word:08x}");
     }
 }
+
+#[test]
+fn each_pair_of_flags_is_written_and_read_back(rt: HostRuntime) {
+    for (bypass, control) in [(false, false), (false, true), (true, false), (true, true)] {
+        for (scid, vcid, ns) in [(0, 0, 0), (1023, 63, 255)] {
+            let header = Header {
+                bypass,
+                control,
+                scid,
+                vcid,
+                ns,
+            };
+            let octets = write_frame(rt.alloc(), &header, &[0]).expect(&rt, "octets");
+            let frame = read_frame(&octets).expect(&rt, "a frame");
+            assert_eq!(rt; frame.header(), header);
+            assert_eq!(rt; frame.field(), [0].as_slice());
+        }
+    }
+}

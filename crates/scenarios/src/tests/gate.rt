@@ -6,9 +6,10 @@ ghost use Rattle.tc_station.specs.Tally.{fresh};
 use super::*;
 use std::process::Abort;
 use std::sync::atomic::{AtomicBool, Ordering};
-use std::thread::yield_now;
+use std::thread::{join_mut, yield_now};
 use tc_channel::Octets;
 use tc_station::{Gate, Job, Order, WorkList};
+use tc_status::Watcher;
 
 // Whoever passes for channel 1 waits for one who passes for another channel, and the other way round, for so many turns
 // at most. Who didn't see the other says so.
@@ -126,4 +127,94 @@ fn who_passes_alone_says_so(rt: HostRuntime) {
     gate.pass(1);
     assert_eq!(rt; gate.came(), (true, false));
     assert!(rt; gate.has_run_out());
+}
+
+// Who passes for channel 1 says that it is inside, and then waits until it is told something, for so many turns at most. Others wait
+// until it is inside.
+#[derive(Drop)]
+struct Inside {
+    turns: u32,
+    inside: AtomicBool,
+    told: AtomicBool,
+    was_told: AtomicBool,
+}
+
+impl Inside {
+    fn new(turns: u32) -> Inside {
+        Inside {
+            turns,
+            inside: AtomicBool::new(false),
+            told: AtomicBool::new(false),
+            was_told: AtomicBool::new(false),
+        }
+    }
+}
+
+// Whether the flag is set within so many turns.
+fn comes_true(flag: &AtomicBool, turns: u32) -> bool {
+    for turn in 0..turns {
+        if flag.load(Ordering::SeqCst) {
+            return true;
+        }
+        if turn % 1024 == 1023 {
+            yield_now();
+        }
+    }
+    false
+}
+
+impl Gate for Inside {
+    fn pass(&self, vcid: u8) {
+        if vcid == 1 {
+            self.inside.store(true, Ordering::SeqCst);
+            if comes_true(&self.told, self.turns) {
+                self.was_told.store(true, Ordering::SeqCst);
+            }
+        } else {
+            comes_true(&self.inside, self.turns);
+        }
+    }
+}
+
+// Tells the gate when channel 2 was unlocked.
+fn tell_of_the_second(station: &Station, watcher: &mut Watcher, gate: &Inside) {
+    for turn in 0..100_000_000u32 {
+        if station.watch(watcher, NO_FLAG) == 0x01080200 {
+            gate.told.store(true, Ordering::SeqCst);
+            return;
+        }
+        if turn % 1024 == 1023 {
+            yield_now();
+        }
+    }
+}
+
+#[test]
+fn a_channel_is_worked_while_the_lock_of_another_is_held(rt: HostRuntime) {
+    let lists = two_unlocks(rt.alloc()).expect(&rt, "lists");
+    let (station, mut operators) = new_crew(&rt, rt.alloc());
+    let mut watcher = station.watcher(&rt, 2).expect(&rt, "a watcher");
+    let gate = Inside::new(100_000_000);
+    let mut work = || station.work(&rt, &gate, &mut operators, &lists);
+    let mut tell = || tell_of_the_second(&station, &mut watcher, &gate);
+    let (done, _) = join_mut(&rt, &mut work, &mut tell);
+    assert_eq!(rt; done, Ok(()));
+    assert!(rt; gate.was_told.load(Ordering::SeqCst));
+}
+
+#[test]
+fn who_passes_holds_the_lock(rt: HostRuntime) {
+    let lists = two_unlocks(rt.alloc()).expect(&rt, "lists");
+    let (station, mut operators) = new_crew(&rt, rt.alloc());
+    let gate = Inside::new(20_000_000);
+    let mut work = || station.work(&rt, &gate, &mut operators, &lists);
+    let mut intrude = || {
+        if comes_true(&gate.inside, 100_000_000) && station.watcher(&rt, 1).is_ok() {
+            gate.told.store(true, Ordering::SeqCst);
+        }
+    };
+    let (done, _) = join_mut(&rt, &mut work, &mut intrude);
+    assert_eq!(rt; done, Ok(()));
+    assert!(rt; gate.told.load(Ordering::SeqCst));
+    assert!(rt; !gate.was_told.load(Ordering::SeqCst));
 }

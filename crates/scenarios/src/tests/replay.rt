@@ -27,7 +27,7 @@ enum Bringing {
     Watched,
 }
 
-// A station for spacecraft 42 with virtual channels 1 and 2 and one operator.
+// A station for spacecraft 42 with virtual channels 2 and 1, in this order, and one operator.
 #[derive(Drop)]
 struct Crew {
     bringing: Bringing,
@@ -44,7 +44,7 @@ impl Crew {
         first: Settings,
         second: Settings,
     ) -> Crew {
-        let list = list_of_two(alloc, first, second).expect(rt, "a list");
+        let list = list_of_two(alloc, second, first).expect(rt, "a list");
         let mut station = Station::new(alloc, 42, list).expect(rt, "a station");
         let mut operators = station.operators(1).expect(rt, "operators");
         let operator = operators.pop().expect(rt, "an operator");
@@ -360,8 +360,8 @@ impl Replay {
         } = self;
         let channels = crew.close(rt, alloc);
         assert_eq!(rt; channels.len(), 2);
-        check_alike(rt, &channels[0], &first);
-        check_alike(rt, &channels[1], &second);
+        check_alike(rt, &channels[0], &second);
+        check_alike(rt, &channels[1], &first);
     }
 }
 

@@ -2,8 +2,9 @@ ghost use Rattle.std.specs.Prelude.{◌≡◌, ◌≤◌, ◌∷◌, [], IfOk};
 ghost use Rattle.tc_station.specs.Tally.{fresh};
 
 use super::*;
+use std::sync::atomic::{AtomicU32, Ordering};
 use tc_channel::{Event, Octets};
-use tc_station::{CloseFault, FreeGate, Job, Order, WorkFault, WorkList};
+use tc_station::{CloseFault, FreeGate, Gate, Job, Order, WorkFault, WorkList};
 
 const UNLOCK: [u8; 6] = [0x30, 0x2a, 0x04, 0x05, 0x00, 0x00];
 
@@ -92,7 +93,8 @@ fn growth_of_work(rt: HostRuntime) {
     assert_eq!(rt; channels[0].journal().len() as u64, first + second);
 }
 
-// Lists on channels 1, 2 and 9, of which the last isn't there.
+// Lists on channels 1, 2 and 9, of which the last isn't there. Before its Unlock the first asks for what is refused: a release of an
+// empty buffer, octets that are no frame, and a packet of an application without a queue.
 fn three_lists(alloc: Global) -> Result<[WorkList; 3], AllocError> {
     let release = Job {
         line: 2,
@@ -108,6 +110,14 @@ fn three_lists(alloc: Global) -> Result<[WorkList; 3], AllocError> {
     };
     let mut first = Vec::new(alloc);
     first.push(release)?;
+    first.push(Job {
+        line: 2,
+        order: Order::Bring(Octets::copied(alloc, &UNLOCK[..3])?),
+    })?;
+    first.push(Job {
+        line: 2,
+        order: Order::Take(6),
+    })?;
     first.push(unlock(alloc, 5)?)?;
     let mut second = Vec::new(alloc);
     second.push(take)?;
@@ -155,4 +165,46 @@ fn refusals_are_passed_over(rt: HostRuntime) {
     assert_eq!(rt; channels[0].journal().len(), 3);
     assert_eq!(rt; &channels[0].journal()[0], &unlock);
     assert_eq!(rt; channels[1].journal().len(), 0);
+}
+
+// Counts how often it is passed for channel 1, 2 and 9, and for any other.
+#[derive(Drop)]
+struct Counting {
+    first: AtomicU32,
+    second: AtomicU32,
+    ninth: AtomicU32,
+    other: AtomicU32,
+}
+
+impl Gate for Counting {
+    fn pass(&self, vcid: u8) {
+        let count = match vcid {
+            1 => &self.first,
+            2 => &self.second,
+            9 => &self.ninth,
+            _ => &self.other,
+        };
+        count.fetch_add(1, Ordering::SeqCst);
+    }
+}
+
+#[test]
+fn each_worker_passes_the_gate_once(rt: HostRuntime) {
+    let alloc = rt.alloc();
+    let lists = three_lists(alloc).expect(&rt, "lists");
+    let list = settings_of(alloc, &[1, 2]).expect(&rt, "settings");
+    let mut station = Station::new(alloc, 42, list).expect(&rt, "a station");
+    let mut operators = station.operators(3).expect(&rt, "operators");
+    let gate = Counting {
+        first: AtomicU32::new(0),
+        second: AtomicU32::new(0),
+        ninth: AtomicU32::new(0),
+        other: AtomicU32::new(0),
+    };
+    let done = station.work(&rt, &gate, &mut operators, &lists);
+    assert_eq!(rt; done, Ok(()));
+    assert_eq!(rt; gate.first.load(Ordering::SeqCst), 1);
+    assert_eq!(rt; gate.second.load(Ordering::SeqCst), 1);
+    assert_eq!(rt; gate.ninth.load(Ordering::SeqCst), 1);
+    assert_eq!(rt; gate.other.load(Ordering::SeqCst), 0);
 }

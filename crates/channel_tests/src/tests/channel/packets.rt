@@ -46,6 +46,23 @@ fn fill_after_a_frame(rt: HostRuntime) {
 }
 
 #[test]
+fn a_length_that_leaves_an_octet_as_fill(rt: HostRuntime) {
+    let octets = [
+        0x00, 0x2a, 0x04, 0x0b, 0x00, 0xc0, 0x10, 0x05, 0xc0, 0x00, 0x00, 0x00, 0xaa,
+    ];
+    let rest = Delivery {
+        queued: 0,
+        dropped: 0,
+        rest: true,
+    };
+    let steps = [
+        Filled(&octets, &octets[..12], accepted(1)),
+        Release(Ok(rest)),
+    ];
+    play(&rt, rt.alloc(), &steps)
+}
+
+#[test]
 fn octets_in_and_out(rt: HostRuntime) {
     let octets = Octets::copied(rt.alloc(), &PACKET).expect(&rt, "an answer");
     assert_eq!(&rt; octets.len(), 7);

@@ -1,0 +1,5 @@
+use Rattle.tc_channel.proofs.Words.{clcw-fits}
+use Rattle.tc_channel.proofs.laws.each_clcw_fits_its_word.Goals as goal
+
+pub returns : goal.returns
+returns c = clcw-fits
