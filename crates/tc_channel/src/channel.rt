@@ -159,6 +159,7 @@ impl Channel {
     /// How many data fields wait in the buffer.
     pub fn buffered(&self) -> usize
         ensures count { result ≡ length (buffered_fields self.now.settings self.now.journal) }
+        ensures allowed { IsAllowed self.now.settings }
         ensures lawful { IsLawful self.now.settings self.now.journal }
     {
         self.fields.len()
@@ -174,6 +175,7 @@ impl Channel {
     /// How many packets wait in the queue with this APID, if there is one.
     pub fn queued(&self, apid: u16) -> Option<usize>
         ensures count { result ≡ option_map length (waiting_packets self.now.settings self.now.journal apid) }
+        ensures allowed { IsAllowed self.now.settings }
         ensures lawful { IsLawful self.now.settings self.now.journal }
     {
         Some(self.waiting(apid)?.len())
@@ -182,6 +184,7 @@ impl Channel {
     // The packets that wait in the queue with this APID.
     fn waiting(&self, apid: u16) -> Option<&HeapCircularBuffer<Octets>>
         ensures packets { option_map (λ ring. ring.items) (option_copied result) ≡ waiting_packets self.now.settings self.now.journal apid }
+        ensures allowed { IsAllowed self.now.settings }
         ensures lawful { IsLawful self.now.settings self.now.journal }
     {
         Some(&find(&self.queues, apid)?.packets)
@@ -190,6 +193,7 @@ impl Channel {
     /// The events so far, the oldest first.
     pub fn journal(&self) -> &[Event]
         ensures journal { result.now ≡ self.now.journal }
+        ensures allowed { IsAllowed self.now.settings }
         ensures lawful { IsLawful self.now.settings self.now.journal }
     {
         &self.journal
@@ -199,6 +203,7 @@ impl Channel {
     pub fn settings(&self) -> &Settings
         ensures settings { result.now ≡ self.now.settings }
         ensures allowed { IsAllowed self.now.settings }
+        ensures lawful { IsLawful self.now.settings self.now.journal }
     {
         &self.settings
     }
