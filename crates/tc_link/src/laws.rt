@@ -38,7 +38,7 @@ pub fn each_arrival_has_an_entry()
     ensures release { (r : Report) → IsSome (entry E10 r) }
 {}
 
-/// V(R) changes by one where an expected frame is accepted, to the number of a Set V(R) in S1 or S2, and in no other way.
+/// Where V(R) changes, it is one more since an expected frame came in S1, or the number of a Set V(R) that came in S1 or S2.
 pub fn v_r_changes_by_acceptance_and_set_v_r_alone()
     ensures { (row : Row) (r : Report) → (after row r).vr ≢ r.vr
         → ((row ≡ E1) × (r.state ≡ S1) × ((after row r).vr ≡ (r.vr + 1) % 256))

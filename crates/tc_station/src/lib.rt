@@ -5,8 +5,9 @@
 //! of a desk has the contract of the channel's call. Whenever the lock is free, the word is the CLCW of the channel's journal,
 //! with both link flags 0; a watcher reads it without the lock.
 //!
-//! What is under a lock is known by its type, so a call of the [`Station`] promises less: what it answers is what FARM-1 and
-//! the queues answer at some lawful journal. [`Station::close`] ties the journals to the operators' counts.
+//! What is under a lock is known by its type and by the id that it is asked for, so a call of the [`Station`] promises less: what
+//! it answers is what FARM-1 and the queues answer at some lawful journal of a channel with that id. [`Station::close`] ties the
+//! journals to the operators' counts.
 #![tactic(auto)]
 
 mod closing;
