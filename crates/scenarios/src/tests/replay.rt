@@ -4,7 +4,7 @@ ghost use Rattle.std.specs.Prelude.{◌≡◌};
 
 use super::*;
 use std::process::Abort;
-use tc_channel::{Channel, Delivery, FrameReply, Octets, ReleaseFault, TakeFault};
+use tc_channel::{Channel, Delivery, Event, FrameReply, Octets, ReleaseFault, TakeFault};
 use tc_link::{FrameFault, read_frame};
 use tc_station::{BringFault, Brought, LocateFault, ReleaseRefused, TakeRefused};
 use tc_text::{Line, parse_line};
@@ -238,6 +238,28 @@ fn check_alike(rt: &impl Abort, closed: &Channel, alone: &Channel) {
     assert_eq!(rt; closed.queued(5), alone.queued(5));
 }
 
+// As many of these octets as their header tells a frame has, one more than the number in its ten bits of length.
+fn without_fill(octets: &[u8]) -> Option<&[u8]> {
+    let high = *octets.get(2)? & 3;
+    let low = *octets.get(3)?;
+    let length = usize::from(u16::from_be_bytes([high, low])).saturating_add(1);
+    octets.get(..length)
+}
+
+// The event that a journal has of an operation that is not refused. Nothing is noted of a CLCW, nor of octets without a frame.
+fn event_of(rt: &impl Abort, alloc: Global, line: &Line) -> Option<Event> {
+    match line {
+        Line::Frame(octets) => {
+            let frame = without_fill(octets.as_slice())?;
+            let frame = Vec::from_slice(alloc, frame).expect(rt, "the octets");
+            Some(Event::Frame(Octets::from(frame)))
+        }
+        Line::Release(_) => Some(Event::Release),
+        Line::Take(_, apid) => Some(Event::Take(*apid)),
+        _ => None,
+    }
+}
+
 // The same frame for virtual channel 2 in place of 1.
 fn for_channel_2(octets: Octets) -> Vec<u8> {
     let mut octets = octets.into_vec();
@@ -332,20 +354,22 @@ impl Replay {
         told.expect(rt, "a text")
     }
 
-    // Each line in turn, which is answered as expected; channel 1 has an event for each operation that was answered.
+    // Each line in turn, which is answered as expected; channel 1 has the event of each operation that was answered.
     fn play(&mut self, rt: &(impl Wait + Abort), row: &Row) {
         self.check_words(rt);
         let mut answers = row.answers.lines();
-        let mut events = 0usize;
+        let mut journal = Vec::new(self.alloc);
         for line in row.script.lines() {
             let line = parse_line(self.alloc, line.as_bytes()).expect(rt, "a line");
             let expected = answers.next().expect(rt, "an answer");
+            let event = event_of(rt, self.alloc, &line);
             let told = self.operate(rt, line);
             assert_eq!(rt; told.as_str(), expected, "{}", row.name);
-            if !expected.starts_with("refused ") && !expected.starts_with("clcw ") {
-                events = events.saturating_add(1);
+            if let Some(event) = event.filter(|_| !expected.starts_with("refused ")) {
+                journal.push(event).expect(rt, "a journal");
             }
-            assert_eq!(rt; self.first.journal().len(), events, "{}", row.name);
+            let alike = self.first.journal() == journal.as_slice();
+            assert!(rt; alike, "{}: the journal differs after {told}", row.name);
         }
         assert_eq!(rt; answers.next(), None, "{}", row.name);
     }
