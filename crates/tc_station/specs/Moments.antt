@@ -1,5 +1,5 @@
 -- What the calls of a station answer. Of a channel in its lock no more is known than that its settings are allowed and its
--- journal is lawful, so each answer is the reply at some moment of some channel.
+-- journal is lawful, so each answer is the reply at some moment of a channel with the id that was asked for.
 use Rattle.std.specs.Prelude.{◌≡◌, ◌≢◌, [], ℕ, List, Contains, Some}
 use Rattle.tc_channel.specs.declared.settings.Settings.{Settings}
 use Rattle.tc_channel.specs.declared.event.Event.{Event}
@@ -16,10 +16,6 @@ use Rattle.tc_station.specs.Location.{IsLocated}
 -- the journal of a channel with this id at some moment
 abbrev pub AtSomeMomentOf : ℕ → (Settings → List Event → Type 0) → Type 0
 AtSomeMomentOf vcid P = (s : Settings) × (journal : List Event) × IsAllowed s × IsLawful s journal × (s.vcid ≡ vcid) × P s journal
-
--- some channel's journal at some moment
-abbrev pub AtSomeMoment : (Settings → List Event → Type 0) → Type 0
-AtSomeMoment P = (s : Settings) × (journal : List Event) × IsAllowed s × IsLawful s journal × P s journal
 
 -- the octets were for this channel, and this is the reply to their frame
 abbrev pub IsBrought : Roster → List ℕ → ℕ → FrameReply → Type 0
