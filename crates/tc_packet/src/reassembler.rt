@@ -76,6 +76,7 @@ impl Reassembler {
         ensures run { (fields : List (List ℕ)) → open_run fields ≡ run_at self.old (stream_place service field.now)
             → OnOk result (run_at self.new (stream_place service field.now) ≡ open_run (fields ++ field.now ∷ [])) }
         ensures others { (other : ℕ) → (other ≡ stream_place service field.now → ⊥) → run_at self.new other ≡ run_at self.old other }
+        ensures limit_before { AreOpenRuns self.old }
         ensures limit { AreOpenRuns self.new }
         ensures refused { OnErr result (self.new ≡ self.old) }
     {
