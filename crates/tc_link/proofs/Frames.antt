@@ -1,6 +1,7 @@
 -- A header and a data field have one frame.
-use Rattle.std.proofs.Common.{◌≡◌, ℕ, zero, suc, ◌+◌, ◌*◌, ◌/◌, ◌%◌, ◌<◌, ◌≤◌, Bool, true, false, eqb, List, [], ◌∷◌, ◌++◌, length, refl, ap, sym, ◌∙◌, arith}
+use Rattle.std.proofs.Common.{◌≡◌, ℕ, zero, suc, ◌+◌, ◌*◌, ◌/◌, ◌%◌, ◌<◌, ◌≤◌, Bool, true, false, eqb, List, [], ◌∷◌, ◌++◌, drop, length, refl, ap, sym, subst, ◌∙◌, arith}
 use Rattle.std.proofs.lemmas.Bool.{eqb-true}
+use Rattle.std.proofs.lemmas.List.{get_or-drop, length-drop}
 use Rattle.tc_link.specs.declared.frame.Header.{Header}
 use Rattle.tc_link.specs.Bits.{bit}
 use Rattle.tc_link.specs.Frame.{IsOctets, IsFrame, IsHeader, IsField, header_of, version_of, spare_of, named_length}
@@ -112,3 +113,16 @@ only-frame (a ∷ b ∷ c ∷ d ∷ e ∷ one) (a' ∷ b' ∷ c' ∷ d' ∷ e' �
     let ia : a ≡ a' = omega arith in let ib : b ≡ b' = omega arith in let ic : c ≡ c' = omega arith in let id : d ≡ d' = omega arith in
     cc
 only-frame _ _ field header f g = let l = f.whole.least in let m = g.whole.least in absurd (omega arith)
+
+octets-drop : (n : ℕ) (xs : List ℕ) → IsOctets xs → IsOctets (drop n xs)
+octets-drop n xs each i = subst (λ (x : ℕ). x < 256) (sym (get_or-drop n xs i 0)) (each (n + i))
+
+-- the data field of a frame
+pub field-fits : (frame field : List ℕ) (header : Header) → IsFrame frame header field → IsField field
+field-fits frame field header f =
+    let least = f.whole.least in let most = f.whole.most in
+    subst IsField (sym f.rest) record {
+      each = octets-drop 5 frame f.whole.each;
+      least = omega (arith, length-drop 5 frame);
+      most = omega (arith, length-drop 5 frame);
+    }

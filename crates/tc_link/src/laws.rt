@@ -1,12 +1,12 @@
 //! Laws over the definitions of this layer.
 
-ghost use Rattle.std.specs.Prelude.{◌≡◌, ◌≢◌, ◌⊎◌, ◌<◌, ◌≤◌, ◌+◌, ◌%◌, ◌^◌, ◌++◌, ◌↔◌, ℕ, Bool, List, false, IsSome, IsTrue};
+ghost use Rattle.std.specs.Prelude.{◌≡◌, ◌≢◌, ◌⊎◌, ◌<◌, ◌≤◌, ◌+◌, ◌%◌, ◌^◌, ◌++◌, ◌↔◌, ℕ, Bool, List, None, false, IsSome, IsTrue};
 ghost use Rattle.tc_link.specs.declared.frame.Header.{Header};
 ghost use Rattle.tc_link.specs.declared.command.Kind.{Kind};
 ghost use Rattle.tc_link.specs.declared.farm.Report.{Report};
 ghost use Rattle.tc_link.specs.declared.farm.State.TheVariants.{S1, S2, S3};
 ghost use Rattle.tc_link.specs.declared.clcw.Link.{Link};
-ghost use Rattle.tc_link.specs.Frame.{IsFrame, IsHeader, IsField, IsWhole, BeginsWith};
+ghost use Rattle.tc_link.specs.Frame.{IsFrame, IsHeader, IsField, IsOctets, IsWhole, BeginsWith, write_fault_of};
 ghost use Rattle.tc_link.specs.Window.{some_of_first};
 ghost use Rattle.tc_link.specs.Farm.{Row, E1, E8, E10, entry, frame_row, after};
 ghost use Rattle.tc_link.specs.Clcw.{IsClcw, word_of, fields_of, reported};
@@ -16,14 +16,23 @@ pub fn each_input_begins_with_one_frame_at_most()
     ensures { (octets one other : List ℕ) → BeginsWith octets one → BeginsWith octets other → one ≡ other }
 {}
 
-/// A header and a data field have one frame, and no other.
+/// A header and a data field have a frame exactly where both fit one, each field of the header within its bits and the data
+/// field with 1 to 1,019 octets, and they have no second one.
 ///
-/// Where fill follows that frame, the frame is what the octets begin with.
+/// Where fill follows a frame, that frame is what the octets begin with, and no other.
 pub fn each_header_and_field_have_one_frame()
     ensures some { (header : Header) (field : List ℕ) → IsHeader header → IsField field → (frame : List ℕ) × IsFrame frame header field }
     ensures only { (one other field : List ℕ) (header : Header) → IsFrame one header field → IsFrame other header field → one ≡ other }
+    ensures header { (frame field : List ℕ) (header : Header) → IsFrame frame header field → IsHeader header }
+    ensures field { (frame field : List ℕ) (header : Header) → IsFrame frame header field → IsField field }
     ensures filled { (frame fill : List ℕ) → IsWhole frame → BeginsWith (frame ++ fill) frame }
     ensures no_other { (frame fill other : List ℕ) → IsWhole frame → BeginsWith (frame ++ fill) other → other ≡ frame }
+{}
+
+/// With N(S) and each octet below 256, as their types have them, a header and a data field that are to be written have no fault
+/// exactly where both fit a frame.
+pub fn just_what_fits_a_frame_has_no_write_fault()
+    ensures { (header : Header) (field : List ℕ) → header.ns < 256 → IsOctets field → (write_fault_of header field ≡ None) ↔ (IsHeader header × IsField field) }
 {}
 
 /// What the window calls "some k of the first n" is just that.
@@ -38,7 +47,8 @@ pub fn each_arrival_has_an_entry()
     ensures release { (r : Report) → IsSome (entry E10 r) }
 {}
 
-/// Where V(R) changes, it is one more since an expected frame came in S1, or the number of a Set V(R) that came in S1 or S2.
+/// Where V(R) changes, it is one more modulo 256 since an expected frame came in S1, or the number of a Set V(R) that came in
+/// S1 or S2.
 pub fn v_r_changes_by_acceptance_and_set_v_r_alone()
     ensures { (row : Row) (r : Report) → (after row r).vr ≢ r.vr
         → ((row ≡ E1) × (r.state ≡ S1) × ((after row r).vr ≡ (r.vr + 1) % 256))
