@@ -1,9 +1,13 @@
--- Each packet of a unit is queued or dropped.
-use Rattle.std.proofs.Common.{◌≡◌, ℕ, ◌+◌, ◌≤◌, List, length, map, Option, Some, None, refl, arith}
+-- How many packets of a unit are queued and dropped, and that queues which are given the same packet have the same APID.
+use Rattle.std.proofs.Common.{◌≡◌, ℕ, ◌+◌, ◌≤◌, true, eqb, List, length, map, filter, Option, Some, None, refl, sym, subst, ◌∙◌, arith}
+use Rattle.std.specs.List.{All, Contains}
+use Rattle.std.proofs.lemmas.Bool.{and_parts, eqb-true}
+use Rattle.std.proofs.lemmas.List.Elements.{All-take, filter_passes}
 use Rattle.tc_channel.specs.declared.settings.Settings.{Settings}
 use Rattle.tc_channel.specs.declared.event.Event.{Event}
-use Rattle.tc_channel.specs.Admission.{packets_in, queued_of}
-use Rattle.tc_packet.specs.SpacePacket.{packets_of}
+use Rattle.tc_channel.specs.ChannelState.{Queue}
+use Rattle.tc_channel.specs.Admission.{is_for, packets_in, queued_of, room_of, share_of}
+use Rattle.tc_packet.specs.SpacePacket.{apid_of, is_telecommand, packets_of}
 use Rattle.tc_channel.specs.PacketQueues.{apids_of, held, AreDistinct}
 use Rattle.tc_channel.specs.Reply.{delivery_of}
 use Rattle.tc_channel.specs.Run.{run}
@@ -23,3 +27,14 @@ pub all-told : (s : Settings) (journal : List Event) (unit : Option (List ℕ)) 
     → (delivery_of unit (run s journal).queues).queued + (delivery_of unit (run s journal).queues).dropped ≡ length (packets_in unit)
 all-told s journal None allowed = refl
 all-told s journal (Some unit) allowed = omega (arith, queued-few s journal (packets_of unit) allowed)
+
+-- what a queue is given has its APID
+share-apid : (packets : List (List ℕ)) (q : Queue) (packet : List ℕ) → Contains (share_of packets q) packet → apid_of packet ≡ q.apid
+share-apid packets q packet given =
+    let each : All (λ (p : List ℕ). is_for q.apid p ≡ true) (share_of packets q) =
+    All-take (λ (p : List ℕ). is_for q.apid p ≡ true) (room_of q) (filter (is_for q.apid) packets) (filter_passes (is_for q.apid) packets) in
+    let passes : is_for q.apid packet ≡ true = subst (λ (p : List ℕ). is_for q.apid p ≡ true) given.2 (each given.0 packet given.1) in
+    eqb-true (apid_of packet) q.apid (and_parts (is_telecommand packet) (eqb (apid_of packet) q.apid) passes).1
+
+pub same-apid : (packets : List (List ℕ)) (one other : Queue) (packet : List ℕ) → Contains (share_of packets one) packet → Contains (share_of packets other) packet → one.apid ≡ other.apid
+same-apid packets one other packet given also = sym (share-apid packets one packet given) ∙ share-apid packets other packet also

@@ -1,11 +1,11 @@
 //! Laws over the definitions.
 
 ghost use Rattle.std.specs.Prelude.{List, ℕ, ◌≡◌, ◌≤◌, ◌<◌, ◌+◌, ◌^◌, ◌++◌, Option, length};
-ghost use Rattle.tc_channel.specs.ChannelState.{buffer};
-ghost use Rattle.std.specs.List.{AllByRecursion};
+ghost use Rattle.tc_channel.specs.ChannelState.{Queue, buffer};
+ghost use Rattle.std.specs.List.{AllByRecursion, Contains};
 ghost use Rattle.tc_link.specs.Frame.{IsWhole};
 ghost use Rattle.tc_link.specs.declared.Link.{Link};
-ghost use Rattle.tc_channel.specs.Admission.{packets_in};
+ghost use Rattle.tc_channel.specs.Admission.{packets_in, share_of};
 ghost use Rattle.tc_channel.specs.Reply.{clcw, delivery_of};
 ghost use Rattle.tc_channel.specs.declared.settings.Settings.{Settings};
 ghost use Rattle.tc_channel.specs.declared.event.Event.{Event};
@@ -52,9 +52,11 @@ pub fn buffer_keeps_to_its_size()
     ensures { (s : Settings) (journal : List Event) → length (buffer (run s journal)) ≤ s.buffer }
 {}
 
-/// What a unit is cut into is queued or dropped, each packet once.
+/// Where settings are allowed, of the packets that a unit is cut into the queued and the dropped are together as many as there
+/// are. Queues that are given the same packet have the same APID.
 pub fn each_packet_is_queued_or_dropped()
-    ensures { (s : Settings) (journal : List Event) (unit : Option (List ℕ)) → IsAllowed s → (delivery_of unit (run s journal).queues).queued + (delivery_of unit (run s journal).queues).dropped ≡ length (packets_in unit) }
+    ensures count { (s : Settings) (journal : List Event) (unit : Option (List ℕ)) → IsAllowed s → (delivery_of unit (run s journal).queues).queued + (delivery_of unit (run s journal).queues).dropped ≡ length (packets_in unit) }
+    ensures apid { (packets : List (List ℕ)) (one other : Queue) (packet : List ℕ) → Contains (share_of packets one) packet → Contains (share_of packets other) packet → one.apid ≡ other.apid }
 {}
 
 /// A CLCW has 32 bits.

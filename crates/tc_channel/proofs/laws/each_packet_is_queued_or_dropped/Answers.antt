@@ -1,5 +1,8 @@
-use Rattle.tc_channel.proofs.Delivered.{all-told}
+use Rattle.tc_channel.proofs.Delivered.{all-told, same-apid}
 use Rattle.tc_channel.proofs.laws.each_packet_is_queued_or_dropped.Goals as goal
 
-pub returns : goal.returns
-returns c = all-told
+pub returns-clause-count : goal.returns-clause-count
+returns-clause-count c = all-told
+
+pub returns-clause-apid : goal.returns-clause-apid
+returns-clause-apid c = same-apid
