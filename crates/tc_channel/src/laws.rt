@@ -29,7 +29,8 @@ pub fn each_journal_has_an_era()
     ensures { (s : Settings) (journal : List Event) → (before : List Event) × (later : List Event) × (x : ℕ) × IsEra s journal before later x }
 {}
 
-/// The frames that were accepted since V(R) was set have consecutive numbers, and V(R) is the next one.
+/// In a lawful journal of allowed settings the AD frames that were accepted since V(R) was last set by a Set V(R) that was
+/// obeyed, or else since the start, have consecutive numbers modulo 256 from that V(R) on, and V(R) is the next one.
 pub fn accepted_frames_count_up()
     ensures { (s : Settings) (journal : List Event) → IsAllowed s → IsLawful s journal → CountsUpInItsEra s journal }
 {}
@@ -59,7 +60,7 @@ pub fn each_packet_is_queued_or_dropped()
     ensures apid { (packets : List (List ℕ)) (one other : Queue) (packet : List ℕ) → Contains (share_of packets one) packet → Contains (share_of packets other) packet → one.apid ≡ other.apid }
 {}
 
-/// A CLCW has 32 bits.
+/// The CLCW of a lawful journal of allowed settings fits 32 bits.
 pub fn each_clcw_fits_its_word()
     ensures { (s : Settings) (journal : List Event) (link : Link) → IsAllowed s → IsLawful s journal → clcw s journal link < 2 ^ 32 }
 {}

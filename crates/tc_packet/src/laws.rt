@@ -16,17 +16,19 @@ pub fn each_input_begins_with_one_packet_at_most()
     ensures { (octets : List ℕ) (n m : ℕ) → IsPacket (take n octets) → IsPacket (take m octets) → take n octets ≡ take m octets }
 {}
 
-/// The open run of a stream is what its fields join to from a first segment on, all after it continuing.
+/// A stream has an open run where its fields end with a first segment and continuing ones that join to no more octets than
+/// the limit, and that is what they join to.
 pub fn an_open_run_looks_back_over_its_stream()
     ensures { (fields : List (List ℕ)) (octets : List ℕ) → (open_run fields ≡ Some octets) ↔ IsOpenRun fields octets }
 {}
 
-/// The unit that a field ends is its own body, or what its stream joins to from a first segment on.
+/// A field ends a unit where it is unsegmented, or a last segment after an open run, and the unit is within the limit: its
+/// own body, or that run and its body.
 pub fn a_unit_looks_back_over_its_stream()
     ensures { (fields : List (List ℕ)) (field octets : List ℕ) → (unit_at fields field ≡ Some octets) ↔ IsUnit fields field octets }
 {}
 
-/// Fields leave just the runs within the limit open, on each MAP, and end just such units.
+/// Fields leave just the runs within the limit open, on each MAP, and no unit that they end is beyond it.
 pub fn each_run_within_the_limit_is_left_by_fields()
     ensures left { (map : ℕ) (run : Option (List ℕ)) → map < 64 → IsWithinLimit run → IsLeftByFields map run }
     ensures only { (fields : List (List ℕ)) → IsWithinLimit (open_run fields) }

@@ -6,8 +6,9 @@ ghost use lib.ListN.{get_elem?};
 ghost use Rattle.tc_status.specs.declared.board.View.{View};
 ghost use Rattle.tc_status.specs.Board.{IsBoard, IsBeginning, status_word};
 
-/// At every moment of a board: the word is the CLCW of what the publisher has published, and what each seat has seen has
-/// the same settings and a journal with which the published one begins. A seat that was joined to another is excepted.
+/// Where the rule of a board holds: the word is the CLCW of what the publisher has published, with both flags of the link 0,
+/// and what each seat has seen has the same settings and a journal with which the published one begins. A seat that was
+/// joined to another is excepted.
 pub fn each_seat_is_behind_the_publisher()
     ensures word { (words : List ℕ) (views : List View) (p : View) → IsBoard words views → get_elem? views 0 ≡ some p → words ≡ status_word p.seen ∷ [] }
     ensures behind { (words : List ℕ) (views : List View) (p : View) (id : ℕ) (v : View) → IsBoard words views → get_elem? views 0 ≡ some p → get_elem? views id ≡ some v → v.live ≡ true → IsBeginning v.seen p.seen }
