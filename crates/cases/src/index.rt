@@ -2,7 +2,7 @@
 
 ghost use Rattle.std.specs.Prelude.{◌≤◌, IfSome};
 
-use tc_text::spacecraft_id;
+use tc_text::SpacecraftId;
 
 /// A script, and how it is to end.
 #[derive(Clone, Copy, Debug)]
@@ -23,6 +23,6 @@ pub fn parse_case(line: &str) -> Option<Case<'_>>
         Some(parts) => parts,
         None => (rest, ""),
     };
-    let scid = spacecraft_id(number.parse::<u16>().ok()?)?;
+    let scid = SpacecraftId::new(number.parse::<u16>().ok()?)?.number;
     Some(Case { name, scid, fault })
 }

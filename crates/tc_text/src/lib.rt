@@ -12,4 +12,4 @@ mod word;
 pub use fault::{Reason, ScriptFault};
 pub use line::{Line, parse_line};
 pub use reading::{MAX_OCTETS, next_line, read_whole};
-pub use spacecraft::spacecraft_id;
+pub use spacecraft::SpacecraftId;

@@ -1,47 +1,40 @@
 //! The command line.
 
-ghost use Rattle.std.specs.Prelude.{◌≤◌, IfOk, IfSome};
-ghost use Rattle.tcrx.specs.Action.{IsAllowed};
-
 use clap::error::ErrorKind;
 use clap::{Arg, ArgAction, ArgMatches, Command, Error, value_parser};
 use std::alloc::Global;
 use std::convert::AsStr;
-use tc_text::spacecraft_id;
+use tc_text::SpacecraftId;
 
 /// What a command line asks for.
 #[derive(Clone, Copy, Debug, PartialEq, Eq)]
 pub(crate) enum Action {
     /// Do a script for the spacecraft.
-    Run { scid: u16 },
+    Run { spacecraft: SpacecraftId },
     /// Do a script for the spacecraft, with a worker for each channel.
-    Parallel { scid: u16 },
+    Parallel { spacecraft: SpacecraftId },
 }
 
 /// What the words ask for, the program's name first. An error is what to print: help, or why the
 /// words are refused.
-pub(crate) fn judge<'a, S: AsStr>(alloc: Global, words: &'a [S]) -> Result<Action, Error>
-    ensures { IfOk result IsAllowed }
-{
+pub(crate) fn judge<'a, S: AsStr>(alloc: Global, words: &'a [S]) -> Result<Action, Error> {
     let mut command = command(alloc)?;
     let matches = command.try_get_matches_from_mut(words)?;
     if let Some(("run", found)) = matches.subcommand() {
-        if let Some(scid) = scid_of(found) {
-            return Ok(Action::Run { scid });
+        if let Some(spacecraft) = spacecraft_of(found) {
+            return Ok(Action::Run { spacecraft });
         }
     }
     if let Some(("parallel", found)) = matches.subcommand() {
-        if let Some(scid) = scid_of(found) {
-            return Ok(Action::Parallel { scid });
+        if let Some(spacecraft) = spacecraft_of(found) {
+            return Ok(Action::Parallel { spacecraft });
         }
     }
     Err(command.error(ErrorKind::MissingSubcommand, "no command is given")?)
 }
 
-fn scid_of(matches: &ArgMatches) -> Option<u16>
-    ensures { IfSome result (λ scid. scid ≤ 1023) }
-{
-    spacecraft_id(matches.get_one::<u16>("scid")?)
+fn spacecraft_of(matches: &ArgMatches) -> Option<SpacecraftId> {
+    SpacecraftId::new(matches.get_one::<u16>("scid")?)
 }
 
 fn command<'a>(alloc: Global) -> Result<Command<'a>, Error> {

@@ -1,8 +1,6 @@
 //! `tcrx`: a telecommand receiver that does a script from standard input.
 #![tactic(auto)]
 
-ghost use Rattle.std.specs.Prelude.{◌≤◌};
-
 mod command_line;
 
 use command_line::{Action, judge};
@@ -14,6 +12,7 @@ use std::thread::Threads;
 use std::{env, io};
 use tc_cli::{Reason, ScriptFault, parallel_script, run_script};
 use tc_station::FreeGate;
+use tc_text::SpacecraftId;
 
 /// The exit status of a bad command line.
 const BAD_COMMAND_LINE: u8 = 2;
@@ -39,8 +38,8 @@ fn obey<R: AllocGlobal + Input + Print + Eprint + Threads + Wait + Sync>(
     words: &[String],
 ) -> ExitCode {
     match judge(rt.alloc(), words) {
-        Ok(Action::Run { scid }) => tell(rt, run(rt, scid)),
-        Ok(Action::Parallel { scid }) => tell(rt, parallel(rt, scid)),
+        Ok(Action::Run { spacecraft }) => tell(rt, run(rt, spacecraft)),
+        Ok(Action::Parallel { spacecraft }) => tell(rt, parallel(rt, spacecraft)),
         Err(answer) => match answer.print(rt) {
             Ok(()) => ExitCode::from(answer.exit_code() as u8),
             Err(_) => ExitCode::from(BAD_COMMAND_LINE),
@@ -64,21 +63,26 @@ const NO_WRITER: ScriptFault = ScriptFault::Line {
     reason: Reason::NoMemory,
 };
 
-fn run<R: AllocGlobal + Input + Print + Wait>(rt: &R, scid: u16) -> Result<(), ScriptFault>
-    requires { scid ≤ 1023 }
-{
+fn run<R: AllocGlobal + Input + Print + Wait>(
+    rt: &R,
+    spacecraft: SpacecraftId,
+) -> Result<(), ScriptFault> {
     let Ok(mut writer) = BufWriter::new(rt.alloc(), io::writer(rt)) else {
         return Err(NO_WRITER);
     };
-    run_script(rt, rt.alloc(), scid, &mut rt.reader(), &mut writer)
+    run_script(
+        rt,
+        rt.alloc(),
+        spacecraft.number,
+        &mut rt.reader(),
+        &mut writer,
+    )
 }
 
 fn parallel<R: AllocGlobal + Input + Print + Threads + Wait + Sync>(
     rt: &R,
-    scid: u16,
-) -> Result<(), ScriptFault>
-    requires { scid ≤ 1023 }
-{
+    spacecraft: SpacecraftId,
+) -> Result<(), ScriptFault> {
     let Ok(mut writer) = BufWriter::new(rt.alloc(), io::writer(rt)) else {
         return Err(NO_WRITER);
     };
@@ -86,7 +90,7 @@ fn parallel<R: AllocGlobal + Input + Print + Threads + Wait + Sync>(
         rt,
         rt.alloc(),
         &FreeGate,
-        scid,
+        spacecraft.number,
         &mut rt.reader(),
         &mut writer,
     )
