@@ -1,4 +1,4 @@
-use Rattle.std.proofs.Common.{◌≡◌, ◌∷◌, refl, ◌∙◌, ap}
+use Rattle.std.proofs.Common.{◌≡◌, ◌∷◌, refl, ◌∙◌, ap, rules}
 use Rattle.std.proofs.lemmas.Result.{err_from_is_err_and}
 use Rattle.tc_text.specs.Word.{words}
 use Rattle.tc_text.specs.Line.{queue_of}
@@ -12,3 +12,6 @@ returns-in_err-no_more-clause-reason c =
     let e = ap queue_of all ∙ more in
     let p = err_from_is_err_and c.from_residual-in_err-no_more.result c.from_residual-in_err-no_more.ensures.1 in
     rw (p.1, p.2) (rw c.in_err-no_more.ensures.some.0 e)
+
+pub returns-clause-line : goal.returns-clause-line
+returns-clause-line c = search rules steps 1000000

@@ -11,3 +11,6 @@ returns c =
     let number : c.loop-digit.number ≡ spelled c.args.word.now = c.loop-digit.invariant.0 ∙ ap spelled whole in
     let filled : 0 < length c.args.word.now = grind (arith, nat_tests) in
     decimal_of-spelled _ _ filled c.if-word-gt-MAX_DIGITS.false (c.if-not-are_digits.ensures) number
+
+pub loop-digit-preserved : goal.loop-digit-preserved
+loop-digit-preserved c = grind (arith, common_steps) steps 1000000
