@@ -3,7 +3,7 @@ mod longest;
 mod replay;
 mod rows;
 mod sharing;
-mod watching;
+mod six_threads;
 
 ghost use Rattle.std.specs.Prelude.{◌≡◌, ◌∷◌, [], IfOk};
 ghost use Rattle.tc_station.specs.StationSettings.{vcids_of};

@@ -30,7 +30,7 @@ pub(super) fn ad_frame(third: u8, ns: u8) -> [u8; 13] {
 
 // Brings a frame and releases its channel, whose buffer the other thread may have emptied by then. Says whether nothing
 // else was refused.
-pub(super) fn bring_and_release(
+fn bring_and_release(
     rt: &impl Wait,
     station: &Station,
     operator: &mut Operator,
