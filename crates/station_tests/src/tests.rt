@@ -12,7 +12,7 @@ ghost use Rattle.tc_station.specs.StationSettings.{vcids_of};
 
 use std::alloc::{AllocError, Global};
 use std::process::Abort;
-use tc_channel::{Delivery, FrameReply, Items, QueueSetting, Settings};
+use tc_channel::{Delivery, Event, FrameReply, Items, Octets, QueueSetting, Settings};
 use tc_link::{Act, Link};
 use tc_station::{Operator, Station};
 
@@ -42,7 +42,18 @@ const FRAME: [u8; 13] = [
     0x00, 0x2a, 0x04, 0x0c, 0x00, 0xc0, 0x10, 0x05, 0xc0, 0x00, 0x00, 0x00, 0xaa,
 ];
 
-// The same for spacecraft 43, or for virtual channel 2, or for both.
+// As `FRAME`, with N(S) 1.
+const NEXT: [u8; 13] = [
+    0x00, 0x2a, 0x04, 0x0c, 0x01, 0xc0, 0x10, 0x05, 0xc0, 0x00, 0x00, 0x00, 0xaa,
+];
+
+// A BD frame for the same channel with two packets.
+const TWO_PACKETS: [u8; 20] = [
+    0x20, 0x2a, 0x04, 0x13, 0x00, 0xc0, 0x10, 0x05, 0xc0, 0x00, 0x00, 0x00, 0xaa, 0x10, 0x05, 0xc0,
+    0x01, 0x00, 0x00, 0xbb,
+];
+
+// As `FRAME`, for spacecraft 43, or for virtual channel 2, or for both.
 const OTHER_SPACECRAFT: [u8; 13] = [
     0x00, 0x2b, 0x04, 0x0c, 0x00, 0xc0, 0x10, 0x05, 0xc0, 0x00, 0x00, 0x00, 0xaa,
 ];
@@ -64,13 +75,44 @@ const BUFFERED: FrameReply = FrameReply {
     delivery: NOTHING,
 };
 
-// The window 10, one buffered field, V(R) 0 first, and a queue of capacity 1 for APID 5. One growth may be refused.
+// The reply to a frame that finds no room.
+const NO_ROOM: FrameReply = FrameReply {
+    act: Act {
+        event: 2,
+        accepted: false,
+    },
+    delivery: NOTHING,
+};
+
+// The reply to a frame that comes again.
+const BEHIND: FrameReply = FrameReply {
+    act: Act {
+        event: 4,
+        accepted: false,
+    },
+    delivery: NOTHING,
+};
+
+// The reply to `TWO_PACKETS`.
+const BYPASSED: FrameReply = FrameReply {
+    act: Act {
+        event: 6,
+        accepted: true,
+    },
+    delivery: Delivery {
+        queued: 2,
+        dropped: 0,
+        rest: false,
+    },
+};
+
+// The window 10, one buffered field, V(R) 0 first, and a queue of capacity 2 for APID 5. One growth may be refused.
 fn settings(alloc: Global, vcid: u8) -> Result<Settings, AllocError>
     ensures { IfOk result (λ s. s.vcid ≡ vcid) }
 {
     let queue = QueueSetting {
         apid: 5,
-        capacity: 1,
+        capacity: 2,
     };
     let queues = match Vec::from_slice(alloc, &[queue]) {
         Ok(queues) => queues,
@@ -83,6 +125,23 @@ fn settings(alloc: Global, vcid: u8) -> Result<Settings, AllocError>
         first: 0,
         queues: Items::from(queues),
     })
+}
+
+// The event of a frame with these octets. One growth may be refused.
+fn frame_event(alloc: Global, octets: &[u8]) -> Result<Event, AllocError> {
+    match Octets::copied(alloc, octets) {
+        Ok(copy) => Ok(Event::Frame(copy)),
+        Err(_) => Ok(Event::Frame(Octets::copied(alloc, octets)?)),
+    }
+}
+
+// Appends to a journal. One growth may be refused.
+fn note(journal: &mut Vec<Event>, event: Event) -> Result<(), AllocError> {
+    if journal.reserve(1).is_err() {
+        journal.reserve(1)?;
+    }
+    journal.push(event)?;
+    Ok(())
 }
 
 // Settings for each of these virtual channels. One growth may be refused.

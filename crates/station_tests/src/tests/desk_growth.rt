@@ -2,55 +2,26 @@
 
 use super::*;
 use tc_channel::{NoMemory, ReleaseFault, SettingsFault, TakeFault};
-use tc_link::read_frame;
+use tc_link::{Report, read_frame};
 use tc_station::Desk;
 use tc_status::Watcher;
 
-// What a desk tells of its channel, and a watcher of the desk.
+// What a desk tells of its channel, apart from its journal, and what a watcher of the desk reads.
 #[derive(Clone, Copy, Debug, PartialEq, Eq)]
 struct Told {
-    events: usize,
-    // The CLCW by the channel and by the watcher.
+    report: Report,
     word: u32,
-    read: u32,
     fields: usize,
     packets: Option<usize>,
 }
 
-const AT_FIRST: Told = Told {
-    events: 0,
-    word: 0x01040000,
-    read: 0x01040000,
-    fields: 0,
-    packets: Some(0),
-};
-
-const AFTER_THE_FRAME: Told = Told {
-    events: 1,
-    word: 0x01040001,
-    read: 0x01040001,
-    fields: 1,
-    packets: Some(0),
-};
-
-const AFTER_THE_RELEASE: Told = Told {
-    events: 2,
-    fields: 0,
-    packets: Some(1),
-    ..AFTER_THE_FRAME
-};
-
-const AT_LAST: Told = Told {
-    events: 3,
-    packets: Some(0),
-    ..AFTER_THE_RELEASE
-};
-
-// A desk and a watcher of its board.
+// A desk and a watcher of its board, and the journal that its channel must have.
 #[derive(Drop)]
 struct Short {
+    alloc: Global,
     desk: Desk,
     watcher: Watcher,
+    journal: Vec<Event>,
 }
 
 fn new_desk(rt: &(impl Abort + Print), alloc: Global) -> Desk {
@@ -78,67 +49,105 @@ impl Short {
     fn new(rt: &(impl Abort + Print), alloc: Global) -> Short {
         let mut desk = new_desk(rt, alloc);
         let watcher = new_watcher(rt, &mut desk);
-        Short { desk, watcher }
+        Short {
+            alloc,
+            desk,
+            watcher,
+            journal: Vec::new(alloc),
+        }
     }
 
-    fn check(&mut self, rt: &impl Abort, told: Told) {
+    fn told(&mut self) -> Told {
         let channel = self.desk.channel();
-        let found = Told {
-            events: channel.journal().len(),
-            word: channel.clcw(NO_FLAG),
-            read: self.watcher.read(),
+        Told {
+            report: channel.report(),
+            word: self.watcher.read(),
             fields: channel.buffered(),
             packets: channel.queued(5),
-        };
-        assert_eq!(rt; found, told);
+        }
     }
 
-    fn frame(&mut self, rt: &(impl Abort + Print)) {
-        let frame = read_frame(&FRAME).expect(rt, "an answer");
+    // The journal is the one expected, and this is told of the rest.
+    fn check(&mut self, rt: &impl Abort, told: Told) {
+        assert_eq!(rt; self.desk.channel().journal(), self.journal.as_slice());
+        assert_eq!(rt; self.told(), told);
+    }
+
+    // An operation was answered: the journal has its event, and the CLCW is this one, by the channel and by the watcher.
+    fn answered(&mut self, rt: &impl Abort, event: Event, word: u32) {
+        note(&mut self.journal, event).expect(rt, "a journal");
+        assert_eq!(rt; self.desk.channel().journal(), self.journal.as_slice());
+        assert_eq!(rt; self.desk.channel().clcw(NO_FLAG), word);
+        assert_eq!(rt; self.watcher.read(), word);
+    }
+
+    fn frame(&mut self, rt: &(impl Abort + Print), octets: &[u8], expected: FrameReply, word: u32) {
+        let told = self.told();
+        let frame = read_frame(octets).expect(rt, "a frame");
         let reply = match self.desk.frame(&frame) {
             Ok(reply) => reply,
             Err(NoMemory) => {
-                let _ = println!(rt; "refused: Desk::frame");
-                self.check(rt, AT_FIRST);
+                let _ = println!(rt; "refused: Desk::frame, event {}", expected.act.event);
+                self.check(rt, told);
                 self.desk.frame(&frame).expect(rt, "an answer")
             }
         };
-        assert_eq!(rt; reply, BUFFERED);
+        assert_eq!(rt; reply, expected);
+        let event = frame_event(self.alloc, octets).expect(rt, "an event");
+        self.answered(rt, event, word)
     }
 
-    fn release(&mut self, rt: &(impl Abort + Print)) {
+    fn release(&mut self, rt: &(impl Abort + Print), word: u32) {
+        let told = self.told();
         let delivery = match self.desk.release() {
             Ok(delivery) => delivery,
             Err(fault) => {
                 let _ = println!(rt; "refused: Desk::release");
                 assert_eq!(rt; fault, ReleaseFault::NoMemory);
-                self.check(rt, AFTER_THE_FRAME);
+                self.check(rt, told);
                 self.desk.release().expect(rt, "an answer")
             }
         };
         assert_eq!(rt; delivery, ONE);
+        self.answered(rt, Event::Release, word)
     }
 
-    fn take(&mut self, rt: &(impl Abort + Print)) {
+    fn take(&mut self, rt: &(impl Abort + Print), word: u32) {
+        let told = self.told();
         let packet = match self.desk.take(5) {
             Ok(packet) => packet,
             Err(fault) => {
                 let _ = println!(rt; "refused: Desk::take");
                 assert_eq!(rt; fault, TakeFault::NoMemory);
-                self.check(rt, AFTER_THE_RELEASE);
+                self.check(rt, told);
                 self.desk.take(5).expect(rt, "an answer")
             }
         };
         assert_eq!(rt; packet.as_slice(), PACKET.as_slice());
+        self.answered(rt, Event::Take(5), word)
     }
 
+    // Nothing is left to release or to take, and nothing is noted of the refusals.
+    fn check_empty(&mut self, rt: &impl Abort) {
+        let told = self.told();
+        assert_eq!(rt; self.desk.take(5).err(), Some(TakeFault::Empty));
+        assert_eq!(rt; self.desk.release(), Err(ReleaseFault::Empty));
+        self.check(rt, told)
+    }
+
+    // The journal grows with the first event and with the fifth, which is a take: it makes no other growth.
     fn operate(&mut self, rt: &(impl Abort + Print)) {
-        self.check(rt, AT_FIRST);
-        self.frame(rt);
-        self.check(rt, AFTER_THE_FRAME);
-        self.release(rt);
-        self.check(rt, AFTER_THE_RELEASE);
-        self.take(rt)
+        self.frame(rt, &FRAME, BUFFERED, 0x01040001);
+        self.release(rt, 0x01040001);
+        self.take(rt, 0x01040001);
+        self.check_empty(rt);
+        self.frame(rt, &TWO_PACKETS, BYPASSED, 0x01040201);
+        self.take(rt, 0x01040201);
+        self.frame(rt, &NEXT, BUFFERED, 0x01040202);
+        let mut octets = NEXT;
+        octets[4] = 2;
+        self.frame(rt, &octets, NO_ROOM, 0x01041a02);
+        self.release(rt, 0x01040a02)
     }
 }
 
@@ -146,7 +155,5 @@ impl Short {
 fn growth_of_each_call_of_a_desk(rt: HostRuntime) {
     let mut short = Short::new(&rt, rt.alloc());
     short.operate(&rt);
-    assert_eq!(rt; short.desk.take(5).err(), Some(TakeFault::Empty));
-    assert_eq!(rt; short.desk.release(), Err(ReleaseFault::Empty));
-    short.check(&rt, AT_LAST);
+    assert_eq!(rt; short.told().packets, Some(2));
 }

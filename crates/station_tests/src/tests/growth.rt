@@ -5,7 +5,6 @@ ghost use Rattle.tc_station.specs.Tally.{fresh};
 
 use super::*;
 use std::sync::Wait;
-use tc_channel::{Event, Octets};
 use tc_station::{
     BringFault, Brought, CloseFault, OperatorsFault, ReleaseRefused, StationFault, TakeRefused,
     WatcherFault,
@@ -61,14 +60,6 @@ fn new_watcher(rt: &(impl Wait + Abort + Print), station: &Station) -> Watcher {
     }
 }
 
-// A copy, where one growth may be refused.
-fn copied(alloc: Global, octets: &[u8]) -> Result<Octets, AllocError> {
-    match Octets::copied(alloc, octets) {
-        Ok(copy) => Ok(copy),
-        Err(_) => Octets::copied(alloc, octets),
-    }
-}
-
 impl Short {
     fn new(rt: &(impl Wait + Abort + Print), alloc: Global) -> Short {
         let mut station = new_station(rt, alloc);
@@ -95,54 +86,58 @@ impl Short {
         assert_eq!(rt; self.word(), word);
     }
 
-    fn note(&mut self, event: Event) -> Result<(), AllocError> {
-        if self.journal.reserve(1).is_err() {
-            self.journal.reserve(1)?;
-        }
-        self.journal.push(event)?;
-        Ok(())
-    }
-
-    fn bring(&mut self, rt: &(impl Wait + Abort + Print), reply: FrameReply, word: u32) {
+    fn bring(
+        &mut self,
+        rt: &(impl Wait + Abort + Print),
+        frame: &[u8],
+        reply: FrameReply,
+        word: u32,
+    ) {
         let before = self.word();
-        let brought = match self.station.bring(rt, &mut self.operator, &FRAME) {
+        let brought = match self.station.bring(rt, &mut self.operator, frame) {
             Ok(brought) => brought,
             Err(fault) => {
                 let _ = println!(rt; "refused: bring, event {}", reply.act.event);
                 assert_eq!(rt; fault, BringFault::NoMemory);
                 self.check(rt, before);
                 self.station
-                    .bring(rt, &mut self.operator, &FRAME)
+                    .bring(rt, &mut self.operator, frame)
                     .expect(rt, "an answer")
             }
         };
         assert_eq!(rt; brought, Brought { vcid: 1, reply });
-        let octets = copied(self.alloc, &FRAME).expect(rt, "an answer");
-        self.note(Event::Frame(octets)).expect(rt, "an answer");
+        let event = frame_event(self.alloc, frame).expect(rt, "an event");
+        note(&mut self.journal, event).expect(rt, "a journal");
         self.check(rt, word);
     }
 
-    fn bring_watched(&mut self, rt: &(impl Wait + Abort + Print), reply: FrameReply, word: u32) {
+    fn bring_watched(
+        &mut self,
+        rt: &(impl Wait + Abort + Print),
+        frame: &[u8],
+        reply: FrameReply,
+        word: u32,
+    ) {
         let before = self.word();
-        let (brought, mut own) = match self.station.bring_watched(rt, &mut self.operator, &FRAME) {
+        let (brought, mut own) = match self.station.bring_watched(rt, &mut self.operator, frame) {
             Ok(answer) => answer,
             Err(fault) => {
                 let _ = println!(rt; "refused: bring_watched, event {}", reply.act.event);
                 assert_eq!(rt; fault, BringFault::NoMemory);
                 self.check(rt, before);
                 self.station
-                    .bring_watched(rt, &mut self.operator, &FRAME)
+                    .bring_watched(rt, &mut self.operator, frame)
                     .expect(rt, "an answer")
             }
         };
         assert_eq!(rt; brought, Brought { vcid: 1, reply });
         assert_eq!(rt; own.read(), word);
-        let octets = copied(self.alloc, &FRAME).expect(rt, "an answer");
-        self.note(Event::Frame(octets)).expect(rt, "an answer");
+        let event = frame_event(self.alloc, frame).expect(rt, "an event");
+        note(&mut self.journal, event).expect(rt, "a journal");
         self.check(rt, word);
     }
 
-    fn release(&mut self, rt: &(impl Wait + Abort + Print)) {
+    fn release(&mut self, rt: &(impl Wait + Abort + Print), word: u32) {
         let before = self.word();
         let delivery = match self.station.release(rt, &mut self.operator, 1) {
             Ok(delivery) => delivery,
@@ -156,8 +151,8 @@ impl Short {
             }
         };
         assert_eq!(rt; delivery, ONE);
-        self.note(Event::Release).expect(rt, "an answer");
-        self.check(rt, before);
+        note(&mut self.journal, Event::Release).expect(rt, "a journal");
+        self.check(rt, word);
     }
 
     fn take(&mut self, rt: &(impl Wait + Abort + Print)) {
@@ -174,23 +169,28 @@ impl Short {
             }
         };
         assert_eq!(rt; packet.as_slice(), PACKET.as_slice());
-        self.note(Event::Take(5)).expect(rt, "an answer");
+        note(&mut self.journal, Event::Take(5)).expect(rt, "a journal");
         self.check(rt, before);
     }
 
     // The journal grows with the first event and with the fifth, which is the take: it makes no other growth.
     fn operate(&mut self, rt: &(impl Wait + Abort + Print)) {
-        self.bring(rt, BUFFERED, 0x01040001);
-        self.bring(rt, BEHIND, 0x01040001);
-        self.bring(rt, BEHIND, 0x01040001);
-        self.release(rt);
+        self.bring(rt, &FRAME, BUFFERED, 0x01040001);
+        self.bring(rt, &NEXT, NO_ROOM, 0x01041801);
+        self.bring(rt, &FRAME, BEHIND, 0x01041801);
+        self.release(rt, 0x01040801);
+        self.take(rt);
+        self.bring(rt, &TWO_PACKETS, BYPASSED, 0x01040a01);
         self.take(rt)
     }
 
     fn operate_watched(&mut self, rt: &(impl Wait + Abort + Print)) {
-        self.bring_watched(rt, BUFFERED, 0x01040001);
-        self.release(rt);
-        self.bring_watched(rt, BEHIND, 0x01040001)
+        self.bring_watched(rt, &FRAME, BUFFERED, 0x01040001);
+        self.bring_watched(rt, &NEXT, NO_ROOM, 0x01041801);
+        self.release(rt, 0x01040801);
+        self.take(rt);
+        self.bring_watched(rt, &FRAME, BEHIND, 0x01040801);
+        self.bring_watched(rt, &TWO_PACKETS, BYPASSED, 0x01040a01)
     }
 
     // Closes the station, whose channel has the journal that it must have.
@@ -253,15 +253,6 @@ fn growth_of_operators(rt: HostRuntime) {
     };
     assert_eq!(rt; channels.len(), 1);
 }
-
-// The reply to a frame that comes again.
-const BEHIND: FrameReply = FrameReply {
-    act: Act {
-        event: 4,
-        accepted: false,
-    },
-    delivery: NOTHING,
-};
 
 #[test]
 fn growth_of_each_call_of_a_station(rt: HostRuntime) {

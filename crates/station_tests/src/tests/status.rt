@@ -2,11 +2,6 @@ use super::*;
 use tc_link::read_frame;
 use tc_station::{Brought, Desk};
 
-// As `FRAME`, with N(S) 1.
-const NEXT: [u8; 13] = [
-    0x00, 0x2a, 0x04, 0x0c, 0x01, 0xc0, 0x10, 0x05, 0xc0, 0x00, 0x00, 0x00, 0xaa,
-];
-
 #[test]
 fn a_watcher_that_met_its_desk_reads_the_frame(rt: HostRuntime) {
     let alloc = rt.alloc();
