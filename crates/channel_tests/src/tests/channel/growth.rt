@@ -11,15 +11,12 @@ fn copied(alloc: Global, octets: &[u8]) -> Result<Octets, AllocError> {
     }
 }
 
-// Room for one field, and a queue of capacity 2 for APID 5.
+// Room for one field, a queue of capacity 2 for APID 5, and one of capacity 1 for APID 6 and for APID 7.
 fn settings(alloc: Global) -> Result<Settings, AllocError> {
-    let queue = QueueSetting {
-        apid: 5,
-        capacity: 2,
-    };
-    let queues = match Vec::from_slice(alloc, &[queue]) {
+    let queues = [(5, 2), (6, 1), (7, 1)].map(|(apid, capacity)| QueueSetting { apid, capacity });
+    let queues = match Vec::from_slice(alloc, &queues) {
         Ok(queues) => queues,
-        Err(_) => Vec::from_slice(alloc, &[queue])?,
+        Err(_) => Vec::from_slice(alloc, &queues)?,
     };
     Ok(Settings {
         vcid: 1,
@@ -35,7 +32,8 @@ fn settings(alloc: Global) -> Result<Settings, AllocError> {
 struct Told {
     report: Report,
     buffered: usize,
-    queued: Option<usize>,
+    // For APID 5 and for APID 7.
+    queued: [Option<usize>; 2],
 }
 
 // A channel, and the journal that it must have.
@@ -68,7 +66,7 @@ impl Short {
         Told {
             report: self.channel.report(),
             buffered: self.channel.buffered(),
-            queued: self.channel.queued(5),
+            queued: [self.channel.queued(5), self.channel.queued(7)],
         }
     }
 
@@ -110,12 +108,13 @@ impl Short {
         assert_eq!(rt; self.channel.journal(), self.journal.as_slice());
     }
 
-    fn release(&mut self, rt: &(impl Abort + Print), delivery: Delivery) {
+    // Releases a unit of this kind.
+    fn release(&mut self, rt: &(impl Abort + Print), unit: &str, delivery: Delivery) {
         let told = self.told();
         let answer = match self.channel.release() {
             Ok(answer) => answer,
             Err(fault) => {
-                let _ = println!(rt; "refused: release");
+                let _ = println!(rt; "refused: release, {unit}");
                 assert_eq!(rt; fault, ReleaseFault::NoMemory);
                 self.check(rt, told);
                 self.channel.release().expect(rt, "an answer")
@@ -126,19 +125,19 @@ impl Short {
         assert_eq!(rt; self.channel.journal(), self.journal.as_slice());
     }
 
-    fn take(&mut self, rt: &(impl Abort + Print), packet: &[u8]) {
+    fn take(&mut self, rt: &(impl Abort + Print), apid: u16, packet: &[u8]) {
         let told = self.told();
-        let answer = match self.channel.take(5) {
+        let answer = match self.channel.take(apid) {
             Ok(answer) => answer,
             Err(fault) => {
                 let _ = println!(rt; "refused: take");
                 assert_eq!(rt; fault, TakeFault::NoMemory);
                 self.check(rt, told);
-                self.channel.take(5).expect(rt, "an answer")
+                self.channel.take(apid).expect(rt, "an answer")
             }
         };
         assert_eq!(rt; answer.as_slice(), packet);
-        self.note(Event::Take(5)).expect(rt, "an answer");
+        self.note(Event::Take(apid)).expect(rt, "an answer");
         assert_eq!(rt; self.channel.journal(), self.journal.as_slice());
     }
 }
@@ -148,6 +147,11 @@ const TWO_PACKETS: [u8; 20] = [
     0x20, 0x2a, 0x04, 0x13, 0x00, 0xc0, 0x10, 0x05, 0xc0, 0x00, 0x00, 0x00, 0xaa, 0x10, 0x05, 0xc0,
     0x01, 0x00, 0x00, 0xbb,
 ];
+
+// AD frames with N(S) 1 and 2, whose segments are the two parts of `PACKET`.
+const FIRST_PART: [u8; 9] = [0x00, 0x2a, 0x04, 0x08, 0x01, 0x40, 0x10, 0x05, 0xc0];
+
+const LAST_PART: [u8; 10] = [0x00, 0x2a, 0x04, 0x09, 0x02, 0x80, 0x00, 0x00, 0x00, 0xaa];
 
 #[test]
 fn growth_of_a_new_channel(rt: HostRuntime) {
@@ -164,9 +168,9 @@ fn growth_of_each_call_of_a_channel(rt: HostRuntime) {
         }
         short.frame(&rt, &ad_frame(0), accepted(1), NOTHING);
         short.compare(&rt, 0x01040001, 1, 0);
-        short.release(&rt, ONE);
+        short.release(&rt, "one packet", ONE);
         short.compare(&rt, 0x01040001, 0, 1);
-        short.take(&rt, &PACKET);
+        short.take(&rt, 5, &PACKET);
         short.compare(&rt, 0x01040001, 0, 0);
     }
 }
@@ -181,6 +185,7 @@ fn growth_of_a_frame_without_room(rt: HostRuntime) {
     short.compare(&rt, 0x01041801, 1, 0);
 }
 
+// First both are for APID 5, in a BD frame; then the second is for APID 7, in an AD frame.
 #[test]
 fn growth_of_a_unit_of_two_packets(rt: HostRuntime) {
     let mut short = Short::new(&rt, rt.alloc());
@@ -191,7 +196,30 @@ fn growth_of_a_unit_of_two_packets(rt: HostRuntime) {
     };
     short.frame(&rt, &TWO_PACKETS, accepted(6), delivery);
     short.compare(&rt, 0x01040200, 0, 2);
-    short.take(&rt, &PACKET);
-    short.take(&rt, &[0x10, 0x05, 0xc0, 0x01, 0x00, 0x00, 0xbb]);
+    short.take(&rt, 5, &PACKET);
+    short.take(&rt, 5, &TWO_PACKETS[13..]);
     short.compare(&rt, 0x01040200, 0, 0);
+    let mut octets = TWO_PACKETS;
+    octets[0] = 0x00;
+    octets[14] = 0x07;
+    short.frame(&rt, &octets, accepted(1), NOTHING);
+    short.release(&rt, "two packets", delivery);
+    short.compare(&rt, 0x01040201, 0, 1);
+    short.take(&rt, 7, &octets[13..]);
+    short.take(&rt, 5, &PACKET);
+    short.compare(&rt, 0x01040201, 0, 0);
+}
+
+#[test]
+fn growth_of_a_unit_of_two_segments(rt: HostRuntime) {
+    let mut short = Short::new(&rt, rt.alloc());
+    short.frame(&rt, &ad_frame(0), accepted(1), NOTHING);
+    short.release(&rt, "one packet", ONE);
+    short.frame(&rt, &FIRST_PART, accepted(1), NOTHING);
+    short.release(&rt, "first segment", NOTHING);
+    short.frame(&rt, &LAST_PART, accepted(1), NOTHING);
+    short.release(&rt, "two segments", ONE);
+    short.compare(&rt, 0x01040003, 0, 2);
+    short.take(&rt, 5, &PACKET);
+    short.take(&rt, 5, &PACKET);
 }
