@@ -36,6 +36,17 @@ struct Told {
     queued: [Option<usize>; 2],
 }
 
+// A call of a channel and what it answers.
+#[derive(Clone, Copy, Debug)]
+enum Call<'a> {
+    Frame(&'a [u8], Act, Delivery),
+    // Of a unit of this kind.
+    Release(&'a str, Delivery),
+    Take(u16, &'a [u8]),
+    // The CLCW, how many fields are buffered, and how many packets wait for APID 5.
+    Compare(u32, usize, usize),
+}
+
 // A channel, and the journal that it must have.
 #[derive(Drop)]
 struct Short {
@@ -140,6 +151,17 @@ impl Short {
         self.note(Event::Take(apid)).expect(rt, "an answer");
         assert_eq!(rt; self.channel.journal(), self.journal.as_slice());
     }
+    // Each call in turn.
+    fn play(&mut self, rt: &(impl Abort + Print), calls: &[Call]) {
+        for call in calls {
+            match *call {
+                Call::Frame(octets, act, delivery) => self.frame(rt, octets, act, delivery),
+                Call::Release(unit, delivery) => self.release(rt, unit, delivery),
+                Call::Take(apid, packet) => self.take(rt, apid, packet),
+                Call::Compare(word, fields, packets) => self.compare(rt, word, fields, packets),
+            }
+        }
+    }
 }
 
 // A BD frame with two packets for APID 5.
@@ -185,41 +207,43 @@ fn growth_of_a_frame_without_room(rt: HostRuntime) {
     short.compare(&rt, 0x01041801, 1, 0);
 }
 
+const TWO: Delivery = Delivery { queued: 2, ..ONE };
+
 // First both are for APID 5, in a BD frame; then the second is for APID 7, in an AD frame.
 #[test]
 fn growth_of_a_unit_of_two_packets(rt: HostRuntime) {
-    let mut short = Short::new(&rt, rt.alloc());
-    let delivery = Delivery {
-        queued: 2,
-        dropped: 0,
-        rest: false,
-    };
-    short.frame(&rt, &TWO_PACKETS, accepted(6), delivery);
-    short.compare(&rt, 0x01040200, 0, 2);
-    short.take(&rt, 5, &PACKET);
-    short.take(&rt, 5, &TWO_PACKETS[13..]);
-    short.compare(&rt, 0x01040200, 0, 0);
     let mut octets = TWO_PACKETS;
     octets[0] = 0x00;
     octets[14] = 0x07;
-    short.frame(&rt, &octets, accepted(1), NOTHING);
-    short.release(&rt, "two packets", delivery);
-    short.compare(&rt, 0x01040201, 0, 1);
-    short.take(&rt, 7, &octets[13..]);
-    short.take(&rt, 5, &PACKET);
-    short.compare(&rt, 0x01040201, 0, 0);
+    let calls = [
+        Call::Frame(&TWO_PACKETS, accepted(6), TWO),
+        Call::Compare(0x01040200, 0, 2),
+        Call::Take(5, &PACKET),
+        Call::Take(5, &TWO_PACKETS[13..]),
+        Call::Compare(0x01040200, 0, 0),
+        Call::Frame(&octets, accepted(1), NOTHING),
+        Call::Release("two packets", TWO),
+        Call::Compare(0x01040201, 0, 1),
+        Call::Take(7, &octets[13..]),
+        Call::Take(5, &PACKET),
+        Call::Compare(0x01040201, 0, 0),
+    ];
+    Short::new(&rt, rt.alloc()).play(&rt, &calls)
 }
 
 #[test]
 fn growth_of_a_unit_of_two_segments(rt: HostRuntime) {
-    let mut short = Short::new(&rt, rt.alloc());
-    short.frame(&rt, &ad_frame(0), accepted(1), NOTHING);
-    short.release(&rt, "one packet", ONE);
-    short.frame(&rt, &FIRST_PART, accepted(1), NOTHING);
-    short.release(&rt, "first segment", NOTHING);
-    short.frame(&rt, &LAST_PART, accepted(1), NOTHING);
-    short.release(&rt, "two segments", ONE);
-    short.compare(&rt, 0x01040003, 0, 2);
-    short.take(&rt, 5, &PACKET);
-    short.take(&rt, 5, &PACKET);
+    let first = ad_frame(0);
+    let calls = [
+        Call::Frame(&first, accepted(1), NOTHING),
+        Call::Release("one packet", ONE),
+        Call::Frame(&FIRST_PART, accepted(1), NOTHING),
+        Call::Release("first segment", NOTHING),
+        Call::Frame(&LAST_PART, accepted(1), NOTHING),
+        Call::Release("two segments", ONE),
+        Call::Compare(0x01040003, 0, 2),
+        Call::Take(5, &PACKET),
+        Call::Take(5, &PACKET),
+    ];
+    Short::new(&rt, rt.alloc()).play(&rt, &calls)
 }
