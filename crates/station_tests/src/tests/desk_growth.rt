@@ -15,6 +15,16 @@ struct Told {
     packets: Option<usize>,
 }
 
+// A call of a desk, what a frame is answered, and the CLCW after it.
+#[derive(Clone, Copy, Debug)]
+enum Call<'a> {
+    Frame(&'a [u8], FrameReply, u32),
+    Release(u32),
+    Take(u32),
+    // Nothing is left to release or to take.
+    Empty,
+}
+
 // A desk and a watcher of its board, and the journal that its channel must have.
 #[derive(Drop)]
 struct Short {
@@ -135,25 +145,36 @@ impl Short {
         self.check(rt, told)
     }
 
-    // The journal grows with the first event and with the fifth, which is a take: it makes no other growth.
-    fn operate(&mut self, rt: &(impl Abort + Print)) {
-        self.frame(rt, &FRAME, BUFFERED, 0x01040001);
-        self.release(rt, 0x01040001);
-        self.take(rt, 0x01040001);
-        self.check_empty(rt);
-        self.frame(rt, &TWO_PACKETS, BYPASSED, 0x01040201);
-        self.take(rt, 0x01040201);
-        self.frame(rt, &NEXT, BUFFERED, 0x01040202);
-        let mut octets = NEXT;
-        octets[4] = 2;
-        self.frame(rt, &octets, NO_ROOM, 0x01041a02);
-        self.release(rt, 0x01040a02)
+    // Each call in turn.
+    fn play(&mut self, rt: &(impl Abort + Print), calls: &[Call]) {
+        for call in calls {
+            match *call {
+                Call::Frame(octets, reply, word) => self.frame(rt, octets, reply, word),
+                Call::Release(word) => self.release(rt, word),
+                Call::Take(word) => self.take(rt, word),
+                Call::Empty => self.check_empty(rt),
+            }
+        }
     }
 }
 
+// The journal grows with the first event and with the fifth, which is a take: it makes no other growth.
 #[test]
 fn growth_of_each_call_of_a_desk(rt: HostRuntime) {
+    let mut third = NEXT;
+    third[4] = 2;
+    let calls = [
+        Call::Frame(&FRAME, BUFFERED, 0x01040001),
+        Call::Release(0x01040001),
+        Call::Take(0x01040001),
+        Call::Empty,
+        Call::Frame(&TWO_PACKETS, BYPASSED, 0x01040201),
+        Call::Take(0x01040201),
+        Call::Frame(&NEXT, BUFFERED, 0x01040202),
+        Call::Frame(&third, NO_ROOM, 0x01041a02),
+        Call::Release(0x01040a02),
+    ];
     let mut short = Short::new(&rt, rt.alloc());
-    short.operate(&rt);
+    short.play(&rt, &calls);
     assert_eq!(rt; short.told().packets, Some(2));
 }

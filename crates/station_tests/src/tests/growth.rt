@@ -11,6 +11,15 @@ use tc_station::{
 };
 use tc_status::Watcher;
 
+// A call of a station, what a frame is answered, and the CLCW after it.
+#[derive(Clone, Copy, Debug)]
+enum Call<'a> {
+    Bring(&'a [u8], FrameReply, u32),
+    BringWatched(&'a [u8], FrameReply, u32),
+    Release(u32),
+    Take,
+}
+
 // A station of one channel with one operator and one watcher, and the journal that the channel must have.
 #[derive(Drop)]
 struct Short {
@@ -173,24 +182,18 @@ impl Short {
         self.check(rt, before);
     }
 
-    // The journal grows with the first event and with the fifth, which is the take: it makes no other growth.
-    fn operate(&mut self, rt: &(impl Wait + Abort + Print)) {
-        self.bring(rt, &FRAME, BUFFERED, 0x01040001);
-        self.bring(rt, &NEXT, NO_ROOM, 0x01041801);
-        self.bring(rt, &FRAME, BEHIND, 0x01041801);
-        self.release(rt, 0x01040801);
-        self.take(rt);
-        self.bring(rt, &TWO_PACKETS, BYPASSED, 0x01040a01);
-        self.take(rt)
-    }
-
-    fn operate_watched(&mut self, rt: &(impl Wait + Abort + Print)) {
-        self.bring_watched(rt, &FRAME, BUFFERED, 0x01040001);
-        self.bring_watched(rt, &NEXT, NO_ROOM, 0x01041801);
-        self.release(rt, 0x01040801);
-        self.take(rt);
-        self.bring_watched(rt, &FRAME, BEHIND, 0x01040801);
-        self.bring_watched(rt, &TWO_PACKETS, BYPASSED, 0x01040a01)
+    // Each call in turn.
+    fn play(&mut self, rt: &(impl Wait + Abort + Print), calls: &[Call]) {
+        for call in calls {
+            match *call {
+                Call::Bring(frame, reply, word) => self.bring(rt, frame, reply, word),
+                Call::BringWatched(frame, reply, word) => {
+                    self.bring_watched(rt, frame, reply, word)
+                }
+                Call::Release(word) => self.release(rt, word),
+                Call::Take => self.take(rt),
+            }
+        }
     }
 
     // Closes the station, whose channel has the journal that it must have.
@@ -254,16 +257,34 @@ fn growth_of_operators(rt: HostRuntime) {
     assert_eq!(rt; channels.len(), 1);
 }
 
+// The journal grows with the first event and with the fifth, which is a take: it makes no other growth.
 #[test]
 fn growth_of_each_call_of_a_station(rt: HostRuntime) {
+    let calls = [
+        Call::Bring(&FRAME, BUFFERED, 0x01040001),
+        Call::Bring(&NEXT, NO_ROOM, 0x01041801),
+        Call::Bring(&FRAME, BEHIND, 0x01041801),
+        Call::Release(0x01040801),
+        Call::Take,
+        Call::Bring(&TWO_PACKETS, BYPASSED, 0x01040a01),
+        Call::Take,
+    ];
     let mut short = Short::new(&rt, rt.alloc());
-    short.operate(&rt);
+    short.play(&rt, &calls);
     short.close(&rt)
 }
 
 #[test]
 fn growth_of_watched_frames(rt: HostRuntime) {
+    let calls = [
+        Call::BringWatched(&FRAME, BUFFERED, 0x01040001),
+        Call::BringWatched(&NEXT, NO_ROOM, 0x01041801),
+        Call::Release(0x01040801),
+        Call::Take,
+        Call::BringWatched(&FRAME, BEHIND, 0x01040801),
+        Call::BringWatched(&TWO_PACKETS, BYPASSED, 0x01040a01),
+    ];
     let mut short = Short::new(&rt, rt.alloc());
-    short.operate_watched(&rt);
+    short.play(&rt, &calls);
     short.close(&rt)
 }
