@@ -5,6 +5,7 @@ use super::{ANSWERS, REPORT, SCRIPT};
 use std::alloc::Global;
 use std::process::Abort;
 use std::sync::Wait;
+use std::thread::Threads;
 use tc_cli::{Line, Reason, ScriptFault, parallel_script, parse_line, run_script};
 use tc_station::FreeGate;
 
@@ -91,23 +92,41 @@ fn report_growth(rt: HostRuntime) {
     check_script(&rt, script, report, 4, 4);
 }
 
-/// Nothing is written unless the whole script is done.
-#[test]
-fn parallel_script_growth(rt: HostRuntime) {
-    let mut found = room(&rt, rt.alloc());
-    let mut reader = SCRIPT.as_bytes();
-    let done = parallel_script(&rt, rt.alloc(), &FreeGate, 42, &mut reader, &mut found);
+// Does a script in parallel. Where a growth is refused, that is told at line 0, as the script is read, or from the first to the
+// last of these lines, and nothing is written.
+fn check_parallel<R: Threads + Wait + Sync + Abort + Print + AllocGlobal>(
+    rt: &R,
+    script: &str,
+    report: &str,
+    first: u32,
+    last: u32,
+) {
+    let mut found = room(rt, rt.alloc());
+    let mut reader = script.as_bytes();
+    let done = parallel_script(rt, rt.alloc(), &FreeGate, 42, &mut reader, &mut found);
     if let Err(fault) = done {
         let ScriptFault::Line { line, reason } = fault else {
             panic!(rt; "another fault");
         };
         let _ = println!(rt; "refused: parallel_script, {fault}");
         assert_eq!(rt; reason, Reason::NoMemory);
-        assert!(rt; line <= 11);
+        assert!(rt; line == 0 || (first <= line && line <= last));
         assert!(rt; found.is_empty());
-        let mut reader = SCRIPT.as_bytes();
-        let done = parallel_script(&rt, rt.alloc(), &FreeGate, 42, &mut reader, &mut found);
+        let mut reader = script.as_bytes();
+        let done = parallel_script(rt, rt.alloc(), &FreeGate, 42, &mut reader, &mut found);
         assert_eq!(rt; done, Ok(()));
     }
-    assert_eq!(rt; found.as_slice(), REPORT.as_bytes());
+    assert_eq!(rt; found.as_slice(), report.as_bytes());
+}
+
+#[test]
+fn parallel_script_growth(rt: HostRuntime) {
+    check_parallel(&rt, SCRIPT, REPORT, 1, 11);
+}
+
+/// The comments make no growth, so each that is refused is one of the last line.
+#[test]
+fn parallel_growth_after_comments(rt: HostRuntime) {
+    let script = "# one\n# two\n# three\nchannel 1 10 1 0\n";
+    check_parallel(&rt, script, "final 1 01040000 events 0 buffered 0\n", 4, 4);
 }
