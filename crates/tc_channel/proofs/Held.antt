@@ -6,7 +6,7 @@ use Rattle.circular_buffer.specs.Buffer.{Buffer}
 use Rattle.tc_link.specs.declared.Kind.{Kind}
 use Rattle.tc_link.specs.Frame.{IsWhole, header_of}
 use Rattle.tc_link.specs.Command.{kind_of}
-use Rattle.tc_link.specs.Farm.{Machine, Row, E1, E2, E3, E4, E5, E6, E7, E8, E9, E10, number_of, frame_row, entry, accepts, after}
+use Rattle.tc_link.specs.Farm.{Row, E1, E2, E3, E4, E5, E6, E7, E8, E9, E10, number_of, frame_row, entry, accepts, after}
 use Rattle.tc_channel.specs.declared.settings.Settings.{Settings}
 use Rattle.tc_channel.specs.declared.event.Event.{Event}
 use Rattle.tc_channel.specs.declared.event.Event.TheVariants.{Frame, Release, Take}
@@ -16,7 +16,7 @@ use Rattle.tc_packet.specs.declared.Service.TheVariants.{Ad}
 use Rattle.tc_channel.specs.Journal.{History}
 use Rattle.tc_channel.specs.Reply.{buffered_fields}
 use Rattle.tc_channel.specs.Admission.{packets_in}
-use Rattle.tc_channel.specs.Channel.{Holds, Runs, Follows, FollowsKind, Ends, EndsAtOnce, buffered_of, with_field}
+use Rattle.tc_channel.specs.Channel.{Inside, Holds, Follows, FollowsKind, Ends, EndsAtOnce, buffered_of, with_field}
 use Rattle.tc_link.specs.declared.Act.{Act}
 use Rattle.tc_channel.specs.declared.queues.Copied.{Copied}
 use Rattle.tc_channel.specs.declared.queues.PacketQueue.{PacketQueue}
@@ -52,10 +52,10 @@ pub state-counted : (c : Settings) (journal : List Event) → IsLawful c journal
 unfolding run IsLawful
 state-counted c journal lawful = run_from-counted c (first_state c) journal (omega arith) lawful
 
-pub oldest-filled : (c : Settings) (j : List Event) (farm : Machine) (ring : Buffer (List ℕ)) (runs : Runs) (rings : List PacketQueue) → Holds c j farm ring runs rings → 0 < length ring.items → 0 < length (first_of ring.items)
-oldest-filled c j farm ring runs rings k some =
+pub oldest-filled : {c : Settings} {j : List Event} {i : Inside} → Holds c j i → 0 < length i.ring.items → 0 < length (first_of i.ring.items)
+oldest-filled {c} {j} {i} k some =
     let b = run c j in
-    let len : length ring.items ≡ length (buffer b) = ap length k.fields in
+    let len : length i.ring.items ≡ length (buffer b) = ap length k.fields in
     rw k.fields (first-filled (drop b.released b.accepted) (filled-drop b.released b.accepted (state-filled c j k.lawful)) (omega (arith, length-map (drop b.released b.accepted) (λ (a : Accepted). a.field))))
 
 -- what a row leaves in the buffer
@@ -80,29 +80,29 @@ buffer-kept E9 accepted octets b h = refl
 buffer-kept E10 accepted octets b h = refl
 
 -- the row that FARM-1 is asked for is that of the book
-pub row-is : (c : Settings) (j : List Event) (farm : Machine) (ring : Buffer (List ℕ)) (runs : Runs) (rings : List PacketQueue) (octets : List ℕ) (kind : Kind) (len capacity : ℕ)
-    → Holds c j farm ring runs rings → kind ≡ kind_of (header_of octets) (drop 5 octets) → len ≡ length ring.items → capacity ≡ ring.capacity
-    → frame_row farm.width farm.report.vr kind (nat_lt len capacity) ≡ row_of c (run c j) octets
-row-is c j farm ring runs rings octets kind len capacity k kind_is len_is capacity_is =
-    let fields : length ring.items ≡ length (buffer (run c j)) = ap length k.fields in
+pub row-is : {c : Settings} {j : List Event} {i : Inside} (octets : List ℕ) (kind : Kind) (len capacity : ℕ)
+    → Holds c j i → kind ≡ kind_of (header_of octets) (drop 5 octets) → len ≡ length i.ring.items → capacity ≡ i.ring.capacity
+    → frame_row i.farm.width i.farm.report.vr kind (nat_lt len capacity) ≡ row_of c (run c j) octets
+row-is {c} {j} {i} octets kind len capacity k kind_is len_is capacity_is =
+    let fields : length i.ring.items ≡ length (buffer (run c j)) = ap length k.fields in
     rw (k.width, k.report, kind_is, len_is, capacity_is, k.capacity, fields) refl
 
-pub can-enter : (c : Settings) (j : List Event) (farm : Machine) (ring : Buffer (List ℕ)) (runs : Runs) (rings : List PacketQueue) (octets : List ℕ) (row : Row)
-    → Holds c j farm ring runs rings → row ≡ row_of c (run c j) octets → IsSome (entry row farm.report)
-can-enter c j farm ring runs rings octets row k row_is = rw (row_is, k.report) (frame-enters c (run c j) (state-sound c j) octets)
+pub can-enter : {c : Settings} {j : List Event} {i : Inside} (octets : List ℕ) (row : Row)
+    → Holds c j i → row ≡ row_of c (run c j) octets → IsSome (entry row i.farm.report)
+can-enter {c} {j} octets row k row_is = rw (row_is, k.report) (frame-enters c (run c j) (state-sound c j) octets)
 
-pub frame-keeps : (c : Settings) (j : List Event) (farm later : Machine) (ring left : Buffer (List ℕ)) (runs later_runs : Runs) (rings later_rings : List PacketQueue) (copies : List Copied) (unit : Option (List ℕ)) (kind : Kind) (octets : List ℕ) (row : Row) (act : Act)
-    → Holds c j farm ring runs rings → kind ≡ kind_of (header_of octets) (drop 5 octets) → FollowsKind kind runs later_runs (drop 5 octets) → EndsAtOnce kind runs (drop 5 octets) unit → copies ≡ copies_from 0 (packets_in unit) rings → later_rings ≡ put_all rings copies
-    → IsWhole octets → row ≡ row_of c (run c j) octets → act.event ≡ number_of row → act.accepted ≡ accepts row farm.report
-    → later.width ≡ farm.width → later.report ≡ after row farm.report
-    → left.items ≡ with_field ring.items (buffered_of act (drop 5 octets)) → left.capacity ≡ ring.capacity
-    → Holds c (j ++ Frame octets ∷ []) later left later_runs later_rings
-frame-keeps c j farm later ring left runs later_runs rings later_rings copies unit kind octets row act k kind_is follows ends copies_is rings_are whole row_is event_is accepted_is width report items capacity =
+pub frame-keeps : {c : Settings} {j : List Event} {i : Inside} (later : Inside) (copies : List Copied) (unit : Option (List ℕ)) (kind : Kind) (octets : List ℕ) (row : Row) (act : Act)
+    → Holds c j i → kind ≡ kind_of (header_of octets) (drop 5 octets) → FollowsKind kind i.open_runs later.open_runs (drop 5 octets) → EndsAtOnce kind i.open_runs (drop 5 octets) unit → copies ≡ copies_from 0 (packets_in unit) i.rings → later.rings ≡ put_all i.rings copies
+    → IsWhole octets → row ≡ row_of c (run c j) octets → act.event ≡ number_of row → act.accepted ≡ accepts row i.farm.report
+    → later.farm.width ≡ i.farm.width → later.farm.report ≡ after row i.farm.report
+    → later.ring.items ≡ with_field i.ring.items (buffered_of act (drop 5 octets)) → later.ring.capacity ≡ i.ring.capacity
+    → Holds c (j ++ Frame octets ∷ []) later
+frame-keeps {c} {j} {i} later copies unit kind octets row act k kind_is follows ends copies_is rings_are whole row_is event_is accepted_is width report items capacity =
     let b = run c j in
     let pushed = run-push c j (Frame octets) in
     let accepts_is : act.accepted ≡ accepts (row_of c b octets) b.report = rw (accepted_is, row_is, k.report) refl in
     let number_is : act.event ≡ number_of (row_of c b octets) = rw (event_is, row_is) refl in
-    let fields : left.items ≡ buffer (step c b (Frame octets)) =
+    let fields : later.ring.items ≡ buffer (step c b (Frame octets)) =
     items ∙ rw (k.fields, number_is, accepts_is) (sym (buffer-kept (row_of c b octets) (accepts (row_of c b octets) b.report) octets b (state-counted c j k.lawful))) in
     record {
       allowed = k.allowed;
@@ -111,16 +111,16 @@ frame-keeps c j farm later ring left runs later_runs rings later_rings copies un
       report = report ∙ rw (row_is, k.report, pushed) refl;
       capacity = capacity ∙ k.capacity;
       fields = fields ∙ ap buffer (sym pushed);
-      runs = rw pushed (frame-runs c b octets runs later_runs k.runs (rw (← kind_is) follows));
-      queues = rw pushed (frame-queues c b octets runs unit later_rings k.runs (rw (← kind_is) ends) (queues-follow rings later_rings copies (packets_in unit) b.queues (queues-kept c j) k.queues copies_is rings_are));
+      runs = rw pushed (frame-runs c b octets i.open_runs later.open_runs k.runs (rw (← kind_is) follows));
+      queues = rw pushed (frame-queues c b octets i.open_runs unit later.rings k.runs (rw (← kind_is) ends) (queues-follow i.rings later.rings copies (packets_in unit) b.queues (queues-kept c j) k.queues copies_is rings_are));
     }
 
 -- a buffered field goes where there is room
-pub room-for : (c : Settings) (j : List Event) (farm : Machine) (ring : Buffer (List ℕ)) (runs : Runs) (rings : List PacketQueue) (octets : List ℕ) (row : Row)
-    → Holds c j farm ring runs rings → row ≡ row_of c (run c j) octets → number_of row ≡ 1 → length ring.items < ring.capacity
-room-for c j farm ring runs rings octets row k row_is one =
+pub room-for : {c : Settings} {j : List Event} {i : Inside} (octets : List ℕ) (row : Row)
+    → Holds c j i → row ≡ row_of c (run c j) octets → number_of row ≡ 1 → length i.ring.items < i.ring.capacity
+room-for {c} {j} {i} octets row k row_is one =
     let room = room-at_E1 c (run c j) octets (sym row_is ∙ only_E1 row one) in
-    let fields : length ring.items ≡ length (buffer (run c j)) = ap length k.fields in
+    let fields : length i.ring.items ≡ length (buffer (run c j)) = ap length k.fields in
     rw (k.capacity, fields) (grind (arith, nat_tests))
   where
     only_E1 : (row : Row) → number_of row ≡ 1 → row ≡ E1
@@ -147,16 +147,16 @@ released-report c b = refl
 has-release : (b : ChannelState) → 0 < length (buffer b) → b.released < length b.accepted
 has-release b h = omega (arith, length-map (drop b.released b.accepted) (λ (a : Accepted). a.field), length-drop b.released b.accepted)
 
-pub release-keeps : (c : Settings) (j : List Event) (farm later : Machine) (ring left : Buffer (List ℕ)) (runs later_runs : Runs) (rings later_rings : List PacketQueue) (copies : List Copied) (unit : Option (List ℕ))
-    → Holds c j farm ring runs rings → Follows runs later_runs Ad (first_of ring.items) → Ends runs Ad (first_of ring.items) unit → copies ≡ copies_from 0 (packets_in unit) rings → later_rings ≡ put_all rings copies → 0 < length ring.items
-    → later.width ≡ farm.width → later.report ≡ after E10 farm.report
-    → left ≡ record { items = drop 1 ring.items; capacity = ring.capacity }
-    → Holds c (j ++ Release ∷ []) later left later_runs later_rings
-release-keeps c j farm later ring left runs later_runs rings later_rings copies unit k follows ends copies_is rings_are some width report is =
+pub release-keeps : {c : Settings} {j : List Event} {i : Inside} (later : Inside) (copies : List Copied) (unit : Option (List ℕ))
+    → Holds c j i → Follows i.open_runs later.open_runs Ad (first_of i.ring.items) → Ends i.open_runs Ad (first_of i.ring.items) unit → copies ≡ copies_from 0 (packets_in unit) i.rings → later.rings ≡ put_all i.rings copies → 0 < length i.ring.items
+    → later.farm.width ≡ i.farm.width → later.farm.report ≡ after E10 i.farm.report
+    → later.ring ≡ record { items = drop 1 i.ring.items; capacity = i.ring.capacity }
+    → Holds c (j ++ Release ∷ []) later
+release-keeps {c} {j} {i} later copies unit k follows ends copies_is rings_are some width report is =
     let b = run c j in
     let pushed = run-push c j Release in
-    let len : length ring.items ≡ length (buffer b) = ap length k.fields in
-    let fields : left.items ≡ buffer (step c b Release) =
+    let len : length i.ring.items ≡ length (buffer b) = ap length k.fields in
+    let fields : later.ring.items ≡ buffer (step c b Release) =
     ap (λ (x : Buffer (List ℕ)). x.items) is ∙ ap (drop 1) k.fields ∙ sym (buffer-released c b) in
     record {
       allowed = k.allowed;
@@ -165,18 +165,18 @@ release-keeps c j farm later ring left runs later_runs rings later_rings copies 
       report = report ∙ rw (k.report, pushed) (sym (released-report c b));
       capacity = ap (λ (x : Buffer (List ℕ)). x.capacity) is ∙ k.capacity;
       fields = fields ∙ ap buffer (sym pushed);
-      runs = rw pushed (release-runs c b runs later_runs k.runs (let f : Follows runs later_runs Ad (first_of (buffer b)) = rw k.fields at follows in f));
-      queues = rw pushed (release-queues c b runs unit later_rings k.runs (let o : Ends runs Ad (first_of (buffer b)) unit = rw k.fields at ends in o) (queues-follow rings later_rings copies (packets_in unit) b.queues (queues-kept c j) k.queues copies_is rings_are));
+      runs = rw pushed (release-runs c b i.open_runs later.open_runs k.runs (let f : Follows i.open_runs later.open_runs Ad (first_of (buffer b)) = rw k.fields at follows in f));
+      queues = rw pushed (release-queues c b i.open_runs unit later.rings k.runs (let o : Ends i.open_runs Ad (first_of (buffer b)) unit = rw k.fields at ends in o) (queues-follow i.rings later.rings copies (packets_in unit) b.queues (queues-kept c j) k.queues copies_is rings_are));
     }
 
 pub have-places : (ps : List (List ℕ)) (rings : List PacketQueue) → HavePlaces (length rings) (copies_from 0 ps rings)
 have-places ps rings = copies-places (length rings) 0 ps rings (omega arith)
 
 -- a channel whose buffer isn't empty holds a field
-pub some-field : (h : History) (c : Settings) (j : List Event) (farm : Machine) (ring : Buffer (List ℕ)) (runs : Runs) (rings : List PacketQueue) → record { settings = c; journal = j } ≡ h
-    → Holds c j farm ring runs rings → (buffered_fields h.settings h.journal ≡ [] → ⊥) → 0 < length ring.items
+pub some-field : {h : History} {c : Settings} {j : List Event} {i : Inside} → record { settings = c; journal = j } ≡ h
+    → Holds c j i → (buffered_fields h.settings h.journal ≡ [] → ⊥) → 0 < length i.ring.items
 unfolding buffered_fields
-some-field h c j farm ring runs rings view k none = by ring.items refl where
-  by : (items : List (List ℕ)) → ring.items ≡ items → 0 < length ring.items
+some-field {h} {c} {j} {i} view k none = by i.ring.items refl where
+  by : (items : List (List ℕ)) → i.ring.items ≡ items → 0 < length i.ring.items
   by [] e = absurd (none (rw (← view) (sym k.fields ∙ e)))
   by (x ∷ xs) e = rw e (omega arith)

@@ -6,12 +6,10 @@ use Rattle.std.specs.List.{AllByRecursion}
 use Rattle.std.proofs.lemmas.List.{drop-drop, length-drop}
 use Rattle.std.proofs.lemmas.Bool.{eq-eqb}
 use Rattle.std.proofs.Math.ListN.{set}
-use Rattle.circular_buffer.specs.Buffer.{Buffer}
-use Rattle.tc_link.specs.Farm.{Machine}
 use Rattle.tc_channel.specs.declared.settings.Settings.{Settings}
 use Rattle.tc_channel.specs.declared.event.Event.{Event}
 use Rattle.tc_channel.specs.declared.event.Event.TheVariants.{Take}
-use Rattle.tc_channel.specs.Channel.{Holds, Runs}
+use Rattle.tc_channel.specs.Channel.{Inside, Holds}
 use Rattle.tc_channel.proofs.Runs.{run-push, lawful-push}
 use Rattle.std.proofs.lemmas.Bool.Decides.{nat_tests, eqb_tells}
 use Rattle.tc_channel.specs.declared.queues.PacketQueue.{PacketQueue}
@@ -77,9 +75,9 @@ some-queue (Some q) w e some =
     let l : length (waiting q) ≡ length w.packets.items = ap (λ (x : PacketQueue). length x.packets.items) i in
     (q, refl, omega (arith, length-drop q.taken q.admitted))
 
-pub take-keeps : (c : Settings) (j : List Event) (farm : Machine) (ring : Buffer (List ℕ)) (runs : Runs) (rings later : List PacketQueue) (apid : ℕ) (w : PacketQueue)
-    → Holds c j farm ring runs rings → queue_for apid rings ≡ Some w → 0 < length w.packets.items → later ≡ popped apid rings → Holds c (j ++ Take apid ∷ []) farm ring runs later
-take-keeps c j farm ring runs rings later apid w k found some is =
+pub take-keeps : {c : Settings} {j : List Event} {i : Inside} (later : List PacketQueue) (apid : ℕ) (w : PacketQueue)
+    → Holds c j i → queue_for apid i.rings ≡ Some w → 0 < length w.packets.items → later ≡ popped apid i.rings → Holds c (j ++ Take apid ∷ []) (record i { rings = later })
+take-keeps {c} {j} {i} later apid w k found some is =
     let b = run c j in
     let pushed = run-push c j (Take apid) in
     let held_is : option_map held (queue_of apid b.queues) ≡ Some w = sym (held-queue apid b.queues) ∙ ap (queue_for apid) (sym k.queues) ∙ found in
@@ -100,10 +98,10 @@ items-map None = refl
 items-map (Some q) = refl
 
 -- what waits for an application, by the fields
-pub waits : (c : Settings) (j : List Event) (farm : Machine) (ring : Buffer (List ℕ)) (runs : Runs) (rings : List PacketQueue) (apid : ℕ)
-    → Holds c j farm ring runs rings → waiting_packets c j apid ≡ option_map (λ (w : PacketQueue). w.packets.items) (queue_for apid rings)
+pub waits : {c : Settings} {j : List Event} {i : Inside} (apid : ℕ)
+    → Holds c j i → waiting_packets c j apid ≡ option_map (λ (w : PacketQueue). w.packets.items) (queue_for apid i.rings)
 unfolding waiting_packets
-waits c j farm ring runs rings apid k = rw k.queues (items-map (queue_of apid (run c j).queues) ∙ ap (option_map (λ (w : PacketQueue). w.packets.items)) (sym (held-queue apid (run c j).queues)))
+waits {c} {j} apid k = rw k.queues (items-map (queue_of apid (run c j).queues) ∙ ap (option_map (λ (w : PacketQueue). w.packets.items)) (sym (held-queue apid (run c j).queues)))
 
 -- the oldest packet of ring i is taken
 pub popped-at : (apid : ℕ) (ws : List PacketQueue) (i : ℕ) (w : PacketQueue) → w ≡ get_or ws i w → i < length ws → w.apid ≡ apid → set ws i (shorter w) ≡ take i ws ++ popped apid (drop i ws)
@@ -129,5 +127,5 @@ pub same-apids : (qs : List Queue) → apids_of (map held qs) ≡ apids qs
 same-apids [] = refl
 same-apids (q ∷ qs) = ap (λ (x : List ℕ). q.apid ∷ x) (same-apids qs)
 
-pub queues-distinct : (c : Settings) (j : List Event) (farm : Machine) (ring : Buffer (List ℕ)) (runs : Runs) (rings : List PacketQueue) → Holds c j farm ring runs rings → AreDistinct (apids_of rings)
-queues-distinct c j farm ring runs rings k = rw (k.queues, same-apids (run c j).queues) (queues-apart c j k.allowed)
+pub queues-distinct : {c : Settings} {j : List Event} {i : Inside} → Holds c j i → AreDistinct (apids_of i.rings)
+queues-distinct {c} {j} k = rw (k.queues, same-apids (run c j).queues) (queues-apart c j k.allowed)

@@ -55,13 +55,20 @@ abbrev pub with_field : List (List ℕ) → Option (List ℕ) → List (List ℕ
 with_field fields None = fields
 with_field fields (Some field) = fields ++ field ∷ []
 
--- FARM-1, the buffer, the reassembler and the queues are those of the journal's run
-pub record Holds (s : Settings) (journal : List Event) (farm : Machine) (ring : Buffer (List ℕ)) (open_runs : Runs) (rings : List PacketQueue) : Type 0 where
+-- what a channel works with: FARM-1, the ring of buffered data fields, the open runs and the rings of packets
+pub record Inside : Type 0 where
+  pub farm : Machine
+  pub ring : Buffer (List ℕ)
+  pub open_runs : Runs
+  pub rings : List PacketQueue
+
+-- all that a channel works with is that of the journal's run
+pub record Holds (s : Settings) (journal : List Event) (inside : Inside) : Type 0 where
   pub allowed : IsAllowed s
   pub lawful : IsLawful s journal
-  pub width : farm.width ≡ s.width
-  pub report : farm.report ≡ (run s journal).report
-  pub capacity : ring.capacity ≡ s.buffer
-  pub fields : ring.items ≡ buffer (run s journal)
-  pub runs : AreRuns open_runs (run s journal).passed
-  pub queues : rings ≡ map held (run s journal).queues
+  pub width : inside.farm.width ≡ s.width
+  pub report : inside.farm.report ≡ (run s journal).report
+  pub capacity : inside.ring.capacity ≡ s.buffer
+  pub fields : inside.ring.items ≡ buffer (run s journal)
+  pub runs : AreRuns inside.open_runs (run s journal).passed
+  pub queues : inside.rings ≡ map held (run s journal).queues

@@ -45,7 +45,7 @@ impl Model for Channel {
 
     ghost view = { λ c. record { settings = c.settings; journal = c.journal.items } };
 
-    ghost invariant = { λ c. Holds c.settings c.journal.items c.farm c.fields c.reassembler c.queues.items };
+    ghost invariant = { λ c. Holds c.settings c.journal.items (record { farm = c.farm; ring = c.fields; open_runs = c.reassembler; rings = c.queues.items }) };
 }
 
 impl Channel {

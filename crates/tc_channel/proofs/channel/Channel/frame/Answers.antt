@@ -14,13 +14,13 @@ use Rattle.tc_channel.proofs.channel.Channel.frame.Goals as goal
 pub step-act-requires : goal.step-act-requires
 step-act-requires c =
     let f = c.self.inside in
-    can-enter f.settings f.journal.items f.farm f.fields f.reassembler f.queues.items c.args.frame.now _ c.self.invariant
-    (row-is f.settings f.journal.items f.farm f.fields f.reassembler f.queues.items c.args.frame.now c.kind-kind.result c.len.result c.capacity.result c.self.invariant c.kind-kind.ensures c.len.ensures.len c.capacity.ensures.capacity)
+    can-enter c.args.frame.now _ c.self.invariant
+    (row-is c.args.frame.now c.kind-kind.result c.len.result c.capacity.result c.self.invariant c.kind-kind.ensures c.len.ensures.len c.capacity.ensures.capacity)
 
 pub plan_bypass-requires-clause-distinct : goal.plan_bypass-requires-clause-distinct
 plan_bypass-requires-clause-distinct c =
     let f = c.self.inside in
-    rw c.deref.ensures.value (queues-distinct f.settings f.journal.items f.farm f.fields f.reassembler f.queues.items c.self.invariant)
+    rw c.deref.ensures.value (queues-distinct c.self.invariant)
 
 pub put_copies-requires : goal.put_copies-requires
 put_copies-requires c = rw (c.in_ok-planned.ensures.2.copies, c.deref.ensures.value) (have-places (packets_in c.in_ok-planned.ensures.0) c.self.inside.queues.items)
@@ -29,10 +29,10 @@ pub invariant_of-self-2 : goal.invariant_of-self-2
 invariant_of-self-2 c =
     let f = c.self.inside in
     let e : c.push_reserved.new.self.items ≡ f.journal.items ++ Frame c.args.frame.now ∷ [] = grind (arith, common_steps) in
-    rw e (frame-keeps f.settings f.journal.items f.farm c.step-act.new.self f.fields c.put_field.new.fields f.reassembler c.pass_bypass.new.reassembler f.queues.items c.put_copies.new.queues.items c.in_ok-planned.planned.copies.items c.in_ok-planned.ensures.0 c.kind-kind.result c.args.frame.now
+    rw e (frame-keeps _ c.in_ok-planned.planned.copies.items c.in_ok-planned.ensures.0 c.kind-kind.result c.args.frame.now
     (frame_row f.farm.width f.farm.report.vr c.kind-kind.result (nat_lt c.len.result c.capacity.result)) c.step-act.result
     c.self.invariant c.kind-kind.ensures (rw c.field-field.ensures at c.in_ok-pass_bypass.ensures.ok) (rw c.field-field.ensures at c.in_ok-planned.ensures.1) (rw c.deref.ensures.value at c.in_ok-planned.ensures.2.copies) c.put_copies.ensures c.octets.ensures.whole
-    (row-is f.settings f.journal.items f.farm f.fields f.reassembler f.queues.items c.args.frame.now c.kind-kind.result c.len.result c.capacity.result c.self.invariant c.kind-kind.ensures c.len.ensures.len c.capacity.ensures.capacity)
+    (row-is c.args.frame.now c.kind-kind.result c.len.result c.capacity.result c.self.invariant c.kind-kind.ensures c.len.ensures.len c.capacity.ensures.capacity)
     c.step-act.ensures.event c.step-act.ensures.accepted c.step-act.ensures.width c.step-act.ensures.report
     (c.put_field.ensures.items ∙ ap (with_field f.fields.items) (c.in_ok-buffered.ensures ∙ ap (buffered_of c.step-act.result) c.field-field.ensures)) c.put_field.ensures.capacity)
 
@@ -40,7 +40,7 @@ pub returns-clause-reply : goal.returns-clause-reply
 unfolding frame_reply
 returns-clause-reply c =
     let f = c.self.inside in
-    let is = row-is f.settings f.journal.items f.farm f.fields f.reassembler f.queues.items c.args.frame.now c.kind-kind.result c.len.result c.capacity.result c.self.invariant c.kind-kind.ensures c.len.ensures.len c.capacity.ensures.capacity in
+    let is = row-is c.args.frame.now c.kind-kind.result c.len.result c.capacity.result c.self.invariant c.kind-kind.ensures c.len.ensures.len c.capacity.ensures.capacity in
     let d = frame-delivery f.settings (run f.settings f.journal.items) c.args.frame.now f.reassembler c.in_ok-planned.ensures.0 f.queues.items c.in_ok-planned.planned c.self.invariant.runs c.self.invariant.queues
     (rw (← c.kind-kind.ensures, ← c.field-field.ensures) c.in_ok-planned.ensures.1) (rw c.deref.ensures.value at c.in_ok-planned.ensures.2) in
     let event : c.step-act.result.event ≡ number_of (row_of f.settings (run f.settings f.journal.items) c.args.frame.now) = c.step-act.ensures.event ∙ ap number_of is in

@@ -12,31 +12,31 @@ use Rattle.tc_channel.proofs.channel.Channel.release.Goals as goal
 pub plan_oldest-requires-clause-some : goal.plan_oldest-requires-clause-some
 plan_oldest-requires-clause-some c =
     let f = c.self.inside in
-    let some : 0 < length f.fields.items = some-field c.args.self.now f.settings f.journal.items f.farm f.fields f.reassembler f.queues.items c.self.view_is c.self.invariant (λ e. absurd (let t = c.if-has_empty_buffer.ensures.1 e in cc)) in
+    let some : 0 < length f.fields.items = some-field c.self.view_is c.self.invariant (λ e. absurd (let t = c.if-has_empty_buffer.ensures.1 e in cc)) in
     some
 
 pub plan_oldest-requires-clause-octets : goal.plan_oldest-requires-clause-octets
 plan_oldest-requires-clause-octets c =
     let f = c.self.inside in
-    let some : 0 < length f.fields.items = some-field c.args.self.now f.settings f.journal.items f.farm f.fields f.reassembler f.queues.items c.self.view_is c.self.invariant (λ e. absurd (let t = c.if-has_empty_buffer.ensures.1 e in cc)) in
-    oldest-filled f.settings f.journal.items f.farm f.fields f.reassembler f.queues.items c.self.invariant some
+    let some : 0 < length f.fields.items = some-field c.self.view_is c.self.invariant (λ e. absurd (let t = c.if-has_empty_buffer.ensures.1 e in cc)) in
+    oldest-filled c.self.invariant some
 
 pub pass_oldest-requires-clause-some : goal.pass_oldest-requires-clause-some
 pass_oldest-requires-clause-some c =
     let f = c.self.inside in
-    let some : 0 < length f.fields.items = some-field c.args.self.now f.settings f.journal.items f.farm f.fields f.reassembler f.queues.items c.self.view_is c.self.invariant (λ e. absurd (let t = c.if-has_empty_buffer.ensures.1 e in cc)) in
+    let some : 0 < length f.fields.items = some-field c.self.view_is c.self.invariant (λ e. absurd (let t = c.if-has_empty_buffer.ensures.1 e in cc)) in
     some
 
 pub pass_oldest-requires-clause-octets : goal.pass_oldest-requires-clause-octets
 pass_oldest-requires-clause-octets c =
     let f = c.self.inside in
-    let some : 0 < length f.fields.items = some-field c.args.self.now f.settings f.journal.items f.farm f.fields f.reassembler f.queues.items c.self.view_is c.self.invariant (λ e. absurd (let t = c.if-has_empty_buffer.ensures.1 e in cc)) in
-    oldest-filled f.settings f.journal.items f.farm f.fields f.reassembler f.queues.items c.self.invariant some
+    let some : 0 < length f.fields.items = some-field c.self.view_is c.self.invariant (λ e. absurd (let t = c.if-has_empty_buffer.ensures.1 e in cc)) in
+    oldest-filled c.self.invariant some
 
 pub plan_oldest-requires-clause-distinct : goal.plan_oldest-requires-clause-distinct
 plan_oldest-requires-clause-distinct c =
     let f = c.self.inside in
-    rw c.deref.ensures.value (queues-distinct f.settings f.journal.items f.farm f.fields f.reassembler f.queues.items c.self.invariant)
+    rw c.deref.ensures.value (queues-distinct c.self.invariant)
 
 pub put_copies-requires : goal.put_copies-requires
 put_copies-requires c = rw (c.in_ok-planned.ensures.2.copies, c.deref.ensures.value) (have-places (packets_in c.in_ok-planned.ensures.0) c.self.inside.queues.items)
@@ -44,9 +44,9 @@ put_copies-requires c = rw (c.in_ok-planned.ensures.2.copies, c.deref.ensures.va
 pub invariant_of-self-2 : goal.invariant_of-self-2
 invariant_of-self-2 c =
     let f = c.self.inside in
-    let some : 0 < length f.fields.items = some-field c.args.self.now f.settings f.journal.items f.farm f.fields f.reassembler f.queues.items c.self.view_is c.self.invariant (λ e. absurd (let t = c.if-has_empty_buffer.ensures.1 e in cc)) in
+    let some : 0 < length f.fields.items = some-field c.self.view_is c.self.invariant (λ e. absurd (let t = c.if-has_empty_buffer.ensures.1 e in cc)) in
     let e : c.push_reserved.new.self.items ≡ f.journal.items ++ Release ∷ [] = grind (arith, common_steps) in
-    rw e (release-keeps f.settings f.journal.items f.farm c.step.new.self f.fields c.pop_front.new.self f.reassembler c.pass_oldest.new.reassembler f.queues.items c.put_copies.new.queues.items c.in_ok-planned.planned.copies.items c.in_ok-planned.ensures.0
+    rw e (release-keeps _ c.in_ok-planned.planned.copies.items c.in_ok-planned.ensures.0
     c.self.invariant c.in_ok-pass_oldest.ensures.ok c.in_ok-planned.ensures.1 (rw c.deref.ensures.value at c.in_ok-planned.ensures.2.copies) c.put_copies.ensures some c.step.ensures.width c.step.ensures.report c.pop_front.ensures.items)
 
 pub returns-clause-reply : goal.returns-clause-reply

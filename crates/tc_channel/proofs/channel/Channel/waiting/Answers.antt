@@ -11,12 +11,12 @@ pub returns-in_err-find-clause-packets : goal.returns-in_err-find-clause-packets
 returns-in_err-find-clause-packets c =
     let f = c.self.inside in
     let w : waiting_packets c.args.self.now.settings c.args.self.now.journal c.args.apid ≡ option_map (λ (w : PacketQueue). w.packets.items) (queue_for c.args.apid f.queues.items) =
-    rw (← c.self.view_is) (waits f.settings f.journal.items f.farm f.fields f.reassembler f.queues.items c.args.apid c.self.invariant) in
+    rw (← c.self.view_is) (waits c.args.apid c.self.invariant) in
     grind (arith, common_steps)
 
 pub returns-clause-packets : goal.returns-clause-packets
 returns-clause-packets c =
     let f = c.self.inside in
     let w : waiting_packets c.args.self.now.settings c.args.self.now.journal c.args.apid ≡ option_map (λ (w : PacketQueue). w.packets.items) (queue_for c.args.apid f.queues.items) =
-    rw (← c.self.view_is) (waits f.settings f.journal.items f.farm f.fields f.reassembler f.queues.items c.args.apid c.self.invariant) in
+    rw (← c.self.view_is) (waits c.args.apid c.self.invariant) in
     grind (arith, common_steps)
