@@ -1,5 +1,5 @@
 -- CLCWs of short journals, computed from the definitions.
-use Rattle.std.proofs.Common.{◌≡◌, ℕ, false, [], ◌∷◌, refl}
+use Rattle.std.proofs.Common.{◌≡◌, ℕ, true, false, [], ◌∷◌, refl}
 use Rattle.tc_link.specs.declared.Link.{Link}
 use Rattle.tc_link.specs.Window.{some_of_first}
 use Rattle.tc_channel.specs.declared.settings.Settings.{Settings}
@@ -9,7 +9,7 @@ use Rattle.tc_channel.specs.Run.{run, passed_on}
 use Rattle.tc_channel.specs.Reply.{clcw}
 
 abbrev c : Settings
-c = record { vcid = 1; width = 10; buffer = 1; first = 0; queues = record { apid = 5; capacity = 1 } ∷ [] }
+c = record { vcid = 1; width = 10; buffer = 1; first = 0; segmented = true; queues = record { apid = 5; capacity = 1 } ∷ [] }
 
 abbrev link : Link
 link = record { no_rf = false; no_bit_lock = false }

@@ -3,6 +3,7 @@ pub mod Sound
 pub mod BufferSize
 pub mod Delivered
 pub mod StateQueues
+pub mod Plain
 pub mod Streams
 pub mod Shares
 pub mod Counted

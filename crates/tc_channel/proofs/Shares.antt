@@ -23,8 +23,8 @@ use Rattle.tc_link.specs.Window.{place_of}
 use Rattle.tc_packet.specs.declared.Service.{Service}
 use Rattle.tc_packet.specs.declared.Service.TheVariants.{Ad, Bd}
 use Rattle.tc_packet.specs.Segment as segment
-use Rattle.tc_packet.specs.Reassembly.{stream}
-use Rattle.tc_channel.specs.Channel.{Runs, AreRuns, Ends, EndsAtOnce}
+use Rattle.tc_packet.specs.Reassembly.{OpenRuns, stream, unit_ended}
+use Rattle.tc_channel.specs.Channel.{AreRuns, Ends, EndsAtOnce}
 use Rattle.tc_channel.specs.Run.{step, row_of, kept, passed_on, unit_of, first_of}
 use Rattle.tc_channel.proofs.StateQueues.{AreKept}
 use Rattle.tc_channel.proofs.Copies.{Fit, with_packets, shares-put, length-copies}
@@ -87,27 +87,29 @@ shares-none [] = refl
 shares-none (q ∷ qs) = ap (λ (x : Queue). x ∷ with_shares [] qs) (none-with q) ∙ ap (λ (x : List Queue). q ∷ x) (shares-none qs)
 
 -- the unit that a field ends
-ends-unit : (service : Service) (field : List ℕ) (b : ChannelState) (runs : Runs) (unit : Option (List ℕ)) → AreRuns runs b.passed → Ends runs service field unit → unit ≡ unit_of b service field
-ends-unit service field b runs unit are ends = ends (stream service (segment.header_of field).map b.passed) (are service (segment.header_of field).map (omega arith))
+ends-unit : (service : Service) (field : List ℕ) (b : ChannelState) (open_runs : OpenRuns) (unit : Option (List ℕ)) → AreRuns open_runs b.segmented b.passed → Ends open_runs service field unit → unit ≡ unit_of b service field
+ends-unit service field b open_runs unit are ends =
+    let fields = stream service (segment.header_of field).map b.passed in
+    ends fields (are.runs service (segment.header_of field).map (omega arith)) ∙ ap (λ s. unit_ended s fields field) are.segmented
 
-kind-queues : (width vr : ℕ) (kind : Kind) (room : Bool) (octets : List ℕ) (b : ChannelState) (runs : Runs) (unit : Option (List ℕ)) (new : List PacketQueue) → AreRuns runs b.passed
-    → EndsAtOnce kind runs (drop 5 octets) unit → new ≡ map held (with_shares (packets_in unit) b.queues)
+kind-queues : (width vr : ℕ) (kind : Kind) (room : Bool) (octets : List ℕ) (b : ChannelState) (open_runs : OpenRuns) (unit : Option (List ℕ)) (new : List PacketQueue) → AreRuns open_runs b.segmented b.passed
+    → EndsAtOnce kind open_runs (drop 5 octets) unit → new ≡ map held (with_shares (packets_in unit) b.queues)
     → new ≡ map held (kept (frame_row width vr kind room) (accepts (frame_row width vr kind room) b.report) octets b).queues
 unfolding passed_on
-kind-queues width vr (kinds.Ad ns) room octets b runs unit new are ends is = is ∙ rw (kept-queues (row_at (place_of width vr ns) room) (accepts (row_at (place_of width vr ns) room) b.report) octets b (not-BD (place_of width vr ns) room), ends) (ap (map held) (shares-none b.queues))
-kind-queues width vr kinds.Bd room octets b runs unit new are ends is = is ∙ ap (λ (x : Option (List ℕ)). map held (with_shares (packets_in x) b.queues)) (ends-unit Bd (drop 5 octets) b runs unit are ends)
-kind-queues width vr (kinds.Bc Unlock) room octets b runs unit new are ends is = is ∙ rw ends (ap (map held) (shares-none b.queues))
-kind-queues width vr (kinds.Bc (SetVr x)) room octets b runs unit new are ends is = is ∙ rw ends (ap (map held) (shares-none b.queues))
-kind-queues width vr kinds.Invalid room octets b runs unit new are ends is = is ∙ rw ends (ap (map held) (shares-none b.queues))
+kind-queues width vr (kinds.Ad ns) room octets b open_runs unit new are ends is = is ∙ rw (kept-queues (row_at (place_of width vr ns) room) (accepts (row_at (place_of width vr ns) room) b.report) octets b (not-BD (place_of width vr ns) room), ends) (ap (map held) (shares-none b.queues))
+kind-queues width vr kinds.Bd room octets b open_runs unit new are ends is = is ∙ ap (λ (x : Option (List ℕ)). map held (with_shares (packets_in x) b.queues)) (ends-unit Bd (drop 5 octets) b open_runs unit are ends)
+kind-queues width vr (kinds.Bc Unlock) room octets b open_runs unit new are ends is = is ∙ rw ends (ap (map held) (shares-none b.queues))
+kind-queues width vr (kinds.Bc (SetVr x)) room octets b open_runs unit new are ends is = is ∙ rw ends (ap (map held) (shares-none b.queues))
+kind-queues width vr kinds.Invalid room octets b open_runs unit new are ends is = is ∙ rw ends (ap (map held) (shares-none b.queues))
 
-pub frame-queues : (c : Settings) (b : ChannelState) (octets : List ℕ) (runs : Runs) (unit : Option (List ℕ)) (new : List PacketQueue) → AreRuns runs b.passed
-    → EndsAtOnce (kind_of (header_of octets) (drop 5 octets)) runs (drop 5 octets) unit → new ≡ map held (with_shares (packets_in unit) b.queues) → new ≡ map held (step c b (Frame octets)).queues
-frame-queues c b octets runs unit new are ends is = kind-queues c.width b.report.vr (kind_of (header_of octets) (drop 5 octets)) (has_room c b) octets b runs unit new are ends is
+pub frame-queues : (c : Settings) (b : ChannelState) (octets : List ℕ) (open_runs : OpenRuns) (unit : Option (List ℕ)) (new : List PacketQueue) → AreRuns open_runs b.segmented b.passed
+    → EndsAtOnce (kind_of (header_of octets) (drop 5 octets)) open_runs (drop 5 octets) unit → new ≡ map held (with_shares (packets_in unit) b.queues) → new ≡ map held (step c b (Frame octets)).queues
+frame-queues c b octets open_runs unit new are ends is = kind-queues c.width b.report.vr (kind_of (header_of octets) (drop 5 octets)) (has_room c b) octets b open_runs unit new are ends is
 
-pub release-queues : (c : Settings) (b : ChannelState) (runs : Runs) (unit : Option (List ℕ)) (new : List PacketQueue) → AreRuns runs b.passed
-    → Ends runs Ad (first_of (buffer b)) unit → new ≡ map held (with_shares (packets_in unit) b.queues) → new ≡ map held (step c b Release).queues
+pub release-queues : (c : Settings) (b : ChannelState) (open_runs : OpenRuns) (unit : Option (List ℕ)) (new : List PacketQueue) → AreRuns open_runs b.segmented b.passed
+    → Ends open_runs Ad (first_of (buffer b)) unit → new ≡ map held (with_shares (packets_in unit) b.queues) → new ≡ map held (step c b Release).queues
 unfolding passed_on
-release-queues c b runs unit new are ends is = is ∙ ap (λ (x : Option (List ℕ)). map held (with_shares (packets_in x) b.queues)) (ends-unit Ad (first_of (buffer b)) b runs unit are ends)
+release-queues c b open_runs unit new are ends is = is ∙ ap (λ (x : Option (List ℕ)). map held (with_shares (packets_in x) b.queues)) (ends-unit Ad (first_of (buffer b)) b open_runs unit are ends)
 
 -- how many copies there are
 pub queued-is : (ps : List (List ℕ)) (qs : List Queue) → sum_by length (map (share ps) (map held qs)) ≡ queued_of ps qs
@@ -132,18 +134,18 @@ planned-is : (unit : Option (List ℕ)) (rings : List PacketQueue) (p : Planned)
 planned-is unit rings p qs are is =
     is.delivery ∙ ap (delivered unit) (ap length is.copies ∙ length-copies 0 (packets_in unit) rings ∙ ap (λ (x : List PacketQueue). sum_by length (map (share (packets_in unit)) x)) are ∙ queued-is (packets_in unit) qs)
 
-kind-delivery : (width vr : ℕ) (kind : Kind) (room : Bool) (octets : List ℕ) (b : ChannelState) (runs : Runs) (unit : Option (List ℕ)) → AreRuns runs b.passed → EndsAtOnce kind runs (drop 5 octets) unit
+kind-delivery : (width vr : ℕ) (kind : Kind) (room : Bool) (octets : List ℕ) (b : ChannelState) (open_runs : OpenRuns) (unit : Option (List ℕ)) → AreRuns open_runs b.segmented b.passed → EndsAtOnce kind open_runs (drop 5 octets) unit
     → delivery_of unit b.queues ≡ frame_delivery (frame_row width vr kind room) octets b
-kind-delivery width vr (kinds.Ad ns) room octets b runs unit are ends = rw ends (sym (other-nothing (row_at (place_of width vr ns) room) octets b (not-BD (place_of width vr ns) room)))
-kind-delivery width vr kinds.Bd room octets b runs unit are ends = ap (λ (x : Option (List ℕ)). delivery_of x b.queues) (ends-unit Bd (drop 5 octets) b runs unit are ends)
-kind-delivery width vr (kinds.Bc Unlock) room octets b runs unit are ends = rw ends refl
-kind-delivery width vr (kinds.Bc (SetVr x)) room octets b runs unit are ends = rw ends refl
-kind-delivery width vr kinds.Invalid room octets b runs unit are ends = rw ends refl
+kind-delivery width vr (kinds.Ad ns) room octets b open_runs unit are ends = rw ends (sym (other-nothing (row_at (place_of width vr ns) room) octets b (not-BD (place_of width vr ns) room)))
+kind-delivery width vr kinds.Bd room octets b open_runs unit are ends = ap (λ (x : Option (List ℕ)). delivery_of x b.queues) (ends-unit Bd (drop 5 octets) b open_runs unit are ends)
+kind-delivery width vr (kinds.Bc Unlock) room octets b open_runs unit are ends = rw ends refl
+kind-delivery width vr (kinds.Bc (SetVr x)) room octets b open_runs unit are ends = rw ends refl
+kind-delivery width vr kinds.Invalid room octets b open_runs unit are ends = rw ends refl
 
-pub frame-delivery : (c : Settings) (b : ChannelState) (octets : List ℕ) (runs : Runs) (unit : Option (List ℕ)) (rings : List PacketQueue) (p : Planned) → AreRuns runs b.passed → rings ≡ map held b.queues
-    → EndsAtOnce (kind_of (header_of octets) (drop 5 octets)) runs (drop 5 octets) unit → IsPlanned unit rings p → p.delivery ≡ frame_delivery (row_of c b octets) octets b
-frame-delivery c b octets runs unit rings p are rings_are ends is = planned-is unit rings p b.queues rings_are is ∙ kind-delivery c.width b.report.vr (kind_of (header_of octets) (drop 5 octets)) (has_room c b) octets b runs unit are ends
+pub frame-delivery : (c : Settings) (b : ChannelState) (octets : List ℕ) (open_runs : OpenRuns) (unit : Option (List ℕ)) (rings : List PacketQueue) (p : Planned) → AreRuns open_runs b.segmented b.passed → rings ≡ map held b.queues
+    → EndsAtOnce (kind_of (header_of octets) (drop 5 octets)) open_runs (drop 5 octets) unit → IsPlanned unit rings p → p.delivery ≡ frame_delivery (row_of c b octets) octets b
+frame-delivery c b octets open_runs unit rings p are rings_are ends is = planned-is unit rings p b.queues rings_are is ∙ kind-delivery c.width b.report.vr (kind_of (header_of octets) (drop 5 octets)) (has_room c b) octets b open_runs unit are ends
 
-pub release-delivery : (b : ChannelState) (runs : Runs) (unit : Option (List ℕ)) (rings : List PacketQueue) (p : Planned) → AreRuns runs b.passed → rings ≡ map held b.queues
-    → Ends runs Ad (first_of (buffer b)) unit → IsPlanned unit rings p → p.delivery ≡ release_reply_at b
-release-delivery b runs unit rings p are rings_are ends is = planned-is unit rings p b.queues rings_are is ∙ ap (λ (x : Option (List ℕ)). delivery_of x b.queues) (ends-unit Ad (first_of (buffer b)) b runs unit are ends)
+pub release-delivery : (b : ChannelState) (open_runs : OpenRuns) (unit : Option (List ℕ)) (rings : List PacketQueue) (p : Planned) → AreRuns open_runs b.segmented b.passed → rings ≡ map held b.queues
+    → Ends open_runs Ad (first_of (buffer b)) unit → IsPlanned unit rings p → p.delivery ≡ release_reply_at b
+release-delivery b open_runs unit rings p are rings_are ends is = planned-is unit rings p b.queues rings_are is ∙ ap (λ (x : Option (List ℕ)). delivery_of x b.queues) (ends-unit Ad (first_of (buffer b)) b open_runs unit are ends)

@@ -17,12 +17,13 @@ use Rattle.tc_link.specs.Farm.{Row, E1, E2, E3, E4, E5, E6, E7, E8, E9, E10, row
 use Rattle.tc_packet.specs.declared.Service.{Service}
 use Rattle.tc_packet.specs.declared.Service.TheVariants.{Ad, Bd}
 use Rattle.tc_packet.specs.Segment as segment
-use Rattle.tc_packet.specs.Reassembly.{Passed, is_of, same_service, stream, open_run, run_at, place_of as stream_at, stream_place}
+use Rattle.tc_packet.specs.Reassembly.{OpenRuns, Passed, Leave, is_of, same_service, stream, run_left, run_at, place_of as stream_at, stream_place}
 use Rattle.tc_channel.specs.declared.settings.Settings.{Settings}
 use Rattle.tc_channel.specs.declared.event.Event.TheVariants.{Frame, Release}
 use Rattle.tc_channel.specs.ChannelState.{ChannelState, has_room, buffer}
 use Rattle.tc_channel.specs.Run.{step, kept, passed_on, first_of}
-use Rattle.tc_channel.specs.Channel.{Runs, AreRuns, Follows, FollowsKind}
+use Rattle.tc_channel.proofs.StateQueues.{kept-either}
+use Rattle.tc_channel.specs.Channel.{AreRuns, Follows, FollowsKind}
 
 stream-same : (s : Service) (n : ℕ) (passed : List Passed) (p : Passed) → is_of s n p ≡ true → stream s n (passed ++ p ∷ []) ≡ stream s n passed ++ p.field ∷ []
 stream-same s n passed p h =
@@ -42,20 +43,27 @@ same_place Bd Bd m n m_in n_in = (λ h. elim (eqb_tells m n) [ inl e ↦ ap (λ 
 same_place Ad Bd m n m_in n_in = (λ h. absurd cc, λ h e. omega arith)
 same_place Bd Ad m n m_in n_in = (λ h. absurd cc, λ h e. omega arith)
 
-pub runs-follow : (old new : Runs) (service : Service) (field : List ℕ) (passed : List Passed) → AreRuns old passed → Follows old new service field
-    → AreRuns new (passed ++ record { service = service; field = field } ∷ [])
-runs-follow old new service field passed are follows s n n_in =
-    let p : Passed = record { service = service; field = field } in
-    by (is_of s n p) refl (same_place s service (segment.header_of field).map n (omega arith) n_in) where
-      by : (t : Bool) → is_of s n (record { service = service; field = field }) ≡ t
-          → (((same_service s service && eqb (segment.header_of field).map n) ≡ true) → stream_at s n ≡ stream_place service field) × (((same_service s service && eqb (segment.header_of field).map n) ≡ false) → stream_at s n ≢ stream_place service field)
-          → open_run (stream s n (passed ++ record { service = service; field = field } ∷ [])) ≡ run_at new (stream_at s n)
-      by true h at_place =
-          let e = at_place.0 h in
-          ap open_run (stream-same s n passed (record { service = service; field = field }) h)
-          ∙ sym (follows.run (stream s n passed) (are s n n_in ∙ ap (run_at old) e)) ∙ ap (run_at new) (sym e)
-      by false h at_place =
-          ap open_run (stream-other s n passed (record { service = service; field = field }) h) ∙ are s n n_in ∙ sym (follows.others (stream_at s n) (at_place.1 h))
+pub runs-follow : (old new : OpenRuns) (service : Service) (field : List ℕ) (segmented : Bool) (passed : List Passed) → AreRuns old segmented passed → Follows old new service field
+    → AreRuns new segmented (passed ++ record { service = service; field = field } ∷ [])
+runs-follow old new service field segmented passed are follows = record {
+  segmented = follows.segmented ∙ are.segmented;
+  runs = λ s n n_in. by s n n_in (is_of s n (record { service = service; field = field })) refl (same_place s service (segment.header_of field).map n (omega arith) n_in);
+}
+  where
+    by : (s : Service) (n : ℕ) → n < 64 → (t : Bool) → is_of s n (record { service = service; field = field }) ≡ t
+        → (((same_service s service && eqb (segment.header_of field).map n) ≡ true) → stream_at s n ≡ stream_place service field) × (((same_service s service && eqb (segment.header_of field).map n) ≡ false) → stream_at s n ≢ stream_place service field)
+        → Leave (stream s n (passed ++ record { service = service; field = field } ∷ [])) new (stream_at s n)
+    by s n n_in true h at_place =
+        let e = at_place.0 h in
+        let longer = follows.run (stream s n passed) (are.runs s n n_in ∙ ap (run_at old.runs) e) in
+        ap (run_left new.segmented) (stream-same s n passed (record { service = service; field = field }) h) ∙ longer ∙ ap (run_at new.runs) (sym e)
+    by s n n_in false h at_place =
+        ap (run_left new.segmented) (stream-other s n passed (record { service = service; field = field }) h) ∙ ap (λ q. run_left q (stream s n passed)) follows.segmented
+        ∙ are.runs s n n_in ∙ sym (follows.others (stream_at s n) (at_place.1 h))
+
+pub kept-segmented : (row : Row) (accepted : Bool) (octets : List ℕ) (b : ChannelState) → (kept row accepted octets b).segmented ≡ b.segmented
+unfolding passed_on
+kept-segmented row accepted octets b = kept-either (λ x. x.segmented ≡ b.segmented) row accepted octets b refl refl refl
 
 kept-passed : (row : Row) (accepted : Bool) (octets : List ℕ) (b : ChannelState) → row ≢ E6 → (kept row accepted octets b).passed ≡ b.passed
 kept-passed E1 true octets b h = refl
@@ -77,23 +85,40 @@ not-BD Ahead room e = cc
 not-BD Behind room e = cc
 not-BD Outside room e = cc
 
-kind-runs : (width vr : ℕ) (kind : Kind) (room : Bool) (octets : List ℕ) (b : ChannelState) (old new : Runs) → AreRuns old b.passed → FollowsKind kind old new (drop 5 octets)
-    → AreRuns new (kept (frame_row width vr kind room) (accepts (frame_row width vr kind room) b.report) octets b).passed
+kind-runs : (width vr : ℕ) (kind : Kind) (room : Bool) (octets : List ℕ) (b : ChannelState) (old new : OpenRuns) → AreRuns old b.segmented b.passed → FollowsKind kind old new (drop 5 octets)
+    → AreRuns new (kept (frame_row width vr kind room) (accepts (frame_row width vr kind room) b.report) octets b).segmented (kept (frame_row width vr kind room) (accepts (frame_row width vr kind room) b.report) octets b).passed
 unfolding passed_on
-kind-runs width vr (kinds.Ad ns) room octets b old new are same = rw (kept-passed (row_at (place_of width vr ns) room) (accepts (row_at (place_of width vr ns) room) b.report) octets b (not-BD (place_of width vr ns) room), same) are
-kind-runs width vr kinds.Bd room octets b old new are follows = runs-follow old new Bd (drop 5 octets) b.passed are follows
+kind-runs width vr (kinds.Ad ns) room octets b old new are same =
+    let row = row_at (place_of width vr ns) room in
+    rw (kept-segmented row (accepts row b.report) octets b, kept-passed row (accepts row b.report) octets b (not-BD (place_of width vr ns) room), same) are
+kind-runs width vr kinds.Bd room octets b old new are follows = runs-follow old new Bd (drop 5 octets) b.segmented b.passed are follows
 kind-runs width vr (kinds.Bc Unlock) room octets b old new are same = rw same are
 kind-runs width vr (kinds.Bc (SetVr x)) room octets b old new are same = rw same are
 kind-runs width vr kinds.Invalid room octets b old new are same = rw same are
 
-pub frame-runs : (c : Settings) (b : ChannelState) (octets : List ℕ) (old new : Runs) → AreRuns old b.passed → FollowsKind (kind_of (header_of octets) (drop 5 octets)) old new (drop 5 octets) → AreRuns new (step c b (Frame octets)).passed
+pub frame-runs : (c : Settings) (b : ChannelState) (octets : List ℕ) (old new : OpenRuns) → AreRuns old b.segmented b.passed → FollowsKind (kind_of (header_of octets) (drop 5 octets)) old new (drop 5 octets)
+    → AreRuns new (step c b (Frame octets)).segmented (step c b (Frame octets)).passed
 frame-runs c b octets old new are follows = kind-runs c.width b.report.vr (kind_of (header_of octets) (drop 5 octets)) (has_room c b) octets b old new are follows
 
-pub release-runs : (c : Settings) (b : ChannelState) (old new : Runs) → AreRuns old b.passed → Follows old new Ad (first_of (buffer b)) → AreRuns new (step c b Release).passed
+pub release-runs : (c : Settings) (b : ChannelState) (old new : OpenRuns) → AreRuns old b.segmented b.passed → Follows old new Ad (first_of (buffer b)) → AreRuns new (step c b Release).segmented (step c b Release).passed
 unfolding passed_on
-release-runs c b old new are follows = runs-follow old new Ad (first_of (buffer b)) b.passed are follows
+release-runs c b old new are follows = runs-follow old new Ad (first_of (buffer b)) b.segmented b.passed are follows
+
+-- a plain field leaves all as it was
+pub plain-follows : (open_runs : OpenRuns) (service : Service) (field : List ℕ) → open_runs.segmented ≡ false → Follows open_runs open_runs service field
+plain-follows open_runs service field plain = record {
+  run = λ fields leave. ap (λ q. run_left q (fields ++ field ∷ [])) plain ∙ sym (ap (λ q. run_left q fields) plain) ∙ leave;
+  others = λ other apart. refl;
+  segmented = refl;
+}
+
+nothing-left : (segmented : Bool) → run_left segmented [] ≡ None
+nothing-left true = refl
+nothing-left false = refl
 
 -- no run is open at first
-pub none-open : (runs : Runs) (n : ℕ) → runs ≡ replicate n None → 128 ≤ n → AreRuns runs []
-none-open runs n e enough Ad k k_in = rw (e, get_or-replicate {A = Option (List ℕ)} n k None None (omega arith)) refl
-none-open runs n e enough Bd k k_in = rw (e, get_or-replicate {A = Option (List ℕ)} n (64 + k) None None (omega arith)) refl
+pub none-open : (open_runs : OpenRuns) (segmented : Bool) (n : ℕ) → open_runs ≡ record { segmented = segmented; runs = replicate n None } → 128 ≤ n → AreRuns open_runs segmented []
+none-open open_runs segmented n e enough = record { segmented = ap (λ r. r.segmented) e; runs = by } where
+  by : (service : Service) (k : ℕ) → k < 64 → Leave (stream service k []) open_runs (stream_at service k)
+  by Ad k k_in = rw (e, nothing-left segmented, get_or-replicate {A = Option (List ℕ)} n k None None (omega arith)) refl
+  by Bd k k_in = rw (e, nothing-left segmented, get_or-replicate {A = Option (List ℕ)} n (64 + k) None None (omega arith)) refl

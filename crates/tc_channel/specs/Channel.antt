@@ -1,5 +1,5 @@
 -- What the fields of a channel hold of the run of its journal.
-use Rattle.std.specs.Prelude.{◌≡◌, ◌≢◌, ℕ, ◌<◌, List, [], ◌∷◌, ◌++◌, Option, Some, None, map, ◌==◌, ◌&&◌, if◌then◌else◌}
+use Rattle.std.specs.Prelude.{◌≡◌, ◌≢◌, ℕ, ◌<◌, Bool, List, [], ◌∷◌, ◌++◌, Option, Some, None, map, ◌==◌, ◌&&◌, if◌then◌else◌}
 use Rattle.circular_buffer.specs.Buffer.{Buffer}
 use Rattle.tc_link.specs.Farm.{Machine}
 use Rattle.tc_link.specs.declared.Act.{Act}
@@ -7,7 +7,7 @@ use Rattle.tc_link.specs.declared.Kind.{Kind}
 use Rattle.tc_link.specs.declared.Kind.TheVariants as kinds
 use Rattle.tc_packet.specs.declared.Service.{Service}
 use Rattle.tc_packet.specs.declared.Service.TheVariants.{Bd}
-use Rattle.tc_packet.specs.Reassembly.{Passed, stream, open_run, run_at, place_of, stream_place, unit_at}
+use Rattle.tc_packet.specs.Reassembly.{OpenRuns, Passed, Leave, stream, run_at, place_of, stream_place, unit_ended}
 use Rattle.tc_channel.specs.declared.settings.Settings.{Settings}
 use Rattle.tc_channel.specs.Settings.{IsAllowed}
 use Rattle.tc_channel.specs.declared.event.Event.{Event}
@@ -16,36 +16,34 @@ use Rattle.tc_channel.specs.PacketQueues.{held}
 use Rattle.tc_channel.specs.declared.queues.PacketQueue.{PacketQueue}
 use Rattle.tc_channel.specs.Run.{run, IsLawful}
 
--- what a contract sees of a reassembler: the open run of each stream
-abbrev pub Runs : Type 0
-Runs = List (Option (List ℕ))
-
--- each stream's open run is that of the data fields that were passed
-abbrev pub AreRuns : Runs → List Passed → Type 0
-AreRuns runs passed = (service : Service) (map_id : ℕ) → map_id < 64 → open_run (stream service map_id passed) ≡ run_at runs (place_of service map_id)
+-- each stream's open run is that of the data fields that were passed, with segment headers or without
+pub record AreRuns (open_runs : OpenRuns) (headed : Bool) (passed : List Passed) : Type 0 where
+  pub segmented : open_runs.segmented ≡ headed
+  pub runs : (service : Service) (map_id : ℕ) → map_id < 64 → Leave (stream service map_id passed) open_runs (place_of service map_id)
 
 -- the runs after one more data field
-pub record Follows (old new : Runs) (service : Service) (field : List ℕ) : Type 0 where
-  pub run : (fields : List (List ℕ)) → open_run fields ≡ run_at old (stream_place service field) → run_at new (stream_place service field) ≡ open_run (fields ++ field ∷ [])
-  pub others : (other : ℕ) → other ≢ stream_place service field → run_at new other ≡ run_at old other
+pub record Follows (old new : OpenRuns) (service : Service) (field : List ℕ) : Type 0 where
+  pub run : (fields : List (List ℕ)) → Leave fields old (stream_place service field) → Leave (fields ++ field ∷ []) new (stream_place service field)
+  pub others : (other : ℕ) → other ≢ stream_place service field → run_at new.runs other ≡ run_at old.runs other
+  pub segmented : new.segmented ≡ old.segmented
 
 -- the data field of a BD frame is passed on at once, and no other
-abbrev pub FollowsKind : Kind → Runs → Runs → List ℕ → Type 0
+abbrev pub FollowsKind : Kind → OpenRuns → OpenRuns → List ℕ → Type 0
 FollowsKind kinds.Bd old new field = Follows old new Bd field
 FollowsKind (kinds.Ad ns) old new field = new ≡ old
 FollowsKind (kinds.Bc command) old new field = new ≡ old
 FollowsKind kinds.Invalid old new field = new ≡ old
 
 -- the unit that a data field would end
-abbrev pub Ends : Runs → Service → List ℕ → Option (List ℕ) → Type 0
-Ends runs service field unit = (fields : List (List ℕ)) → open_run fields ≡ run_at runs (stream_place service field) → unit ≡ unit_at fields field
+abbrev pub Ends : OpenRuns → Service → List ℕ → Option (List ℕ) → Type 0
+Ends open_runs service field unit = (fields : List (List ℕ)) → Leave fields open_runs (stream_place service field) → unit ≡ unit_ended open_runs.segmented fields field
 
 -- the unit that a frame would end at once
-abbrev pub EndsAtOnce : Kind → Runs → List ℕ → Option (List ℕ) → Type 0
-EndsAtOnce kinds.Bd runs field unit = Ends runs Bd field unit
-EndsAtOnce (kinds.Ad ns) runs field unit = unit ≡ None
-EndsAtOnce (kinds.Bc command) runs field unit = unit ≡ None
-EndsAtOnce kinds.Invalid runs field unit = unit ≡ None
+abbrev pub EndsAtOnce : Kind → OpenRuns → List ℕ → Option (List ℕ) → Type 0
+EndsAtOnce kinds.Bd open_runs field unit = Ends open_runs Bd field unit
+EndsAtOnce (kinds.Ad ns) open_runs field unit = unit ≡ None
+EndsAtOnce (kinds.Bc command) open_runs field unit = unit ≡ None
+EndsAtOnce kinds.Invalid open_runs field unit = unit ≡ None
 
 -- what goes into the buffer of a frame: the data field of an accepted AD frame
 abbrev pub buffered_of : Act → List ℕ → Option (List ℕ)
@@ -59,7 +57,7 @@ with_field fields (Some field) = fields ++ field ∷ []
 pub record Inside : Type 0 where
   pub farm : Machine
   pub ring : Buffer (List ℕ)
-  pub open_runs : Runs
+  pub open_runs : OpenRuns
   pub rings : List PacketQueue
 
 -- all that a channel works with is that of the journal's run
@@ -70,5 +68,5 @@ pub record Holds (s : Settings) (journal : List Event) (inside : Inside) : Type 
   pub report : inside.farm.report ≡ (run s journal).report
   pub capacity : inside.ring.capacity ≡ s.buffer
   pub fields : inside.ring.items ≡ buffer (run s journal)
-  pub runs : AreRuns inside.open_runs (run s journal).passed
+  pub runs : AreRuns inside.open_runs (run s journal).segmented (run s journal).passed
   pub queues : inside.rings ≡ map held (run s journal).queues

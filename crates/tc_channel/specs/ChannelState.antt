@@ -18,9 +18,11 @@ pub record Queue : Type 0 where
   pub admitted : List (List ℕ)
   pub taken : ℕ
 
--- all AD frames ever accepted and how many of them were released, all data fields ever passed to reassembly, and the queues
+-- whether data fields have segment headers, all AD frames ever accepted and how many of them were released, all data fields ever passed to
+-- reassembly, and the queues
 pub record ChannelState : Type 0 where
   pub report : Report
+  pub segmented : Bool
   pub accepted : List Accepted
   pub released : ℕ
   pub passed : List Passed
@@ -31,7 +33,7 @@ empty_queue q = record { apid = q.apid; capacity = q.capacity; admitted = []; ta
 
 -- the state of a channel that starts
 abbrev pub first_state : Settings → ChannelState
-first_state s = record { report = first_report s.first; accepted = []; released = 0; passed = []; queues = map empty_queue s.queues }
+first_state s = record { report = first_report s.first; segmented = s.segmented; accepted = []; released = 0; passed = []; queues = map empty_queue s.queues }
 
 -- the data fields that wait in the buffer, the oldest first
 abbrev pub buffer : ChannelState → List (List ℕ)

@@ -6,7 +6,7 @@ use Rattle.tc_link.specs.Farm.{Row, E1, E6, E10, frame_row, entry, accepts, afte
 use Rattle.tc_packet.specs.declared.Service.{Service}
 use Rattle.tc_packet.specs.declared.Service.TheVariants.{Ad, Bd}
 use Rattle.tc_packet.specs.Segment as segment
-use Rattle.tc_packet.specs.Reassembly.{stream, unit_at}
+use Rattle.tc_packet.specs.Reassembly.{stream, unit_ended}
 use Rattle.tc_channel.specs.declared.settings.Settings.{Settings}
 use Rattle.tc_channel.specs.declared.event.Event.{Event}
 use Rattle.tc_channel.specs.declared.event.Event.TheVariants.{Frame, Release, Take}
@@ -23,7 +23,7 @@ row_of s state octets = frame_row s.width state.report.vr (kind_of (header_of oc
 
 -- the unit that a data field ends where it is passed to reassembly
 abbrev pub unit_of : ChannelState → Service → List ℕ → Option (List ℕ)
-unit_of state service field = unit_at (stream service (segment.header_of field).map state.passed) field
+unit_of state service field = unit_ended state.segmented (stream service (segment.header_of field).map state.passed) field
 
 -- a data field is passed to reassembly, and the queues admit what they can of the unit that it ends
 unfoldable pub passed_on : Service → List ℕ → ChannelState → ChannelState

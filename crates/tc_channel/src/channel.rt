@@ -217,7 +217,7 @@ fn start(alloc: Global, settings: Settings) -> Result<Channel, NoMemory>
 {
     let window = Window::new(settings.width).unwrap();
     let fields = HeapCircularBuffer::with_capacity(alloc, settings.buffer as usize)?;
-    let reassembler = Reassembler::new(alloc)?;
+    let reassembler = Reassembler::new(alloc, settings.segmented)?;
     let queues = empty_queues(alloc, settings.queues.as_slice())?;
     Ok(Channel {
         alloc,
@@ -255,6 +255,18 @@ fn put_field(fields: &mut HeapCircularBuffer<Octets>, field: Option<Octets>)
     }
 }
 
+// Passes a field to reassembly, where it has a segment header: a plain field leaves nothing there.
+fn pass(reassembler: &mut Reassembler, service: Service, field: &[u8]) -> Result<(), NoMemory>
+    requires { 0 < length field.now }
+    ensures ok { OnOk result (Follows reassembler.old reassembler.new service field.now) }
+    ensures err { OnErr result (reassembler.new ≡ reassembler.old) }
+{
+    if reassembler.segmented() {
+        reassembler.push(service, field)?;
+    }
+    Ok(())
+}
+
 // Passes a BD field to reassembly. Nothing grows after it in a call, and nothing has changed before it.
 fn pass_bypass(reassembler: &mut Reassembler, kind: Kind, field: &[u8]) -> Result<(), NoMemory>
     requires { 0 < length field.now }
@@ -262,10 +274,7 @@ fn pass_bypass(reassembler: &mut Reassembler, kind: Kind, field: &[u8]) -> Resul
     ensures err { OnErr result (reassembler.new ≡ reassembler.old) }
 {
     match kind {
-        Kind::Bd => {
-            reassembler.push(Service::Bd, field)?;
-            Ok(())
-        }
+        Kind::Bd => pass(reassembler, Service::Bd, field),
         Kind::Ad(_) => Ok(()),
         Kind::Bc(_) => Ok(()),
         Kind::Invalid => Ok(()),
@@ -283,10 +292,7 @@ fn pass_oldest(
     ensures err { OnErr result (reassembler.new ≡ reassembler.old) }
 {
     match fields.front() {
-        Some(field) => {
-            reassembler.push(Service::Ad, field.as_slice())?;
-            Ok(())
-        }
+        Some(field) => pass(reassembler, Service::Ad, field.as_slice()),
         None => Ok(()),
     }
 }

@@ -1,18 +1,22 @@
 //! Laws over the definitions.
 
-ghost use Rattle.std.specs.Prelude.{List, ℕ, ◌≡◌, ◌≤◌, ◌<◌, ◌+◌, ◌^◌, ◌++◌, Option, length};
+ghost use Rattle.std.specs.Prelude.{List, ℕ, ◌≡◌, ◌≤◌, ◌<◌, ◌+◌, ◌^◌, ◌++◌, ◌↔◌, Option, Some, None, false, length};
 ghost use Rattle.tc_channel.specs.ChannelState.{Queue, buffer};
 ghost use Rattle.std.specs.List.{AllByRecursion, Contains};
 ghost use Rattle.tc_link.specs.Frame.{IsWhole};
 ghost use Rattle.tc_link.specs.declared.Link.{Link};
+ghost use Rattle.tc_packet.specs.declared.Service.{Service};
+ghost use Rattle.tc_packet.specs.Reassembly.{largest_unit, run_left, stream};
 ghost use Rattle.tc_channel.specs.Admission.{packets_in, share_of};
 ghost use Rattle.tc_channel.specs.Reply.{clcw, delivery_of};
 ghost use Rattle.tc_channel.specs.declared.settings.Settings.{Settings};
 ghost use Rattle.tc_channel.specs.declared.event.Event.{Event};
 ghost use Rattle.tc_channel.specs.Settings.{IsAllowed};
-ghost use Rattle.tc_channel.specs.Run.{run, run_from, HasStep, IsLawful, AreSteps};
+ghost use Rattle.tc_channel.specs.Run.{run, run_from, unit_of, HasStep, IsLawful, AreSteps};
 ghost use Rattle.tc_channel.specs.Laws.{IsSound, KeepsToItsCapacity, Grows};
 ghost use Rattle.tc_channel.specs.Era.{IsEra, CountsUpInItsEra};
+
+use tc_packet::a_plain_field_is_a_unit_by_itself;
 
 /// In S2 Wait is set. Wait means that there is no room, and is never set in S1. Lockout is set just in S3.
 pub fn wait_means_no_room()
@@ -64,3 +68,15 @@ pub fn each_packet_is_queued_or_dropped()
 pub fn each_clcw_fits_its_word()
     ensures { (s : Settings) (journal : List Event) (link : Link) → IsAllowed s → IsLawful s journal → clcw s journal link < 2 ^ 32 }
 {}
+
+/// No event makes a plain channel a segmented one, or back. On a plain channel each data field within the limit is a unit by
+/// itself, and no run is ever open.
+pub fn a_plain_channel_takes_each_field_as_a_unit()
+    ensures stays { (s : Settings) (journal : List Event) → (run s journal).segmented ≡ s.segmented }
+    ensures unit { (s : Settings) (journal : List Event) (service : Service) (field octets : List ℕ) → s.segmented ≡ false
+        → (unit_of (run s journal) service field ≡ Some octets) ↔ ((octets ≡ field) × (length field ≤ largest_unit)) }
+    ensures run { (s : Settings) (journal : List Event) (service : Service) (map_id : ℕ) → s.segmented ≡ false
+        → run_left (run s journal).segmented (stream service map_id (run s journal).passed) ≡ None }
+{
+    a_plain_field_is_a_unit_by_itself();
+}

@@ -4,6 +4,7 @@ ghost use Rattle.std.specs.Prelude.{ℕ, List, ◌<◌, ◌≤◌, ◌≡◌, �
 ghost use Rattle.std.specs.List.{AllByRecursion};
 ghost use Rattle.std.specs.Option.{option_and_then, option_copied};
 ghost use Rattle.tc_packet.specs.PacketFields.{HasFields, octets_of};
+ghost use Rattle.tc_packet.specs.Reassembly.{bounded};
 ghost use Rattle.tc_channel.specs.ChannelState.{empty_queue};
 ghost use Rattle.tc_channel.specs.Channel.{Ends};
 ghost use Rattle.tc_channel.specs.PacketQueues.{held, apids_of, AreDistinct, share, copied_to, copies_from, put_all, HavePlaces, queue_for, popped, IsPlanned};
@@ -14,7 +15,7 @@ use crate::settings::QueueSetting;
 use circular_buffer::HeapCircularBuffer;
 use std::alloc::{AllocError, Global};
 use tc_packet::{
-    Packet, Reassembler, Service, cut, each_run_within_the_limit_is_left_by_fields,
+    LARGEST_UNIT, Packet, Reassembler, Service, cut, each_run_within_the_limit_is_left_by_fields,
     each_unit_has_one_cut,
 };
 
@@ -149,7 +150,7 @@ pub(crate) fn plan_nothing(alloc: Global) -> Planned
 
 // What becomes of the packets of a unit.
 fn plan_unit(alloc: Global, unit: &[u8], queues: &[PacketQueue]) -> Result<Planned, NoMemory>
-    requires within { length unit.now ≤ 65542 }
+    requires within { length unit.now ≤ LARGEST_UNIT }
     requires distinct { AreDistinct (apids_of queues.now) }
     ensures { IfOk result (IsPlanned (Some unit.now) queues.now) }
 {
@@ -166,6 +167,17 @@ fn plan_unit(alloc: Global, unit: &[u8], queues: &[PacketQueue]) -> Result<Plann
     Ok(Planned { copies, delivery })
 }
 
+// What becomes of the packets of a plain field, which is cut where it lies.
+fn plan_plain(alloc: Global, field: &[u8], queues: &[PacketQueue]) -> Result<Planned, NoMemory>
+    requires distinct { AreDistinct (apids_of queues.now) }
+    ensures { IfOk result (IsPlanned (bounded field.now) queues.now) }
+{
+    if field.len() > LARGEST_UNIT {
+        return Ok(plan_nothing(alloc));
+    }
+    plan_unit(alloc, field, queues)
+}
+
 /// What becomes of the packets of the unit that a data field would end.
 pub(crate) fn plan(
     alloc: Global,
@@ -178,6 +190,9 @@ pub(crate) fn plan(
     requires distinct { AreDistinct (apids_of queues.now) }
     ensures { IfOk result (λ p. (unit : Option (List ℕ)) × Ends reassembler.now service field.now unit × IsPlanned unit queues.now p) }
 {
+    if !reassembler.segmented() {
+        return plan_plain(alloc, field, queues);
+    }
     each_run_within_the_limit_is_left_by_fields();
     match reassembler.unit_after(service, field)? {
         None => Ok(plan_nothing(alloc)),

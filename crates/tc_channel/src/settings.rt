@@ -27,6 +27,8 @@ pub struct Settings {
     pub buffer: u8,
     /// V(R) at the start.
     pub first: u8,
+    /// Whether data fields begin with a segment header. On a plain channel, which has none, each is a unit by itself.
+    pub segmented: bool,
     /// The packet queues, no two with one APID.
     pub queues: Items<QueueSetting>,
 }

@@ -7,12 +7,16 @@ use Rattle.std.proofs.lemmas.List.{length-map, length-set, length-replicate, map
 use Rattle.tc_packet.specs.declared.segment.Part.{Part}
 use Rattle.tc_packet.specs.declared.segment.Part.TheVariants.{First, Continuing, Last, Unsegmented}
 use Rattle.tc_packet.specs.Segment.{header_of, body_of}
-use Rattle.tc_packet.specs.Reassembly.{AreOpenRuns, IsWithinLimit, bounded, extended, open_run, run_at}
+use Rattle.tc_packet.specs.Reassembly.{AreOpenRuns, IsWithinLimit, OpenRuns, bounded, extended, open_run, run_at, run_left}
 use Rattle.tc_packet.specs.Runs.{next_run, octets_in, runs_of}
 use Rattle.tc_packet.proofs.OpenRuns.{open_run-push}
 
 abbrev Kept : Type 0
 Kept = List (Option (Vec ℕ))
+
+-- what a contract sees of them
+abbrev pub seen : Bool → Kept → OpenRuns
+seen segmented runs = record { segmented = segmented; runs = runs_of runs }
 
 abbrev none_kept : Option (Vec ℕ)
 none_kept = None
@@ -43,7 +47,7 @@ pub read-run : (runs : Kept) (i : ℕ) (run : Option (Vec ℕ)) → i < length r
 read-run runs i run inside is = get_or-map octets_in runs i None ∙ ap octets_in (get_or_default runs i None run inside) ∙ ap octets_in (sym is)
 
 -- a run that is read is within the limit
-pub read_within : (runs : Kept) (i : ℕ) (run : Option (Vec ℕ)) → AreOpenRuns (runs_of runs) → i < 128 → run ≡ get_or runs i run → IsWithinLimit (octets_in run)
+pub read_within : {segmented : Bool} (runs : Kept) (i : ℕ) (run : Option (Vec ℕ)) → AreOpenRuns (seen segmented runs) → i < 128 → run ≡ get_or runs i run → IsWithinLimit (octets_in run)
 read_within runs i run kept inside is =
     subst IsWithinLimit (read-run runs i run (omega (arith, length-map runs octets_in, kept.streams)) is) (kept.limit i)
 
@@ -59,22 +63,28 @@ pub same-runs : (runs : Kept) (i : ℕ) (run next : Option (Vec ℕ)) → i < le
 same-runs runs i run next inside is same =
     map-set octets_in runs i next ∙ ap (λ (x : Option (List ℕ)). set (runs_of runs) i x) (same ∙ sym (read-run runs i run inside is)) ∙ set-get_or (runs_of runs) i None
 
-pub written-within : (runs : Kept) (i : ℕ) (next : Option (Vec ℕ)) → i < length runs → AreOpenRuns (runs_of runs) → IsWithinLimit (octets_in next) → AreOpenRuns (runs_of (set runs i next))
-written-within runs i next inside old within = record {
+-- with segment headers a run within the limit can be written
+pub written-within : {segmented : Bool} (runs : Kept) (i : ℕ) (next : Option (Vec ℕ)) → segmented ≡ true → i < length runs → AreOpenRuns (seen segmented runs) → IsWithinLimit (octets_in next) → AreOpenRuns (seen segmented (set runs i next))
+written-within runs i next on inside old within = record {
   streams = length-map (set runs i next) octets_in ∙ length-set runs i next ∙ sym (length-map runs octets_in) ∙ old.streams;
   limit = λ place. elim (cases_eq place i) [
     | inl e ↦ let P : ℕ → Type 0 = λ p. IsWithinLimit (run_at (runs_of (set runs i next)) p) in subst P (sym e) (subst IsWithinLimit (sym (written-run runs i next inside)) within)
     | inr apart ↦ subst IsWithinLimit (sym (others-stay runs i place next apart)) (old.limit place)
   ];
+  plain = λ off. absurd (let e = on in cc);
 }
 
 -- the stream of the field has the open run of its longer list
 pub pushed : (runs : Kept) (i place : ℕ) (next run : Option (Vec ℕ)) (fields : List (List ℕ)) (field body : List ℕ) (part : Part)
     → i ≡ place → i < length runs → run ≡ get_or runs i run → part ≡ (header_of field).part → body ≡ body_of field → octets_in next ≡ next_run part (octets_in run) body
-    → open_run fields ≡ run_at (runs_of runs) place → run_at (runs_of (set runs i next)) place ≡ open_run (fields ++ field ∷ [])
+    → open_run fields ≡ run_at (runs_of runs) place → open_run (fields ++ field ∷ []) ≡ run_at (runs_of (set runs i next)) place
 pushed runs i place next run fields field body part at_is inside run_is part_is body_is next_is opened =
     let old : run_at (runs_of runs) i ≡ octets_in run = read-run runs i run inside run_is in
-    rw (← at_is) (written-run runs i next inside ∙ next_is ∙ rw (part_is, body_is, ← old, at_is, ← opened) (sym (open_run-push fields field)))
+    sym (rw (← at_is) (written-run runs i next inside ∙ next_is ∙ rw (part_is, body_is, ← old, at_is, ← opened) (sym (open_run-push fields field))))
+
+-- with segment headers, the run left is the open run
+pub left-on : (segmented : Bool) (fields : List (List ℕ)) → segmented ≡ true → run_left segmented fields ≡ open_run fields
+left-on segmented fields on = rw on refl
 
 none-at : (n i : ℕ) → get_or (replicate n (none_kept)) i none_kept ≡ none_kept
 none-at n i = elim (cases_lt i n) [
@@ -83,8 +93,9 @@ none-at n i = elim (cases_lt i n) [
 ]
 
 -- no run is open
-pub none-open : (n : ℕ) → n ≡ 128 → AreOpenRuns (runs_of (replicate n none_kept))
-none-open n all = record {
+pub none-open : (segmented : Bool) (n : ℕ) → n ≡ 128 → AreOpenRuns (seen segmented (replicate n none_kept))
+none-open segmented n all = record {
   streams = length-map (replicate n none_kept) octets_in ∙ length-replicate n none_kept ∙ all;
   limit = λ place. subst IsWithinLimit (sym (get_or-map octets_in (replicate n none_kept) place None ∙ ap octets_in (none-at n place))) tt;
+  plain = λ off place. get_or-map octets_in (replicate n none_kept) place None ∙ ap octets_in (none-at n place);
 }

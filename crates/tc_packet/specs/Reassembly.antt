@@ -131,10 +131,32 @@ stream_place service field = place_of service (header_of field).map
 abbrev pub stream_count : ℕ
 stream_count = 128
 
--- one run, or none, for each stream, and none beyond the limit
-pub record AreOpenRuns (runs : List (Option (List ℕ))) : Type 0 where
-  pub streams : length runs ≡ stream_count
-  pub limit : (place : ℕ) → IsWithinLimit (run_at runs place)
+-- with segment headers or without: a plain field, which has none, is a unit by itself and opens no run
+
+-- the run that the fields of a stream leave open
+abbrev pub run_left : Bool → List (List ℕ) → Option (List ℕ)
+run_left true fields = open_run fields
+run_left false fields = None
+
+-- the unit that a field ends, after these fields of its stream
+abbrev pub unit_ended : Bool → List (List ℕ) → List ℕ → Option (List ℕ)
+unit_ended true fields field = unit_at fields field
+unit_ended false fields field = bounded field
+
+-- what a contract sees of a reassembler: whether data fields have segment headers, and the open run of each stream
+pub record OpenRuns : Type 0 where
+  pub segmented : Bool
+  pub runs : List (Option (List ℕ))
+
+-- one run, or none, for each stream, none beyond the limit, and none at all without segment headers
+pub record AreOpenRuns (open_runs : OpenRuns) : Type 0 where
+  pub streams : length open_runs.runs ≡ stream_count
+  pub limit : (place : ℕ) → IsWithinLimit (run_at open_runs.runs place)
+  pub plain : open_runs.segmented ≡ false → (place : ℕ) → run_at open_runs.runs place ≡ None
+
+-- the fields leave the run that stands at this place
+abbrev pub Leave : List (List ℕ) → OpenRuns → ℕ → Type 0
+Leave fields open_runs place = run_left open_runs.segmented fields ≡ run_at open_runs.runs place
 
 -- some fields of this MAP leave this run open
 pub record IsLeftByFields (map : ℕ) (run : Option (List ℕ)) : Type 0 where

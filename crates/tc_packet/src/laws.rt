@@ -1,8 +1,8 @@
 //! Laws over the definitions of this crate.
 
-ghost use Rattle.std.specs.Prelude.{◌≡◌, ◌<◌, ◌↔◌, ℕ, List, Option, Some, take};
+ghost use Rattle.std.specs.Prelude.{◌≡◌, ◌<◌, ◌≤◌, ◌↔◌, ℕ, false, List, length, Option, Some, None, take};
 ghost use Rattle.tc_packet.specs.declared.reassembler.Service.{Service};
-ghost use Rattle.tc_packet.specs.Reassembly.{IsLeftByFields, IsOpenRun, IsUnit, IsWithinLimit, open_run, place_of, stream_count, unit_at};
+ghost use Rattle.tc_packet.specs.Reassembly.{IsLeftByFields, IsOpenRun, IsUnit, IsWithinLimit, largest_unit, open_run, place_of, run_left, stream_count, unit_at, unit_ended};
 ghost use Rattle.tc_packet.specs.SpacePacket.{IsCut, IsPacket, packets_of, rest_of};
 
 /// The cut of a unit is this one, and no other.
@@ -33,6 +33,12 @@ pub fn each_run_within_the_limit_is_left_by_fields()
     ensures left { (map : ℕ) (run : Option (List ℕ)) → map < 64 → IsWithinLimit run → IsLeftByFields map run }
     ensures only { (fields : List (List ℕ)) → IsWithinLimit (open_run fields) }
     ensures units { (fields : List (List ℕ)) (field : List ℕ) → IsWithinLimit (unit_at fields field) }
+{}
+
+/// Without segment headers a field is a unit by itself where it is within the limit, and no run is left open.
+pub fn a_plain_field_is_a_unit_by_itself()
+    ensures unit { (fields : List (List ℕ)) (field octets : List ℕ) → (unit_ended false fields field ≡ Some octets) ↔ ((octets ≡ field) × (length field ≤ largest_unit)) }
+    ensures run { (fields : List (List ℕ)) → run_left false fields ≡ None }
 {}
 
 /// Each stream has a place of its own among the open runs.

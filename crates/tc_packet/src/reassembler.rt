@@ -1,7 +1,7 @@
-//! Reassembly of segmented units (CCSDS 232.0-B, 4.4).
+//! Reassembly of segmented units (CCSDS 232.0-B, 4.4), and fields that are units by themselves.
 
 ghost use Rattle.std.specs.Prelude.{◌≡◌, ◌<◌, ◌≤◌, ◌↔◌, ◌∷◌, ◌++◌, ℕ, List, [], length, replicate, None, IfOk, OnOk, OnErr, IsTrue};
-ghost use Rattle.tc_packet.specs.Reassembly.{AreOpenRuns, IsWithinLimit, bounded, ended_by, extended, largest_unit, open_run, place_of, run_at, stream_count, stream_place, unit_at};
+ghost use Rattle.tc_packet.specs.Reassembly.{AreOpenRuns, IsWithinLimit, Leave, bounded, ended_by, extended, largest_unit, place_of, run_at, run_left, stream_count, stream_place, unit_ended};
 ghost use Rattle.tc_packet.specs.Runs.{next_run, octets_in};
 
 use crate::fault::NoMemory;
@@ -16,51 +16,65 @@ pub enum Service {
     Bd,
 }
 
-// The most octets of a run or a unit.
-const LARGEST_UNIT: usize = 65_542;
+/// The most octets of a run or a unit.
+pub const LARGEST_UNIT: usize = 65_542;
 
 // Two services of 64 MAPs.
 const STREAMS: usize = 128;
 
 /// The open run of each stream: of the 64 MAPs of the AD service, and then of those of the BD service.
+/// Where data fields have no segment header, each is a unit by itself and no run is ever open.
 #[derive(Debug, Drop)]
 pub struct Reassembler {
     alloc: Global,
+    segmented: bool,
     runs: Vec<Option<Vec<u8>>>,
 }
 
 impl Model for Reassembler {
-    ghost use Rattle.std.specs.Prelude.{List, ℕ, Option};
-    ghost use Rattle.tc_packet.specs.Reassembly.{AreOpenRuns};
+    ghost use Rattle.tc_packet.specs.Reassembly.{AreOpenRuns, OpenRuns};
     ghost use Rattle.tc_packet.specs.Runs.{runs_of};
 
-    ghost Value = { List (Option (List ℕ)) };
+    ghost Value = { OpenRuns };
 
-    ghost view = { λ r. runs_of r.runs.items };
+    ghost view = { λ r. record { segmented = r.segmented; runs = runs_of r.runs.items } };
 
-    ghost invariant = { λ r. AreOpenRuns (runs_of r.runs.items) };
+    ghost invariant = { λ r. AreOpenRuns (record { segmented = r.segmented; runs = runs_of r.runs.items }) };
 }
 
 impl Reassembler {
-    /// No run is open. The room for all streams is made here.
-    pub fn new(alloc: Global) -> Result<Reassembler, NoMemory>
-        ensures { IfOk result (λ r. r ≡ replicate stream_count None) }
+    /// No run is open. The room for all streams is made here. `segmented` says whether data fields begin with a segment header.
+    pub fn new(alloc: Global, segmented: bool) -> Result<Reassembler, NoMemory>
+        ensures { IfOk result (λ r. r ≡ record { segmented = segmented; runs = replicate stream_count None }) }
     {
         let mut runs = Vec::with_capacity(alloc, STREAMS)?;
         for _ in 0..STREAMS {
             runs.push_reserved(None);
         }
-        Ok(Reassembler { alloc, runs })
+        Ok(Reassembler {
+            alloc,
+            segmented,
+            runs,
+        })
+    }
+
+    /// Whether data fields begin with a segment header.
+    pub fn segmented(&self) -> bool
+        ensures { result ≡ self.now.segmented }
+    {
+        self.segmented
     }
 
     /// The unit that this field would end, in a list of its own, which is the one allocation.
-    #[tactic(auto, using(crate::proofs::KeptRuns::read_within))]
     pub fn unit_after(&self, service: Service, field: &[u8]) -> Result<Option<Vec<u8>>, NoMemory>
         requires { 0 < length field.now }
-        ensures unit { (fields : List (List ℕ)) → open_run fields ≡ run_at self.now (stream_place service field.now)
-            → IfOk result (λ unit. octets_in unit ≡ unit_at fields field.now) }
+        ensures unit { (fields : List (List ℕ)) → Leave fields self.now (stream_place service field.now)
+            → IfOk result (λ unit. octets_in unit ≡ unit_ended self.now.segmented fields field.now) }
         ensures limit { AreOpenRuns self.now }
     {
+        if !self.segmented {
+            return copied(self.alloc, field);
+        }
         let segment = read_segment(field[0]);
         let run = &self.runs[place(service, segment.map)];
         ended(self.alloc, segment.part, run, &field[1..])
@@ -68,18 +82,21 @@ impl Reassembler {
 
     /// Takes the next field of its stream, and gives the unit that it ends. All growths come before
     /// the first change; a run is copied only where its block grows, and moved out where it ends.
-    #[tactic(auto, using(crate::proofs::KeptRuns::read_within))]
     pub fn push(&mut self, service: Service, field: &[u8]) -> Result<Option<Vec<u8>>, NoMemory>
         requires { 0 < length field.now }
-        ensures unit { (fields : List (List ℕ)) → open_run fields ≡ run_at self.old (stream_place service field.now)
-            → IfOk result (λ unit. octets_in unit ≡ unit_at fields field.now) }
-        ensures run { (fields : List (List ℕ)) → open_run fields ≡ run_at self.old (stream_place service field.now)
-            → OnOk result (run_at self.new (stream_place service field.now) ≡ open_run (fields ++ field.now ∷ [])) }
-        ensures others { (other : ℕ) → (other ≡ stream_place service field.now → ⊥) → run_at self.new other ≡ run_at self.old other }
+        ensures unit { (fields : List (List ℕ)) → Leave fields self.old (stream_place service field.now)
+            → IfOk result (λ unit. octets_in unit ≡ unit_ended self.old.segmented fields field.now) }
+        ensures run { (fields : List (List ℕ)) → Leave fields self.old (stream_place service field.now)
+            → OnOk result (Leave (fields ++ field.now ∷ []) self.new (stream_place service field.now)) }
+        ensures others { (other : ℕ) → (other ≡ stream_place service field.now → ⊥) → run_at self.new.runs other ≡ run_at self.old.runs other }
+        ensures segmented { self.new.segmented ≡ self.old.segmented }
         ensures limit_before { AreOpenRuns self.old }
         ensures limit { AreOpenRuns self.new }
         ensures refused { OnErr result (self.new ≡ self.old) }
     {
+        if !self.segmented {
+            return self.unit_after(service, field);
+        }
         let segment = read_segment(field[0]);
         let run = &mut self.runs[place(service, segment.map)];
         follow(self.alloc, segment.part, run, &field[1..])

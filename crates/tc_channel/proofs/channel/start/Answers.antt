@@ -11,7 +11,7 @@ invariant_of-result c = rw c.new-4.ensures.items (record {
   width = c.new-3.ensures.width ∙ rw c.unwrap-window.ensures at c.new.ensures.width;
   report = c.new-3.ensures.report;
   capacity = ap (λ b. b.capacity) c.in_ok-fields.ensures;
-  runs = none-open c.in_ok-reassembler.reassembler 128 c.in_ok-reassembler.ensures (omega arith);
+  runs = none-open c.in_ok-reassembler.reassembler _ 128 c.in_ok-reassembler.ensures (omega arith);
   queues = rw c.as_slice.ensures at c.in_ok-queues.ensures;
   fields = ap (λ b. b.items) c.in_ok-fields.ensures;
 })

@@ -1,0 +1,9 @@
+use Rattle.std.proofs.Common.{◌≡◌, None, arith}
+use Rattle.std.proofs.lemmas.Grind.{common_steps}
+use Rattle.tc_packet.specs.Reassembly.{bounded}
+use Rattle.tc_channel.proofs.queues.plan_plain.Goals as goal
+
+pub returns-then-field-gt-LARGEST_UNIT : goal.returns-then-field-gt-LARGEST_UNIT
+returns-then-field-gt-LARGEST_UNIT c =
+    let none : bounded c.args.field.now ≡ None = grind (arith, common_steps) in
+    rw none (c.plan_nothing.ensures c.args.queues.now)
