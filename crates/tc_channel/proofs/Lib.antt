@@ -13,6 +13,7 @@ pub mod Filled
 pub mod Held
 pub mod Small
 pub mod Eras
+pub mod Faults
 pub mod Growth
 pub mod Apart
 pub mod Words

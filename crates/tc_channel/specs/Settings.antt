@@ -1,5 +1,5 @@
 -- Which settings make a channel, and why others do not. The limits are this receiver's own; the APID 2047 marks idle packets (CCSDS 133.0-B, 4.1.2.3.4).
-use Rattle.std.specs.Prelude.{◌≢◌, ◌<◌, ◌≤◌, ℕ, List, All, AllPairs}
+use Rattle.std.specs.Prelude.{◌≡◌, ◌≢◌, ◌<◌, ◌≤◌, ◌⊎◌, ℕ, List, [], ◌∷◌, All, AllPairs}
 use Rattle.tc_link.specs.Window.{IsWidth}
 use Rattle.tc_channel.specs.declared.settings.QueueSetting.{QueueSetting}
 use Rattle.tc_channel.specs.declared.settings.Settings.{Settings}
@@ -33,22 +33,29 @@ pub record IsAllowed (s : Settings) : Type 0 where
   pub apart : AreApart s.queues
   pub capacities : HaveCapacities s.queues
 
+-- what settings keep that are free of this fault; want of memory is no fault of theirs
+abbrev pub IsFreeOf : Settings → SettingsFault → Type 0
+IsFreeOf s BadVcid = IsVcid s.vcid
+IsFreeOf s BadWindow = IsWidth s.width
+IsFreeOf s BadBuffer = IsBufferSize s.buffer
+IsFreeOf s BadApid = HaveApids s.queues
+IsFreeOf s DoubleApid = AreApart s.queues
+IsFreeOf s BadCapacity = HaveCapacities s.queues
+IsFreeOf s NoMemory = Unit {0}
+
+-- the faults that settings may have, in the order in which they are looked for
+abbrev pub faults_in_order : List SettingsFault
+faults_in_order = BadVcid ∷ BadWindow ∷ BadBuffer ∷ BadApid ∷ DoubleApid ∷ BadCapacity ∷ []
+
+-- of the listed faults the settings have this one, and none before it
+abbrev pub IsFirstFault : Settings → List SettingsFault → SettingsFault → Type 0
+IsFirstFault s [] fault = ⊥
+IsFirstFault s (next ∷ later) fault = ((fault ≡ next) × ¬ IsFreeOf s next) ⊎ (IsFreeOf s next × IsFirstFault s later fault)
+
 -- the first fault of the settings is this one
 abbrev pub IsFault : Settings → SettingsFault → Type 0
-IsFault s BadVcid = ¬ IsVcid s.vcid
-IsFault s BadWindow = IsVcid s.vcid × ¬ IsWidth s.width
-IsFault s BadBuffer = IsVcid s.vcid × IsWidth s.width × ¬ IsBufferSize s.buffer
-IsFault s BadApid = IsVcid s.vcid × IsWidth s.width × IsBufferSize s.buffer × ¬ HaveApids s.queues
-IsFault s DoubleApid = IsVcid s.vcid × IsWidth s.width × IsBufferSize s.buffer × HaveApids s.queues × ¬ AreApart s.queues
-IsFault s BadCapacity = IsVcid s.vcid × IsWidth s.width × IsBufferSize s.buffer × HaveApids s.queues × AreApart s.queues × ¬ HaveCapacities s.queues
-IsFault s NoMemory = ⊥
+IsFault s fault = IsFirstFault s faults_in_order fault
 
 -- why no channel was made: want of memory only where the settings have no fault
 abbrev pub IsRefusal : Settings → SettingsFault → Type 0
-IsRefusal s NoMemory = IsAllowed s
-IsRefusal s BadVcid = IsFault s BadVcid
-IsRefusal s BadWindow = IsFault s BadWindow
-IsRefusal s BadBuffer = IsFault s BadBuffer
-IsRefusal s BadApid = IsFault s BadApid
-IsRefusal s DoubleApid = IsFault s DoubleApid
-IsRefusal s BadCapacity = IsFault s BadCapacity
+IsRefusal s fault = IsFault s fault ⊎ ((fault ≡ NoMemory) × IsAllowed s)

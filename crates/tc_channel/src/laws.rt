@@ -11,12 +11,18 @@ ghost use Rattle.tc_channel.specs.Admission.{packets_in, share_of};
 ghost use Rattle.tc_channel.specs.Reply.{clcw, delivery_of};
 ghost use Rattle.tc_channel.specs.declared.settings.Settings.{Settings};
 ghost use Rattle.tc_channel.specs.declared.event.Event.{Event};
-ghost use Rattle.tc_channel.specs.Settings.{IsAllowed};
+ghost use Rattle.tc_channel.specs.declared.settings.SettingsFault.{SettingsFault};
+ghost use Rattle.tc_channel.specs.Settings.{IsAllowed, IsFault};
 ghost use Rattle.tc_channel.specs.Run.{run, run_from, unit_of, HasStep, IsLawful, AreSteps};
 ghost use Rattle.tc_channel.specs.Laws.{IsSound, KeepsToItsCapacity, Grows};
 ghost use Rattle.tc_channel.specs.Era.{IsEra, CountsUpInItsEra};
 
 use tc_packet::a_plain_field_is_a_unit_by_itself;
+
+/// Allowed settings have no fault.
+pub fn allowed_settings_have_no_fault()
+    ensures { (s : Settings) (fault : SettingsFault) → IsAllowed s → IsFault s fault → ⊥ }
+{}
 
 /// In S2 Wait is set. Wait means that there is no room, and is never set in S1. Lockout is set just in S3.
 pub fn wait_means_no_room()

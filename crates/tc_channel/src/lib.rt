@@ -2,9 +2,10 @@
 //!
 //! A contract sees a [`Channel`] as its settings and its journal. All else that it has is the run of
 //! that journal: FARM-1's components, the buffered data fields, the open runs of reassembly and the
-//! packet queues. The laws over these definitions are the contracts of [`wait_means_no_room`],
-//! [`each_frame_has_a_step`], [`each_journal_has_an_era`], [`accepted_frames_count_up`],
-//! [`queues_keep_to_their_capacity`], [`buffer_keeps_to_its_size`], [`each_packet_is_queued_or_dropped`],
+//! packet queues. The laws over these definitions are the contracts of
+//! [`allowed_settings_have_no_fault`], [`wait_means_no_room`], [`each_frame_has_a_step`],
+//! [`each_journal_has_an_era`], [`accepted_frames_count_up`], [`queues_keep_to_their_capacity`],
+//! [`buffer_keeps_to_its_size`], [`each_packet_is_queued_or_dropped`],
 //! [`each_clcw_fits_its_word`], [`a_longer_run_goes_on`] and [`a_plain_channel_takes_each_field_as_a_unit`].
 #![tactic(auto)]
 
@@ -21,9 +22,9 @@ pub use event::Event;
 pub use items::{Items, Octets};
 pub use laws::{
     a_longer_run_goes_on, a_plain_channel_takes_each_field_as_a_unit, accepted_frames_count_up,
-    buffer_keeps_to_its_size, each_clcw_fits_its_word, each_frame_has_a_step,
-    each_journal_has_an_era, each_packet_is_queued_or_dropped, queues_keep_to_their_capacity,
-    wait_means_no_room,
+    allowed_settings_have_no_fault, buffer_keeps_to_its_size, each_clcw_fits_its_word,
+    each_frame_has_a_step, each_journal_has_an_era, each_packet_is_queued_or_dropped,
+    queues_keep_to_their_capacity, wait_means_no_room,
 };
 pub use reply::{Delivery, FrameReply, NoMemory, ReleaseFault, TakeFault};
 pub use settings::{QueueSetting, Settings, SettingsFault};

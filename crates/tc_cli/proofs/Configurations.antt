@@ -9,21 +9,12 @@ use Rattle.std.proofs.lemmas.Map.Steps.{length-le_from_distinct_below}
 use Rattle.std.proofs.lemmas.Option.{get_or_from_slice_get, slice_get_within}
 use Rattle.std.specs.List.{list_any}
 use Rattle.std.specs.Prelude.{All, AllPairs}
+use Rattle.tc_channel.proofs.Faults.{no-fault}
 use Rattle.tc_channel.specs.declared.settings.Settings.{Settings}
 use Rattle.tc_channel.specs.declared.settings.SettingsFault.{SettingsFault}
-use Rattle.tc_channel.specs.declared.settings.SettingsFault.TheVariants.{BadVcid, BadWindow, BadBuffer, BadApid, DoubleApid, BadCapacity, NoMemory}
-use Rattle.tc_channel.specs.Settings.{IsAllowed, IsFault}
+use Rattle.tc_channel.specs.Settings.{IsAllowed}
 use Rattle.tc_station.specs.StationSettings.{HaveDistinctVcids, IsFirstDouble, IsFirstRefused}
 use Rattle.tc_cli.specs.Configuration.{IsAt, IsConfiguration, settings_of}
-
-pub no-fault : (s : Settings) (f : SettingsFault) → IsAllowed s → IsFault s f → ⊥
-no-fault s BadVcid a h = h a.vcid
-no-fault s BadWindow a h = h.1 a.width
-no-fault s BadBuffer a h = h.2 a.buffer
-no-fault s BadApid a h = h.3 a.apids
-no-fault s DoubleApid a h = h.4 a.apart
-no-fault s BadCapacity a h = h.5 a.capacities
-no-fault s NoMemory a h = h
 
 pub no-double : (list : List Settings) (vcid : ℕ) → HaveDistinctVcids list → IsFirstDouble list vcid → ⊥
 no-double list vcid distinct (i, s, at, v, before, (k, t, kt, is, tv)) =
