@@ -1,5 +1,5 @@
 -- A configuration has none of the faults that settings of a station may have, but that it is empty.
-use Rattle.std.proofs.Common.{◌≡◌, ◌≢◌, ℕ, ◌<◌, ◌≤◌, true, eqb, List, length, map, get_or, sym, ap, ◌∙◌, subst, arith}
+use Rattle.std.proofs.Common.{◌≡◌, ◌≢◌, ℕ, ◌<◌, ◌≤◌, true, eqb, List, [], ◌∷◌, length, map, get_or, sym, ap, ◌∙◌, subst, arith}
 use Rattle.std.proofs.lemmas.Bool.{eqb-true}
 use Rattle.std.proofs.lemmas.Bool.Decides.{Decides-eqb}
 use Rattle.std.proofs.lemmas.List.{get_or-map, get_or-take, get_or_default, length-map, length-take}
@@ -14,7 +14,7 @@ use Rattle.tc_channel.specs.declared.settings.Settings.{Settings}
 use Rattle.tc_channel.specs.declared.settings.SettingsFault.{SettingsFault}
 use Rattle.tc_channel.specs.Settings.{IsAllowed}
 use Rattle.tc_station.specs.StationSettings.{HaveDistinctVcids, IsFirstDouble, IsFirstRefused}
-use Rattle.tc_cli.specs.Configuration.{IsAt, IsConfiguration, settings_of}
+use Rattle.tc_cli.specs.Configuration.{IsAt, IsConfiguration}
 
 pub no-double : (list : List Settings) (vcid : ℕ) → HaveDistinctVcids list → IsFirstDouble list vcid → ⊥
 no-double list vcid distinct (i, s, at, v, before, (k, t, kt, is, tv)) =
@@ -29,9 +29,10 @@ no-refusal list vcid f allowed (i, s, at, v, fault, before) =
 
 -- ids have 6 bits, and no two are the same
 pub few : (list : List Settings) → IsConfiguration list → length list ≤ 64
-few list c =
+few [] c = omega arith
+few (none ∷ rest) c =
     let of : Settings → ℕ = λ s. s.vcid in
-    let none : Settings = settings_of 0 0 0 0 in
+    let list : List Settings = none ∷ rest in
     let apart : AllPairs (λ x y. x ≢ y) (map of list) =
     λ i j d ij jl. λ same.
     let jm : j < length list = omega (arith, length-map list of) in

@@ -17,10 +17,6 @@ IsThere list vcid = Any (λ (s : Settings). s.vcid ≡ vcid) list
 abbrev pub IsAt : List Settings → ℕ → ℕ → Settings → Type 0
 IsAt list vcid place s = (slice_get list place ≡ Some s) × (s.vcid ≡ vcid)
 
--- the settings of a channel line
-abbrev pub settings_of : ℕ → ℕ → ℕ → ℕ → Settings
-settings_of vcid width buffer first = record { vcid = vcid; width = width; buffer = buffer; first = first; queues = [] }
-
 -- the settings after a queue line
 abbrev pub with_queue : Settings → ℕ → ℕ → Settings
 with_queue s apid capacity = record s { queues = s.queues ++ record { apid = apid; capacity = capacity } ∷ [] }

@@ -1,4 +1,5 @@
 pub mod Configuration
+pub mod Instruction
 pub mod Phase
 pub mod Stage
 pub mod Script

@@ -2,8 +2,8 @@
 use Rattle.std.specs.Prelude.{◌≡◌, ℕ}
 use Rattle.tc_station.specs.declared.work.Order.TheVariants as orders
 use Rattle.tc_cli.specs.Parting.{Parted, newly_parted, IsGiven, IsFrameGiven}
-use Rattle.tc_text.specs.declared.line.Line.{Line}
-use Rattle.tc_text.specs.declared.line.Line.TheVariants.{Blank, Channel, Queue, Frame, Release, Take, Clcw}
+use Rattle.tc_cli.specs.declared.instruction.Instruction.{Instruction}
+use Rattle.tc_cli.specs.declared.instruction.Instruction.TheVariants.{Nothing, Channel, Queue, Frame, Release, Take, Clcw}
 use Rattle.tc_cli.specs.declared.stage.Stage.{Stage}
 use Rattle.tc_cli.specs.declared.stage.Stage.TheVariants.{SettingUp, Operating}
 
@@ -19,10 +19,10 @@ abbrev pub Parts : ℕ → (Parted → Parted → Type 0) → Plan → Plan → 
 Parts scid Gives old new = (parted : Parted) × Gives (parted_for scid old) parted × (new ≡ Operating parted)
 
 -- the job of a line is given to its channel; a CLCW is no job, and neither is a blank line. What a line sets up is told by its phase
-abbrev pub IsParted : ℕ → ℕ → Plan → Line → Plan → Type 0
-IsParted scid line old Blank new = new ≡ old
-IsParted scid line old (Channel vcid width buffer first) new = Unit {0}
-IsParted scid line old (Queue vcid apid capacity) new = Unit {0}
+abbrev pub IsParted : ℕ → ℕ → Plan → Instruction → Plan → Type 0
+IsParted scid line old Nothing new = new ≡ old
+IsParted scid line old (Channel settings) new = Unit {0}
+IsParted scid line old (Queue vcid queue) new = Unit {0}
 IsParted scid line old (Frame octets) new = Parts scid (IsFrameGiven line octets) old new
 IsParted scid line old (Release vcid) new = Parts scid (IsGiven vcid (record { line = line; order = orders.Release })) old new
 IsParted scid line old (Take vcid apid) new = Parts scid (IsGiven vcid (record { line = line; order = orders.Take apid })) old new

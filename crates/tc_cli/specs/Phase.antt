@@ -3,12 +3,12 @@ use Rattle.std.specs.Prelude.{◌≡◌, ◌≢◌, ℕ, List, [], ◌⊎◌}
 use Rattle.tc_channel.specs.declared.settings.Settings.{Settings}
 use Rattle.tc_channel.specs.declared.settings.SettingsFault.{SettingsFault}
 use Rattle.tc_channel.specs.Settings.{IsFault}
-use Rattle.tc_cli.specs.Configuration.{IsThere, IsAt, AddsChannel, AddsQueue, settings_of, with_queue}
+use Rattle.tc_cli.specs.Configuration.{IsThere, IsAt, AddsChannel, AddsQueue, with_queue}
 use Rattle.tc_text.specs.declared.fault.Reason.{Reason}
 use Rattle.tc_text.specs.declared.fault.Reason.TheVariants.{TooLate, NoChannel, DoubleChannel, UnknownChannel}
 use Rattle.tc_text.specs.Reason.{reason_of}
-use Rattle.tc_text.specs.declared.line.Line.{Line}
-use Rattle.tc_text.specs.declared.line.Line.TheVariants.{Blank, Channel, Queue, Frame, Release, Take, Clcw}
+use Rattle.tc_cli.specs.declared.instruction.Instruction.{Instruction}
+use Rattle.tc_cli.specs.declared.instruction.Instruction.TheVariants.{Nothing, Channel, Queue, Frame, Release, Take, Clcw}
 
 -- before the first operation the settings of the channels so far; from then on nothing is set up any more
 pub data Phase : Type 0 where
@@ -19,13 +19,13 @@ pub data Phase : Type 0 where
 abbrev pub Operates : Phase → Phase → Type 0
 Operates phase new = (phase ≢ Setup []) × (new ≡ Operation)
 
--- what a line that isn't bad does
-abbrev pub Does : Phase → Line → Phase → Type 0
-Does phase Blank new = new ≡ phase
-Does phase (Channel vcid width buffer first) new =
-    (old : List Settings) × (list : List Settings) × (phase ≡ Setup old) × AddsChannel old (settings_of vcid width buffer first) list × (new ≡ Setup list)
-Does phase (Queue vcid apid capacity) new =
-    (old : List Settings) × (list : List Settings) × (phase ≡ Setup old) × AddsQueue old vcid apid capacity list × (new ≡ Setup list)
+-- what a line that isn't bad does, by what it asks for
+abbrev pub Does : Phase → Instruction → Phase → Type 0
+Does phase Nothing new = new ≡ phase
+Does phase (Channel settings) new =
+    (old : List Settings) × (list : List Settings) × (phase ≡ Setup old) × AddsChannel old settings list × (new ≡ Setup list)
+Does phase (Queue vcid queue) new =
+    (old : List Settings) × (list : List Settings) × (phase ≡ Setup old) × AddsQueue old vcid queue.apid queue.capacity list × (new ≡ Setup list)
 Does phase (Frame octets) new = Operates phase new
 Does phase (Release vcid) new = Operates phase new
 Does phase (Take vcid apid) new = Operates phase new
@@ -57,11 +57,11 @@ IsBadQueue (Setup list) vcid apid capacity reason = IsQueueRefused list vcid api
 abbrev pub IsBadOperation : Phase → Reason → Type 0
 IsBadOperation phase reason = (phase ≡ Setup []) × (reason ≡ NoChannel)
 
--- why a line is bad, memory aside
-abbrev pub IsBad : Phase → Line → Reason → Type 0
-IsBad phase Blank reason = ⊥
-IsBad phase (Channel vcid width buffer first) reason = IsBadChannel phase (settings_of vcid width buffer first) reason
-IsBad phase (Queue vcid apid capacity) reason = IsBadQueue phase vcid apid capacity reason
+-- why a line is bad, by what it asks for, memory aside
+abbrev pub IsBad : Phase → Instruction → Reason → Type 0
+IsBad phase Nothing reason = ⊥
+IsBad phase (Channel settings) reason = IsBadChannel phase settings reason
+IsBad phase (Queue vcid queue) reason = IsBadQueue phase vcid queue.apid queue.capacity reason
 IsBad phase (Frame octets) reason = IsBadOperation phase reason
 IsBad phase (Release vcid) reason = IsBadOperation phase reason
 IsBad phase (Take vcid apid) reason = IsBadOperation phase reason

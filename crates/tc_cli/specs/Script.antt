@@ -3,6 +3,7 @@ use Rattle.std.specs.Prelude.{◌≡◌, ◌<◌, ◌≤◌, ℕ, ◌+◌, List,
 use Rattle.tc_text.specs.Reading.{IsFirstLine, limit}
 use Rattle.tc_text.specs.Word.{words}
 use Rattle.tc_text.specs.Line.{line_of}
+use Rattle.tc_cli.specs.Instruction.{instruction_of}
 use Rattle.tc_cli.specs.Phase.{Phase, Setup, Does, IsBad}
 use Rattle.tc_text.specs.declared.line.Line.{Line as Said}
 use Rattle.tc_text.specs.declared.fault.Reason.{Reason}
@@ -12,7 +13,7 @@ use Rattle.tc_text.specs.declared.fault.ScriptFault.TheVariants.{Line, Read, Too
 
 -- the line is good, and leads from the one phase to the other
 abbrev pub IsDone : Phase → List ℕ → Phase → Type 0
-IsDone phase line new = (said : Said) × (line_of (words line) ≡ Ok said) × Does phase said new
+IsDone phase line new = (said : Said) × (line_of (words line) ≡ Ok said) × Does phase (instruction_of said) new
 
 -- the first lines of a script are good: so many of them lead to this phase, and leave these octets
 pub data Leads (script : List ℕ) : ℕ → Phase → List ℕ → Type 0 where
@@ -23,7 +24,7 @@ pub data Leads (script : List ℕ) : ℕ → Phase → List ℕ → Type 0 where
 -- why the line is bad that comes at a phase, memory aside
 abbrev pub IsBadLine : Phase → List ℕ → Reason → Type 0
 IsBadLine phase line reason =
-    (line_of (words line) ≡ Err reason) ⊎ ((said : Said) × (line_of (words line) ≡ Ok said) × IsBad phase said reason)
+    (line_of (words line) ≡ Err reason) ⊎ ((said : Said) × (line_of (words line) ≡ Ok said) × IsBad phase (instruction_of said) reason)
 
 -- the line with this number is the first bad one, and this is why
 pub record IsFirstBad (script : List ℕ) (number : ℕ) (reason : Reason) : Type 0 where

@@ -5,8 +5,8 @@ use Rattle.tc_station.specs.StationSettings.{vcids_of}
 use Rattle.tc_cli.specs.Manned.{Manned, newly_manned, after_answer}
 use Rattle.tc_cli.specs.Operation.{IsFrameAnswer, IsReleaseAnswer, IsTakeAnswer, IsClcwAnswer}
 use Rattle.tc_cli.specs.declared.answer.Answer.{Answer}
-use Rattle.tc_text.specs.declared.line.Line.{Line}
-use Rattle.tc_text.specs.declared.line.Line.TheVariants.{Blank, Channel, Queue, Frame, Release, Take, Clcw}
+use Rattle.tc_cli.specs.declared.instruction.Instruction.{Instruction}
+use Rattle.tc_cli.specs.declared.instruction.Instruction.TheVariants.{Nothing, Channel, Queue, Frame, Release, Take, Clcw}
 use Rattle.tc_cli.specs.declared.stage.Stage.{Stage}
 use Rattle.tc_cli.specs.declared.stage.Stage.TheVariants.{SettingUp, Operating}
 
@@ -24,10 +24,10 @@ IsOperated scid IsAnswer old new answer =
     (a : Answer) × IsAnswer (manned_for scid old).station a × (answer ≡ Some a) × (new ≡ Operating (after_answer a (manned_for scid old)))
 
 -- what a line is answered: an operation its answer, and any other line nothing; a blank line leaves all as it is
-abbrev pub IsAnswered : ℕ → Session → Line → Session → Option Answer → Type 0
-IsAnswered scid old Blank new answer = (answer ≡ None) × (new ≡ old)
-IsAnswered scid old (Channel vcid width buffer first) new answer = answer ≡ None
-IsAnswered scid old (Queue vcid apid capacity) new answer = answer ≡ None
+abbrev pub IsAnswered : ℕ → Session → Instruction → Session → Option Answer → Type 0
+IsAnswered scid old Nothing new answer = (answer ≡ None) × (new ≡ old)
+IsAnswered scid old (Channel settings) new answer = answer ≡ None
+IsAnswered scid old (Queue vcid queue) new answer = answer ≡ None
 IsAnswered scid old (Frame octets) new answer = IsOperated scid (λ station. IsFrameAnswer station octets) old new answer
 IsAnswered scid old (Release vcid) new answer = IsOperated scid (λ station. IsReleaseAnswer station vcid) old new answer
 IsAnswered scid old (Take vcid apid) new answer = IsOperated scid (λ station. IsTakeAnswer station vcid apid) old new answer

@@ -2,7 +2,7 @@
 
 ghost use Rattle.std.specs.Prelude.{◌≡◌, ◌≢◌, ◌≤◌, ◌⊎◌, [], length, map, IfOk, IfErr, OnOk, MatchOption, MatchResult};
 ghost use Rattle.tc_channel.specs.Settings.{IsAllowed};
-ghost use Rattle.tc_cli.specs.Configuration.{AddsChannel, AddsQueue, IsThere, IsAt, settings_of, with_queue};
+ghost use Rattle.tc_cli.specs.Configuration.{AddsChannel, AddsQueue, IsThere, IsAt, with_queue};
 ghost use Rattle.tc_cli.specs.Parting.{empty_list};
 ghost use Rattle.tc_cli.specs.Phase.{IsChannelRefused, IsQueueRefused, IsSettingsReason};
 ghost use Rattle.tc_station.specs.StationSettings.{vcids_of};
@@ -126,19 +126,6 @@ impl Configuration {
             Err(StationFault::DoubleVcid(_)) => unreachable!(),
             Err(StationFault::Settings(_, _)) => unreachable!(),
         }
-    }
-}
-
-/// The settings of a channel line.
-pub(crate) fn without_queues(alloc: Global, vcid: u8, width: u8, buffer: u8, first: u8) -> Settings
-    ensures { result ≡ settings_of vcid width buffer first }
-{
-    Settings {
-        vcid,
-        width,
-        buffer,
-        first,
-        queues: Items::from(Vec::new(alloc)),
     }
 }
 

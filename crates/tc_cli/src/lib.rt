@@ -7,6 +7,7 @@
 
 mod answer;
 mod configuration;
+mod instruction;
 mod manned;
 mod parallel;
 mod parting;

@@ -9,7 +9,8 @@ ghost use Rattle.tc_cli.specs.Script.{IsFault, IsGood, IsDone, IsBadLine};
 ghost use Rattle.tc_cli.specs.Stage.{phase_of};
 ghost use Rattle.tc_text.specs.Reading.{limit};
 
-use crate::configuration::{Configuration, without_queues};
+use crate::configuration::Configuration;
+use crate::instruction::Instruction;
 use crate::parting::Parted;
 use crate::report::write_report;
 use crate::stage::Stage;
@@ -17,9 +18,9 @@ use std::alloc::Global;
 use std::io::{Read, Write};
 use std::sync::Wait;
 use std::thread::Threads;
-use tc_channel::{Channel, QueueSetting};
+use tc_channel::Channel;
 use tc_station::{Gate, Job, Order};
-use tc_text::{Line, Reason, ScriptFault, next_line, parse_line, read_whole};
+use tc_text::{Reason, ScriptFault, next_line, parse_line, read_whole};
 
 /// Reads a script and checks each of its lines; then does its frames, releases and takes by one worker
 /// for each channel, and writes the final report alone. The script is read whole, and all its jobs are
@@ -100,37 +101,40 @@ fn part_line(alloc: Global, scid: u16, plan: Plan, line: u32, octets: &[u8]) -> 
     ensures reason { IfErr result (λ reason. (reason ≡ Reason.NoMemory) ⊎ IsBadLine (phase_of plan) octets.now reason) }
 {
     let said = parse_line(alloc, octets)?;
-    plan.with_line(alloc, scid, line, said)
+    plan.with_line(alloc, scid, line, Instruction::of(alloc, said))
 }
 
 impl Stage<Parted> {
-    // With what a line says.
-    fn with_line(self, alloc: Global, scid: u16, line: u32, said: Line) -> Result<Plan, Reason>
+    // With what a line asks for.
+    fn with_line(
+        self,
+        alloc: Global,
+        scid: u16,
+        line: u32,
+        instruction: Instruction,
+    ) -> Result<Plan, Reason>
         requires { scid ≤ 1023 }
-        ensures done { IfOk result (λ new. Does (phase_of self) said (phase_of new)) }
-        ensures parted { IfOk result (IsParted scid line self said) }
-        ensures reason { IfErr result (λ reason. (reason ≡ Reason.NoMemory) ⊎ IsBad (phase_of self) said reason) }
+        ensures done { IfOk result (λ new. Does (phase_of self) instruction (phase_of new)) }
+        ensures parted { IfOk result (IsParted scid line self instruction) }
+        ensures reason { IfErr result (λ reason. (reason ≡ Reason.NoMemory) ⊎ IsBad (phase_of self) instruction reason) }
     {
-        match said {
-            Line::Blank => Ok(self),
-            Line::Channel {
-                vcid,
-                width,
-                buffer,
-                first,
-            } => self.with_channel(without_queues(alloc, vcid, width, buffer, first)),
-            Line::Queue {
-                vcid,
-                apid,
-                capacity,
-            } => self.with_queue(alloc, vcid, QueueSetting { apid, capacity }),
-            Line::Frame(octets) => {
+        match instruction {
+            Instruction::Nothing => Ok(self),
+            Instruction::Channel(settings) => self.with_channel(settings),
+            Instruction::Queue(vcid, queue) => self.with_queue(alloc, vcid, queue),
+            Instruction::Frame(octets) => {
                 let parted = self.start(alloc, scid)?;
                 Ok(Stage::Operating(parted.with_frame(alloc, line, octets)?))
             }
-            Line::Release(vcid) => self.with_order(alloc, scid, vcid, line, Order::Release),
-            Line::Take(vcid, apid) => self.with_order(alloc, scid, vcid, line, Order::Take(apid)),
-            Line::Clcw(_) => Ok(Stage::Operating(self.start(alloc, scid)?)),
+            Instruction::Release(vcid) => self.with_order(alloc, scid, vcid, line, Order::Release),
+            Instruction::Take(vcid, apid) => self.with_order(
+                alloc,
+                scid,
+                vcid,
+                line,
+                Order::Take(apid),
+            ),
+            Instruction::Clcw(_) => Ok(Stage::Operating(self.start(alloc, scid)?)),
         }
     }
 

@@ -7,6 +7,7 @@ ghost use Rattle.tc_cli.specs.Stage.{phase_of};
 
 use crate::answer::Answer;
 use crate::configuration::Configuration;
+use crate::instruction::Instruction;
 use crate::report::{close, write_report};
 use crate::session::Session;
 use crate::stage::Stage;
@@ -79,7 +80,7 @@ fn perform_line(
     ensures reason { IfErr result (λ reason. (reason ≡ Reason.NoMemory) ⊎ IsBadLine (phase_of session) octets.now reason) }
 {
     let said = parse_line(alloc, octets)?;
-    session.perform(rt, alloc, scid, said)
+    session.perform(rt, alloc, scid, Instruction::of(alloc, said))
 }
 
 fn write_answer<W: Write>(answer: Option<Answer>, writer: &mut W) -> Result<(), ScriptFault>

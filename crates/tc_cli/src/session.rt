@@ -7,13 +7,13 @@ ghost use Rattle.tc_cli.specs.Session.{manned_for, IsAnswered, IsOperated};
 ghost use Rattle.tc_cli.specs.Stage.{phase_of};
 
 use crate::answer::Answer;
-use crate::configuration::without_queues;
+use crate::instruction::Instruction;
 use crate::manned::MannedStation;
 use crate::stage::Stage;
 use std::alloc::Global;
 use std::sync::Wait;
-use tc_channel::{Octets, QueueSetting};
-use tc_text::{Line, Reason};
+use tc_channel::Octets;
+use tc_text::Reason;
 
 /// How far a script has come whose operations are done one after the other.
 pub(crate) type Session = Stage<MannedStation>;
@@ -22,42 +22,27 @@ pub(crate) type Session = Stage<MannedStation>;
 pub(crate) type Performed = (Session, Option<Answer>);
 
 impl Stage<MannedStation> {
-    /// Does a line; an operation has an answer.
+    /// Does what a line asks for; an operation has an answer.
     pub(crate) fn perform(
         self,
         rt: &impl Wait,
         alloc: Global,
         scid: u16,
-        line: Line,
+        instruction: Instruction,
     ) -> Result<Performed, Reason>
         requires { scid ≤ 1023 }
-        ensures done { IfOk result (λ done. Does (phase_of self) line (phase_of done.0)) }
-        ensures answer { IfOk result (λ done. IsAnswered scid self line done.0 done.1) }
-        ensures reason { IfErr result (λ reason. (reason ≡ Reason.NoMemory) ⊎ IsBad (phase_of self) line reason) }
+        ensures done { IfOk result (λ done. Does (phase_of self) instruction (phase_of done.0)) }
+        ensures answer { IfOk result (λ done. IsAnswered scid self instruction done.0 done.1) }
+        ensures reason { IfErr result (λ reason. (reason ≡ Reason.NoMemory) ⊎ IsBad (phase_of self) instruction reason) }
     {
-        match line {
-            Line::Blank => Ok((self, None)),
-            Line::Channel {
-                vcid,
-                width,
-                buffer,
-                first,
-            } => {
-                let settings = without_queues(alloc, vcid, width, buffer, first);
-                Ok((self.with_channel(settings)?, None))
-            }
-            Line::Queue {
-                vcid,
-                apid,
-                capacity,
-            } => {
-                let queue = QueueSetting { apid, capacity };
-                Ok((self.with_queue(alloc, vcid, queue)?, None))
-            }
-            Line::Frame(octets) => self.bring(rt, alloc, scid, octets),
-            Line::Release(vcid) => self.release(rt, alloc, scid, vcid),
-            Line::Take(vcid, apid) => self.take(rt, alloc, scid, vcid, apid),
-            Line::Clcw(vcid) => self.clcw(rt, alloc, scid, vcid),
+        match instruction {
+            Instruction::Nothing => Ok((self, None)),
+            Instruction::Channel(settings) => Ok((self.with_channel(settings)?, None)),
+            Instruction::Queue(vcid, queue) => Ok((self.with_queue(alloc, vcid, queue)?, None)),
+            Instruction::Frame(octets) => self.bring(rt, alloc, scid, octets),
+            Instruction::Release(vcid) => self.release(rt, alloc, scid, vcid),
+            Instruction::Take(vcid, apid) => self.take(rt, alloc, scid, vcid, apid),
+            Instruction::Clcw(vcid) => self.clcw(rt, alloc, scid, vcid),
         }
     }
 

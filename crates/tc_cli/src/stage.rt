@@ -1,13 +1,14 @@
 //! How far a script has come: first its channels are set up, then it operates.
 
-ghost use Rattle.std.specs.Prelude.{◌≡◌, ◌⊎◌, [], IfOk, IfErr, MatchResult};
+ghost use Rattle.std.specs.Prelude.{◌≡◌, ◌⊎◌, IfOk, IfErr, MatchResult};
 ghost use Rattle.tc_cli.specs.Phase.{Does, IsBad, Setup, Operation};
 ghost use Rattle.tc_cli.specs.Stage.{phase_of};
 
 use crate::configuration::Configuration;
+use crate::instruction::Instruction;
 use std::alloc::Global;
 use tc_channel::{QueueSetting, Settings};
-use tc_text::{Line, Reason};
+use tc_text::Reason;
 
 /// How far a script has come. What operates is made at the first operation, with the channels that are
 /// set up by then. A bad line ends a script, so no stage is given back with its reason.
@@ -20,9 +21,8 @@ pub(crate) enum Stage<O> {
 impl<O: Drop> Stage<O> {
     /// With the channel of a channel line besides.
     pub(crate) fn with_channel(self, settings: Settings) -> Result<Stage<O>, Reason>
-        requires { settings.queues ≡ [] }
-        ensures done { IfOk result (λ done. Does (phase_of self) (Line.Channel settings.vcid settings.width settings.buffer settings.first) (phase_of done)) }
-        ensures reason { IfErr result (λ reason. (reason ≡ Reason.NoMemory) ⊎ IsBad (phase_of self) (Line.Channel settings.vcid settings.width settings.buffer settings.first) reason) }
+        ensures done { IfOk result (λ done. Does (phase_of self) (Instruction.Channel settings) (phase_of done)) }
+        ensures reason { IfErr result (λ reason. (reason ≡ Reason.NoMemory) ⊎ IsBad (phase_of self) (Instruction.Channel settings) reason) }
     {
         let list = self.configuration()?;
         Ok(Stage::SettingUp(list.with_channel(settings)?))
@@ -35,8 +35,8 @@ impl<O: Drop> Stage<O> {
         vcid: u8,
         queue: QueueSetting,
     ) -> Result<Stage<O>, Reason>
-        ensures done { IfOk result (λ done. Does (phase_of self) (Line.Queue vcid queue.apid queue.capacity) (phase_of done)) }
-        ensures reason { IfErr result (λ reason. (reason ≡ Reason.NoMemory) ⊎ IsBad (phase_of self) (Line.Queue vcid queue.apid queue.capacity) reason) }
+        ensures done { IfOk result (λ done. Does (phase_of self) (Instruction.Queue vcid queue) (phase_of done)) }
+        ensures reason { IfErr result (λ reason. (reason ≡ Reason.NoMemory) ⊎ IsBad (phase_of self) (Instruction.Queue vcid queue) reason) }
     {
         let list = self.configuration()?;
         Ok(Stage::SettingUp(list.with_queue(alloc, vcid, queue)?))
