@@ -9,10 +9,9 @@ use Rattle.std.proofs.lemmas.Map.Steps.{length-le_from_distinct_below}
 use Rattle.std.proofs.lemmas.Option.{get_or_from_slice_get, slice_get_within}
 use Rattle.std.specs.List.{list_any}
 use Rattle.std.specs.Prelude.{All, AllPairs}
-use Rattle.tc_channel.proofs.Faults.{no-fault}
 use Rattle.tc_channel.specs.declared.settings.Settings.{Settings}
 use Rattle.tc_channel.specs.declared.settings.SettingsFault.{SettingsFault}
-use Rattle.tc_channel.specs.Settings.{IsAllowed}
+use Rattle.tc_channel.specs.Settings.{IsAllowed, IsFault}
 use Rattle.tc_station.specs.StationSettings.{HaveDistinctVcids, IsFirstDouble, IsFirstRefused}
 use Rattle.tc_cli.specs.Configuration.{IsAt, IsConfiguration}
 
@@ -23,9 +22,10 @@ no-double list vcid distinct (i, s, at, v, before, (k, t, kt, is, tv)) =
     let there : get_or list k s ≡ t = get_or_default list k s t (omega arith) ∙ (sym (get_or-take i list k t ki) ∙ is) in
     distinct k i s ki il (ap (λ (u : Settings). u.vcid) there ∙ (tv ∙ (sym v ∙ sym (ap (λ (u : Settings). u.vcid) (get_or_from_slice_get list i s s at)))))
 
-pub no-refusal : (list : List Settings) (vcid : ℕ) (f : SettingsFault) → All IsAllowed list → IsFirstRefused list vcid f → ⊥
-no-refusal list vcid f allowed (i, s, at, v, fault, before) =
-    no-fault s f (subst IsAllowed (get_or_from_slice_get list i s s at) (allowed i s (slice_get_within list i s at))) fault
+-- where allowed settings have no fault, a list of them has no first refused entry
+pub no-refusal : (no_fault : (s : Settings) (f : SettingsFault) → IsAllowed s → IsFault s f → ⊥) (list : List Settings) (vcid : ℕ) (f : SettingsFault) → All IsAllowed list → IsFirstRefused list vcid f → ⊥
+no-refusal no_fault list vcid f allowed (i, s, at, v, fault, before) =
+    no_fault s f (subst IsAllowed (get_or_from_slice_get list i s s at) (allowed i s (slice_get_within list i s at))) fault
 
 -- ids have 6 bits, and no two are the same
 pub few : (list : List Settings) → IsConfiguration list → length list ≤ 64

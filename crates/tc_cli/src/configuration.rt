@@ -10,7 +10,7 @@ ghost use Rattle.tc_station.specs.StationSettings.{vcids_of};
 use std::alloc::Global;
 use std::marker::Model;
 use std::mem;
-use tc_channel::{Items, QueueSetting, Settings};
+use tc_channel::{Items, QueueSetting, Settings, allowed_settings_have_no_fault};
 use tc_station::{Station, StationFault, WorkList};
 use tc_text::Reason;
 
@@ -116,6 +116,7 @@ impl Configuration {
         ensures some { OnOk result (self ≢ []) }
         ensures reason { IfErr result (λ reason. (reason ≡ Reason.NoMemory) ⊎ ((reason ≡ Reason.NoChannel) × (self ≡ []))) }
     {
+        allowed_settings_have_no_fault();
         let Configuration { channels } = self;
         match Station::new(alloc, scid, channels) {
             Ok(station) => Ok(station),

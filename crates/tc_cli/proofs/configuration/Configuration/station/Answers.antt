@@ -8,7 +8,7 @@ unreachable-requires-in-Err-DoubleVcid c =
 
 pub unreachable-requires-in-Err-Settings : goal.unreachable-requires-in-Err-Settings
 unreachable-requires-in-Err-Settings c =
-    no-refusal c.self.inside.channels.items c.in-Err-Settings.field-0-0 c.in-Err-Settings.field-0-1 c.self.invariant.allowed (rw c.in-Err-Settings.field-0-is at c.in-Err-Settings.ensures.fault).3
+    no-refusal c.allowed_settings_have_no_fault.ensures c.self.inside.channels.items c.in-Err-Settings.field-0-0 c.in-Err-Settings.field-0-1 c.self.invariant.allowed (rw c.in-Err-Settings.field-0-is at c.in-Err-Settings.ensures.fault).3
 
 pub returns-in-Err-NoChannel-clause-reason : goal.returns-in-Err-NoChannel-clause-reason
 returns-in-Err-NoChannel-clause-reason c = search rules
