@@ -51,14 +51,15 @@ fn a_full_buffer_then_a_lockout_then_an_unlock(rt: HostRuntime) {
         event: 1,
         accepted: true,
     };
-    assert_eq!(rt; arrive(&mut farm, Kind::Ad(0), true), accepted);
-    assert_eq!(rt; word(&farm), 0x01040001);
-    assert_eq!(rt; arrive(&mut farm, Kind::Ad(1), false), discarded(2));
-    assert_eq!(rt; word(&farm), 0x01041801);
-    assert_eq!(rt; arrive(&mut farm, Kind::Ad(2), false), discarded(3));
-    assert_eq!(rt; word(&farm), 0x01041801);
-    assert_eq!(rt; arrive(&mut farm, Kind::Ad(6), false), discarded(5));
-    assert_eq!(rt; word(&farm), 0x01043801);
+    for (ns, room, act, after) in [
+        (0, true, accepted, 0x01040001),
+        (1, false, discarded(2), 0x01041801),
+        (2, false, discarded(3), 0x01041801),
+        (6, false, discarded(5), 0x01043801),
+    ] {
+        assert_eq!(rt; arrive(&mut farm, Kind::Ad(ns), room), act);
+        assert_eq!(rt; word(&farm), after);
+    }
     assert_eq!(rt; farm.step(Arrival::Release), discarded(10));
     assert_eq!(rt; word(&farm), 0x01042801);
     assert_eq!(rt;

@@ -80,24 +80,32 @@ fn octets_for_no_channel(rt: HostRuntime) {
     assert_eq!(rt; located.frame.octets(), FRAME.as_slice());
 }
 
+fn check_release(rt: &(impl Wait + Abort), crew: &mut Manned, vcid: u8, refused: ReleaseRefused) {
+    let answer = crew.station.release(rt, &mut crew.operator, vcid);
+    assert_eq!(rt; answer, Err(refused));
+}
+
+fn check_take(
+    rt: &(impl Wait + Abort),
+    crew: &mut Manned,
+    vcid: u8,
+    apid: u16,
+    refused: TakeRefused,
+) {
+    let answer = crew.station.take(rt, &mut crew.operator, vcid, apid);
+    assert_eq!(rt; answer.err(), Some(refused));
+}
+
 #[test]
 fn operations_on_no_channel_and_on_none_there(rt: HostRuntime) {
-    let Manned {
-        station,
-        mut operator,
-    } = Manned::new(&rt, rt.alloc(), &[1]);
-    let unknown = station.release(&rt, &mut operator, 2);
-    assert_eq!(rt; unknown, Err(ReleaseRefused::UnknownChannel));
-    let empty = station.release(&rt, &mut operator, 1);
-    assert_eq!(rt; empty, Err(ReleaseRefused::Empty));
-    let unknown = station.take(&rt, &mut operator, 2, 5);
-    assert_eq!(rt; unknown.err(), Some(TakeRefused::UnknownChannel));
-    let no_queue = station.take(&rt, &mut operator, 1, 6);
-    assert_eq!(rt; no_queue.err(), Some(TakeRefused::NoQueue));
-    let empty = station.take(&rt, &mut operator, 1, 5);
-    assert_eq!(rt; empty.err(), Some(TakeRefused::Empty));
-    let unknown = station.watcher(&rt, 2);
+    let mut crew = Manned::new(&rt, rt.alloc(), &[1]);
+    check_release(&rt, &mut crew, 2, ReleaseRefused::UnknownChannel);
+    check_release(&rt, &mut crew, 1, ReleaseRefused::Empty);
+    check_take(&rt, &mut crew, 2, 5, TakeRefused::UnknownChannel);
+    check_take(&rt, &mut crew, 1, 6, TakeRefused::NoQueue);
+    check_take(&rt, &mut crew, 1, 5, TakeRefused::Empty);
+    let unknown = crew.station.watcher(&rt, 2);
     assert_eq!(rt; unknown.err(), Some(WatcherFault::UnknownChannel));
-    assert_eq!(rt; operator.count(1), Some(0));
-    assert_eq!(rt; operator.count(2), None);
+    assert_eq!(rt; crew.operator.count(1), Some(0));
+    assert_eq!(rt; crew.operator.count(2), None);
 }

@@ -93,51 +93,33 @@ fn growth_of_work(rt: HostRuntime) {
     assert_eq!(rt; channels[0].journal().len() as u64, first + second);
 }
 
+// These orders, all on this line, and then an Unlock on the next one.
+fn list_with_an_unlock<const N: usize>(
+    alloc: Global,
+    vcid: u8,
+    line: u8,
+    orders: [Order; N],
+) -> Result<WorkList, AllocError> {
+    let line = u32::from(line);
+    let mut jobs = Vec::new(alloc);
+    for order in Vec::from_array(alloc, orders)? {
+        jobs.push(Job { line, order })?;
+    }
+    jobs.push(unlock(alloc, line + 1)?)?;
+    Ok(WorkList {
+        vcid,
+        jobs: Items::from(jobs),
+    })
+}
+
 // Lists on channels 1, 2 and 9, of which the last isn't there. Before its Unlock the first asks for what is refused: a release of an
 // empty buffer, octets that are no frame, and a packet of an application without a queue.
 fn three_lists(alloc: Global) -> Result<[WorkList; 3], AllocError> {
-    let release = Job {
-        line: 2,
-        order: Order::Release,
-    };
-    let take = Job {
-        line: 3,
-        order: Order::Take(5),
-    };
-    let nowhere = Job {
-        line: 4,
-        order: Order::Release,
-    };
-    let mut first = Vec::new(alloc);
-    first.push(release)?;
-    first.push(Job {
-        line: 2,
-        order: Order::Bring(Octets::copied(alloc, &UNLOCK[..3])?),
-    })?;
-    first.push(Job {
-        line: 2,
-        order: Order::Take(6),
-    })?;
-    first.push(unlock(alloc, 5)?)?;
-    let mut second = Vec::new(alloc);
-    second.push(take)?;
-    second.push(unlock(alloc, 6)?)?;
-    let mut third = Vec::new(alloc);
-    third.push(nowhere)?;
-    third.push(unlock(alloc, 7)?)?;
+    let short = Order::Bring(Octets::copied(alloc, &UNLOCK[..3])?);
     Ok([
-        WorkList {
-            vcid: 1,
-            jobs: Items::from(first),
-        },
-        WorkList {
-            vcid: 2,
-            jobs: Items::from(second),
-        },
-        WorkList {
-            vcid: 9,
-            jobs: Items::from(third),
-        },
+        list_with_an_unlock(alloc, 1, 2, [Order::Release, short, Order::Take(6)])?,
+        list_with_an_unlock(alloc, 2, 4, [Order::Take(5)])?,
+        list_with_an_unlock(alloc, 9, 6, [Order::Release])?,
     ])
 }
 
