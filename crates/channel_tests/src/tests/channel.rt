@@ -58,6 +58,7 @@ fn settings(alloc: Global, first: u8) -> Result<Settings, AllocError> {
         width: 10,
         buffer: 1,
         first,
+        segmented: true,
         queues: Items::from(Vec::from_slice(alloc, &[queue])?),
     })
 }

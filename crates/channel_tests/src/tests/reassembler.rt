@@ -1,5 +1,6 @@
 mod definition;
 mod growth;
+mod plain;
 mod streams;
 
 use definition::Given;
@@ -19,7 +20,7 @@ impl Watched {
     fn new(alloc: Global) -> Result<Watched, NoMemory> {
         Ok(Watched {
             alloc,
-            reassembler: Reassembler::new(alloc)?,
+            reassembler: Reassembler::new(alloc, true)?,
             given: Vec::new(alloc),
         })
     }

@@ -19,6 +19,7 @@ fn with_queues(
         width,
         buffer,
         first: 0,
+        segmented: true,
         queues: Items::from(made),
     })
 }

@@ -12,7 +12,7 @@ fn copied(alloc: Global, octets: &[u8]) -> Result<Octets, AllocError> {
 }
 
 // Room for one field, a queue of capacity 2 for APID 5, and one of capacity 1 for APID 6 and for APID 7.
-fn settings(alloc: Global) -> Result<Settings, AllocError> {
+fn settings(alloc: Global, segmented: bool) -> Result<Settings, AllocError> {
     let queues = [(5, 2), (6, 1), (7, 1)].map(|(apid, capacity)| QueueSetting { apid, capacity });
     let queues = match Vec::from_slice(alloc, &queues) {
         Ok(queues) => queues,
@@ -23,6 +23,7 @@ fn settings(alloc: Global) -> Result<Settings, AllocError> {
         width: 10,
         buffer: 1,
         first: 0,
+        segmented,
         queues: Items::from(queues),
     })
 }
@@ -56,13 +57,15 @@ struct Short {
 }
 
 impl Short {
-    fn new(rt: &(impl Abort + Print), alloc: Global) -> Short {
-        let channel = match Channel::new(alloc, settings(alloc).expect(rt, "an answer")) {
+    fn new(rt: &(impl Abort + Print), alloc: Global, segmented: bool) -> Short {
+        let wanted = settings(alloc, segmented).expect(rt, "an answer");
+        let channel = match Channel::new(alloc, wanted) {
             Ok(channel) => channel,
             Err(fault) => {
                 let _ = println!(rt; "refused: Channel::new");
                 assert_eq!(rt; fault, SettingsFault::NoMemory);
-                Channel::new(alloc, settings(alloc).expect(rt, "an answer")).expect(rt, "an answer")
+                let wanted = settings(alloc, segmented).expect(rt, "an answer");
+                Channel::new(alloc, wanted).expect(rt, "an answer")
             }
         };
         assert_eq!(rt; channel.journal().len(), 0);
@@ -177,14 +180,14 @@ const LAST_PART: [u8; 10] = [0x00, 0x2a, 0x04, 0x09, 0x02, 0x80, 0x00, 0x00, 0x0
 
 #[test]
 fn growth_of_a_new_channel(rt: HostRuntime) {
-    Short::new(&rt, rt.alloc());
+    Short::new(&rt, rt.alloc(), true);
 }
 
 // So many frames that are discarded come before, so that the journal grows in each call once.
 #[test]
 fn growth_of_each_call_of_a_channel(rt: HostRuntime) {
     for earlier in 0..5 {
-        let mut short = Short::new(&rt, rt.alloc());
+        let mut short = Short::new(&rt, rt.alloc(), true);
         for _ in 0..earlier {
             short.frame(&rt, &ad_frame(0xff), discarded(4), NOTHING);
         }
@@ -199,7 +202,7 @@ fn growth_of_each_call_of_a_channel(rt: HostRuntime) {
 
 #[test]
 fn growth_of_a_frame_without_room(rt: HostRuntime) {
-    let mut short = Short::new(&rt, rt.alloc());
+    let mut short = Short::new(&rt, rt.alloc(), true);
     short.frame(&rt, &ad_frame(0), accepted(1), NOTHING);
     short.frame(&rt, &ad_frame(1), discarded(2), NOTHING);
     short.compare(&rt, 0x01041801, 1, 0);
@@ -228,7 +231,7 @@ fn growth_of_a_unit_of_two_packets(rt: HostRuntime) {
         Call::Take(5, &PACKET),
         Call::Compare(0x01040201, 0, 0),
     ];
-    Short::new(&rt, rt.alloc()).play(&rt, &calls)
+    Short::new(&rt, rt.alloc(), true).play(&rt, &calls)
 }
 
 #[test]
@@ -245,5 +248,29 @@ fn growth_of_a_unit_of_two_segments(rt: HostRuntime) {
         Call::Take(5, &PACKET),
         Call::Take(5, &PACKET),
     ];
-    Short::new(&rt, rt.alloc()).play(&rt, &calls)
+    Short::new(&rt, rt.alloc(), true).play(&rt, &calls)
+}
+
+// `PACKET` without a segment header, in a BD frame and in an AD frame.
+const PLAIN_BD: [u8; 12] = [
+    0x20, 0x2a, 0x04, 0x0b, 0x00, 0x10, 0x05, 0xc0, 0x00, 0x00, 0x00, 0xaa,
+];
+
+const PLAIN_AD: [u8; 12] = [
+    0x00, 0x2a, 0x04, 0x0b, 0x00, 0x10, 0x05, 0xc0, 0x00, 0x00, 0x00, 0xaa,
+];
+
+#[test]
+fn growth_of_a_plain_channel(rt: HostRuntime) {
+    let calls = [
+        Call::Frame(&PLAIN_BD, accepted(6), ONE),
+        Call::Compare(0x01040200, 0, 1),
+        Call::Frame(&PLAIN_AD, accepted(1), NOTHING),
+        Call::Release("plain field", ONE),
+        Call::Compare(0x01040201, 0, 2),
+        Call::Take(5, &PACKET),
+        Call::Take(5, &PACKET),
+        Call::Compare(0x01040201, 0, 0),
+    ];
+    Short::new(&rt, rt.alloc(), false).play(&rt, &calls)
 }

@@ -51,14 +51,18 @@ fn check_only_run(rt: &impl Abort, reassembler: &Reassembler, expected: Option<&
     }
 }
 
-fn new(rt: &(impl Abort + Print), alloc: Global) -> Reassembler {
-    let reassembler = match Reassembler::new(alloc) {
+fn made(rt: &(impl Abort + Print), alloc: Global, segmented: bool) -> Reassembler {
+    match Reassembler::new(alloc, segmented) {
         Ok(reassembler) => reassembler,
         Err(NoMemory) => {
             let _ = println!(rt; "refused: Reassembler::new");
-            Reassembler::new(alloc).expect(rt, "an answer")
+            Reassembler::new(alloc, segmented).expect(rt, "an answer")
         }
-    };
+    }
+}
+
+fn new(rt: &(impl Abort + Print), alloc: Global) -> Reassembler {
+    let reassembler = made(rt, alloc, true);
     check_only_run(rt, &reassembler, None);
     reassembler
 }
@@ -162,5 +166,34 @@ fn growth_of_a_unit_asked_for(rt: HostRuntime) {
         };
         assert_eq!(rt; unit.as_deref(), expected);
         check_only_run(&rt, &reassembler, Some(&SHORT_RUN));
+    }
+}
+
+// A plain field is the unit of both calls, and what a first segment would open is no run.
+#[test]
+fn growth_of_a_plain_unit(rt: HostRuntime) {
+    let mut reassembler = made(&rt, rt.alloc(), false);
+    for field in [FIRST.as_slice(), LAST.as_slice()] {
+        assert!(rt; !field.is_empty());
+        let after = match reassembler.unit_after(Service::Bd, field) {
+            Ok(unit) => unit,
+            Err(NoMemory) => {
+                let _ = println!(rt; "refused: unit_after, plain");
+                reassembler
+                    .unit_after(Service::Bd, field)
+                    .expect(&rt, "an answer")
+            }
+        };
+        assert_eq!(rt; after.as_deref(), Some(field));
+        let unit = match reassembler.push(Service::Bd, field) {
+            Ok(unit) => unit,
+            Err(NoMemory) => {
+                let _ = println!(rt; "refused: push, plain");
+                reassembler
+                    .push(Service::Bd, field)
+                    .expect(&rt, "an answer")
+            }
+        };
+        assert_eq!(rt; unit.as_deref(), Some(field));
     }
 }
