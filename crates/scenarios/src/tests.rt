@@ -38,6 +38,7 @@ fn settings(
         width,
         buffer,
         first,
+        segmented: true,
         queues: Items::from(Vec::from_slice(alloc, &[queue])?),
     })
 }

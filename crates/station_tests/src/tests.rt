@@ -123,6 +123,7 @@ fn settings(alloc: Global, vcid: u8) -> Result<Settings, AllocError>
         width: 10,
         buffer: 1,
         first: 0,
+        segmented: true,
         queues: Items::from(queues),
     })
 }

@@ -25,6 +25,7 @@ pub(crate) fn settings(alloc: Global, vcid: u8) -> Result<Settings, AllocError>
         width: 10,
         buffer: 4,
         first: 0,
+        segmented: true,
         queues: Items::from(Vec::from_slice(alloc, &[queue])?),
     })
 }

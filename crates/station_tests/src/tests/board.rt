@@ -22,6 +22,7 @@ fn settings(alloc: Global) -> Result<Settings, AllocError> {
         width: 10,
         buffer: 1,
         first: 0,
+        segmented: true,
         queues: Vec::from_slice(alloc, &[queue])?.into(),
     })
 }
