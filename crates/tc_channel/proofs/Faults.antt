@@ -20,4 +20,5 @@ none-first s (next ∷ later) fault a (inl (is, has)) = has (free-of-each s next
 none-first s (next ∷ later) fault a (inr (free, h)) = none-first s later fault a h
 
 pub no-fault : (s : Settings) (fault : SettingsFault) → IsAllowed s → IsFault s fault → ⊥
+unfolding IsFault
 no-fault s fault = none-first s faults_in_order fault

@@ -53,7 +53,7 @@ IsFirstFault s [] fault = ⊥
 IsFirstFault s (next ∷ later) fault = ((fault ≡ next) × ¬ IsFreeOf s next) ⊎ (IsFreeOf s next × IsFirstFault s later fault)
 
 -- the first fault of the settings is this one
-abbrev pub IsFault : Settings → SettingsFault → Type 0
+unfoldable pub IsFault : Settings → SettingsFault → Type 0
 IsFault s fault = IsFirstFault s faults_in_order fault
 
 -- why no channel was made: want of memory only where the settings have no fault

@@ -56,6 +56,7 @@ impl Settings {
     ghost use Rattle.tc_channel.specs.Settings.{IsAllowed, IsFault};
 
     /// Whether a channel can be made by these settings. It never answers `NoMemory`.
+    #[tactic(auto, unfolding(crate::specs::Settings::IsFault))]
     pub fn check(&self) -> Result<(), SettingsFault>
         ensures { MatchResult result (λ _. IsAllowed self.now) (IsFault self.now) }
     {

@@ -8,8 +8,8 @@ use Rattle.tc_cli.specs.declared.instruction.Instruction.TheVariants as instruct
 -- a channel line asks for a channel with its settings and no queues, and a blank line for nothing
 abbrev pub instruction_of : Line → Instruction
 instruction_of Blank = instructions.Nothing
-instruction_of (Channel vcid width buffer first) =
-    instructions.Channel (record { vcid = vcid; width = width; buffer = buffer; first = first; queues = [] })
+instruction_of (Channel vcid width buffer first segmented) =
+    instructions.Channel (record { vcid = vcid; width = width; buffer = buffer; first = first; segmented = segmented; queues = [] })
 instruction_of (Queue vcid apid capacity) = instructions.Queue vcid (record { apid = apid; capacity = capacity })
 instruction_of (Frame octets) = instructions.Frame octets
 instruction_of (Release vcid) = instructions.Release vcid

@@ -38,11 +38,13 @@ impl Instruction {
                 width,
                 buffer,
                 first,
+                segmented,
             } => Instruction::Channel(Settings {
                 vcid,
                 width,
                 buffer,
                 first,
+                segmented,
                 queues: Items::from(Vec::new(alloc)),
             }),
             Line::Queue {

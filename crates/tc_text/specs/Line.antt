@@ -1,27 +1,47 @@
 -- What a line says, by its words.
-use Rattle.std.specs.Prelude.{ℕ, Bool, ◌==◌, List, [], ◌∷◌, slice_index, nat_eq, codes, Some, None, Result, Ok, Err, if◌then◌else◌}
+use Rattle.std.specs.Prelude.{ℕ, Bool, true, false, Option, ◌==◌, List, [], ◌∷◌, slice_index, nat_eq, codes, Some, None, Result, Ok, Err, if◌then◌else◌}
 use Rattle.std.specs.Cmp.Lexicographic.{pointwise}
 use Rattle.hex.specs.Hex.{decode_of}
 use Rattle.hex.specs.declared.FromHexError.{FromHexError}
 use Rattle.tc_text.specs.Number.{number_of}
 use Rattle.tc_text.specs.declared.fault.Reason.{Reason}
-use Rattle.tc_text.specs.declared.fault.Reason.TheVariants.{UnknownCommand, WordCount, BadNumber, BadHex}
+use Rattle.tc_text.specs.declared.fault.Reason.TheVariants.{UnknownCommand, WordCount, BadNumber, BadHex, BadOption}
 use Rattle.tc_text.specs.declared.line.Line.{Line}
 use Rattle.tc_text.specs.declared.line.Line.TheVariants.{Blank, Channel, Queue, Frame, Release, Take, Clcw}
+
+-- the word that is left, if one is; more than one are too many
+abbrev pub last_of : List (List ℕ) → Result (Option (List ℕ)) Reason
+last_of [] = Ok None
+last_of (word ∷ []) = Ok (Some word)
+last_of (word ∷ more ∷ rest) = Err WordCount
+
+-- what follows where something could be read
+abbrev pub with_ok : {A : Type 0} → Result A Reason → (A → Result Line Reason) → Result Line Reason
+with_ok (Ok x) next = next x
+with_ok (Err reason) next = Err reason
 
 -- what follows where a word is a number within its bound
 abbrev pub with_number : ℕ → List ℕ → (ℕ → Result Line Reason) → Result Line Reason
 with_number most word next = elim (number_of most word) [ None ↦ Err BadNumber | Some number ↦ next number ]
+
+abbrev pub is : List ℕ → List ℕ → Bool
+is word text = pointwise nat_eq word text
+
+-- whether data fields begin with a segment header: they do where the line has no option, and `plain` says that they don't
+abbrev pub segmented_of : Option (List ℕ) → Result Bool Reason
+segmented_of None = Ok true
+segmented_of (Some option) = if is option (codes "plain") then Ok false else Err BadOption
 
 abbrev pub channel_of : List (List ℕ) → Result Line Reason
 channel_of [] = Err WordCount
 channel_of (v ∷ []) = Err WordCount
 channel_of (v ∷ w ∷ []) = Err WordCount
 channel_of (v ∷ w ∷ b ∷ []) = Err WordCount
-channel_of (v ∷ w ∷ b ∷ f ∷ []) =
+channel_of (v ∷ w ∷ b ∷ f ∷ rest) =
+    with_ok (last_of rest) (λ option.
     with_number 255 v (λ vcid. with_number 255 w (λ width. with_number 255 b (λ buffer. with_number 255 f (λ first.
-    Ok (Channel vcid width buffer first)))))
-channel_of (v ∷ w ∷ b ∷ f ∷ more ∷ rest) = Err WordCount
+    with_ok (segmented_of option) (λ segmented.
+    Ok (Channel vcid width buffer first segmented)))))))
 
 abbrev pub queue_of : List (List ℕ) → Result Line Reason
 queue_of [] = Err WordCount
@@ -58,9 +78,6 @@ clcw_of (v ∷ more ∷ rest) = Err WordCount
 
 abbrev pub is_comment : List ℕ → Bool
 is_comment word = slice_index word 0 == 35
-
-abbrev pub is : List ℕ → List ℕ → Bool
-is word text = pointwise nat_eq word text
 
 -- what the words of a line say, or the first of the reasons why they say nothing
 unfoldable pub line_of : List (List ℕ) → Result Line Reason

@@ -6,8 +6,8 @@ ghost use Rattle.tc_text.specs.Reason.{reason_of};
 use tc_channel::SettingsFault;
 use thiserror::Error;
 
-/// Why a line is bad. Where several apply, the first of this list is told, but for want of memory,
-/// which is told as soon as it is met.
+/// Why a line is bad. Where several apply, the first of this list is told; but a bad option comes right before
+/// what is too late, and want of memory is told as soon as it is met.
 #[derive(Clone, Copy, Debug, PartialEq, Eq, Error)]
 pub enum Reason {
     /// The first word is no command.
@@ -55,6 +55,9 @@ pub enum Reason {
     /// Memory was wanting for what the line needs.
     #[error("no memory")]
     NoMemory,
+    /// The word after a channel's numbers is no option.
+    #[error("bad option")]
+    BadOption,
 }
 
 impl From<SettingsFault> for Reason {

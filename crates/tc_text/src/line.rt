@@ -1,11 +1,11 @@
 //! Lines of a script.
 
-ghost use Rattle.std.specs.Prelude.{◌≡◌, ◌⊎◌, IfOk, IfErr};
+ghost use Rattle.std.specs.Prelude.{◌≡◌, ◌⊎◌, option_map, IfOk, IfErr, MatchResult};
 ghost use Rattle.tc_text.specs.Word.{words};
-ghost use Rattle.tc_text.specs.Line.{line_of, channel_of, queue_of, frame_of, release_of, take_of, clcw_of};
+ghost use Rattle.tc_text.specs.Line.{line_of, channel_of, segmented_of, queue_of, frame_of, release_of, take_of, clcw_of};
 
 use crate::fault::Reason;
-use crate::word::{large_number, next_argument, next_word, no_more, small_number};
+use crate::word::{large_number, last_argument, next_argument, next_word, no_more, small_number};
 use hex::FromHexError;
 use std::alloc::Global;
 use tc_channel::Octets;
@@ -15,13 +15,14 @@ use tc_channel::Octets;
 pub enum Line {
     /// Nothing: no words, or a comment.
     Blank,
-    /// A virtual channel with its window's width, the number of data fields that its buffer takes
-    /// and the first V(R).
+    /// A virtual channel with its window's width, the number of data fields that its buffer takes,
+    /// the first V(R), and whether data fields begin with a segment header.
     Channel {
         vcid: u8,
         width: u8,
         buffer: u8,
         first: u8,
+        segmented: bool,
     },
     /// A packet queue of a virtual channel, with its APID and the number of packets that it takes.
     Queue {
@@ -75,13 +76,27 @@ fn channel(arguments: &[u8]) -> Result<Line, Reason>
     let (width, rest) = next_argument(rest)?;
     let (buffer, rest) = next_argument(rest)?;
     let (first, rest) = next_argument(rest)?;
-    no_more(rest)?;
+    let option = last_argument(rest)?;
     Ok(Line::Channel {
         vcid: small_number(vcid)?,
         width: small_number(width)?,
         buffer: small_number(buffer)?,
         first: small_number(first)?,
+        segmented: is_segmented(option)?,
     })
+}
+
+// Whether data fields begin with a segment header, by the option of a channel line.
+fn is_segmented(option: Option<&[u8]>) -> Result<bool, Reason>
+    ensures { MatchResult result
+        (λ segmented. segmented_of (option_map (λ word. word.now) option.entry) ≡ Ok segmented)
+        (λ reason. segmented_of (option_map (λ word. word.now) option.entry) ≡ Err reason) }
+{
+    match option {
+        None => Ok(true),
+        Some(word) if word == b"plain".as_slice() => Ok(false),
+        Some(_) => Err(Reason::BadOption),
+    }
 }
 
 fn queue(arguments: &[u8]) -> Result<Line, Reason>

@@ -1,8 +1,9 @@
 //! The words of a line, and the numbers that words are.
 
-ghost use Rattle.std.specs.Prelude.{◌≡◌, ◌≢◌, ◌<◌, [], ◌∷◌, length, not, MatchOption, MatchResult, OnOk, IfErr};
+ghost use Rattle.std.specs.Prelude.{◌≡◌, ◌≢◌, ◌<◌, [], ◌∷◌, length, not, option_map, MatchOption, MatchResult, OnOk, IfErr};
 ghost use Rattle.std.specs.List.{list_all, take_while};
 ghost use Rattle.tc_text.specs.Word.{is_separator as is_separator_octet, words};
+ghost use Rattle.tc_text.specs.Line.{last_of};
 ghost use Rattle.tc_text.specs.Number.{is_digit, decimal_of, number_of};
 
 use crate::fault::Reason;
@@ -30,6 +31,21 @@ pub(crate) fn next_argument(octets: &[u8]) -> Result<(&[u8], &[u8]), Reason>
     match next_word(octets) {
         Some(parts) => Ok(parts),
         None => Err(Reason::WordCount),
+    }
+}
+
+/// The word that is left, if one is.
+pub(crate) fn last_argument(octets: &[u8]) -> Result<Option<&[u8]>, Reason>
+    ensures { MatchResult result
+        (λ last. last_of (words octets.now) ≡ Ok (option_map (λ word. word.now) last))
+        (λ reason. last_of (words octets.now) ≡ Err reason) }
+{
+    match next_word(octets) {
+        Some((word, after)) => {
+            no_more(after)?;
+            Ok(Some(word))
+        }
+        None => Ok(None),
     }
 }
 

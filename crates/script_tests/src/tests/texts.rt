@@ -21,6 +21,7 @@ fn reasons(rt: HostRuntime) -> Result<(), Fail> {
         (Reason::DoubleApid, "line 7: double application"),
         (Reason::BadCapacity, "line 7: bad capacity"),
         (Reason::NoMemory, "line 7: no memory"),
+        (Reason::BadOption, "line 7: bad option"),
     ] {
         let found = ScriptFault::Line { line: 7, reason }.to_string(rt.alloc())?;
         assert_eq!(rt; found.as_str(), text);
