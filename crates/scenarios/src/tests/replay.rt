@@ -279,14 +279,19 @@ struct Replay {
 }
 
 impl Replay {
-    // The settings are those of channel 1. Channel 2 has the same, but its first V(R) is 100.
+    // The settings are those of channel 1. Channel 2 has the same, but its first V(R) is 100, and its data fields always
+    // have segment headers.
     fn new(
         rt: &impl Abort,
         alloc: Global,
         bringing: Bringing,
+        segmented: bool,
         (width, buffer, first): (u8, u8, u8),
     ) -> Replay {
-        let one = || settings(alloc, 1, width, buffer, first).expect(rt, "settings");
+        let one = || Settings {
+            segmented,
+            ..settings(alloc, 1, width, buffer, first).expect(rt, "settings")
+        };
         let other = || settings(alloc, 2, width, buffer, 100).expect(rt, "settings");
         Replay {
             alloc,
@@ -389,8 +394,14 @@ impl Replay {
     }
 }
 
-fn play_row(rt: &(impl Wait + Abort), alloc: Global, bringing: Bringing, row: &Row) {
-    let mut replay = Replay::new(rt, alloc, bringing, row.shape);
+fn play_row(
+    rt: &(impl Wait + Abort),
+    alloc: Global,
+    bringing: Bringing,
+    segmented: bool,
+    row: &Row,
+) {
+    let mut replay = Replay::new(rt, alloc, bringing, segmented, row.shape);
     replay.play(rt, row);
     replay.close(rt)
 }
@@ -398,7 +409,15 @@ fn play_row(rt: &(impl Wait + Abort), alloc: Global, bringing: Bringing, row: &R
 // Plays each row, with frames that are brought in each manner, and closes the stations.
 pub(super) fn play_rows(rt: &(impl Wait + Abort), alloc: Global, rows: &[Row]) {
     for row in rows {
-        play_row(rt, alloc, Bringing::Plain, row);
-        play_row(rt, alloc, Bringing::Watched, row);
+        play_row(rt, alloc, Bringing::Plain, true, row);
+        play_row(rt, alloc, Bringing::Watched, true, row);
+    }
+}
+
+// The same, where data fields of channel 1 have no segment header.
+pub(super) fn play_plain_rows(rt: &(impl Wait + Abort), alloc: Global, rows: &[Row]) {
+    for row in rows {
+        play_row(rt, alloc, Bringing::Plain, false, row);
+        play_row(rt, alloc, Bringing::Watched, false, row);
     }
 }

@@ -1,6 +1,6 @@
 //! Operations on virtual channel 1, as lines of a script, and what each is answered.
 
-use super::replay::{Row, play_rows};
+use super::replay::{Row, play_plain_rows, play_rows};
 use super::*;
 
 #[test]
@@ -234,6 +234,49 @@ fn segments_make_units(rt: HostRuntime) {
         },
     ];
     play_rows(&rt, rt.alloc(), &rows)
+}
+
+#[test]
+fn plain_fields_are_units(rt: HostRuntime) {
+    let rows = [
+        Row {
+            name: "a packet without a segment header",
+            shape: (10, 1, 0),
+            script: "frame 002a040b001005c0000000aa\nrelease 1\ntake 1 5\n",
+            answers: "frame 1 E1 accepted 1 queued 0 dropped 0 rest 0\nrelease 1 queued 1 dropped 0 rest 0\ntake 1 5 1005c0000000aa\n",
+        },
+        Row {
+            name: "a segment header that is data",
+            shape: (10, 1, 0),
+            script: "frame 002a040c00c01005c0000000aa\nrelease 1\n",
+            answers: "frame 1 E1 accepted 1 queued 0 dropped 0 rest 0\nrelease 1 queued 0 dropped 0 rest 1\n",
+        },
+        Row {
+            name: "a part of a packet",
+            shape: (10, 1, 0),
+            script: "frame 002a0407001005c0\nrelease 1\n",
+            answers: "frame 1 E1 accepted 1 queued 0 dropped 0 rest 0\nrelease 1 queued 0 dropped 0 rest 1\n",
+        },
+        Row {
+            name: "a BD field of one octet",
+            shape: (10, 1, 0),
+            script: "frame 202a0405001f\nclcw 1\n",
+            answers: "frame 1 E6 accepted 1 queued 0 dropped 0 rest 1\nclcw 1 01040200\n",
+        },
+        Row {
+            name: "a BD field and an AD field",
+            shape: (10, 1, 0),
+            script: "frame 202a040b001005c0000000aa\ntake 1 5\nframe 002a040b001005c0000000bb\nrelease 1\ntake 1 5\nclcw 1\n",
+            answers: "frame 1 E6 accepted 1 queued 1 dropped 0 rest 0\ntake 1 5 1005c0000000aa\nframe 1 E1 accepted 1 queued 0 dropped 0 rest 0\nrelease 1 queued 1 dropped 0 rest 0\ntake 1 5 1005c0000000bb\nclcw 1 01040201\n",
+        },
+        Row {
+            name: "what would be two segments",
+            shape: (10, 2, 0),
+            script: "frame 002a040800401005c0\nframe 002a040a0180010001aabb\nrelease 1\nrelease 1\ntake 1 5\n",
+            answers: "frame 1 E1 accepted 1 queued 0 dropped 0 rest 0\nframe 1 E1 accepted 1 queued 0 dropped 0 rest 0\nrelease 1 queued 0 dropped 0 rest 1\nrelease 1 queued 0 dropped 0 rest 1\nrefused empty\n",
+        },
+    ];
+    play_plain_rows(&rt, rt.alloc(), &rows)
 }
 
 #[test]
