@@ -1,37 +1,41 @@
--- Queues with distinct APIDs take no packet twice.
+-- Queues with distinct keys take no item twice, where one key alone wants it.
 use Rattle.std.proofs.Common.{◌≡◌, ◌≢◌, ℕ, zero, suc, ◌+◌, ◌-◌, ◌≤◌, Bool, true, false, cond, eqb, not, nat_lt, ◌&&◌, List, [], ◌∷◌, length, map, filter, take, drop, refl, ap, ◌∙◌, inl, inr, arith}
 use Rattle.std.specs.List.{AllByRecursion, sum_by}
 use Rattle.std.proofs.lemmas.List.{length-take}
 use Rattle.std.proofs.lemmas.List.Sums.{sum_by-cons}
 use Rattle.std.proofs.lemmas.Bool.Decides.{eqb_tells, nat_tests}
 use Rattle.tc_packet.specs.SpacePacket.{apid_of, is_telecommand, named_length, begins, packets_within, packets_of}
-use Rattle.tc_channel.specs.declared.queues.PacketQueue.{PacketQueue}
+use Rattle.tc_channel.specs.declared.queues.HeldQueue.{HeldQueue}
 use Rattle.tc_channel.specs.Admission.{is_for}
-use Rattle.tc_channel.specs.declared.queues.Copied.{Copied}
-use Rattle.tc_channel.specs.PacketQueues.{share, copies_from, apids_of, AreDistinct}
+use Rattle.tc_channel.specs.declared.queues.Placed.{Placed}
+use Rattle.tc_channel.specs.HeldQueues.{share, copies_from, keys_of, AreDistinct}
 use Rattle.tc_channel.proofs.Copies.{length-copies}
 
-abbrev meant : List (List ℕ) → ℕ → ℕ
-meant ps apid = length (filter (is_for apid) ps)
+abbrev meant : (ℕ → List ℕ → Bool) → List (List ℕ) → ℕ → ℕ
+meant wanted ps key = length (filter (wanted key) ps)
 
-abbrev hit : List ℕ → ℕ → ℕ
-hit p apid = cond (is_for apid p) 1 0
+abbrev hit : (ℕ → List ℕ → Bool) → List ℕ → ℕ → ℕ
+hit wanted p key = cond (wanted key p) 1 0
 
-meant-cons : (p : List ℕ) (ps : List (List ℕ)) (apid : ℕ) → meant (p ∷ ps) apid ≡ hit p apid + meant ps apid
-meant-cons p ps apid = by (is_for apid p) where
-  by : (t : Bool) → length (cond t (p ∷ filter (is_for apid) ps) (filter (is_for apid) ps)) ≡ cond t 1 0 + length (filter (is_for apid) ps)
+meant-cons : (wanted : ℕ → List ℕ → Bool) (p : List ℕ) (ps : List (List ℕ)) (key : ℕ) → meant wanted (p ∷ ps) key ≡ hit wanted p key + meant wanted ps key
+meant-cons wanted p ps key = by (wanted key p) where
+  by : (t : Bool) → length (cond t (p ∷ filter (wanted key) ps) (filter (wanted key) ps)) ≡ cond t 1 0 + length (filter (wanted key) ps)
   by true = omega arith
   by false = omega arith
 
-sums-cons : (p : List ℕ) (ps : List (List ℕ)) (apids : List ℕ) → sum_by (meant (p ∷ ps)) apids ≡ sum_by (hit p) apids + sum_by (meant ps) apids
-sums-cons p ps [] = refl
-sums-cons p ps (a ∷ apids) =
-    let ih = sums-cons p ps apids in
-    let one = meant-cons p ps a in
-    omega (arith, sum_by-cons (meant (p ∷ ps)) a apids, sum_by-cons (hit p) a apids, sum_by-cons (meant ps) a apids)
+sums-cons : (wanted : ℕ → List ℕ → Bool) (p : List ℕ) (ps : List (List ℕ)) (keys : List ℕ) → sum_by (meant wanted (p ∷ ps)) keys ≡ sum_by (hit wanted p) keys + sum_by (meant wanted ps) keys
+sums-cons wanted p ps [] = refl
+sums-cons wanted p ps (a ∷ keys) =
+    let ih = sums-cons wanted p ps keys in
+    let one = meant-cons wanted p ps a in
+    omega (arith, sum_by-cons (meant wanted (p ∷ ps)) a keys, sum_by-cons (hit wanted p) a keys, sum_by-cons (meant wanted ps) a keys)
 
--- what is for one queue is for no other
-for-one : (a b : ℕ) (p : List ℕ) → is_for a p ≡ true → a ≢ b → is_for b p ≡ false
+-- what is wanted by one key is wanted by no other
+abbrev pub IsForOneKey : (ℕ → List ℕ → Bool) → Type 0
+IsForOneKey wanted = (a b : ℕ) (p : List ℕ) → wanted a p ≡ true → a ≢ b → wanted b p ≡ false
+
+-- a packet has one APID
+pub for-one : IsForOneKey is_for
 for-one a b p h apart = elim (eqb_tells (apid_of p) a) [
   | inl one ↦ elim (eqb_tells (apid_of p) b) [
     | inl two ↦ absurd (let x = one.1 in let y = two.1 in apart cc)
@@ -47,41 +51,41 @@ for-one a b p h apart = elim (eqb_tells (apid_of p) a) [
   not-both true e f = cc
   not-both false e f = cc
 
-no-hits : (a : ℕ) (p : List ℕ) (apids : List ℕ) → is_for a p ≡ true → AllByRecursion (λ b. a ≢ b) apids → sum_by (hit p) apids ≡ 0
-no-hits a p [] h apart = refl
-no-hits a p (b ∷ apids) h apart =
-    let ih = no-hits a p apids h apart.1 in
-    let one : hit p b ≡ 0 = rw (for-one a b p h apart.0) refl in
-    omega (arith, sum_by-cons (hit p) b apids)
+no-hits : (wanted : ℕ → List ℕ → Bool) → IsForOneKey wanted → (a : ℕ) (p : List ℕ) (keys : List ℕ) → wanted a p ≡ true → AllByRecursion (λ b. a ≢ b) keys → sum_by (hit wanted p) keys ≡ 0
+no-hits wanted alone a p [] h apart = refl
+no-hits wanted alone a p (b ∷ keys) h apart =
+    let ih = no-hits wanted alone a p keys h apart.1 in
+    let one : hit wanted p b ≡ 0 = rw (alone a b p h apart.0) refl in
+    omega (arith, sum_by-cons (hit wanted p) b keys)
 
-one-hit : (p : List ℕ) (apids : List ℕ) → AreDistinct apids → sum_by (hit p) apids ≤ 1
-one-hit p [] apart = omega arith
-one-hit p (a ∷ apids) apart = by (is_for a p) refl (one-hit p apids apart.1) where
-  by : (t : Bool) → is_for a p ≡ t → sum_by (hit p) apids ≤ 1 → sum_by (hit p) (a ∷ apids) ≤ 1
-  by true h ih = let none = no-hits a p apids h apart.0 in let one : hit p a ≡ 1 = rw h refl in omega (arith, sum_by-cons (hit p) a apids)
-  by false h ih = let one : hit p a ≡ 0 = rw h refl in omega (arith, sum_by-cons (hit p) a apids)
+one-hit : (wanted : ℕ → List ℕ → Bool) → IsForOneKey wanted → (p : List ℕ) (keys : List ℕ) → AreDistinct keys → sum_by (hit wanted p) keys ≤ 1
+one-hit wanted alone p [] apart = omega arith
+one-hit wanted alone p (a ∷ keys) apart = by (wanted a p) refl (one-hit wanted alone p keys apart.1) where
+  by : (t : Bool) → wanted a p ≡ t → sum_by (hit wanted p) keys ≤ 1 → sum_by (hit wanted p) (a ∷ keys) ≤ 1
+  by true h ih = let none = no-hits wanted alone a p keys h apart.0 in let one : hit wanted p a ≡ 1 = rw h refl in omega (arith, sum_by-cons (hit wanted p) a keys)
+  by false h ih = let one : hit wanted p a ≡ 0 = rw h refl in omega (arith, sum_by-cons (hit wanted p) a keys)
 
-none-meant : (apids : List ℕ) → sum_by (meant []) apids ≡ 0
-none-meant [] = refl
-none-meant (a ∷ apids) = let ih = none-meant apids in omega (arith, sum_by-cons (meant []) a apids)
+none-meant : (wanted : ℕ → List ℕ → Bool) (keys : List ℕ) → sum_by (meant wanted []) keys ≡ 0
+none-meant wanted [] = refl
+none-meant wanted (a ∷ keys) = let ih = none-meant wanted keys in omega (arith, sum_by-cons (meant wanted []) a keys)
 
-all-meant : (ps : List (List ℕ)) (apids : List ℕ) → AreDistinct apids → sum_by (meant ps) apids ≤ length ps
-all-meant [] apids apart = let n = none-meant apids in omega arith
-all-meant (p ∷ ps) apids apart =
-    let ih = all-meant ps apids apart in
-    let one = one-hit p apids apart in
-    let s = sums-cons p ps apids in
+all-meant : (wanted : ℕ → List ℕ → Bool) → IsForOneKey wanted → (ps : List (List ℕ)) (keys : List ℕ) → AreDistinct keys → sum_by (meant wanted ps) keys ≤ length ps
+all-meant wanted alone [] keys apart = let n = none-meant wanted keys in omega arith
+all-meant wanted alone (p ∷ ps) keys apart =
+    let ih = all-meant wanted alone ps keys apart in
+    let one = one-hit wanted alone p keys apart in
+    let s = sums-cons wanted p ps keys in
     omega arith
 
-shares-meant : (ps : List (List ℕ)) (ws : List PacketQueue) → sum_by length (map (share ps) ws) ≤ sum_by (meant ps) (apids_of ws)
-shares-meant ps [] = omega arith
-shares-meant ps (w ∷ ws) =
-    let ih = shares-meant ps ws in
-    omega (arith, sum_by-cons length (share ps w) (map (share ps) ws), sum_by-cons (meant ps) w.apid (apids_of ws), length-take (w.packets.capacity - length w.packets.items) (filter (is_for w.apid) ps))
+shares-meant : (wanted : ℕ → List ℕ → Bool) (ps : List (List ℕ)) (ws : List HeldQueue) → sum_by length (map (share wanted ps) ws) ≤ sum_by (meant wanted ps) (keys_of ws)
+shares-meant wanted ps [] = omega arith
+shares-meant wanted ps (w ∷ ws) =
+    let ih = shares-meant wanted ps ws in
+    omega (arith, sum_by-cons length (share wanted ps w) (map (share wanted ps) ws), sum_by-cons (meant wanted ps) w.key (keys_of ws), length-take (w.ring.capacity - length w.ring.items) (filter (wanted w.key) ps))
 
--- no more packets are queued than there are
-pub queued-within : (ps : List (List ℕ)) (ws : List PacketQueue) → AreDistinct (apids_of ws) → sum_by length (map (share ps) ws) ≤ length ps
-queued-within ps ws apart = let a = shares-meant ps ws in let b = all-meant ps (apids_of ws) apart in omega arith
+-- no more items are queued than there are
+pub queued-within : (wanted : ℕ → List ℕ → Bool) → IsForOneKey wanted → (ps : List (List ℕ)) (ws : List HeldQueue) → AreDistinct (keys_of ws) → sum_by length (map (share wanted ps) ws) ≤ length ps
+queued-within wanted alone ps ws apart = let a = shares-meant wanted ps ws in let b = all-meant wanted alone ps (keys_of ws) apart in omega arith
 
 -- a unit has no more packets than octets
 packets-short : (n : ℕ) (unit : List ℕ) → length (packets_within n unit) ≤ n
@@ -93,13 +97,13 @@ packets-short (suc n) unit = by (begins unit) (packets-short n (drop (named_leng
   by false h = omega arith
 
 -- how many packets a unit has, and how many of them are copied
-pub copies-within : (unit : List ℕ) (ps : List (List ℕ)) (ws : List PacketQueue) (copies : List Copied) → length unit ≤ 65542 → ps ≡ packets_of unit → AreDistinct (apids_of ws) → copies ≡ copies_from 0 ps ws
+pub copies-within : (unit : List ℕ) (ps : List (List ℕ)) (ws : List HeldQueue) (copies : List Placed) → length unit ≤ 65542 → ps ≡ packets_of unit → AreDistinct (keys_of ws) → copies ≡ copies_from is_for 0 ps ws
     → (length copies ≤ length ps) × (length ps ≤ 65542)
 copies-within unit ps ws copies short cut apart is =
     let few = packets-short (length unit) unit in
     let all : length ps ≡ length (packets_of unit) = ap length cut in
-    let within = queued-within ps ws apart in
-    let count : length copies ≡ sum_by length (map (share ps) ws) = ap length is ∙ length-copies 0 ps ws in
+    let within = queued-within is_for for-one ps ws apart in
+    let count : length copies ≡ sum_by length (map (share is_for ps) ws) = ap length is ∙ length-copies is_for 0 ps ws in
     (omega arith, omega arith)
 
 pub left-over : (n : ℕ) → not (eqb n 0) ≡ nat_lt 0 n

@@ -11,18 +11,18 @@ use Rattle.tc_channel.specs.declared.settings.Settings.{Settings}
 use Rattle.tc_channel.specs.declared.event.Event.{Event}
 use Rattle.tc_channel.specs.declared.event.Event.TheVariants.{Frame, Release, Take}
 use Rattle.tc_channel.specs.ChannelState.{ChannelState, Accepted, Queue, buffer}
-use Rattle.tc_channel.specs.Admission.{packets_in, share_of, with_shares}
+use Rattle.tc_channel.specs.Admission.{is_for, packets_in, share_of, with_shares}
 use Rattle.tc_channel.specs.Laws.{QueueGrows, QueuesGrow, Grows}
 use Rattle.tc_channel.specs.Run.{step, row_of, passed_on, unit_of, taken_from, first_of, run_from, run}
 use Rattle.tc_channel.proofs.Runs.{run-append}
 use Rattle.tc_channel.proofs.StateQueues.{kept-either}
 
 same-queue : (q : Queue) → QueueGrows q q
-same-queue q = record { apid = refl; capacity = refl; admitted = ([], sym (append-nil q.admitted)); taken = omega arith }
+same-queue q = record { key = refl; capacity = refl; admitted = ([], sym (append-nil q.admitted)); taken = omega arith }
 
 queue-then : (a b c : Queue) → QueueGrows a b → QueueGrows b c → QueueGrows a c
 queue-then a b c g h = record {
-  apid = h.apid ∙ g.apid;
+  key = h.key ∙ g.key;
   capacity = h.capacity ∙ g.capacity;
   admitted = (g.admitted.0 ++ h.admitted.0, h.admitted.1 ∙ rw g.admitted.1 (append_assoc a.admitted g.admitted.0 h.admitted.0));
   taken = let t = g.taken in let u = h.taken in omega arith;
@@ -40,19 +40,19 @@ queues-then (a ∷ xs) [] zs g h = absurd g
 queues-then (a ∷ xs) (b ∷ ys) [] g h = absurd h
 queues-then (a ∷ xs) (b ∷ ys) (c ∷ zs) g h = (queue-then a b c g.0 h.0, queues-then xs ys zs g.1 h.1)
 
-shares-grow : (packets : List (List ℕ)) (qs : List Queue) → QueuesGrow qs (with_shares packets qs)
-shares-grow packets [] = tt
-shares-grow packets (q ∷ qs) = (record { apid = refl; capacity = refl; admitted = (share_of packets q, refl); taken = omega arith }, shares-grow packets qs)
+shares-grow : (wanted : ℕ → List ℕ → Bool) (items : List (List ℕ)) (qs : List Queue) → QueuesGrow qs (with_shares wanted items qs)
+shares-grow wanted items [] = tt
+shares-grow wanted items (q ∷ qs) = (record { key = refl; capacity = refl; admitted = (share_of wanted items q, refl); taken = omega arith }, shares-grow wanted items qs)
 
-taken-grows : (apid : ℕ) (q : Queue) → QueueGrows q (taken_from apid q)
-taken-grows apid q = by (eqb q.apid apid && nat_lt q.taken (length q.admitted)) where
+taken-grows : (key : ℕ) (q : Queue) → QueueGrows q (taken_from key q)
+taken-grows key q = by (eqb q.key key && nat_lt q.taken (length q.admitted)) where
   by : (t : Bool) → QueueGrows q (cond t (record q { taken = q.taken + 1 }) q)
-  by true = record { apid = refl; capacity = refl; admitted = ([], sym (append-nil q.admitted)); taken = omega arith }
+  by true = record { key = refl; capacity = refl; admitted = ([], sym (append-nil q.admitted)); taken = omega arith }
   by false = same-queue q
 
-takes-grow : (apid : ℕ) (qs : List Queue) → QueuesGrow qs (map (taken_from apid) qs)
-takes-grow apid [] = tt
-takes-grow apid (q ∷ qs) = (taken-grows apid q, takes-grow apid qs)
+takes-grow : (key : ℕ) (qs : List Queue) → QueuesGrow qs (map (taken_from key) qs)
+takes-grow key [] = tt
+takes-grow key (q ∷ qs) = (taken-grows key q, takes-grow key qs)
 
 same : (b : ChannelState) → Grows b b
 same b = record { accepted = ([], sym (append-nil b.accepted)); released = omega arith; passed = ([], sym (append-nil b.passed)); queues = same-queues b.queues }
@@ -71,7 +71,7 @@ passed-grows service field b = record {
   accepted = ([], sym (append-nil b.accepted));
   released = omega arith;
   passed = (record { service = service; field = field } ∷ [], refl);
-  queues = shares-grow (packets_in (unit_of b service field)) b.queues;
+  queues = shares-grow is_for (packets_in (unit_of b service field)) b.queues;
 }
 
 accepted-grows : (a : Accepted) (b : ChannelState) → Grows b (record b { accepted = b.accepted ++ a ∷ [] })

@@ -15,12 +15,12 @@ use Rattle.tc_channel.specs.Run.{HasStep, step, row_of, kept, passed_on, first_o
 use Rattle.tc_packet.specs.declared.Service.TheVariants.{Ad}
 use Rattle.tc_channel.specs.Journal.{History}
 use Rattle.tc_channel.specs.Reply.{buffered_fields}
-use Rattle.tc_channel.specs.Admission.{packets_in}
+use Rattle.tc_channel.specs.Admission.{is_for, packets_in}
 use Rattle.tc_channel.specs.Channel.{Inside, Holds, Follows, FollowsKind, Ends, EndsAtOnce, buffered_of, with_field}
 use Rattle.tc_link.specs.declared.Act.{Act}
-use Rattle.tc_channel.specs.declared.queues.Copied.{Copied}
-use Rattle.tc_channel.specs.declared.queues.PacketQueue.{PacketQueue}
-use Rattle.tc_channel.specs.PacketQueues.{copies_from, put_all, HavePlaces}
+use Rattle.tc_channel.specs.declared.queues.Placed.{Placed}
+use Rattle.tc_channel.specs.declared.queues.HeldQueue.{HeldQueue}
+use Rattle.tc_channel.specs.HeldQueues.{copies_from, put_all, HavePlaces}
 use Rattle.tc_channel.proofs.Copies.{copies-places}
 use Rattle.tc_channel.proofs.Shares.{queues-follow, frame-queues, release-queues}
 use Rattle.tc_channel.proofs.Streams.{frame-runs, release-runs}
@@ -91,8 +91,8 @@ pub can-enter : {c : Settings} {j : List Event} {i : Inside} (octets : List ℕ)
     → Holds c j i → row ≡ row_of c (run c j) octets → IsSome (entry row i.farm.report)
 can-enter {c} {j} octets row k row_is = rw (row_is, k.report) (frame-enters c (run c j) (state-sound c j) octets)
 
-pub frame-keeps : {c : Settings} {j : List Event} {i : Inside} (later : Inside) (copies : List Copied) (unit : Option (List ℕ)) (kind : Kind) (octets : List ℕ) (row : Row) (act : Act)
-    → Holds c j i → kind ≡ kind_of (header_of octets) (drop 5 octets) → FollowsKind kind i.open_runs later.open_runs (drop 5 octets) → EndsAtOnce kind i.open_runs (drop 5 octets) unit → copies ≡ copies_from 0 (packets_in unit) i.rings → later.rings ≡ put_all i.rings copies
+pub frame-keeps : {c : Settings} {j : List Event} {i : Inside} (later : Inside) (copies : List Placed) (unit : Option (List ℕ)) (kind : Kind) (octets : List ℕ) (row : Row) (act : Act)
+    → Holds c j i → kind ≡ kind_of (header_of octets) (drop 5 octets) → FollowsKind kind i.open_runs later.open_runs (drop 5 octets) → EndsAtOnce kind i.open_runs (drop 5 octets) unit → copies ≡ copies_from is_for 0 (packets_in unit) i.rings → later.rings ≡ put_all i.rings copies
     → IsWhole octets → row ≡ row_of c (run c j) octets → act.event ≡ number_of row → act.accepted ≡ accepts row i.farm.report
     → later.farm.width ≡ i.farm.width → later.farm.report ≡ after row i.farm.report
     → later.ring.items ≡ with_field i.ring.items (buffered_of act (drop 5 octets)) → later.ring.capacity ≡ i.ring.capacity
@@ -112,7 +112,7 @@ frame-keeps {c} {j} {i} later copies unit kind octets row act k kind_is follows 
       capacity = capacity ∙ k.capacity;
       fields = fields ∙ ap buffer (sym pushed);
       runs = rw pushed (frame-runs c b octets i.open_runs later.open_runs k.runs (rw (← kind_is) follows));
-      queues = rw pushed (frame-queues c b octets i.open_runs unit later.rings k.runs (rw (← kind_is) ends) (queues-follow i.rings later.rings copies (packets_in unit) b.queues (queues-kept c j) k.queues copies_is rings_are));
+      queues = rw pushed (frame-queues c b octets i.open_runs unit later.rings k.runs (rw (← kind_is) ends) (queues-follow is_for i.rings later.rings copies (packets_in unit) b.queues (queues-kept c j) k.queues copies_is rings_are));
     }
 
 -- a buffered field goes where there is room
@@ -147,8 +147,8 @@ released-report c b = refl
 has-release : (b : ChannelState) → 0 < length (buffer b) → b.released < length b.accepted
 has-release b h = omega (arith, length-map (drop b.released b.accepted) (λ (a : Accepted). a.field), length-drop b.released b.accepted)
 
-pub release-keeps : {c : Settings} {j : List Event} {i : Inside} (later : Inside) (copies : List Copied) (unit : Option (List ℕ))
-    → Holds c j i → Follows i.open_runs later.open_runs Ad (first_of i.ring.items) → Ends i.open_runs Ad (first_of i.ring.items) unit → copies ≡ copies_from 0 (packets_in unit) i.rings → later.rings ≡ put_all i.rings copies → 0 < length i.ring.items
+pub release-keeps : {c : Settings} {j : List Event} {i : Inside} (later : Inside) (copies : List Placed) (unit : Option (List ℕ))
+    → Holds c j i → Follows i.open_runs later.open_runs Ad (first_of i.ring.items) → Ends i.open_runs Ad (first_of i.ring.items) unit → copies ≡ copies_from is_for 0 (packets_in unit) i.rings → later.rings ≡ put_all i.rings copies → 0 < length i.ring.items
     → later.farm.width ≡ i.farm.width → later.farm.report ≡ after E10 i.farm.report
     → later.ring ≡ record { items = drop 1 i.ring.items; capacity = i.ring.capacity }
     → Holds c (j ++ Release ∷ []) later
@@ -166,11 +166,11 @@ release-keeps {c} {j} {i} later copies unit k follows ends copies_is rings_are s
       capacity = ap (λ (x : Buffer (List ℕ)). x.capacity) is ∙ k.capacity;
       fields = fields ∙ ap buffer (sym pushed);
       runs = rw pushed (release-runs c b i.open_runs later.open_runs k.runs (let f : Follows i.open_runs later.open_runs Ad (first_of (buffer b)) = rw k.fields at follows in f));
-      queues = rw pushed (release-queues c b i.open_runs unit later.rings k.runs (let o : Ends i.open_runs Ad (first_of (buffer b)) unit = rw k.fields at ends in o) (queues-follow i.rings later.rings copies (packets_in unit) b.queues (queues-kept c j) k.queues copies_is rings_are));
+      queues = rw pushed (release-queues c b i.open_runs unit later.rings k.runs (let o : Ends i.open_runs Ad (first_of (buffer b)) unit = rw k.fields at ends in o) (queues-follow is_for i.rings later.rings copies (packets_in unit) b.queues (queues-kept c j) k.queues copies_is rings_are));
     }
 
-pub have-places : (ps : List (List ℕ)) (rings : List PacketQueue) → HavePlaces (length rings) (copies_from 0 ps rings)
-have-places ps rings = copies-places (length rings) 0 ps rings (omega arith)
+pub have-places : (ps : List (List ℕ)) (rings : List HeldQueue) → HavePlaces (length rings) (copies_from is_for 0 ps rings)
+have-places ps rings = copies-places is_for (length rings) 0 ps rings (omega arith)
 
 -- a channel whose buffer isn't empty holds a field
 pub some-field : {h : History} {c : Settings} {j : List Event} {i : Inside} → record { settings = c; journal = j } ≡ h

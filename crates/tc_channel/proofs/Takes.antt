@@ -12,71 +12,71 @@ use Rattle.tc_channel.specs.declared.event.Event.TheVariants.{Take}
 use Rattle.tc_channel.specs.Channel.{Inside, Holds}
 use Rattle.tc_channel.proofs.Runs.{run-push, lawful-push}
 use Rattle.std.proofs.lemmas.Bool.Decides.{nat_tests, eqb_tells}
-use Rattle.tc_channel.specs.declared.queues.PacketQueue.{PacketQueue}
+use Rattle.tc_channel.specs.declared.queues.HeldQueue.{HeldQueue}
 use Rattle.tc_channel.specs.ChannelState.{Queue, waiting, queue_of}
 use Rattle.tc_channel.specs.Run.{taken_from, run}
 use Rattle.tc_channel.specs.Reply.{waiting_packets}
-use Rattle.tc_channel.specs.PacketQueues.{AreDistinct, apids_of, held, queue_for, popped, shorter}
-use Rattle.tc_channel.proofs.StateQueues.{apids, queues-apart}
+use Rattle.tc_channel.specs.HeldQueues.{AreDistinct, keys_of, held, queue_for, popped, shorter}
+use Rattle.tc_channel.proofs.StateQueues.{keys, queues-apart}
 
-pub held-queue : (apid : ℕ) (qs : List Queue) → queue_for apid (map held qs) ≡ option_map held (queue_of apid qs)
-held-queue apid [] = refl
-held-queue apid (q ∷ qs) = by (eqb q.apid apid) (held-queue apid qs) where
-  by : (t : Bool) → queue_for apid (map held qs) ≡ option_map held (queue_of apid qs) → cond t (Some (held q)) (queue_for apid (map held qs)) ≡ option_map held (cond t (Some q) (queue_of apid qs))
+pub held-queue : (key : ℕ) (qs : List Queue) → queue_for key (map held qs) ≡ option_map held (queue_of key qs)
+held-queue key [] = refl
+held-queue key (q ∷ qs) = by (eqb q.key key) (held-queue key qs) where
+  by : (t : Bool) → queue_for key (map held qs) ≡ option_map held (queue_of key qs) → cond t (Some (held q)) (queue_for key (map held qs)) ≡ option_map held (cond t (Some q) (queue_of key qs))
   by true h = refl
   by false h = h
 
-one-taken : (apid : ℕ) (q : Queue) → eqb q.apid apid ≡ true → q.taken < length q.admitted → taken_from apid q ≡ record q { taken = q.taken + 1 }
-one-taken apid q same some = let t : nat_lt q.taken (length q.admitted) ≡ true = grind (arith, nat_tests) in rw (same, t) refl
+one-taken : (key : ℕ) (q : Queue) → eqb q.key key ≡ true → q.taken < length q.admitted → taken_from key q ≡ record q { taken = q.taken + 1 }
+one-taken key q same some = let t : nat_lt q.taken (length q.admitted) ≡ true = grind (arith, nat_tests) in rw (same, t) refl
 
-none-taken : (apid : ℕ) (q : Queue) → eqb q.apid apid ≡ false → taken_from apid q ≡ q
-none-taken apid q other = rw other refl
+none-taken : (key : ℕ) (q : Queue) → eqb q.key key ≡ false → taken_from key q ≡ q
+none-taken key q other = rw other refl
 
-others-stay : (apid : ℕ) (a : ℕ) (qs : List Queue) → a ≡ apid → AllByRecursion (λ b. a ≢ b) (apids qs) → map (taken_from apid) qs ≡ qs
-others-stay apid a [] e h = refl
-others-stay apid a (q ∷ qs) e h = elim (eqb_tells q.apid apid) [
+others-stay : (key : ℕ) (a : ℕ) (qs : List Queue) → a ≡ key → AllByRecursion (λ b. a ≢ b) (keys qs) → map (taken_from key) qs ≡ qs
+others-stay key a [] e h = refl
+others-stay key a (q ∷ qs) e h = elim (eqb_tells q.key key) [
   | inl same ↦ absurd (h.0 (e ∙ sym same.1))
-  | inr other ↦ rw (none-taken apid q other.0) (ap (λ (x : List Queue). q ∷ x) (others-stay apid a qs e h.1))
+  | inr other ↦ rw (none-taken key q other.0) (ap (λ (x : List Queue). q ∷ x) (others-stay key a qs e h.1))
 ]
 
--- where the queue has a packet
-pub popped-taken : (apid : ℕ) (qs : List Queue) (q : Queue) → AreDistinct (apids qs) → queue_of apid qs ≡ Some q → q.taken < length q.admitted
-    → popped apid (map held qs) ≡ map held (map (taken_from apid) qs)
-popped-taken apid [] q apart is some = absurd cc
-popped-taken apid (p ∷ qs) q apart is some = elim (eqb_tells p.apid apid) [
+-- where an item waits in the queue
+pub popped-taken : (key : ℕ) (qs : List Queue) (q : Queue) → AreDistinct (keys qs) → queue_of key qs ≡ Some q → q.taken < length q.admitted
+    → popped key (map held qs) ≡ map held (map (taken_from key) qs)
+popped-taken key [] q apart is some = absurd cc
+popped-taken key (p ∷ qs) q apart is some = elim (eqb_tells p.key key) [
   | inl same ↦ (
       let e : p ≡ q = (let i : Some p ≡ Some q = rw same.0 at is in cc) in
-      let one = one-taken apid p same.0 (rw e some) in
-      let rest = others-stay apid p.apid qs same.1 apart.0 in
-      let tail : map held (map (taken_from apid) (p ∷ qs)) ≡ held (record p { taken = p.taken + 1 }) ∷ map held qs = ap (λ (x : Queue). held x ∷ map held (map (taken_from apid) qs)) one ∙ ap (λ (x : List Queue). held (record p { taken = p.taken + 1 }) ∷ map held x) rest in
-      let head : popped apid (map held (p ∷ qs)) ≡ shorter (held p) ∷ map held qs = rw same.0 refl in
-      head ∙ (ap (λ (x : List (List ℕ)). record { apid = p.apid; packets = record { items = x; capacity = p.capacity } } ∷ map held qs) (drop-drop 1 p.taken p.admitted) ∙ sym tail))
+      let one = one-taken key p same.0 (rw e some) in
+      let rest = others-stay key p.key qs same.1 apart.0 in
+      let tail : map held (map (taken_from key) (p ∷ qs)) ≡ held (record p { taken = p.taken + 1 }) ∷ map held qs = ap (λ (x : Queue). held x ∷ map held (map (taken_from key) qs)) one ∙ ap (λ (x : List Queue). held (record p { taken = p.taken + 1 }) ∷ map held x) rest in
+      let head : popped key (map held (p ∷ qs)) ≡ shorter (held p) ∷ map held qs = rw same.0 refl in
+      head ∙ (ap (λ (x : List (List ℕ)). record { key = p.key; ring = record { items = x; capacity = p.capacity } } ∷ map held qs) (drop-drop 1 p.taken p.admitted) ∙ sym tail))
   | inr other ↦ (
-      let none = none-taken apid p other.0 in
-      let i : queue_of apid qs ≡ Some q = rw other.0 at is in
-      let rest = popped-taken apid qs q apart.1 i some in
-      let tail : map held (map (taken_from apid) (p ∷ qs)) ≡ held p ∷ map held (map (taken_from apid) qs) = ap (λ (x : Queue). held x ∷ map held (map (taken_from apid) qs)) none in
-      let head : popped apid (map held (p ∷ qs)) ≡ held p ∷ popped apid (map held qs) = rw other.0 refl in
-      head ∙ ap (λ (x : List PacketQueue). held p ∷ x) rest ∙ sym tail)
+      let none = none-taken key p other.0 in
+      let i : queue_of key qs ≡ Some q = rw other.0 at is in
+      let rest = popped-taken key qs q apart.1 i some in
+      let tail : map held (map (taken_from key) (p ∷ qs)) ≡ held p ∷ map held (map (taken_from key) qs) = ap (λ (x : Queue). held x ∷ map held (map (taken_from key) qs)) none in
+      let head : popped key (map held (p ∷ qs)) ≡ held p ∷ popped key (map held qs) = rw other.0 refl in
+      head ∙ ap (λ (x : List HeldQueue). held p ∷ x) rest ∙ sym tail)
 ]
 
 -- the event can happen
-pub can-take : (apid : ℕ) (qs : List Queue) (q : Queue) → queue_of apid qs ≡ Some q → q.taken < length q.admitted → Any (λ (x : Queue). (x.apid ≡ apid) × (x.taken < length x.admitted)) qs
-can-take apid [] q is some = absurd cc
-can-take apid (p ∷ qs) q is some = elim (eqb_tells p.apid apid) [
+pub can-take : (key : ℕ) (qs : List Queue) (q : Queue) → queue_of key qs ≡ Some q → q.taken < length q.admitted → Any (λ (x : Queue). (x.key ≡ key) × (x.taken < length x.admitted)) qs
+can-take key [] q is some = absurd cc
+can-take key (p ∷ qs) q is some = elim (eqb_tells p.key key) [
   | inl same ↦ (let e : p ≡ q = (let i : Some p ≡ Some q = rw same.0 at is in cc) in (0, p, omega arith, refl, (same.1, rw e some)))
-  | inr other ↦ (let i : queue_of apid qs ≡ Some q = rw other.0 at is in let k = can-take apid qs q i some in (suc k.0, k.1, (let l = k.2 in omega arith), k.3, k.4))
+  | inr other ↦ (let i : queue_of key qs ≡ Some q = rw other.0 at is in let k = can-take key qs q i some in (suc k.0, k.1, (let l = k.2 in omega arith), k.3, k.4))
 ]
 
-some-queue : (o : Option Queue) (w : PacketQueue) → option_map held o ≡ Some w → 0 < length w.packets.items → (q : Queue) × (o ≡ Some q) × (q.taken < length q.admitted)
+some-queue : (o : Option Queue) (w : HeldQueue) → option_map held o ≡ Some w → 0 < length w.ring.items → (q : Queue) × (o ≡ Some q) × (q.taken < length q.admitted)
 some-queue None w e some = absurd cc
 some-queue (Some q) w e some =
     let i : held q ≡ w = cc in
-    let l : length (waiting q) ≡ length w.packets.items = ap (λ (x : PacketQueue). length x.packets.items) i in
+    let l : length (waiting q) ≡ length w.ring.items = ap (λ (x : HeldQueue). length x.ring.items) i in
     (q, refl, omega (arith, length-drop q.taken q.admitted))
 
-pub take-keeps : {c : Settings} {j : List Event} {i : Inside} (later : List PacketQueue) (apid : ℕ) (w : PacketQueue)
-    → Holds c j i → queue_for apid i.rings ≡ Some w → 0 < length w.packets.items → later ≡ popped apid i.rings → Holds c (j ++ Take apid ∷ []) (record i { rings = later })
+pub take-keeps : {c : Settings} {j : List Event} {i : Inside} (later : List HeldQueue) (apid : ℕ) (w : HeldQueue)
+    → Holds c j i → queue_for apid i.rings ≡ Some w → 0 < length w.ring.items → later ≡ popped apid i.rings → Holds c (j ++ Take apid ∷ []) (record i { rings = later })
 take-keeps {c} {j} {i} later apid w k found some is =
     let b = run c j in
     let pushed = run-push c j (Take apid) in
@@ -93,39 +93,39 @@ take-keeps {c} {j} {i} later apid w k found some is =
       queues = is ∙ ap (popped apid) k.queues ∙ popped-taken apid b.queues q.0 (queues-apart c j k.allowed) q.1 q.2 ∙ rw pushed refl;
     }
 
-items-map : (o : Option Queue) → option_map waiting o ≡ option_map (λ (w : PacketQueue). w.packets.items) (option_map held o)
+items-map : (o : Option Queue) → option_map waiting o ≡ option_map (λ (w : HeldQueue). w.ring.items) (option_map held o)
 items-map None = refl
 items-map (Some q) = refl
 
 -- what waits for an application, by the fields
 pub waits : {c : Settings} {j : List Event} {i : Inside} (apid : ℕ)
-    → Holds c j i → waiting_packets c j apid ≡ option_map (λ (w : PacketQueue). w.packets.items) (queue_for apid i.rings)
+    → Holds c j i → waiting_packets c j apid ≡ option_map (λ (w : HeldQueue). w.ring.items) (queue_for apid i.rings)
 unfolding waiting_packets
-waits {c} {j} apid k = rw k.queues (items-map (queue_of apid (run c j).queues) ∙ ap (option_map (λ (w : PacketQueue). w.packets.items)) (sym (held-queue apid (run c j).queues)))
+waits {c} {j} apid k = rw k.queues (items-map (queue_of apid (run c j).queues) ∙ ap (option_map (λ (w : HeldQueue). w.ring.items)) (sym (held-queue apid (run c j).queues)))
 
--- the oldest packet of ring i is taken
-pub popped-at : (apid : ℕ) (ws : List PacketQueue) (i : ℕ) (w : PacketQueue) → w ≡ get_or ws i w → i < length ws → w.apid ≡ apid → set ws i (shorter w) ≡ take i ws ++ popped apid (drop i ws)
-popped-at apid [] i w is lt e = absurd (omega arith)
-popped-at apid (v ∷ ws) zero w is lt e =
-    let same : eqb v.apid apid ≡ true = eq-eqb v.apid apid (ap (λ (x : PacketQueue). x.apid) (sym is) ∙ e) in
-    rw same (ap (λ (x : PacketQueue). shorter x ∷ ws) is)
-popped-at apid (v ∷ ws) (suc i) w is lt e = ap (λ (x : List PacketQueue). v ∷ x) (popped-at apid ws i w is (omega arith) e)
+-- the oldest item of ring i is taken
+pub popped-at : (key : ℕ) (ws : List HeldQueue) (i : ℕ) (w : HeldQueue) → w ≡ get_or ws i w → i < length ws → w.key ≡ key → set ws i (shorter w) ≡ take i ws ++ popped key (drop i ws)
+popped-at key [] i w is lt e = absurd (omega arith)
+popped-at key (v ∷ ws) zero w is lt e =
+    let same : eqb v.key key ≡ true = eq-eqb v.key key (ap (λ (x : HeldQueue). x.key) (sym is) ∙ e) in
+    rw same (ap (λ (x : HeldQueue). shorter x ∷ ws) is)
+popped-at key (v ∷ ws) (suc i) w is lt e = ap (λ (x : List HeldQueue). v ∷ x) (popped-at key ws i w is (omega arith) e)
 
-pub found-queue : (o : Option PacketQueue) (xs : List (List ℕ)) → option_map (λ (w : PacketQueue). w.packets.items) o ≡ Some xs → (w : PacketQueue) × (o ≡ Some w) × (w.packets.items ≡ xs)
+pub found-queue : (o : Option HeldQueue) (xs : List (List ℕ)) → option_map (λ (w : HeldQueue). w.ring.items) o ≡ Some xs → (w : HeldQueue) × (o ≡ Some w) × (w.ring.items ≡ xs)
 found-queue None xs e = absurd cc
-found-queue (Some w) xs e = (w, refl, (let i : w.packets.items ≡ xs = cc in i))
+found-queue (Some w) xs e = (w, refl, (let i : w.ring.items ≡ xs = cc in i))
 
-pub popped-is : (o : Option PacketQueue) (xs : List (List ℕ)) → option_map (λ (w : PacketQueue). w.packets.items) o ≡ Some xs → option_and_then (λ (w : PacketQueue). slice_get w.packets.items 0) o ≡ slice_get xs 0
+pub popped-is : (o : Option HeldQueue) (xs : List (List ℕ)) → option_map (λ (w : HeldQueue). w.ring.items) o ≡ Some xs → option_and_then (λ (w : HeldQueue). slice_get w.ring.items 0) o ≡ slice_get xs 0
 popped-is None xs e = absurd cc
-popped-is (Some w) xs e = let i : w.packets.items ≡ xs = cc in ap (λ (x : List (List ℕ)). slice_get x 0) i
+popped-is (Some w) xs e = let i : w.ring.items ≡ xs = cc in ap (λ (x : List (List ℕ)). slice_get x 0) i
 
 pub has-first : (xs : List (List ℕ)) → 0 < length xs → IsSome (slice_get xs 0)
 has-first [] some = absurd (omega arith)
 has-first (x ∷ xs) some = refl
 
-pub same-apids : (qs : List Queue) → apids_of (map held qs) ≡ apids qs
-same-apids [] = refl
-same-apids (q ∷ qs) = ap (λ (x : List ℕ). q.apid ∷ x) (same-apids qs)
+pub same-keys : (qs : List Queue) → keys_of (map held qs) ≡ keys qs
+same-keys [] = refl
+same-keys (q ∷ qs) = ap (λ (x : List ℕ). q.key ∷ x) (same-keys qs)
 
-pub queues-distinct : {c : Settings} {j : List Event} {i : Inside} → Holds c j i → AreDistinct (apids_of i.rings)
-queues-distinct {c} {j} k = rw (k.queues, same-apids (run c j).queues) (queues-apart c j k.allowed)
+pub queues-distinct : {c : Settings} {j : List Event} {i : Inside} → Holds c j i → AreDistinct (keys_of i.rings)
+queues-distinct {c} {j} k = rw (k.queues, same-keys (run c j).queues) (queues-apart c j k.allowed)

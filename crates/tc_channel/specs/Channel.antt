@@ -12,8 +12,8 @@ use Rattle.tc_channel.specs.declared.settings.Settings.{Settings}
 use Rattle.tc_channel.specs.Settings.{IsAllowed}
 use Rattle.tc_channel.specs.declared.event.Event.{Event}
 use Rattle.tc_channel.specs.ChannelState.{buffer}
-use Rattle.tc_channel.specs.PacketQueues.{held}
-use Rattle.tc_channel.specs.declared.queues.PacketQueue.{PacketQueue}
+use Rattle.tc_channel.specs.HeldQueues.{held}
+use Rattle.tc_channel.specs.declared.queues.HeldQueue.{HeldQueue}
 use Rattle.tc_channel.specs.Run.{run, IsLawful}
 
 -- each stream's open run is that of the data fields that were passed, with segment headers or without
@@ -53,12 +53,12 @@ abbrev pub with_field : List (List ℕ) → Option (List ℕ) → List (List ℕ
 with_field fields None = fields
 with_field fields (Some field) = fields ++ field ∷ []
 
--- what a channel works with: FARM-1, the ring of buffered data fields, the open runs and the rings of packets
+-- what a channel works with: FARM-1, the ring of buffered data fields, the open runs and the rings of the queues
 pub record Inside : Type 0 where
   pub farm : Machine
   pub ring : Buffer (List ℕ)
   pub open_runs : OpenRuns
-  pub rings : List PacketQueue
+  pub rings : List HeldQueue
 
 -- all that a channel works with is that of the journal's run
 pub record Holds (s : Settings) (journal : List Event) (inside : Inside) : Type 0 where

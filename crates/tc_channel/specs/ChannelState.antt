@@ -11,9 +11,9 @@ pub record Accepted : Type 0 where
   pub ns : ℕ
   pub field : List ℕ
 
--- a packet queue: all packets that were ever admitted, and how many of them were taken
+-- a queue, known by its key: all items that were ever admitted, and how many of them were taken
 pub record Queue : Type 0 where
-  pub apid : ℕ
+  pub key : ℕ
   pub capacity : ℕ
   pub admitted : List (List ℕ)
   pub taken : ℕ
@@ -28,8 +28,9 @@ pub record ChannelState : Type 0 where
   pub passed : List Passed
   pub queues : List Queue
 
+-- the packet queue of a setting, with nothing in it: its key is the APID
 abbrev pub empty_queue : QueueSetting → Queue
-empty_queue q = record { apid = q.apid; capacity = q.capacity; admitted = []; taken = 0 }
+empty_queue q = record { key = q.apid; capacity = q.capacity; admitted = []; taken = 0 }
 
 -- the state of a channel that starts
 abbrev pub first_state : Settings → ChannelState
@@ -42,11 +43,11 @@ buffer state = map (λ a. a.field) (drop state.released state.accepted)
 abbrev pub has_room : Settings → ChannelState → Bool
 has_room s state = nat_lt (length (buffer state)) s.buffer
 
--- the packets that wait in a queue, the oldest first
+-- the items that wait in a queue, the oldest first
 abbrev pub waiting : Queue → List (List ℕ)
 waiting q = drop q.taken q.admitted
 
--- the queue for an APID
+-- the queue with a key
 abbrev pub queue_of : ℕ → List Queue → Option Queue
-queue_of apid [] = None
-queue_of apid (q ∷ qs) = if q.apid == apid then Some q else queue_of apid qs
+queue_of key [] = None
+queue_of key (q ∷ qs) = if q.key == key then Some q else queue_of key qs

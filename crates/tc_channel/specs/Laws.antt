@@ -20,7 +20,7 @@ pub record KeepsToItsCapacity (q : Queue) : Type 0 where
 
 -- a queue goes on: it admitted more, and more was taken
 pub record QueueGrows (old new : Queue) : Type 0 where
-  pub apid : new.apid ≡ old.apid
+  pub key : new.key ≡ old.key
   pub capacity : new.capacity ≡ old.capacity
   pub admitted : (more : List (List ℕ)) × (new.admitted ≡ old.admitted ++ more)
   pub taken : old.taken ≤ new.taken

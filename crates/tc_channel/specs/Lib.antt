@@ -6,5 +6,5 @@ pub mod Run
 pub mod Reply
 pub mod Era
 pub mod Laws
-pub mod PacketQueues
+pub mod HeldQueues
 pub mod Channel

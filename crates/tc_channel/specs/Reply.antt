@@ -12,7 +12,7 @@ use Rattle.tc_channel.specs.declared.reply.FrameReply.{FrameReply}
 use Rattle.tc_channel.specs.declared.settings.Settings.{Settings}
 use Rattle.tc_channel.specs.declared.event.Event.{Event}
 use Rattle.tc_channel.specs.ChannelState.{ChannelState, Queue, buffer, queue_of, waiting}
-use Rattle.tc_channel.specs.Admission.{packets_in, queued_of}
+use Rattle.tc_channel.specs.Admission.{is_for, packets_in, queued_of}
 use Rattle.tc_channel.specs.Run.{field_of, row_of, unit_of, first_of, run}
 
 -- no unit was ended
@@ -25,7 +25,7 @@ delivered None queued = nothing
 delivered (Some unit) queued = record { queued = queued; dropped = length (packets_of unit) - queued; rest = nat_lt 0 (length (rest_of unit)) }
 
 abbrev pub delivery_of : Option (List ℕ) → List Queue → Delivery
-delivery_of unit queues = delivered unit (queued_of (packets_in unit) queues)
+delivery_of unit queues = delivered unit (queued_of is_for (packets_in unit) queues)
 
 -- FARM-1's event number, and whether the frame is accepted
 abbrev pub act_of : Settings → ChannelState → List ℕ → Act

@@ -11,7 +11,7 @@ use Rattle.tc_channel.specs.declared.settings.Settings.{Settings}
 use Rattle.tc_channel.specs.declared.event.Event.{Event}
 use Rattle.tc_channel.specs.declared.event.Event.TheVariants.{Frame, Release, Take}
 use Rattle.tc_channel.specs.ChannelState.{ChannelState, Queue, first_state, buffer, has_room}
-use Rattle.tc_channel.specs.Admission.{packets_in, with_shares}
+use Rattle.tc_channel.specs.Admission.{is_for, packets_in, with_shares}
 
 -- the data field of a frame
 abbrev pub field_of : List ℕ → List ℕ
@@ -29,7 +29,7 @@ unit_of state service field = unit_ended state.segmented (stream service (segmen
 unfoldable pub passed_on : Service → List ℕ → ChannelState → ChannelState
 passed_on service field state = record state {
   passed = state.passed ++ record { service = service; field = field } ∷ [];
-  queues = with_shares (packets_in (unit_of state service field)) state.queues;
+  queues = with_shares is_for (packets_in (unit_of state service field)) state.queues;
 }
 
 -- what a frame leaves, apart from the components: an AD frame is buffered and a BD frame passed on, where accepted
@@ -49,8 +49,9 @@ first_of (x ∷ xs) = x
 abbrev pub after_release : ChannelState → ChannelState
 after_release state = record (passed_on Ad (first_of (buffer state)) state) { released = state.released + 1; report = after E10 state.report }
 
+-- the queue with this key has one item more that was taken, where one waits
 abbrev pub taken_from : ℕ → Queue → Queue
-taken_from apid q = if q.apid == apid && nat_lt q.taken (length q.admitted) then record q { taken = q.taken + 1 } else q
+taken_from key q = if q.key == key && nat_lt q.taken (length q.admitted) then record q { taken = q.taken + 1 } else q
 
 -- the oldest packet leaves the queue with this APID
 abbrev pub after_take : ℕ → ChannelState → ChannelState
@@ -60,7 +61,7 @@ after_take apid state = record state { queues = map (taken_from apid) state.queu
 abbrev pub HasStep : Settings → ChannelState → Event → Type 0
 HasStep s state (Frame octets) = IsWhole octets × IsSome (entry (row_of s state octets) state.report)
 HasStep s state Release = state.released < length state.accepted
-HasStep s state (Take apid) = Any (λ (q : Queue). (q.apid ≡ apid) × (q.taken < length q.admitted)) state.queues
+HasStep s state (Take apid) = Any (λ (q : Queue). (q.key ≡ apid) × (q.taken < length q.admitted)) state.queues
 
 -- the state after the event; where it can't happen, what stands here is of no matter
 abbrev pub step : Settings → ChannelState → Event → ChannelState

@@ -8,13 +8,11 @@ ghost use Rattle.tc_channel.specs.Run.{run, IsLawful, first_of};
 ghost use Rattle.tc_channel.specs.Reply.{frame_reply, release_reply, take_reply, waiting_packets, buffered_fields, clcw as clcw_of};
 ghost use Rattle.tc_channel.specs.Era.{CountsUpInItsEra};
 ghost use Rattle.tc_channel.specs.Channel.{Follows, FollowsKind, Ends, EndsAtOnce, buffered_of, with_field};
-ghost use Rattle.tc_channel.specs.PacketQueues.{AreDistinct, apids_of, IsPlanned};
+ghost use Rattle.tc_channel.specs.HeldQueues.{AreDistinct, keys_of, IsPlanned};
 
 use crate::event::Event;
 use crate::items::Octets;
-use crate::queues::{
-    PacketQueue, Planned, empty_queues, find, plan, plan_nothing, pop, put_copies,
-};
+use crate::queues::{HeldQueue, Planned, empty_queues, find, plan, plan_nothing, pop, put_copies};
 use crate::reply::{Delivery, FrameReply, NoMemory, ReleaseFault, TakeFault};
 use crate::settings::{Settings, SettingsFault};
 use circular_buffer::HeapCircularBuffer;
@@ -32,7 +30,7 @@ pub struct Channel {
     farm: Farm,
     fields: HeapCircularBuffer<Octets>,
     reassembler: Reassembler,
-    queues: Vec<PacketQueue>,
+    queues: Vec<HeldQueue>,
     journal: Vec<Event>,
 }
 
@@ -187,7 +185,7 @@ impl Channel {
         ensures allowed { IsAllowed self.now.settings }
         ensures lawful { IsLawful self.now.settings self.now.journal }
     {
-        Some(&find(&self.queues, apid)?.packets)
+        Some(&find(&self.queues, apid)?.ring)
     }
 
     /// The events so far, the oldest first.
@@ -301,12 +299,12 @@ fn pass_oldest(
 fn plan_bypass(
     alloc: Global,
     reassembler: &Reassembler,
-    queues: &[PacketQueue],
+    queues: &[HeldQueue],
     kind: Kind,
     field: &[u8],
 ) -> Result<Planned, NoMemory>
     requires field { 0 < length field.now }
-    requires distinct { AreDistinct (apids_of queues.now) }
+    requires distinct { AreDistinct (keys_of queues.now) }
     ensures { IfOk result (λ p. (unit : Option (List ℕ)) × EndsAtOnce kind reassembler.now field.now unit × IsPlanned unit queues.now p) }
 {
     match kind {
@@ -321,12 +319,12 @@ fn plan_bypass(
 fn plan_oldest(
     alloc: Global,
     reassembler: &Reassembler,
-    queues: &[PacketQueue],
+    queues: &[HeldQueue],
     fields: &HeapCircularBuffer<Octets>,
 ) -> Result<Planned, NoMemory>
     requires some { 0 < length fields.now.items }
     requires octets { 0 < length (first_of fields.now.items) }
-    requires distinct { AreDistinct (apids_of queues.now) }
+    requires distinct { AreDistinct (keys_of queues.now) }
     ensures { IfOk result (λ p. (unit : Option (List ℕ)) × Ends reassembler.now Service.Ad (first_of fields.now.items) unit × IsPlanned unit queues.now p) }
 {
     match fields.front() {

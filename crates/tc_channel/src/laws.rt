@@ -7,7 +7,7 @@ ghost use Rattle.tc_link.specs.Frame.{IsWhole};
 ghost use Rattle.tc_link.specs.declared.Link.{Link};
 ghost use Rattle.tc_packet.specs.declared.Service.{Service};
 ghost use Rattle.tc_packet.specs.Reassembly.{largest_unit, run_left, stream};
-ghost use Rattle.tc_channel.specs.Admission.{packets_in, share_of};
+ghost use Rattle.tc_channel.specs.Admission.{is_for, packets_in, share_of};
 ghost use Rattle.tc_channel.specs.Reply.{clcw, delivery_of};
 ghost use Rattle.tc_channel.specs.declared.settings.Settings.{Settings};
 ghost use Rattle.tc_channel.specs.declared.event.Event.{Event};
@@ -64,10 +64,10 @@ pub fn buffer_keeps_to_its_size()
 {}
 
 /// Where settings are allowed, of the packets that a unit is cut into the queued and the dropped are together as many as there
-/// are. Queues that are given the same packet have the same APID.
+/// are. Queues that are given the same packet have the same APID, which is their key.
 pub fn each_packet_is_queued_or_dropped()
     ensures count { (s : Settings) (journal : List Event) (unit : Option (List ℕ)) → IsAllowed s → (delivery_of unit (run s journal).queues).queued + (delivery_of unit (run s journal).queues).dropped ≡ length (packets_in unit) }
-    ensures apid { (packets : List (List ℕ)) (one other : Queue) (packet : List ℕ) → Contains (share_of packets one) packet → Contains (share_of packets other) packet → one.apid ≡ other.apid }
+    ensures apid { (packets : List (List ℕ)) (one other : Queue) (packet : List ℕ) → Contains (share_of is_for packets one) packet → Contains (share_of is_for packets other) packet → one.key ≡ other.key }
 {}
 
 /// The CLCW of a lawful journal of allowed settings fits 32 bits.

@@ -1,4 +1,4 @@
-//! The packet queues of a channel.
+//! The queues of a channel.
 
 ghost use Rattle.std.specs.Prelude.{ℕ, List, ◌<◌, ◌≤◌, ◌≡◌, ◌++◌, length, map, IfOk, OnOk, slice_get, Some, None, Option};
 ghost use Rattle.std.specs.List.{AllByRecursion};
@@ -6,8 +6,9 @@ ghost use Rattle.std.specs.Option.{option_and_then, option_copied};
 ghost use Rattle.tc_packet.specs.PacketFields.{HasFields, octets_of};
 ghost use Rattle.tc_packet.specs.Reassembly.{bounded};
 ghost use Rattle.tc_channel.specs.ChannelState.{empty_queue};
+ghost use Rattle.tc_channel.specs.Admission.{is_for};
 ghost use Rattle.tc_channel.specs.Channel.{Ends};
-ghost use Rattle.tc_channel.specs.PacketQueues.{held, apids_of, AreDistinct, share, copied_to, copies_from, put_all, HavePlaces, queue_for, popped, IsPlanned};
+ghost use Rattle.tc_channel.specs.HeldQueues.{held, keys_of, AreDistinct, share, copied_to, copies_from, put_all, HavePlaces, queue_for, popped, IsPlanned};
 
 use crate::items::Octets;
 use crate::reply::{Delivery, NoMemory};
@@ -19,24 +20,24 @@ use tc_packet::{
     each_unit_has_one_cut,
 };
 
-/// The packets that wait for one application.
+/// The items that wait in one queue. The key of a packet queue is the APID of its application.
 #[derive(Drop)]
-pub(crate) struct PacketQueue {
-    pub(crate) apid: u16,
-    pub(crate) packets: HeapCircularBuffer<Octets>,
+pub(crate) struct HeldQueue {
+    pub(crate) key: u16,
+    pub(crate) ring: HeapCircularBuffer<Octets>,
 }
 
-/// The copy of a packet that is going to be queued, and the place of its queue.
+/// An item that is going to be queued, and the place of its queue.
 #[derive(Debug, Drop)]
-pub(crate) struct Copied {
+pub(crate) struct Placed {
     pub(crate) place: usize,
-    pub(crate) packet: Octets,
+    pub(crate) item: Octets,
 }
 
 /// What a call is going to queue, and what it answers.
 #[derive(Debug, Drop)]
 pub(crate) struct Planned {
-    pub(crate) copies: Vec<Copied>,
+    pub(crate) copies: Vec<Placed>,
     pub(crate) delivery: Delivery,
 }
 
@@ -44,40 +45,40 @@ pub(crate) struct Planned {
 pub(crate) fn empty_queues(
     alloc: Global,
     settings: &[QueueSetting],
-) -> Result<Vec<PacketQueue>, AllocError>
+) -> Result<Vec<HeldQueue>, AllocError>
     ensures { IfOk result (λ v. v.items ≡ map held (map empty_queue settings.now)) }
 {
     let mut queues = Vec::with_capacity(alloc, settings.len())?;
     for setting in settings {
-        let packets = HeapCircularBuffer::with_capacity(alloc, setting.capacity as usize)?;
-        queues.push_reserved(PacketQueue {
-            apid: setting.apid,
-            packets,
+        let ring = HeapCircularBuffer::with_capacity(alloc, setting.capacity as usize)?;
+        queues.push_reserved(HeldQueue {
+            key: setting.apid,
+            ring,
         });
     }
     Ok(queues)
 }
 
-/// The queue with this APID.
-pub(crate) fn find(queues: &[PacketQueue], apid: u16) -> Option<&PacketQueue>
-    ensures { option_copied result ≡ queue_for apid queues.now }
+/// The queue with this key.
+pub(crate) fn find(queues: &[HeldQueue], key: u16) -> Option<&HeldQueue>
+    ensures { option_copied result ≡ queue_for key queues.now }
 {
     for queue in queues {
-        if queue.apid == apid {
+        if queue.key == key {
             return Some(queue);
         }
     }
     None
 }
 
-/// Takes the oldest packet out of the queue with this APID.
-pub(crate) fn pop(queues: &mut Vec<PacketQueue>, apid: u16) -> Option<Octets>
-    ensures packet { result ≡ option_and_then (λ q. slice_get q.packets.items 0) (queue_for apid queues.old.items) }
-    ensures queues { queues.new.items ≡ popped apid queues.old.items }
+/// Takes the oldest item out of the queue with this key.
+pub(crate) fn pop(queues: &mut Vec<HeldQueue>, key: u16) -> Option<Octets>
+    ensures item { result ≡ option_and_then (λ q. slice_get q.ring.items 0) (queue_for key queues.old.items) }
+    ensures queues { queues.new.items ≡ popped key queues.old.items }
 {
     for i in 0..queues.len() {
-        if queues[i].apid == apid {
-            return queues[i].packets.pop_front();
+        if queues[i].key == key {
+            return queues[i].ring.pop_front();
         }
     }
     None
@@ -88,20 +89,17 @@ fn copy_share(
     alloc: Global,
     packets: &[Packet],
     place: usize,
-    queue: &PacketQueue,
-    copies: &mut Vec<Copied>,
+    queue: &HeldQueue,
+    copies: &mut Vec<Placed>,
 ) -> Result<(), AllocError>
     requires { AllByRecursion HasFields packets.now }
-    ensures { OnOk result (copies.new.items ≡ copies.old.items ++ map (copied_to place) (share (octets_of packets.now) queue.now)) }
+    ensures { OnOk result (copies.new.items ≡ copies.old.items ++ map (copied_to place) (share is_for (octets_of packets.now) queue.now)) }
 {
-    let mut room = queue.packets.capacity() - queue.packets.len();
+    let mut room = queue.ring.capacity() - queue.ring.len();
     for packet in packets {
-        if room > 0 && packet.telecommand && packet.apid == queue.apid {
+        if room > 0 && packet.telecommand && packet.apid == queue.key {
             let copy = Octets::copied(alloc, packet.octets)?;
-            copies.push(Copied {
-                place,
-                packet: copy,
-            })?;
+            copies.push(Placed { place, item: copy })?;
             room -= 1;
         }
     }
@@ -112,10 +110,10 @@ fn copy_share(
 fn copy_shares(
     alloc: Global,
     packets: &[Packet],
-    queues: &[PacketQueue],
-) -> Result<Vec<Copied>, AllocError>
+    queues: &[HeldQueue],
+) -> Result<Vec<Placed>, AllocError>
     requires { AllByRecursion HasFields packets.now }
-    ensures { IfOk result (λ v. v.items ≡ copies_from 0 (octets_of packets.now) queues.now) }
+    ensures { IfOk result (λ v. v.items ≡ copies_from is_for 0 (octets_of packets.now) queues.now) }
 {
     let mut copies = Vec::new(alloc);
     for (place, queue) in queues.iter().enumerate() {
@@ -125,18 +123,18 @@ fn copy_shares(
 }
 
 /// Puts the copies into their queues.
-pub(crate) fn put_copies(queues: &mut Vec<PacketQueue>, copies: Vec<Copied>)
+pub(crate) fn put_copies(queues: &mut Vec<HeldQueue>, copies: Vec<Placed>)
     requires { HavePlaces (length queues.old.items) copies.items }
     ensures { queues.new.items ≡ put_all queues.old.items copies.items }
 {
     for copied in copies {
-        queues[copied.place].packets.push_back(copied.packet);
+        queues[copied.place].ring.push_back(copied.item);
     }
 }
 
 /// No unit is ended.
 pub(crate) fn plan_nothing(alloc: Global) -> Planned
-    ensures { (queues : List PacketQueue) → IsPlanned None queues result }
+    ensures { (queues : List HeldQueue) → IsPlanned None queues result }
 {
     Planned {
         copies: Vec::new(alloc),
@@ -149,9 +147,9 @@ pub(crate) fn plan_nothing(alloc: Global) -> Planned
 }
 
 // What becomes of the packets of a unit.
-fn plan_unit(alloc: Global, unit: &[u8], queues: &[PacketQueue]) -> Result<Planned, NoMemory>
+fn plan_unit(alloc: Global, unit: &[u8], queues: &[HeldQueue]) -> Result<Planned, NoMemory>
     requires within { length unit.now ≤ LARGEST_UNIT }
-    requires distinct { AreDistinct (apids_of queues.now) }
+    requires distinct { AreDistinct (keys_of queues.now) }
     ensures { IfOk result (IsPlanned (Some unit.now) queues.now) }
 {
     each_unit_has_one_cut();
@@ -168,8 +166,8 @@ fn plan_unit(alloc: Global, unit: &[u8], queues: &[PacketQueue]) -> Result<Plann
 }
 
 // What becomes of the packets of a plain field, which is cut where it lies.
-fn plan_plain(alloc: Global, field: &[u8], queues: &[PacketQueue]) -> Result<Planned, NoMemory>
-    requires distinct { AreDistinct (apids_of queues.now) }
+fn plan_plain(alloc: Global, field: &[u8], queues: &[HeldQueue]) -> Result<Planned, NoMemory>
+    requires distinct { AreDistinct (keys_of queues.now) }
     ensures { IfOk result (IsPlanned (bounded field.now) queues.now) }
 {
     if field.len() > LARGEST_UNIT {
@@ -182,12 +180,12 @@ fn plan_plain(alloc: Global, field: &[u8], queues: &[PacketQueue]) -> Result<Pla
 pub(crate) fn plan(
     alloc: Global,
     reassembler: &Reassembler,
-    queues: &[PacketQueue],
+    queues: &[HeldQueue],
     service: Service,
     field: &[u8],
 ) -> Result<Planned, NoMemory>
     requires field { 0 < length field.now }
-    requires distinct { AreDistinct (apids_of queues.now) }
+    requires distinct { AreDistinct (keys_of queues.now) }
     ensures { IfOk result (λ p. (unit : Option (List ℕ)) × Ends reassembler.now service field.now unit × IsPlanned unit queues.now p) }
 {
     if !reassembler.segmented() {

@@ -20,7 +20,7 @@ loop-copied-preserved-in-Some c =
       can_next = tt;
       is_finite = tt;
       put = rw (c.push_back.ensures.items, put_all-push c.args.queues.now.items c.loop-copied.yielded c.in-Some.copied, ← c.loop-copied.invariant.put)
-          (put-set c.loop-copied.queues.items c.in-Some.copied.place c.index_mut.result.now c.in-Some.copied.packet c.index_mut.ensures.value (omega arith));
+          (put-set c.loop-copied.queues.items c.in-Some.copied.place c.index_mut.result.now c.in-Some.copied.item c.index_mut.ensures.value (omega arith));
     }
 
 pub loop-copied-preserved : goal.loop-copied-preserved
@@ -32,5 +32,5 @@ loop-copied-preserved c =
       can_next = tt;
       is_finite = tt;
       put = rw (c.push_back.ensures.items, put_all-push c.args.queues.now.items c.loop-copied.yielded c.in-Some.copied, ← c.loop-copied.invariant.put)
-          (put-set c.loop-copied.queues.items c.in-Some.copied.place c.index_mut.result.now c.in-Some.copied.packet c.index_mut.ensures.value (omega arith));
+          (put-set c.loop-copied.queues.items c.in-Some.copied.place c.index_mut.result.now c.in-Some.copied.item c.index_mut.ensures.value (omega arith));
     }

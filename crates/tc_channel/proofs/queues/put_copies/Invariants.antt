@@ -1,5 +1,5 @@
 use Rattle.std.proofs.Common.{◌≡◌}
-use Rattle.tc_channel.specs.PacketQueues.{put_all}
+use Rattle.tc_channel.specs.HeldQueues.{put_all}
 use Rattle.tc_channel.proofs.queues.put_copies.Given as goal
 
 abbrev pub invariant-loop-copied : goal.invariant-loop-copied

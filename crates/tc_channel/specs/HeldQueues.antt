@@ -1,0 +1,74 @@
+-- What the code holds of the queues, and what a call is going to put into them.
+use Rattle.std.specs.Prelude.{◌≡◌, ◌≢◌, ℕ, zero, suc, ◌-◌, ◌+◌, ◌<◌, Bool, List, [], ◌∷◌, ◌++◌, length, map, filter, take, drop, Option, Some, None, ◌==◌, if◌then◌else◌}
+use Rattle.std.specs.List.{AllByRecursion}
+use Rattle.circular_buffer.specs.Buffer.{buffer as ring_of, keep_last}
+use Rattle.tc_channel.specs.ChannelState.{Queue, waiting}
+use Rattle.tc_channel.specs.Admission.{is_for, packets_in}
+use Rattle.tc_channel.specs.Reply.{delivered}
+use Rattle.tc_channel.specs.declared.queues.HeldQueue.{HeldQueue}
+use Rattle.tc_channel.specs.declared.queues.Placed.{Placed}
+use Rattle.tc_channel.specs.declared.queues.Planned.{Planned}
+
+-- what a queue of the state is held as
+abbrev pub held : Queue → HeldQueue
+held q = record { key = q.key; ring = ring_of (waiting q) q.capacity }
+
+-- the keys of the queues, in their order
+abbrev pub keys_of : List HeldQueue → List ℕ
+keys_of queues = map (λ (q : HeldQueue). q.key) queues
+
+-- no two numbers are the same
+abbrev pub AreDistinct : List ℕ → Type 0
+AreDistinct [] = Unit {0}
+AreDistinct (a ∷ rest) = AllByRecursion (λ b. a ≢ b) rest × AreDistinct rest
+
+-- the wanted items that a queue has room for
+abbrev pub share : (ℕ → List ℕ → Bool) → List (List ℕ) → HeldQueue → List (List ℕ)
+share wanted items q = take (q.ring.capacity - length q.ring.items) (filter (wanted q.key) items)
+
+-- an item for the queue at this place
+abbrev pub copied_to : ℕ → List ℕ → Placed
+copied_to place item = record { place = place; item = item }
+
+-- the share of each queue, one queue after the other, where the first queue has this place
+abbrev pub copies_from : (ℕ → List ℕ → Bool) → ℕ → List (List ℕ) → List HeldQueue → List Placed
+copies_from wanted place items [] = []
+copies_from wanted place items (q ∷ qs) = map (copied_to place) (share wanted items q) ++ copies_from wanted (place + 1) items qs
+
+-- a queue with one more item, where a full one would lose its oldest
+abbrev pub longer : HeldQueue → List ℕ → HeldQueue
+longer q item = record q { ring = ring_of (keep_last q.ring.capacity (q.ring.items ++ item ∷ [])) q.ring.capacity }
+
+-- the queues with one more item in the one at this place
+abbrev pub put : List HeldQueue → ℕ → List ℕ → List HeldQueue
+put [] place item = []
+put (q ∷ qs) zero item = longer q item ∷ qs
+put (q ∷ qs) (suc place) item = q ∷ put qs place item
+
+-- the queues after the items were put into them, one after the other
+abbrev pub put_all : List HeldQueue → List Placed → List HeldQueue
+put_all qs [] = qs
+put_all qs (one ∷ others) = put_all (put qs one.place one.item) others
+
+-- each item is for a queue that is there
+abbrev pub HavePlaces : ℕ → List Placed → Type 0
+HavePlaces count copies = AllByRecursion (λ (one : Placed). one.place < count) copies
+
+-- the queue with a key
+abbrev pub queue_for : ℕ → List HeldQueue → Option HeldQueue
+queue_for key [] = None
+queue_for key (q ∷ qs) = if q.key == key then Some q else queue_for key qs
+
+-- a queue without its oldest item
+abbrev pub shorter : HeldQueue → HeldQueue
+shorter q = record q { ring = ring_of (drop 1 q.ring.items) q.ring.capacity }
+
+-- the queues without the oldest item of the one with a key
+abbrev pub popped : ℕ → List HeldQueue → List HeldQueue
+popped key [] = []
+popped key (q ∷ qs) = if q.key == key then shorter q ∷ qs else q ∷ popped key qs
+
+-- the copies of what the queues take of a unit's packets, and what to answer
+pub record IsPlanned (unit : Option (List ℕ)) (queues : List HeldQueue) (p : Planned) : Type 0 where
+  pub copies : p.copies.items ≡ copies_from is_for 0 (packets_in unit) queues
+  pub delivery : p.delivery ≡ delivered unit (length p.copies.items)
