@@ -1,4 +1,4 @@
-use Rattle.std.proofs.Common.{rules, ◌≡◌, map}
+use Rattle.std.proofs.Common.{rules}
 use Rattle.std.proofs.Math.Seq.{map-set_same}
 use Rattle.tc_cli.proofs.watchers.Watchers.watch.Goals as goal
 
