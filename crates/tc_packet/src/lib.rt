@@ -18,8 +18,9 @@ pub use cutting::cut;
 pub use fault::NoMemory;
 pub use laws::{
     a_plain_field_is_a_unit_by_itself, a_unit_looks_back_over_its_stream,
-    an_open_run_looks_back_over_its_stream, each_input_begins_with_one_packet_at_most, each_run_within_the_limit_is_left_by_fields,
-    each_stream_has_a_place_of_its_own, each_unit_has_one_cut,
+    an_open_run_looks_back_over_its_stream, each_input_begins_with_one_packet_at_most,
+    each_run_within_the_limit_is_left_by_fields, each_stream_has_a_place_of_its_own,
+    each_unit_has_one_cut,
 };
 pub use packet::{Cut, Packet, read_packet};
 pub use reassembler::{LARGEST_UNIT, Reassembler, Service};
