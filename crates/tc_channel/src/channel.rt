@@ -91,8 +91,8 @@ impl Channel {
         })
     }
 
-    /// Lets the oldest data field out of the buffer, and queues the packets of the unit that it ends. It makes that unit, the
-    /// list of its packets and a copy of each that is queued.
+    /// Lets the oldest data field out of the buffer, and queues the packets of the unit that it ends. It makes that unit (a
+    /// plain field is one as it stands), the list of its packets and a copy of each that is queued.
     pub fn release(&mut self) -> Result<Delivery, ReleaseFault>
         ensures allowed { IsAllowed self.old.settings }
         ensures lawful { IsLawful self.old.settings self.old.journal }

@@ -131,7 +131,7 @@ stream_place service field = place_of service (header_of field).map
 abbrev pub stream_count : ℕ
 stream_count = 128
 
--- with segment headers or without: a plain field, which has none, is a unit by itself and opens no run
+-- with segment headers or without: a plain field, which has none, ends a unit alone and leaves no run
 
 -- the run that the fields of a stream leave open
 abbrev pub run_left : Bool → List (List ℕ) → Option (List ℕ)

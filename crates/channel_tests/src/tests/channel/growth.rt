@@ -154,6 +154,7 @@ impl Short {
         self.note(Event::Take(apid)).expect(rt, "an answer");
         assert_eq!(rt; self.channel.journal(), self.journal.as_slice());
     }
+
     // Each call in turn.
     fn play(&mut self, rt: &(impl Abort + Print), calls: &[Call]) {
         for call in calls {
