@@ -104,14 +104,6 @@ pub release-runs : (c : Settings) (b : ChannelState) (old new : OpenRuns) → Ar
 unfolding passed_on
 release-runs c b old new are follows = runs-follow old new Ad (first_of (buffer b)) b.segmented b.passed are follows
 
--- a plain field leaves all as it was
-pub plain-follows : (open_runs : OpenRuns) (service : Service) (field : List ℕ) → open_runs.segmented ≡ false → Follows open_runs open_runs service field
-plain-follows open_runs service field plain = record {
-  run = λ fields leave. ap (λ q. run_left q (fields ++ field ∷ [])) plain ∙ sym (ap (λ q. run_left q fields) plain) ∙ leave;
-  others = λ other apart. refl;
-  segmented = refl;
-}
-
 nothing-left : (segmented : Bool) → run_left segmented [] ≡ None
 nothing-left true = refl
 nothing-left false = refl

@@ -253,18 +253,6 @@ fn put_field(fields: &mut HeapCircularBuffer<Octets>, field: Option<Octets>)
     }
 }
 
-// Passes a field to reassembly, where it has a segment header: a plain field leaves nothing there.
-fn pass(reassembler: &mut Reassembler, service: Service, field: &[u8]) -> Result<(), NoMemory>
-    requires { 0 < length field.now }
-    ensures ok { OnOk result (Follows reassembler.old reassembler.new service field.now) }
-    ensures err { OnErr result (reassembler.new ≡ reassembler.old) }
-{
-    if reassembler.segmented() {
-        reassembler.push(service, field)?;
-    }
-    Ok(())
-}
-
 // Passes a BD field to reassembly. Nothing grows after it in a call, and nothing has changed before it.
 fn pass_bypass(reassembler: &mut Reassembler, kind: Kind, field: &[u8]) -> Result<(), NoMemory>
     requires { 0 < length field.now }
@@ -272,7 +260,10 @@ fn pass_bypass(reassembler: &mut Reassembler, kind: Kind, field: &[u8]) -> Resul
     ensures err { OnErr result (reassembler.new ≡ reassembler.old) }
 {
     match kind {
-        Kind::Bd => pass(reassembler, Service::Bd, field),
+        Kind::Bd => {
+            reassembler.advance(Service::Bd, field)?;
+            Ok(())
+        }
         Kind::Ad(_) => Ok(()),
         Kind::Bc(_) => Ok(()),
         Kind::Invalid => Ok(()),
@@ -290,7 +281,10 @@ fn pass_oldest(
     ensures err { OnErr result (reassembler.new ≡ reassembler.old) }
 {
     match fields.front() {
-        Some(field) => pass(reassembler, Service::Ad, field.as_slice()),
+        Some(field) => {
+            reassembler.advance(Service::Ad, field.as_slice())?;
+            Ok(())
+        }
         None => Ok(()),
     }
 }

@@ -101,6 +101,25 @@ impl Reassembler {
         let run = &mut self.runs[place(service, segment.map)];
         follow(self.alloc, segment.part, run, &field[1..])
     }
+
+    /// Takes the next field of its stream as `push` does, and makes no unit: a run that ends is let go. It grows what stays
+    /// open, before the first change, and nothing else.
+    pub fn advance(&mut self, service: Service, field: &[u8]) -> Result<(), NoMemory>
+        requires { 0 < length field.now }
+        ensures run { (fields : List (List ℕ)) → Leave fields self.old (stream_place service field.now)
+            → OnOk result (Leave (fields ++ field.now ∷ []) self.new (stream_place service field.now)) }
+        ensures others { (other : ℕ) → (other ≡ stream_place service field.now → ⊥) → run_at self.new.runs other ≡ run_at self.old.runs other }
+        ensures segmented { self.new.segmented ≡ self.old.segmented }
+        ensures limit { AreOpenRuns self.new }
+        ensures refused { OnErr result (self.new ≡ self.old) }
+    {
+        if !self.segmented {
+            return Ok(());
+        }
+        let segment = read_segment(field[0]);
+        let open = &mut self.runs[place(service, segment.map)];
+        go_on(self.alloc, segment.part, open, &field[1..])
+    }
 }
 
 fn place(service: Service, map: u8) -> usize
@@ -146,11 +165,11 @@ fn follow(
 {
     match part {
         Part::First => {
-            *run = copied(alloc, body)?;
+            go_on(alloc, part, run, body)?;
             Ok(None)
         }
         Part::Continuing => {
-            extend(run, body)?;
+            go_on(alloc, part, run, body)?;
             Ok(None)
         }
         Part::Last => {
@@ -163,6 +182,21 @@ fn follow(
             Ok(unit)
         }
     }
+}
+
+// The run goes on with a segment that has this body, and no unit is made of what ends.
+fn go_on(alloc: Global, part: Part, run: &mut Option<Vec<u8>>, body: &[u8]) -> Result<(), NoMemory>
+    requires { IsWithinLimit (octets_in run.old) }
+    ensures run { OnOk result (octets_in run.new ≡ next_run part (octets_in run.old) body.now) }
+    ensures refused { OnErr result (octets_in run.new ≡ octets_in run.old) }
+{
+    match part {
+        Part::First => *run = copied(alloc, body)?,
+        Part::Continuing => extend(run, body)?,
+        Part::Last => *run = None,
+        Part::Unsegmented => *run = None,
+    }
+    Ok(())
 }
 
 // A copy of these octets, if they are not too many.

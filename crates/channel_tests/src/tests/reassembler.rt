@@ -8,11 +8,12 @@ use std::alloc::Global;
 use std::process::Abort;
 use tc_packet::{NoMemory, Reassembler, Service};
 
-// A reassembler, and all that was ever given to it.
+// A reassembler, one that goes on without making units, and all that was ever given to both.
 #[derive(Drop)]
 struct Watched {
     alloc: Global,
     reassembler: Reassembler,
+    advanced: Reassembler,
     given: Vec<Given>,
 }
 
@@ -21,22 +22,27 @@ impl Watched {
         Ok(Watched {
             alloc,
             reassembler: Reassembler::new(alloc, true)?,
+            advanced: Reassembler::new(alloc, true)?,
             given: Vec::new(alloc),
         })
     }
 
-    // The unit that the field ends: the same by both calls and by the definition over the whole stream.
+    // The unit that the field ends: the same by each call and by the definition over the whole stream.
     fn push(&mut self, rt: &impl Abort, service: Service, field: &[u8]) -> Option<Vec<u8>> {
         assert!(rt; !field.is_empty());
         let expected = definition::unit_after(self.alloc, &self.given, service, field).expect(
             rt,
             "an answer",
         );
-        let after = self
-            .reassembler
-            .unit_after(service, field)
+        for reassembler in [&self.reassembler, &self.advanced] {
+            let after = reassembler
+                .unit_after(service, field)
+                .expect(rt, "an answer");
+            assert_eq!(rt; after, expected);
+        }
+        self.advanced
+            .advance(service, field)
             .expect(rt, "an answer");
-        assert_eq!(rt; after, expected);
         let unit = self
             .reassembler
             .push(service, field)
@@ -56,10 +62,11 @@ impl Watched {
             rt,
             "an answer",
         );
-        let run = self
-            .reassembler
-            .unit_after(service, &close)
-            .expect(rt, "an answer");
-        assert_eq!(rt; run, expected);
+        for reassembler in [&self.reassembler, &self.advanced] {
+            let run = reassembler
+                .unit_after(service, &close)
+                .expect(rt, "an answer");
+            assert_eq!(rt; run, expected);
+        }
     }
 }

@@ -169,6 +169,43 @@ fn growth_of_a_unit_asked_for(rt: HostRuntime) {
     }
 }
 
+// Takes a field without making a unit, and checks the open run before and after.
+fn advance(
+    rt: &(impl Abort + Print),
+    reassembler: &mut Reassembler,
+    field: &[u8],
+    before: Option<&[u8]>,
+    after: Option<&[u8]>,
+) {
+    assert!(rt; !field.is_empty());
+    if let Err(NoMemory) = reassembler.advance(Service::Bd, field) {
+        let part = read_segment(field[0]).part;
+        let _ = println!(rt; "refused: advance, {part:?}");
+        check_only_run(rt, reassembler, before);
+        reassembler
+            .advance(Service::Bd, field)
+            .expect(rt, "an answer");
+    }
+    check_only_run(rt, reassembler, after);
+}
+
+#[test]
+fn growth_of_a_run_that_goes_on(rt: HostRuntime) {
+    let rows = [
+        (FIRST.as_slice(), Some(SHORT_RUN.as_slice())),
+        (CONTINUING.as_slice(), Some(LONG_RUN.as_slice())),
+        (LAST.as_slice(), None),
+        (FIRST.as_slice(), Some(SHORT_RUN.as_slice())),
+        (UNSEGMENTED.as_slice(), None),
+    ];
+    let mut reassembler = new(&rt, rt.alloc());
+    let mut before = None;
+    for (field, after) in rows {
+        advance(&rt, &mut reassembler, field, before, after);
+        before = after;
+    }
+}
+
 // A plain field is the unit of both calls, and what a first segment would open is no run.
 #[test]
 fn growth_of_a_plain_unit(rt: HostRuntime) {

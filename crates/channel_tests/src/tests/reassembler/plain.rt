@@ -16,6 +16,7 @@ fn check_plain(rt: &impl Abort, alloc: Global, rows: &[(&[u8], Option<&[u8]>)]) 
             assert_eq!(rt; after.as_deref(), *expected);
             let unit = reassembler.push(service, field).expect(rt, "an answer");
             assert_eq!(rt; unit.as_deref(), *expected);
+            reassembler.advance(service, field).expect(rt, "an answer");
         }
     }
     assert!(rt; !reassembler.segmented());

@@ -1,0 +1,45 @@
+use Rattle.std.proofs.Common.{◌≡◌, ◌<◌, true, length, sym, ap, ◌∙◌, arith}
+use Rattle.std.proofs.lemmas.Grind.{common_steps}
+use Rattle.std.proofs.lemmas.List.{length-map}
+use Rattle.std.proofs.lemmas.Result.{on_ok_weaker, on_err_weaker}
+use Rattle.tc_packet.specs.Reassembly.{OpenRuns, run_at, stream_place}
+use Rattle.tc_packet.specs.Runs.{octets_in}
+use Rattle.tc_packet.proofs.KeptRuns.{went_on-within, read_within, others-stay, same-runs, written-within, pushed, left-on}
+use Rattle.tc_packet.proofs.reassembler.Reassembler.advance.Goals as goal
+
+pub invariant_of-self : goal.invariant_of-self
+invariant_of-self c =
+    let runs = c.self.inside.runs.items in
+    let inside : c.place.result < length runs = omega (arith, length-map runs octets_in, c.self.invariant.streams) in
+    let run = c.index_mut-open.result.now in
+    written-within runs c.place.result c.go_on.new.run (grind (arith, common_steps)) inside c.self.invariant
+    (went_on-within c.go_on.result c.read_segment-segment.result.part _ (octets_in run) (octets_in c.go_on.new.run) c.go_on.ensures.run c.go_on.ensures.refused
+    (read_within runs c.place.result run c.self.invariant c.place.ensures.within c.index_mut-open.ensures.value))
+
+pub returns-clause-limit : goal.returns-clause-limit
+returns-clause-limit c = invariant_of-self c
+
+pub returns-clause-run : goal.returns-clause-run
+returns-clause-run c = λ fields opened.
+    let runs = c.self.inside.runs.items in
+    let inside : c.place.result < length runs = omega (arith, length-map runs octets_in, c.self.invariant.streams) in
+    let place = stream_place c.args.service c.args.field.now in
+    let on : c.self.inside.segmented ≡ true = grind (arith, common_steps) in
+    let left = (ap (λ (v : OpenRuns). v.segmented) (sym c.self.view_is)) ∙ on in
+    on_ok_weaker c.go_on.result (λ next_is. left-on _ _ on ∙ pushed runs c.place.result place c.go_on.new.run c.index_mut-open.result.now fields c.args.field.now _ c.read_segment-segment.result.part
+    (grind (arith, common_steps)) inside c.index_mut-open.ensures.value (grind (arith, common_steps)) (grind (arith, common_steps)) next_is
+    (sym (left-on _ fields left) ∙ opened ∙ ap (λ (v : OpenRuns). run_at v.runs place) (sym c.self.view_is))) c.go_on.ensures.run
+
+pub returns-clause-others : goal.returns-clause-others
+returns-clause-others c = λ other apart.
+    let at_stream : c.place.result ≡ stream_place c.args.service c.args.field.now = grind (arith, common_steps) in
+    others-stay c.self.inside.runs.items c.place.result other c.go_on.new.run (λ e. apart (e ∙ at_stream)) ∙ ap (λ (v : OpenRuns). run_at v.runs other) c.self.view_is
+
+pub returns-clause-refused : goal.returns-clause-refused
+returns-clause-refused c =
+    let runs = c.self.inside.runs.items in
+    let inside : c.place.result < length runs = omega (arith, length-map runs octets_in, c.self.invariant.streams) in
+    on_err_weaker c.go_on.result (λ same. ap (λ runs. record { segmented = c.self.inside.segmented; runs = runs }) (same-runs runs c.place.result c.index_mut-open.result.now c.go_on.new.run inside c.index_mut-open.ensures.value same) ∙ c.self.view_is) c.go_on.ensures.refused
+
+pub go_on-requires : goal.go_on-requires
+go_on-requires c = read_within c.self.inside.runs.items c.place.result _ c.self.invariant c.place.ensures.within c.index_mut-open.ensures.value
