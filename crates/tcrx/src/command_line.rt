@@ -1,5 +1,6 @@
 //! The command line.
 
+use crate::help::{POINTER, SCRIPTS, VERSION};
 use clap::error::ErrorKind;
 use clap::{Arg, ArgAction, ArgMatches, Command, Error, value_parser};
 use std::alloc::Global;
@@ -15,8 +16,8 @@ pub(crate) enum Action {
     Parallel { spacecraft: SpacecraftId },
 }
 
-/// What the words ask for, the program's name first. An error is what to print: help, or why the
-/// words are refused.
+/// What the words ask for, the program's name first. An error is what to print: help, the version, or why
+/// the words are refused.
 pub(crate) fn judge<'a, S: AsStr>(alloc: Global, words: &'a [S]) -> Result<Action, Error> {
     let mut command = command(alloc)?;
     let matches = command.try_get_matches_from_mut(words)?;
@@ -40,12 +41,16 @@ fn spacecraft_of(matches: &ArgMatches) -> Option<SpacecraftId> {
 fn command<'a>(alloc: Global) -> Result<Command<'a>, Error> {
     let run = Command::new(alloc, "run")
         .about("Does the lines of a script in order and prints their answers")
+        .after_help(POINTER)
         .arg(spacecraft(alloc))?;
     let parallel = Command::new(alloc, "parallel")
         .about("Does a script with a worker for each channel and prints the final report")
+        .after_help(POINTER)
         .arg(spacecraft(alloc))?;
     let command = Command::new(alloc, "tcrx")
         .about("Receives telecommand frames: does a script that it reads from standard input")
+        .version(VERSION)
+        .after_help(SCRIPTS)
         .disable_help_subcommand(true)
         .subcommand_required(true)
         .subcommand(run)?

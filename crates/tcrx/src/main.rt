@@ -1,15 +1,18 @@
 //! `tcrx`: a telecommand receiver that does a script from standard input.
 #![tactic(auto)]
 
+mod arguments;
 mod command_line;
+mod help;
 
+use arguments::words;
+use clap::Error;
 use command_line::{Action, judge};
-use std::env::Env;
+use std::io;
 use std::io::BufWriter;
 use std::process::ExitCode;
 use std::sync::Wait;
 use std::thread::Threads;
-use std::{env, io};
 use tc_cli::{Reason, ScriptFault, parallel_script, run_script};
 use tc_station::FreeGate;
 use tc_text::SpacecraftId;
@@ -20,16 +23,11 @@ const BAD_COMMAND_LINE: u8 = 2;
 fn main(rt: HostRuntime) -> ExitCode {
     match words(&rt) {
         Ok(words) => obey(&rt, words.as_slice()),
-        Err(error) => {
-            let _ = eprintln!(rt; "{error}");
+        Err(fault) => {
+            let _ = eprintln!(rt; "tcrx: {fault}");
             ExitCode::from(BAD_COMMAND_LINE)
         }
     }
-}
-
-// The words of the command line, which are text.
-fn words<R: Env + AllocGlobal>(rt: &R) -> io::Result<Vec<String>> {
-    Ok(env::args(rt)?.collect(rt.alloc())?)
 }
 
 // Judges the words before anything is read, and does what they ask for.
@@ -40,10 +38,23 @@ fn obey<R: AllocGlobal + Input + Print + Eprint + Threads + Wait + Sync>(
     match judge(rt.alloc(), words) {
         Ok(Action::Run { spacecraft }) => tell(rt, run(rt, spacecraft)),
         Ok(Action::Parallel { spacecraft }) => tell(rt, parallel(rt, spacecraft)),
-        Err(answer) => match answer.print(rt) {
-            Ok(()) => ExitCode::from(answer.exit_code() as u8),
-            Err(_) => ExitCode::from(BAD_COMMAND_LINE),
-        },
+        Err(answer) => print(rt, &answer),
+    }
+}
+
+// Prints help, the version, or why the command line is refused, and gives the exit status. What can't be written to standard
+// output is told on standard error.
+fn print<R: Print + Eprint>(rt: &R, answer: &Error) -> ExitCode {
+    let printed = answer.print(rt);
+    if answer.use_stderr() {
+        return ExitCode::from(BAD_COMMAND_LINE);
+    }
+    match printed {
+        Ok(()) => ExitCode::SUCCESS,
+        Err(_) => {
+            let _ = eprintln!(rt; "tcrx: cannot write");
+            ExitCode::FAILURE
+        }
     }
 }
 
