@@ -4,11 +4,13 @@
 //! The file `index` has a line for each case, in the order of their names: the name, the spacecraft
 //! id, and the text of the fault with which the script ends, if it does. `NAME.script` is the script,
 //! `NAME.out` what it is answered line by line, and `NAME.parallel.out` what is reported of it where each
-//! channel has a worker. Scripts at the limit of their size are made here.
+//! channel has a worker. Scripts at the limit of their size are made here. The file `clcws` has words that another
+//! program built, each with what it says; each is a case, too.
 #![tactic(auto)]
 
 ghost use Rattle.std.specs.Prelude.{◌≤◌};
 
+mod clcws;
 mod outcome;
 
 use anyhow::{Context, Result, anyhow};
@@ -55,6 +57,7 @@ fn check_all<R: Files + AllocGlobal + Print + Threads + Wait + Sync>(rt: &R) -> 
     };
     check_index(rt, &mut tally)?;
     check_large(rt, &mut tally)?;
+    check_clcws(rt, &mut tally)?;
     let Tally { cases, agreeing } = tally;
     println!(rt; "{agreeing} of {cases} cases agree")?;
     Ok(agreeing == cases)
@@ -116,6 +119,18 @@ fn check_large<R: AllocGlobal + Print + Threads + Wait + Sync>(
         let runs = agrees(rt, &case, Command::Run, large.script.as_slice(), b"")?;
         let works = agrees(rt, &case, Command::Parallel, large.script.as_slice(), b"")?;
         tally.count(runs && works);
+    }
+    Ok(())
+}
+
+fn check_clcws<R: Files + AllocGlobal + Print>(rt: &R, tally: &mut Tally) -> Result<()> {
+    let list = fs::read_to_string(rt, "clcws").context("clcws")?;
+    for line in list.as_str().lines() {
+        let agrees = clcws::agrees(rt.alloc(), line)?;
+        if !agrees {
+            println!(rt; "CLCW {line}: it is read or written otherwise")?;
+        }
+        tally.count(agrees);
     }
     Ok(())
 }
