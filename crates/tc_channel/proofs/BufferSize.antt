@@ -5,7 +5,7 @@ use Rattle.std.proofs.lemmas.List.{length-append, length-drop, length-map}
 use Rattle.tc_link.specs.Farm.{Row, E1, E2, E3, E4, E5, E6, E7, E8, E9, E10, accepts}
 use Rattle.tc_channel.specs.declared.settings.Settings.{Settings}
 use Rattle.tc_channel.specs.declared.event.Event.{Event}
-use Rattle.tc_channel.specs.declared.event.Event.TheVariants.{Frame, Release, Take}
+use Rattle.tc_channel.specs.declared.event.Event.TheVariants.{Frame, Release, Take, TakeUnit}
 use Rattle.tc_channel.specs.ChannelState.{ChannelState, Accepted, first_state, buffer, has_room}
 use Rattle.tc_channel.specs.Run.{step, row_of, kept, passed_on, run_from, run}
 use Rattle.tc_channel.proofs.Sound.{room-at_E1}
@@ -52,6 +52,7 @@ step-fits c b Release h =
       length-drop (b.released + 1) b.accepted,
     )
 step-fits c b (Take apid) h = h
+step-fits c b (TakeUnit map_id) h = h
 
 run_from-fits : (c : Settings) (b : ChannelState) (es : List Event) → Fits c b → Fits c (run_from c b es)
 run_from-fits c b [] h = h

@@ -1,32 +1,47 @@
--- How many packets of a unit are queued and dropped, and that queues which are given the same packet have the same APID.
-use Rattle.std.proofs.Common.{◌≡◌, ℕ, ◌+◌, ◌≤◌, true, eqb, List, length, map, filter, Option, Some, None, refl, sym, subst, ◌∙◌, arith}
+-- How many packets of a unit are queued and dropped, or whether it is as a whole, and that queues which are given the same packet have the same APID.
+use Rattle.std.proofs.Common.{◌≡◌, ℕ, ◌+◌, ◌≤◌, Bool, true, false, eqb, List, [], ◌∷◌, length, map, filter, Option, Some, None, refl, sym, subst, ◌∙◌, arith}
 use Rattle.std.specs.List.{All, Contains}
-use Rattle.std.proofs.lemmas.Bool.{and_parts, eqb-true}
+use Rattle.std.proofs.lemmas.Bool.{and_parts, eqb-true, ne_eqb}
 use Rattle.std.proofs.lemmas.List.Elements.{All-take, filter_passes}
 use Rattle.tc_channel.specs.declared.settings.Settings.{Settings}
 use Rattle.tc_channel.specs.declared.event.Event.{Event}
-use Rattle.tc_channel.specs.ChannelState.{Queue}
-use Rattle.tc_channel.specs.Admission.{is_for, packets_in, queued_of, room_of, share_of}
+use Rattle.tc_channel.specs.declared.reply.Delivery.{Delivery}
+use Rattle.tc_channel.specs.ChannelState.{ChannelState, Queue}
+use Rattle.tc_channel.specs.Admission.{map_of, is_chosen, is_for, is_of_map, packets_offered, units_offered, queued_of, room_of, share_of}
 use Rattle.tc_packet.specs.SpacePacket.{apid_of, is_telecommand, packets_of}
 use Rattle.tc_channel.specs.HeldQueues.{keys_of, held, AreDistinct}
-use Rattle.tc_channel.specs.Reply.{delivery_of}
+use Rattle.tc_channel.specs.Reply.{delivered, delivery_of}
 use Rattle.tc_channel.specs.Run.{run}
 use Rattle.tc_channel.specs.Settings.{IsAllowed}
-use Rattle.tc_channel.proofs.Counted.{for-one, queued-within}
+use Rattle.tc_channel.proofs.Counted.{IsForOneKey, for-one, queued-within}
 use Rattle.tc_channel.proofs.Shares.{queued-is}
-use Rattle.tc_channel.proofs.StateQueues.{queues-apart}
+use Rattle.tc_channel.proofs.StateQueues.{keys, queues-apart, units-apart}
 use Rattle.tc_channel.proofs.Takes.{same-keys}
 
 -- no more are queued than there are
-queued-few : (s : Settings) (journal : List Event) (packets : List (List ℕ)) → IsAllowed s → queued_of is_for packets (run s journal).queues ≤ length packets
-queued-few s journal packets allowed =
-    let distinct : AreDistinct (keys_of (map held (run s journal).queues)) = rw (same-keys (run s journal).queues) (queues-apart s journal allowed) in
-    omega (arith, queued-within is_for for-one packets (map held (run s journal).queues) distinct, queued-is is_for packets (run s journal).queues)
+queued-few : (wanted : ℕ → List ℕ → Bool) → IsForOneKey wanted → (items : List (List ℕ)) (qs : List Queue) → AreDistinct (keys qs) → queued_of wanted items qs ≤ length items
+queued-few wanted alone items qs apart =
+    let distinct : AreDistinct (keys_of (map held qs)) = rw (same-keys qs) apart in
+    omega (arith, queued-within wanted alone items (map held qs) distinct, queued-is wanted items qs)
 
-pub all-told : (s : Settings) (journal : List Event) (unit : Option (List ℕ)) → IsAllowed s
-    → (delivery_of unit (run s journal).queues).queued + (delivery_of unit (run s journal).queues).dropped ≡ length (packets_in unit)
-all-told s journal None allowed = refl
-all-told s journal (Some unit) allowed = omega (arith, queued-few s journal (packets_of unit) allowed)
+-- a unit has one MAP
+for-one-map : (map_id : ℕ) → IsForOneKey (is_of_map map_id)
+for-one-map map_id a b unit h apart = ne_eqb b map_id (λ e. apart (eqb-true a map_id h ∙ sym e))
+
+pub all-told : (s : Settings) (journal : List Event) (field : List ℕ) (unit : Option (List ℕ)) → IsAllowed s
+    → (delivery_of field unit (run s journal)).queued + (delivery_of field unit (run s journal)).dropped
+    ≡ length (packets_offered unit (is_chosen (run s journal) field)) + length (units_offered unit (is_chosen (run s journal) field))
+all-told s journal field None allowed = refl
+all-told s journal field (Some unit) allowed = by (is_chosen b field) where
+  b : ChannelState
+  b = run s journal
+
+  told : Bool → Delivery
+  told t = delivered (Some unit) t (queued_of is_for (packets_offered (Some unit) t) b.queues + queued_of (is_of_map (map_of field)) (units_offered (Some unit) t) b.units)
+
+  by : (t : Bool) → (told t).queued + (told t).dropped ≡ length (packets_offered (Some unit) t) + length (units_offered (Some unit) t)
+  by true = omega (arith, queued-few is_for for-one [] b.queues (queues-apart s journal allowed), queued-few (is_of_map (map_of field)) (for-one-map (map_of field)) (unit ∷ []) b.units (units-apart s journal allowed))
+  by false = omega (arith, queued-few is_for for-one (packets_of unit) b.queues (queues-apart s journal allowed), queued-few (is_of_map (map_of field)) (for-one-map (map_of field)) [] b.units (units-apart s journal allowed))
 
 -- what a queue is given has its APID
 share-apid : (packets : List (List ℕ)) (q : Queue) (packet : List ℕ) → Contains (share_of is_for packets q) packet → apid_of packet ≡ q.key

@@ -16,7 +16,7 @@ use Rattle.tc_link.specs.Command.{command_of, control_kind, kind_by}
 use Rattle.tc_link.specs.Farm.{Row, E1, E2, E3, E4, E5, E6, E7, E8, E9, E10, row_at, frame_row, entry_at, accepts, accepts_at}
 use Rattle.tc_channel.specs.declared.settings.Settings.{Settings}
 use Rattle.tc_channel.specs.declared.event.Event.{Event}
-use Rattle.tc_channel.specs.declared.event.Event.TheVariants.{Frame, Release, Take}
+use Rattle.tc_channel.specs.declared.event.Event.TheVariants.{Frame, Release, Take, TakeUnit}
 use Rattle.tc_channel.specs.ChannelState.{ChannelState, Accepted, has_room}
 use Rattle.tc_channel.specs.Run.{step, row_of, kept, after_frame, passed_on, run_from, run, IsLawful}
 use Rattle.tc_channel.specs.Era.{set_at, set_by, Starts, NoneSets, IsEra, accepted_since, CountsUp, CountsUpInItsEra}
@@ -142,6 +142,7 @@ unfolding passed_on
 step-advances c b (Frame octets) none = frame-advances c b octets (row_of c b octets) b.report.state refl refl none
 step-advances c b Release none = stays b (step c b Release) refl (vr-kept E10 b.report.state b.report refl (λ q. absurd cc))
 step-advances c b (Take apid) none = stays b (step c b (Take apid)) refl refl
+step-advances c b (TakeUnit map_id) none = stays b (step c b (TakeUnit map_id)) refl refl
 
 -- numbers that are alike modulo 256 count alike
 AreConsecutive-alike : (x y : ℕ) (xs : List Accepted) → x % 256 ≡ y % 256 → AreConsecutive x xs → AreConsecutive y xs
@@ -209,6 +210,7 @@ starts-at c before x (inr set) = rw (set.2, run-push c set.0 set.1) (by set.1 se
   by (Frame octets) h = set-sets (row_of c (run c set.0) octets) (run c set.0).report.state (run c set.0).report x h
   by Release h = absurd cc
   by (Take apid) h = absurd cc
+  by (TakeUnit map_id) h = absurd cc
 
 -- numbers below 256 are what they are modulo 256
 numbers-are : (x : ℕ) (xs : List Accepted) → AreConsecutive x xs → AreFilled xs → (i : ℕ) (a : Accepted) → slice_get xs i ≡ Some a → a.ns ≡ (x + i) % 256

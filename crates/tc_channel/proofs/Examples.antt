@@ -9,7 +9,7 @@ use Rattle.tc_channel.specs.Run.{run, passed_on}
 use Rattle.tc_channel.specs.Reply.{clcw}
 
 abbrev c : Settings
-c = record { vcid = 1; width = 10; buffer = 1; first = 0; segmented = true; queues = record { apid = 5; capacity = 1 } ∷ [] }
+c = record { vcid = 1; width = 10; buffer = 1; first = 0; segmented = true; queues = record { apid = 5; capacity = 1 } ∷ []; maps = [] }
 
 abbrev link : Link
 link = record { no_rf = false; no_bit_lock = false }

@@ -2,7 +2,7 @@
 use Rattle.std.proofs.Common.{List, [], ◌∷◌, inl, inr}
 use Rattle.tc_channel.specs.declared.settings.Settings.{Settings}
 use Rattle.tc_channel.specs.declared.settings.SettingsFault.{SettingsFault}
-use Rattle.tc_channel.specs.declared.settings.SettingsFault.TheVariants.{BadVcid, BadWindow, BadBuffer, BadApid, DoubleApid, BadCapacity, NoMemory}
+use Rattle.tc_channel.specs.declared.settings.SettingsFault.TheVariants.{BadVcid, BadWindow, BadBuffer, BadApid, DoubleApid, BadCapacity, BadMap, DoubleMap, BadUnits, PlainMap, NoMemory}
 use Rattle.tc_channel.specs.Settings.{IsAllowed, IsFreeOf, IsFirstFault, IsFault, faults_in_order}
 
 pub free-of-each : (s : Settings) (fault : SettingsFault) → IsAllowed s → IsFreeOf s fault
@@ -12,6 +12,10 @@ free-of-each s BadBuffer a = a.buffer
 free-of-each s BadApid a = a.apids
 free-of-each s DoubleApid a = a.apart
 free-of-each s BadCapacity a = a.capacities
+free-of-each s BadMap a = a.maps
+free-of-each s DoubleMap a = a.maps_apart
+free-of-each s BadUnits a = a.unit_capacities
+free-of-each s PlainMap a = a.by_headers
 free-of-each s NoMemory a = tt
 
 none-first : (s : Settings) (faults : List SettingsFault) (fault : SettingsFault) → IsAllowed s → IsFirstFault s faults fault → ⊥

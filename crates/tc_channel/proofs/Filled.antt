@@ -6,7 +6,7 @@ use Rattle.tc_link.specs.Frame.{IsWhole, header_of}
 use Rattle.tc_link.specs.Farm.{Row, accepts}
 use Rattle.tc_channel.specs.declared.settings.Settings.{Settings}
 use Rattle.tc_channel.specs.declared.event.Event.{Event}
-use Rattle.tc_channel.specs.declared.event.Event.TheVariants.{Frame, Release, Take}
+use Rattle.tc_channel.specs.declared.event.Event.TheVariants.{Frame, Release, Take, TakeUnit}
 use Rattle.tc_channel.proofs.StateQueues.{kept-either}
 use Rattle.tc_channel.specs.ChannelState.{ChannelState, Accepted, first_state}
 use Rattle.tc_channel.specs.Run.{step, row_of, kept, passed_on, first_of, run_from, AreSteps, run, IsLawful}
@@ -36,6 +36,7 @@ run_from-filled c b [] h steps = h
 run_from-filled c b (Frame octets ∷ es) h steps = run_from-filled c (step c b (Frame octets)) es (kept-filled (row_of c b octets) (accepts (row_of c b octets) b.report) octets b steps.0.0 h) steps.1
 run_from-filled c b (Release ∷ es) h steps = run_from-filled c (step c b Release) es h steps.1
 run_from-filled c b (Take apid ∷ es) h steps = run_from-filled c (step c b (Take apid)) es h steps.1
+run_from-filled c b (TakeUnit map_id ∷ es) h steps = run_from-filled c (step c b (TakeUnit map_id)) es h steps.1
 
 pub first-filled : (xs : List Accepted) → AreFilled xs → 0 < length xs → 0 < length (first_of (map (λ (a : Accepted). a.field) xs))
 first-filled [] h some = absurd (omega arith)

@@ -9,9 +9,9 @@ use Rattle.tc_packet.specs.declared.Service.{Service}
 use Rattle.tc_packet.specs.declared.Service.TheVariants.{Ad, Bd}
 use Rattle.tc_channel.specs.declared.settings.Settings.{Settings}
 use Rattle.tc_channel.specs.declared.event.Event.{Event}
-use Rattle.tc_channel.specs.declared.event.Event.TheVariants.{Frame, Release, Take}
+use Rattle.tc_channel.specs.declared.event.Event.TheVariants.{Frame, Release, Take, TakeUnit}
 use Rattle.tc_channel.specs.ChannelState.{ChannelState, Accepted, Queue, buffer}
-use Rattle.tc_channel.specs.Admission.{is_for, packets_in, share_of, with_shares}
+use Rattle.tc_channel.specs.Admission.{is_for, is_of_map, map_of, is_chosen, packets_offered, units_offered, share_of, with_shares}
 use Rattle.tc_channel.specs.Laws.{QueueGrows, QueuesGrow, Grows}
 use Rattle.tc_channel.specs.Run.{step, row_of, passed_on, unit_of, taken_from, first_of, run_from, run}
 use Rattle.tc_channel.proofs.Runs.{run-append}
@@ -55,7 +55,7 @@ takes-grow key [] = tt
 takes-grow key (q ∷ qs) = (taken-grows key q, takes-grow key qs)
 
 same : (b : ChannelState) → Grows b b
-same b = record { accepted = ([], sym (append-nil b.accepted)); released = omega arith; passed = ([], sym (append-nil b.passed)); queues = same-queues b.queues }
+same b = record { accepted = ([], sym (append-nil b.accepted)); released = omega arith; passed = ([], sym (append-nil b.passed)); queues = same-queues b.queues; units = same-queues b.units }
 
 then : (a b c : ChannelState) → Grows a b → Grows b c → Grows a c
 then a b c g h = record {
@@ -63,6 +63,7 @@ then a b c g h = record {
   released = let t = g.released in let u = h.released in omega arith;
   passed = (g.passed.0 ++ h.passed.0, h.passed.1 ∙ rw g.passed.1 (append_assoc a.passed g.passed.0 h.passed.0));
   queues = queues-then a.queues b.queues c.queues g.queues h.queues;
+  units = queues-then a.units b.units c.units g.units h.units;
 }
 
 passed-grows : (service : Service) (field : List ℕ) (b : ChannelState) → Grows b (passed_on service field b)
@@ -71,17 +72,18 @@ passed-grows service field b = record {
   accepted = ([], sym (append-nil b.accepted));
   released = omega arith;
   passed = (record { service = service; field = field } ∷ [], refl);
-  queues = shares-grow is_for (packets_in (unit_of b service field)) b.queues;
+  queues = shares-grow is_for (packets_offered (unit_of b service field) (is_chosen b field)) b.queues;
+  units = shares-grow (is_of_map (map_of field)) (units_offered (unit_of b service field) (is_chosen b field)) b.units;
 }
 
 accepted-grows : (a : Accepted) (b : ChannelState) → Grows b (record b { accepted = b.accepted ++ a ∷ [] })
-accepted-grows a b = record { accepted = (a ∷ [], refl); released = omega arith; passed = ([], sym (append-nil b.passed)); queues = same-queues b.queues }
+accepted-grows a b = record { accepted = (a ∷ [], refl); released = omega arith; passed = ([], sym (append-nil b.passed)); queues = same-queues b.queues; units = same-queues b.units }
 
 with-report : (b later : ChannelState) (r : Report) → Grows b later → Grows b (record later { report = r })
-with-report b later r g = record { accepted = g.accepted; released = g.released; passed = g.passed; queues = g.queues }
+with-report b later r g = record { accepted = g.accepted; released = g.released; passed = g.passed; queues = g.queues; units = g.units }
 
 released-grows : (b later : ChannelState) (r : Report) → later.released ≡ b.released → Grows b later → Grows b (record later { released = b.released + 1; report = r })
-released-grows b later r e g = record { accepted = g.accepted; released = omega arith; passed = g.passed; queues = g.queues }
+released-grows b later r e g = record { accepted = g.accepted; released = omega arith; passed = g.passed; queues = g.queues; units = g.units }
 
 step-grows : (c : Settings) (b : ChannelState) (e : Event) → Grows b (step c b e)
 unfolding passed_on
@@ -90,7 +92,8 @@ step-grows c b (Frame octets) =
     with-report b _ (after row b.report)
     (kept-either (λ x. Grows b x) row (accepts row b.report) octets b (same b) (accepted-grows (record { ns = (header_of octets).ns; field = drop 5 octets }) b) (passed-grows Bd (drop 5 octets) b))
 step-grows c b Release = released-grows b (passed_on Ad (first_of (buffer b)) b) (after E10 b.report) refl (passed-grows Ad (first_of (buffer b)) b)
-step-grows c b (Take apid) = record { accepted = ([], sym (append-nil b.accepted)); released = omega arith; passed = ([], sym (append-nil b.passed)); queues = takes-grow apid b.queues }
+step-grows c b (Take apid) = record { accepted = ([], sym (append-nil b.accepted)); released = omega arith; passed = ([], sym (append-nil b.passed)); queues = takes-grow apid b.queues; units = same-queues b.units }
+step-grows c b (TakeUnit map_id) = record { accepted = ([], sym (append-nil b.accepted)); released = omega arith; passed = ([], sym (append-nil b.passed)); queues = same-queues b.queues; units = takes-grow map_id b.units }
 
 run_from-grows : (c : Settings) (b : ChannelState) (es : List Event) → Grows b (run_from c b es)
 run_from-grows c b [] = same b

@@ -9,22 +9,22 @@ use Rattle.tc_link.specs.Command.{kind_of}
 use Rattle.tc_link.specs.Farm.{Row, E1, E2, E3, E4, E5, E6, E7, E8, E9, E10, number_of, frame_row, entry, accepts, after}
 use Rattle.tc_channel.specs.declared.settings.Settings.{Settings}
 use Rattle.tc_channel.specs.declared.event.Event.{Event}
-use Rattle.tc_channel.specs.declared.event.Event.TheVariants.{Frame, Release, Take}
+use Rattle.tc_channel.specs.declared.event.Event.TheVariants.{Frame, Release, Take, TakeUnit}
 use Rattle.tc_channel.specs.ChannelState.{ChannelState, Accepted, first_state, buffer}
 use Rattle.tc_channel.specs.Run.{HasStep, step, row_of, kept, passed_on, first_of, run_from, AreSteps, run, IsLawful}
 use Rattle.tc_packet.specs.declared.Service.TheVariants.{Ad}
 use Rattle.tc_channel.specs.Journal.{History}
 use Rattle.tc_channel.specs.Reply.{buffered_fields}
-use Rattle.tc_channel.specs.Admission.{is_for, packets_in}
+use Rattle.tc_channel.specs.Admission.{map_of}
 use Rattle.tc_channel.specs.Channel.{Inside, Holds, Follows, FollowsKind, Ends, EndsAtOnce, buffered_of, with_field}
 use Rattle.tc_link.specs.declared.Act.{Act}
-use Rattle.tc_channel.specs.declared.queues.Placed.{Placed}
+use Rattle.tc_channel.specs.declared.queues.Planned.{Planned}
 use Rattle.tc_channel.specs.declared.queues.HeldQueue.{HeldQueue}
-use Rattle.tc_channel.specs.HeldQueues.{copies_from, put_all, HavePlaces}
+use Rattle.tc_channel.specs.HeldQueues.{copies_from, put_all, placed, HavePlaces, IsPlanned}
 use Rattle.tc_channel.proofs.Copies.{copies-places}
-use Rattle.tc_channel.proofs.Shares.{queues-follow, frame-queues, release-queues}
+use Rattle.tc_channel.proofs.Shares.{planned-held, frame-queues, release-queues}
 use Rattle.tc_channel.proofs.Streams.{frame-runs, release-runs}
-use Rattle.tc_channel.proofs.StateQueues.{kept-either, queues-kept}
+use Rattle.tc_channel.proofs.StateQueues.{kept-either, queues-kept, units-kept}
 use Rattle.tc_channel.proofs.Filled.{filled-drop, first-filled, state-filled}
 use Rattle.tc_channel.proofs.Runs.{run-push, lawful-push}
 use Rattle.tc_channel.proofs.Sound.{state-sound, frame-enters, room-at_E1}
@@ -42,6 +42,7 @@ unfolding passed_on
 step-counted c b (Frame octets) h one = kept-counted (row_of c b octets) (accepts (row_of c b octets) b.report) octets b h
 step-counted c b Release h one = omega arith
 step-counted c b (Take apid) h one = h
+step-counted c b (TakeUnit map_id) h one = h
 
 run_from-counted : (c : Settings) (b : ChannelState) (es : List Event) → IsCounted b → AreSteps c b es → IsCounted (run_from c b es)
 run_from-counted c b [] h steps = h
@@ -91,19 +92,22 @@ pub can-enter : {c : Settings} {j : List Event} {i : Inside} (octets : List ℕ)
     → Holds c j i → row ≡ row_of c (run c j) octets → IsSome (entry row i.farm.report)
 can-enter {c} {j} octets row k row_is = rw (row_is, k.report) (frame-enters c (run c j) (state-sound c j) octets)
 
-pub frame-keeps : {c : Settings} {j : List Event} {i : Inside} (later : Inside) (copies : List Placed) (unit : Option (List ℕ)) (kind : Kind) (octets : List ℕ) (row : Row) (act : Act)
-    → Holds c j i → kind ≡ kind_of (header_of octets) (drop 5 octets) → FollowsKind kind i.open_runs later.open_runs (drop 5 octets) → EndsAtOnce kind i.open_runs (drop 5 octets) unit → copies ≡ copies_from is_for 0 (packets_in unit) i.rings → later.rings ≡ put_all i.rings copies
+pub frame-keeps : {c : Settings} {j : List Event} {i : Inside} (later : Inside) (p : Planned) (unit : Option (List ℕ)) (kind : Kind) (octets : List ℕ) (row : Row) (act : Act)
+    → Holds c j i → kind ≡ kind_of (header_of octets) (drop 5 octets) → FollowsKind kind i.open_runs later.open_runs (drop 5 octets) → EndsAtOnce kind i.open_runs (drop 5 octets) unit
+    → IsPlanned (map_of (drop 5 octets)) unit i.rings i.unit_rings p → later.rings ≡ put_all i.rings p.copies.items → later.unit_rings ≡ put_all i.unit_rings (placed p.unit)
     → IsWhole octets → row ≡ row_of c (run c j) octets → act.event ≡ number_of row → act.accepted ≡ accepts row i.farm.report
     → later.farm.width ≡ i.farm.width → later.farm.report ≡ after row i.farm.report
     → later.ring.items ≡ with_field i.ring.items (buffered_of act (drop 5 octets)) → later.ring.capacity ≡ i.ring.capacity
     → Holds c (j ++ Frame octets ∷ []) later
-frame-keeps {c} {j} {i} later copies unit kind octets row act k kind_is follows ends copies_is rings_are whole row_is event_is accepted_is width report items capacity =
+frame-keeps {c} {j} {i} later p unit kind octets row act k kind_is follows ends planned rings_are units_are whole row_is event_is accepted_is width report items capacity =
     let b = run c j in
     let pushed = run-push c j (Frame octets) in
     let accepts_is : act.accepted ≡ accepts (row_of c b octets) b.report = rw (accepted_is, row_is, k.report) refl in
     let number_is : act.event ≡ number_of (row_of c b octets) = rw (event_is, row_is) refl in
     let fields : later.ring.items ≡ buffer (step c b (Frame octets)) =
     items ∙ rw (k.fields, number_is, accepts_is) (sym (buffer-kept (row_of c b octets) (accepts (row_of c b octets) b.report) octets b (state-counted c j k.lawful))) in
+    let offered = planned-held (drop 5 octets) unit i.rings later.rings i.unit_rings later.unit_rings p b (queues-kept c j) (units-kept c j) (k.queues, k.units) planned rings_are units_are in
+    let queues = frame-queues c b octets i.open_runs unit later.rings later.unit_rings k.runs (rw (← kind_is) ends) offered in
     record {
       allowed = k.allowed;
       lawful = lawful-push c j (Frame octets) k.lawful (whole, frame-enters c b (state-sound c j) octets);
@@ -112,7 +116,8 @@ frame-keeps {c} {j} {i} later copies unit kind octets row act k kind_is follows 
       capacity = capacity ∙ k.capacity;
       fields = fields ∙ ap buffer (sym pushed);
       runs = rw pushed (frame-runs c b octets i.open_runs later.open_runs k.runs (rw (← kind_is) follows));
-      queues = rw pushed (frame-queues c b octets i.open_runs unit later.rings k.runs (rw (← kind_is) ends) (queues-follow is_for i.rings later.rings copies (packets_in unit) b.queues (queues-kept c j) k.queues copies_is rings_are));
+      queues = rw pushed queues.0;
+      units = rw pushed queues.1;
     }
 
 -- a buffered field goes where there is room
@@ -147,17 +152,22 @@ released-report c b = refl
 has-release : (b : ChannelState) → 0 < length (buffer b) → b.released < length b.accepted
 has-release b h = omega (arith, length-map (drop b.released b.accepted) (λ (a : Accepted). a.field), length-drop b.released b.accepted)
 
-pub release-keeps : {c : Settings} {j : List Event} {i : Inside} (later : Inside) (copies : List Placed) (unit : Option (List ℕ))
-    → Holds c j i → Follows i.open_runs later.open_runs Ad (first_of i.ring.items) → Ends i.open_runs Ad (first_of i.ring.items) unit → copies ≡ copies_from is_for 0 (packets_in unit) i.rings → later.rings ≡ put_all i.rings copies → 0 < length i.ring.items
+pub release-keeps : {c : Settings} {j : List Event} {i : Inside} (later : Inside) (p : Planned) (unit : Option (List ℕ))
+    → Holds c j i → Follows i.open_runs later.open_runs Ad (first_of i.ring.items) → Ends i.open_runs Ad (first_of i.ring.items) unit
+    → IsPlanned (map_of (first_of i.ring.items)) unit i.rings i.unit_rings p → later.rings ≡ put_all i.rings p.copies.items → later.unit_rings ≡ put_all i.unit_rings (placed p.unit) → 0 < length i.ring.items
     → later.farm.width ≡ i.farm.width → later.farm.report ≡ after E10 i.farm.report
     → later.ring ≡ record { items = drop 1 i.ring.items; capacity = i.ring.capacity }
     → Holds c (j ++ Release ∷ []) later
-release-keeps {c} {j} {i} later copies unit k follows ends copies_is rings_are some width report is =
+release-keeps {c} {j} {i} later p unit k follows ends planned rings_are units_are some width report is =
     let b = run c j in
     let pushed = run-push c j Release in
     let len : length i.ring.items ≡ length (buffer b) = ap length k.fields in
     let fields : later.ring.items ≡ buffer (step c b Release) =
     ap (λ (x : Buffer (List ℕ)). x.items) is ∙ ap (drop 1) k.fields ∙ sym (buffer-released c b) in
+    let planned_is : IsPlanned (map_of (first_of (buffer b))) unit i.rings i.unit_rings p = rw k.fields at planned in
+    let ends_is : Ends i.open_runs Ad (first_of (buffer b)) unit = rw k.fields at ends in
+    let offered = planned-held (first_of (buffer b)) unit i.rings later.rings i.unit_rings later.unit_rings p b (queues-kept c j) (units-kept c j) (k.queues, k.units) planned_is rings_are units_are in
+    let queues = release-queues c b i.open_runs unit later.rings later.unit_rings k.runs ends_is offered in
     record {
       allowed = k.allowed;
       lawful = lawful-push c j Release k.lawful (has-release b (omega arith));
@@ -166,11 +176,12 @@ release-keeps {c} {j} {i} later copies unit k follows ends copies_is rings_are s
       capacity = ap (λ (x : Buffer (List ℕ)). x.capacity) is ∙ k.capacity;
       fields = fields ∙ ap buffer (sym pushed);
       runs = rw pushed (release-runs c b i.open_runs later.open_runs k.runs (let f : Follows i.open_runs later.open_runs Ad (first_of (buffer b)) = rw k.fields at follows in f));
-      queues = rw pushed (release-queues c b i.open_runs unit later.rings k.runs (let o : Ends i.open_runs Ad (first_of (buffer b)) unit = rw k.fields at ends in o) (queues-follow is_for i.rings later.rings copies (packets_in unit) b.queues (queues-kept c j) k.queues copies_is rings_are));
+      queues = rw pushed queues.0;
+      units = rw pushed queues.1;
     }
 
-pub have-places : (ps : List (List ℕ)) (rings : List HeldQueue) → HavePlaces (length rings) (copies_from is_for 0 ps rings)
-have-places ps rings = copies-places is_for (length rings) 0 ps rings (omega arith)
+pub have-places : (wanted : ℕ → List ℕ → Bool) (items : List (List ℕ)) (rings : List HeldQueue) → HavePlaces (length rings) (copies_from wanted 0 items rings)
+have-places wanted items rings = copies-places wanted (length rings) 0 items rings (omega arith)
 
 -- a channel whose buffer isn't empty holds a field
 pub some-field : {h : History} {c : Settings} {j : List Event} {i : Inside} → record { settings = c; journal = j } ≡ h

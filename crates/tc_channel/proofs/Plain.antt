@@ -3,7 +3,7 @@ use Rattle.std.proofs.Common.{◌≡◌, List, [], ◌∷◌, refl, ◌∙◌}
 use Rattle.tc_link.specs.Farm.{accepts}
 use Rattle.tc_channel.specs.declared.settings.Settings.{Settings}
 use Rattle.tc_channel.specs.declared.event.Event.{Event}
-use Rattle.tc_channel.specs.declared.event.Event.TheVariants.{Frame, Release, Take}
+use Rattle.tc_channel.specs.declared.event.Event.TheVariants.{Frame, Release, Take, TakeUnit}
 use Rattle.tc_channel.specs.ChannelState.{ChannelState, first_state}
 use Rattle.tc_channel.specs.Run.{step, row_of, passed_on, run_from, run}
 use Rattle.tc_channel.proofs.Streams.{kept-segmented}
@@ -13,6 +13,7 @@ unfolding passed_on
 step-segmented s b (Frame octets) = kept-segmented (row_of s b octets) (accepts (row_of s b octets) b.report) octets b
 step-segmented s b Release = refl
 step-segmented s b (Take apid) = refl
+step-segmented s b (TakeUnit map_id) = refl
 
 run_from-segmented : (s : Settings) (b : ChannelState) (es : List Event) → (run_from s b es).segmented ≡ b.segmented
 run_from-segmented s b [] = refl

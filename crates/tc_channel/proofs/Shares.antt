@@ -1,17 +1,18 @@
--- The queues, where the packets of the unit that a field ends are admitted.
-use Rattle.std.proofs.Common.{◌≡◌, ◌≢◌, ℕ, zero, suc, ◌+◌, ◌-◌, ◌≤◌, Bool, true, false, List, [], ◌∷◌, length, map, take, drop, Option, refl, sym, ap, ◌∙◌, arith}
+-- The queues, where the unit that a field ends is offered.
+use Rattle.std.proofs.Common.{◌≡◌, ◌≢◌, ℕ, zero, suc, ◌+◌, ◌-◌, ◌≤◌, Bool, true, false, List, [], ◌∷◌, length, map, take, drop, Option, Some, None, cond, eqb, subst, refl, sym, ap, ◌∙◌, arith}
+use Rattle.std.specs.Prelude.{is_some}
 use Rattle.std.specs.List.{sum_by}
 use Rattle.std.proofs.lemmas.List.Sums.{sum_by-cons}
 use Rattle.tc_channel.specs.declared.queues.Planned.{Planned}
 use Rattle.tc_channel.specs.declared.queues.Placed.{Placed}
-use Rattle.tc_channel.specs.Reply.{nothing, delivered, delivery_of, frame_delivery, release_reply_at}
+use Rattle.tc_channel.specs.Reply.{nothing, delivery_of, frame_delivery, release_reply_at}
 use Rattle.std.proofs.lemmas.List.{drop-append-le, length-drop, append-nil}
 use Rattle.tc_link.specs.Farm.{Row, E1, E2, E3, E4, E5, E6, E7, E8, E9, E10, row_at, frame_row, accepts}
 use Rattle.tc_channel.specs.declared.queues.HeldQueue.{HeldQueue}
 use Rattle.tc_channel.specs.declared.settings.Settings.{Settings}
 use Rattle.tc_channel.specs.declared.event.Event.TheVariants.{Frame, Release}
-use Rattle.tc_channel.specs.ChannelState.{ChannelState, Queue, has_room, buffer}
-use Rattle.tc_channel.specs.Admission.{is_for, packets_in, share_of, with_share, with_shares, queued_of}
+use Rattle.tc_channel.specs.ChannelState.{ChannelState, Queue, queue_of, has_room, buffer}
+use Rattle.tc_channel.specs.Admission.{map_of, is_chosen, is_for, is_of_map, packets_offered, units_offered, offered, share_of, with_share, with_shares, queued_of}
 use Rattle.tc_link.specs.declared.Kind.{Kind}
 use Rattle.tc_link.specs.declared.Kind.TheVariants as kinds
 use Rattle.tc_link.specs.declared.Command.TheVariants.{Unlock, SetVr}
@@ -28,7 +29,7 @@ use Rattle.tc_channel.specs.Channel.{AreRuns, Ends, EndsAtOnce}
 use Rattle.tc_channel.specs.Run.{step, row_of, kept, passed_on, unit_of, first_of}
 use Rattle.tc_channel.proofs.StateQueues.{AreKept}
 use Rattle.tc_channel.proofs.Copies.{Fit, with_items, shares-put, length-copies}
-use Rattle.tc_channel.specs.HeldQueues.{held, share, copies_from, put_all, IsPlanned}
+use Rattle.tc_channel.specs.HeldQueues.{held, share, queue_for, copies_from, put_all, placed, IsPlanned}
 
 fit-held : (qs : List Queue) → AreKept qs → Fit (map held qs)
 fit-held [] h = tt
@@ -54,18 +55,22 @@ pub queues-follow : (wanted : ℕ → List ℕ → Bool) (old new : List HeldQue
 queues-follow wanted old new copies ps qs kept are copies_is new_is =
     new_is ∙ ap (put_all old) copies_is ∙ ap (λ (x : List HeldQueue). put_all x (copies_from wanted 0 ps x)) are ∙ shares-put wanted ps (map held qs) (fit-held qs kept) ∙ held-shares wanted ps qs kept
 
-kept-queues : (row : Row) (accepted : Bool) (octets : List ℕ) (b : ChannelState) → row ≢ E6 → (kept row accepted octets b).queues ≡ b.queues
-kept-queues E1 true octets b h = refl
-kept-queues E1 false octets b h = refl
-kept-queues E2 accepted octets b h = refl
-kept-queues E3 accepted octets b h = refl
-kept-queues E4 accepted octets b h = refl
-kept-queues E5 accepted octets b h = refl
-kept-queues E6 accepted octets b h = absurd (h refl)
-kept-queues E7 accepted octets b h = refl
-kept-queues (E8 x) accepted octets b h = refl
-kept-queues E9 accepted octets b h = refl
-kept-queues E10 accepted octets b h = refl
+-- what a channel holds of its packet queues and of its unit queues is that of the state
+abbrev pub AreHeld : List HeldQueue → List HeldQueue → ChannelState → Type 0
+AreHeld rings unit_rings b = (rings ≡ map held b.queues) × (unit_rings ≡ map held b.units)
+
+kept-held : (row : Row) (accepted : Bool) (octets : List ℕ) (b : ChannelState) (rings unit_rings : List HeldQueue) → row ≢ E6 → AreHeld rings unit_rings b → AreHeld rings unit_rings (kept row accepted octets b)
+kept-held E1 true octets b rings unit_rings other h = h
+kept-held E1 false octets b rings unit_rings other h = h
+kept-held E2 accepted octets b rings unit_rings other h = h
+kept-held E3 accepted octets b rings unit_rings other h = h
+kept-held E4 accepted octets b rings unit_rings other h = h
+kept-held E5 accepted octets b rings unit_rings other h = h
+kept-held E6 accepted octets b rings unit_rings other h = absurd (other refl)
+kept-held E7 accepted octets b rings unit_rings other h = h
+kept-held (E8 x) accepted octets b rings unit_rings other h = h
+kept-held E9 accepted octets b rings unit_rings other h = h
+kept-held E10 accepted octets b rings unit_rings other h = h
 
 not-BD : (place : Place) (room : Bool) → row_at place room ≢ E6
 not-BD Expected true e = cc
@@ -82,7 +87,7 @@ none-with : (wanted : ℕ → List ℕ → Bool) (q : Queue) → with_share want
 none-with wanted q = rw (no-share (q.capacity - (length q.admitted - q.taken)), append-nil q.admitted) refl
 
 -- no item, no change
-shares-none : (wanted : ℕ → List ℕ → Bool) (qs : List Queue) → with_shares wanted [] qs ≡ qs
+pub shares-none : (wanted : ℕ → List ℕ → Bool) (qs : List Queue) → with_shares wanted [] qs ≡ qs
 shares-none wanted [] = refl
 shares-none wanted (q ∷ qs) = ap (λ (x : Queue). x ∷ with_shares wanted [] qs) (none-with wanted q) ∙ ap (λ (x : List Queue). q ∷ x) (shares-none wanted qs)
 
@@ -92,24 +97,54 @@ ends-unit service field b open_runs unit are ends =
     let fields = stream service (segment.header_of field).map b.passed in
     ends fields (are.runs service (segment.header_of field).map (omega arith)) ∙ ap (λ s. unit_ended s fields field) are.segmented
 
-kind-queues : (width vr : ℕ) (kind : Kind) (room : Bool) (octets : List ℕ) (b : ChannelState) (open_runs : OpenRuns) (unit : Option (List ℕ)) (new : List HeldQueue) → AreRuns open_runs b.segmented b.passed
-    → EndsAtOnce kind open_runs (drop 5 octets) unit → new ≡ map held (with_shares is_for (packets_in unit) b.queues)
-    → new ≡ map held (kept (frame_row width vr kind room) (accepts (frame_row width vr kind room) b.report) octets b).queues
-unfolding passed_on
-kind-queues width vr (kinds.Ad ns) room octets b open_runs unit new are ends is = is ∙ rw (kept-queues (row_at (place_of width vr ns) room) (accepts (row_at (place_of width vr ns) room) b.report) octets b (not-BD (place_of width vr ns) room), ends) (ap (map held) (shares-none is_for b.queues))
-kind-queues width vr kinds.Bd room octets b open_runs unit new are ends is = is ∙ ap (λ (x : Option (List ℕ)). map held (with_shares is_for (packets_in x) b.queues)) (ends-unit Bd (drop 5 octets) b open_runs unit are ends)
-kind-queues width vr (kinds.Bc Unlock) room octets b open_runs unit new are ends is = is ∙ rw ends (ap (map held) (shares-none is_for b.queues))
-kind-queues width vr (kinds.Bc (SetVr x)) room octets b open_runs unit new are ends is = is ∙ rw ends (ap (map held) (shares-none is_for b.queues))
-kind-queues width vr kinds.Invalid room octets b open_runs unit new are ends is = is ∙ rw ends (ap (map held) (shares-none is_for b.queues))
+-- whether a MAP is chosen, by the rings
+same-chosen : (map_id : ℕ) (unit_rings : List HeldQueue) (qs : List Queue) → unit_rings ≡ map held qs → is_some (queue_for map_id unit_rings) ≡ is_some (queue_of map_id qs)
+same-chosen map_id unit_rings qs are = ap (λ (x : List HeldQueue). is_some (queue_for map_id x)) are ∙ by qs where
+  by : (qs : List Queue) → is_some (queue_for map_id (map held qs)) ≡ is_some (queue_of map_id qs)
+  by [] = refl
+  by (q ∷ qs) = at (eqb q.key map_id) (by qs) where
+    at : (t : Bool) → is_some (queue_for map_id (map held qs)) ≡ is_some (queue_of map_id qs)
+        → is_some (cond t (Some (held q)) (queue_for map_id (map held qs))) ≡ is_some (cond t (Some q) (queue_of map_id qs))
+    at true h = refl
+    at false h = h
 
-pub frame-queues : (c : Settings) (b : ChannelState) (octets : List ℕ) (open_runs : OpenRuns) (unit : Option (List ℕ)) (new : List HeldQueue) → AreRuns open_runs b.segmented b.passed
-    → EndsAtOnce (kind_of (header_of octets) (drop 5 octets)) open_runs (drop 5 octets) unit → new ≡ map held (with_shares is_for (packets_in unit) b.queues) → new ≡ map held (step c b (Frame octets)).queues
-frame-queues c b octets open_runs unit new are ends is = kind-queues c.width b.report.vr (kind_of (header_of octets) (drop 5 octets)) (has_room c b) octets b open_runs unit new are ends is
+-- what was planned leaves the queues of the state to which the unit was offered
+pub planned-held : (field : List ℕ) (unit : Option (List ℕ)) (rings later unit_rings later_units : List HeldQueue) (p : Planned) (b : ChannelState) → AreKept b.queues → AreKept b.units → AreHeld rings unit_rings b
+    → IsPlanned (map_of field) unit rings unit_rings p → later ≡ put_all rings p.copies.items → later_units ≡ put_all unit_rings (placed p.unit) → AreHeld later later_units (offered field unit b)
+planned-held field unit rings later unit_rings later_units p b kept kept_units are planned later_is units_is =
+    let chosen = same-chosen (map_of field) unit_rings b.units are.1 in (
+      queues-follow is_for rings later p.copies.items (packets_offered unit (is_chosen b field)) b.queues kept are.0
+          (planned.copies ∙ ap (λ (t : Bool). copies_from is_for 0 (packets_offered unit t) rings) chosen) later_is,
+      queues-follow (is_of_map (map_of field)) unit_rings later_units (placed p.unit) (units_offered unit (is_chosen b field)) b.units kept_units are.1
+          (planned.whole ∙ ap (λ (t : Bool). copies_from (is_of_map (map_of field)) 0 (units_offered unit t) unit_rings) chosen) units_is,
+    )
 
-pub release-queues : (c : Settings) (b : ChannelState) (open_runs : OpenRuns) (unit : Option (List ℕ)) (new : List HeldQueue) → AreRuns open_runs b.segmented b.passed
-    → Ends open_runs Ad (first_of (buffer b)) unit → new ≡ map held (with_shares is_for (packets_in unit) b.queues) → new ≡ map held (step c b Release).queues
+-- where no unit is offered, the queues stay
+nothing-offered : (field : List ℕ) (unit : Option (List ℕ)) (rings unit_rings : List HeldQueue) (b : ChannelState) → unit ≡ None → AreHeld rings unit_rings (offered field unit b) → AreHeld rings unit_rings b
+nothing-offered field unit rings unit_rings b none are =
+    let e : AreHeld rings unit_rings (offered field None b) = rw none at are in
+    (e.0 ∙ ap (map held) (shares-none is_for b.queues), e.1 ∙ ap (map held) (shares-none (is_of_map (map_of field)) b.units))
+
+kind-queues : (width vr : ℕ) (kind : Kind) (room : Bool) (octets : List ℕ) (b : ChannelState) (open_runs : OpenRuns) (unit : Option (List ℕ)) (new new_units : List HeldQueue) → AreRuns open_runs b.segmented b.passed
+    → EndsAtOnce kind open_runs (drop 5 octets) unit → AreHeld new new_units (offered (drop 5 octets) unit b)
+    → AreHeld new new_units (kept (frame_row width vr kind room) (accepts (frame_row width vr kind room) b.report) octets b)
 unfolding passed_on
-release-queues c b open_runs unit new are ends is = is ∙ ap (λ (x : Option (List ℕ)). map held (with_shares is_for (packets_in x) b.queues)) (ends-unit Ad (first_of (buffer b)) b open_runs unit are ends)
+kind-queues width vr (kinds.Ad ns) room octets b open_runs unit new new_units are ends is =
+    let row = row_at (place_of width vr ns) room in
+    kept-held row (accepts row b.report) octets b new new_units (not-BD (place_of width vr ns) room) (nothing-offered (drop 5 octets) unit new new_units b ends is)
+kind-queues width vr kinds.Bd room octets b open_runs unit new new_units are ends is = subst (λ (x : Option (List ℕ)). AreHeld new new_units (offered (drop 5 octets) x b)) (ends-unit Bd (drop 5 octets) b open_runs unit are ends) is
+kind-queues width vr (kinds.Bc Unlock) room octets b open_runs unit new new_units are ends is = nothing-offered (drop 5 octets) unit new new_units b ends is
+kind-queues width vr (kinds.Bc (SetVr x)) room octets b open_runs unit new new_units are ends is = nothing-offered (drop 5 octets) unit new new_units b ends is
+kind-queues width vr kinds.Invalid room octets b open_runs unit new new_units are ends is = nothing-offered (drop 5 octets) unit new new_units b ends is
+
+pub frame-queues : (c : Settings) (b : ChannelState) (octets : List ℕ) (open_runs : OpenRuns) (unit : Option (List ℕ)) (new new_units : List HeldQueue) → AreRuns open_runs b.segmented b.passed
+    → EndsAtOnce (kind_of (header_of octets) (drop 5 octets)) open_runs (drop 5 octets) unit → AreHeld new new_units (offered (drop 5 octets) unit b) → AreHeld new new_units (step c b (Frame octets))
+frame-queues c b octets open_runs unit new new_units are ends is = kind-queues c.width b.report.vr (kind_of (header_of octets) (drop 5 octets)) (has_room c b) octets b open_runs unit new new_units are ends is
+
+pub release-queues : (c : Settings) (b : ChannelState) (open_runs : OpenRuns) (unit : Option (List ℕ)) (new new_units : List HeldQueue) → AreRuns open_runs b.segmented b.passed
+    → Ends open_runs Ad (first_of (buffer b)) unit → AreHeld new new_units (offered (first_of (buffer b)) unit b) → AreHeld new new_units (step c b Release)
+unfolding passed_on
+release-queues c b open_runs unit new new_units are ends is = subst (λ (x : Option (List ℕ)). AreHeld new new_units (offered (first_of (buffer b)) x b)) (ends-unit Ad (first_of (buffer b)) b open_runs unit are ends) is
 
 -- how many copies there are
 pub queued-is : (wanted : ℕ → List ℕ → Bool) (ps : List (List ℕ)) (qs : List Queue) → sum_by length (map (share wanted ps) (map held qs)) ≡ queued_of wanted ps qs
@@ -130,22 +165,28 @@ other-nothing (E8 x) octets b h = refl
 other-nothing E9 octets b h = refl
 other-nothing E10 octets b h = refl
 
-planned-is : (unit : Option (List ℕ)) (rings : List HeldQueue) (p : Planned) (qs : List Queue) → rings ≡ map held qs → IsPlanned unit rings p → p.delivery ≡ delivery_of unit qs
-planned-is unit rings p qs are is =
-    is.delivery ∙ ap (delivered unit) (ap length is.copies ∙ length-copies is_for 0 (packets_in unit) rings ∙ ap (λ (x : List HeldQueue). sum_by length (map (share is_for (packets_in unit)) x)) are ∙ queued-is is_for (packets_in unit) qs)
+count-is : (wanted : ℕ → List ℕ → Bool) (items : List (List ℕ)) (rings : List HeldQueue) (copies : List Placed) (qs : List Queue) → rings ≡ map held qs → copies ≡ copies_from wanted 0 items rings → length copies ≡ queued_of wanted items qs
+count-is wanted items rings copies qs are is = ap length is ∙ length-copies wanted 0 items rings ∙ ap (λ (x : List HeldQueue). sum_by length (map (share wanted items) x)) are ∙ queued-is wanted items qs
+
+planned-is : (field : List ℕ) (unit : Option (List ℕ)) (rings unit_rings : List HeldQueue) (p : Planned) (b : ChannelState) → AreHeld rings unit_rings b → IsPlanned (map_of field) unit rings unit_rings p → p.delivery ≡ delivery_of field unit b
+planned-is field unit rings unit_rings p b are is =
+    let chosen = same-chosen (map_of field) unit_rings b.units are.1 in
+    let packets = count-is is_for (packets_offered unit (is_some (queue_for (map_of field) unit_rings))) rings p.copies.items b.queues are.0 is.copies in
+    let units = count-is (is_of_map (map_of field)) (units_offered unit (is_some (queue_for (map_of field) unit_rings))) unit_rings (placed p.unit) b.units are.1 is.whole in
+    is.delivery ∙ rw (packets, units, chosen) refl
 
 kind-delivery : (width vr : ℕ) (kind : Kind) (room : Bool) (octets : List ℕ) (b : ChannelState) (open_runs : OpenRuns) (unit : Option (List ℕ)) → AreRuns open_runs b.segmented b.passed → EndsAtOnce kind open_runs (drop 5 octets) unit
-    → delivery_of unit b.queues ≡ frame_delivery (frame_row width vr kind room) octets b
+    → delivery_of (drop 5 octets) unit b ≡ frame_delivery (frame_row width vr kind room) octets b
 kind-delivery width vr (kinds.Ad ns) room octets b open_runs unit are ends = rw ends (sym (other-nothing (row_at (place_of width vr ns) room) octets b (not-BD (place_of width vr ns) room)))
-kind-delivery width vr kinds.Bd room octets b open_runs unit are ends = ap (λ (x : Option (List ℕ)). delivery_of x b.queues) (ends-unit Bd (drop 5 octets) b open_runs unit are ends)
+kind-delivery width vr kinds.Bd room octets b open_runs unit are ends = ap (λ (x : Option (List ℕ)). delivery_of (drop 5 octets) x b) (ends-unit Bd (drop 5 octets) b open_runs unit are ends)
 kind-delivery width vr (kinds.Bc Unlock) room octets b open_runs unit are ends = rw ends refl
 kind-delivery width vr (kinds.Bc (SetVr x)) room octets b open_runs unit are ends = rw ends refl
 kind-delivery width vr kinds.Invalid room octets b open_runs unit are ends = rw ends refl
 
-pub frame-delivery : (c : Settings) (b : ChannelState) (octets : List ℕ) (open_runs : OpenRuns) (unit : Option (List ℕ)) (rings : List HeldQueue) (p : Planned) → AreRuns open_runs b.segmented b.passed → rings ≡ map held b.queues
-    → EndsAtOnce (kind_of (header_of octets) (drop 5 octets)) open_runs (drop 5 octets) unit → IsPlanned unit rings p → p.delivery ≡ frame_delivery (row_of c b octets) octets b
-frame-delivery c b octets open_runs unit rings p are rings_are ends is = planned-is unit rings p b.queues rings_are is ∙ kind-delivery c.width b.report.vr (kind_of (header_of octets) (drop 5 octets)) (has_room c b) octets b open_runs unit are ends
+pub frame-delivery : (c : Settings) (b : ChannelState) (octets : List ℕ) (open_runs : OpenRuns) (unit : Option (List ℕ)) (rings unit_rings : List HeldQueue) (p : Planned) → AreRuns open_runs b.segmented b.passed → AreHeld rings unit_rings b
+    → EndsAtOnce (kind_of (header_of octets) (drop 5 octets)) open_runs (drop 5 octets) unit → IsPlanned (map_of (drop 5 octets)) unit rings unit_rings p → p.delivery ≡ frame_delivery (row_of c b octets) octets b
+frame-delivery c b octets open_runs unit rings unit_rings p are held_are ends is = planned-is (drop 5 octets) unit rings unit_rings p b held_are is ∙ kind-delivery c.width b.report.vr (kind_of (header_of octets) (drop 5 octets)) (has_room c b) octets b open_runs unit are ends
 
-pub release-delivery : (b : ChannelState) (open_runs : OpenRuns) (unit : Option (List ℕ)) (rings : List HeldQueue) (p : Planned) → AreRuns open_runs b.segmented b.passed → rings ≡ map held b.queues
-    → Ends open_runs Ad (first_of (buffer b)) unit → IsPlanned unit rings p → p.delivery ≡ release_reply_at b
-release-delivery b open_runs unit rings p are rings_are ends is = planned-is unit rings p b.queues rings_are is ∙ ap (λ (x : Option (List ℕ)). delivery_of x b.queues) (ends-unit Ad (first_of (buffer b)) b open_runs unit are ends)
+pub release-delivery : (b : ChannelState) (open_runs : OpenRuns) (unit : Option (List ℕ)) (rings unit_rings : List HeldQueue) (p : Planned) → AreRuns open_runs b.segmented b.passed → AreHeld rings unit_rings b
+    → Ends open_runs Ad (first_of (buffer b)) unit → IsPlanned (map_of (first_of (buffer b))) unit rings unit_rings p → p.delivery ≡ release_reply_at b
+release-delivery b open_runs unit rings unit_rings p are held_are ends is = planned-is (first_of (buffer b)) unit rings unit_rings p b held_are is ∙ ap (λ (x : Option (List ℕ)). delivery_of (first_of (buffer b)) x b) (ends-unit Ad (first_of (buffer b)) b open_runs unit are ends)

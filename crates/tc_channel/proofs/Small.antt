@@ -17,7 +17,7 @@ use Rattle.tc_link.specs.Command.{command_of, control_kind, kind_by, kind_of}
 use Rattle.tc_link.specs.Farm.{Row, E1, E2, E3, E4, E5, E6, E7, E8, E9, E10, row_at, frame_row, entry_at}
 use Rattle.tc_channel.specs.declared.settings.Settings.{Settings}
 use Rattle.tc_channel.specs.declared.event.Event.{Event}
-use Rattle.tc_channel.specs.declared.event.Event.TheVariants.{Frame, Release, Take}
+use Rattle.tc_channel.specs.declared.event.Event.TheVariants.{Frame, Release, Take, TakeUnit}
 use Rattle.tc_channel.specs.ChannelState.{ChannelState, first_state, has_room}
 use Rattle.tc_channel.specs.Run.{step, row_of, passed_on, run_from, AreSteps, run, IsLawful}
 
@@ -102,6 +102,7 @@ run_from-below c b [] v steps = v
 run_from-below c b (Frame octets ∷ es) v steps = run_from-below c (step c b (Frame octets)) es (left-below (row_of c b octets) b.report.state b.report (λ x. row-below c b octets x steps.0.0.each) v) steps.1
 run_from-below c b (Release ∷ es) v steps = run_from-below c (step c b Release) es (left-below E10 b.report.state b.report (λ x e. absurd cc) v) steps.1
 run_from-below c b (Take apid ∷ es) v steps = run_from-below c (step c b (Take apid)) es v steps.1
+run_from-below c b (TakeUnit map_id ∷ es) v steps = run_from-below c (step c b (TakeUnit map_id)) es v steps.1
 
 pub vr-below : (c : Settings) (journal : List Event) → c.first < 256 → IsLawful c journal → (run c journal).report.vr < 256
 unfolding run IsLawful

@@ -16,7 +16,7 @@ use Rattle.tc_link.proofs.Entries.{room-from_E1, enters}
 use Rattle.tc_link.specs.Farm.{Row, E1, E2, E3, E4, E5, E6, E7, E8, E9, E10, row_at, frame_row, entry_at, entry, after}
 use Rattle.tc_channel.specs.declared.settings.Settings.{Settings}
 use Rattle.tc_channel.specs.declared.event.Event.{Event}
-use Rattle.tc_channel.specs.declared.event.Event.TheVariants.{Frame, Release, Take}
+use Rattle.tc_channel.specs.declared.event.Event.TheVariants.{Frame, Release, Take, TakeUnit}
 use Rattle.tc_channel.specs.ChannelState.{ChannelState, first_state, has_room}
 use Rattle.tc_channel.specs.Run.{step, row_of, after_frame, after_release, passed_on, run_from, run}
 use Rattle.tc_channel.specs.Laws.{IsSound}
@@ -114,6 +114,7 @@ step-sound : (c : Settings) (b : ChannelState) (e : Event) → Sound (has_room c
 step-sound c b (Frame octets) h = frame-sound c b octets (row_of c b octets) refl h
 step-sound c b Release h = released-sound b.report.state b.report (has_room c b) (has_room c (after_release b)) refl h
 step-sound c b (Take apid) h = h
+step-sound c b (TakeUnit map_id) h = h
 
 run_from-sound : (c : Settings) (b : ChannelState) (es : List Event) → Sound (has_room c b) b.report → Sound (has_room c (run_from c b es)) (run_from c b es).report
 run_from-sound c b [] h = h

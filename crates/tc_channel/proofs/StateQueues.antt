@@ -8,13 +8,14 @@ use Rattle.tc_link.specs.Frame.{header_of}
 use Rattle.tc_link.specs.Farm.{Row, E1, E2, E3, E4, E5, E6, E7, E8, E9, E10, accepts}
 use Rattle.tc_packet.specs.declared.Service.TheVariants.{Ad, Bd}
 use Rattle.tc_channel.specs.declared.settings.QueueSetting.{QueueSetting}
+use Rattle.tc_channel.specs.declared.settings.MapSetting.{MapSetting}
 use Rattle.tc_channel.specs.declared.settings.Settings.{Settings}
 use Rattle.tc_channel.specs.declared.event.Event.{Event}
-use Rattle.tc_channel.specs.declared.event.Event.TheVariants.{Frame, Release, Take}
+use Rattle.tc_channel.specs.declared.event.Event.TheVariants.{Frame, Release, Take, TakeUnit}
 use Rattle.tc_channel.specs.Settings.{IsAllowed}
-use Rattle.tc_channel.specs.ChannelState.{ChannelState, Queue, first_state, empty_queue, buffer}
+use Rattle.tc_channel.specs.ChannelState.{ChannelState, Queue, first_state, empty_queue, empty_unit_queue, buffer}
 use Rattle.tc_channel.specs.HeldQueues.{AreDistinct}
-use Rattle.tc_channel.specs.Admission.{packets_in, share_of, with_share, with_shares, room_of, is_for}
+use Rattle.tc_channel.specs.Admission.{map_of, is_chosen, packets_offered, units_offered, share_of, with_share, with_shares, room_of, is_for, is_of_map}
 use Rattle.tc_channel.specs.Laws.{KeepsToItsCapacity}
 use Rattle.tc_channel.specs.Run.{step, row_of, kept, passed_on, taken_from, unit_of, first_of, run_from, run}
 
@@ -34,19 +35,33 @@ kept-either P (E8 x) accepted octets b same one passed = same
 kept-either P E9 accepted octets b same one passed = same
 kept-either P E10 accepted octets b same one passed = same
 
-run_from-queues : (P : List Queue → Type 0) → ((packets : List (List ℕ)) (qs : List Queue) → P qs → P (with_shares is_for packets qs)) → ((apid : ℕ) (qs : List Queue) → P qs → P (map (taken_from apid) qs))
-    → (c : Settings) (b : ChannelState) (es : List Event) → P b.queues → P (run_from c b es).queues
-unfolding passed_on
-run_from-queues P offer take_one c b [] h = h
-run_from-queues P offer take_one c b (Frame octets ∷ es) h = run_from-queues P offer take_one c (step c b (Frame octets)) es (kept-either (λ x. P x.queues) (row_of c b octets) (accepts (row_of c b octets) b.report) octets b h h (offer (packets_in (unit_of b Bd (drop 5 octets))) b.queues h))
-run_from-queues P offer take_one c b (Release ∷ es) h = run_from-queues P offer take_one c (step c b Release) es (offer (packets_in (unit_of b Ad (first_of (buffer b)))) b.queues h)
-run_from-queues P offer take_one c b (Take apid ∷ es) h = run_from-queues P offer take_one c (step c b (Take apid)) es (take_one apid b.queues h)
+-- it goes on where items are offered to the queues, and where one is taken
+pub record GoesOn (P : List Queue → Type 0) : Type 0 where
+  pub offered : (wanted : ℕ → List ℕ → Bool) (items : List (List ℕ)) (qs : List Queue) → P qs → P (with_shares wanted items qs)
+  pub taken : (key : ℕ) (qs : List Queue) → P qs → P (map (taken_from key) qs)
 
--- what holds of empty queues, and goes on, holds of each state's
-pub run-queues : (P : List Queue → Type 0) → ((packets : List (List ℕ)) (qs : List Queue) → P qs → P (with_shares is_for packets qs)) → ((apid : ℕ) (qs : List Queue) → P qs → P (map (taken_from apid) qs))
-    → (c : Settings) (journal : List Event) → P (map empty_queue c.queues) → P (run c journal).queues
+run_from-both : (P Q : List Queue → Type 0) → GoesOn P → GoesOn Q → (c : Settings) (b : ChannelState) (es : List Event) → P b.queues → Q b.units → P (run_from c b es).queues × Q (run_from c b es).units
+unfolding passed_on
+run_from-both P Q p q c b [] h u = (h, u)
+run_from-both P Q p q c b (Frame octets ∷ es) h u =
+    let f = drop 5 octets in
+    let row = row_of c b octets in
+    let accepted = accepts row b.report in
+    run_from-both P Q p q c (step c b (Frame octets)) es
+    (kept-either (λ x. P x.queues) row accepted octets b h h (p.offered is_for (packets_offered (unit_of b Bd f) (is_chosen b f)) b.queues h))
+    (kept-either (λ x. Q x.units) row accepted octets b u u (q.offered (is_of_map (map_of f)) (units_offered (unit_of b Bd f) (is_chosen b f)) b.units u))
+run_from-both P Q p q c b (Release ∷ es) h u =
+    let f = first_of (buffer b) in
+    run_from-both P Q p q c (step c b Release) es
+    (p.offered is_for (packets_offered (unit_of b Ad f) (is_chosen b f)) b.queues h)
+    (q.offered (is_of_map (map_of f)) (units_offered (unit_of b Ad f) (is_chosen b f)) b.units u)
+run_from-both P Q p q c b (Take apid ∷ es) h u = run_from-both P Q p q c (step c b (Take apid)) es (p.taken apid b.queues h) u
+run_from-both P Q p q c b (TakeUnit map_id ∷ es) h u = run_from-both P Q p q c (step c b (TakeUnit map_id)) es h (q.taken map_id b.units u)
+
+-- what holds of empty packet queues, and of empty unit queues, and goes on, holds of each state's
+run-both : (P Q : List Queue → Type 0) → GoesOn P → GoesOn Q → (c : Settings) (journal : List Event) → P (map empty_queue c.queues) → Q (map empty_unit_queue c.maps) → P (run c journal).queues × Q (run c journal).units
 unfolding run
-run-queues P offer take_one c journal h = run_from-queues P offer take_one c (first_state c) journal h
+run-both P Q p q c journal h u = run_from-both P Q p q c (first_state c) journal h u
 
 abbrev pub keys : List Queue → List ℕ
 keys qs = map (λ (q : Queue). q.key) qs
@@ -69,19 +84,41 @@ keys-empty : (qs : List QueueSetting) → keys (map empty_queue qs) ≡ map (λ 
 keys-empty [] = refl
 keys-empty (q ∷ qs) = ap (λ (x : List ℕ). q.apid ∷ x) (keys-empty qs)
 
+keys-empty-units : (ms : List MapSetting) → keys (map empty_unit_queue ms) ≡ map (λ (m : MapSetting). m.map) ms
+keys-empty-units [] = refl
+keys-empty-units (m ∷ ms) = ap (λ (x : List ℕ). m.map ∷ x) (keys-empty-units ms)
+
+keys-go-on : (first : List ℕ) → GoesOn (λ qs. keys qs ≡ first)
+keys-go-on first = record {
+  offered = λ wanted items qs h. keys-with_shares wanted items qs ∙ h;
+  taken = λ key qs h. keys-taken key qs ∙ h;
+}
+
+keys-stay-both : (c : Settings) (journal : List Event) → (keys (run c journal).queues ≡ map (λ (q : QueueSetting). q.apid) c.queues) × (keys (run c journal).units ≡ map (λ (m : MapSetting). m.map) c.maps)
+keys-stay-both c journal =
+    let apids = map (λ (q : QueueSetting). q.apid) c.queues in
+    let maps = map (λ (m : MapSetting). m.map) c.maps in
+    run-both (λ qs. keys qs ≡ apids) (λ qs. keys qs ≡ maps) (keys-go-on apids) (keys-go-on maps) c journal (keys-empty c.queues) (keys-empty-units c.maps)
+
 pub keys-stay : (c : Settings) (journal : List Event) → keys (run c journal).queues ≡ map (λ (q : QueueSetting). q.apid) c.queues
-keys-stay c journal = run-queues (λ qs. keys qs ≡ map (λ (q : QueueSetting). q.apid) c.queues) (λ packets qs h. keys-with_shares is_for packets qs ∙ h) (λ apid qs h. keys-taken apid qs ∙ h) c journal (keys-empty c.queues)
+keys-stay c journal = (keys-stay-both c journal).0
 
-others-apart : (a : ℕ) (qs : List QueueSetting) → ((j : ℕ) (d : QueueSetting) → j < length qs → a ≢ (get_or qs j d).apid) → AllByRecursion (λ b. a ≢ b) (map (λ (q : QueueSetting). q.apid) qs)
-others-apart a [] h = tt
-others-apart a (q ∷ qs) h = (h 0 q (omega arith), others-apart a qs (λ j d lt. h (suc j) d (omega arith)))
+pub unit-keys-stay : (c : Settings) (journal : List Event) → keys (run c journal).units ≡ map (λ (m : MapSetting). m.map) c.maps
+unit-keys-stay c journal = (keys-stay-both c journal).1
 
-settings-apart : (qs : List QueueSetting) → AllPairs (λ (p q : QueueSetting). p.apid ≢ q.apid) qs → AreDistinct (map (λ (q : QueueSetting). q.apid) qs)
-settings-apart [] h = tt
-settings-apart (q ∷ qs) h = (others-apart q.apid qs (λ j d lt. h 0 (suc j) d (omega arith) (omega arith)), settings-apart qs (λ i j d lt l. h (suc i) (suc j) d (omega arith) (omega arith)))
+others-apart : {A : Type 0} (key : A → ℕ) (a : ℕ) (qs : List A) → ((j : ℕ) (d : A) → j < length qs → a ≢ key (get_or qs j d)) → AllByRecursion (λ b. a ≢ b) (map key qs)
+others-apart key a [] h = tt
+others-apart key a (q ∷ qs) h = (h 0 q (omega arith), others-apart key a qs (λ j d lt. h (suc j) d (omega arith)))
+
+settings-apart : {A : Type 0} (key : A → ℕ) (qs : List A) → AllPairs (λ p q. key p ≢ key q) qs → AreDistinct (map key qs)
+settings-apart key [] h = tt
+settings-apart key (q ∷ qs) h = (others-apart key (key q) qs (λ j d lt. h 0 (suc j) d (omega arith) (omega arith)), settings-apart key qs (λ i j d lt l. h (suc i) (suc j) d (omega arith) (omega arith)))
 
 pub queues-apart : (c : Settings) (journal : List Event) → IsAllowed c → AreDistinct (keys (run c journal).queues)
-queues-apart c journal allowed = rw (keys-stay c journal) (settings-apart c.queues allowed.apart)
+queues-apart c journal allowed = rw (keys-stay c journal) (settings-apart (λ (q : QueueSetting). q.apid) c.queues allowed.apart)
+
+pub units-apart : (c : Settings) (journal : List Event) → IsAllowed c → AreDistinct (keys (run c journal).units)
+units-apart c journal allowed = rw (unit-keys-stay c journal) (settings-apart (λ (m : MapSetting). m.map) c.maps allowed.maps_apart)
 
 abbrev pub AreKept : List Queue → Type 0
 AreKept qs = AllByRecursion KeepsToItsCapacity qs
@@ -113,6 +150,19 @@ kept-empty : (qs : List QueueSetting) → AreKept (map empty_queue qs)
 kept-empty [] = tt
 kept-empty (q ∷ qs) = (record { taken = omega arith; capacity = omega arith }, kept-empty qs)
 
+kept-empty-units : (ms : List MapSetting) → AreKept (map empty_unit_queue ms)
+kept-empty-units [] = tt
+kept-empty-units (m ∷ ms) = (record { taken = omega arith; capacity = omega arith }, kept-empty-units ms)
+
+kept-go-on : GoesOn AreKept
+kept-go-on = record { offered = kept-shares; taken = kept-taken }
+
+kept-both : (c : Settings) (journal : List Event) → AreKept (run c journal).queues × AreKept (run c journal).units
+kept-both c journal = run-both AreKept AreKept kept-go-on kept-go-on c journal (kept-empty c.queues) (kept-empty-units c.maps)
+
 -- no queue holds more than its capacity
 pub queues-kept : (c : Settings) (journal : List Event) → AreKept (run c journal).queues
-queues-kept c journal = run-queues AreKept (kept-shares is_for) kept-taken c journal (kept-empty c.queues)
+queues-kept c journal = (kept-both c journal).0
+
+pub units-kept : (c : Settings) (journal : List Event) → AreKept (run c journal).units
+units-kept c journal = (kept-both c journal).1

@@ -1,6 +1,6 @@
--- A packet is taken.
+-- A packet or a unit is taken.
 use Rattle.std.proofs.Common.{◌≡◌, ◌≢◌, ℕ, zero, suc, ◌+◌, ◌<◌, Bool, true, false, cond, eqb, List, [], ◌∷◌, ◌++◌, length, map, take, drop, get_or, Option, Some, None, refl, sym, ap, ◌∙◌, inl, inr, arith}
-use Rattle.std.specs.Prelude.{nat_lt, Any, option_map, slice_get, IsSome}
+use Rattle.std.specs.Prelude.{nat_lt, option_map, slice_get, IsSome}
 use Rattle.std.specs.Option.{option_and_then}
 use Rattle.std.specs.List.{AllByRecursion}
 use Rattle.std.proofs.lemmas.List.{drop-drop, length-drop}
@@ -8,16 +8,16 @@ use Rattle.std.proofs.lemmas.Bool.{eq-eqb}
 use Rattle.std.proofs.Math.ListN.{set}
 use Rattle.tc_channel.specs.declared.settings.Settings.{Settings}
 use Rattle.tc_channel.specs.declared.event.Event.{Event}
-use Rattle.tc_channel.specs.declared.event.Event.TheVariants.{Take}
+use Rattle.tc_channel.specs.declared.event.Event.TheVariants.{Take, TakeUnit}
 use Rattle.tc_channel.specs.Channel.{Inside, Holds}
 use Rattle.tc_channel.proofs.Runs.{run-push, lawful-push}
 use Rattle.std.proofs.lemmas.Bool.Decides.{nat_tests, eqb_tells}
 use Rattle.tc_channel.specs.declared.queues.HeldQueue.{HeldQueue}
 use Rattle.tc_channel.specs.ChannelState.{Queue, waiting, queue_of}
-use Rattle.tc_channel.specs.Run.{taken_from, run}
-use Rattle.tc_channel.specs.Reply.{waiting_packets}
-use Rattle.tc_channel.specs.HeldQueues.{AreDistinct, keys_of, held, queue_for, popped, shorter}
-use Rattle.tc_channel.proofs.StateQueues.{keys, queues-apart}
+use Rattle.tc_channel.specs.Run.{taken_from, HasItem, run}
+use Rattle.tc_channel.specs.Reply.{waiting_packets, waiting_units}
+use Rattle.tc_channel.specs.HeldQueues.{AreDistinct, keys_of, held, queue_for, items_for, popped, shorter}
+use Rattle.tc_channel.proofs.StateQueues.{keys, queues-apart, units-apart}
 
 pub held-queue : (key : ℕ) (qs : List Queue) → queue_for key (map held qs) ≡ option_map held (queue_of key qs)
 held-queue key [] = refl
@@ -61,47 +61,84 @@ popped-taken key (p ∷ qs) q apart is some = elim (eqb_tells p.key key) [
 ]
 
 -- the event can happen
-pub can-take : (key : ℕ) (qs : List Queue) (q : Queue) → queue_of key qs ≡ Some q → q.taken < length q.admitted → Any (λ (x : Queue). (x.key ≡ key) × (x.taken < length x.admitted)) qs
+pub can-take : (key : ℕ) (qs : List Queue) (q : Queue) → queue_of key qs ≡ Some q → q.taken < length q.admitted → HasItem key qs
 can-take key [] q is some = absurd cc
 can-take key (p ∷ qs) q is some = elim (eqb_tells p.key key) [
   | inl same ↦ (let e : p ≡ q = (let i : Some p ≡ Some q = rw same.0 at is in cc) in (0, p, omega arith, refl, (same.1, rw e some)))
   | inr other ↦ (let i : queue_of key qs ≡ Some q = rw other.0 at is in let k = can-take key qs q i some in (suc k.0, k.1, (let l = k.2 in omega arith), k.3, k.4))
 ]
 
-some-queue : (o : Option Queue) (w : HeldQueue) → option_map held o ≡ Some w → 0 < length w.ring.items → (q : Queue) × (o ≡ Some q) × (q.taken < length q.admitted)
-some-queue None w e some = absurd cc
-some-queue (Some q) w e some =
-    let i : held q ≡ w = cc in
-    let l : length (waiting q) ≡ length w.ring.items = ap (λ (x : HeldQueue). length x.ring.items) i in
-    (q, refl, omega (arith, length-drop q.taken q.admitted))
+nonempty : (xs : List (List ℕ)) (item : List ℕ) → slice_get xs 0 ≡ Some item → 0 < length xs
+nonempty [] item e = absurd cc
+nonempty (x ∷ xs) item e = omega arith
 
-pub take-keeps : {c : Settings} {j : List Event} {i : Inside} (later : List HeldQueue) (apid : ℕ) (w : HeldQueue)
-    → Holds c j i → queue_for apid i.rings ≡ Some w → 0 < length w.ring.items → later ≡ popped apid i.rings → Holds c (j ++ Take apid ∷ []) (record i { rings = later })
-take-keeps {c} {j} {i} later apid w k found some is =
-    let b = run c j in
+-- the oldest of the items that wait, if there is a queue and an item in it
+abbrev pub oldest : Option (List (List ℕ)) → Option (List ℕ)
+oldest items = option_and_then (λ xs. slice_get xs 0) items
+
+has-oldest : (o : Option Queue) (item : List ℕ) → oldest (option_map (λ (w : HeldQueue). w.ring.items) (option_map held o)) ≡ Some item → (q : Queue) × (o ≡ Some q) × (q.taken < length q.admitted)
+has-oldest None item e = absurd cc
+has-oldest (Some q) item e = (q, refl, omega (arith, nonempty (waiting q) item e, length-drop q.taken q.admitted))
+
+-- where an oldest item was taken, the queues had one, and are those of the state without it
+pub oldest-taken : (key : ℕ) (qs : List Queue) (old new : List HeldQueue) (item : List ℕ) → AreDistinct (keys qs) → old ≡ map held qs → oldest (items_for key old) ≡ Some item → new ≡ popped key old
+    → HasItem key qs × (new ≡ map held (map (taken_from key) qs))
+oldest-taken key qs old new item apart are has is =
+    let found : oldest (option_map (λ (w : HeldQueue). w.ring.items) (option_map held (queue_of key qs))) ≡ Some item = rw (are, held-queue key qs) at has in
+    let q = has-oldest (queue_of key qs) item found in
+    (can-take key qs q.0 q.1 q.2, is ∙ ap (popped key) are ∙ popped-taken key qs q.0 apart q.1 q.2)
+
+pub take-keeps : {c : Settings} {j : List Event} {i : Inside} (later : List HeldQueue) (apid : ℕ) (packet : List ℕ)
+    → Holds c j i → oldest (items_for apid i.rings) ≡ Some packet → later ≡ popped apid i.rings → Holds c (j ++ Take apid ∷ []) (record i { rings = later })
+take-keeps {c} {j} {i} later apid packet k has is =
     let pushed = run-push c j (Take apid) in
-    let held_is : option_map held (queue_of apid b.queues) ≡ Some w = sym (held-queue apid b.queues) ∙ ap (queue_for apid) (sym k.queues) ∙ found in
-    let q = some-queue (queue_of apid b.queues) w held_is some in
+    let taken = oldest-taken apid (run c j).queues i.rings later packet (queues-apart c j k.allowed) k.queues has is in
     record {
       allowed = k.allowed;
-      lawful = lawful-push c j (Take apid) k.lawful (can-take apid b.queues q.0 q.1 q.2);
+      lawful = lawful-push c j (Take apid) k.lawful taken.0;
       width = k.width;
       report = k.report ∙ rw pushed refl;
       capacity = k.capacity;
       fields = k.fields ∙ rw pushed refl;
       runs = rw pushed k.runs;
-      queues = is ∙ ap (popped apid) k.queues ∙ popped-taken apid b.queues q.0 (queues-apart c j k.allowed) q.1 q.2 ∙ rw pushed refl;
+      queues = taken.1 ∙ rw pushed refl;
+      units = k.units ∙ rw pushed refl;
+    }
+
+pub take-unit-keeps : {c : Settings} {j : List Event} {i : Inside} (later : List HeldQueue) (map_id : ℕ) (unit : List ℕ)
+    → Holds c j i → oldest (items_for map_id i.unit_rings) ≡ Some unit → later ≡ popped map_id i.unit_rings → Holds c (j ++ TakeUnit map_id ∷ []) (record i { unit_rings = later })
+take-unit-keeps {c} {j} {i} later map_id unit k has is =
+    let pushed = run-push c j (TakeUnit map_id) in
+    let taken = oldest-taken map_id (run c j).units i.unit_rings later unit (units-apart c j k.allowed) k.units has is in
+    record {
+      allowed = k.allowed;
+      lawful = lawful-push c j (TakeUnit map_id) k.lawful taken.0;
+      width = k.width;
+      report = k.report ∙ rw pushed refl;
+      capacity = k.capacity;
+      fields = k.fields ∙ rw pushed refl;
+      runs = rw pushed k.runs;
+      queues = k.queues ∙ rw pushed refl;
+      units = taken.1 ∙ rw pushed refl;
     }
 
 items-map : (o : Option Queue) → option_map waiting o ≡ option_map (λ (w : HeldQueue). w.ring.items) (option_map held o)
 items-map None = refl
 items-map (Some q) = refl
 
--- what waits for an application, by the fields
-pub waits : {c : Settings} {j : List Event} {i : Inside} (apid : ℕ)
-    → Holds c j i → waiting_packets c j apid ≡ option_map (λ (w : HeldQueue). w.ring.items) (queue_for apid i.rings)
+-- what waits for a key, by the rings
+items-wait : (key : ℕ) (rings : List HeldQueue) (qs : List Queue) → rings ≡ map held qs → option_map waiting (queue_of key qs) ≡ items_for key rings
+items-wait key rings qs are = rw are (items-map (queue_of key qs) ∙ ap (option_map (λ (w : HeldQueue). w.ring.items)) (sym (held-queue key qs)))
+
+-- the packets that wait for an application, by the fields
+pub packets-wait : {c : Settings} {j : List Event} {i : Inside} (apid : ℕ) → Holds c j i → waiting_packets c j apid ≡ items_for apid i.rings
 unfolding waiting_packets
-waits {c} {j} apid k = rw k.queues (items-map (queue_of apid (run c j).queues) ∙ ap (option_map (λ (w : HeldQueue). w.ring.items)) (sym (held-queue apid (run c j).queues)))
+packets-wait {c} {j} {i} apid k = items-wait apid i.rings (run c j).queues k.queues
+
+-- the units of a MAP that wait, by the fields
+pub units-wait : {c : Settings} {j : List Event} {i : Inside} (map_id : ℕ) → Holds c j i → waiting_units c j map_id ≡ items_for map_id i.unit_rings
+unfolding waiting_units
+units-wait {c} {j} {i} map_id k = items-wait map_id i.unit_rings (run c j).units k.units
 
 -- the oldest item of ring i is taken
 pub popped-at : (key : ℕ) (ws : List HeldQueue) (i : ℕ) (w : HeldQueue) → w ≡ get_or ws i w → i < length ws → w.key ≡ key → set ws i (shorter w) ≡ take i ws ++ popped key (drop i ws)
@@ -111,13 +148,10 @@ popped-at key (v ∷ ws) zero w is lt e =
     rw same (ap (λ (x : HeldQueue). shorter x ∷ ws) is)
 popped-at key (v ∷ ws) (suc i) w is lt e = ap (λ (x : List HeldQueue). v ∷ x) (popped-at key ws i w is (omega arith) e)
 
-pub found-queue : (o : Option HeldQueue) (xs : List (List ℕ)) → option_map (λ (w : HeldQueue). w.ring.items) o ≡ Some xs → (w : HeldQueue) × (o ≡ Some w) × (w.ring.items ≡ xs)
-found-queue None xs e = absurd cc
-found-queue (Some w) xs e = (w, refl, (let i : w.ring.items ≡ xs = cc in i))
-
-pub popped-is : (o : Option HeldQueue) (xs : List (List ℕ)) → option_map (λ (w : HeldQueue). w.ring.items) o ≡ Some xs → option_and_then (λ (w : HeldQueue). slice_get w.ring.items 0) o ≡ slice_get xs 0
-popped-is None xs e = absurd cc
-popped-is (Some w) xs e = let i : w.ring.items ≡ xs = cc in ap (λ (x : List (List ℕ)). slice_get x 0) i
+-- the oldest item of a queue is the oldest of its items
+pub oldest-is : (o : Option HeldQueue) → option_and_then (λ (w : HeldQueue). slice_get w.ring.items 0) o ≡ oldest (option_map (λ (w : HeldQueue). w.ring.items) o)
+oldest-is None = refl
+oldest-is (Some w) = refl
 
 pub has-first : (xs : List (List ℕ)) → 0 < length xs → IsSome (slice_get xs 0)
 has-first [] some = absurd (omega arith)
@@ -129,3 +163,6 @@ same-keys (q ∷ qs) = ap (λ (x : List ℕ). q.key ∷ x) (same-keys qs)
 
 pub queues-distinct : {c : Settings} {j : List Event} {i : Inside} → Holds c j i → AreDistinct (keys_of i.rings)
 queues-distinct {c} {j} k = rw (k.queues, same-keys (run c j).queues) (queues-apart c j k.allowed)
+
+pub units-distinct : {c : Settings} {j : List Event} {i : Inside} → Holds c j i → AreDistinct (keys_of i.unit_rings)
+units-distinct {c} {j} k = rw (k.units, same-keys (run c j).units) (units-apart c j k.allowed)

@@ -9,7 +9,7 @@ use Rattle.tc_link.specs.declared.State.TheVariants.{S1, S2, S3}
 use Rattle.tc_link.specs.Farm.{Row, E1, E2, E3, E4, E5, E6, E7, E8, E9, E10, entry_at}
 use Rattle.tc_channel.specs.declared.settings.Settings.{Settings}
 use Rattle.tc_channel.specs.declared.event.Event.{Event}
-use Rattle.tc_channel.specs.declared.event.Event.TheVariants.{Frame, Release, Take}
+use Rattle.tc_channel.specs.declared.event.Event.TheVariants.{Frame, Release, Take, TakeUnit}
 use Rattle.tc_channel.specs.Settings.{IsAllowed}
 use Rattle.tc_channel.specs.ChannelState.{ChannelState, first_state}
 use Rattle.tc_channel.specs.Run.{step, row_of, passed_on, run_from, run, IsLawful}
@@ -54,6 +54,7 @@ run_from-counter c b [] h = h
 run_from-counter c b (Frame octets ∷ es) h = run_from-counter c (step c b (Frame octets)) es (counter-below (row_of c b octets) b.report.state b.report h)
 run_from-counter c b (Release ∷ es) h = run_from-counter c (step c b Release) es (counter-below E10 b.report.state b.report h)
 run_from-counter c b (Take apid ∷ es) h = run_from-counter c (step c b (Take apid)) es h
+run_from-counter c b (TakeUnit map_id ∷ es) h = run_from-counter c (step c b (TakeUnit map_id)) es h
 
 run-counter : (c : Settings) (journal : List Event) → (run c journal).report.farm_b < 4
 unfolding run

@@ -1,16 +1,36 @@
--- What the queues admit of the packets of a unit (this receiver's own rule).
-use Rattle.std.specs.Prelude.{ℕ, ◌-◌, Bool, List, [], ◌++◌, length, map, filter, take, sum_by, ◌==◌, ◌&&◌, Option, Some, None}
+-- What the queues admit of a unit: the unit itself where its MAP is chosen (CCSDS 232.0-B, the MAP Access Service), else its packets. The capacities are this receiver's own rule.
+use Rattle.std.specs.Prelude.{ℕ, ◌+◌, ◌-◌, Bool, true, false, List, [], ◌∷◌, ◌++◌, length, map, filter, take, sum_by, ◌==◌, ◌&&◌, Option, Some, None, is_some}
 use Rattle.tc_packet.specs.SpacePacket.{apid_of, is_telecommand, packets_of}
-use Rattle.tc_channel.specs.ChannelState.{Queue}
+use Rattle.tc_packet.specs.Segment as segment
+use Rattle.tc_channel.specs.ChannelState.{Queue, ChannelState, queue_of}
 
--- the packets that a unit is cut into, where there is a unit
-abbrev pub packets_in : Option (List ℕ) → List (List ℕ)
-packets_in None = []
-packets_in (Some unit) = packets_of unit
+-- the MAP of a data field that begins with a segment header (CCSDS 232.0-B, 4.1.3.2.2)
+abbrev pub map_of : List ℕ → ℕ
+map_of field = (segment.header_of field).map
+
+-- the MAP of this data field is chosen: it has a unit queue
+abbrev pub is_chosen : ChannelState → List ℕ → Bool
+is_chosen state field = is_some (queue_of (map_of field) state.units)
+
+-- the packets that are offered of a unit, of a chosen MAP or not, where there is a unit: those that it is cut into, or none
+abbrev pub packets_offered : Option (List ℕ) → Bool → List (List ℕ)
+packets_offered None chosen = []
+packets_offered (Some unit) true = []
+packets_offered (Some unit) false = packets_of unit
+
+-- the units that are offered of it: itself, or none
+abbrev pub units_offered : Option (List ℕ) → Bool → List (List ℕ)
+units_offered None chosen = []
+units_offered (Some unit) true = unit ∷ []
+units_offered (Some unit) false = []
 
 -- what a packet queue wants, whose key is its APID: a telecommand packet with this APID
 abbrev pub is_for : ℕ → List ℕ → Bool
 is_for apid packet = is_telecommand packet && apid_of packet == apid
+
+-- what a unit queue wants of the units of a MAP, whose key is its own MAP: each of them where it is the same
+abbrev pub is_of_map : ℕ → ℕ → List ℕ → Bool
+is_of_map map_id key unit = key == map_id
 
 -- how many more items a queue can hold
 abbrev pub room_of : Queue → ℕ
@@ -31,3 +51,16 @@ with_shares wanted items queues = map (with_share wanted items) queues
 -- how many of the items are queued
 abbrev pub queued_of : (ℕ → List ℕ → Bool) → List (List ℕ) → List Queue → ℕ
 queued_of wanted items queues = sum_by (λ q. length (share_of wanted items q)) queues
+
+-- the unit that a data field ended, if any, is offered to the queues
+abbrev pub offered : List ℕ → Option (List ℕ) → ChannelState → ChannelState
+offered field unit state = record state {
+  queues = with_shares is_for (packets_offered unit (is_chosen state field)) state.queues;
+  units = with_shares (is_of_map (map_of field)) (units_offered unit (is_chosen state field)) state.units;
+}
+
+-- how many packets and units of it are queued
+abbrev pub count_queued : List ℕ → Option (List ℕ) → ChannelState → ℕ
+count_queued field unit state =
+    queued_of is_for (packets_offered unit (is_chosen state field)) state.queues
+    + queued_of (is_of_map (map_of field)) (units_offered unit (is_chosen state field)) state.units

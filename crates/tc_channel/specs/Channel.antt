@@ -53,12 +53,13 @@ abbrev pub with_field : List (List ℕ) → Option (List ℕ) → List (List ℕ
 with_field fields None = fields
 with_field fields (Some field) = fields ++ field ∷ []
 
--- what a channel works with: FARM-1, the ring of buffered data fields, the open runs and the rings of the queues
+-- what a channel works with: FARM-1, the ring of buffered data fields, the open runs, and the rings of the packet queues and of the unit queues
 pub record Inside : Type 0 where
   pub farm : Machine
   pub ring : Buffer (List ℕ)
   pub open_runs : OpenRuns
   pub rings : List HeldQueue
+  pub unit_rings : List HeldQueue
 
 -- all that a channel works with is that of the journal's run
 pub record Holds (s : Settings) (journal : List Event) (inside : Inside) : Type 0 where
@@ -70,3 +71,4 @@ pub record Holds (s : Settings) (journal : List Event) (inside : Inside) : Type 
   pub fields : inside.ring.items ≡ buffer (run s journal)
   pub runs : AreRuns inside.open_runs (run s journal).segmented (run s journal).passed
   pub queues : inside.rings ≡ map held (run s journal).queues
+  pub units : inside.unit_rings ≡ map held (run s journal).units

@@ -4,6 +4,7 @@ use Rattle.tc_link.specs.declared.Report.{Report}
 use Rattle.tc_link.specs.Farm.{first_report}
 use Rattle.tc_packet.specs.Reassembly.{Passed}
 use Rattle.tc_channel.specs.declared.settings.QueueSetting.{QueueSetting}
+use Rattle.tc_channel.specs.declared.settings.MapSetting.{MapSetting}
 use Rattle.tc_channel.specs.declared.settings.Settings.{Settings}
 
 -- an accepted AD frame: N(S) and its data field
@@ -19,7 +20,7 @@ pub record Queue : Type 0 where
   pub taken : ℕ
 
 -- whether data fields have segment headers, all AD frames ever accepted and how many of them were released, all data fields ever passed to
--- reassembly, and the queues
+-- reassembly, the packet queues and the unit queues
 pub record ChannelState : Type 0 where
   pub report : Report
   pub segmented : Bool
@@ -27,14 +28,31 @@ pub record ChannelState : Type 0 where
   pub released : ℕ
   pub passed : List Passed
   pub queues : List Queue
+  pub units : List Queue
+
+-- a queue with nothing in it
+abbrev pub queue_with : ℕ → ℕ → Queue
+queue_with key capacity = record { key = key; capacity = capacity; admitted = []; taken = 0 }
 
 -- the packet queue of a setting, with nothing in it: its key is the APID
 abbrev pub empty_queue : QueueSetting → Queue
-empty_queue q = record { key = q.apid; capacity = q.capacity; admitted = []; taken = 0 }
+empty_queue q = queue_with q.apid q.capacity
+
+-- the unit queue of a setting, with nothing in it: its key is the MAP
+abbrev pub empty_unit_queue : MapSetting → Queue
+empty_unit_queue m = queue_with m.map m.capacity
 
 -- the state of a channel that starts
 abbrev pub first_state : Settings → ChannelState
-first_state s = record { report = first_report s.first; segmented = s.segmented; accepted = []; released = 0; passed = []; queues = map empty_queue s.queues }
+first_state s = record {
+  report = first_report s.first;
+  segmented = s.segmented;
+  accepted = [];
+  released = 0;
+  passed = [];
+  queues = map empty_queue s.queues;
+  units = map empty_unit_queue s.maps;
+}
 
 -- the data fields that wait in the buffer, the oldest first
 abbrev pub buffer : ChannelState → List (List ℕ)

@@ -5,7 +5,7 @@ use Rattle.tc_link.specs.declared.State.{State}
 use Rattle.tc_link.specs.declared.State.TheVariants.{S1, S2}
 use Rattle.tc_channel.specs.declared.settings.Settings.{Settings}
 use Rattle.tc_channel.specs.declared.event.Event.{Event}
-use Rattle.tc_channel.specs.declared.event.Event.TheVariants.{Frame, Release, Take}
+use Rattle.tc_channel.specs.declared.event.Event.TheVariants.{Frame, Release, Take, TakeUnit}
 use Rattle.tc_channel.specs.ChannelState.{ChannelState, Accepted}
 use Rattle.tc_channel.specs.Run.{row_of, run}
 
@@ -20,6 +20,7 @@ abbrev pub set_by : Settings → ChannelState → Event → Option ℕ
 set_by s state (Frame octets) = set_at (row_of s state octets) state.report.state
 set_by s state Release = None
 set_by s state (Take apid) = None
+set_by s state (TakeUnit map_id) = None
 
 -- an era starts after these events, at V(R) = x: they are none, or the last of them set V(R) to x
 abbrev pub Starts : Settings → List Event → ℕ → Type 0

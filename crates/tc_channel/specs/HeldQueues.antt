@@ -1,10 +1,10 @@
 -- What the code holds of the queues, and what a call is going to put into them.
-use Rattle.std.specs.Prelude.{◌≡◌, ◌≢◌, ℕ, zero, suc, ◌-◌, ◌+◌, ◌<◌, Bool, List, [], ◌∷◌, ◌++◌, length, map, filter, take, drop, Option, Some, None, ◌==◌, if◌then◌else◌}
+use Rattle.std.specs.Prelude.{◌≡◌, ◌≢◌, ℕ, zero, suc, ◌-◌, ◌+◌, ◌<◌, Bool, true, false, List, [], ◌∷◌, ◌++◌, length, map, filter, take, drop, Option, Some, None, is_some, option_map, ◌==◌, if◌then◌else◌}
 use Rattle.std.specs.List.{AllByRecursion}
 use Rattle.circular_buffer.specs.Buffer.{buffer as ring_of, keep_last}
 use Rattle.tc_channel.specs.ChannelState.{Queue, waiting}
-use Rattle.tc_channel.specs.Admission.{is_for, packets_in}
-use Rattle.tc_channel.specs.Reply.{delivered}
+use Rattle.tc_channel.specs.Admission.{is_for, is_of_map, packets_offered, units_offered}
+use Rattle.tc_channel.specs.Reply.{nothing, delivered}
 use Rattle.tc_channel.specs.declared.queues.HeldQueue.{HeldQueue}
 use Rattle.tc_channel.specs.declared.queues.Placed.{Placed}
 use Rattle.tc_channel.specs.declared.queues.Planned.{Planned}
@@ -59,6 +59,10 @@ abbrev pub queue_for : ℕ → List HeldQueue → Option HeldQueue
 queue_for key [] = None
 queue_for key (q ∷ qs) = if q.key == key then Some q else queue_for key qs
 
+-- the items that wait in the queue with a key, the oldest first
+abbrev pub items_for : ℕ → List HeldQueue → Option (List (List ℕ))
+items_for key queues = option_map (λ (q : HeldQueue). q.ring.items) (queue_for key queues)
+
 -- a queue without its oldest item
 abbrev pub shorter : HeldQueue → HeldQueue
 shorter q = record q { ring = ring_of (drop 1 q.ring.items) q.ring.capacity }
@@ -68,7 +72,36 @@ abbrev pub popped : ℕ → List HeldQueue → List HeldQueue
 popped key [] = []
 popped key (q ∷ qs) = if q.key == key then shorter q ∷ qs else q ∷ popped key qs
 
--- the copies of what the queues take of a unit's packets, and what to answer
-pub record IsPlanned (unit : Option (List ℕ)) (queues : List HeldQueue) (p : Planned) : Type 0 where
-  pub copies : p.copies.items ≡ copies_from is_for 0 (packets_in unit) queues
-  pub delivery : p.delivery ≡ delivered unit (length p.copies.items)
+-- the items that a unit's place gives: itself, or none
+abbrev pub placed : Option Placed → List Placed
+placed None = []
+placed (Some one) = one ∷ []
+
+-- a unit goes to this place, if any
+abbrev pub placed_at : Option ℕ → List ℕ → List Placed
+placed_at None unit = []
+placed_at (Some place) unit = copied_to place unit ∷ []
+
+-- what the queues take of a unit of this MAP, and what to answer
+pub record IsPlanned (map_id : ℕ) (unit : Option (List ℕ)) (queues unit_queues : List HeldQueue) (p : Planned) : Type 0 where
+  pub copies : p.copies.items ≡ copies_from is_for 0 (packets_offered unit (is_some (queue_for map_id unit_queues))) queues
+  pub whole : placed p.unit ≡ copies_from (is_of_map map_id) 0 (units_offered unit (is_some (queue_for map_id unit_queues))) unit_queues
+  pub delivery : p.delivery ≡ delivered unit (is_some (queue_for map_id unit_queues)) (length p.copies.items + length (placed p.unit))
+
+-- no unit was ended
+pub record IsNothing (p : Planned) : Type 0 where
+  pub copies : p.copies.items ≡ []
+  pub whole : p.unit ≡ None
+  pub delivery : p.delivery ≡ nothing
+
+-- what is planned where the MAP isn't chosen
+pub record IsPlannedByPackets (unit : Option (List ℕ)) (queues : List HeldQueue) (p : Planned) : Type 0 where
+  pub copies : p.copies.items ≡ copies_from is_for 0 (packets_offered unit false) queues
+  pub whole : p.unit ≡ None
+  pub delivery : p.delivery ≡ delivered unit false (length p.copies.items)
+
+-- what is planned of a unit of a chosen MAP
+pub record IsPlannedWhole (map_id : ℕ) (unit : List ℕ) (unit_queues : List HeldQueue) (p : Planned) : Type 0 where
+  pub copies : p.copies.items ≡ []
+  pub whole : placed p.unit ≡ copies_from (is_of_map map_id) 0 (unit ∷ []) unit_queues
+  pub delivery : p.delivery ≡ delivered (Some unit) true (length (placed p.unit))

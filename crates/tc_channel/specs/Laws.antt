@@ -1,8 +1,10 @@
 -- What holds of the state of each journal, and of longer journals.
-use Rattle.std.specs.Prelude.{◌≡◌, ◌≢◌, ℕ, ◌+◌, ◌≤◌, true, false, List, [], ◌∷◌, ◌++◌, length}
+use Rattle.std.specs.Prelude.{◌≡◌, ◌≢◌, ℕ, ◌+◌, ◌-◌, ◌≤◌, Bool, nat_lt, true, false, List, [], ◌∷◌, ◌++◌, length, Any}
 use Rattle.tc_link.specs.declared.State.TheVariants.{S1, S2, S3}
 use Rattle.tc_packet.specs.Reassembly.{Passed}
 use Rattle.tc_channel.specs.declared.settings.Settings.{Settings}
+use Rattle.tc_channel.specs.declared.settings.MapSetting.{MapSetting}
+use Rattle.tc_channel.specs.Admission.{map_of}
 use Rattle.tc_channel.specs.ChannelState.{ChannelState, Accepted, Queue, has_room}
 
 -- FARM-1's flags agree with its state and with the buffer
@@ -17,6 +19,10 @@ pub record IsSound (s : Settings) (state : ChannelState) : Type 0 where
 pub record KeepsToItsCapacity (q : Queue) : Type 0 where
   pub taken : q.taken ≤ length q.admitted
   pub capacity : length q.admitted ≤ q.capacity + q.taken
+
+-- a queue has room for one more
+abbrev pub has_room_for_one : Queue → Bool
+has_room_for_one q = nat_lt (length q.admitted - q.taken) q.capacity
 
 -- a queue goes on: it admitted more, and more was taken
 pub record QueueGrows (old new : Queue) : Type 0 where
@@ -37,3 +43,8 @@ pub record Grows (old new : ChannelState) : Type 0 where
   pub released : old.released ≤ new.released
   pub passed : (more : List Passed) × (new.passed ≡ old.passed ++ more)
   pub queues : QueuesGrow old.queues new.queues
+  pub units : QueuesGrow old.units new.units
+
+-- the data field is of a chosen MAP
+abbrev pub IsOfChosenMap : Settings → List ℕ → Type 0
+IsOfChosenMap s field = Any (λ (m : MapSetting). m.map ≡ map_of field) s.maps

@@ -1,5 +1,5 @@
 -- What a channel answers after a journal.
-use Rattle.std.specs.Prelude.{ℕ, ◌-◌, false, List, length, nat_lt, Option, Some, None, option_map, slice_get}
+use Rattle.std.specs.Prelude.{ℕ, ◌-◌, Bool, true, false, List, length, nat_lt, Option, Some, None, option_map, slice_get}
 use Rattle.std.specs.Option.{option_and_then}
 use Rattle.tc_link.specs.declared.Act.{Act}
 use Rattle.tc_link.specs.declared.Link.{Link}
@@ -9,37 +9,42 @@ use Rattle.tc_packet.specs.declared.Service.TheVariants.{Ad, Bd}
 use Rattle.tc_packet.specs.SpacePacket.{packets_of, rest_of}
 use Rattle.tc_channel.specs.declared.reply.Delivery.{Delivery}
 use Rattle.tc_channel.specs.declared.reply.FrameReply.{FrameReply}
+use Rattle.tc_channel.specs.declared.reply.TakeFault.{TakeFault}
+use Rattle.tc_channel.specs.declared.reply.TakeFault.TheVariants as take_faults
+use Rattle.tc_channel.specs.declared.reply.TakeUnitFault.{TakeUnitFault}
+use Rattle.tc_channel.specs.declared.reply.TakeUnitFault.TheVariants as unit_faults
 use Rattle.tc_channel.specs.declared.settings.Settings.{Settings}
 use Rattle.tc_channel.specs.declared.event.Event.{Event}
-use Rattle.tc_channel.specs.ChannelState.{ChannelState, Queue, buffer, queue_of, waiting}
-use Rattle.tc_channel.specs.Admission.{is_for, packets_in, queued_of}
+use Rattle.tc_channel.specs.ChannelState.{ChannelState, buffer, queue_of, waiting}
+use Rattle.tc_channel.specs.Admission.{is_chosen, count_queued}
 use Rattle.tc_channel.specs.Run.{field_of, row_of, unit_of, first_of, run}
 
 -- no unit was ended
 abbrev pub nothing : Delivery
 nothing = record { queued = 0; dropped = 0; rest = false }
 
--- what became of the packets of a unit, where so many were queued
-abbrev pub delivered : Option (List ℕ) → ℕ → Delivery
-delivered None queued = nothing
-delivered (Some unit) queued = record { queued = queued; dropped = length (packets_of unit) - queued; rest = nat_lt 0 (length (rest_of unit)) }
+-- what became of a unit, of a chosen MAP or not, where so many units or packets were queued
+abbrev pub delivered : Option (List ℕ) → Bool → ℕ → Delivery
+delivered None chosen queued = nothing
+delivered (Some unit) true queued = record { queued = queued; dropped = 1 - queued; rest = false }
+delivered (Some unit) false queued = record { queued = queued; dropped = length (packets_of unit) - queued; rest = nat_lt 0 (length (rest_of unit)) }
 
-abbrev pub delivery_of : Option (List ℕ) → List Queue → Delivery
-delivery_of unit queues = delivered unit (queued_of is_for (packets_in unit) queues)
+abbrev pub delivery_of : List ℕ → Option (List ℕ) → ChannelState → Delivery
+delivery_of field unit state = delivered unit (is_chosen state field) (count_queued field unit state)
 
 -- FARM-1's event number, and whether the frame is accepted
 abbrev pub act_of : Settings → ChannelState → List ℕ → Act
 act_of s state octets = record { event = number_of (row_of s state octets); accepted = accepts (row_of s state octets) state.report }
 
 abbrev pub frame_delivery : Row → List ℕ → ChannelState → Delivery
-frame_delivery E6 octets state = delivery_of (unit_of state Bd (field_of octets)) state.queues
+frame_delivery E6 octets state = delivery_of (field_of octets) (unit_of state Bd (field_of octets)) state
 frame_delivery _ octets state = nothing
 
 abbrev pub frame_reply_at : Settings → ChannelState → List ℕ → FrameReply
 frame_reply_at s state octets = record { act = act_of s state octets; delivery = frame_delivery (row_of s state octets) octets state }
 
 abbrev pub release_reply_at : ChannelState → Delivery
-release_reply_at state = delivery_of (unit_of state Ad (first_of (buffer state))) state.queues
+release_reply_at state = delivery_of (first_of (buffer state)) (unit_of state Ad (first_of (buffer state))) state
 
 -- the reply to a frame
 unfoldable pub frame_reply : Settings → List Event → List ℕ → FrameReply
@@ -56,6 +61,20 @@ waiting_packets s journal apid = option_map waiting (queue_of apid (run s journa
 -- the reply to a take: the oldest packet that waits
 abbrev pub take_reply : Settings → List Event → ℕ → Option (List ℕ)
 take_reply s journal apid = option_and_then (λ packets. slice_get packets 0) (waiting_packets s journal apid)
+
+-- the fault of a unit queue that the fault of a packet queue is, where both are taken from alike
+abbrev pub unit_fault_of : TakeFault → TakeUnitFault
+unit_fault_of take_faults.NoQueue = unit_faults.NoMap
+unit_fault_of take_faults.Empty = unit_faults.Empty
+unit_fault_of take_faults.NoMemory = unit_faults.NoMemory
+
+-- the units that wait in the queue of this MAP, the oldest first; None where it isn't chosen
+unfoldable pub waiting_units : Settings → List Event → ℕ → Option (List (List ℕ))
+waiting_units s journal map_id = option_map waiting (queue_of map_id (run s journal).units)
+
+-- the reply to the take of a unit: the oldest that waits
+abbrev pub unit_reply : Settings → List Event → ℕ → Option (List ℕ)
+unit_reply s journal map_id = option_and_then (λ units. slice_get units 0) (waiting_units s journal map_id)
 
 -- the data fields that wait in the buffer, the oldest first
 unfoldable pub buffered_fields : Settings → List Event → List (List ℕ)

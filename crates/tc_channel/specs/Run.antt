@@ -5,13 +5,12 @@ use Rattle.tc_link.specs.Command.{kind_of}
 use Rattle.tc_link.specs.Farm.{Row, E1, E6, E10, frame_row, entry, accepts, after}
 use Rattle.tc_packet.specs.declared.Service.{Service}
 use Rattle.tc_packet.specs.declared.Service.TheVariants.{Ad, Bd}
-use Rattle.tc_packet.specs.Segment as segment
 use Rattle.tc_packet.specs.Reassembly.{stream, unit_ended}
 use Rattle.tc_channel.specs.declared.settings.Settings.{Settings}
 use Rattle.tc_channel.specs.declared.event.Event.{Event}
-use Rattle.tc_channel.specs.declared.event.Event.TheVariants.{Frame, Release, Take}
+use Rattle.tc_channel.specs.declared.event.Event.TheVariants.{Frame, Release, Take, TakeUnit}
 use Rattle.tc_channel.specs.ChannelState.{ChannelState, Queue, first_state, buffer, has_room}
-use Rattle.tc_channel.specs.Admission.{is_for, packets_in, with_shares}
+use Rattle.tc_channel.specs.Admission.{map_of, offered}
 
 -- the data field of a frame
 abbrev pub field_of : List ℕ → List ℕ
@@ -23,14 +22,11 @@ row_of s state octets = frame_row s.width state.report.vr (kind_of (header_of oc
 
 -- the unit that a data field ends where it is passed to reassembly
 abbrev pub unit_of : ChannelState → Service → List ℕ → Option (List ℕ)
-unit_of state service field = unit_ended state.segmented (stream service (segment.header_of field).map state.passed) field
+unit_of state service field = unit_ended state.segmented (stream service (map_of field) state.passed) field
 
 -- a data field is passed to reassembly, and the queues admit what they can of the unit that it ends
 unfoldable pub passed_on : Service → List ℕ → ChannelState → ChannelState
-passed_on service field state = record state {
-  passed = state.passed ++ record { service = service; field = field } ∷ [];
-  queues = with_shares is_for (packets_in (unit_of state service field)) state.queues;
-}
+passed_on service field state = record (offered field (unit_of state service field) state) { passed = state.passed ++ record { service = service; field = field } ∷ [] }
 
 -- what a frame leaves, apart from the components: an AD frame is buffered and a BD frame passed on, where accepted
 abbrev pub kept : Row → Bool → List ℕ → ChannelState → ChannelState
@@ -57,17 +53,27 @@ taken_from key q = if q.key == key && nat_lt q.taken (length q.admitted) then re
 abbrev pub after_take : ℕ → ChannelState → ChannelState
 after_take apid state = record state { queues = map (taken_from apid) state.queues }
 
+-- the oldest unit leaves the queue of this MAP
+abbrev pub after_take_unit : ℕ → ChannelState → ChannelState
+after_take_unit map_id state = record state { units = map (taken_from map_id) state.units }
+
+-- a queue with this key has an item
+abbrev pub HasItem : ℕ → List Queue → Type 0
+HasItem key queues = Any (λ (q : Queue). (q.key ≡ key) × (q.taken < length q.admitted)) queues
+
 -- the event can happen at the state
 abbrev pub HasStep : Settings → ChannelState → Event → Type 0
 HasStep s state (Frame octets) = IsWhole octets × IsSome (entry (row_of s state octets) state.report)
 HasStep s state Release = state.released < length state.accepted
-HasStep s state (Take apid) = Any (λ (q : Queue). (q.key ≡ apid) × (q.taken < length q.admitted)) state.queues
+HasStep s state (Take apid) = HasItem apid state.queues
+HasStep s state (TakeUnit map_id) = HasItem map_id state.units
 
 -- the state after the event; where it can't happen, what stands here is of no matter
 abbrev pub step : Settings → ChannelState → Event → ChannelState
 step s state (Frame octets) = after_frame (row_of s state octets) octets state
 step s state Release = after_release state
 step s state (Take apid) = after_take apid state
+step s state (TakeUnit map_id) = after_take_unit map_id state
 
 abbrev pub run_from : Settings → ChannelState → List Event → ChannelState
 run_from s state [] = state

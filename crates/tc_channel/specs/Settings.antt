@@ -1,10 +1,11 @@
 -- Which settings make a channel, and why others do not. The limits are this receiver's own; the APID 2047 marks idle packets (CCSDS 133.0-B, 4.1.2.3.4).
-use Rattle.std.specs.Prelude.{◌≡◌, ◌≢◌, ◌<◌, ◌≤◌, ◌⊎◌, ℕ, List, [], ◌∷◌, All, AllPairs}
+use Rattle.std.specs.Prelude.{◌≡◌, ◌≢◌, ◌<◌, ◌≤◌, ◌⊎◌, ℕ, false, List, [], ◌∷◌, All, AllPairs}
 use Rattle.tc_link.specs.Window.{IsWidth}
 use Rattle.tc_channel.specs.declared.settings.QueueSetting.{QueueSetting}
+use Rattle.tc_channel.specs.declared.settings.MapSetting.{MapSetting}
 use Rattle.tc_channel.specs.declared.settings.Settings.{Settings}
 use Rattle.tc_channel.specs.declared.settings.SettingsFault.{SettingsFault}
-use Rattle.tc_channel.specs.declared.settings.SettingsFault.TheVariants.{BadVcid, BadWindow, BadBuffer, BadApid, DoubleApid, BadCapacity, NoMemory}
+use Rattle.tc_channel.specs.declared.settings.SettingsFault.TheVariants.{BadVcid, BadWindow, BadBuffer, BadApid, DoubleApid, BadCapacity, BadMap, DoubleMap, BadUnits, PlainMap, NoMemory}
 
 abbrev pub IsVcid : ℕ → Type 0
 IsVcid vcid = vcid ≤ 63
@@ -23,6 +24,21 @@ AreApart queues = AllPairs (λ (p q : QueueSetting). p.apid ≢ q.apid) queues
 abbrev pub HaveCapacities : List QueueSetting → Type 0
 HaveCapacities queues = All (λ q. (1 ≤ q.capacity) × (q.capacity ≤ 256)) queues
 
+-- each MAP has six bits (CCSDS 232.0-B, 4.1.3.2.2)
+abbrev pub AreMaps : List MapSetting → Type 0
+AreMaps maps = All (λ m. m.map ≤ 63) maps
+
+-- no MAP is chosen twice
+abbrev pub AreMapsApart : List MapSetting → Type 0
+AreMapsApart maps = AllPairs (λ (m n : MapSetting). m.map ≢ n.map) maps
+
+abbrev pub HaveUnitCapacities : List MapSetting → Type 0
+HaveUnitCapacities maps = All (λ m. (1 ≤ m.capacity) × (m.capacity ≤ 256)) maps
+
+-- a plain channel, which has no segment headers, has no MAPs
+abbrev pub HasMapsByHeaders : Settings → Type 0
+HasMapsByHeaders s = s.segmented ≡ false → s.maps ≡ []
+
 -- a channel can have these settings
 pub record IsAllowed (s : Settings) : Type 0 where
   pub vcid : IsVcid s.vcid
@@ -32,6 +48,10 @@ pub record IsAllowed (s : Settings) : Type 0 where
   pub apids : HaveApids s.queues
   pub apart : AreApart s.queues
   pub capacities : HaveCapacities s.queues
+  pub maps : AreMaps s.maps
+  pub maps_apart : AreMapsApart s.maps
+  pub unit_capacities : HaveUnitCapacities s.maps
+  pub by_headers : HasMapsByHeaders s
 
 -- what settings keep that are free of this fault; want of memory is no fault of theirs
 abbrev pub IsFreeOf : Settings → SettingsFault → Type 0
@@ -41,11 +61,15 @@ IsFreeOf s BadBuffer = IsBufferSize s.buffer
 IsFreeOf s BadApid = HaveApids s.queues
 IsFreeOf s DoubleApid = AreApart s.queues
 IsFreeOf s BadCapacity = HaveCapacities s.queues
+IsFreeOf s BadMap = AreMaps s.maps
+IsFreeOf s DoubleMap = AreMapsApart s.maps
+IsFreeOf s BadUnits = HaveUnitCapacities s.maps
+IsFreeOf s PlainMap = HasMapsByHeaders s
 IsFreeOf s NoMemory = Unit {0}
 
 -- the faults that settings may have, in the order in which they are looked for
 abbrev pub faults_in_order : List SettingsFault
-faults_in_order = BadVcid ∷ BadWindow ∷ BadBuffer ∷ BadApid ∷ DoubleApid ∷ BadCapacity ∷ []
+faults_in_order = BadVcid ∷ BadWindow ∷ BadBuffer ∷ BadApid ∷ DoubleApid ∷ BadCapacity ∷ BadMap ∷ DoubleMap ∷ BadUnits ∷ PlainMap ∷ []
 
 -- of the listed faults the settings have this one, and none before it
 abbrev pub IsFirstFault : Settings → List SettingsFault → SettingsFault → Type 0

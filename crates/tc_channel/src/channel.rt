@@ -1,19 +1,23 @@
 //! A channel and its journal.
 
-ghost use Rattle.std.specs.Prelude.{List, ℕ, ◌≡◌, [], ◌<◌, ◌↔◌, length, IfOk, OnOk, OnErr, IsErrOf, MatchResult, IsSome, IsTrue, Some, None, Option, option_map};
-ghost use Rattle.std.specs.Option.{option_copied};
+ghost use Rattle.std.specs.Prelude.{List, ℕ, ◌≡◌, [], ◌<◌, ◌↔◌, ◌∷◌, ◌++◌, length, slice_get, IfOk, OnOk, OnErr, IsErrOf, MatchResult, IsSome, IsTrue, Some, None, Option, option_map};
+ghost use Rattle.std.specs.Option.{option_and_then};
 ghost use Rattle.tc_channel.specs.Settings.{IsAllowed, IsRefusal};
 ghost use Rattle.tc_channel.specs.Journal.{with_event};
 ghost use Rattle.tc_channel.specs.Run.{run, IsLawful, first_of};
-ghost use Rattle.tc_channel.specs.Reply.{frame_reply, release_reply, take_reply, waiting_packets, buffered_fields, clcw as clcw_of};
+ghost use Rattle.tc_channel.specs.Reply.{frame_reply, release_reply, take_reply, unit_reply, waiting_packets, waiting_units, buffered_fields, clcw as clcw_of};
 ghost use Rattle.tc_channel.specs.Era.{CountsUpInItsEra};
 ghost use Rattle.tc_channel.specs.Channel.{Follows, FollowsKind, Ends, EndsAtOnce, buffered_of, with_field};
-ghost use Rattle.tc_channel.specs.HeldQueues.{AreDistinct, keys_of, IsPlanned};
+ghost use Rattle.tc_channel.specs.Admission.{map_of};
+ghost use Rattle.tc_channel.specs.HeldQueues.{AreDistinct, keys_of, IsPlanned, items_for, popped};
 
 use crate::event::Event;
 use crate::items::Octets;
-use crate::queues::{HeldQueue, Planned, empty_queues, find, plan, plan_nothing, pop, put_copies};
-use crate::reply::{Delivery, FrameReply, NoMemory, ReleaseFault, TakeFault};
+use crate::queues::{
+    HeldQueue, Planned, empty_queues, empty_unit_queues, find, plan, plan_nothing, pop, put_copies,
+    put_unit,
+};
+use crate::reply::{Delivery, FrameReply, NoMemory, ReleaseFault, TakeFault, TakeUnitFault};
 use crate::settings::{Settings, SettingsFault};
 use circular_buffer::HeapCircularBuffer;
 use std::alloc::{AllocError, Global};
@@ -21,8 +25,8 @@ use std::marker::Model;
 use tc_link::{Act, Arrival, Farm, Frame, Kind, Link, Report, Window, clcw_word, kind};
 use tc_packet::{Reassembler, Service};
 
-/// One virtual channel: FARM-1, the buffer of accepted data fields, reassembly, the packet queues, and the journal of all
-/// that it answered. A call that is refused leaves it as it was.
+/// One virtual channel: FARM-1, the buffer of accepted data fields, reassembly, the packet queues, the unit queues of chosen
+/// MAPs, and the journal of all that it answered. A call that is refused leaves it as it was.
 #[derive(Drop)]
 pub struct Channel {
     alloc: Global,
@@ -31,6 +35,7 @@ pub struct Channel {
     fields: HeapCircularBuffer<Octets>,
     reassembler: Reassembler,
     queues: Vec<HeldQueue>,
+    units: Vec<HeldQueue>,
     journal: Vec<Event>,
 }
 
@@ -43,7 +48,7 @@ impl Model for Channel {
 
     ghost view = { λ c. record { settings = c.settings; journal = c.journal.items } };
 
-    ghost invariant = { λ c. Holds c.settings c.journal.items (record { farm = c.farm; ring = c.fields; open_runs = c.reassembler; rings = c.queues.items }) };
+    ghost invariant = { λ c. Holds c.settings c.journal.items (record { farm = c.farm; ring = c.fields; open_runs = c.reassembler; rings = c.queues.items; unit_rings = c.units.items }) };
 }
 
 impl Channel {
@@ -62,8 +67,8 @@ impl Channel {
     }
 
     /// Takes a frame in, of whatever virtual channel. An accepted AD data field is buffered; of an accepted BD data field
-    /// the packets of the unit that it ends are queued at once. It copies the octets for the journal, an accepted AD data
-    /// field for the buffer, and each packet that is queued.
+    /// the unit that it ends is queued at once: whole where its MAP is chosen, else its packets. It copies the octets for the
+    /// journal, an accepted AD data field for the buffer, and each packet that is queued; a whole unit is moved.
     pub fn frame(&mut self, frame: &Frame) -> Result<FrameReply, NoMemory>
         ensures allowed { IsAllowed self.old.settings }
         ensures lawful { IsLawful self.old.settings self.old.journal }
@@ -79,11 +84,19 @@ impl Channel {
         let octets = Octets::copied(self.alloc, frame.octets())?;
         self.journal.reserve(1)?;
         let buffered = copy_for_buffer(self.alloc, &act, field)?;
-        let planned = plan_bypass(self.alloc, &self.reassembler, &self.queues, kind, field)?;
+        let planned = plan_bypass(
+            self.alloc,
+            &self.reassembler,
+            &self.queues,
+            &self.units,
+            kind,
+            field,
+        )?;
         pass_bypass(&mut self.reassembler, kind, field)?;
         self.farm = farm;
         put_field(&mut self.fields, buffered);
         put_copies(&mut self.queues, planned.copies);
+        put_unit(&mut self.units, planned.unit);
         self.journal.push_reserved(Event::Frame(octets));
         Ok(FrameReply {
             act,
@@ -91,8 +104,9 @@ impl Channel {
         })
     }
 
-    /// Lets the oldest data field out of the buffer, and queues the packets of the unit that it ends. It makes that unit (a
-    /// plain field is one as it stands), the list of its packets and a copy of each that is queued.
+    /// Lets the oldest data field out of the buffer, and queues the unit that it ends: whole where its MAP is chosen, else its
+    /// packets. It makes that unit (a plain field is one as it stands) and, where it isn't queued whole, the list of its packets
+    /// and a copy of each that is queued.
     pub fn release(&mut self) -> Result<Delivery, ReleaseFault>
         ensures allowed { IsAllowed self.old.settings }
         ensures lawful { IsLawful self.old.settings self.old.journal }
@@ -105,10 +119,17 @@ impl Channel {
             return Err(ReleaseFault::Empty);
         }
         self.journal.reserve(1)?;
-        let planned = plan_oldest(self.alloc, &self.reassembler, &self.queues, &self.fields)?;
+        let planned = plan_oldest(
+            self.alloc,
+            &self.reassembler,
+            &self.queues,
+            &self.units,
+            &self.fields,
+        )?;
         pass_oldest(&mut self.reassembler, &self.fields)?;
         self.fields.pop_front();
         put_copies(&mut self.queues, planned.copies);
+        put_unit(&mut self.units, planned.unit);
         self.farm.step(Arrival::Release);
         self.journal.push_reserved(Event::Release);
         Ok(planned.delivery)
@@ -124,14 +145,23 @@ impl Channel {
         ensures done { OnOk result (self.new ≡ with_event self.old (Event.Take apid)) }
         ensures refused { OnErr result (self.new ≡ self.old) }
     {
-        let waiting = self.waiting(apid).ok_or(TakeFault::NoQueue)?;
-        if waiting.is_empty() {
-            return Err(TakeFault::Empty);
-        }
-        self.journal.reserve(1)?;
-        let packet = pop(&mut self.queues, apid).unwrap();
-        self.journal.push_reserved(Event::Take(apid));
+        let packet = take_oldest(&mut self.queues, &mut self.journal, apid, Event::Take(apid))?;
         Ok(packet.into_vec())
+    }
+
+    /// Takes the oldest unit out of the queue of this chosen MAP. The unit is moved, not copied; the journal alone may grow.
+    pub fn take_unit(&mut self, map: u8) -> Result<Vec<u8>, TakeUnitFault>
+        ensures allowed { IsAllowed self.old.settings }
+        ensures lawful { IsLawful self.old.settings self.old.journal }
+        ensures no_map { IsErrOf result TakeUnitFault.NoMap ↔ (waiting_units self.old.settings self.old.journal map ≡ None) }
+        ensures empty { IsErrOf result TakeUnitFault.Empty ↔ (waiting_units self.old.settings self.old.journal map ≡ Some []) }
+        ensures reply { IfOk result (λ unit. unit_reply self.old.settings self.old.journal map ≡ Some unit.items) }
+        ensures done { OnOk result (self.new ≡ with_event self.old (Event.TakeUnit map)) }
+        ensures refused { OnErr result (self.new ≡ self.old) }
+    {
+        let event = Event::TakeUnit(map);
+        let unit = take_oldest(&mut self.units, &mut self.journal, map as u16, event)?;
+        Ok(unit.into_vec())
     }
 
     /// FARM-1's components.
@@ -176,16 +206,16 @@ impl Channel {
         ensures allowed { IsAllowed self.now.settings }
         ensures lawful { IsLawful self.now.settings self.now.journal }
     {
-        Some(self.waiting(apid)?.len())
+        Some(find(&self.queues, apid)?.ring.len())
     }
 
-    // The packets that wait in the queue with this APID.
-    fn waiting(&self, apid: u16) -> Option<&HeapCircularBuffer<Octets>>
-        ensures packets { option_map (λ ring. ring.items) (option_copied result) ≡ waiting_packets self.now.settings self.now.journal apid }
+    /// How many units wait in the queue of this MAP, if it is chosen.
+    pub fn units(&self, map: u8) -> Option<usize>
+        ensures count { result ≡ option_map length (waiting_units self.now.settings self.now.journal map) }
         ensures allowed { IsAllowed self.now.settings }
         ensures lawful { IsLawful self.now.settings self.now.journal }
     {
-        Some(&find(&self.queues, apid)?.ring)
+        Some(find(&self.units, map as u16)?.ring.len())
     }
 
     /// The events so far, the oldest first.
@@ -217,6 +247,7 @@ fn start(alloc: Global, settings: Settings) -> Result<Channel, NoMemory>
     let fields = HeapCircularBuffer::with_capacity(alloc, settings.buffer as usize)?;
     let reassembler = Reassembler::new(alloc, settings.segmented)?;
     let queues = empty_queues(alloc, settings.queues.as_slice())?;
+    let units = empty_unit_queues(alloc, settings.maps.as_slice())?;
     Ok(Channel {
         alloc,
         farm: Farm::new(window, settings.first),
@@ -224,8 +255,33 @@ fn start(alloc: Global, settings: Settings) -> Result<Channel, NoMemory>
         fields,
         reassembler,
         queues,
+        units,
         journal: Vec::new(alloc),
     })
+}
+
+// Takes the oldest item out of the queue with this key, and journals that as this event.
+fn take_oldest(
+    queues: &mut Vec<HeldQueue>,
+    journal: &mut Vec<Event>,
+    key: u16,
+    event: Event,
+) -> Result<Octets, TakeFault>
+    ensures no_queue { IsErrOf result TakeFault.NoQueue ↔ (items_for key queues.old.items ≡ None) }
+    ensures empty { IsErrOf result TakeFault.Empty ↔ (items_for key queues.old.items ≡ Some []) }
+    ensures item { IfOk result (λ item. option_and_then (λ items. slice_get items 0) (items_for key queues.old.items) ≡ Some item) }
+    ensures queues { OnOk result (queues.new.items ≡ popped key queues.old.items) }
+    ensures journal { OnOk result (journal.new.items ≡ journal.old.items ++ event ∷ []) }
+    ensures refused { OnErr result ((queues.new ≡ queues.old) × (journal.new.items ≡ journal.old.items)) }
+{
+    let waiting = find(queues, key).ok_or(TakeFault::NoQueue)?;
+    if waiting.ring.is_empty() {
+        return Err(TakeFault::Empty);
+    }
+    journal.reserve(1)?;
+    let item = pop(queues, key).unwrap();
+    journal.push_reserved(event);
+    Ok(item)
 }
 
 // The data field of an accepted AD frame, copied.
@@ -294,15 +350,17 @@ fn plan_bypass(
     alloc: Global,
     reassembler: &Reassembler,
     queues: &[HeldQueue],
+    units: &[HeldQueue],
     kind: Kind,
     field: &[u8],
 ) -> Result<Planned, NoMemory>
     requires field { 0 < length field.now }
     requires distinct { AreDistinct (keys_of queues.now) }
-    ensures { IfOk result (λ p. (unit : Option (List ℕ)) × EndsAtOnce kind reassembler.now field.now unit × IsPlanned unit queues.now p) }
+    requires units_distinct { AreDistinct (keys_of units.now) }
+    ensures { IfOk result (λ p. (unit : Option (List ℕ)) × EndsAtOnce kind reassembler.now field.now unit × IsPlanned (map_of field.now) unit queues.now units.now p) }
 {
     match kind {
-        Kind::Bd => plan(alloc, reassembler, queues, Service::Bd, field),
+        Kind::Bd => plan(alloc, reassembler, queues, units, Service::Bd, field),
         Kind::Ad(_) => Ok(plan_nothing(alloc)),
         Kind::Bc(_) => Ok(plan_nothing(alloc)),
         Kind::Invalid => Ok(plan_nothing(alloc)),
@@ -314,15 +372,24 @@ fn plan_oldest(
     alloc: Global,
     reassembler: &Reassembler,
     queues: &[HeldQueue],
+    units: &[HeldQueue],
     fields: &HeapCircularBuffer<Octets>,
 ) -> Result<Planned, NoMemory>
     requires some { 0 < length fields.now.items }
     requires octets { 0 < length (first_of fields.now.items) }
     requires distinct { AreDistinct (keys_of queues.now) }
-    ensures { IfOk result (λ p. (unit : Option (List ℕ)) × Ends reassembler.now Service.Ad (first_of fields.now.items) unit × IsPlanned unit queues.now p) }
+    requires units_distinct { AreDistinct (keys_of units.now) }
+    ensures { IfOk result (λ p. (unit : Option (List ℕ)) × Ends reassembler.now Service.Ad (first_of fields.now.items) unit × IsPlanned (map_of (first_of fields.now.items)) unit queues.now units.now p) }
 {
     match fields.front() {
-        Some(field) => plan(alloc, reassembler, queues, Service::Ad, field.as_slice()),
+        Some(field) => plan(
+            alloc,
+            reassembler,
+            queues,
+            units,
+            Service::Ad,
+            field.as_slice(),
+        ),
         None => Ok(plan_nothing(alloc)),
     }
 }

@@ -11,4 +11,6 @@ pub enum Event {
     Release,
     /// The oldest packet of the queue with this APID was taken.
     Take(u16),
+    /// The oldest unit of this chosen MAP was taken.
+    TakeUnit(u8),
 }

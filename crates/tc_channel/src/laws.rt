@@ -1,20 +1,20 @@
 //! Laws over the definitions.
 
-ghost use Rattle.std.specs.Prelude.{List, ℕ, ◌≡◌, ◌≤◌, ◌<◌, ◌+◌, ◌^◌, ◌++◌, ◌↔◌, Option, Some, None, false, length};
-ghost use Rattle.tc_channel.specs.ChannelState.{Queue, buffer};
+ghost use Rattle.std.specs.Prelude.{List, ℕ, ◌≡◌, ◌≤◌, ◌<◌, ◌+◌, ◌^◌, ◌++◌, ◌↔◌, Option, Some, None, false, [], ◌∷◌, ◌≢◌, if◌then◌else◌, IsTrue, length};
+ghost use Rattle.tc_channel.specs.ChannelState.{ChannelState, Queue, buffer};
 ghost use Rattle.std.specs.List.{AllByRecursion, Contains};
 ghost use Rattle.tc_link.specs.Frame.{IsWhole};
 ghost use Rattle.tc_link.specs.declared.Link.{Link};
 ghost use Rattle.tc_packet.specs.declared.Service.{Service};
 ghost use Rattle.tc_packet.specs.Reassembly.{largest_unit, run_left, stream};
-ghost use Rattle.tc_channel.specs.Admission.{is_for, packets_in, share_of};
+ghost use Rattle.tc_channel.specs.Admission.{is_chosen, is_for, is_of_map, packets_offered, units_offered, share_of, with_share};
 ghost use Rattle.tc_channel.specs.Reply.{clcw, delivery_of};
 ghost use Rattle.tc_channel.specs.declared.settings.Settings.{Settings};
 ghost use Rattle.tc_channel.specs.declared.event.Event.{Event};
 ghost use Rattle.tc_channel.specs.declared.settings.SettingsFault.{SettingsFault};
 ghost use Rattle.tc_channel.specs.Settings.{IsAllowed, IsFault};
-ghost use Rattle.tc_channel.specs.Run.{run, run_from, unit_of, HasStep, IsLawful, AreSteps};
-ghost use Rattle.tc_channel.specs.Laws.{IsSound, KeepsToItsCapacity, Grows};
+ghost use Rattle.tc_channel.specs.Run.{run, run_from, unit_of, passed_on, HasStep, IsLawful, AreSteps};
+ghost use Rattle.tc_channel.specs.Laws.{IsSound, KeepsToItsCapacity, Grows, IsOfChosenMap, has_room_for_one};
 ghost use Rattle.tc_channel.specs.Era.{IsEra, CountsUpInItsEra};
 
 use tc_packet::a_plain_field_is_a_unit_by_itself;
@@ -47,7 +47,26 @@ pub fn accepted_frames_count_up()
 
 /// No queue ever holds more than its capacity, or gives more than it was given.
 pub fn queues_keep_to_their_capacity()
-    ensures { (s : Settings) (journal : List Event) → AllByRecursion KeepsToItsCapacity (run s journal).queues }
+    ensures queues { (s : Settings) (journal : List Event) → AllByRecursion KeepsToItsCapacity (run s journal).queues }
+    ensures units { (s : Settings) (journal : List Event) → AllByRecursion KeepsToItsCapacity (run s journal).units }
+{}
+
+/// The chosen MAPs are those of the settings, whatever comes.
+pub fn chosen_maps_stay()
+    ensures { (s : Settings) (journal : List Event) (field : List ℕ) → IsTrue (is_chosen (run s journal) field) ↔ IsOfChosenMap s field }
+{}
+
+/// A unit of a chosen MAP is appended whole to the queue of its MAP where that has room, else it is dropped; the queues of other
+/// MAPs stay.
+pub fn a_unit_is_kept_where_its_queue_has_room()
+    ensures kept { (q : Queue) (unit : List ℕ) → with_share (is_of_map q.key) (unit ∷ []) q ≡ (if has_room_for_one q then record q { admitted = q.admitted ++ unit ∷ [] } else q) }
+    ensures others { (q : Queue) (map_id : ℕ) (unit : List ℕ) → q.key ≢ map_id → with_share (is_of_map map_id) (unit ∷ []) q ≡ q }
+{}
+
+/// A data field of a chosen MAP gives no application a packet, and one of another MAP gives no unit queue a unit.
+pub fn a_unit_is_delivered_whole_or_by_packets()
+    ensures whole { (state : ChannelState) (service : Service) (field : List ℕ) → IsTrue (is_chosen state field) → (passed_on service field state).queues ≡ state.queues }
+    ensures by_packets { (state : ChannelState) (service : Service) (field : List ℕ) → ¬ IsTrue (is_chosen state field) → (passed_on service field state).units ≡ state.units }
 {}
 
 /// The run of a longer journal begins with the run of its beginning: it goes on from there, and nothing is cut.
@@ -64,9 +83,12 @@ pub fn buffer_keeps_to_its_size()
 {}
 
 /// Where settings are allowed, of the packets that a unit is cut into the queued and the dropped are together as many as there
-/// are. Queues that are given the same packet have the same APID, which is their key.
+/// are; a unit of a chosen MAP is queued whole or dropped whole. Queues that are given the same packet have the same APID, which
+/// is their key.
 pub fn each_packet_is_queued_or_dropped()
-    ensures count { (s : Settings) (journal : List Event) (unit : Option (List ℕ)) → IsAllowed s → (delivery_of unit (run s journal).queues).queued + (delivery_of unit (run s journal).queues).dropped ≡ length (packets_in unit) }
+    ensures count { (s : Settings) (journal : List Event) (field : List ℕ) (unit : Option (List ℕ)) → IsAllowed s
+        → (delivery_of field unit (run s journal)).queued + (delivery_of field unit (run s journal)).dropped
+        ≡ length (packets_offered unit (is_chosen (run s journal) field)) + length (units_offered unit (is_chosen (run s journal) field)) }
     ensures apid { (packets : List (List ℕ)) (one other : Queue) (packet : List ℕ) → Contains (share_of is_for packets one) packet → Contains (share_of is_for packets other) packet → one.key ≡ other.key }
 {}
 

@@ -1,26 +1,26 @@
 //! The queues of a channel.
 
-ghost use Rattle.std.specs.Prelude.{ℕ, List, ◌<◌, ◌≤◌, ◌≡◌, ◌++◌, length, map, IfOk, OnOk, slice_get, Some, None, Option};
+ghost use Rattle.std.specs.Prelude.{ℕ, List, [], ◌∷◌, ◌<◌, ◌≤◌, ◌≡◌, ◌++◌, length, map, IfOk, OnOk, slice_get, is_some, Some, None, Option};
 ghost use Rattle.std.specs.List.{AllByRecursion};
 ghost use Rattle.std.specs.Option.{option_and_then, option_copied};
 ghost use Rattle.tc_packet.specs.PacketFields.{HasFields, octets_of};
 ghost use Rattle.tc_packet.specs.Reassembly.{bounded};
-ghost use Rattle.tc_channel.specs.ChannelState.{empty_queue};
-ghost use Rattle.tc_channel.specs.Admission.{is_for};
+ghost use Rattle.tc_channel.specs.ChannelState.{queue_with, empty_queue, empty_unit_queue};
+ghost use Rattle.tc_channel.specs.Admission.{is_for, is_of_map, map_of};
 ghost use Rattle.tc_channel.specs.Channel.{Ends};
-ghost use Rattle.tc_channel.specs.HeldQueues.{held, keys_of, AreDistinct, share, copied_to, copies_from, put_all, HavePlaces, queue_for, popped, IsPlanned};
+ghost use Rattle.tc_channel.specs.HeldQueues.{held, keys_of, AreDistinct, share, copied_to, copies_from, put_all, HavePlaces, queue_for, popped, placed, placed_at, IsNothing, IsPlannedByPackets, IsPlannedWhole, IsPlanned};
 
 use crate::items::Octets;
 use crate::reply::{Delivery, NoMemory};
-use crate::settings::QueueSetting;
+use crate::settings::{MapSetting, QueueSetting};
 use circular_buffer::HeapCircularBuffer;
 use std::alloc::{AllocError, Global};
 use tc_packet::{
     LARGEST_UNIT, Packet, Reassembler, Service, cut, each_run_within_the_limit_is_left_by_fields,
-    each_unit_has_one_cut,
+    each_unit_has_one_cut, read_segment,
 };
 
-/// The items that wait in one queue. The key of a packet queue is the APID of its application.
+/// The items that wait in one queue. The key of a packet queue is the APID of its application, that of a unit queue its MAP.
 #[derive(Drop)]
 pub(crate) struct HeldQueue {
     pub(crate) key: u16,
@@ -38,10 +38,19 @@ pub(crate) struct Placed {
 #[derive(Debug, Drop)]
 pub(crate) struct Planned {
     pub(crate) copies: Vec<Placed>,
+    pub(crate) unit: Option<Placed>,
     pub(crate) delivery: Delivery,
 }
 
-/// A queue for each setting, with nothing in it and room for all that it may hold.
+// A queue with nothing in it, and with room for all that it may hold.
+fn empty_with(alloc: Global, key: u16, capacity: u16) -> Result<HeldQueue, AllocError>
+    ensures { IfOk result (λ q. q ≡ held (queue_with key capacity)) }
+{
+    let ring = HeapCircularBuffer::with_capacity(alloc, capacity as usize)?;
+    Ok(HeldQueue { key, ring })
+}
+
+/// A packet queue for each setting.
 pub(crate) fn empty_queues(
     alloc: Global,
     settings: &[QueueSetting],
@@ -50,13 +59,25 @@ pub(crate) fn empty_queues(
 {
     let mut queues = Vec::with_capacity(alloc, settings.len())?;
     for setting in settings {
-        let ring = HeapCircularBuffer::with_capacity(alloc, setting.capacity as usize)?;
-        queues.push_reserved(HeldQueue {
-            key: setting.apid,
-            ring,
-        });
+        let queue = empty_with(alloc, setting.apid, setting.capacity)?;
+        queues.push_reserved(queue);
     }
     Ok(queues)
+}
+
+/// A unit queue for each chosen MAP.
+pub(crate) fn empty_unit_queues(
+    alloc: Global,
+    maps: &[MapSetting],
+) -> Result<Vec<HeldQueue>, AllocError>
+    ensures { IfOk result (λ v. v.items ≡ map held (map empty_unit_queue maps.now)) }
+{
+    let mut units = Vec::with_capacity(alloc, maps.len())?;
+    for chosen in maps {
+        let queue = empty_with(alloc, chosen.map as u16, chosen.capacity)?;
+        units.push_reserved(queue);
+    }
+    Ok(units)
 }
 
 /// The queue with this key.
@@ -69,6 +90,13 @@ pub(crate) fn find(queues: &[HeldQueue], key: u16) -> Option<&HeldQueue>
         }
     }
     None
+}
+
+// Whether there is a queue with this key.
+fn is_there(queues: &[HeldQueue], key: u16) -> bool
+    ensures { result ≡ is_some (queue_for key queues.now) }
+{
+    find(queues, key).is_some()
 }
 
 /// Takes the oldest item out of the queue with this key.
@@ -132,12 +160,26 @@ pub(crate) fn put_copies(queues: &mut Vec<HeldQueue>, copies: Vec<Placed>)
     }
 }
 
+/// Puts a whole unit into its queue.
+pub(crate) fn put_unit(units: &mut Vec<HeldQueue>, unit: Option<Placed>)
+    requires { HavePlaces (length units.old.items) (placed unit) }
+    ensures { units.new.items ≡ put_all units.old.items (placed unit) }
+{
+    match unit {
+        Some(unit) => {
+            units[unit.place].ring.push_back(unit.item);
+        }
+        None => {}
+    }
+}
+
 /// No unit is ended.
 pub(crate) fn plan_nothing(alloc: Global) -> Planned
-    ensures { (queues : List HeldQueue) → IsPlanned None queues result }
+    ensures { IsNothing result }
 {
     Planned {
         copies: Vec::new(alloc),
+        unit: None,
         delivery: Delivery {
             queued: 0,
             dropped: 0,
@@ -147,10 +189,10 @@ pub(crate) fn plan_nothing(alloc: Global) -> Planned
 }
 
 // What becomes of the packets of a unit.
-fn plan_unit(alloc: Global, unit: &[u8], queues: &[HeldQueue]) -> Result<Planned, NoMemory>
+fn plan_packets(alloc: Global, unit: &[u8], queues: &[HeldQueue]) -> Result<Planned, NoMemory>
     requires within { length unit.now ≤ LARGEST_UNIT }
     requires distinct { AreDistinct (keys_of queues.now) }
-    ensures { IfOk result (IsPlanned (Some unit.now) queues.now) }
+    ensures { IfOk result (IsPlannedByPackets (Some unit.now) queues.now) }
 {
     each_unit_has_one_cut();
     let cut = cut(alloc, unit)?;
@@ -162,38 +204,88 @@ fn plan_unit(alloc: Global, unit: &[u8], queues: &[HeldQueue]) -> Result<Planned
         dropped: (packets - queued) as u32,
         rest: !cut.rest.is_empty(),
     };
-    Ok(Planned { copies, delivery })
+    Ok(Planned {
+        copies,
+        unit: None,
+        delivery,
+    })
 }
 
 // What becomes of the packets of a plain field, which is cut where it lies.
 fn plan_plain(alloc: Global, field: &[u8], queues: &[HeldQueue]) -> Result<Planned, NoMemory>
     requires distinct { AreDistinct (keys_of queues.now) }
-    ensures { IfOk result (IsPlanned (bounded field.now) queues.now) }
+    ensures { IfOk result (IsPlannedByPackets (bounded field.now) queues.now) }
 {
     if field.len() > LARGEST_UNIT {
         return Ok(plan_nothing(alloc));
     }
-    plan_unit(alloc, field, queues)
+    plan_packets(alloc, field, queues)
 }
 
-/// What becomes of the packets of the unit that a data field would end.
+// The place of the unit queue of this MAP, where it has room.
+fn place_with_room(units: &[HeldQueue], map: u8) -> Option<usize>
+    requires { AreDistinct (keys_of units.now) }
+    ensures { (unit : List ℕ) → copies_from (is_of_map map) 0 (unit ∷ []) units.now ≡ placed_at result unit }
+{
+    for (place, queue) in units.iter().enumerate() {
+        if queue.key == map as u16 {
+            return if queue.ring.len() < queue.ring.capacity() {
+                Some(place)
+            } else {
+                None
+            };
+        }
+    }
+    None
+}
+
+// What becomes of a unit of a chosen MAP. It is moved, not copied, and dropped where its queue has no room.
+fn plan_whole(alloc: Global, unit: Vec<u8>, units: &[HeldQueue], map: u8) -> Planned
+    requires { AreDistinct (keys_of units.now) }
+    ensures { IsPlannedWhole map unit.items units.now result }
+{
+    let unit = match place_with_room(units, map) {
+        Some(place) => Some(Placed {
+            place,
+            item: Octets::from(unit),
+        }),
+        None => None,
+    };
+    let (queued, dropped) = if unit.is_some() { (1, 0) } else { (0, 1) };
+    Planned {
+        copies: Vec::new(alloc),
+        unit,
+        delivery: Delivery {
+            queued,
+            dropped,
+            rest: false,
+        },
+    }
+}
+
+/// What becomes of the unit that a data field would end.
 pub(crate) fn plan(
     alloc: Global,
     reassembler: &Reassembler,
     queues: &[HeldQueue],
+    units: &[HeldQueue],
     service: Service,
     field: &[u8],
 ) -> Result<Planned, NoMemory>
     requires field { 0 < length field.now }
     requires distinct { AreDistinct (keys_of queues.now) }
-    ensures { IfOk result (λ p. (unit : Option (List ℕ)) × Ends reassembler.now service field.now unit × IsPlanned unit queues.now p) }
+    requires units_distinct { AreDistinct (keys_of units.now) }
+    ensures { IfOk result (λ p. (unit : Option (List ℕ)) × Ends reassembler.now service field.now unit × IsPlanned (map_of field.now) unit queues.now units.now p) }
 {
-    if !reassembler.segmented() {
+    let map = read_segment(field[0]).map;
+    let chosen = is_there(units, map as u16);
+    if !chosen && !reassembler.segmented() {
         return plan_plain(alloc, field, queues);
     }
     each_run_within_the_limit_is_left_by_fields();
     match reassembler.unit_after(service, field)? {
         None => Ok(plan_nothing(alloc)),
-        Some(unit) => plan_unit(alloc, &unit, queues),
+        Some(unit) if chosen => Ok(plan_whole(alloc, unit, units, map)),
+        Some(unit) => plan_packets(alloc, &unit, queues),
     }
 }

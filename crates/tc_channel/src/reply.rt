@@ -8,14 +8,16 @@ use std::alloc::AllocError;
 use tc_link::Act;
 use thiserror::Error;
 
-/// What became of the packets of the unit that a call ended. Where it ended none, the numbers are 0 and `rest` is false.
+/// What became of the unit that a call ended: of its packets or, where its MAP is chosen, of it as a whole. Where it ended none,
+/// the numbers are 0 and `rest` is false.
 #[derive(Clone, Copy, Debug, PartialEq, Eq)]
 pub struct Delivery {
-    /// How many packets were queued.
+    /// How many packets were queued; 1 for a unit that was queued whole.
     pub queued: u32,
-    /// How many packets were dropped: no telecommand, no queue with that APID, or no room in it.
+    /// How many packets were dropped: no telecommand, no queue with that APID, or no room in it; 1 for a whole unit without room
+    /// in its queue.
     pub dropped: u32,
-    /// Whether octets were left after the last packet.
+    /// Whether octets were left after the last packet; never of a whole unit.
     pub rest: bool,
 }
 
@@ -47,6 +49,17 @@ pub enum ReleaseFault {
 pub enum TakeFault {
     #[error("no queue with that application process identifier")]
     NoQueue,
+    #[error("the queue is empty")]
+    Empty,
+    #[error("no memory")]
+    NoMemory,
+}
+
+/// Why no unit was taken.
+#[derive(Clone, Copy, Debug, PartialEq, Eq, Error)]
+pub enum TakeUnitFault {
+    #[error("no queue for that multiplexer access point")]
+    NoMap,
     #[error("the queue is empty")]
     Empty,
     #[error("no memory")]
@@ -86,5 +99,20 @@ impl From<AllocError> for TakeFault {
 
     fn from(_error: AllocError) -> TakeFault {
         TakeFault::NoMemory
+    }
+}
+
+/// The same fault, of the unit queue of a MAP.
+impl From<TakeFault> for TakeUnitFault {
+    ghost use Rattle.tc_channel.specs.Reply.{unit_fault_of};
+
+    ghost from_gives = { λ fault e. e ≡ unit_fault_of fault };
+
+    fn from(fault: TakeFault) -> TakeUnitFault {
+        match fault {
+            TakeFault::NoQueue => TakeUnitFault::NoMap,
+            TakeFault::Empty => TakeUnitFault::Empty,
+            TakeFault::NoMemory => TakeUnitFault::NoMemory,
+        }
     }
 }

@@ -1,7 +1,7 @@
 //! The settings of a channel.
 
 ghost use Rattle.std.specs.Prelude.{◌≡◌, ◌↔◌, Any, IsTrue, MatchResult};
-ghost use Rattle.tc_channel.specs.Settings.{AreApart};
+ghost use Rattle.tc_channel.specs.Settings.{AreApart, AreMapsApart};
 
 use crate::items::Items;
 use tc_link::Window;
@@ -13,6 +13,15 @@ pub struct QueueSetting {
     /// The application process identifier of its packets, at most 2,046.
     pub apid: u16,
     /// How many packets it holds, 1 to 256.
+    pub capacity: u16,
+}
+
+/// One chosen MAP: units of both services are delivered whole to one queue (the MAP Access Service of CCSDS 232.0-B).
+#[derive(Clone, Copy, Debug, PartialEq, Eq)]
+pub struct MapSetting {
+    /// The multiplexer access point, at most 63.
+    pub map: u8,
+    /// How many units its queue holds, 1 to 256.
     pub capacity: u16,
 }
 
@@ -31,6 +40,8 @@ pub struct Settings {
     pub segmented: bool,
     /// The packet queues, no two with one APID.
     pub queues: Items<QueueSetting>,
+    /// The chosen MAPs, no two the same, and none on a plain channel.
+    pub maps: Items<MapSetting>,
 }
 
 /// Why settings make no channel: the first fault that they have, in this order.
@@ -48,6 +59,14 @@ pub enum SettingsFault {
     DoubleApid,
     #[error("bad queue capacity")]
     BadCapacity,
+    #[error("bad multiplexer access point")]
+    BadMap,
+    #[error("two queues for one multiplexer access point")]
+    DoubleMap,
+    #[error("bad capacity of a unit queue")]
+    BadUnits,
+    #[error("a multiplexer access point without segment headers")]
+    PlainMap,
     #[error("no memory")]
     NoMemory,
 }
@@ -84,6 +103,22 @@ impl Settings {
         {
             return Err(SettingsFault::BadCapacity);
         }
+        if !self.maps.iter().all(|map| map.map <= 63) {
+            return Err(SettingsFault::BadMap);
+        }
+        if !are_maps_apart(&self.maps) {
+            return Err(SettingsFault::DoubleMap);
+        }
+        if !self
+            .maps
+            .iter()
+            .all(|map| map.capacity >= 1 && map.capacity <= 256)
+        {
+            return Err(SettingsFault::BadUnits);
+        }
+        if !self.segmented && !self.maps.is_empty() {
+            return Err(SettingsFault::PlainMap);
+        }
         Ok(())
     }
 }
@@ -101,6 +136,25 @@ fn are_apart(queues: &[QueueSetting]) -> bool
 {
     for (i, queue) in queues.iter().enumerate() {
         if has_apid(&queues[..i], queue.apid) {
+            return false;
+        }
+    }
+    true
+}
+
+// Whether one of the maps is this one.
+fn has_map(maps: &[MapSetting], map: u8) -> bool
+    ensures { IsTrue result ↔ Any (λ m. m.map ≡ map) maps.now }
+{
+    maps.iter().any(|other| other.map == map)
+}
+
+// Whether no two maps are the same.
+fn are_maps_apart(maps: &[MapSetting]) -> bool
+    ensures { IsTrue result ↔ AreMapsApart maps.now }
+{
+    for (i, map) in maps.iter().enumerate() {
+        if has_map(&maps[..i], map.map) {
             return false;
         }
     }

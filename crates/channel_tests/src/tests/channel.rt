@@ -1,12 +1,13 @@
 mod faults;
 mod growth;
+mod maps;
 mod packets;
 
 use std::alloc::{AllocError, Global};
 use std::process::Abort;
 use tc_channel::{
-    Channel, Delivery, Event, FrameReply, Items, NoMemory, Octets, QueueSetting, ReleaseFault,
-    Settings, SettingsFault, TakeFault,
+    Channel, Delivery, Event, FrameReply, Items, MapSetting, NoMemory, Octets, QueueSetting,
+    ReleaseFault, Settings, SettingsFault, TakeFault, TakeUnitFault,
 };
 use tc_link::{Act, Link, read_frame};
 
@@ -17,7 +18,7 @@ const NOTHING: Delivery = Delivery {
     rest: false,
 };
 
-// One packet was queued, and nothing was left.
+// One packet was queued, and nothing was left; or one whole unit was.
 const ONE: Delivery = Delivery {
     queued: 1,
     dropped: 0,
@@ -60,6 +61,7 @@ fn settings(alloc: Global, first: u8) -> Result<Settings, AllocError> {
         first,
         segmented: true,
         queues: Items::from(Vec::from_slice(alloc, &[queue])?),
+        maps: Items::from(Vec::new(alloc)),
     })
 }
 
@@ -70,12 +72,17 @@ enum Step<'a> {
     Ad(u8, Act),
     // A frame with fill, and the octets that are kept of it.
     Filled(&'a [u8], &'a [u8], Act),
+    // A frame without fill.
+    Frame(&'a [u8], Act, Delivery),
     Release(Result<Delivery, ReleaseFault>),
     Take(u16, Result<&'a [u8], TakeFault>),
+    TakeUnit(u8, Result<&'a [u8], TakeUnitFault>),
     // The word with both link flags 0.
     Clcw(u32),
     // How many fields are buffered, and how many packets wait for APID 5.
     Holds(usize, usize),
+    // How many units of this MAP wait.
+    Units(u8, Option<usize>),
 }
 
 // A channel, and the journal that it must have.
@@ -123,25 +130,40 @@ impl Watched {
         }
     }
 
+    fn take_unit(&mut self, rt: &impl Abort, map: u8, expected: Result<&[u8], TakeUnitFault>) {
+        let answer = self.channel.take_unit(map);
+        assert_eq!(rt; answer.as_deref().ok(), expected.ok());
+        assert_eq!(rt; answer.err(), expected.err());
+        if expected.is_ok() {
+            self.journal
+                .push(Event::TakeUnit(map))
+                .expect(rt, "an answer");
+        }
+    }
+
     fn step(&mut self, rt: &impl Abort, step: Step) {
-        let reply = |act| FrameReply {
-            act,
-            delivery: NOTHING,
-        };
+        let reply = |act, delivery| FrameReply { act, delivery };
         match step {
             Step::Ad(ns, act) => {
                 let octets = ad_frame(ns);
-                self.frame(rt, &octets, &octets, reply(act))
+                self.frame(rt, &octets, &octets, reply(act, NOTHING))
             }
-            Step::Filled(octets, kept, act) => self.frame(rt, octets, kept, reply(act)),
+            Step::Filled(octets, kept, act) => self.frame(rt, octets, kept, reply(act, NOTHING)),
+            Step::Frame(octets, act, delivery) => {
+                self.frame(rt, octets, octets, reply(act, delivery))
+            }
             Step::Release(expected) => self.release(rt, expected),
             Step::Take(apid, expected) => self.take(rt, apid, expected),
+            Step::TakeUnit(map, expected) => self.take_unit(rt, map, expected),
             Step::Clcw(word) => {
                 assert_eq!(rt; self.channel.clcw(NO_FLAG), word);
             }
             Step::Holds(fields, packets) => {
                 assert_eq!(rt; self.channel.buffered(), fields);
                 assert_eq!(rt; self.channel.queued(5), Some(packets));
+            }
+            Step::Units(map, units) => {
+                assert_eq!(rt; self.channel.units(map), units);
             }
         }
     }

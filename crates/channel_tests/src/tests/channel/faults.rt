@@ -1,7 +1,10 @@
 //! Settings that make a channel, settings that make none, and the texts of the faults.
 
 use super::*;
-use SettingsFault::{BadApid, BadBuffer, BadCapacity, BadVcid, BadWindow, DoubleApid};
+use SettingsFault::{
+    BadApid, BadBuffer, BadCapacity, BadMap, BadUnits, BadVcid, BadWindow, DoubleApid, DoubleMap,
+    PlainMap,
+};
 
 fn with_queues(
     alloc: Global,
@@ -21,6 +24,7 @@ fn with_queues(
         first: 0,
         segmented: true,
         queues: Items::from(made),
+        maps: Items::from(Vec::new(alloc)),
     })
 }
 
@@ -63,6 +67,13 @@ fn the_text_of_each_fault(rt: HostRuntime) {
             "two queues for one application process identifier",
         ),
         (BadCapacity, "bad queue capacity"),
+        (BadMap, "bad multiplexer access point"),
+        (DoubleMap, "two queues for one multiplexer access point"),
+        (BadUnits, "bad capacity of a unit queue"),
+        (
+            PlainMap,
+            "a multiplexer access point without segment headers",
+        ),
         (SettingsFault::NoMemory, "no memory"),
     ] {
         assert_eq!(&rt;
@@ -92,6 +103,22 @@ fn the_text_of_each_fault(rt: HostRuntime) {
         ),
         (TakeFault::Empty, "the queue is empty"),
         (TakeFault::NoMemory, "no memory"),
+    ] {
+        assert_eq!(&rt;
+            fault
+                .to_string(rt.alloc())
+                .expect(&rt, "an answer")
+                .as_str(),
+            text
+        );
+    }
+    for (fault, text) in [
+        (
+            TakeUnitFault::NoMap,
+            "no queue for that multiplexer access point",
+        ),
+        (TakeUnitFault::Empty, "the queue is empty"),
+        (TakeUnitFault::NoMemory, "no memory"),
     ] {
         assert_eq!(&rt;
             fault

@@ -11,12 +11,22 @@ fn copied(alloc: Global, octets: &[u8]) -> Result<Octets, AllocError> {
     }
 }
 
-// Room for one field, a queue of capacity 2 for APID 5, and one of capacity 1 for APID 6 and for APID 7.
+// Room for one field, a queue of capacity 2 for APID 5, and one of capacity 1 for APID 6 and for APID 7; with segment headers also
+// a queue of two units of MAP 3.
 fn settings(alloc: Global, segmented: bool) -> Result<Settings, AllocError> {
     let queues = [(5, 2), (6, 1), (7, 1)].map(|(apid, capacity)| QueueSetting { apid, capacity });
     let queues = match Vec::from_slice(alloc, &queues) {
         Ok(queues) => queues,
         Err(_) => Vec::from_slice(alloc, &queues)?,
+    };
+    let map = [MapSetting {
+        map: 3,
+        capacity: 2,
+    }];
+    let chosen = if segmented { map.as_slice() } else { &[] };
+    let maps = match Vec::from_slice(alloc, chosen) {
+        Ok(maps) => maps,
+        Err(_) => Vec::from_slice(alloc, chosen)?,
     };
     Ok(Settings {
         vcid: 1,
@@ -25,6 +35,7 @@ fn settings(alloc: Global, segmented: bool) -> Result<Settings, AllocError> {
         first: 0,
         segmented,
         queues: Items::from(queues),
+        maps: Items::from(maps),
     })
 }
 
@@ -35,6 +46,8 @@ struct Told {
     buffered: usize,
     // For APID 5 and for APID 7.
     queued: [Option<usize>; 2],
+    // Of MAP 3.
+    units: Option<usize>,
 }
 
 // A call of a channel and what it answers.
@@ -44,6 +57,8 @@ enum Call<'a> {
     // Of a unit of this kind.
     Release(&'a str, Delivery),
     Take(u16, &'a [u8]),
+    // Of MAP 3.
+    TakeUnit(&'a [u8]),
     // The CLCW, how many fields are buffered, and how many packets wait for APID 5.
     Compare(u32, usize, usize),
 }
@@ -81,6 +96,7 @@ impl Short {
             report: self.channel.report(),
             buffered: self.channel.buffered(),
             queued: [self.channel.queued(5), self.channel.queued(7)],
+            units: self.channel.units(3),
         }
     }
 
@@ -155,6 +171,22 @@ impl Short {
         assert_eq!(rt; self.channel.journal(), self.journal.as_slice());
     }
 
+    fn take_unit(&mut self, rt: &(impl Abort + Print), unit: &[u8]) {
+        let told = self.told();
+        let answer = match self.channel.take_unit(3) {
+            Ok(answer) => answer,
+            Err(fault) => {
+                let _ = println!(rt; "refused: take_unit");
+                assert_eq!(rt; fault, TakeUnitFault::NoMemory);
+                self.check(rt, told);
+                self.channel.take_unit(3).expect(rt, "an answer")
+            }
+        };
+        assert_eq!(rt; answer.as_slice(), unit);
+        self.note(Event::TakeUnit(3)).expect(rt, "an answer");
+        assert_eq!(rt; self.channel.journal(), self.journal.as_slice());
+    }
+
     // Each call in turn.
     fn play(&mut self, rt: &(impl Abort + Print), calls: &[Call]) {
         for call in calls {
@@ -162,6 +194,7 @@ impl Short {
                 Call::Frame(octets, act, delivery) => self.frame(rt, octets, act, delivery),
                 Call::Release(unit, delivery) => self.release(rt, unit, delivery),
                 Call::Take(apid, packet) => self.take(rt, apid, packet),
+                Call::TakeUnit(unit) => self.take_unit(rt, unit),
                 Call::Compare(word, fields, packets) => self.compare(rt, word, fields, packets),
             }
         }
@@ -274,4 +307,40 @@ fn growth_of_a_plain_channel(rt: HostRuntime) {
         Call::Compare(0x01040201, 0, 0),
     ];
     Short::new(&rt, rt.alloc(), false).play(&rt, &calls)
+}
+
+// A unit of MAP 3 in a BD frame, and one in two AD frames.
+const WHOLE_BD: [u8; 8] = [0x20, 0x2a, 0x04, 0x07, 0x00, 0xc3, 0xaa, 0xbb];
+
+const FIRST_AD: [u8; 7] = [0x00, 0x2a, 0x04, 0x06, 0x00, 0x43, 0xcc];
+
+const LAST_AD: [u8; 7] = [0x00, 0x2a, 0x04, 0x06, 0x01, 0x83, 0xdd];
+
+#[test]
+fn growth_of_units_of_a_chosen_map(rt: HostRuntime) {
+    let calls = [
+        Call::Frame(&WHOLE_BD, accepted(6), ONE),
+        Call::Frame(&FIRST_AD, accepted(1), NOTHING),
+        Call::Release("first segment of a chosen MAP", NOTHING),
+        Call::Frame(&LAST_AD, accepted(1), NOTHING),
+        Call::Release("two segments of a chosen MAP", ONE),
+        Call::Compare(0x01040202, 0, 0),
+        Call::TakeUnit(&[0xaa, 0xbb]),
+        Call::TakeUnit(&[0xcc, 0xdd]),
+        Call::Compare(0x01040202, 0, 0),
+    ];
+    Short::new(&rt, rt.alloc(), true).play(&rt, &calls)
+}
+
+// So many frames that are discarded come before, so that the journal grows in a take of a unit once.
+#[test]
+fn growth_of_a_take_of_a_unit(rt: HostRuntime) {
+    for earlier in 0..4 {
+        let mut short = Short::new(&rt, rt.alloc(), true);
+        for _ in 0..earlier {
+            short.frame(&rt, &ad_frame(0xff), discarded(4), NOTHING);
+        }
+        short.frame(&rt, &WHOLE_BD, accepted(6), ONE);
+        short.take_unit(&rt, &[0xaa, 0xbb]);
+    }
 }

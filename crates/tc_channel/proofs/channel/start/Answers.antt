@@ -13,5 +13,6 @@ invariant_of-result c = rw c.new-4.ensures.items (record {
   capacity = ap (λ b. b.capacity) c.in_ok-fields.ensures;
   runs = none-open c.in_ok-reassembler.reassembler _ 128 c.in_ok-reassembler.ensures (omega arith);
   queues = rw c.as_slice.ensures at c.in_ok-queues.ensures;
+  units = rw c.as_slice-2.ensures at c.in_ok-units.ensures;
   fields = ap (λ b. b.items) c.in_ok-fields.ensures;
 })

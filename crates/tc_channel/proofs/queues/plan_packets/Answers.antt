@@ -6,7 +6,7 @@ use Rattle.tc_packet.specs.declared.Packet.{Packet}
 use Rattle.tc_channel.specs.Admission.{is_for}
 use Rattle.tc_channel.specs.HeldQueues.{copies_from}
 use Rattle.tc_channel.proofs.Counted.{copies-within}
-use Rattle.tc_channel.proofs.queues.plan_unit.Goals as goal
+use Rattle.tc_channel.proofs.queues.plan_packets.Goals as goal
 
 pub overflow_cast-delivery : goal.overflow_cast-delivery
 overflow_cast-delivery c =
