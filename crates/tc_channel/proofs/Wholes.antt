@@ -3,10 +3,12 @@ use Rattle.std.proofs.Common.{◌≡◌, ◌≢◌, ℕ, zero, suc, ◌+◌, ◌
 use Rattle.std.specs.List.{AllByRecursion}
 use Rattle.std.proofs.lemmas.Bool.{eq-eqb, ne_eqb}
 use Rattle.std.proofs.lemmas.List.{append-nil}
-use Rattle.tc_channel.specs.Admission.{is_for, is_of_map, units_offered}
+use Rattle.tc_channel.specs.Admission.{map_of, is_for, is_of_map, units_offered}
 use Rattle.tc_channel.specs.HeldQueues.{keys_of, AreDistinct, share, copied_to, copies_from, queue_for, placed, IsNothing, IsPlannedByPackets, IsPlannedWhole, IsPlanned}
 use Rattle.std.specs.Prelude.{Option, Some, None, is_some}
 use Rattle.tc_channel.proofs.Copies.{copies-none}
+use Rattle.tc_packet.specs.declared.segment.Segment.{Segment}
+use Rattle.tc_packet.specs.Segment.{header_of}
 use Rattle.tc_channel.specs.declared.queues.Planned.{Planned}
 use Rattle.tc_channel.specs.declared.queues.HeldQueue.{HeldQueue}
 
@@ -49,6 +51,10 @@ takes-one m place i u ws q apart lt is same room = one-takes m place i u ws q ap
 pub takes-none : (m place i : ℕ) (u : List ℕ) (ws : List HeldQueue) (q : HeldQueue) → AreDistinct (keys_of ws) → i < length ws → q ≡ get_or ws i q → q.key ≡ m → q.ring.capacity ≤ length q.ring.items
     → copies_from (is_of_map m) place (u ∷ []) (drop i ws) ≡ []
 takes-none m place i u ws q apart lt is same full = one-takes m place i u ws q apart lt is same ∙ ap (map (copied_to place)) (share-full m u q full)
+
+-- the MAP that was read is the field's
+pub map-is : (field : List ℕ) (segment : Segment) → segment ≡ header_of field → segment.map ≡ map_of field
+map-is field segment is = ap (λ (x : Segment). x.map) is
 
 -- nothing is planned where no unit was ended
 pub nothing-planned : (map_id : ℕ) (queues unit_queues : List HeldQueue) (p : Planned) → IsNothing p → IsPlanned map_id None queues unit_queues p

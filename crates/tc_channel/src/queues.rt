@@ -16,8 +16,8 @@ use crate::settings::{MapSetting, QueueSetting};
 use circular_buffer::HeapCircularBuffer;
 use std::alloc::{AllocError, Global};
 use tc_packet::{
-    LARGEST_UNIT, Packet, Reassembler, Service, cut, each_run_within_the_limit_is_left_by_fields,
-    each_unit_has_one_cut, read_segment,
+    LARGEST_UNIT, Packet, Part, Reassembler, Service, cut,
+    each_run_within_the_limit_is_left_by_fields, each_unit_has_one_cut, read_segment,
 };
 
 /// The items that wait in one queue. The key of a packet queue is the APID of its application, that of a unit queue its MAP.
@@ -211,15 +211,41 @@ fn plan_packets(alloc: Global, unit: &[u8], queues: &[HeldQueue]) -> Result<Plan
     })
 }
 
-// What becomes of the packets of a plain field, which is cut where it lies.
-fn plan_plain(alloc: Global, field: &[u8], queues: &[HeldQueue]) -> Result<Planned, NoMemory>
+// What becomes of the packets of octets that are a unit by themselves, within the limit. They are cut where they lie.
+fn plan_lying(alloc: Global, octets: &[u8], queues: &[HeldQueue]) -> Result<Planned, NoMemory>
     requires distinct { AreDistinct (keys_of queues.now) }
-    ensures { IfOk result (IsPlannedByPackets (bounded field.now) queues.now) }
+    ensures { IfOk result (IsPlannedByPackets (bounded octets.now) queues.now) }
 {
-    if field.len() > LARGEST_UNIT {
+    if octets.len() > LARGEST_UNIT {
         return Ok(plan_nothing(alloc));
     }
-    plan_packets(alloc, field, queues)
+    plan_packets(alloc, octets, queues)
+}
+
+// What becomes of the packets of the unit that a data field would end. A unit of several segments is made for it; a plain
+// field and the body of an unsegmented one are units as they stand.
+fn plan_cut(
+    alloc: Global,
+    reassembler: &Reassembler,
+    queues: &[HeldQueue],
+    service: Service,
+    field: &[u8],
+) -> Result<Planned, NoMemory>
+    requires field { 0 < length field.now }
+    requires distinct { AreDistinct (keys_of queues.now) }
+    ensures { IfOk result (λ p. (unit : Option (List ℕ)) × Ends reassembler.now service field.now unit × IsPlannedByPackets unit queues.now p) }
+{
+    if !reassembler.segmented() {
+        return plan_lying(alloc, field, queues);
+    }
+    if read_segment(field[0]).part == Part::Unsegmented {
+        return plan_lying(alloc, &field[1..], queues);
+    }
+    each_run_within_the_limit_is_left_by_fields();
+    match reassembler.unit_after(service, field)? {
+        None => Ok(plan_nothing(alloc)),
+        Some(unit) => plan_packets(alloc, &unit, queues),
+    }
 }
 
 // The place of the unit queue of this MAP, where it has room.
@@ -278,14 +304,11 @@ pub(crate) fn plan(
     ensures { IfOk result (λ p. (unit : Option (List ℕ)) × Ends reassembler.now service field.now unit × IsPlanned (map_of field.now) unit queues.now units.now p) }
 {
     let map = read_segment(field[0]).map;
-    let chosen = is_there(units, map as u16);
-    if !chosen && !reassembler.segmented() {
-        return plan_plain(alloc, field, queues);
+    if !is_there(units, map as u16) {
+        return plan_cut(alloc, reassembler, queues, service, field);
     }
-    each_run_within_the_limit_is_left_by_fields();
     match reassembler.unit_after(service, field)? {
         None => Ok(plan_nothing(alloc)),
-        Some(unit) if chosen => Ok(plan_whole(alloc, unit, units, map)),
-        Some(unit) => plan_packets(alloc, &unit, queues),
+        Some(unit) => Ok(plan_whole(alloc, unit, units, map)),
     }
 }
