@@ -105,8 +105,8 @@ impl Channel {
     }
 
     /// Lets the oldest data field out of the buffer, and queues the unit that it ends: whole where its MAP is chosen, else its
-    /// packets. It makes that unit (a plain field is one as it stands) and, where it isn't queued whole, the list of its packets
-    /// and a copy of each that is queued.
+    /// packets. It makes that unit where it is of several segments or queued whole; where it isn't queued whole, also the list of
+    /// its packets and a copy of each that is queued.
     pub fn release(&mut self) -> Result<Delivery, ReleaseFault>
         ensures allowed { IsAllowed self.old.settings }
         ensures lawful { IsLawful self.old.settings self.old.journal }
