@@ -40,7 +40,7 @@ view h = record { live = true; seen = h; told = h }
 
 -- a history that stands where none is meant
 abbrev pub nothing : History
-nothing = record { settings = record { vcid = 0; width = 0; buffer = 0; first = 0; segmented = true; queues = [] }; journal = [] }
+nothing = record { settings = record { vcid = 0; width = 0; buffer = 0; first = 0; segmented = true; queues = []; maps = [] }; journal = [] }
 
 -- what a seat leaves that was joined to another
 abbrev pub spent : View
