@@ -12,10 +12,10 @@ use Rattle.tc_station.specs.Roster.{Roster}
 use Rattle.tc_station.specs.Tally.{Tally, counted, raised}
 use Rattle.tc_station.specs.Lowest.{lower}
 use Rattle.tc_station.specs.declared.work.Order.{Order}
-use Rattle.tc_station.specs.declared.work.Order.TheVariants.{Bring, Release, Take}
+use Rattle.tc_station.specs.declared.work.Order.TheVariants.{Bring, Release, Take, TakeUnit}
 use Rattle.tc_station.specs.declared.work.Job.{Job}
 use Rattle.tc_station.specs.declared.work.WorkList.{WorkList}
-use Rattle.tc_station.specs.Work.{IsDone, AreDone, IsWorked, Shift, IsShift, IsTallyOf, AreWorked, lowest, brings_to, is_other, IsRaised, NoCountFalls}
+use Rattle.tc_station.specs.Work.{IsTried, IsDone, AreDone, IsWorked, Shift, IsShift, IsTallyOf, AreWorked, lowest, brings_to, is_other, IsRaised, NoCountFalls}
 use Rattle.tc_station.proofs.Counts.{Between, between-both, between-none, between-one, between-other, raised-length, raised-here, raised-else, rises, for-located, for-nobody}
 
 -- one job more
@@ -29,13 +29,16 @@ one-more station vcid jobs i job a b c lt is done here =
     let more : take (i + 1) jobs ≡ take i jobs ++ job ∷ [] = take_more jobs i job lt ∙ ap (λ x. take i jobs ++ x ∷ []) (sym is) in
     subst (λ js. AreDone station vcid js a c) (sym more) (snoc station vcid (take i jobs) job a b c done here)
 
+tried-vcids : (vcid : ℕ) (a b : Tally) → IsTried vcid a b → b.vcids ≡ a.vcids
+tried-vcids vcid a b (inl d) = ap (λ t. t.vcids) d
+tried-vcids vcid a b (inr d) = ap (λ t. t.vcids) d
+
 pub same-vcids : (station : Roster) (vcid : ℕ) (order : Order) (a b : Tally) → IsDone station vcid order a b → b.vcids ≡ a.vcids
 same-vcids station vcid (Bring octets) a b (inl d) = ap (λ t. t.vcids) d.3
 same-vcids station vcid (Bring octets) a b (inr d) = ap (λ t. t.vcids) d.2
-same-vcids station vcid Release a b (inl d) = ap (λ t. t.vcids) d
-same-vcids station vcid Release a b (inr d) = ap (λ t. t.vcids) d
-same-vcids station vcid (Take apid) a b (inl d) = ap (λ t. t.vcids) d
-same-vcids station vcid (Take apid) a b (inr d) = ap (λ t. t.vcids) d
+same-vcids station vcid Release a b d = tried-vcids vcid a b d
+same-vcids station vcid (Take apid) a b d = tried-vcids vcid a b d
+same-vcids station vcid (TakeUnit map_id) a b d = tried-vcids vcid a b d
 
 -- two parts of the lists
 lower-three : (a b c : Option ℕ) → lower a (lower b c) ≡ lower (lower a b) c
@@ -84,13 +87,16 @@ moved-worked station fl gl a b fo go z w p q r = (w.0, w.1 ∙ p, w.2 ∙ r, w.3
 tally-counted : (station : Roster) (u : ℕ) (a : Tally) → IsTallyOf station a → IsTallyOf station (counted u a)
 tally-counted station u a f = record { vcids = f.vcids; counts = raised-length (position (λ w. w == u) a.vcids) a.counts ∙ f.counts }
 
+tried-kept : (station : Roster) (vcid : ℕ) (a b : Tally) → IsTried vcid a b → IsTallyOf station a → IsTallyOf station b
+tried-kept station vcid a b (inl d) f = subst (IsTallyOf station) (sym d) (tally-counted station vcid a f)
+tried-kept station vcid a b (inr d) f = subst (IsTallyOf station) (sym d) f
+
 tally-kept : (station : Roster) (vcid : ℕ) (order : Order) (a b : Tally) → IsDone station vcid order a b → IsTallyOf station a → IsTallyOf station b
 tally-kept station vcid (Bring octets) a b (inl d) f = subst (IsTallyOf station) (sym d.3) (tally-counted station d.0 a f)
 tally-kept station vcid (Bring octets) a b (inr d) f = subst (IsTallyOf station) (sym d.2) f
-tally-kept station vcid Release a b (inl d) f = subst (IsTallyOf station) (sym d) (tally-counted station vcid a f)
-tally-kept station vcid Release a b (inr d) f = subst (IsTallyOf station) (sym d) f
-tally-kept station vcid (Take apid) a b (inl d) f = subst (IsTallyOf station) (sym d) (tally-counted station vcid a f)
-tally-kept station vcid (Take apid) a b (inr d) f = subst (IsTallyOf station) (sym d) f
+tally-kept station vcid Release a b d f = tried-kept station vcid a b d f
+tally-kept station vcid (Take apid) a b d f = tried-kept station vcid a b d f
+tally-kept station vcid (TakeUnit map_id) a b d f = tried-kept station vcid a b d f
 
 abbrev IsPlace : Roster → ℕ → ℕ → Type 0
 IsPlace station v place = position (λ w. w == v) station.vcids ≡ Some place
@@ -131,6 +137,14 @@ is-there station v place at = let s = position-Some (λ w. w == v) station.vcids
 abbrev JobRaises : Roster → ℕ → ℕ → Order → ℕ → ℕ → Type 0
 JobRaises station own v order c d = Between (cond (brings_to station v order) 1 0) (cond (is_other own v order) 1 0) c d
 
+-- a job for the list's own channel may raise its count by one, and no other
+tried-step : (station : Roster) (own : ℕ) (a b : Tally) → IsTried own a b → IsTallyOf station a → (v place : ℕ) → IsPlace station v place
+    → Between 0 (cond (own == v) 1 0) (slice_index a.counts place) (slice_index b.counts place)
+tried-step station own a b (inl d) f v place at =
+    subst (λ t. Between 0 (cond (own == v) 1 0) (slice_index a.counts place) (slice_index t.counts place)) (sym d) (other-step station own v place a f at)
+tried-step station own a b (inr d) f v place at =
+    subst (λ t. Between 0 (cond (own == v) 1 0) (slice_index a.counts place) (slice_index t.counts place)) (sym d) (between-none (cond (own == v) 1 0) (slice_index a.counts place))
+
 step : (station : Roster) (own : ℕ) (order : Order) (a b : Tally) → IsDone station own order a b → IsTallyOf station a → (v place : ℕ) → IsPlace station v place
     → JobRaises station own v order (slice_index a.counts place) (slice_index b.counts place)
 step station own (Bring octets) a b (inl d) f v place at =
@@ -139,14 +153,9 @@ step station own (Bring octets) a b (inl d) f v place at =
 step station own (Bring octets) a b (inr d) f v place at =
     subst (λ t. JobRaises station own v (Bring octets) (slice_index a.counts place) (slice_index t.counts place)) (sym d.2)
     (subst (λ t. Between (cond t 1 0) 0 (slice_index a.counts place) (slice_index a.counts place)) (sym (for-nobody station octets d.0 v (is-there station v place at) d.1)) (between-none 0 (slice_index a.counts place)))
-step station own Release a b (inl d) f v place at =
-    subst (λ t. JobRaises station own v Release (slice_index a.counts place) (slice_index t.counts place)) (sym d) (other-step station own v place a f at)
-step station own Release a b (inr d) f v place at =
-    subst (λ t. JobRaises station own v Release (slice_index a.counts place) (slice_index t.counts place)) (sym d) (between-none (cond (own == v) 1 0) (slice_index a.counts place))
-step station own (Take apid) a b (inl d) f v place at =
-    subst (λ t. JobRaises station own v (Take apid) (slice_index a.counts place) (slice_index t.counts place)) (sym d) (other-step station own v place a f at)
-step station own (Take apid) a b (inr d) f v place at =
-    subst (λ t. JobRaises station own v (Take apid) (slice_index a.counts place) (slice_index t.counts place)) (sym d) (between-none (cond (own == v) 1 0) (slice_index a.counts place))
+step station own Release a b d f v place at = tried-step station own a b d f v place at
+step station own (Take apid) a b d f v place at = tried-step station own a b d f v place at
+step station own (TakeUnit map_id) a b d f v place at = tried-step station own a b d f v place at
 
 steps : (station : Roster) (own : ℕ) (jobs : List Job) (a b : Tally) → AreDone station own jobs a b → IsTallyOf station a → (v place : ℕ) → IsPlace station v place
     → Between (count_by (λ (j : Job). brings_to station v j.order) jobs) (count_by (λ (j : Job). is_other own v j.order) jobs) (slice_index a.counts place) (slice_index b.counts place)
@@ -159,13 +168,16 @@ steps station own (j ∷ js) a b done f v place at =
     (subst (λ n. Between (cond (brings_to station v j.order) 1 0 + count_by (λ (i : Job). brings_to station v i.order) js) n (slice_index a.counts place) (slice_index b.counts place)) (sym (sum_by-cons (λ (i : Job). cond (is_other own v i.order) 1 0) j js)) all)
 
 -- no count falls
+tried-rises : (own : ℕ) (a b : Tally) → IsTried own a b → NoCountFalls a b
+tried-rises own a b (inl d) place = subst (λ t. slice_index a.counts place ≤ slice_index t.counts place) (sym d) (rises (position (λ w. w == own) a.vcids) a.counts place)
+tried-rises own a b (inr d) place = subst (λ t. slice_index a.counts place ≤ slice_index t.counts place) (sym d) (omega arith)
+
 one-rises : (station : Roster) (own : ℕ) (order : Order) (a b : Tally) → IsDone station own order a b → NoCountFalls a b
 one-rises station own (Bring octets) a b (inl d) place = subst (λ t. slice_index a.counts place ≤ slice_index t.counts place) (sym d.3) (rises (position (λ w. w == d.0) a.vcids) a.counts place)
 one-rises station own (Bring octets) a b (inr d) place = subst (λ t. slice_index a.counts place ≤ slice_index t.counts place) (sym d.2) (omega arith)
-one-rises station own Release a b (inl d) place = subst (λ t. slice_index a.counts place ≤ slice_index t.counts place) (sym d) (rises (position (λ w. w == own) a.vcids) a.counts place)
-one-rises station own Release a b (inr d) place = subst (λ t. slice_index a.counts place ≤ slice_index t.counts place) (sym d) (omega arith)
-one-rises station own (Take apid) a b (inl d) place = subst (λ t. slice_index a.counts place ≤ slice_index t.counts place) (sym d) (rises (position (λ w. w == own) a.vcids) a.counts place)
-one-rises station own (Take apid) a b (inr d) place = subst (λ t. slice_index a.counts place ≤ slice_index t.counts place) (sym d) (omega arith)
+one-rises station own Release a b d place = tried-rises own a b d place
+one-rises station own (Take apid) a b d place = tried-rises own a b d place
+one-rises station own (TakeUnit map_id) a b d place = tried-rises own a b d place
 
 jobs-rise : (station : Roster) (own : ℕ) (jobs : List Job) (a b : Tally) → AreDone station own jobs a b → NoCountFalls a b
 jobs-rise station own [] a b done place = subst (λ t. slice_index a.counts place ≤ slice_index t.counts place) (sym done) (omega arith)

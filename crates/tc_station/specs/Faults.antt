@@ -1,10 +1,12 @@
 -- When the calls of a station refuse, and what a close hands back.
 use Rattle.std.specs.Prelude.{◌≡◌, ℕ, ◌<◌, ◌≤◌, List, [], length, Contains, Some, None}
-use Rattle.tc_channel.specs.Reply.{buffered_fields, waiting_packets}
+use Rattle.tc_channel.specs.Reply.{buffered_fields, waiting_packets, waiting_units}
 use Rattle.tc_channel.specs.declared.reply.ReleaseFault.{ReleaseFault}
 use Rattle.tc_channel.specs.declared.reply.ReleaseFault.TheVariants as release
 use Rattle.tc_channel.specs.declared.reply.TakeFault.{TakeFault}
 use Rattle.tc_channel.specs.declared.reply.TakeFault.TheVariants as take
+use Rattle.tc_channel.specs.declared.reply.TakeUnitFault.{TakeUnitFault}
+use Rattle.tc_channel.specs.declared.reply.TakeUnitFault.TheVariants as take_unit
 use Rattle.tc_station.specs.Roster.{Roster}
 use Rattle.tc_station.specs.Tally.{Tally}
 use Rattle.tc_station.specs.Balance.{AreInBalance}
@@ -13,6 +15,8 @@ use Rattle.tc_station.specs.declared.faults.ReleaseRefused.{ReleaseRefused}
 use Rattle.tc_station.specs.declared.faults.ReleaseRefused.TheVariants as release_refusals
 use Rattle.tc_station.specs.declared.faults.TakeRefused.{TakeRefused}
 use Rattle.tc_station.specs.declared.faults.TakeRefused.TheVariants as take_refusals
+use Rattle.tc_station.specs.declared.faults.TakeUnitRefused.{TakeUnitRefused}
+use Rattle.tc_station.specs.declared.faults.TakeUnitRefused.TheVariants as take_unit_refusals
 use Rattle.tc_station.specs.declared.faults.WatcherFault.{WatcherFault}
 use Rattle.tc_station.specs.declared.faults.WatcherFault.TheVariants as watcher_faults
 use Rattle.tc_station.specs.declared.faults.CloseFault.{CloseFault}
@@ -28,6 +32,11 @@ take_refused take.NoQueue = take_refusals.NoQueue
 take_refused take.Empty = take_refusals.Empty
 take_refused take.NoMemory = take_refusals.NoMemory
 
+abbrev pub take_unit_refused : TakeUnitFault → TakeUnitRefused
+take_unit_refused take_unit.NoMap = take_unit_refusals.NoMap
+take_unit_refused take_unit.Empty = take_unit_refusals.Empty
+take_unit_refused take_unit.NoMemory = take_unit_refusals.NoMemory
+
 abbrev pub IsReleaseRefused : Roster → ℕ → ReleaseRefused → Type 0
 IsReleaseRefused station vcid release_refusals.UnknownChannel = ¬ Contains station.vcids vcid
 IsReleaseRefused station vcid release_refusals.Empty = Contains station.vcids vcid × AtSomeMomentOf vcid (λ s journal. buffered_fields s journal ≡ [])
@@ -38,6 +47,12 @@ IsTakeRefused station vcid apid take_refusals.UnknownChannel = ¬ Contains stati
 IsTakeRefused station vcid apid take_refusals.NoQueue = Contains station.vcids vcid × AtSomeMomentOf vcid (λ s journal. waiting_packets s journal apid ≡ None)
 IsTakeRefused station vcid apid take_refusals.Empty = Contains station.vcids vcid × AtSomeMomentOf vcid (λ s journal. waiting_packets s journal apid ≡ Some [])
 IsTakeRefused station vcid apid take_refusals.NoMemory = Contains station.vcids vcid
+
+abbrev pub IsTakeUnitRefused : Roster → ℕ → ℕ → TakeUnitRefused → Type 0
+IsTakeUnitRefused station vcid map_id take_unit_refusals.UnknownChannel = ¬ Contains station.vcids vcid
+IsTakeUnitRefused station vcid map_id take_unit_refusals.NoMap = Contains station.vcids vcid × AtSomeMomentOf vcid (λ s journal. waiting_units s journal map_id ≡ None)
+IsTakeUnitRefused station vcid map_id take_unit_refusals.Empty = Contains station.vcids vcid × AtSomeMomentOf vcid (λ s journal. waiting_units s journal map_id ≡ Some [])
+IsTakeUnitRefused station vcid map_id take_unit_refusals.NoMemory = Contains station.vcids vcid
 
 abbrev pub IsWatcherFault : Roster → ℕ → WatcherFault → Type 0
 IsWatcherFault station vcid watcher_faults.UnknownChannel = ¬ Contains station.vcids vcid

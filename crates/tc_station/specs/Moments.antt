@@ -9,7 +9,7 @@ use Rattle.tc_channel.specs.declared.reply.FrameReply.{FrameReply}
 use Rattle.tc_channel.specs.Settings.{IsAllowed}
 use Rattle.tc_channel.specs.Journal.{History, with_event}
 use Rattle.tc_channel.specs.Run.{IsLawful}
-use Rattle.tc_channel.specs.Reply.{frame_reply, release_reply, take_reply, buffered_fields}
+use Rattle.tc_channel.specs.Reply.{frame_reply, release_reply, take_reply, unit_reply, buffered_fields}
 use Rattle.tc_station.specs.Roster.{Roster}
 use Rattle.tc_station.specs.Location.{IsLocated}
 
@@ -37,6 +37,11 @@ IsReleased station vcid delivery =
 abbrev pub IsTaken : Roster → ℕ → ℕ → List ℕ → Type 0
 IsTaken station vcid apid packet =
     Contains station.vcids vcid × AtSomeMomentOf vcid (λ s journal. take_reply s journal apid ≡ Some packet)
+
+-- the unit is the oldest that waited on this MAP (the MAP Access Service of CCSDS 232.0-B)
+abbrev pub IsUnitTaken : Roster → ℕ → ℕ → List ℕ → Type 0
+IsUnitTaken station vcid map_id unit =
+    Contains station.vcids vcid × AtSomeMomentOf vcid (λ s journal. unit_reply s journal map_id ≡ Some unit)
 
 -- the watcher has seen a moment of a channel
 abbrev pub IsWatched : Roster → ℕ → History → Type 0

@@ -10,17 +10,22 @@ use Rattle.tc_station.specs.declared.faults.LocateFault.{LocateFault}
 use Rattle.tc_station.specs.declared.faults.WorkFault.{WorkFault}
 use Rattle.tc_station.specs.declared.faults.WorkFault.TheVariants.{NoMemory}
 use Rattle.tc_station.specs.declared.work.Order.{Order}
-use Rattle.tc_station.specs.declared.work.Order.TheVariants.{Bring, Release, Take}
+use Rattle.tc_station.specs.declared.work.Order.TheVariants.{Bring, Release, Take, TakeUnit}
 use Rattle.tc_station.specs.declared.work.Job.{Job}
 use Rattle.tc_station.specs.declared.work.WorkList.{WorkList}
+
+-- an operation on this channel was answered and counted, or refused
+abbrev pub IsTried : ℕ → Tally → Tally → Type 0
+IsTried vcid before after = (after ≡ counted vcid before) ⊎ (after ≡ before)
 
 -- what a job of this channel's list that memory didn't refuse does to the counts
 abbrev pub IsDone : Roster → ℕ → Order → Tally → Tally → Type 0
 IsDone station vcid (Bring octets) before after =
     ((v : ℕ) × (frame : List ℕ) × IsLocated station octets v frame × (after ≡ counted v before))
     ⊎ ((f : LocateFault) × IsLocateFault station octets f × (after ≡ before))
-IsDone station vcid Release before after = (after ≡ counted vcid before) ⊎ (after ≡ before)
-IsDone station vcid (Take apid) before after = (after ≡ counted vcid before) ⊎ (after ≡ before)
+IsDone station vcid Release before after = IsTried vcid before after
+IsDone station vcid (Take apid) before after = IsTried vcid before after
+IsDone station vcid (TakeUnit map_id) before after = IsTried vcid before after
 
 -- the jobs were done one after the other
 abbrev pub AreDone : Roster → ℕ → List Job → Tally → Tally → Type 0
@@ -32,6 +37,7 @@ abbrev pub MayWantMemory : Roster → ℕ → Order → Type 0
 MayWantMemory station vcid (Bring octets) = (v : ℕ) × (frame : List ℕ) × IsLocated station octets v frame
 MayWantMemory station vcid Release = Contains station.vcids vcid
 MayWantMemory station vcid (Take apid) = Contains station.vcids vcid
+MayWantMemory station vcid (TakeUnit map_id) = Contains station.vcids vcid
 
 -- all jobs of the list were done; or those before the one of this line, which was refused for memory
 abbrev pub IsWorked : Roster → WorkList → Option ℕ → Tally → Tally → Type 0
@@ -77,12 +83,14 @@ abbrev pub brings_to : Roster → ℕ → Order → Bool
 brings_to station vcid (Bring octets) = is_for station vcid octets
 brings_to station vcid Release = false
 brings_to station vcid (Take apid) = false
+brings_to station vcid (TakeUnit map_id) = false
 
--- a release or a take, of a list for this channel
+-- a release or a take, of a packet or a unit, of a list for this channel
 abbrev pub is_other : ℕ → ℕ → Order → Bool
 is_other own vcid (Bring octets) = false
 is_other own vcid Release = own == vcid
 is_other own vcid (Take apid) = own == vcid
+is_other own vcid (TakeUnit map_id) = own == vcid
 
 -- so much more; the largest count of 64 bits stays
 abbrev pub raised_by : ℕ → ℕ → ℕ

@@ -4,14 +4,14 @@ ghost use Rattle.std.specs.Prelude.{◌≡◌, ◌↔◌, [], IfOk, OnOk, OnErr,
 ghost use Rattle.tc_channel.specs.Settings.{IsAllowed, IsRefusal};
 ghost use Rattle.tc_channel.specs.Journal.{with_event};
 ghost use Rattle.tc_channel.specs.Run.{IsLawful};
-ghost use Rattle.tc_channel.specs.Reply.{frame_reply, release_reply, take_reply, waiting_packets, buffered_fields};
+ghost use Rattle.tc_channel.specs.Reply.{frame_reply, release_reply, take_reply, unit_reply, waiting_packets, waiting_units, buffered_fields};
 ghost use Rattle.tc_status.specs.Board.{IsBeginning};
 
 use std::alloc::Global;
 use std::marker::Model;
 use tc_channel::{
     Channel, Delivery, Event, FrameReply, NoMemory, ReleaseFault, Settings, SettingsFault,
-    TakeFault,
+    TakeFault, TakeUnitFault,
 };
 use tc_link::Frame;
 use tc_status::{Publisher, Watcher, meet};
@@ -56,7 +56,7 @@ impl Desk {
         &self.channel
     }
 
-    /// The channel takes a frame in. No more is allocated than by the channel, here and in the next two calls.
+    /// The channel takes a frame in. No more is allocated than by the channel, here and in the next three calls.
     pub fn frame(&mut self, frame: &Frame) -> Result<FrameReply, NoMemory>
         ensures allowed { IsAllowed self.old.channel.settings }
         ensures lawful { IsLawful self.old.channel.settings self.old.channel.journal }
@@ -99,6 +99,22 @@ impl Desk {
         let packet = self.channel.take(apid)?;
         self.publisher.publish(&self.channel);
         Ok(packet)
+    }
+
+    /// The channel gives the oldest unit of this chosen MAP.
+    pub fn take_unit(&mut self, map: u8) -> Result<Vec<u8>, TakeUnitFault>
+        ensures allowed { IsAllowed self.old.channel.settings }
+        ensures lawful { IsLawful self.old.channel.settings self.old.channel.journal }
+        ensures no_map { IsErrOf result TakeUnitFault.NoMap ↔ (waiting_units self.old.channel.settings self.old.channel.journal map ≡ None) }
+        ensures empty { IsErrOf result TakeUnitFault.Empty ↔ (waiting_units self.old.channel.settings self.old.channel.journal map ≡ Some []) }
+        ensures reply { IfOk result (λ unit. unit_reply self.old.channel.settings self.old.channel.journal map ≡ Some unit.items) }
+        ensures done { OnOk result (self.new.channel ≡ with_event self.old.channel (Event.TakeUnit map)) }
+        ensures refused { OnErr result (self.new ≡ self.old) }
+        ensures board { self.new.board ≡ self.old.board }
+    {
+        let unit = self.channel.take_unit(map)?;
+        self.publisher.publish(&self.channel);
+        Ok(unit)
     }
 
     /// A watcher of this desk's board, which has seen the channel as it is. It takes what the publisher's call takes.

@@ -4,7 +4,7 @@ use crate::operator::Operator;
 use crate::station::Station;
 use std::fmt;
 use std::fmt::{Debug, Formatter};
-use tc_channel::{Channel, ReleaseFault, SettingsFault, TakeFault};
+use tc_channel::{Channel, ReleaseFault, SettingsFault, TakeFault, TakeUnitFault};
 use tc_link::FrameFault;
 use thiserror::Error;
 
@@ -87,6 +87,19 @@ pub enum TakeRefused {
     NoMemory,
 }
 
+/// Why no unit was taken from a channel of the station.
+#[derive(Clone, Copy, Debug, PartialEq, Eq, Error)]
+pub enum TakeUnitRefused {
+    #[error("the station has no such virtual channel")]
+    UnknownChannel,
+    #[error("no queue for that multiplexer access point")]
+    NoMap,
+    #[error("the queue is empty")]
+    Empty,
+    #[error("no memory")]
+    NoMemory,
+}
+
 /// Why not all lists were done.
 #[derive(Clone, Copy, Debug, PartialEq, Eq, Error)]
 pub enum WorkFault {
@@ -144,6 +157,21 @@ impl From<TakeFault> for TakeRefused {
             TakeFault::NoQueue => TakeRefused::NoQueue,
             TakeFault::Empty => TakeRefused::Empty,
             TakeFault::NoMemory => TakeRefused::NoMemory,
+        }
+    }
+}
+
+impl From<TakeUnitFault> for TakeUnitRefused {
+    ghost use Rattle.tc_station.specs.Faults.{take_unit_refused};
+    ghost use Rattle.std.specs.Prelude.{◌≡◌};
+
+    ghost from_gives = { λ fault refused. refused ≡ take_unit_refused fault };
+
+    fn from(fault: TakeUnitFault) -> TakeUnitRefused {
+        match fault {
+            TakeUnitFault::NoMap => TakeUnitRefused::NoMap,
+            TakeUnitFault::Empty => TakeUnitRefused::Empty,
+            TakeUnitFault::NoMemory => TakeUnitRefused::NoMemory,
         }
     }
 }

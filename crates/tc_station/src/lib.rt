@@ -1,5 +1,5 @@
 //! The station of one spacecraft: its virtual channels, each behind a lock of its own, and the operators that bring them
-//! frames, release their data fields and take their packets.
+//! frames, release their data fields and take their packets and units.
 //!
 //! A contract sees a [`Desk`], which is what lies under a lock, as its channel and the board of its status word, and each call
 //! of a desk has the contract of the channel's call. Whenever the lock is free, the word is the CLCW of the channel's journal,
@@ -20,7 +20,7 @@ mod work;
 pub use desk::Desk;
 pub use faults::{
     BringFault, CloseFault, LocateFault, OperatorsFault, ReleaseRefused, StationFault, TakeRefused,
-    WatcherFault, WorkFault,
+    TakeUnitRefused, WatcherFault, WorkFault,
 };
 pub use operator::Operator;
 pub use station::{Brought, Located, Station};

@@ -16,7 +16,7 @@ use crate::closing::are_in_balance;
 use crate::desk::Desk;
 use crate::faults::{
     BringFault, CloseFault, LocateFault, OperatorsFault, ReleaseRefused, StationFault, TakeRefused,
-    WatcherFault,
+    TakeUnitRefused, WatcherFault,
 };
 use crate::operator::{Operator, place_of};
 use crate::work::Gate;
@@ -68,8 +68,8 @@ impl Model for Station {
 
 impl Station {
     ghost use Rattle.tc_station.specs.Location.{IsLocated, IsPlaced, IsLocateFault, IsBringFault};
-    ghost use Rattle.tc_station.specs.Moments.{IsBrought, IsBroughtWatched, IsReleased, IsTaken, IsWatched};
-    ghost use Rattle.tc_station.specs.Faults.{IsReleaseRefused, IsTakeRefused, IsWatcherFault, IsCloseFault};
+    ghost use Rattle.tc_station.specs.Moments.{IsBrought, IsBroughtWatched, IsReleased, IsTaken, IsUnitTaken, IsWatched};
+    ghost use Rattle.tc_station.specs.Faults.{IsReleaseRefused, IsTakeRefused, IsTakeUnitRefused, IsWatcherFault, IsCloseFault};
 
     /// A station with a new channel for each of the settings: two lists, and what each channel and its board take. On a
     /// refusal the settings are dropped.
@@ -126,7 +126,7 @@ impl Station {
     }
 
     /// Brings the frame at the front of the octets to its channel, under the channel's lock. What the channel's own call takes
-    /// is all that is allocated, here and in the next two calls.
+    /// is all that is allocated, here and in the next three calls.
     pub fn bring(
         &self,
         rt: &impl Wait,
@@ -187,6 +187,27 @@ impl Station {
         let packet = self.lock_desk(rt, place, vcid).take(apid)?;
         operator.raise(place, vcid);
         Ok(packet)
+    }
+
+    /// Takes the oldest unit of a channel's chosen MAP, under the channel's lock.
+    pub fn take_unit(
+        &self,
+        rt: &impl Wait,
+        operator: &mut Operator,
+        vcid: u8,
+        map: u8,
+    ) -> Result<Vec<u8>, TakeUnitRefused>
+        requires ours { operator.old.vcids ≡ self.now.vcids }
+        ensures answer { MatchResult result (λ unit. IsUnitTaken self.now vcid map unit.items) (IsTakeUnitRefused self.now vcid map) }
+        ensures counted { OnOk result (operator.new ≡ counted vcid operator.old) }
+        ensures refused { OnErr result (operator.new ≡ operator.old) }
+    {
+        let Some(place) = place_of(&self.vcids, vcid) else {
+            return Err(TakeUnitRefused::UnknownChannel);
+        };
+        let unit = self.lock_desk(rt, place, vcid).take_unit(map)?;
+        operator.raise(place, vcid);
+        Ok(unit)
     }
 
     /// A watcher of a channel's status, made under the channel's lock.

@@ -5,7 +5,7 @@ ghost use Rattle.std.specs.Thread.{IsSync};
 ghost use Rattle.tc_station.specs.Tally.{Tally};
 ghost use Rattle.tc_station.specs.Lowest.{lower};
 
-use crate::faults::{BringFault, ReleaseRefused, TakeRefused, WorkFault};
+use crate::faults::{BringFault, ReleaseRefused, TakeRefused, TakeUnitRefused, WorkFault};
 use crate::operator::Operator;
 use crate::station::Station;
 use std::sync::Wait;
@@ -34,6 +34,8 @@ pub enum Order {
     Release,
     /// Take the oldest packet of the list's channel with this APID.
     Take(u16),
+    /// Take the oldest unit of this chosen MAP of the list's channel.
+    TakeUnit(u8),
 }
 
 /// An order, and the line of the script that gave it.
@@ -195,17 +197,16 @@ impl Station {
                 Err(BringFault::NoMemory) => Err(NoMemory),
             },
             Order::Release => match self.release(rt, operator, vcid) {
-                Ok(_) => Ok(()),
-                Err(ReleaseRefused::UnknownChannel) => Ok(()),
-                Err(ReleaseRefused::Empty) => Ok(()),
                 Err(ReleaseRefused::NoMemory) => Err(NoMemory),
+                _ => Ok(()),
             },
             Order::Take(apid) => match self.take(rt, operator, vcid, *apid) {
-                Ok(_) => Ok(()),
-                Err(TakeRefused::UnknownChannel) => Ok(()),
-                Err(TakeRefused::NoQueue) => Ok(()),
-                Err(TakeRefused::Empty) => Ok(()),
                 Err(TakeRefused::NoMemory) => Err(NoMemory),
+                _ => Ok(()),
+            },
+            Order::TakeUnit(map) => match self.take_unit(rt, operator, vcid, *map) {
+                Err(TakeUnitRefused::NoMemory) => Err(NoMemory),
+                _ => Ok(()),
             },
         }
     }
