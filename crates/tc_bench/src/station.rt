@@ -27,6 +27,7 @@ pub(crate) fn settings(alloc: Global, vcid: u8) -> Result<Settings, AllocError>
         first: 0,
         segmented: true,
         queues: Items::from(Vec::from_slice(alloc, &[queue])?),
+        maps: Items::from(Vec::new(alloc)),
     })
 }
 
