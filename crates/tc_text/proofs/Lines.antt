@@ -1,9 +1,9 @@
--- What the words of a line say.
+-- How many words a line takes.
 use Rattle.std.proofs.Common.{◌≡◌, ◌≢◌, ℕ, List, [], ◌∷◌, Err, refl}
-use Rattle.tc_text.specs.Line.{queue_of}
+use Rattle.tc_text.specs.Line.{three_of}
 use Rattle.tc_text.specs.declared.fault.Reason.TheVariants.{WordCount}
 
--- a fourth argument is one too many
-pub queue-more : (v a c : List ℕ) (rest : List (List ℕ)) → rest ≢ [] → queue_of (v ∷ a ∷ c ∷ rest) ≡ Err WordCount
-queue-more v a c [] h = absurd (h refl)
-queue-more v a c (more ∷ rest) h = refl
+-- a fourth word is one too many
+pub three-more : (first second third : List ℕ) (rest : List (List ℕ)) → rest ≢ [] → three_of (first ∷ second ∷ third ∷ rest) ≡ Err WordCount
+three-more first second third [] h = absurd (h refl)
+three-more first second third (more ∷ rest) h = refl

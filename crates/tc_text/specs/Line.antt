@@ -7,13 +7,28 @@ use Rattle.tc_text.specs.Number.{number_of}
 use Rattle.tc_text.specs.declared.fault.Reason.{Reason}
 use Rattle.tc_text.specs.declared.fault.Reason.TheVariants.{UnknownCommand, WordCount, BadNumber, BadHex, BadOption}
 use Rattle.tc_text.specs.declared.line.Line.{Line}
-use Rattle.tc_text.specs.declared.line.Line.TheVariants.{Blank, Channel, Queue, Frame, Release, Take, Clcw}
+use Rattle.tc_text.specs.declared.line.Line.TheVariants.{Blank, Channel, Queue, Map, Frame, Release, Take, Unit as TakeUnit, Clcw}
 
 -- the word that is left, if one is; more than one are too many
 abbrev pub last_of : List (List ℕ) → Result (Option (List ℕ)) Reason
 last_of [] = Ok None
 last_of (word ∷ []) = Ok (Some word)
 last_of (word ∷ more ∷ rest) = Err WordCount
+
+-- the words of a line that takes two
+abbrev pub two_of : List (List ℕ) → Result (List ℕ × List ℕ) Reason
+two_of [] = Err WordCount
+two_of (first ∷ []) = Err WordCount
+two_of (first ∷ second ∷ []) = Ok (first, second)
+two_of (first ∷ second ∷ more ∷ rest) = Err WordCount
+
+-- the words of a line that takes three
+abbrev pub three_of : List (List ℕ) → Result (List ℕ × List ℕ × List ℕ) Reason
+three_of [] = Err WordCount
+three_of (first ∷ []) = Err WordCount
+three_of (first ∷ second ∷ []) = Err WordCount
+three_of (first ∷ second ∷ third ∷ []) = Ok (first, second, third)
+three_of (first ∷ second ∷ third ∷ more ∷ rest) = Err WordCount
 
 -- what follows where something could be read
 abbrev pub with_ok : {A : Type 0} → Result A Reason → (A → Result Line Reason) → Result Line Reason
@@ -44,12 +59,16 @@ channel_of (v ∷ w ∷ b ∷ f ∷ rest) =
     Ok (Channel vcid width buffer first segmented)))))))
 
 abbrev pub queue_of : List (List ℕ) → Result Line Reason
-queue_of [] = Err WordCount
-queue_of (v ∷ []) = Err WordCount
-queue_of (v ∷ a ∷ []) = Err WordCount
-queue_of (v ∷ a ∷ c ∷ []) =
-    with_number 255 v (λ vcid. with_number 65535 a (λ apid. with_number 65535 c (λ capacity. Ok (Queue vcid apid capacity))))
-queue_of (v ∷ a ∷ c ∷ more ∷ rest) = Err WordCount
+queue_of arguments =
+    with_ok (three_of arguments) (λ words.
+    with_number 255 words.0 (λ vcid. with_number 65535 words.1 (λ apid. with_number 65535 words.2 (λ capacity.
+    Ok (Queue vcid apid capacity)))))
+
+abbrev pub map_of : List (List ℕ) → Result Line Reason
+map_of arguments =
+    with_ok (three_of arguments) (λ words.
+    with_number 255 words.0 (λ vcid. with_number 255 words.1 (λ map_id. with_number 65535 words.2 (λ capacity.
+    Ok (Map vcid map_id capacity)))))
 
 abbrev pub decoded : Result (List ℕ) FromHexError → Result Line Reason
 decoded (Ok octets) = Ok (Frame octets)
@@ -66,10 +85,14 @@ release_of (v ∷ []) = with_number 255 v (λ vcid. Ok (Release vcid))
 release_of (v ∷ more ∷ rest) = Err WordCount
 
 abbrev pub take_of : List (List ℕ) → Result Line Reason
-take_of [] = Err WordCount
-take_of (v ∷ []) = Err WordCount
-take_of (v ∷ a ∷ []) = with_number 255 v (λ vcid. with_number 65535 a (λ apid. Ok (Take vcid apid)))
-take_of (v ∷ a ∷ more ∷ rest) = Err WordCount
+take_of arguments =
+    with_ok (two_of arguments) (λ words.
+    with_number 255 words.0 (λ vcid. with_number 65535 words.1 (λ apid. Ok (Take vcid apid))))
+
+abbrev pub unit_of : List (List ℕ) → Result Line Reason
+unit_of arguments =
+    with_ok (two_of arguments) (λ words.
+    with_number 255 words.0 (λ vcid. with_number 255 words.1 (λ map_id. Ok (TakeUnit vcid map_id))))
 
 abbrev pub clcw_of : List (List ℕ) → Result Line Reason
 clcw_of [] = Err WordCount
@@ -86,8 +109,10 @@ line_of (command ∷ arguments) =
     if is_comment command then Ok Blank
     else if is command (codes "channel") then channel_of arguments
     else if is command (codes "queue") then queue_of arguments
+    else if is command (codes "map") then map_of arguments
     else if is command (codes "frame") then frame_of arguments
     else if is command (codes "release") then release_of arguments
     else if is command (codes "take") then take_of arguments
+    else if is command (codes "unit") then unit_of arguments
     else if is command (codes "clcw") then clcw_of arguments
     else Err UnknownCommand

@@ -22,7 +22,7 @@ pub enum Reason {
     /// A frame isn't an even number of hexadecimal digits.
     #[error("bad hex")]
     BadHex,
-    /// A channel or a queue is set up after an operation.
+    /// A channel, a queue or a chosen MAP is set up after an operation.
     #[error("too late")]
     TooLate,
     /// An operation stands before any channel.
@@ -31,7 +31,7 @@ pub enum Reason {
     /// There is a channel with this virtual channel id already.
     #[error("double channel")]
     DoubleChannel,
-    /// A queue is for a channel that isn't there.
+    /// A queue or a chosen MAP is for a channel that isn't there.
     #[error("unknown channel")]
     UnknownChannel,
     /// The virtual channel id is over 63.
@@ -58,6 +58,18 @@ pub enum Reason {
     /// The word after a channel's numbers is no option.
     #[error("bad option")]
     BadOption,
+    /// A chosen MAP is over 63.
+    #[error("bad map")]
+    BadMap,
+    /// The channel has chosen this MAP already.
+    #[error("double map")]
+    DoubleMap,
+    /// The queue of a chosen MAP isn't of 1 to 256 units.
+    #[error("bad units")]
+    BadUnits,
+    /// A MAP is chosen on a channel without segment headers, which alone name MAPs.
+    #[error("map on plain channel")]
+    PlainMap,
 }
 
 impl From<SettingsFault> for Reason {
@@ -71,6 +83,10 @@ impl From<SettingsFault> for Reason {
             SettingsFault::BadApid => Reason::BadApid,
             SettingsFault::DoubleApid => Reason::DoubleApid,
             SettingsFault::BadCapacity => Reason::BadCapacity,
+            SettingsFault::BadMap => Reason::BadMap,
+            SettingsFault::DoubleMap => Reason::DoubleMap,
+            SettingsFault::BadUnits => Reason::BadUnits,
+            SettingsFault::PlainMap => Reason::PlainMap,
             SettingsFault::NoMemory => Reason::NoMemory,
         }
     }

@@ -2,10 +2,13 @@
 
 ghost use Rattle.std.specs.Prelude.{◌≡◌, ◌⊎◌, option_map, IfOk, IfErr, MatchResult};
 ghost use Rattle.tc_text.specs.Word.{words};
-ghost use Rattle.tc_text.specs.Line.{line_of, channel_of, segmented_of, queue_of, frame_of, release_of, take_of, clcw_of};
+ghost use Rattle.tc_text.specs.Line.{line_of, channel_of, segmented_of, queue_of, map_of, frame_of, release_of, take_of, unit_of, clcw_of};
 
 use crate::fault::Reason;
-use crate::word::{large_number, last_argument, next_argument, next_word, no_more, small_number};
+use crate::word::{
+    large_number, last_argument, next_argument, next_word, no_more, small_number, three_arguments,
+    two_arguments,
+};
 use hex::FromHexError;
 use std::alloc::Global;
 use tc_channel::Octets;
@@ -30,12 +33,20 @@ pub enum Line {
         apid: u16,
         capacity: u16,
     },
+    /// A chosen MAP of a virtual channel, with the number of units that its queue takes.
+    Map {
+        vcid: u8,
+        map: u8,
+        capacity: u16,
+    },
     /// Octets that arrive.
     Frame(Octets),
     /// Lets the oldest data field out of the buffer of a virtual channel.
     Release(u8),
     /// Takes the oldest packet of a virtual channel with an APID.
     Take(u8, u16),
+    /// Takes the oldest unit of a virtual channel with a MAP.
+    Unit(u8, u8),
     /// Asks for the CLCW of a virtual channel.
     Clcw(u8),
 }
@@ -55,12 +66,16 @@ pub fn parse_line(alloc: Global, octets: &[u8]) -> Result<Line, Reason>
         channel(arguments)
     } else if command == b"queue".as_slice() {
         queue(arguments)
+    } else if command == b"map".as_slice() {
+        map(arguments)
     } else if command == b"frame".as_slice() {
         frame(alloc, arguments)
     } else if command == b"release".as_slice() {
         release(arguments)
     } else if command == b"take".as_slice() {
         take(arguments)
+    } else if command == b"unit".as_slice() {
+        unit(arguments)
     } else if command == b"clcw".as_slice() {
         clcw(arguments)
     } else {
@@ -103,13 +118,22 @@ fn queue(arguments: &[u8]) -> Result<Line, Reason>
     ensures line { IfOk result (λ line. queue_of (words arguments.now) ≡ Ok line) }
     ensures reason { IfErr result (λ reason. queue_of (words arguments.now) ≡ Err reason) }
 {
-    let (vcid, rest) = next_argument(arguments)?;
-    let (apid, rest) = next_argument(rest)?;
-    let (capacity, rest) = next_argument(rest)?;
-    no_more(rest)?;
+    let (vcid, apid, capacity) = three_arguments(arguments)?;
     Ok(Line::Queue {
         vcid: small_number(vcid)?,
         apid: large_number(apid)?,
+        capacity: large_number(capacity)?,
+    })
+}
+
+fn map(arguments: &[u8]) -> Result<Line, Reason>
+    ensures line { IfOk result (λ line. map_of (words arguments.now) ≡ Ok line) }
+    ensures reason { IfErr result (λ reason. map_of (words arguments.now) ≡ Err reason) }
+{
+    let (vcid, map, capacity) = three_arguments(arguments)?;
+    Ok(Line::Map {
+        vcid: small_number(vcid)?,
+        map: small_number(map)?,
         capacity: large_number(capacity)?,
     })
 }
@@ -140,10 +164,16 @@ fn take(arguments: &[u8]) -> Result<Line, Reason>
     ensures line { IfOk result (λ line. take_of (words arguments.now) ≡ Ok line) }
     ensures reason { IfErr result (λ reason. take_of (words arguments.now) ≡ Err reason) }
 {
-    let (vcid, rest) = next_argument(arguments)?;
-    let (apid, rest) = next_argument(rest)?;
-    no_more(rest)?;
+    let (vcid, apid) = two_arguments(arguments)?;
     Ok(Line::Take(small_number(vcid)?, large_number(apid)?))
+}
+
+fn unit(arguments: &[u8]) -> Result<Line, Reason>
+    ensures line { IfOk result (λ line. unit_of (words arguments.now) ≡ Ok line) }
+    ensures reason { IfErr result (λ reason. unit_of (words arguments.now) ≡ Err reason) }
+{
+    let (vcid, map) = two_arguments(arguments)?;
+    Ok(Line::Unit(small_number(vcid)?, small_number(map)?))
 }
 
 fn clcw(arguments: &[u8]) -> Result<Line, Reason>

@@ -3,7 +3,7 @@
 ghost use Rattle.std.specs.Prelude.{◌≡◌, ◌≢◌, ◌<◌, [], ◌∷◌, length, not, option_map, MatchOption, MatchResult, OnOk, IfErr};
 ghost use Rattle.std.specs.List.{list_all, take_while};
 ghost use Rattle.tc_text.specs.Word.{is_separator as is_separator_octet, words};
-ghost use Rattle.tc_text.specs.Line.{last_of};
+ghost use Rattle.tc_text.specs.Line.{last_of, two_of, three_of};
 ghost use Rattle.tc_text.specs.Number.{is_digit, decimal_of, number_of};
 
 use crate::fault::Reason;
@@ -47,6 +47,31 @@ pub(crate) fn last_argument(octets: &[u8]) -> Result<Option<&[u8]>, Reason>
         }
         None => Ok(None),
     }
+}
+
+/// The words of a command that takes two.
+pub(crate) fn two_arguments(octets: &[u8]) -> Result<(&[u8], &[u8]), Reason>
+    ensures { MatchResult result
+        (λ parts. two_of (words octets.now) ≡ Ok (parts.0.now, parts.1.now))
+        (λ reason. two_of (words octets.now) ≡ Err reason) }
+{
+    let (first, rest) = next_argument(octets)?;
+    let (second, rest) = next_argument(rest)?;
+    no_more(rest)?;
+    Ok((first, second))
+}
+
+/// The words of a command that takes three.
+pub(crate) fn three_arguments(octets: &[u8]) -> Result<(&[u8], &[u8], &[u8]), Reason>
+    ensures { MatchResult result
+        (λ parts. three_of (words octets.now) ≡ Ok (parts.0.now, parts.1.now, parts.2.now))
+        (λ reason. three_of (words octets.now) ≡ Err reason) }
+{
+    let (first, rest) = next_argument(octets)?;
+    let (second, rest) = next_argument(rest)?;
+    let (third, rest) = next_argument(rest)?;
+    no_more(rest)?;
+    Ok((first, second, third))
 }
 
 /// That a command has no more words.
