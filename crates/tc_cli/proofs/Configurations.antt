@@ -1,19 +1,22 @@
--- A configuration has none of the faults that settings of a station may have, but that it is empty.
-use Rattle.std.proofs.Common.{◌≡◌, ◌≢◌, ℕ, ◌<◌, ◌≤◌, true, eqb, List, [], ◌∷◌, length, map, get_or, sym, ap, ◌∙◌, subst, arith}
+-- Looking for a channel of a configuration, and setting one up besides; and a configuration has none of the faults that settings of a
+-- station may have, but that it is empty.
+use Rattle.std.proofs.Common.{◌≡◌, ◌≢◌, ℕ, ◌<◌, ◌≤◌, true, false, eqb, Option, Some, None, List, [], ◌∷◌, ◌++◌, length, map, get_or, sym, ap, ◌∙◌, subst, arith}
 use Rattle.std.proofs.lemmas.Bool.{eqb-true}
 use Rattle.std.proofs.lemmas.Bool.Decides.{Decides-eqb}
 use Rattle.std.proofs.lemmas.List.{get_or-map, get_or-take, get_or_default, length-map, length-take}
+use Rattle.std.proofs.lemmas.List.Elements.{All-push}
 use Rattle.std.proofs.lemmas.List.Folds.{Any-from_list_any}
+use Rattle.std.proofs.lemmas.List.Quantifiers.{all_pairs_push}
 use Rattle.std.proofs.lemmas.Map.Made.{IsDistinct-from_AllPairs}
 use Rattle.std.proofs.lemmas.Map.Steps.{length-le_from_distinct_below}
 use Rattle.std.proofs.lemmas.Option.{get_or_from_slice_get, slice_get_within}
 use Rattle.std.specs.List.{list_any}
-use Rattle.std.specs.Prelude.{All, AllPairs}
+use Rattle.std.specs.Prelude.{All, AllPairs, is_some, MatchOption}
 use Rattle.tc_channel.specs.declared.settings.Settings.{Settings}
 use Rattle.tc_channel.specs.declared.settings.SettingsFault.{SettingsFault}
 use Rattle.tc_channel.specs.Settings.{IsAllowed, IsFault}
 use Rattle.tc_station.specs.StationSettings.{HaveDistinctVcids, IsFirstDouble, IsFirstRefused}
-use Rattle.tc_cli.specs.Configuration.{IsAt, IsConfiguration}
+use Rattle.tc_cli.specs.Configuration.{IsThere, IsAt, IsConfiguration}
 
 pub no-double : (list : List Settings) (vcid : ℕ) → HaveDistinctVcids list → IsFirstDouble list vcid → ⊥
 no-double list vcid distinct (i, s, at, v, before, (k, t, kt, is, tv)) =
@@ -53,3 +56,23 @@ few (none ∷ rest) c =
 -- the settings that stand at the place that was found
 pub found : (list : List Settings) (vcid place : ℕ) (x : Settings) → (s : Settings) × IsAt list vcid place s → x ≡ get_or list place x → IsAt list vcid place x
 found list vcid place x (s, (at, v)) is = subst (IsAt list vcid place) (sym (is ∙ get_or_from_slice_get list place s x at)) (at, v)
+
+-- what a search by id says of the channels, by whether it found one
+abbrev pub IsSearched : List Settings → ℕ → Option ℕ → Type 0
+IsSearched list vcid place = MatchOption place (¬ IsThere list vcid) (λ place. (s : Settings) × IsAt list vcid place s)
+
+pub there-already : (list : List Settings) (vcid : ℕ) (place : Option ℕ) → is_some place ≡ true → IsSearched list vcid place → IsThere list vcid
+there-already list vcid None e h = absurd cc
+there-already list vcid (Some place) e (s, (at, v)) = (place, s, slice_get_within list place s at, get_or_from_slice_get list place s s at, v)
+
+pub not-there : (list : List Settings) (vcid : ℕ) (place : Option ℕ) → is_some place ≡ false → IsSearched list vcid place → ¬ IsThere list vcid
+not-there list vcid None e h = h
+not-there list vcid (Some place) e h = absurd cc
+
+-- one channel more, with the id of no other
+pub one-more : (list : List Settings) (s : Settings) → IsConfiguration list → ¬ IsThere list s.vcid → IsAllowed s → IsConfiguration (list ++ s ∷ [])
+one-more list s c new allowed = record {
+  distinct = all_pairs_push (λ (p q : Settings). p.vcid ≢ q.vcid) list s c.distinct
+      (λ k d l. λ same. new (k, get_or list k d, l, get_or_default list k (get_or list k d) d l, same));
+  allowed = All-push IsAllowed list s c.allowed allowed;
+}

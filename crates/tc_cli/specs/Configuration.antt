@@ -2,6 +2,8 @@
 use Rattle.std.specs.Prelude.{◌≡◌, ℕ, List, [], ◌∷◌, ◌++◌, All, Any, slice_get, slice_set, Some}
 use Rattle.tc_channel.specs.declared.settings.Settings.{Settings}
 use Rattle.tc_channel.specs.Settings.{IsAllowed}
+use Rattle.tc_cli.specs.declared.instruction.Addition.{Addition}
+use Rattle.tc_cli.specs.declared.instruction.Addition.TheVariants.{Queue, Map}
 use Rattle.tc_station.specs.StationSettings.{HaveDistinctVcids}
 
 -- a station can have these settings, as soon as there are some
@@ -17,15 +19,16 @@ IsThere list vcid = Any (λ (s : Settings). s.vcid ≡ vcid) list
 abbrev pub IsAt : List Settings → ℕ → ℕ → Settings → Type 0
 IsAt list vcid place s = (slice_get list place ≡ Some s) × (s.vcid ≡ vcid)
 
--- the settings after a queue line
-abbrev pub with_queue : Settings → ℕ → ℕ → Settings
-with_queue s apid capacity = record s { queues = s.queues ++ record { apid = apid; capacity = capacity } ∷ [] }
+-- the settings after a queue line or a map line
+abbrev pub with_addition : Settings → Addition → Settings
+with_addition s (Queue queue) = record s { queues = s.queues ++ queue ∷ [] }
+with_addition s (Map chosen) = record s { maps = s.maps ++ chosen ∷ [] }
 
 -- a channel is set up besides, with the id of no other
 abbrev pub AddsChannel : List Settings → Settings → List Settings → Type 0
 AddsChannel list s new = ¬ IsThere list s.vcid × IsAllowed s × (new ≡ list ++ s ∷ [])
 
--- the channel with this id gets a queue besides, and the others stay
-abbrev pub AddsQueue : List Settings → ℕ → ℕ → ℕ → List Settings → Type 0
-AddsQueue list vcid apid capacity new =
-    (place : ℕ) × (s : Settings) × IsAt list vcid place s × IsAllowed (with_queue s apid capacity) × (new ≡ slice_set list place (with_queue s apid capacity))
+-- the channel with this id gets a queue or a chosen MAP besides, and the others stay
+abbrev pub AddsToChannel : List Settings → ℕ → Addition → List Settings → Type 0
+AddsToChannel list vcid addition new =
+    (place : ℕ) × (s : Settings) × IsAt list vcid place s × IsAllowed (with_addition s addition) × (new ≡ slice_set list place (with_addition s addition))

@@ -3,7 +3,7 @@ use Rattle.std.specs.Prelude.{ℕ, List}
 use Rattle.tc_station.specs.Roster.{Roster}
 use Rattle.tc_station.specs.Tally.{Tally, counted, fresh}
 use Rattle.tc_cli.specs.declared.answer.Answer.{Answer}
-use Rattle.tc_cli.specs.declared.answer.Answer.TheVariants.{Frame, Release, Take, Clcw, Refused}
+use Rattle.tc_cli.specs.declared.answer.Answer.TheVariants.{Frame, Release, Take, Unit as TakeUnit, Clcw, Refused}
 
 pub record Manned : Type 0 where
   pub station : Roster
@@ -21,6 +21,7 @@ abbrev pub counted_with : Answer → Tally → Tally
 counted_with (Frame vcid reply) t = counted vcid t
 counted_with (Release vcid delivery) t = counted vcid t
 counted_with (Take vcid apid packet) t = counted vcid t
+counted_with (TakeUnit vcid map_id unit) t = counted vcid t
 counted_with (Clcw vcid word) t = t
 counted_with (Refused refusal) t = t
 

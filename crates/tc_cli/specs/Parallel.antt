@@ -3,7 +3,7 @@ use Rattle.std.specs.Prelude.{◌≡◌, ℕ}
 use Rattle.tc_station.specs.declared.work.Order.TheVariants as orders
 use Rattle.tc_cli.specs.Parting.{Parted, newly_parted, IsGiven, IsFrameGiven}
 use Rattle.tc_cli.specs.declared.instruction.Instruction.{Instruction}
-use Rattle.tc_cli.specs.declared.instruction.Instruction.TheVariants.{Nothing, Channel, Queue, Frame, Release, Take, Clcw}
+use Rattle.tc_cli.specs.declared.instruction.Instruction.TheVariants.{Nothing, Channel, Add, Frame, Release, Take, Unit as TakeUnit, Clcw}
 use Rattle.tc_cli.specs.declared.stage.Stage.{Stage}
 use Rattle.tc_cli.specs.declared.stage.Stage.TheVariants.{SettingUp, Operating}
 
@@ -22,8 +22,9 @@ Parts scid Gives old new = (parted : Parted) × Gives (parted_for scid old) part
 abbrev pub IsParted : ℕ → ℕ → Plan → Instruction → Plan → Type 0
 IsParted scid line old Nothing new = new ≡ old
 IsParted scid line old (Channel settings) new = Unit {0}
-IsParted scid line old (Queue vcid queue) new = Unit {0}
+IsParted scid line old (Add vcid addition) new = Unit {0}
 IsParted scid line old (Frame octets) new = Parts scid (IsFrameGiven line octets) old new
 IsParted scid line old (Release vcid) new = Parts scid (IsGiven vcid (record { line = line; order = orders.Release })) old new
 IsParted scid line old (Take vcid apid) new = Parts scid (IsGiven vcid (record { line = line; order = orders.Take apid })) old new
+IsParted scid line old (TakeUnit vcid map_id) new = Parts scid (IsGiven vcid (record { line = line; order = orders.TakeUnit map_id })) old new
 IsParted scid line old (Clcw vcid) new = Parts scid (λ before after. after ≡ before) old new

@@ -3,10 +3,10 @@ use Rattle.std.specs.Prelude.{◌≡◌, ℕ, Option, Some, None}
 use Rattle.tc_station.specs.Roster.{Roster}
 use Rattle.tc_station.specs.StationSettings.{vcids_of}
 use Rattle.tc_cli.specs.Manned.{Manned, newly_manned, after_answer}
-use Rattle.tc_cli.specs.Operation.{IsFrameAnswer, IsReleaseAnswer, IsTakeAnswer, IsClcwAnswer}
+use Rattle.tc_cli.specs.Operation.{IsFrameAnswer, IsReleaseAnswer, IsTakeAnswer, IsUnitAnswer, IsClcwAnswer}
 use Rattle.tc_cli.specs.declared.answer.Answer.{Answer}
 use Rattle.tc_cli.specs.declared.instruction.Instruction.{Instruction}
-use Rattle.tc_cli.specs.declared.instruction.Instruction.TheVariants.{Nothing, Channel, Queue, Frame, Release, Take, Clcw}
+use Rattle.tc_cli.specs.declared.instruction.Instruction.TheVariants.{Nothing, Channel, Add, Frame, Release, Take, Unit as TakeUnit, Clcw}
 use Rattle.tc_cli.specs.declared.stage.Stage.{Stage}
 use Rattle.tc_cli.specs.declared.stage.Stage.TheVariants.{SettingUp, Operating}
 
@@ -27,8 +27,9 @@ IsOperated scid IsAnswer old new answer =
 abbrev pub IsAnswered : ℕ → Session → Instruction → Session → Option Answer → Type 0
 IsAnswered scid old Nothing new answer = (answer ≡ None) × (new ≡ old)
 IsAnswered scid old (Channel settings) new answer = answer ≡ None
-IsAnswered scid old (Queue vcid queue) new answer = answer ≡ None
+IsAnswered scid old (Add vcid addition) new answer = answer ≡ None
 IsAnswered scid old (Frame octets) new answer = IsOperated scid (λ station. IsFrameAnswer station octets) old new answer
 IsAnswered scid old (Release vcid) new answer = IsOperated scid (λ station. IsReleaseAnswer station vcid) old new answer
 IsAnswered scid old (Take vcid apid) new answer = IsOperated scid (λ station. IsTakeAnswer station vcid apid) old new answer
+IsAnswered scid old (TakeUnit vcid map_id) new answer = IsOperated scid (λ station. IsUnitAnswer station vcid map_id) old new answer
 IsAnswered scid old (Clcw vcid) new answer = IsOperated scid (λ station. IsClcwAnswer station vcid) old new answer

@@ -11,6 +11,7 @@ pub(crate) enum Answer {
     Frame { vcid: u8, reply: FrameReply },
     Release { vcid: u8, delivery: Delivery },
     Take { vcid: u8, apid: u16, packet: Octets },
+    Unit { vcid: u8, map: u8, unit: Octets },
     Clcw { vcid: u8, word: u32 },
     Refused(Refusal),
 }
@@ -22,6 +23,7 @@ pub(crate) enum Refusal {
     Unlocated(LocateFault),
     UnknownChannel,
     NoQueue,
+    NoMap,
     Empty,
 }
 
@@ -42,6 +44,10 @@ impl fmt::Display for Answer {
                 write!(f, "take {vcid} {apid} ")?;
                 write_octets(f, packet.as_slice())
             }
+            Answer::Unit { vcid, map, unit } => {
+                write!(f, "unit {vcid} {map} ")?;
+                write_unit(f, unit.as_slice())
+            }
             Answer::Clcw { vcid, word } => write!(f, "clcw {vcid} {word:08x}"),
             Answer::Refused(refusal) => write!(f, "refused {refusal}"),
         }
@@ -55,10 +61,19 @@ fn write_delivery<W: fmt::Write>(f: &mut fmt::Formatter<W>, delivery: &Delivery)
     write!(f, " queued {queued} dropped {dropped} rest {rest}")
 }
 
+// A unit of no octets has a mark of its own, since it has no digits.
+fn write_unit<W: fmt::Write>(f: &mut fmt::Formatter<W>, unit: &[u8]) -> fmt::Result {
+    if unit.is_empty() {
+        f.write_str("-")
+    } else {
+        write_octets(f, unit)
+    }
+}
+
 // So many octets are made into digits at a time.
 const AT_ONCE: usize = 64;
 
-// Two digits for each octet. A packet may have 65,542, so that digits for all of it at once would be a growth.
+// Two digits for each octet. A packet or a unit may have 65,542, so that digits for all of it at once would be a growth.
 fn write_octets<W: fmt::Write>(f: &mut fmt::Formatter<W>, octets: &[u8]) -> fmt::Result {
     let mut room = [0u8; 2 * AT_ONCE];
     for some in octets.chunks(AT_ONCE) {
@@ -81,6 +96,7 @@ impl fmt::Display for Refusal {
             Refusal::Unlocated(LocateFault::UnknownChannel) => "channel",
             Refusal::UnknownChannel => "channel",
             Refusal::NoQueue => "no queue",
+            Refusal::NoMap => "no map",
             Refusal::Empty => "empty",
         })
     }

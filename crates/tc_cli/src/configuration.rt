@@ -2,15 +2,16 @@
 
 ghost use Rattle.std.specs.Prelude.{◌≡◌, ◌≢◌, ◌≤◌, ◌⊎◌, [], length, map, IfOk, IfErr, OnOk, MatchOption, MatchResult};
 ghost use Rattle.tc_channel.specs.Settings.{IsAllowed};
-ghost use Rattle.tc_cli.specs.Configuration.{AddsChannel, AddsQueue, IsThere, IsAt, with_queue};
+ghost use Rattle.tc_cli.specs.Configuration.{AddsChannel, AddsToChannel, IsThere, IsAt, with_addition};
 ghost use Rattle.tc_cli.specs.Parting.{empty_list};
-ghost use Rattle.tc_cli.specs.Phase.{IsChannelRefused, IsQueueRefused, IsSettingsReason};
+ghost use Rattle.tc_cli.specs.Phase.{IsChannelRefused, IsAdditionRefused, IsSettingsReason};
 ghost use Rattle.tc_station.specs.StationSettings.{vcids_of};
 
+use crate::growing::append;
+use crate::instruction::Addition;
 use std::alloc::Global;
 use std::marker::Model;
-use std::mem;
-use tc_channel::{Items, QueueSetting, Settings, allowed_settings_have_no_fault};
+use tc_channel::{Items, Settings, allowed_settings_have_no_fault};
 use tc_station::{Station, StationFault, WorkList};
 use tc_text::Reason;
 
@@ -59,22 +60,22 @@ impl Configuration {
         }
     }
 
-    /// With the queue of a queue line besides.
-    pub(crate) fn with_queue(
+    /// With the queue of a queue line or the chosen MAP of a map line besides.
+    pub(crate) fn with_addition(
         self,
         alloc: Global,
         vcid: u8,
-        queue: QueueSetting,
+        addition: Addition,
     ) -> Result<Configuration, Reason>
-        ensures done { IfOk result (AddsQueue self vcid queue.apid queue.capacity) }
-        ensures reason { IfErr result (λ reason. (reason ≡ Reason.NoMemory) ⊎ IsQueueRefused self vcid queue.apid queue.capacity reason) }
+        ensures done { IfOk result (AddsToChannel self vcid addition) }
+        ensures reason { IfErr result (λ reason. (reason ≡ Reason.NoMemory) ⊎ IsAdditionRefused self vcid addition reason) }
     {
         let Configuration { mut channels } = self;
         let Some(place) = place_of(&channels, vcid) else {
             return Err(Reason::UnknownChannel);
         };
         let settings = &mut channels[place];
-        add_queue(alloc, settings, queue)?;
+        add(alloc, settings, addition)?;
         check(settings)?;
         Ok(Configuration { channels })
     }
@@ -154,16 +155,14 @@ fn check(settings: &Settings) -> Result<(), Reason>
     Ok(())
 }
 
-// One queue more.
-fn add_queue(alloc: Global, settings: &mut Settings, queue: QueueSetting) -> Result<(), Reason>
-    ensures done { OnOk result (settings.new ≡ with_queue settings.old queue.apid queue.capacity) }
+// One queue or one chosen MAP more.
+fn add(alloc: Global, settings: &mut Settings, addition: Addition) -> Result<(), Reason>
+    ensures done { OnOk result (settings.new ≡ with_addition settings.old addition) }
+    ensures vcid { settings.new.vcid ≡ settings.old.vcid }
     ensures reason { IfErr result (λ reason. reason ≡ Reason.NoMemory) }
 {
-    let there = mem::replace(&mut settings.queues, Items::from(Vec::new(alloc)));
-    let mut queues = there.into_vec();
-    if queues.push(queue).is_err() {
-        return Err(Reason::NoMemory);
+    match addition {
+        Addition::Queue(queue) => append(alloc, &mut settings.queues, queue),
+        Addition::Map(map) => append(alloc, &mut settings.maps, map),
     }
-    settings.queues = Items::from(queues);
-    Ok(())
 }

@@ -7,6 +7,7 @@
 
 mod answer;
 mod configuration;
+mod growing;
 mod instruction;
 mod manned;
 mod parallel;

@@ -3,7 +3,7 @@
 ghost use Rattle.std.specs.Prelude.{◌≡◌, IfOk, IfErr, OnOk, OnErr};
 ghost use Rattle.tc_cli.specs.Manned.{newly_manned, after_answer};
 ghost use Rattle.tc_station.specs.Tally.{fresh};
-ghost use Rattle.tc_cli.specs.Operation.{IsFrameAnswer, IsReleaseAnswer, IsTakeAnswer, IsClcwAnswer};
+ghost use Rattle.tc_cli.specs.Operation.{IsFrameAnswer, IsReleaseAnswer, IsTakeAnswer, IsUnitAnswer, IsClcwAnswer};
 
 use crate::answer::{Answer, Refusal};
 use crate::watchers::Watchers;
@@ -11,7 +11,9 @@ use std::alloc::Global;
 use std::marker::Model;
 use std::sync::Wait;
 use tc_channel::Octets;
-use tc_station::{BringFault, Operator, OperatorsFault, ReleaseRefused, Station, TakeRefused};
+use tc_station::{
+    BringFault, Operator, OperatorsFault, ReleaseRefused, Station, TakeRefused, TakeUnitRefused,
+};
 use tc_text::Reason;
 
 /// A station with the one operator that it has issued, and a watcher for each channel.
@@ -120,6 +122,26 @@ impl MannedStation {
             Err(TakeRefused::NoQueue) => Ok(Answer::Refused(Refusal::NoQueue)),
             Err(TakeRefused::Empty) => Ok(Answer::Refused(Refusal::Empty)),
             Err(TakeRefused::NoMemory) => Err(Reason::NoMemory),
+        }
+    }
+
+    /// Takes the oldest unit of a channel's chosen MAP.
+    pub(crate) fn unit(&mut self, rt: &impl Wait, vcid: u8, map: u8) -> Result<Answer, Reason>
+        ensures answer { IfOk result (IsUnitAnswer self.old.station vcid map) }
+        ensures counted { IfOk result (λ answer. self.new ≡ after_answer answer self.old) }
+        ensures reason { IfErr result (λ reason. reason ≡ Reason.NoMemory) }
+        ensures refused { OnErr result (self.new ≡ self.old) }
+    {
+        match self.station.take_unit(rt, &mut self.operator, vcid, map) {
+            Ok(unit) => Ok(Answer::Unit {
+                vcid,
+                map,
+                unit: Octets::from(unit),
+            }),
+            Err(TakeUnitRefused::UnknownChannel) => Ok(Answer::Refused(Refusal::UnknownChannel)),
+            Err(TakeUnitRefused::NoMap) => Ok(Answer::Refused(Refusal::NoMap)),
+            Err(TakeUnitRefused::Empty) => Ok(Answer::Refused(Refusal::Empty)),
+            Err(TakeUnitRefused::NoMemory) => Err(Reason::NoMemory),
         }
     }
 

@@ -22,7 +22,7 @@ use tc_channel::Channel;
 use tc_station::{Gate, Job, Order};
 use tc_text::{Reason, ScriptFault, next_line, parse_line, read_whole};
 
-/// Reads a script and checks each of its lines; then does its frames, releases and takes by one worker
+/// Reads a script and checks each of its lines; then does its frames and releases, and what it takes, by one worker
 /// for each channel, and writes the final report alone. The script is read whole, and all its jobs are
 /// kept before the first one is done.
 ///
@@ -121,7 +121,7 @@ impl Stage<Parted> {
         match instruction {
             Instruction::Nothing => Ok(self),
             Instruction::Channel(settings) => self.with_channel(settings),
-            Instruction::Queue(vcid, queue) => self.with_queue(alloc, vcid, queue),
+            Instruction::Add(vcid, addition) => self.with_addition(alloc, vcid, addition),
             Instruction::Frame(octets) => {
                 let parted = self.start(alloc, scid)?;
                 Ok(Stage::Operating(parted.with_frame(alloc, line, octets)?))
@@ -133,6 +133,13 @@ impl Stage<Parted> {
                 vcid,
                 line,
                 Order::Take(apid),
+            ),
+            Instruction::Unit(vcid, map) => self.with_order(
+                alloc,
+                scid,
+                vcid,
+                line,
+                Order::TakeUnit(map),
             ),
             Instruction::Clcw(_) => Ok(Stage::Operating(self.start(alloc, scid)?)),
         }

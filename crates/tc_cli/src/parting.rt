@@ -1,18 +1,18 @@
 //! Jobs, parted by the channels that they are for, and done by a worker for each channel.
 
 ghost use Rattle.std.specs.Prelude.{◌≡◌, ◌≢◌, ◌≤◌, ◌⊎◌, [], IfOk, IfErr, OnOk, MatchOption};
-ghost use Rattle.tc_cli.specs.Parting.{newly_parted, IsGiven, IsFrameGiven, IsListed, IsListAt, IsWorkedOut, with_job};
+ghost use Rattle.tc_cli.specs.Parting.{newly_parted, IsGiven, IsFrameGiven, IsListed, IsListAt, IsWorkedOut};
 ghost use Rattle.tc_cli.specs.Report.{AreRising};
 ghost use Rattle.tc_cli.specs.Script.{IsWorkFault};
 
 use crate::configuration::Configuration;
+use crate::growing::append;
 use crate::report::close;
 use std::alloc::Global;
 use std::marker::Model;
-use std::mem;
 use std::sync::Wait;
 use std::thread::Threads;
-use tc_channel::{Channel, Items, Octets};
+use tc_channel::{Channel, Octets};
 use tc_station::{Gate, Job, OperatorsFault, Order, Station, WorkFault, WorkList};
 use tc_text::{Reason, ScriptFault};
 
@@ -79,7 +79,7 @@ impl Parted {
             return Ok(Parted { station, lists });
         };
         let list = &mut lists[place];
-        add_job(alloc, list, job)?;
+        append(alloc, &mut list.jobs, job)?;
         Ok(Parted { station, lists })
     }
 
@@ -121,18 +121,4 @@ fn no_memory(line: u32) -> ScriptFault
         line,
         reason: Reason::NoMemory,
     }
-}
-
-// One job more.
-fn add_job(alloc: Global, list: &mut WorkList, job: Job) -> Result<(), Reason>
-    ensures done { OnOk result (list.new ≡ with_job list.old job) }
-    ensures reason { IfErr result (λ reason. reason ≡ Reason.NoMemory) }
-{
-    let there = mem::replace(&mut list.jobs, Items::from(Vec::new(alloc)));
-    let mut jobs = there.into_vec();
-    if jobs.push(job).is_err() {
-        return Err(Reason::NoMemory);
-    }
-    list.jobs = Items::from(jobs);
-    Ok(())
 }

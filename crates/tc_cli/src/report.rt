@@ -48,7 +48,8 @@ pub(crate) fn write_report<W: Write>(channels: &[Channel], writer: &mut W) -> io
     Ok(())
 }
 
-// Writes what a channel has come to, and then how many packets wait in each of its queues.
+// Writes what a channel has come to, then how many packets wait in each of its queues and how many units on each of its
+// chosen MAPs.
 fn write_channel<W: Write>(channel: &Channel, writer: &mut W) -> io::Result<()> {
     let settings = channel.settings();
     let vcid = settings.vcid;
@@ -63,6 +64,12 @@ fn write_channel<W: Write>(channel: &Channel, writer: &mut W) -> io::Result<()> 
         if let Some(queued) = channel.queued(queue.apid) {
             let apid = queue.apid;
             writeln!(writer, "queue {vcid} {apid} {queued}")?;
+        }
+    }
+    for chosen in settings.maps.as_slice() {
+        if let Some(units) = channel.units(chosen.map) {
+            let map = chosen.map;
+            writeln!(writer, "map {vcid} {map} {units}")?;
         }
     }
     Ok(())

@@ -1,7 +1,7 @@
 //! A script whose lines are done in order: at the first operation its station is made.
 
 ghost use Rattle.std.specs.Prelude.{◌≡◌, ◌≢◌, ◌≤◌, ◌⊎◌, [], IfOk, IfErr, OnOk};
-ghost use Rattle.tc_cli.specs.Operation.{IsFrameAnswer, IsReleaseAnswer, IsTakeAnswer, IsClcwAnswer};
+ghost use Rattle.tc_cli.specs.Operation.{IsFrameAnswer, IsReleaseAnswer, IsTakeAnswer, IsUnitAnswer, IsClcwAnswer};
 ghost use Rattle.tc_cli.specs.Phase.{Does, IsBad, IsBadOperation, Operates, Setup};
 ghost use Rattle.tc_cli.specs.Session.{manned_for, IsAnswered, IsOperated};
 ghost use Rattle.tc_cli.specs.Stage.{phase_of};
@@ -38,10 +38,13 @@ impl Stage<MannedStation> {
         match instruction {
             Instruction::Nothing => Ok((self, None)),
             Instruction::Channel(settings) => Ok((self.with_channel(settings)?, None)),
-            Instruction::Queue(vcid, queue) => Ok((self.with_queue(alloc, vcid, queue)?, None)),
+            Instruction::Add(vcid, addition) => {
+                Ok((self.with_addition(alloc, vcid, addition)?, None))
+            }
             Instruction::Frame(octets) => self.bring(rt, alloc, scid, octets),
             Instruction::Release(vcid) => self.release(rt, alloc, scid, vcid),
             Instruction::Take(vcid, apid) => self.take(rt, alloc, scid, vcid, apid),
+            Instruction::Unit(vcid, map) => self.unit(rt, alloc, scid, vcid, map),
             Instruction::Clcw(vcid) => self.clcw(rt, alloc, scid, vcid),
         }
     }
@@ -95,6 +98,24 @@ impl Stage<MannedStation> {
     {
         let mut manned = self.start(rt, alloc, scid)?;
         let answer = manned.take(rt, vcid, apid)?;
+        Ok((Stage::Operating(manned), Some(answer)))
+    }
+
+    fn unit(
+        self,
+        rt: &impl Wait,
+        alloc: Global,
+        scid: u16,
+        vcid: u8,
+        map: u8,
+    ) -> Result<Performed, Reason>
+        requires { scid ≤ 1023 }
+        ensures done { IfOk result (λ done. Operates (phase_of self) (phase_of done.0)) }
+        ensures answer { IfOk result (λ done. IsOperated scid (λ station. IsUnitAnswer station vcid map) self done.0 done.1) }
+        ensures reason { IfErr result (λ reason. (reason ≡ Reason.NoMemory) ⊎ IsBadOperation (phase_of self) reason) }
+    {
+        let mut manned = self.start(rt, alloc, scid)?;
+        let answer = manned.unit(rt, vcid, map)?;
         Ok((Stage::Operating(manned), Some(answer)))
     }
 

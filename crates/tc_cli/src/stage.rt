@@ -5,9 +5,9 @@ ghost use Rattle.tc_cli.specs.Phase.{Does, IsBad, Setup, Operation};
 ghost use Rattle.tc_cli.specs.Stage.{phase_of};
 
 use crate::configuration::Configuration;
-use crate::instruction::Instruction;
+use crate::instruction::{Addition, Instruction};
 use std::alloc::Global;
-use tc_channel::{QueueSetting, Settings};
+use tc_channel::Settings;
 use tc_text::Reason;
 
 /// How far a script has come. What operates is made at the first operation, with the channels that are
@@ -28,18 +28,18 @@ impl<O: Drop> Stage<O> {
         Ok(Stage::SettingUp(list.with_channel(settings)?))
     }
 
-    /// With the queue of a queue line besides.
-    pub(crate) fn with_queue(
+    /// With the queue of a queue line or the chosen MAP of a map line besides.
+    pub(crate) fn with_addition(
         self,
         alloc: Global,
         vcid: u8,
-        queue: QueueSetting,
+        addition: Addition,
     ) -> Result<Stage<O>, Reason>
-        ensures done { IfOk result (λ done. Does (phase_of self) (Instruction.Queue vcid queue) (phase_of done)) }
-        ensures reason { IfErr result (λ reason. (reason ≡ Reason.NoMemory) ⊎ IsBad (phase_of self) (Instruction.Queue vcid queue) reason) }
+        ensures done { IfOk result (λ done. Does (phase_of self) (Instruction.Add vcid addition) (phase_of done)) }
+        ensures reason { IfErr result (λ reason. (reason ≡ Reason.NoMemory) ⊎ IsBad (phase_of self) (Instruction.Add vcid addition) reason) }
     {
         let list = self.configuration()?;
-        Ok(Stage::SettingUp(list.with_queue(alloc, vcid, queue)?))
+        Ok(Stage::SettingUp(list.with_addition(alloc, vcid, addition)?))
     }
 
     // What is set up, where no operation came before.
