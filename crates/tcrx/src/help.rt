@@ -9,9 +9,11 @@ pub(crate) const SCRIPTS: &str = "Lines of a script, those that set up first:
                                       how many data fields its buffer holds (1 to 64), its first V(R) (0 to 255);
                                       plain: data fields have no segment headers
   queue VC APID CAPACITY              gives it a queue for an application (0 to 2046) with room for 1 to 256 packets
+  map VC MAP CAPACITY                 gives it a queue for the whole units of a MAP (0 to 63) with room for 1 to 256 units
   frame HEX                           brings octets that arrive; the frame says for which channel
   release VC                          lets the oldest data field out of the buffer, to reassembly
   take VC APID                        takes the oldest packet out of a queue
+  unit VC MAP                         takes the oldest unit out of the queue of a MAP
   clcw VC                             tells the CLCW
   # WORDS                             is a comment
 A script has at most 1048576 octets, and is read to its end before the first answer.
