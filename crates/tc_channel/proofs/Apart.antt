@@ -1,8 +1,9 @@
 -- Settings with distinct keys, looked at one after the other.
-use Rattle.std.proofs.Common.{◌≡◌, ◌≢◌, ℕ, ◌+◌, ◌<◌, List, length, take, get_or, sym, ap, ◌∙◌, inl, inr, arith}
-use Rattle.std.specs.Prelude.{Any, AllPairs}
+use Rattle.std.proofs.Common.{◌≡◌, ◌≢◌, ℕ, ◌+◌, ◌<◌, Bool, true, false, List, length, take, get_or, replicate, sym, ap, ◌∙◌, inl, inr, arith}
+use Rattle.std.specs.Prelude.{Any, AllPairs, ◌↔◌}
+use Rattle.std.proofs.Math.ListN.{set}
 use Rattle.std.proofs.lemmas.Bool.{cases_eq}
-use Rattle.std.proofs.lemmas.List.{get_or-take, get_or_default, length-take}
+use Rattle.std.proofs.lemmas.List.{get_or-take, get_or_default, get_or-set_same, get_or-set_other, get_or-replicate, length-set, length-replicate, length-take}
 
 -- an earlier one has this key
 abbrev Earlier : {A : Type 0} → (A → ℕ) → List A → ℕ → ℕ → Type 0
@@ -30,3 +31,41 @@ apart-more key qs i d lt none below j k e jk ki same = elim (cases_eq k i) [
       none (j, get_or qs j e, omega (arith, length-take i qs), at, same ∙ ap key here))
   | inr other ↦ below j k e jk (omega arith) same
 ]
+
+-- a table has marked the keys of the first i
+abbrev pub AreMarked : {A : Type 0} → (A → ℕ) → List A → ℕ → List Bool → Type 0
+AreMarked key qs i seen = (n : ℕ) → n < length seen → (get_or seen n false ≡ true) ↔ Earlier key qs i n
+
+pub none-marked : {A : Type 0} (key : A → ℕ) (qs : List A) (count : ℕ) → AreMarked key qs 0 (replicate count false)
+none-marked key qs count n lt = (λ yes. absurd (let no : get_or (replicate count false) n false ≡ false = get_or-replicate count n false false (rw (length-replicate count false) at lt) in let both : false ≡ true = sym no ∙ yes in cc), λ earlier. absurd (let none = earlier.2 in omega arith))
+
+pub marked-more : {A : Type 0} (key : A → ℕ) (qs : List A) (i : ℕ) (d : A) (seen : List Bool) → i < length qs → key (get_or qs i d) < length seen → AreMarked key qs i seen → AreMarked key qs (i + 1) (set seen (key (get_or qs i d)) true)
+marked-more key qs i d seen lt within marked n small =
+    let inside : n < length seen = omega (arith, length-set seen (key (get_or qs i d)) true) in
+    elim (cases_eq n (key (get_or qs i d))) [
+      | inl same ↦ (λ yes. here same, λ earlier. rw same (get_or-set_same seen (key (get_or qs i d)) true false within))
+      | inr other ↦ (
+        λ yes. later ((marked n inside).0 (sym (get_or-set_other seen (key (get_or qs i d)) n true false other) ∙ yes)),
+        λ earlier. get_or-set_other seen (key (get_or qs i d)) n true false other ∙ (marked n inside).1 (before other earlier),
+      )
+    ]
+  where
+    here : n ≡ key (get_or qs i d) → Earlier key qs (i + 1) n
+    here same = (i, get_or qs i d, omega (arith, length-take (i + 1) qs), get_or-take (i + 1) qs i (get_or qs i d) (omega arith) ∙ get_or_default qs i (get_or qs i d) d lt, sym same)
+
+    later : Earlier key qs i n → Earlier key qs (i + 1) n
+    later e =
+        let k = e.0 in
+        let x = e.1 in
+        let small : k < i = (let lt = e.2 in omega (arith, length-take i qs)) in
+        (k, x, (let lt = e.2 in omega (arith, length-take i qs, length-take (i + 1) qs)), get_or-take (i + 1) qs k x (omega arith) ∙ sym (get_or-take i qs k x small) ∙ e.3, e.4)
+
+    before : n ≢ key (get_or qs i d) → Earlier key qs (i + 1) n → Earlier key qs i n
+    before other e =
+        let k = e.0 in
+        let x = e.1 in
+        let within_next : k < i + 1 = (let lt = e.2 in omega (arith, length-take (i + 1) qs)) in
+        let at : get_or qs k x ≡ x = sym (get_or-take (i + 1) qs k x within_next) ∙ e.3 in
+        let not_here : k ≢ i = λ last. other (sym (ap key (sym (get_or_default qs i x d lt) ∙ sym (ap (λ m. get_or qs m x) last) ∙ at) ∙ e.4)) in
+        let small : k < i = omega (arith, not_here) in
+        (k, x, (let lt = e.2 in omega (arith, length-take i qs, length-take (i + 1) qs)), get_or-take i qs k x small ∙ at, e.4)

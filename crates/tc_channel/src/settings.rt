@@ -1,7 +1,7 @@
 //! The settings of a channel.
 
 ghost use Rattle.std.specs.Prelude.{◌≡◌, ◌↔◌, Any, IsTrue, MatchResult};
-ghost use Rattle.tc_channel.specs.Settings.{AreApart, AreMapsApart};
+ghost use Rattle.tc_channel.specs.Settings.{HaveApids, AreApart, AreMapsApart};
 
 use crate::items::Items;
 use tc_link::Window;
@@ -123,21 +123,18 @@ impl Settings {
     }
 }
 
-// Whether a queue has this APID.
-fn has_apid(queues: &[QueueSetting], apid: u16) -> bool
-    ensures { IsTrue result ↔ Any (λ q. q.apid ≡ apid) queues.now }
-{
-    queues.iter().any(|queue| queue.apid == apid)
-}
-
-// Whether no two queues have one APID.
+// Whether no two queues have one APID. Each APID is marked where it was seen, so that this takes a step a queue.
 fn are_apart(queues: &[QueueSetting]) -> bool
+    requires { HaveApids queues.now }
     ensures { IsTrue result ↔ AreApart queues.now }
 {
-    for (i, queue) in queues.iter().enumerate() {
-        if has_apid(&queues[..i], queue.apid) {
+    let mut seen = [false; 2047];
+    for queue in queues {
+        let apid = queue.apid as usize;
+        if seen[apid] {
             return false;
         }
+        seen[apid] = true;
     }
     true
 }

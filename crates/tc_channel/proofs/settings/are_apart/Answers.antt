@@ -1,11 +1,28 @@
-use Rattle.std.proofs.Common.{refl}
-use Rattle.tc_channel.proofs.Apart.{not-apart, apart-more}
+use Rattle.std.proofs.Common.{◌<◌, true, length, get_or, refl, ◌∙◌, arith}
+use Rattle.std.proofs.lemmas.List.{length-set}
+use Rattle.tc_channel.proofs.Apart.{none-marked, not-apart, apart-more, marked-more}
 use Rattle.tc_channel.specs.declared.settings.QueueSetting.{QueueSetting}
 use Rattle.tc_channel.proofs.settings.are_apart.Goals as goal
 
-pub returns-then-has_apid : goal.returns-then-has_apid
-returns-then-has_apid c =
-    (λ yes. absurd cc, λ apart. absurd (not-apart (λ (q : QueueSetting). q.apid) c.args.queues.now c.loop-i.i _ c.loop-i-test.true (c.if-has_apid.ensures.0 refl) apart))
+pub loop-queue-init : goal.loop-queue-init
+loop-queue-init c = record {
+  size = refl;
+  apart = λ j k d jk none. absurd (omega arith);
+  marked = none-marked (λ (q : QueueSetting). q.apid) c.args.queues.now 2047;
+}
 
-pub loop-i-preserved : goal.loop-i-preserved
-loop-i-preserved c = apart-more (λ (q : QueueSetting). q.apid) c.args.queues.now c.loop-i.i _ c.loop-i-test.true (λ earlier. absurd (let t = c.if-has_apid.ensures.1 earlier in cc)) c.loop-i.invariant
+pub returns-then-seen-apid : goal.returns-then-seen-apid
+returns-then-seen-apid c =
+    let d : QueueSetting = record { apid = 0; capacity = 0 } in
+    let within : (get_or c.args.queues.now c.loop-queue.queue-index d).apid < length c.loop-queue.seen = (let small = c.requires c.loop-queue.queue-index d c.loop-queue-test.true in omega (arith, c.loop-queue.invariant.size)) in
+    (λ yes. absurd cc, λ apart. absurd (not-apart (λ (q : QueueSetting). q.apid) c.args.queues.now c.loop-queue.queue-index d c.loop-queue-test.true ((c.loop-queue.invariant.marked _ within).0 c.if-seen-apid.true) apart))
+
+pub loop-queue-preserved : goal.loop-queue-preserved
+loop-queue-preserved c =
+    let d : QueueSetting = record { apid = 0; capacity = 0 } in
+    let within : (get_or c.args.queues.now c.loop-queue.queue-index d).apid < length c.loop-queue.seen = (let small = c.requires c.loop-queue.queue-index d c.loop-queue-test.true in omega (arith, c.loop-queue.invariant.size)) in
+    record {
+      size = length-set c.loop-queue.seen _ true ∙ c.loop-queue.invariant.size;
+      apart = apart-more (λ (q : QueueSetting). q.apid) c.args.queues.now c.loop-queue.queue-index d c.loop-queue-test.true (λ earlier. absurd (let marked = (c.loop-queue.invariant.marked _ within).1 earlier in let not = c.if-seen-apid.false in cc)) c.loop-queue.invariant.apart;
+      marked = marked-more (λ (q : QueueSetting). q.apid) c.args.queues.now c.loop-queue.queue-index d c.loop-queue.seen c.loop-queue-test.true within c.loop-queue.invariant.marked;
+    }

@@ -1,6 +1,11 @@
-use Rattle.tc_channel.proofs.Apart.{ApartBelow}
+use Rattle.std.proofs.Common.{◌≡◌, length}
+use Rattle.tc_channel.proofs.Apart.{ApartBelow, AreMarked}
 use Rattle.tc_channel.specs.declared.settings.QueueSetting.{QueueSetting}
 use Rattle.tc_channel.proofs.settings.are_apart.Given as goal
 
-abbrev pub invariant-loop-i : goal.invariant-loop-i
-invariant-loop-i l = ApartBelow (λ (q : QueueSetting). q.apid) l.queues l.i
+abbrev pub invariant-loop-queue : goal.invariant-loop-queue
+invariant-loop-queue l = record {
+  size : length l.seen ≡ 2047;
+  apart : ApartBelow (λ (q : QueueSetting). q.apid) l.queues l.queue-index;
+  marked : AreMarked (λ (q : QueueSetting). q.apid) l.queues l.queue-index l.seen;
+}
