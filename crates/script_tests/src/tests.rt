@@ -12,3 +12,13 @@ const ANSWERS: &str =
 
 /// The final report of `SCRIPT`.
 const REPORT: &str = "final 1 01040801 events 4 buffered 0\nqueue 1 5 0\n";
+
+/// Two units of a chosen MAP, by either service. The fifth event, for which the journal grows, is that of the second unit line.
+const UNITS: &str =
+    "channel 1 10 1 0\nmap 1 3 2\nframe 002a040800c3aabbcc\nrelease 1\nframe 202a040700c3ddee\nunit 1 3\nunit 1 3\nclcw 1\n";
+
+const UNITS_ANSWERS: &str =
+    "frame 1 E1 accepted 1 queued 0 dropped 0 rest 0\nrelease 1 queued 1 dropped 0 rest 0\nframe 1 E6 accepted 1 queued 1 dropped 0 rest 0\nunit 1 3 aabbcc\nunit 1 3 ddee\nclcw 1 01040201\nfinal 1 01040201 events 5 buffered 0\nmap 1 3 0\n";
+
+/// The final report of `UNITS`.
+const UNITS_REPORT: &str = "final 1 01040201 events 5 buffered 0\nmap 1 3 0\n";

@@ -1,7 +1,7 @@
 //! Calls that take memory. With ample memory each answers at once; with one growth refused each
 //! leaves what stood before, and then answers the same.
 
-use super::{ANSWERS, REPORT, SCRIPT};
+use super::{ANSWERS, REPORT, SCRIPT, UNITS, UNITS_ANSWERS, UNITS_REPORT};
 use std::alloc::Global;
 use std::process::Abort;
 use std::sync::Wait;
@@ -83,6 +83,11 @@ fn run_script_growth(rt: HostRuntime) {
     check_script(&rt, SCRIPT, ANSWERS, 2, 11);
 }
 
+#[test]
+fn run_script_growth_of_units(rt: HostRuntime) {
+    check_script(&rt, UNITS, UNITS_ANSWERS, 2, 8);
+}
+
 /// The station is made for the report alone, whose lines come after the last line.
 #[test]
 fn report_growth(rt: HostRuntime) {
@@ -122,6 +127,11 @@ fn check_parallel<R: Threads + Wait + Sync + Abort + Print + AllocGlobal>(
 #[test]
 fn parallel_script_growth(rt: HostRuntime) {
     check_parallel(&rt, SCRIPT, REPORT, 1, 11);
+}
+
+#[test]
+fn parallel_script_growth_of_units(rt: HostRuntime) {
+    check_parallel(&rt, UNITS, UNITS_REPORT, 1, 8);
 }
 
 /// The comments make no growth, so each that is refused is one of the last line.

@@ -22,6 +22,10 @@ fn reasons(rt: HostRuntime) -> Result<(), Fail> {
         (Reason::BadCapacity, "line 7: bad capacity"),
         (Reason::NoMemory, "line 7: no memory"),
         (Reason::BadOption, "line 7: bad option"),
+        (Reason::BadMap, "line 7: bad map"),
+        (Reason::DoubleMap, "line 7: double map"),
+        (Reason::BadUnits, "line 7: bad units"),
+        (Reason::PlainMap, "line 7: map on plain channel"),
     ] {
         let found = ScriptFault::Line { line: 7, reason }.to_string(rt.alloc())?;
         assert_eq!(rt; found.as_str(), text);
