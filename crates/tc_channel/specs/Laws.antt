@@ -1,5 +1,5 @@
 -- What holds of the state of each journal, and of longer journals.
-use Rattle.std.specs.Prelude.{◌≡◌, ◌≢◌, ℕ, ◌+◌, ◌-◌, ◌≤◌, Bool, nat_lt, true, false, List, [], ◌∷◌, ◌++◌, length, Any}
+use Rattle.std.specs.Prelude.{◌≡◌, ◌≢◌, ℕ, ◌+◌, ◌-◌, ◌≤◌, Bool, nat_lt, true, false, List, [], ◌∷◌, ◌++◌, length, Any, if◌then◌else◌}
 use Rattle.tc_link.specs.declared.State.TheVariants.{S1, S2, S3}
 use Rattle.tc_packet.specs.Reassembly.{Passed}
 use Rattle.tc_channel.specs.declared.settings.Settings.{Settings}
@@ -23,6 +23,10 @@ pub record KeepsToItsCapacity (q : Queue) : Type 0 where
 -- a queue has room for one more
 abbrev pub has_room_for_one : Queue → Bool
 has_room_for_one q = nat_lt (length q.admitted - q.taken) q.capacity
+
+-- a queue that one unit more came to: the unit stands at its end where there was room, and was dropped where there was none
+abbrev pub with_unit : Queue → List ℕ → Queue
+with_unit q unit = if has_room_for_one q then record q { admitted = q.admitted ++ unit ∷ [] } else q
 
 -- a queue goes on: it admitted more, and more was taken
 pub record QueueGrows (old new : Queue) : Type 0 where

@@ -1,6 +1,6 @@
 //! Laws over the definitions.
 
-ghost use Rattle.std.specs.Prelude.{List, ℕ, ◌≡◌, ◌≤◌, ◌<◌, ◌+◌, ◌^◌, ◌++◌, ◌↔◌, Option, Some, None, false, [], ◌∷◌, ◌≢◌, if◌then◌else◌, IsTrue, length};
+ghost use Rattle.std.specs.Prelude.{List, ℕ, ◌≡◌, ◌≤◌, ◌<◌, ◌+◌, ◌^◌, ◌++◌, ◌↔◌, Option, Some, None, false, [], ◌∷◌, ◌≢◌, IsTrue, length};
 ghost use Rattle.tc_channel.specs.ChannelState.{ChannelState, Queue, buffer};
 ghost use Rattle.std.specs.List.{AllByRecursion, Contains};
 ghost use Rattle.tc_link.specs.Frame.{IsWhole};
@@ -14,7 +14,7 @@ ghost use Rattle.tc_channel.specs.declared.event.Event.{Event};
 ghost use Rattle.tc_channel.specs.declared.settings.SettingsFault.{SettingsFault};
 ghost use Rattle.tc_channel.specs.Settings.{IsAllowed, IsFault};
 ghost use Rattle.tc_channel.specs.Run.{run, run_from, unit_of, passed_on, HasStep, IsLawful, AreSteps};
-ghost use Rattle.tc_channel.specs.Laws.{IsSound, KeepsToItsCapacity, Grows, IsOfChosenMap, has_room_for_one};
+ghost use Rattle.tc_channel.specs.Laws.{IsSound, KeepsToItsCapacity, Grows, IsOfChosenMap, with_unit};
 ghost use Rattle.tc_channel.specs.Era.{IsEra, CountsUpInItsEra};
 
 use tc_packet::a_plain_field_is_a_unit_by_itself;
@@ -49,24 +49,6 @@ pub fn accepted_frames_count_up()
 pub fn queues_keep_to_their_capacity()
     ensures queues { (s : Settings) (journal : List Event) → AllByRecursion KeepsToItsCapacity (run s journal).queues }
     ensures units { (s : Settings) (journal : List Event) → AllByRecursion KeepsToItsCapacity (run s journal).units }
-{}
-
-/// The chosen MAPs are those of the settings, whatever comes.
-pub fn chosen_maps_stay()
-    ensures { (s : Settings) (journal : List Event) (field : List ℕ) → IsTrue (is_chosen (run s journal) field) ↔ IsOfChosenMap s field }
-{}
-
-/// A unit of a chosen MAP is appended whole to the queue of its MAP where that has room, else it is dropped; the queues of other
-/// MAPs stay.
-pub fn a_unit_is_kept_where_its_queue_has_room()
-    ensures kept { (q : Queue) (unit : List ℕ) → with_share (is_of_map q.key) (unit ∷ []) q ≡ (if has_room_for_one q then record q { admitted = q.admitted ++ unit ∷ [] } else q) }
-    ensures others { (q : Queue) (map_id : ℕ) (unit : List ℕ) → q.key ≢ map_id → with_share (is_of_map map_id) (unit ∷ []) q ≡ q }
-{}
-
-/// A data field of a chosen MAP gives no application a packet, and one of another MAP gives no unit queue a unit.
-pub fn a_unit_is_delivered_whole_or_by_packets()
-    ensures whole { (state : ChannelState) (service : Service) (field : List ℕ) → IsTrue (is_chosen state field) → (passed_on service field state).queues ≡ state.queues }
-    ensures by_packets { (state : ChannelState) (service : Service) (field : List ℕ) → ¬ IsTrue (is_chosen state field) → (passed_on service field state).units ≡ state.units }
 {}
 
 /// The run of a longer journal begins with the run of its beginning: it goes on from there, and nothing is cut.
@@ -108,3 +90,21 @@ pub fn a_plain_channel_takes_each_field_as_a_unit()
 {
     a_plain_field_is_a_unit_by_itself();
 }
+
+/// The chosen MAPs are those of the settings, whatever comes.
+pub fn chosen_maps_stay()
+    ensures { (s : Settings) (journal : List Event) (field : List ℕ) → IsTrue (is_chosen (run s journal) field) ↔ IsOfChosenMap s field }
+{}
+
+/// A unit of a chosen MAP is appended whole to the queue of its MAP where that has room, else it is dropped; the queues of other
+/// MAPs stay.
+pub fn a_unit_is_kept_where_its_queue_has_room()
+    ensures kept { (q : Queue) (unit : List ℕ) → with_share (is_of_map q.key) (unit ∷ []) q ≡ with_unit q unit }
+    ensures others { (q : Queue) (map_id : ℕ) (unit : List ℕ) → q.key ≢ map_id → with_share (is_of_map map_id) (unit ∷ []) q ≡ q }
+{}
+
+/// A data field of a chosen MAP gives no application a packet, and one of another MAP gives no unit queue a unit.
+pub fn a_unit_is_delivered_whole_or_by_packets()
+    ensures whole { (state : ChannelState) (service : Service) (field : List ℕ) → IsTrue (is_chosen state field) → (passed_on service field state).queues ≡ state.queues }
+    ensures by_packets { (state : ChannelState) (service : Service) (field : List ℕ) → ¬ IsTrue (is_chosen state field) → (passed_on service field state).units ≡ state.units }
+{}
