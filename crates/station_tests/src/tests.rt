@@ -1,8 +1,7 @@
 mod board;
 mod closing;
-mod desk_growth;
 mod faults;
-mod growth;
+mod maps;
 mod refusals;
 mod status;
 mod work;
@@ -12,7 +11,7 @@ ghost use Rattle.tc_station.specs.StationSettings.{vcids_of};
 
 use std::alloc::{AllocError, Global};
 use std::process::Abort;
-use tc_channel::{Delivery, Event, FrameReply, Items, Octets, QueueSetting, Settings};
+use tc_channel::{Delivery, FrameReply, Items, MapSetting, QueueSetting, Settings};
 use tc_link::{Act, Link};
 use tc_station::{Operator, Station};
 
@@ -23,21 +22,12 @@ const NOTHING: Delivery = Delivery {
     rest: false,
 };
 
-// One packet was queued, and nothing was left.
-const ONE: Delivery = Delivery {
-    queued: 1,
-    dropped: 0,
-    rest: false,
-};
-
 const NO_FLAG: Link = Link {
     no_rf: false,
     no_bit_lock: false,
 };
 
-const PACKET: [u8; 7] = [0x10, 0x05, 0xc0, 0x00, 0x00, 0x00, 0xaa];
-
-// The AD frame with N(S) 0 for spacecraft 42 and virtual channel 1 that carries `PACKET`.
+// The AD frame with N(S) 0 for spacecraft 42 and virtual channel 1 that carries one packet of APID 5.
 const FRAME: [u8; 13] = [
     0x00, 0x2a, 0x04, 0x0c, 0x00, 0xc0, 0x10, 0x05, 0xc0, 0x00, 0x00, 0x00, 0xaa,
 ];
@@ -45,12 +35,6 @@ const FRAME: [u8; 13] = [
 // As `FRAME`, with N(S) 1.
 const NEXT: [u8; 13] = [
     0x00, 0x2a, 0x04, 0x0c, 0x01, 0xc0, 0x10, 0x05, 0xc0, 0x00, 0x00, 0x00, 0xaa,
-];
-
-// A BD frame for the same channel with two packets.
-const TWO_PACKETS: [u8; 20] = [
-    0x20, 0x2a, 0x04, 0x13, 0x00, 0xc0, 0x10, 0x05, 0xc0, 0x00, 0x00, 0x00, 0xaa, 0x10, 0x05, 0xc0,
-    0x01, 0x00, 0x00, 0xbb,
 ];
 
 // As `FRAME`, for spacecraft 43, or for virtual channel 2, or for both.
@@ -75,38 +59,7 @@ const BUFFERED: FrameReply = FrameReply {
     delivery: NOTHING,
 };
 
-// The reply to a frame that finds no room.
-const NO_ROOM: FrameReply = FrameReply {
-    act: Act {
-        event: 2,
-        accepted: false,
-    },
-    delivery: NOTHING,
-};
-
-// The reply to a frame that comes again.
-const BEHIND: FrameReply = FrameReply {
-    act: Act {
-        event: 4,
-        accepted: false,
-    },
-    delivery: NOTHING,
-};
-
-// The reply to `TWO_PACKETS`.
-const BYPASSED: FrameReply = FrameReply {
-    act: Act {
-        event: 6,
-        accepted: true,
-    },
-    delivery: Delivery {
-        queued: 2,
-        dropped: 0,
-        rest: false,
-    },
-};
-
-// The window 10, one buffered field, V(R) 0 first, and a queue of capacity 2 for APID 5. One growth may be refused.
+// The window 10, one buffered field, V(R) 0 first, a queue of capacity 2 for APID 5, and no chosen MAP.
 fn settings(alloc: Global, vcid: u8) -> Result<Settings, AllocError>
     ensures { IfOk result (λ s. s.vcid ≡ vcid) }
 {
@@ -114,45 +67,22 @@ fn settings(alloc: Global, vcid: u8) -> Result<Settings, AllocError>
         apid: 5,
         capacity: 2,
     };
-    let queues = match Vec::from_slice(alloc, &[queue]) {
-        Ok(queues) => queues,
-        Err(_) => Vec::from_slice(alloc, &[queue])?,
-    };
     Ok(Settings {
         vcid,
         width: 10,
         buffer: 1,
         first: 0,
         segmented: true,
-        queues: Items::from(queues),
+        queues: Items::from(Vec::from_slice(alloc, &[queue])?),
+        maps: Items::from(Vec::new(alloc)),
     })
 }
 
-// The event of a frame with these octets. One growth may be refused.
-fn frame_event(alloc: Global, octets: &[u8]) -> Result<Event, AllocError> {
-    match Octets::copied(alloc, octets) {
-        Ok(copy) => Ok(Event::Frame(copy)),
-        Err(_) => Ok(Event::Frame(Octets::copied(alloc, octets)?)),
-    }
-}
-
-// Appends to a journal. One growth may be refused.
-fn note(journal: &mut Vec<Event>, event: Event) -> Result<(), AllocError> {
-    if journal.reserve(1).is_err() {
-        journal.reserve(1)?;
-    }
-    journal.push(event)?;
-    Ok(())
-}
-
-// Settings for each of these virtual channels. One growth may be refused.
+// Settings for each of these virtual channels.
 fn settings_of(alloc: Global, vcids: &[u8]) -> Result<Vec<Settings>, AllocError>
     ensures { IfOk result (λ list. vcids_of list.items ≡ vcids.now) }
 {
-    let mut list = match Vec::with_capacity(alloc, vcids.len()) {
-        Ok(list) => list,
-        Err(_) => Vec::with_capacity(alloc, vcids.len())?,
-    };
+    let mut list = Vec::with_capacity(alloc, vcids.len())?;
     for vcid in vcids {
         list.push(settings(alloc, *vcid)?)?;
     }
@@ -182,6 +112,20 @@ impl Manned {
         let operator = operators.pop().expect(rt, "an operator");
         Manned { station, operator }
     }
+}
+
+// Virtual channel 1 as above, with a queue for one unit of MAP 3.
+fn settings_with_a_map(alloc: Global) -> Result<Settings, AllocError>
+    ensures { IfOk result (λ s. s.vcid ≡ 1) }
+{
+    let map = MapSetting {
+        map: 3,
+        capacity: 1,
+    };
+    Ok(Settings {
+        maps: Items::from(Vec::from_slice(alloc, &[map])?),
+        ..settings(alloc, 1)?
+    })
 }
 
 // A station of channels 1 and 2, with room for 64 data fields each.

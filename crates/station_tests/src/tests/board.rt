@@ -1,15 +1,9 @@
 //! Boards: publishers and watchers of a channel that stands alone.
 
 use std::alloc::{AllocError, Global};
-use std::process::Abort;
-use tc_channel::{Channel, NoMemory, QueueSetting, Settings, SettingsFault};
-use tc_link::{Link, read_frame};
-use tc_status::{Publisher, Watcher, meet};
-
-const NO_FLAG: Link = Link {
-    no_rf: false,
-    no_bit_lock: false,
-};
+use tc_channel::{Channel, Items, QueueSetting, Settings, SettingsFault};
+use tc_link::read_frame;
+use tc_status::{Publisher, meet};
 
 // Virtual channel 1, a window of 10, a buffer of one, V(R) 0, and a queue of one packet for APID 5.
 fn settings(alloc: Global) -> Result<Settings, AllocError> {
@@ -24,6 +18,7 @@ fn settings(alloc: Global) -> Result<Settings, AllocError> {
         first: 0,
         segmented: true,
         queues: Vec::from_slice(alloc, &[queue])?.into(),
+        maps: Items::from(Vec::new(alloc)),
     })
 }
 
@@ -66,56 +61,4 @@ fn each_watcher_reads_what_was_published_last(rt: HostRuntime) {
 
     meet(&mut publisher, &mut old);
     assert_eq!(rt; old.read(), 0x01041801, "after a meeting");
-}
-
-// Each call below is made again where a growth was refused, and must then answer as with ample memory.
-
-// A channel that took the frame with N(S) 0.
-fn channel_with_a_frame(rt: &impl Abort, alloc: Global) -> Channel {
-    let mut channel = match new_channel(alloc) {
-        Ok(channel) => channel,
-        Err(fault) => {
-            assert_eq!(rt; fault, SettingsFault::NoMemory);
-            new_channel(alloc).expect(rt, "a channel")
-        }
-    };
-    let octets = ad_frame(0);
-    let frame = read_frame(&octets).expect(rt, "a frame");
-    if let Err(NoMemory) = channel.frame(&frame) {
-        assert_eq!(rt; channel.journal().len(), 0);
-        channel.frame(&frame).expect(rt, "a reply");
-    }
-    channel
-}
-
-fn new_publisher(rt: &(impl Abort + Print), alloc: Global, channel: &Channel) -> Publisher {
-    match Publisher::new(alloc, channel) {
-        Ok(publisher) => publisher,
-        Err(NoMemory) => {
-            let _ = println!(rt; "refused: Publisher::new");
-            assert_eq!(rt; channel.clcw(NO_FLAG), 0x01040001);
-            Publisher::new(alloc, channel).expect(rt, "a publisher")
-        }
-    }
-}
-
-fn new_watcher(rt: &(impl Abort + Print), publisher: &mut Publisher) -> Watcher {
-    match publisher.watcher() {
-        Ok(watcher) => watcher,
-        Err(NoMemory) => {
-            let _ = println!(rt; "refused: Publisher::watcher");
-            publisher.watcher().expect(rt, "a watcher")
-        }
-    }
-}
-
-#[test]
-fn growth_of_a_board_and_of_a_watcher(rt: HostRuntime) {
-    let channel = channel_with_a_frame(&rt, rt.alloc());
-    let mut publisher = new_publisher(&rt, rt.alloc(), &channel);
-    let mut old = new_watcher(&rt, &mut publisher);
-    let mut new = new_watcher(&rt, &mut publisher);
-    assert_eq!(rt; channel.journal().len(), 1);
-    assert_eq!(rt; old.read(), 0x01040001);
-    assert_eq!(rt; new.read(), 0x01040001);
 }

@@ -3,7 +3,7 @@ use tc_channel::SettingsFault;
 use tc_link::FrameFault;
 use tc_station::{
     BringFault, CloseFault, LocateFault, OperatorsFault, ReleaseRefused, StationFault, TakeRefused,
-    WatcherFault, WorkFault,
+    TakeUnitRefused, WatcherFault, WorkFault,
 };
 
 fn check_text(rt: &impl Abort, alloc: Global, fault: &impl std::fmt::Display, text: &str) {
@@ -70,7 +70,16 @@ fn faults_of_operations_have_texts(rt: HostRuntime) {
         "no queue with that application process identifier",
     );
     check_text(&rt, alloc, &TakeRefused::Empty, "the queue is empty");
-    check_text(&rt, alloc, &TakeRefused::NoMemory, "no memory")
+    check_text(&rt, alloc, &TakeRefused::NoMemory, "no memory");
+    check_text(&rt, alloc, &TakeUnitRefused::UnknownChannel, unknown);
+    check_text(
+        &rt,
+        alloc,
+        &TakeUnitRefused::NoMap,
+        "no queue for that multiplexer access point",
+    );
+    check_text(&rt, alloc, &TakeUnitRefused::Empty, "the queue is empty");
+    check_text(&rt, alloc, &TakeUnitRefused::NoMemory, "no memory")
 }
 
 #[test]

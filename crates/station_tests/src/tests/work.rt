@@ -1,96 +1,16 @@
-ghost use Rattle.std.specs.Prelude.{◌≡◌, ◌≤◌, ◌∷◌, [], IfOk};
-ghost use Rattle.tc_station.specs.Tally.{fresh};
-
 use super::*;
 use std::sync::atomic::{AtomicU32, Ordering};
 use tc_channel::{Event, Octets};
-use tc_station::{CloseFault, FreeGate, Gate, Job, Order, WorkFault, WorkList};
+use tc_station::{FreeGate, Gate, Job, Order, WorkList};
 
 const UNLOCK: [u8; 6] = [0x30, 0x2a, 0x04, 0x05, 0x00, 0x00];
 
-// A job that brings an Unlock to virtual channel 1. One growth may be refused.
+// A job that brings an Unlock to virtual channel 1.
 fn unlock(alloc: Global, line: u32) -> Result<Job, AllocError> {
-    let octets = match Octets::copied(alloc, &UNLOCK) {
-        Ok(octets) => octets,
-        Err(_) => Octets::copied(alloc, &UNLOCK)?,
-    };
     Ok(Job {
         line,
-        order: Order::Bring(octets),
+        order: Order::Bring(Octets::copied(alloc, &UNLOCK)?),
     })
-}
-
-// Two Unlocks, on lines 5 and 6. One growth may be refused.
-fn two_unlocks(alloc: Global) -> Result<WorkList, AllocError> {
-    let mut jobs = match Vec::with_capacity(alloc, 2) {
-        Ok(jobs) => jobs,
-        Err(_) => Vec::with_capacity(alloc, 2)?,
-    };
-    jobs.push(unlock(alloc, 5)?)?;
-    jobs.push(unlock(alloc, 6)?)?;
-    Ok(WorkList {
-        vcid: 1,
-        jobs: Items::from(jobs),
-    })
-}
-
-// A station of one channel with one operator, in a list as `work` takes it. One growth may be refused.
-fn new_crew(rt: &impl Abort, alloc: Global) -> (Station, Vec<Operator>)
-    ensures { result.1.items ≡ fresh result.0.vcids ∷ [] }
-{
-    let list = settings_of(alloc, &[1]).expect(rt, "settings");
-    let mut station = match Station::new(alloc, 42, list) {
-        Ok(station) => station,
-        Err(_) => {
-            let list = settings_of(alloc, &[1]).expect(rt, "settings");
-            Station::new(alloc, 42, list).expect(rt, "a station")
-        }
-    };
-    let operators = match station.operators(1) {
-        Ok(operators) => operators,
-        Err(_) => station.operators(1).expect(rt, "operators"),
-    };
-    (station, operators)
-}
-
-// How many Unlocks were answered, by the lowest line that memory was refused for.
-fn answered(rt: &(impl Abort + Print), done: Result<(), WorkFault>) -> u64
-    ensures { result ≤ 2 }
-{
-    match done {
-        Ok(()) => 2,
-        Err(WorkFault::NoMemory { line: 5 }) => {
-            let _ = println!(rt; "refused: work, first line");
-            0
-        }
-        Err(fault) => {
-            let _ = println!(rt; "refused: work, second line");
-            assert_eq!(rt; fault, WorkFault::NoMemory { line: 6 });
-            1
-        }
-    }
-}
-
-#[test]
-fn growth_of_work(rt: HostRuntime) {
-    let alloc = rt.alloc();
-    let lists = [two_unlocks(alloc).expect(&rt, "jobs")];
-    let (station, mut operators) = new_crew(&rt, alloc);
-    let first = answered(&rt, station.work(&rt, &FreeGate, &mut operators, &lists));
-    assert_eq!(rt; operators[0].count(1), Some(first));
-    // The next growth isn't refused.
-    let second = answered(&rt, station.work(&rt, &FreeGate, &mut operators, &lists));
-    assert!(rt; first == 2 || second == 2);
-    assert_eq!(rt; operators[0].count(1), Some(first + second));
-    let channels = match station.close(operators) {
-        Ok(channels) => channels,
-        Err(CloseFault::NoMemory(station, operators)) => station
-            .close(operators)
-            .expect(&rt, "an answer"),
-        Err(_) => panic!(rt; "neither closed nor without memory"),
-    };
-    assert_eq!(rt; channels.len(), 1);
-    assert_eq!(rt; channels[0].journal().len() as u64, first + second);
 }
 
 // These orders, all on this line, and then an Unlock on the next one.
@@ -112,14 +32,15 @@ fn list_with_an_unlock<const N: usize>(
     })
 }
 
-// Lists on channels 1, 2 and 9, of which the last isn't there. Before its Unlock the first asks for what is refused: a release of an
-// empty buffer, octets that are no frame, and a packet of an application without a queue.
+// Lists on channels 1, 2 and 9, of which the last isn't there. Before its Unlock each asks for what is refused: the first for a
+// release of an empty buffer, octets that are no frame, and a packet of an application without a queue; the second for a packet
+// where none waits, and for a unit of a MAP that isn't chosen; the third for a release and a unit of no channel.
 fn three_lists(alloc: Global) -> Result<[WorkList; 3], AllocError> {
     let short = Order::Bring(Octets::copied(alloc, &UNLOCK[..3])?);
     Ok([
         list_with_an_unlock(alloc, 1, 2, [Order::Release, short, Order::Take(6)])?,
-        list_with_an_unlock(alloc, 2, 4, [Order::Take(5)])?,
-        list_with_an_unlock(alloc, 9, 6, [Order::Release])?,
+        list_with_an_unlock(alloc, 2, 4, [Order::Take(5), Order::TakeUnit(3)])?,
+        list_with_an_unlock(alloc, 9, 6, [Order::Release, Order::TakeUnit(3)])?,
     ])
 }
 

@@ -1,7 +1,7 @@
-//! Each call of a desk is made; want of memory must have left the desk as it was, and then the call is made again.
+//! Calls of a desk.
 
 use super::*;
-use tc_channel::{NoMemory, ReleaseFault, SettingsFault, TakeFault};
+use tc_channel::{NoMemory, ReleaseFault, SettingsFault, TakeFault, TakeUnitFault};
 use tc_link::{Report, read_frame};
 use tc_station::Desk;
 use tc_status::Watcher;
@@ -13,14 +13,17 @@ struct Told {
     word: u32,
     fields: usize,
     packets: Option<usize>,
+    units: Option<usize>,
 }
 
 // A call of a desk, what a frame is answered, and the CLCW after it.
 #[derive(Clone, Copy, Debug)]
 enum Call<'a> {
     Frame(&'a [u8], FrameReply, u32),
-    Release(u32),
+    // Of a data field with this.
+    Release(&'a str, u32),
     Take(u32),
+    TakeUnit(u32),
     // Nothing is left to release or to take.
     Empty,
 }
@@ -35,12 +38,12 @@ struct Short {
 }
 
 fn new_desk(rt: &(impl Abort + Print), alloc: Global) -> Desk {
-    match Desk::new(alloc, settings(alloc, 1).expect(rt, "an answer")) {
+    match Desk::new(alloc, settings(alloc).expect(rt, "an answer")) {
         Ok(desk) => desk,
         Err(fault) => {
             let _ = println!(rt; "refused: Desk::new");
             assert_eq!(rt; fault, SettingsFault::NoMemory);
-            Desk::new(alloc, settings(alloc, 1).expect(rt, "an answer")).expect(rt, "an answer")
+            Desk::new(alloc, settings(alloc).expect(rt, "an answer")).expect(rt, "an answer")
         }
     }
 }
@@ -74,6 +77,7 @@ impl Short {
             word: self.watcher.read(),
             fields: channel.buffered(),
             packets: channel.queued(5),
+            units: channel.units(3),
         }
     }
 
@@ -97,7 +101,11 @@ impl Short {
         let reply = match self.desk.frame(&frame) {
             Ok(reply) => reply,
             Err(NoMemory) => {
-                let _ = println!(rt; "refused: Desk::frame, event {}", expected.act.event);
+                let _ = println!(rt;
+                    "refused: Desk::frame, event {}{}",
+                    expected.act.event,
+                    cargo(octets)
+                );
                 self.check(rt, told);
                 self.desk.frame(&frame).expect(rt, "an answer")
             }
@@ -107,12 +115,12 @@ impl Short {
         self.answered(rt, event, word)
     }
 
-    fn release(&mut self, rt: &(impl Abort + Print), word: u32) {
+    fn release(&mut self, rt: &(impl Abort + Print), cargo: &str, word: u32) {
         let told = self.told();
         let delivery = match self.desk.release() {
             Ok(delivery) => delivery,
             Err(fault) => {
-                let _ = println!(rt; "refused: Desk::release");
+                let _ = println!(rt; "refused: Desk::release, {cargo}");
                 assert_eq!(rt; fault, ReleaseFault::NoMemory);
                 self.check(rt, told);
                 self.desk.release().expect(rt, "an answer")
@@ -137,10 +145,26 @@ impl Short {
         self.answered(rt, Event::Take(5), word)
     }
 
+    fn take_unit(&mut self, rt: &(impl Abort + Print), word: u32) {
+        let told = self.told();
+        let unit = match self.desk.take_unit(3) {
+            Ok(unit) => unit,
+            Err(fault) => {
+                let _ = println!(rt; "refused: Desk::take_unit");
+                assert_eq!(rt; fault, TakeUnitFault::NoMemory);
+                self.check(rt, told);
+                self.desk.take_unit(3).expect(rt, "an answer")
+            }
+        };
+        assert_eq!(rt; unit.as_slice(), UNIT.as_slice());
+        self.answered(rt, Event::TakeUnit(3), word)
+    }
+
     // Nothing is left to release or to take, and nothing is noted of the refusals.
     fn check_empty(&mut self, rt: &impl Abort) {
         let told = self.told();
         assert_eq!(rt; self.desk.take(5).err(), Some(TakeFault::Empty));
+        assert_eq!(rt; self.desk.take_unit(3).err(), Some(TakeUnitFault::Empty));
         assert_eq!(rt; self.desk.release(), Err(ReleaseFault::Empty));
         self.check(rt, told)
     }
@@ -150,8 +174,9 @@ impl Short {
         for call in calls {
             match *call {
                 Call::Frame(octets, reply, word) => self.frame(rt, octets, reply, word),
-                Call::Release(word) => self.release(rt, word),
+                Call::Release(cargo, word) => self.release(rt, cargo, word),
                 Call::Take(word) => self.take(rt, word),
+                Call::TakeUnit(word) => self.take_unit(rt, word),
                 Call::Empty => self.check_empty(rt),
             }
         }
@@ -165,16 +190,30 @@ fn growth_of_each_call_of_a_desk(rt: HostRuntime) {
     third[4] = 2;
     let calls = [
         Call::Frame(&FRAME, BUFFERED, 0x01040001),
-        Call::Release(0x01040001),
+        Call::Release("a packet", 0x01040001),
         Call::Take(0x01040001),
         Call::Empty,
         Call::Frame(&TWO_PACKETS, BYPASSED, 0x01040201),
         Call::Take(0x01040201),
         Call::Frame(&NEXT, BUFFERED, 0x01040202),
         Call::Frame(&third, NO_ROOM, 0x01041a02),
-        Call::Release(0x01040a02),
+        Call::Release("a packet", 0x01040a02),
     ];
     let mut short = Short::new(&rt, rt.alloc());
     short.play(&rt, &calls);
     assert_eq!(rt; short.told().packets, Some(2));
+}
+
+// The fifth event is the take of a unit, which makes no other growth.
+#[test]
+fn growth_of_each_call_of_a_desk_on_a_chosen_map(rt: HostRuntime) {
+    let calls = [
+        Call::Frame(&AD_UNIT, BUFFERED, 0x01040001),
+        Call::Release("a whole unit", 0x01040001),
+        Call::Frame(&BD_UNIT, BYPASSED_UNIT, 0x01040201),
+        Call::TakeUnit(0x01040201),
+        Call::TakeUnit(0x01040201),
+        Call::Empty,
+    ];
+    Short::new(&rt, rt.alloc()).play(&rt, &calls)
 }

@@ -1,13 +1,13 @@
-//! Each call is made; want of memory must have left what stood before as it was, and then the call is made again.
+//! Calls of a station.
 
-ghost use Rattle.std.specs.Prelude.{◌≡◌, ◌∷◌, [], IfOk, replicate};
+ghost use Rattle.std.specs.Prelude.{◌≡◌, replicate};
 ghost use Rattle.tc_station.specs.Tally.{fresh};
 
 use super::*;
 use std::sync::Wait;
 use tc_station::{
-    BringFault, Brought, CloseFault, OperatorsFault, ReleaseRefused, StationFault, TakeRefused,
-    WatcherFault,
+    BringFault, Brought, CloseFault, Operator, OperatorsFault, ReleaseRefused, Station,
+    StationFault, TakeRefused, TakeUnitRefused, WatcherFault,
 };
 use tc_status::Watcher;
 
@@ -16,8 +16,10 @@ use tc_status::Watcher;
 enum Call<'a> {
     Bring(&'a [u8], FrameReply, u32),
     BringWatched(&'a [u8], FrameReply, u32),
-    Release(u32),
+    // Of a data field with this.
+    Release(&'a str, u32),
     Take,
+    TakeUnit,
 }
 
 // A station of one channel with one operator and one watcher, and the journal that the channel must have.
@@ -32,15 +34,12 @@ struct Short {
 }
 
 fn new_station(rt: &(impl Abort + Print), alloc: Global) -> Station {
-    match Station::new(alloc, 42, settings_of(alloc, &[1]).expect(rt, "an answer")) {
+    match Station::new(alloc, 42, list_of_settings(rt, alloc)) {
         Ok(station) => station,
         Err(fault) => {
             let _ = println!(rt; "refused: Station::new");
             assert_eq!(rt; fault, StationFault::NoMemory);
-            Station::new(alloc, 42, settings_of(alloc, &[1]).expect(rt, "an answer")).expect(
-                rt,
-                "an answer",
-            )
+            Station::new(alloc, 42, list_of_settings(rt, alloc)).expect(rt, "an answer")
         }
     }
 }
@@ -106,7 +105,7 @@ impl Short {
         let brought = match self.station.bring(rt, &mut self.operator, frame) {
             Ok(brought) => brought,
             Err(fault) => {
-                let _ = println!(rt; "refused: bring, event {}", reply.act.event);
+                let _ = println!(rt; "refused: bring, event {}{}", reply.act.event, cargo(frame));
                 assert_eq!(rt; fault, BringFault::NoMemory);
                 self.check(rt, before);
                 self.station
@@ -131,7 +130,11 @@ impl Short {
         let (brought, mut own) = match self.station.bring_watched(rt, &mut self.operator, frame) {
             Ok(answer) => answer,
             Err(fault) => {
-                let _ = println!(rt; "refused: bring_watched, event {}", reply.act.event);
+                let _ = println!(rt;
+                    "refused: bring_watched, event {}{}",
+                    reply.act.event,
+                    cargo(frame)
+                );
                 assert_eq!(rt; fault, BringFault::NoMemory);
                 self.check(rt, before);
                 self.station
@@ -146,12 +149,12 @@ impl Short {
         self.check(rt, word);
     }
 
-    fn release(&mut self, rt: &(impl Wait + Abort + Print), word: u32) {
+    fn release(&mut self, rt: &(impl Wait + Abort + Print), cargo: &str, word: u32) {
         let before = self.word();
         let delivery = match self.station.release(rt, &mut self.operator, 1) {
             Ok(delivery) => delivery,
             Err(fault) => {
-                let _ = println!(rt; "refused: Station::release");
+                let _ = println!(rt; "refused: Station::release, {cargo}");
                 assert_eq!(rt; fault, ReleaseRefused::NoMemory);
                 self.check(rt, before);
                 self.station
@@ -182,6 +185,24 @@ impl Short {
         self.check(rt, before);
     }
 
+    fn take_unit(&mut self, rt: &(impl Wait + Abort + Print)) {
+        let before = self.word();
+        let unit = match self.station.take_unit(rt, &mut self.operator, 1, 3) {
+            Ok(unit) => unit,
+            Err(fault) => {
+                let _ = println!(rt; "refused: Station::take_unit");
+                assert_eq!(rt; fault, TakeUnitRefused::NoMemory);
+                self.check(rt, before);
+                self.station
+                    .take_unit(rt, &mut self.operator, 1, 3)
+                    .expect(rt, "an answer")
+            }
+        };
+        assert_eq!(rt; unit.as_slice(), UNIT.as_slice());
+        note(&mut self.journal, Event::TakeUnit(3)).expect(rt, "a journal");
+        self.check(rt, before);
+    }
+
     // Each call in turn.
     fn play(&mut self, rt: &(impl Wait + Abort + Print), calls: &[Call]) {
         for call in calls {
@@ -190,8 +211,9 @@ impl Short {
                 Call::BringWatched(frame, reply, word) => {
                     self.bring_watched(rt, frame, reply, word)
                 }
-                Call::Release(word) => self.release(rt, word),
+                Call::Release(cargo, word) => self.release(rt, cargo, word),
                 Call::Take => self.take(rt),
+                Call::TakeUnit => self.take_unit(rt),
             }
         }
     }
@@ -205,7 +227,7 @@ impl Short {
             watcher: _,
             journal,
         } = self;
-        let operators = vec_of(alloc, operator).expect(rt, "an answer");
+        let operators = list_of(alloc, operator).expect(rt, "an answer");
         let channels = match station.close(operators) {
             Ok(channels) => channels,
             Err(CloseFault::NoMemory(station, operators)) => {
@@ -217,18 +239,6 @@ impl Short {
         assert_eq!(rt; channels.len(), 1);
         assert_eq!(rt; channels[0].journal(), journal.as_slice());
     }
-}
-
-// The operator alone. One growth may be refused.
-fn vec_of(alloc: Global, operator: Operator) -> Result<Vec<Operator>, AllocError>
-    ensures { IfOk result (λ operators. operators.items ≡ operator ∷ []) }
-{
-    let mut operators = match Vec::with_capacity(alloc, 1) {
-        Ok(operators) => operators,
-        Err(_) => Vec::with_capacity(alloc, 1)?,
-    };
-    operators.push(operator)?;
-    Ok(operators)
 }
 
 #[test]
@@ -264,7 +274,7 @@ fn growth_of_each_call_of_a_station(rt: HostRuntime) {
         Call::Bring(&FRAME, BUFFERED, 0x01040001),
         Call::Bring(&NEXT, NO_ROOM, 0x01041801),
         Call::Bring(&FRAME, BEHIND, 0x01041801),
-        Call::Release(0x01040801),
+        Call::Release("a packet", 0x01040801),
         Call::Take,
         Call::Bring(&TWO_PACKETS, BYPASSED, 0x01040a01),
         Call::Take,
@@ -279,10 +289,25 @@ fn growth_of_watched_frames(rt: HostRuntime) {
     let calls = [
         Call::BringWatched(&FRAME, BUFFERED, 0x01040001),
         Call::BringWatched(&NEXT, NO_ROOM, 0x01041801),
-        Call::Release(0x01040801),
+        Call::Release("a packet", 0x01040801),
         Call::Take,
         Call::BringWatched(&FRAME, BEHIND, 0x01040801),
         Call::BringWatched(&TWO_PACKETS, BYPASSED, 0x01040a01),
+    ];
+    let mut short = Short::new(&rt, rt.alloc());
+    short.play(&rt, &calls);
+    short.close(&rt)
+}
+
+// The fifth event is the take of a unit, which makes no other growth.
+#[test]
+fn growth_of_each_call_on_a_chosen_map(rt: HostRuntime) {
+    let calls = [
+        Call::Bring(&AD_UNIT, BUFFERED, 0x01040001),
+        Call::Release("a whole unit", 0x01040001),
+        Call::Bring(&BD_UNIT, BYPASSED_UNIT, 0x01040201),
+        Call::TakeUnit,
+        Call::TakeUnit,
     ];
     let mut short = Short::new(&rt, rt.alloc());
     short.play(&rt, &calls);
