@@ -19,7 +19,7 @@ const NO_FLAG: Link = Link {
     no_bit_lock: false,
 };
 
-// One queue, of capacity 1 for APID 5.
+// One queue, of capacity 1 for APID 5, and no chosen MAP.
 fn settings(
     alloc: Global,
     vcid: u8,
@@ -40,6 +40,7 @@ fn settings(
         first,
         segmented: true,
         queues: Items::from(Vec::from_slice(alloc, &[queue])?),
+        maps: Items::from(Vec::new(alloc)),
     })
 }
 

@@ -4,9 +4,12 @@ ghost use Rattle.std.specs.Prelude.{◌≡◌};
 
 use super::*;
 use std::process::Abort;
-use tc_channel::{Channel, Delivery, Event, FrameReply, Octets, ReleaseFault, TakeFault};
+use tc_channel::{
+    Channel, Delivery, Event, FrameReply, MapSetting, Octets, ReleaseFault, TakeFault,
+    TakeUnitFault,
+};
 use tc_link::{FrameFault, read_frame};
-use tc_station::{BringFault, Brought, LocateFault, ReleaseRefused, TakeRefused};
+use tc_station::{BringFault, Brought, LocateFault, ReleaseRefused, TakeRefused, TakeUnitRefused};
 use tc_text::{Line, parse_line};
 
 // What is done on virtual channel 1 of stations and of channels with this width, buffer and first V(R): lines of a script, and what
@@ -25,6 +28,42 @@ enum Bringing {
     Plain,
     // With a watcher of each frame's channel.
     Watched,
+}
+
+// How units reach the channels.
+#[derive(Clone, Copy, PartialEq, Eq)]
+enum Form {
+    // By segments, and their packets are queued.
+    Segmented,
+    // On channel 1 each data field is one.
+    Plain,
+    // By segments, and both channels deliver those of MAP 3 whole, to a queue of one unit.
+    Chosen,
+}
+
+// Settings in this form.
+fn settings_in(
+    alloc: Global,
+    form: Form,
+    vcid: u8,
+    (width, buffer, first): (u8, u8, u8),
+) -> Result<Settings, AllocError> {
+    let segmented = settings(alloc, vcid, width, buffer, first)?;
+    let map = MapSetting {
+        map: 3,
+        capacity: 1,
+    };
+    Ok(match form {
+        Form::Segmented => segmented,
+        Form::Plain => Settings {
+            segmented: false,
+            ..segmented
+        },
+        Form::Chosen => Settings {
+            maps: Items::from(Vec::from_slice(alloc, &[map])?),
+            ..segmented
+        },
+    })
 }
 
 // A station for spacecraft 42 with virtual channels 2 and 1, in this order, and one operator.
@@ -81,6 +120,10 @@ impl Crew {
 
     fn take(&mut self, rt: &impl Wait, vcid: u8, apid: u16) -> Result<Vec<u8>, TakeRefused> {
         self.station.take(rt, &mut self.operator, vcid, apid)
+    }
+
+    fn take_unit(&mut self, rt: &impl Wait, vcid: u8, map: u8) -> Result<Vec<u8>, TakeUnitRefused> {
+        self.station.take_unit(rt, &mut self.operator, vcid, map)
     }
 
     fn close(self, rt: &impl Abort, alloc: Global) -> Vec<Channel> {
@@ -150,6 +193,14 @@ fn take_refused(fault: TakeFault) -> TakeRefused {
     }
 }
 
+fn take_unit_refused(fault: TakeUnitFault) -> TakeUnitRefused {
+    match fault {
+        TakeUnitFault::NoMap => TakeUnitRefused::NoMap,
+        TakeUnitFault::Empty => TakeUnitRefused::Empty,
+        TakeUnitFault::NoMemory => TakeUnitRefused::NoMemory,
+    }
+}
+
 // Takes a packet from a channel of the station and from one that stands alone, which answer alike.
 fn take_from_both(
     rt: &(impl Wait + Abort),
@@ -165,6 +216,23 @@ fn take_from_both(
     let refused = packet.as_ref().err().copied().map(take_refused);
     assert_eq!(rt; taken.err(), refused);
     packet
+}
+
+// Takes a unit from a channel of the station and from one that stands alone, which answer alike.
+fn take_unit_from_both(
+    rt: &(impl Wait + Abort),
+    crew: &mut Crew,
+    alone: &mut Channel,
+    map: u8,
+) -> Result<Vec<u8>, TakeUnitFault> {
+    let vcid = alone.settings().vcid;
+    let unit = alone.take_unit(map);
+    let taken = crew.take_unit(rt, vcid, map);
+    let alike = taken.as_deref().ok() == unit.as_deref().ok();
+    assert!(rt; alike, "the units of channel {vcid} differ");
+    let refused = unit.as_ref().err().copied().map(take_unit_refused);
+    assert_eq!(rt; taken.err(), refused);
+    unit
 }
 
 // What a script prints of these answers.
@@ -228,6 +296,23 @@ fn text_of_take(
     }
 }
 
+fn text_of_unit(
+    alloc: Global,
+    map: u8,
+    answer: Result<Vec<u8>, TakeUnitFault>,
+) -> Result<String, AllocError> {
+    match answer {
+        Ok(unit) if unit.is_empty() => format!(in alloc; "unit 1 {map} -"),
+        Ok(unit) => {
+            let digits = hex::encode(alloc, unit.as_slice())?;
+            format!(in alloc; "unit 1 {map} {digits}")
+        }
+        Err(TakeUnitFault::NoMap) => "refused no map".to_string(alloc),
+        Err(TakeUnitFault::Empty) => "refused empty".to_string(alloc),
+        Err(TakeUnitFault::NoMemory) => "no memory".to_string(alloc),
+    }
+}
+
 // A channel that left the station is as the one that stood alone. A journal may be too long to be shown.
 fn check_alike(rt: &impl Abort, closed: &Channel, alone: &Channel) {
     assert_eq!(rt; closed.settings(), alone.settings());
@@ -236,6 +321,7 @@ fn check_alike(rt: &impl Abort, closed: &Channel, alone: &Channel) {
     assert_eq!(rt; closed.report(), alone.report());
     assert_eq!(rt; closed.buffered(), alone.buffered());
     assert_eq!(rt; closed.queued(5), alone.queued(5));
+    assert_eq!(rt; closed.units(3), alone.units(3));
 }
 
 // As many of these octets as their header tells a frame has, one more than the number in its ten bits of length.
@@ -256,6 +342,7 @@ fn event_of(rt: &impl Abort, alloc: Global, line: &Line) -> Option<Event> {
         }
         Line::Release(_) => Some(Event::Release),
         Line::Take(_, apid) => Some(Event::Take(*apid)),
+        Line::Unit(_, map) => Some(Event::TakeUnit(*map)),
         _ => None,
     }
 }
@@ -279,20 +366,24 @@ struct Replay {
 }
 
 impl Replay {
-    // The settings are those of channel 1. Channel 2 has the same, but its first V(R) is 100, and its data fields always
-    // have segment headers.
+    // Channel 1 has this shape. Channel 2 has the same, but its first V(R) is 100, and its data fields always have segment
+    // headers.
     fn new(
         rt: &impl Abort,
         alloc: Global,
         bringing: Bringing,
-        segmented: bool,
-        (width, buffer, first): (u8, u8, u8),
+        form: Form,
+        shape: (u8, u8, u8),
     ) -> Replay {
-        let one = || Settings {
-            segmented,
-            ..settings(alloc, 1, width, buffer, first).expect(rt, "settings")
+        let (width, buffer, _) = shape;
+        let by_headers = match form {
+            Form::Plain => Form::Segmented,
+            form => form,
         };
-        let other = || settings(alloc, 2, width, buffer, 100).expect(rt, "settings");
+        let one = || settings_in(alloc, form, 1, shape).expect(rt, "settings");
+        let other = || {
+            settings_in(alloc, by_headers, 2, (width, buffer, 100)).expect(rt, "settings")
+        };
         Replay {
             alloc,
             crew: Crew::new(rt, alloc, bringing, one(), other()),
@@ -341,6 +432,15 @@ impl Replay {
         packet
     }
 
+    // Takes a unit from channel 1 and then from channel 2. What channel 1 answers.
+    fn take_unit(&mut self, rt: &(impl Wait + Abort), map: u8) -> Result<Vec<u8>, TakeUnitFault> {
+        let unit = take_unit_from_both(rt, &mut self.crew, &mut self.first, map);
+        self.check_words(rt);
+        let _ = take_unit_from_both(rt, &mut self.crew, &mut self.second, map);
+        self.check_words(rt);
+        unit
+    }
+
     // The text of the CLCW that the station tells of channel 1.
     fn clcw(&self, rt: &(impl Wait + Abort)) -> Result<String, AllocError> {
         let word = status_of(&self.crew.station, rt, 1).expect(rt, "a status");
@@ -353,6 +453,7 @@ impl Replay {
             Line::Frame(octets) => text_of_frame(self.alloc, self.frame(rt, octets)),
             Line::Release(_) => text_of_release(self.alloc, self.release(rt)),
             Line::Take(_, apid) => text_of_take(self.alloc, apid, self.take(rt, apid)),
+            Line::Unit(_, map) => text_of_unit(self.alloc, map, self.take_unit(rt, map)),
             Line::Clcw(_) => self.clcw(rt),
             _ => panic!(rt; "a line that is no operation"),
         };
@@ -394,30 +495,27 @@ impl Replay {
     }
 }
 
-fn play_row(
-    rt: &(impl Wait + Abort),
-    alloc: Global,
-    bringing: Bringing,
-    segmented: bool,
-    row: &Row,
-) {
-    let mut replay = Replay::new(rt, alloc, bringing, segmented, row.shape);
-    replay.play(rt, row);
-    replay.close(rt)
+// Plays each row, with frames that are brought in each manner, and closes the stations.
+fn play_in(rt: &(impl Wait + Abort), alloc: Global, form: Form, rows: &[Row]) {
+    for row in rows {
+        for bringing in [Bringing::Plain, Bringing::Watched] {
+            let mut replay = Replay::new(rt, alloc, bringing, form, row.shape);
+            replay.play(rt, row);
+            replay.close(rt)
+        }
+    }
 }
 
-// Plays each row, with frames that are brought in each manner, and closes the stations.
 pub(super) fn play_rows(rt: &(impl Wait + Abort), alloc: Global, rows: &[Row]) {
-    for row in rows {
-        play_row(rt, alloc, Bringing::Plain, true, row);
-        play_row(rt, alloc, Bringing::Watched, true, row);
-    }
+    play_in(rt, alloc, Form::Segmented, rows)
 }
 
 // The same, where data fields of channel 1 have no segment header.
 pub(super) fn play_plain_rows(rt: &(impl Wait + Abort), alloc: Global, rows: &[Row]) {
-    for row in rows {
-        play_row(rt, alloc, Bringing::Plain, false, row);
-        play_row(rt, alloc, Bringing::Watched, false, row);
-    }
+    play_in(rt, alloc, Form::Plain, rows)
+}
+
+// The same, where both channels deliver the units of MAP 3 whole.
+pub(super) fn play_chosen_rows(rt: &(impl Wait + Abort), alloc: Global, rows: &[Row]) {
+    play_in(rt, alloc, Form::Chosen, rows)
 }

@@ -1,6 +1,6 @@
 //! Operations on virtual channel 1, as lines of a script, and what each is answered.
 
-use super::replay::{Row, play_plain_rows, play_rows};
+use super::replay::{Row, play_chosen_rows, play_plain_rows, play_rows};
 use super::*;
 
 #[test]
@@ -277,6 +277,37 @@ fn plain_fields_are_units(rt: HostRuntime) {
         },
     ];
     play_plain_rows(&rt, rt.alloc(), &rows)
+}
+
+#[test]
+fn units_of_a_chosen_map_are_whole(rt: HostRuntime) {
+    let rows = [
+        Row {
+            name: "units from their frames to their takers",
+            shape: (10, 1, 0),
+            script: "frame 002a040800c3aabbcc\nrelease 1\nframe 202a040700c3aabb\nunit 1 3\nunit 1 3\nframe 202a040500c3\nunit 1 3\nunit 1 4\nframe 202a040c00c31005c0000000aa\ntake 1 5\nclcw 1\n",
+            answers: "frame 1 E1 accepted 1 queued 0 dropped 0 rest 0\nrelease 1 queued 1 dropped 0 rest 0\nframe 1 E6 accepted 1 queued 0 dropped 1 rest 0\nunit 1 3 aabbcc\nrefused empty\nframe 1 E6 accepted 1 queued 1 dropped 0 rest 0\nunit 1 3 -\nrefused no map\nframe 1 E6 accepted 1 queued 1 dropped 0 rest 0\nrefused empty\nclcw 1 01040601\n",
+        },
+        Row {
+            name: "segments of a unit on each channel, once V(R) is set on both",
+            shape: (10, 1, 0),
+            script: "frame 302a040700820000\nframe 002a04070043aabb\nrelease 1\nframe 002a04060183cc\nrelease 1\nunit 1 3\nunit 1 3\nclcw 1\n",
+            answers: "frame 1 E8 accepted 0 queued 0 dropped 0 rest 0\nframe 1 E1 accepted 1 queued 0 dropped 0 rest 0\nrelease 1 queued 0 dropped 0 rest 0\nframe 1 E1 accepted 1 queued 0 dropped 0 rest 0\nrelease 1 queued 1 dropped 0 rest 0\nunit 1 3 aabbcc\nrefused empty\nclcw 1 01040202\n",
+        },
+        Row {
+            name: "a unit of another MAP, which is cut, and one that is not",
+            shape: (10, 1, 0),
+            script: "frame 202a040c00c01005c0000000aa\nframe 202a040c00c31005c0000000bb\ntake 1 5\ntake 1 5\nunit 1 3\n",
+            answers: "frame 1 E6 accepted 1 queued 1 dropped 0 rest 0\nframe 1 E6 accepted 1 queued 1 dropped 0 rest 0\ntake 1 5 1005c0000000aa\nrefused empty\nunit 1 3 1005c0000000bb\n",
+        },
+        Row {
+            name: "a full queue of units",
+            shape: (10, 1, 0),
+            script: "frame 202a040600c3aa\nframe 202a040600c3bb\nunit 1 3\nunit 1 3\n",
+            answers: "frame 1 E6 accepted 1 queued 1 dropped 0 rest 0\nframe 1 E6 accepted 1 queued 0 dropped 1 rest 0\nunit 1 3 aa\nrefused empty\n",
+        },
+    ];
+    play_chosen_rows(&rt, rt.alloc(), &rows)
 }
 
 #[test]

@@ -256,6 +256,7 @@ fn answers_again(rt: &impl Abort, alloc: Global, closed: &Channel) -> Vec<Answer
             }
             Event::Release => Answer::Release(channel.release().expect(rt, "a delivery")),
             Event::Take(apid) => Answer::Packet(channel.take(*apid).expect(rt, "a packet")),
+            Event::TakeUnit(_) => panic!(rt; "a unit, which nobody takes"),
         };
         answers.push(answer).expect(rt, "a list");
     }
