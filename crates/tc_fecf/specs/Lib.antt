@@ -1,0 +1,4 @@
+pub mod Checksum
+pub mod Division
+pub mod Changes
+pub mod FrameWithField

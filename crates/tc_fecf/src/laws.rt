@@ -1,0 +1,49 @@
+//! What the field is, and which changes of bits it tells.
+
+ghost use Rattle.std.specs.Prelude.{◌≡◌, ◌≢◌, ◌⊎◌, ◌<◌, ◌≤◌, ◌+◌, ◌%◌, ◌++◌, ℕ, List, length, drop};
+ghost use Rattle.tc_link.specs.Frame.{IsWhole, IsFrame, header_of};
+ghost use Rattle.tc_fecf.specs.Checksum.{checksum_of, bits_of};
+ghost use Rattle.tc_fecf.specs.Division.{IsRemainder};
+ghost use Rattle.tc_fecf.specs.Changes.{SameOctets, SameBits, Passes, differences};
+ghost use Rattle.tc_fecf.specs.FrameWithField.{spelled, octets_before_field, frame_with_field};
+
+/// The field over octets is the remainder of the division of the polynomials, and there is no other remainder.
+pub fn the_field_is_the_remainder()
+    ensures remainder { (octets : List ℕ) → IsRemainder (checksum_of octets) (bits_of octets) }
+    ensures only { (r s : ℕ) (bits : List ℕ) → IsRemainder r bits → IsRemainder s bits → r ≡ s }
+{}
+
+/// Octets with the field over them pass. A frame of at most 1,022 octets with its field is a frame, which has the same header
+/// and ends with the field over all octets before it, and no other frame becomes the same with its field.
+pub fn a_field_comes_off_as_it_went_on()
+    ensures passes { (octets : List ℕ) → Passes (octets ++ spelled (checksum_of octets)) }
+    ensures frame { (frame : List ℕ) → IsWhole frame → length frame ≤ 1022
+        → IsFrame (frame_with_field frame) (header_of frame) (drop 5 frame ++ spelled (checksum_of (octets_before_field frame))) }
+    ensures right { (frame : List ℕ) → Passes (frame_with_field frame) }
+    ensures one { (one other : List ℕ) → IsWhole one → IsWhole other → frame_with_field one ≡ frame_with_field other → one ≡ other }
+{}
+
+/// Two lists of as many octets that differ within 16 bits in a row don't both pass.
+///
+/// So a change of one bit is told, and each burst of up to 16.
+pub fn a_burst_of_16_bits_is_told()
+    ensures { (one other : List ℕ) (i : ℕ) → SameOctets one other → SameBits one other (λ k. (k < i) ⊎ (i + 16 ≤ k)) → Passes one → Passes other → one ≡ other }
+{}
+
+/// Two lists of as many octets that differ in two bits, less than 32,767 bits apart, don't both pass. All bits of a frame, of
+/// which it has 8,192 at most, are closer than that.
+pub fn a_change_of_two_bits_is_told()
+    ensures { (one other : List ℕ) (i j : ℕ) → j < i + 32767 → i < j + 32767 → SameOctets one other → SameBits one other (λ k. (k ≢ i) × (k ≢ j))
+        → Passes one → Passes other → one ≡ other }
+{}
+
+/// Two lists of as many octets that differ in three bits, less than 32,767 bits apart, don't both pass.
+pub fn a_change_of_three_bits_is_told()
+    ensures { (one other : List ℕ) (i j k : ℕ) → i < j → j < k → k < i + 32767 → SameOctets one other → SameBits one other (λ p. (p ≢ i) × (p ≢ j) × (p ≢ k))
+        → Passes one → Passes other → one ≡ other }
+{}
+
+/// Two lists of as many octets that differ in an odd number of bits don't both pass.
+pub fn a_change_of_an_odd_number_of_bits_is_told()
+    ensures { (one other : List ℕ) → SameOctets one other → differences (bits_of one) (bits_of other) % 2 ≡ 1 → Passes one → Passes other → ⊥ }
+{}
