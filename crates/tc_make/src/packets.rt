@@ -1,0 +1,39 @@
+//! Telecommand packets.
+
+ghost use Rattle.std.specs.Prelude.{◌≡◌, ◌<◌, ◌≤◌, None, length, unwrap_or, IfOk, IfErr, OnOk};
+ghost use Rattle.tc_make.specs.Packets.{IsMadePacket, packet_reason_of};
+
+use crate::fault::Reason;
+use std::alloc::Global;
+
+/// The telecommand packet of this application with this sequence count and this packet data field (CCSDS 133.0-B, 4.1).
+///
+/// It is unsegmented, and its secondary header flag is 0. The data field is to have 1 to 65,536 octets. The only allocation
+/// is the packet itself.
+pub fn make_packet(alloc: Global, apid: u16, count: u16, octets: &[u8]) -> Result<Vec<u8>, Reason>
+    ensures packet { IfOk result (λ packet. IsMadePacket packet.items apid count octets.now) }
+    ensures made { OnOk result (packet_reason_of apid count octets.now ≡ None) }
+    ensures refused { IfErr result (λ reason. reason ≡ unwrap_or (packet_reason_of apid count octets.now) Reason.NoMemory) }
+{
+    if apid > 2047 {
+        return Err(Reason::BadApid);
+    }
+    if count > 16_383 {
+        return Err(Reason::BadCount);
+    }
+    if octets.is_empty() {
+        return Err(Reason::NoData);
+    }
+    if octets.len() > 65_536 {
+        return Err(Reason::TooMuchData);
+    }
+    let Ok(mut packet) = Vec::with_capacity(alloc, octets.len() + 6) else {
+        return Err(Reason::NoMemory);
+    };
+    let [a, b] = ((1 << 12) + apid).to_be_bytes();
+    let [c, d] = ((3 << 14) + count).to_be_bytes();
+    let [e, f] = ((octets.len() - 1) as u16).to_be_bytes();
+    packet.extend_from_slice(&[a, b, c, d, e, f]).unwrap();
+    packet.extend_from_slice(octets).unwrap();
+    Ok(packet)
+}
