@@ -1,0 +1,153 @@
+-- What a line asks for, by its words.
+use Rattle.std.specs.Prelude.{ℕ, Bool, true, false, Option, ◌==◌, List, [], ◌∷◌, slice_index, nat_eq, codes, Some, None, Result, Ok, Err, if◌then◌else◌}
+use Rattle.std.specs.Cmp.Lexicographic.{pointwise}
+use Rattle.hex.specs.Hex.{decode_of}
+use Rattle.tc_link.specs.declared.command.Command.TheVariants.{Unlock, SetVr}
+use Rattle.tc_packet.specs.declared.segment.Part.TheVariants.{Unsegmented}
+use Rattle.tc_packet.specs.declared.segment.Segment.{Segment}
+use Rattle.tc_make.specs.Number.{number_of}
+use Rattle.tc_make.specs.declared.fault.Reason.{Reason}
+use Rattle.tc_make.specs.declared.fault.Reason.TheVariants.{UnknownCommand, WordCount, BadNumber, BadHex}
+use Rattle.tc_link.specs.declared.frame.Header.{Header}
+use Rattle.tc_make.specs.declared.line.Stream.{Stream}
+use Rattle.tc_make.specs.declared.line.Sizing.{Sizing}
+use Rattle.tc_make.specs.declared.line.Line.{Line}
+use Rattle.tc_make.specs.declared.line.Line.TheVariants.{Blank, Packet, Frame, Command, Segments, Explain, Clcw}
+
+abbrev pub Words : Type 0
+Words = List (List ℕ)
+
+abbrev pub Said : Type 0
+Said = Result Line Reason
+
+-- what is said by as many words as a command takes
+abbrev pub with_one : Words → (List ℕ → Said) → Said
+with_one (a ∷ []) says = says a
+with_one _ says = Err WordCount
+
+abbrev pub with_two : Words → (List ℕ → List ℕ → Said) → Said
+with_two (a ∷ b ∷ []) says = says a b
+with_two _ says = Err WordCount
+
+abbrev pub with_three : Words → (List ℕ → List ℕ → List ℕ → Said) → Said
+with_three (a ∷ b ∷ c ∷ []) says = says a b c
+with_three _ says = Err WordCount
+
+abbrev pub with_four : Words → (List ℕ → List ℕ → List ℕ → List ℕ → Said) → Said
+with_four (a ∷ b ∷ c ∷ d ∷ []) says = says a b c d
+with_four _ says = Err WordCount
+
+abbrev pub with_five : Words → (List ℕ → List ℕ → List ℕ → List ℕ → List ℕ → Said) → Said
+with_five (a ∷ b ∷ c ∷ d ∷ e ∷ []) says = says a b c d e
+with_five _ says = Err WordCount
+
+abbrev pub with_six : Words → (List ℕ → List ℕ → List ℕ → List ℕ → List ℕ → List ℕ → Said) → Said
+with_six (a ∷ b ∷ c ∷ d ∷ e ∷ f ∷ []) says = says a b c d e f
+with_six _ says = Err WordCount
+
+-- what follows where a word is a number within its bound
+abbrev pub with_number : ℕ → List ℕ → (ℕ → Said) → Said
+with_number most word next = elim (number_of most word) [ None ↦ Err BadNumber | Some number ↦ next number ]
+
+-- what follows where a word is octets in hexadecimal digits
+abbrev pub with_octets : List ℕ → (List ℕ → Said) → Said
+with_octets word next = elim (decode_of word) [ Ok octets ↦ next octets | Err fault ↦ Err BadHex ]
+
+abbrev pub is : List ℕ → List ℕ → Bool
+is word text = pointwise nat_eq word text
+
+-- what follows where something could be read
+abbrev pub with_ok : {A : Type 0} → Result A Reason → (A → Said) → Said
+with_ok (Ok x) next = next x
+with_ok (Err reason) next = Err reason
+
+-- `plain` is for no segment header, and a number the MAP id of an unsegmented one
+abbrev pub segment_of : List ℕ → Result (Option Segment) Reason
+segment_of word =
+    if is word (codes "plain") then Ok None
+    else elim (number_of 255 word) [ None ↦ Err BadNumber | Some map ↦ Ok (Some (record { part = Unsegmented; map = map })) ]
+
+-- a spacecraft, a virtual channel of it and an N(S)
+abbrev pub stream_of : List ℕ → List ℕ → List ℕ → Result Stream Reason
+stream_of s v n =
+    elim (number_of 65535 s) [
+      | None ↦ Err BadNumber
+      | Some scid ↦ elim (number_of 255 v) [
+        | None ↦ Err BadNumber
+        | Some vcid ↦ elim (number_of 255 n) [
+          | None ↦ Err BadNumber
+          | Some ns ↦ Ok (record { scid = scid; vcid = vcid; ns = ns })
+        ]
+      ]
+    ]
+
+-- a MAP and how many octets its segments carry
+abbrev pub sizing_of : List ℕ → List ℕ → Result Sizing Reason
+sizing_of m z =
+    elim (number_of 255 m) [
+      | None ↦ Err BadNumber
+      | Some map ↦ elim (number_of 65535 z) [
+        | None ↦ Err BadNumber
+        | Some size ↦ Ok (record { map = map; size = size })
+      ]
+    ]
+
+abbrev pub ad_header : Stream → Header
+ad_header stream = record { bypass = false; control = false; scid = stream.scid; vcid = stream.vcid; ns = stream.ns }
+
+-- N(S) is 0 in a Type-BD frame (CCSDS 232.0-B, 4.1.2.8)
+abbrev pub bd_header : ℕ → ℕ → Header
+bd_header scid vcid = record { bypass = true; control = false; scid = scid; vcid = vcid; ns = 0 }
+
+abbrev pub packet_of : Words → Said
+packet_of words = with_three words (λ a c o. with_number 65535 a (λ apid. with_number 65535 c (λ count. with_octets o (λ octets.
+    Ok (Packet apid count octets)))))
+
+-- a frame that carries the octets of a word
+abbrev pub framed_of : Header → Option Segment → List ℕ → Said
+framed_of header segment word = with_octets word (λ octets. Ok (Frame header segment octets))
+
+abbrev pub ad_of : Words → Said
+ad_of words = with_five words (λ s v n m o. with_ok (stream_of s v n) (λ stream. with_ok (segment_of m) (λ segment. framed_of (ad_header stream) segment o)))
+
+abbrev pub bd_of : Words → Said
+bd_of words = with_four words (λ s v m o. with_number 65535 s (λ scid. with_number 255 v (λ vcid. with_ok (segment_of m) (λ segment.
+    framed_of (bd_header scid vcid) segment o))))
+
+abbrev pub unlock_of : Words → Said
+unlock_of words = with_two words (λ s v. with_number 65535 s (λ scid. with_number 255 v (λ vcid. Ok (Command scid vcid Unlock))))
+
+abbrev pub setvr_of : Words → Said
+setvr_of words = with_three words (λ s v x. with_number 65535 s (λ scid. with_number 255 v (λ vcid. with_number 255 x (λ vr.
+    Ok (Command scid vcid (SetVr vr))))))
+
+-- the segments of the unit of a word
+abbrev pub parted_of : Stream → Sizing → List ℕ → Said
+parted_of stream sizing word = with_octets word (λ unit. Ok (Segments stream sizing unit))
+
+abbrev pub segments_of : Words → Said
+segments_of words = with_six words (λ s v n m z o. with_ok (stream_of s v n) (λ stream. with_ok (sizing_of m z) (λ sizing. parted_of stream sizing o)))
+
+abbrev pub explain_of : Words → Said
+explain_of words = with_one words (λ o. with_octets o (λ octets. Ok (Explain octets)))
+
+abbrev pub clcw_of : Words → Said
+clcw_of words = with_one words (λ o. with_octets o (λ octets. Ok (Clcw octets)))
+
+abbrev pub is_comment : List ℕ → Bool
+is_comment word = slice_index word 0 == 35
+
+-- what the words of a line ask for, or the first of the reasons why they ask for nothing
+unfoldable pub line_of : Words → Said
+line_of [] = Ok Blank
+line_of (command ∷ arguments) =
+    if is_comment command then Ok Blank
+    else if is command (codes "packet") then packet_of arguments
+    else if is command (codes "ad") then ad_of arguments
+    else if is command (codes "bd") then bd_of arguments
+    else if is command (codes "unlock") then unlock_of arguments
+    else if is command (codes "setvr") then setvr_of arguments
+    else if is command (codes "segments") then segments_of arguments
+    else if is command (codes "explain") then explain_of arguments
+    else if is command (codes "clcw") then clcw_of arguments
+    else Err UnknownCommand

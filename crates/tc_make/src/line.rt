@@ -1,0 +1,324 @@
+//! Lines, and what they ask for.
+
+ghost use Rattle.std.specs.Prelude.{◌≡◌, ◌⊎◌, map, IfOk, IfErr, IsErr, MatchResult};
+ghost use Rattle.hex.specs.Hex.{decode_of};
+ghost use Rattle.tc_make.specs.Word.{is_separator as is_separator_octet, words as words_of};
+ghost use Rattle.tc_make.specs.Line.{line_of, packet_of, ad_of, bd_of, unlock_of, setvr_of, segments_of, explain_of, clcw_of, segment_of, stream_of, sizing_of, framed_of, parted_of, ad_header as ad_header_of, bd_header as bd_header_of, is_comment as is_comment_word};
+
+use crate::fault::Reason;
+use crate::number::{large_number, small_number};
+use crate::octets::Octets;
+use hex::FromHexError;
+use std::alloc::{AllocError, Global};
+use tc_link::{Command, Header};
+use tc_packet::{Part, Segment};
+
+/// Where Type-AD frames go, and the N(S) of the first.
+#[derive(Clone, Copy, Debug, PartialEq, Eq)]
+pub struct Stream {
+    pub scid: u16,
+    pub vcid: u8,
+    pub ns: u8,
+}
+
+/// The MAP of segments, and how many octets each carries.
+#[derive(Clone, Copy, Debug, PartialEq, Eq)]
+pub struct Sizing {
+    pub map: u8,
+    pub size: u16,
+}
+
+/// What a line asks for.
+#[derive(Debug, Drop)]
+pub enum Line {
+    /// Nothing: no words, or a comment.
+    Blank,
+    /// A packet with this APID, sequence count and data field.
+    Packet {
+        apid: u16,
+        count: u16,
+        octets: Octets,
+    },
+    /// A Type-AD or Type-BD frame that carries the octets, behind a segment header if one is given.
+    Frame {
+        header: Header,
+        segment: Option<Segment>,
+        octets: Octets,
+    },
+    /// A Type-BC frame for a virtual channel.
+    Command {
+        scid: u16,
+        vcid: u8,
+        command: Command,
+    },
+    /// A unit in segments, by Type-AD frames.
+    Segments {
+        stream: Stream,
+        sizing: Sizing,
+        unit: Octets,
+    },
+    /// Octets that are to be explained as a frame.
+    Explain(Octets),
+    /// Octets that are to be explained as a CLCW.
+    Clcw(Octets),
+}
+
+/// Reads a line, which is given without its line feed. Its words and its octets take memory.
+#[tactic(auto, unfolding(crate::specs::Line::line_of))]
+pub fn parse_line(alloc: Global, octets: &[u8]) -> Result<Line, Reason>
+    ensures line { IfOk result (λ line. line_of (words_of octets.now) ≡ Ok line) }
+    ensures reason { IfErr result (λ reason. (reason ≡ Reason.NoMemory) ⊎ (line_of (words_of octets.now) ≡ Err reason)) }
+{
+    let Ok(words) = words(alloc, octets) else {
+        return Err(Reason::NoMemory);
+    };
+    let Some((command, arguments)) = words.split_first() else {
+        return Ok(Line::Blank);
+    };
+    if is_comment(command) {
+        Ok(Line::Blank)
+    } else if *command == b"packet".as_slice() {
+        packet(alloc, arguments)
+    } else if *command == b"ad".as_slice() {
+        ad(alloc, arguments)
+    } else if *command == b"bd".as_slice() {
+        bd(alloc, arguments)
+    } else if *command == b"unlock".as_slice() {
+        unlock(arguments)
+    } else if *command == b"setvr".as_slice() {
+        setvr(arguments)
+    } else if *command == b"segments".as_slice() {
+        segments(alloc, arguments)
+    } else if *command == b"explain".as_slice() {
+        explain(alloc, arguments)
+    } else if *command == b"clcw".as_slice() {
+        clcw(alloc, arguments)
+    } else {
+        Err(Reason::UnknownCommand)
+    }
+}
+
+// The words of a line, in order.
+fn words(alloc: Global, line: &[u8]) -> Result<Vec<&[u8]>, AllocError>
+    ensures { IfOk result (λ words. map (λ word. word.now) words.items ≡ words_of line.now) }
+{
+    line.split(|octet| is_separator(*octet))
+        .filter(|word| !word.is_empty())
+        .collect(alloc)
+}
+
+fn is_separator(octet: u8) -> bool
+    ensures { result ≡ is_separator_octet octet }
+{
+    octet == b' ' || octet == b'\t' || octet == b'\r'
+}
+
+fn is_comment(word: &[u8]) -> bool
+    ensures { result ≡ is_comment_word word.now }
+{
+    matches!(word, [b'#', ..])
+}
+
+fn packet(alloc: Global, words: &[&[u8]]) -> Result<Line, Reason>
+    ensures line { IfOk result (λ line. packet_of (map (λ word. word.now) words.now) ≡ Ok line) }
+    ensures reason { IfErr result (λ reason. (reason ≡ Reason.NoMemory) ⊎ (packet_of (map (λ word. word.now) words.now) ≡ Err reason)) }
+{
+    let [apid, count, digits] = words else {
+        return Err(Reason::WordCount);
+    };
+    Ok(Line::Packet {
+        apid: large_number(apid)?,
+        count: large_number(count)?,
+        octets: octets(alloc, digits)?,
+    })
+}
+
+fn ad(alloc: Global, words: &[&[u8]]) -> Result<Line, Reason>
+    ensures line { IfOk result (λ line. ad_of (map (λ word. word.now) words.now) ≡ Ok line) }
+    ensures reason { IfErr result (λ reason. (reason ≡ Reason.NoMemory) ⊎ (ad_of (map (λ word. word.now) words.now) ≡ Err reason)) }
+{
+    let [scid, vcid, ns, map, digits] = words else {
+        return Err(Reason::WordCount);
+    };
+    let stream = read_stream(scid, vcid, ns)?;
+    let segment = segment(map)?;
+    frame(alloc, ad_header(stream), segment, digits)
+}
+
+fn bd(alloc: Global, words: &[&[u8]]) -> Result<Line, Reason>
+    ensures line { IfOk result (λ line. bd_of (map (λ word. word.now) words.now) ≡ Ok line) }
+    ensures reason { IfErr result (λ reason. (reason ≡ Reason.NoMemory) ⊎ (bd_of (map (λ word. word.now) words.now) ≡ Err reason)) }
+{
+    let [scid, vcid, map, digits] = words else {
+        return Err(Reason::WordCount);
+    };
+    let scid = large_number(scid)?;
+    let vcid = small_number(vcid)?;
+    let segment = segment(map)?;
+    frame(alloc, bd_header(scid, vcid), segment, digits)
+}
+
+fn unlock(words: &[&[u8]]) -> Result<Line, Reason>
+    ensures line { IfOk result (λ line. unlock_of (map (λ word. word.now) words.now) ≡ Ok line) }
+    ensures reason { IfErr result (λ reason. unlock_of (map (λ word. word.now) words.now) ≡ Err reason) }
+{
+    let [scid, vcid] = words else {
+        return Err(Reason::WordCount);
+    };
+    Ok(Line::Command {
+        scid: large_number(scid)?,
+        vcid: small_number(vcid)?,
+        command: Command::Unlock,
+    })
+}
+
+fn setvr(words: &[&[u8]]) -> Result<Line, Reason>
+    ensures line { IfOk result (λ line. setvr_of (map (λ word. word.now) words.now) ≡ Ok line) }
+    ensures reason { IfErr result (λ reason. setvr_of (map (λ word. word.now) words.now) ≡ Err reason) }
+{
+    let [scid, vcid, vr] = words else {
+        return Err(Reason::WordCount);
+    };
+    Ok(Line::Command {
+        scid: large_number(scid)?,
+        vcid: small_number(vcid)?,
+        command: Command::SetVr(small_number(vr)?),
+    })
+}
+
+fn segments(alloc: Global, words: &[&[u8]]) -> Result<Line, Reason>
+    ensures line { IfOk result (λ line. segments_of (map (λ word. word.now) words.now) ≡ Ok line) }
+    ensures reason { IfErr result (λ reason. (reason ≡ Reason.NoMemory) ⊎ (segments_of (map (λ word. word.now) words.now) ≡ Err reason)) }
+{
+    let [scid, vcid, ns, map, size, digits] = words else {
+        return Err(Reason::WordCount);
+    };
+    let stream = read_stream(scid, vcid, ns)?;
+    let sizing = read_sizing(map, size)?;
+    parted(alloc, stream, sizing, digits)
+}
+
+// A frame that carries the octets that digits spell.
+fn frame(
+    alloc: Global,
+    header: Header,
+    segment: Option<Segment>,
+    digits: &[u8],
+) -> Result<Line, Reason>
+    ensures line { IfOk result (λ line. framed_of header segment digits.now ≡ Ok line) }
+    ensures reason { IfErr result (λ reason. (reason ≡ Reason.NoMemory) ⊎ (framed_of header segment digits.now ≡ Err reason)) }
+{
+    Ok(Line::Frame {
+        header,
+        segment,
+        octets: octets(alloc, digits)?,
+    })
+}
+
+// The segments of the unit that digits spell.
+fn parted(alloc: Global, stream: Stream, sizing: Sizing, digits: &[u8]) -> Result<Line, Reason>
+    ensures line { IfOk result (λ line. parted_of stream sizing digits.now ≡ Ok line) }
+    ensures reason { IfErr result (λ reason. (reason ≡ Reason.NoMemory) ⊎ (parted_of stream sizing digits.now ≡ Err reason)) }
+{
+    Ok(Line::Segments {
+        stream,
+        sizing,
+        unit: octets(alloc, digits)?,
+    })
+}
+
+fn explain(alloc: Global, words: &[&[u8]]) -> Result<Line, Reason>
+    ensures line { IfOk result (λ line. explain_of (map (λ word. word.now) words.now) ≡ Ok line) }
+    ensures reason { IfErr result (λ reason. (reason ≡ Reason.NoMemory) ⊎ (explain_of (map (λ word. word.now) words.now) ≡ Err reason)) }
+{
+    let [digits] = words else {
+        return Err(Reason::WordCount);
+    };
+    Ok(Line::Explain(octets(alloc, digits)?))
+}
+
+fn clcw(alloc: Global, words: &[&[u8]]) -> Result<Line, Reason>
+    ensures line { IfOk result (λ line. clcw_of (map (λ word. word.now) words.now) ≡ Ok line) }
+    ensures reason { IfErr result (λ reason. (reason ≡ Reason.NoMemory) ⊎ (clcw_of (map (λ word. word.now) words.now) ≡ Err reason)) }
+{
+    let [digits] = words else {
+        return Err(Reason::WordCount);
+    };
+    Ok(Line::Clcw(octets(alloc, digits)?))
+}
+
+fn ad_header(stream: Stream) -> Header
+    ensures { result ≡ ad_header_of stream }
+{
+    Header {
+        bypass: false,
+        control: false,
+        scid: stream.scid,
+        vcid: stream.vcid,
+        ns: stream.ns,
+    }
+}
+
+fn bd_header(scid: u16, vcid: u8) -> Header
+    ensures { result ≡ bd_header_of scid vcid }
+{
+    Header {
+        bypass: true,
+        control: false,
+        scid,
+        vcid,
+        ns: 0,
+    }
+}
+
+// The Type-AD frames that three words name.
+fn read_stream(scid: &[u8], vcid: &[u8], ns: &[u8]) -> Result<Stream, Reason>
+    ensures { MatchResult result
+        (λ stream. stream_of scid.now vcid.now ns.now ≡ Ok stream)
+        (λ reason. stream_of scid.now vcid.now ns.now ≡ Err reason) }
+{
+    Ok(Stream {
+        scid: large_number(scid)?,
+        vcid: small_number(vcid)?,
+        ns: small_number(ns)?,
+    })
+}
+
+// The MAP and the size of segments that two words name.
+fn read_sizing(map: &[u8], size: &[u8]) -> Result<Sizing, Reason>
+    ensures { MatchResult result
+        (λ sizing. sizing_of map.now size.now ≡ Ok sizing)
+        (λ reason. sizing_of map.now size.now ≡ Err reason) }
+{
+    Ok(Sizing {
+        map: small_number(map)?,
+        size: large_number(size)?,
+    })
+}
+
+// The segment header that a word names: none, or an unsegmented one with a MAP id.
+fn segment(word: &[u8]) -> Result<Option<Segment>, Reason>
+    ensures { MatchResult result
+        (λ segment. segment_of word.now ≡ Ok segment)
+        (λ reason. segment_of word.now ≡ Err reason) }
+{
+    if word == b"plain".as_slice() {
+        return Ok(None);
+    }
+    Ok(Some(Segment {
+        part: Part::Unsegmented,
+        map: small_number(word)?,
+    }))
+}
+
+// The octets that hexadecimal digits spell.
+fn octets(alloc: Global, digits: &[u8]) -> Result<Octets, Reason>
+    ensures octets { IfOk result (λ octets. decode_of digits.now ≡ Ok octets) }
+    ensures reason { IfErr result (λ reason. (reason ≡ Reason.NoMemory) ⊎ ((reason ≡ Reason.BadHex) × IsErr (decode_of digits.now))) }
+{
+    match hex::decode(alloc, digits) {
+        Ok(octets) => Ok(Octets::from(octets)),
+        Err(FromHexError::OutOfMemory) => Err(Reason::NoMemory),
+        Err(_) => Err(Reason::BadHex),
+    }
+}
