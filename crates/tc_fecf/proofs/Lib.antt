@@ -6,3 +6,4 @@ pub mod Plain
 pub mod Division
 pub mod Ones
 pub mod Three
+pub mod Faults

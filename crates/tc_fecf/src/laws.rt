@@ -1,11 +1,11 @@
 //! What the field is, and which changes of bits it tells.
 
-ghost use Rattle.std.specs.Prelude.{◌≡◌, ◌≢◌, ◌⊎◌, ◌<◌, ◌≤◌, ◌+◌, ◌%◌, ◌++◌, ℕ, List, length, drop};
-ghost use Rattle.tc_link.specs.Frame.{IsWhole, IsFrame, header_of};
+ghost use Rattle.std.specs.Prelude.{◌≡◌, ◌≢◌, ◌⊎◌, ◌<◌, ◌≤◌, ◌+◌, ◌%◌, ◌++◌, ◌↔◌, ℕ, List, None, length, drop};
+ghost use Rattle.tc_link.specs.Frame.{IsOctets, IsWhole, IsFrame, header_of};
 ghost use Rattle.tc_fecf.specs.Checksum.{checksum_of, bits_of};
 ghost use Rattle.tc_fecf.specs.Division.{IsRemainder};
 ghost use Rattle.tc_fecf.specs.Changes.{SameOctets, SameBits, Passes, differences};
-ghost use Rattle.tc_fecf.specs.FrameWithField.{spelled, octets_before_field, frame_with_field};
+ghost use Rattle.tc_fecf.specs.FrameWithField.{spelled, octets_before_field, frame_with_field, frame_fault_of, adding_fault_of, taking_fault_of};
 
 /// The field over octets is the remainder of the division of the polynomials, and there is no other remainder.
 pub fn the_field_is_the_remainder()
@@ -21,6 +21,14 @@ pub fn a_field_comes_off_as_it_went_on()
         → IsFrame (frame_with_field frame) (header_of frame) (drop 5 frame ++ spelled (checksum_of (octets_before_field frame))) }
     ensures right { (frame : List ℕ) → Passes (frame_with_field frame) }
     ensures one { (one other : List ℕ) → IsWhole one → IsWhole other → frame_with_field one ≡ frame_with_field other → one ≡ other }
+{}
+
+/// Octets have no fault where a field is to be added exactly where they are one frame of at most 1,022 octets, and none where
+/// it is to be taken off exactly where they are one frame of at least 8 that passes.
+pub fn just_frames_with_room_for_the_field_have_no_fault()
+    ensures frame { (octets : List ℕ) → IsOctets octets → (frame_fault_of octets ≡ None) ↔ IsWhole octets }
+    ensures adding { (octets : List ℕ) → IsOctets octets → (adding_fault_of octets ≡ None) ↔ (IsWhole octets × (length octets ≤ 1022)) }
+    ensures taking { (octets : List ℕ) → IsOctets octets → (taking_fault_of octets ≡ None) ↔ (IsWhole octets × (8 ≤ length octets) × Passes octets) }
 {}
 
 /// Two lists of as many octets that differ within 16 bits in a row don't both pass.

@@ -1,0 +1,23 @@
+-- Just one frame has no fault.
+use Rattle.std.proofs.Common.{◌≡◌, ℕ, ◌+◌, ◌<◌, ◌≤◌, ◌↔◌, Bool, true, false, cond, List, length, Some, None, nat_lt, refl, arith}
+use Rattle.std.proofs.lemmas.Bool.Decides.{nat_tests}
+use Rattle.tc_link.specs.Frame.{IsOctets, IsWhole, named_length, version_of, spare_of}
+use Rattle.tc_fecf.specs.Checksum.{checksum_of}
+use Rattle.tc_fecf.specs.Changes.{Passes}
+use Rattle.tc_fecf.specs.FrameWithField.{frame_fault_of, adding_fault_of, taking_fault_of}
+
+whole-of : (octets : List ℕ) → IsOctets octets → frame_fault_of octets ≡ None → IsWhole octets
+whole-of octets each none = record {
+  each = each;
+  least = grind (arith, nat_tests);
+  most = grind (arith, nat_tests);
+  version = grind (arith, nat_tests);
+  spare = grind (arith, nat_tests);
+  named = grind (arith, nat_tests);
+}
+
+pub none-of : (octets : List ℕ) → IsWhole octets → frame_fault_of octets ≡ None
+none-of octets w = let least = w.least in let most = w.most in let version = w.version in let spare = w.spare in let named = w.named in grind (arith, nat_tests)
+
+pub frame-fault : (octets : List ℕ) → IsOctets octets → (frame_fault_of octets ≡ None) ↔ IsWhole octets
+frame-fault octets each = (whole-of octets each, none-of octets)
