@@ -6,3 +6,4 @@ pub mod Frames
 pub mod Parts
 pub mod Parting
 pub mod Explanation
+pub mod Ending

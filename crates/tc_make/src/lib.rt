@@ -1,6 +1,12 @@
-//! Frames and packets of one's own.
+//! Frames and packets of one's own, for the bench: what a line of text asks for is made or explained, and answered in lines.
+//!
+//! [`answer_lines`] does lines, and [`answer_line`] one. [`parse_line`] says what a line asks for. What is made is made by
+//! [`make_packet`], [`make_frame`], [`make_command`], [`Parting::frame`] and [`Ending::end`], and what is explained is read by
+//! [`explain`].
 #![tactic(auto)]
 
+mod answer;
+mod ending;
 mod explaining;
 mod fault;
 mod frames;
@@ -9,11 +15,15 @@ mod number;
 mod octets;
 mod packets;
 mod parting;
+mod serving;
 
+pub use answer::answer_line;
+pub use ending::Ending;
 pub use explaining::{Explanation, explain};
 pub use fault::Reason;
 pub use frames::{make_command, make_frame};
-pub use line::{Line, parse_line};
+pub use line::{Line, Sizing, Stream, parse_line};
 pub use octets::Octets;
 pub use packets::make_packet;
 pub use parting::Parting;
+pub use serving::{MAX_LINE, ServingFault, answer_lines};

@@ -1,0 +1,61 @@
+//! `tcmake`: makes and explains telecommand frames, line by line.
+#![tactic(auto)]
+
+mod command_line;
+
+use command_line::judge;
+use std::env::Env;
+use std::io::{BufReader, BufWriter};
+use std::process::ExitCode;
+use std::{env, io};
+use tc_make::{Ending, ServingFault, answer_lines};
+
+/// The exit status of a bad command line.
+const BAD_COMMAND_LINE: u8 = 2;
+
+fn main(rt: HostRuntime) -> ExitCode {
+    match words(&rt) {
+        Ok(words) => obey(&rt, words.as_slice()),
+        Err(error) => {
+            let _ = eprintln!(rt; "{error}");
+            ExitCode::from(BAD_COMMAND_LINE)
+        }
+    }
+}
+
+// The words of the command line, which are text.
+fn words<R: Env + AllocGlobal>(rt: &R) -> io::Result<Vec<String>> {
+    Ok(env::args(rt)?.collect(rt.alloc())?)
+}
+
+// Judges the words before anything is read, and does what they ask for.
+fn obey<R: AllocGlobal + Input + Print + Eprint>(rt: &R, words: &[String]) -> ExitCode {
+    match judge(rt.alloc(), words) {
+        Ok(ending) => tell(rt, serve(rt, ending)),
+        Err(answer) => match answer.print(rt) {
+            Ok(()) => ExitCode::from(answer.exit_code() as u8),
+            Err(_) => ExitCode::from(BAD_COMMAND_LINE),
+        },
+    }
+}
+
+// The exit status. Why no more lines were answered goes to standard error.
+fn tell<R: Eprint>(rt: &R, served: Result<(), ServingFault>) -> ExitCode {
+    match served {
+        Ok(()) => ExitCode::SUCCESS,
+        Err(fault) => {
+            let _ = eprintln!(rt; "{fault}");
+            ExitCode::FAILURE
+        }
+    }
+}
+
+fn serve<R: AllocGlobal + Input + Print>(rt: &R, ending: Ending) -> Result<(), ServingFault> {
+    let Ok(mut reader) = BufReader::new(rt.alloc(), rt.reader()) else {
+        return Err(ServingFault::NoMemory);
+    };
+    let Ok(mut writer) = BufWriter::new(rt.alloc(), io::writer(rt)) else {
+        return Err(ServingFault::NoMemory);
+    };
+    answer_lines(rt.alloc(), ending, &mut reader, &mut writer)
+}
