@@ -22,7 +22,10 @@ fn command<'a>(alloc: Global) -> Result<Command<'a>, Error> {
         .long("fecf")
         .action(ArgAction::SetTrue)
         .help("Ends each frame with a frame error control field");
-    Command::new(alloc, "tcmake")
-        .about("Makes telecommand frames and packets, and explains frames and CLCWs: answers the lines of standard input")
-        .arg(fecf)
+    let command = Command::new(alloc, "tcmake")
+        .about(
+            "Makes telecommand frames and packets, and explains frames and CLCWs: answers the lines of standard input",
+        )
+        .arg(fecf)?;
+    Ok(command)
 }
