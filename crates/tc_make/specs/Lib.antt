@@ -7,3 +7,4 @@ pub mod Parts
 pub mod Parting
 pub mod Explanation
 pub mod Ending
+pub mod Segments

@@ -3,6 +3,8 @@
 //! [`answer_lines`] does lines, and [`answer_line`] one. [`parse_line`] says what a line asks for. What is made is made by
 //! [`make_packet`], [`make_frame`], [`make_command`], [`Parting::frame`] and [`Ending::end`], and what is explained is read by
 //! [`explain`].
+//!
+//! A law stands as the contract of a function with an empty body: [`the_segments_of_a_unit_make_the_unit`].
 #![tactic(auto)]
 
 mod answer;
@@ -10,6 +12,7 @@ mod ending;
 mod explaining;
 mod fault;
 mod frames;
+mod laws;
 mod line;
 mod number;
 mod octets;
@@ -22,6 +25,7 @@ pub use ending::Ending;
 pub use explaining::{Explanation, explain};
 pub use fault::Reason;
 pub use frames::{make_command, make_frame};
+pub use laws::the_segments_of_a_unit_make_the_unit;
 pub use line::{Line, Sizing, Stream, parse_line};
 pub use octets::Octets;
 pub use packets::make_packet;

@@ -1,0 +1,10 @@
+//! A law over the definitions.
+
+ghost use Rattle.std.specs.Prelude.{ℕ, ◌≤◌, List, length};
+ghost use Rattle.tc_make.specs.Segments.{AreSegments, MakeUnit};
+
+/// Data fields that carry the segments of a unit make that unit, by what reassembly is in tc_packet.
+pub fn the_segments_of_a_unit_make_the_unit()
+    ensures { (map size : ℕ) (unit : List ℕ) (fields : List (List ℕ)) → 1 ≤ size → 1 ≤ length unit → length unit ≤ 65542
+        → AreSegments map size unit fields → MakeUnit fields unit }
+{}
