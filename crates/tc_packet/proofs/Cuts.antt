@@ -3,7 +3,7 @@ use Rattle.std.proofs.Common.{◌≡◌, ◌≢◌, ℕ, zero, suc, ◌+◌, ◌
 use Rattle.std.proofs.lemmas.Bool.Decides.{nat_tests}
 use Rattle.std.proofs.lemmas.Grind.{common_steps}
 use Rattle.std.proofs.lemmas.List.{get_or-take, take-append-drop, take_at, drop_at, length-append, length-take, length-drop, drop-drop, take_min}
-use Rattle.tc_packet.specs.SpacePacket.{IsPacket, IsCut, joined, version_of, named_length, begins, packets_within}
+use Rattle.tc_packet.specs.SpacePacket.{IsPacket, IsCut, joined, version_of, named_length, begins, packets_within, packets_of, rest_of}
 
 -- the header of a front is that of the whole
 version-front : (n : ℕ) (u : List ℕ) → 7 ≤ n → version_of (take n u) ≡ version_of u
@@ -104,3 +104,20 @@ one-front u n m p q =
     let b = begins-packet m u q in
     let front : (k : ℕ) → take k u ≡ take (length (take k u)) u = λ k. sym (ap (λ (j : ℕ). take j u) (length-take k u) ∙ take_min k u) in
     front n ∙ ap (λ (k : ℕ). take k u) (sym a.1 ∙ b.1) ∙ sym (front m)
+
+-- a packet at the front is the first of the cut, and the rest of the cut is that of what comes after it
+pub cut-next : (u p : List ℕ) → IsPacket p → p ≡ take (length p) u → (packets_of u ≡ p ∷ packets_of (drop (length p) u)) × (rest_of u ≡ rest_of (drop (length p) u))
+cut-next u p packet front =
+    let after = drop (length p) u in
+    let cut = is-cut (length after) after (omega arith) in
+    let parts : u ≡ joined (p ∷ packets_of after) ++ rest_of after =
+    sym (take-append-drop (length p) u) ∙ ap (λ (x : List ℕ). take (length p) u ++ x) cut.parts
+    ∙ ap (λ (x : List ℕ). x ++ (joined (packets_of after) ++ rest_of after)) (sym front) ∙ sym (append_assoc p (joined (packets_of after)) (rest_of after)) in
+    let only = only-cut (length u) u (p ∷ packets_of after) (rest_of after) (omega arith) (record { parts = parts; each = (packet, cut.each); ends = cut.ends }) in
+    (sym only.0, sym only.1)
+
+-- where no packet stands at the front, all is rest
+pub cut-end : (u : List ℕ) → ((n : ℕ) → IsPacket (take n u) → ⊥) → (packets_of u ≡ []) × (rest_of u ≡ u)
+cut-end u none =
+    let only = only-cut (length u) u [] u (omega arith) (record { parts = refl; each = tt; ends = none }) in
+    (sym only.0, sym only.1)

@@ -1,12 +1,12 @@
 //! Cutting a unit into packets.
 
-ghost use Rattle.std.specs.Prelude.{IfOk};
+ghost use Rattle.std.specs.Prelude.{◌≡◌, ◌<◌, ◌∷◌, [], length, IfOk, IfSome, IfNone};
 ghost use Rattle.std.specs.List.{AllByRecursion};
 ghost use Rattle.tc_packet.specs.PacketFields.{HasFields, octets_of};
-ghost use Rattle.tc_packet.specs.SpacePacket.{IsCut};
+ghost use Rattle.tc_packet.specs.SpacePacket.{IsCut, packets_of, rest_of};
 
 use crate::fault::NoMemory;
-use crate::packet::{Cut, read_packet};
+use crate::packet::{Cut, Packet, read_packet};
 use std::alloc::Global;
 
 /// Cuts packets from the front of a unit, as long as one stands there. Only the list of packets
@@ -23,4 +23,23 @@ pub fn cut(alloc: Global, unit: &[u8]) -> Result<Cut<'_>, NoMemory>
         rest = after;
     }
     Ok(Cut { packets, rest })
+}
+
+/// The first packet of a unit's cut, and what comes after it: the cut of that is the rest of the cut. None where no packet
+/// stands at the front, and all is rest. Nothing is allocated.
+pub fn next_packet(unit: &[u8]) -> Option<(Packet<'_>, &[u8])>
+    ensures packets { IfSome result (λ r. packets_of unit.now ≡ r.0.octets.now ∷ packets_of r.1.now) }
+    ensures rest { IfSome result (λ r. rest_of unit.now ≡ rest_of r.1.now) }
+    ensures fields { IfSome result (λ r. HasFields r.0) }
+    ensures shorter { IfSome result (λ r. length r.1.now < length unit.now) }
+    ensures no_packets { IfNone result (packets_of unit.now ≡ []) }
+    ensures all_rest { IfNone result (rest_of unit.now ≡ unit.now) }
+{
+    match read_packet(unit) {
+        None => None,
+        Some(packet) => {
+            let (_, after) = unit.split_at(packet.octets.len());
+            Some((packet, after))
+        }
+    }
 }

@@ -14,7 +14,7 @@ mod packet;
 mod reassembler;
 mod segment;
 
-pub use cutting::cut;
+pub use cutting::{cut, next_packet};
 pub use fault::NoMemory;
 pub use laws::{
     a_plain_field_is_a_unit_by_itself, a_unit_looks_back_over_its_stream,

@@ -2,7 +2,7 @@
 
 use std::alloc::{AllocError, Global};
 use std::process::Abort;
-use tc_packet::{Cut, NoMemory, cut};
+use tc_packet::{Cut, NoMemory, Packet, cut, next_packet};
 
 const PACKET: [u8; 7] = [0x10, 0x05, 0xc0, 0x00, 0x00, 0x00, 0xaa];
 
@@ -48,6 +48,40 @@ fn cuts_as_many_packets_as_the_largest_unit_has(rt: HostRuntime) {
         9_363,
         b"\xff",
     );
+}
+
+#[test]
+fn reads_one_packet_after_the_other(rt: HostRuntime) {
+    let telemetry = [0x0f, 0xff, 0x40, 0x01, 0x00, 0x01, 0xaa, 0xbb];
+    let mut unit = packets_and(rt.alloc(), 1, &telemetry).expect(&rt, "a unit");
+    unit.push(0xff).expect(&rt, "a unit");
+    let first = Packet {
+        telecommand: true,
+        secondary: false,
+        apid: 5,
+        flags: 3,
+        count: 0,
+        octets: &PACKET,
+    };
+    let second = Packet {
+        telecommand: false,
+        secondary: true,
+        apid: 2_047,
+        flags: 1,
+        count: 1,
+        octets: &telemetry,
+    };
+    assert_eq!(&rt; next_packet(&unit), Some((first, &unit[7..])));
+    assert_eq!(&rt; next_packet(&unit[7..]), Some((second, b"\xff".as_slice())));
+    assert_eq!(&rt; next_packet(b"\xff"), None);
+}
+
+#[test]
+fn reads_no_packet_where_none_stands_at_the_front(rt: HostRuntime) {
+    assert_eq!(&rt; next_packet(b""), None);
+    assert_eq!(&rt; next_packet(&PACKET[..6]), None);
+    assert_eq!(&rt; next_packet(b"\x10\x05\xc0\x00\x00\x01\xaa"), None);
+    assert_eq!(&rt; next_packet(b"\x30\x05\xc0\x00\x00\x00\xaa"), None);
 }
 
 #[test]
