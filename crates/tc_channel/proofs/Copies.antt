@@ -1,17 +1,11 @@
 -- Copies of items that are put into their queues one after the other, whatever the queues want.
-use Rattle.std.proofs.Common.{◌≡◌, ◌≢◌, ℕ, Bool, zero, suc, ◌+◌, ◌-◌, ◌<◌, ◌≤◌, List, [], ◌∷◌, ◌++◌, length, map, filter, take, drop, get_or, true, false, ◌⊎◌, inl, inr, refl, sym, ap, ◌∙◌, append_assoc, add-one, arith}
-use Rattle.std.proofs.lemmas.Bool.{eq-eqb, ne_eqb}
-use Rattle.std.proofs.Math.Bool.{and-false}
+use Rattle.std.proofs.Common.{◌≡◌, ℕ, Bool, zero, suc, ◌+◌, ◌-◌, ◌<◌, ◌≤◌, List, [], ◌∷◌, ◌++◌, length, map, filter, take, get_or, refl, sym, ap, ◌∙◌, append_assoc, arith}
 use Rattle.std.specs.List.{AllByRecursion, sum_by}
-use Rattle.tc_packet.specs.declared.Packet.{Packet}
-use Rattle.tc_packet.specs.SpacePacket.{apid_of, is_telecommand}
-use Rattle.tc_packet.specs.PacketFields.{HasFields, octets_of}
 use Rattle.std.proofs.Math.ListN.{set}
 use Rattle.std.proofs.lemmas.List.{append-nil, length-append, length-map, length-take}
 use Rattle.std.proofs.lemmas.List.Sums.{sum_by-cons}
 use Rattle.circular_buffer.specs.Buffer.{buffer as ring_of}
-use Rattle.tc_channel.specs.Admission.{is_for}
-use Rattle.tc_channel.specs.HeldQueues.{share, copied_to, copies_from, longer, put, put_all, HavePlaces}
+use Rattle.tc_channel.specs.HeldQueues.{share, with_items, copied_to, copies_from, longer, put, put_all, HavePlaces}
 use Rattle.tc_channel.specs.declared.queues.HeldQueue.{HeldQueue}
 use Rattle.tc_channel.specs.declared.queues.Placed.{Placed}
 
@@ -33,12 +27,16 @@ pub put_all-push : (ws : List HeldQueue) (cs : List Placed) (c : Placed) → put
 put_all-push ws [] c = refl
 put_all-push ws (d ∷ cs) c = put_all-push (put ws d.place d.item) cs c
 
-pub place-at : (n : ℕ) (cs : List Placed) (i : ℕ) (c : Placed) → HavePlaces n cs → i < length cs → c ≡ get_or cs i c → c.place < n
-place-at n [] i c h lt is = absurd (omega arith)
-place-at n (d ∷ cs) zero c h lt is = rw is h.0
-place-at n (d ∷ cs) (suc i) c h lt is = place-at n cs i c h.1 (omega arith) is
+-- the next copy is put, and the others are left
+pub put-next : (ws whole : List HeldQueue) (left others : List Placed) (c : Placed) (w : HeldQueue) → left ≡ c ∷ others → w ≡ get_or ws c.place w
+    → HavePlaces (length ws) left → put_all ws left ≡ whole
+    → HavePlaces (length (set ws c.place (longer w c.item))) others × (put_all (set ws c.place (longer w c.item)) others ≡ whole)
+put-next ws whole left others c w next is places all =
+    let places' = rw next at places in
+    let all' = rw next at all in
+    rw (put-set ws c.place w c.item is places'.0, length-put ws c.place c.item) (places'.1, all')
 
-places-append : (n : ℕ) (cs ds : List Placed) → HavePlaces n cs → HavePlaces n ds → HavePlaces n (cs ++ ds)
+pub places-append : (n : ℕ) (cs ds : List Placed) → HavePlaces n cs → HavePlaces n ds → HavePlaces n (cs ++ ds)
 places-append n [] ds h k = k
 places-append n (c ∷ cs) ds h k = (h.0, places-append n cs ds h.1 k)
 
@@ -58,15 +56,12 @@ length-copies wanted place ps (w ∷ ws) =
     let ih = length-copies wanted (place + 1) ps ws in
     omega (arith, length-append (map (copied_to place) (share wanted ps w)) (copies_from wanted (place + 1) ps ws), length-map (share wanted ps w) (copied_to place), sum_by-cons length (share wanted ps w) (map (share wanted ps) ws))
 
-abbrev pub with_items : HeldQueue → List (List ℕ) → HeldQueue
-with_items w ps = record w { ring = ring_of (w.ring.items ++ ps) w.ring.capacity }
-
 put-at : (done : List HeldQueue) (w : HeldQueue) (ws : List HeldQueue) (p : List ℕ) → put (done ++ w ∷ ws) (length done) p ≡ done ++ longer w p ∷ ws
 put-at [] w ws p = refl
 put-at (d ∷ done) w ws p = ap (λ (x : List HeldQueue). d ∷ x) (put-at done w ws p)
 
 -- a queue with room forgets nothing
-longer-fits : (w : HeldQueue) (p : List ℕ) → length w.ring.items < w.ring.capacity → longer w p ≡ with_items w (p ∷ [])
+pub longer-fits : (w : HeldQueue) (p : List ℕ) → length w.ring.items < w.ring.capacity → longer w p ≡ with_items w (p ∷ [])
 longer-fits w p fits =
     let l = length-append w.ring.items (p ∷ []) in
     let none : length (w.ring.items ++ p ∷ []) - w.ring.capacity ≡ 0 = omega arith in
@@ -108,54 +103,3 @@ copies-none wanted place (w ∷ ws) = rw (take-nil (w.ring.capacity - length w.r
   take-nil : (n : ℕ) → take {A = List ℕ} n [] ≡ []
   take-nil zero = refl
   take-nil (suc n) = refl
-
--- the next item is copied
-one-copied : (wanted : ℕ → List ℕ → Bool) (copies whole : List Placed) (place room key : ℕ) (p : List ℕ) (ps : List (List ℕ)) → wanted key p ≡ true → 0 < room
-    → copies ++ map (copied_to place) (take room (filter (wanted key) (p ∷ ps))) ≡ whole → (copies ++ copied_to place p ∷ []) ++ map (copied_to place) (take (room - 1) (filter (wanted key) ps)) ≡ whole
-one-copied wanted copies whole place zero key p ps for_it some is = absurd (omega arith)
-one-copied wanted copies whole place (suc room) key p ps for_it some is =
-    let less : suc room - 1 ≡ room = omega arith in
-    let front : copies ++ map (copied_to place) (take (suc room) (filter (wanted key) (p ∷ ps))) ≡ copies ++ copied_to place p ∷ map (copied_to place) (take room (filter (wanted key) ps)) = rw for_it refl in
-    rw less (append_assoc copies (copied_to place p ∷ []) (map (copied_to place) (take room (filter (wanted key) ps))) ∙ sym front ∙ is)
-
--- the next item is passed over
-none-copied : (wanted : ℕ → List ℕ → Bool) (copies whole : List Placed) (place room key : ℕ) (p : List ℕ) (ps : List (List ℕ)) → wanted key p ≡ false
-    → copies ++ map (copied_to place) (take room (filter (wanted key) (p ∷ ps))) ≡ whole → copies ++ map (copied_to place) (take room (filter (wanted key) ps)) ≡ whole
-none-copied wanted copies whole place room key p ps other is = let e : filter (wanted key) (p ∷ ps) ≡ filter (wanted key) ps = rw other refl in rw e at is
-
--- packet i, and the packets after it
-next-packet : (packets : List Packet) (i : ℕ) (d : Packet) → AllByRecursion HasFields packets → i < length packets
-    → HasFields (get_or packets i d) × (octets_of (drop i packets) ≡ (get_or packets i d).octets.now ∷ octets_of (drop (i + 1) packets))
-next-packet packets i d fields lt = rw (add-one i) (at packets i fields lt) where
-  at : (packets : List Packet) (i : ℕ) → AllByRecursion HasFields packets → i < length packets → HasFields (get_or packets i d) × (octets_of (drop i packets) ≡ (get_or packets i d).octets.now ∷ octets_of (drop (suc i) packets))
-  at [] i fields lt = absurd (omega arith)
-  at (p ∷ packets) zero fields lt = (fields.0, refl)
-  at (p ∷ packets) (suc i) fields lt = at packets i fields.1 (omega arith)
-
-pub copy-next : (packets : List Packet) (i : ℕ) (d : Packet) (copies whole : List Placed) (place room apid : ℕ) (copy : List ℕ) → AllByRecursion HasFields packets → i < length packets
-    → 0 < room → (get_or packets i d).telecommand ≡ true → (get_or packets i d).apid ≡ apid → copy ≡ (get_or packets i d).octets.now
-    → copies ++ map (copied_to place) (take room (filter (is_for apid) (octets_of (drop i packets)))) ≡ whole
-    → (copies ++ copied_to place copy ∷ []) ++ map (copied_to place) (take (room - 1) (filter (is_for apid) (octets_of (drop (i + 1) packets)))) ≡ whole
-copy-next packets i d copies whole place room apid copy fields lt some telecommand same copy_is is =
-    let next = next-packet packets i d fields lt in
-    let p = (get_or packets i d).octets.now in
-    let for_it : is_for apid p ≡ true = rw (sym next.0.telecommand ∙ telecommand) (eq-eqb (apid_of p) apid (sym next.0.apid ∙ same)) in
-    rw copy_is (one-copied is_for copies whole place room apid p (octets_of (drop (i + 1) packets)) for_it some (rw next.1 at is))
-
-pub pass-next : (packets : List Packet) (i : ℕ) (d : Packet) (copies whole : List Placed) (place room apid : ℕ) → AllByRecursion HasFields packets → i < length packets
-    → ((get_or packets i d).telecommand ≡ false) ⊎ ((get_or packets i d).apid ≢ apid)
-    → copies ++ map (copied_to place) (take room (filter (is_for apid) (octets_of (drop i packets)))) ≡ whole
-    → copies ++ map (copied_to place) (take room (filter (is_for apid) (octets_of (drop (i + 1) packets)))) ≡ whole
-pass-next packets i d copies whole place room apid fields lt why is =
-    let next = next-packet packets i d fields lt in
-    none-copied is_for copies whole place room apid (get_or packets i d).octets.now (octets_of (drop (i + 1) packets)) (by why) (rw next.1 at is)
-  where
-    by : ((get_or packets i d).telecommand ≡ false) ⊎ ((get_or packets i d).apid ≢ apid) → is_for apid (get_or packets i d).octets.now ≡ false
-    by (inl other) = let next = next-packet packets i d fields lt in rw (sym next.0.telecommand ∙ other) refl
-    by (inr other) =
-        let next = next-packet packets i d fields lt in
-        rw (ne_eqb (apid_of (get_or packets i d).octets.now) apid (λ e. other (next.0.apid ∙ e))) (and-false (is_telecommand (get_or packets i d).octets.now))
-
--- a queue with no room left takes no item
-pub full-next : (copies whole : List Placed) (place room : ℕ) (ps qs : List (List ℕ)) → room ≡ 0 → copies ++ map (copied_to place) (take room ps) ≡ whole → copies ++ map (copied_to place) (take room qs) ≡ whole
-full-next copies whole place room ps qs none is = rw none (rw none at is)

@@ -1,15 +1,13 @@
 -- Queues with distinct keys take no item twice, where one key alone wants it.
-use Rattle.std.proofs.Common.{◌≡◌, ◌≢◌, ℕ, zero, suc, ◌+◌, ◌-◌, ◌≤◌, Bool, true, false, cond, eqb, not, nat_lt, ◌&&◌, List, [], ◌∷◌, length, map, filter, take, drop, refl, ap, ◌∙◌, inl, inr, arith}
+use Rattle.std.proofs.Common.{◌≡◌, ◌≢◌, ℕ, zero, suc, ◌+◌, ◌-◌, ◌≤◌, Bool, true, false, cond, eqb, ◌&&◌, List, [], ◌∷◌, length, map, filter, take, drop, refl, inl, inr, arith}
 use Rattle.std.specs.List.{AllByRecursion, sum_by}
 use Rattle.std.proofs.lemmas.List.{length-take}
 use Rattle.std.proofs.lemmas.List.Sums.{sum_by-cons}
-use Rattle.std.proofs.lemmas.Bool.Decides.{eqb_tells, nat_tests}
+use Rattle.std.proofs.lemmas.Bool.Decides.{eqb_tells}
 use Rattle.tc_packet.specs.SpacePacket.{apid_of, is_telecommand, named_length, begins, packets_within, packets_of}
 use Rattle.tc_channel.specs.declared.queues.HeldQueue.{HeldQueue}
 use Rattle.tc_channel.specs.Admission.{is_for}
-use Rattle.tc_channel.specs.declared.queues.Placed.{Placed}
-use Rattle.tc_channel.specs.HeldQueues.{share, copies_from, keys_of, AreDistinct}
-use Rattle.tc_channel.proofs.Copies.{length-copies}
+use Rattle.tc_channel.specs.HeldQueues.{share, shares_in, keys_of, AreDistinct}
 
 abbrev meant : (ℕ → List ℕ → Bool) → List (List ℕ) → ℕ → ℕ
 meant wanted ps key = length (filter (wanted key) ps)
@@ -96,16 +94,10 @@ packets-short (suc n) unit = by (begins unit) (packets-short n (drop (named_leng
   by true h = omega arith
   by false h = omega arith
 
--- how many packets a unit has, and how many of them are copied
-pub copies-within : (unit : List ℕ) (ps : List (List ℕ)) (ws : List HeldQueue) (copies : List Placed) → length unit ≤ 65542 → ps ≡ packets_of unit → AreDistinct (keys_of ws) → copies ≡ copies_from is_for 0 ps ws
-    → (length copies ≤ length ps) × (length ps ≤ 65542)
-copies-within unit ps ws copies short cut apart is =
+-- how many packets a unit has, and how many of them are queued
+pub copies-within : (unit : List ℕ) (ws : List HeldQueue) (n : ℕ) → length unit ≤ 65542 → AreDistinct (keys_of ws) → n ≡ shares_in is_for (packets_of unit) ws
+    → (n ≤ length (packets_of unit)) × (length (packets_of unit) ≤ 65542)
+copies-within unit ws n short apart is =
     let few = packets-short (length unit) unit in
-    let all : length ps ≡ length (packets_of unit) = ap length cut in
-    let within = queued-within is_for for-one ps ws apart in
-    let count : length copies ≡ sum_by length (map (share is_for ps) ws) = ap length is ∙ length-copies is_for 0 ps ws in
+    let within = queued-within is_for for-one (packets_of unit) ws apart in
     (omega arith, omega arith)
-
-pub left-over : (n : ℕ) → not (eqb n 0) ≡ nat_lt 0 n
-left-over zero = refl
-left-over (suc n) = let a : eqb (suc n) 0 ≡ false = grind (arith, nat_tests) in let b : nat_lt 0 (suc n) ≡ true = grind (arith, nat_tests) in rw (a, b) refl

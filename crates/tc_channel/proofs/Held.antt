@@ -20,6 +20,7 @@ use Rattle.tc_channel.specs.Channel.{Inside, Holds, Follows, FollowsKind, Ends, 
 use Rattle.tc_link.specs.declared.Act.{Act}
 use Rattle.tc_channel.specs.declared.queues.Planned.{Planned}
 use Rattle.tc_channel.specs.declared.queues.HeldQueue.{HeldQueue}
+use Rattle.tc_channel.specs.declared.queues.Placed.{Placed}
 use Rattle.tc_channel.specs.HeldQueues.{copies_from, put_all, placed, HavePlaces, IsPlanned}
 use Rattle.tc_channel.proofs.Copies.{copies-places}
 use Rattle.tc_channel.proofs.Shares.{planned-held, frame-queues, release-queues}
@@ -92,21 +93,21 @@ pub can-enter : {c : Settings} {j : List Event} {i : Inside} (octets : List ℕ)
     → Holds c j i → row ≡ row_of c (run c j) octets → IsSome (entry row i.farm.report)
 can-enter {c} {j} octets row k row_is = rw (row_is, k.report) (frame-enters c (run c j) (state-sound c j) octets)
 
-pub frame-keeps : {c : Settings} {j : List Event} {i : Inside} (later : Inside) (p : Planned) (unit : Option (List ℕ)) (kind : Kind) (octets : List ℕ) (row : Row) (act : Act)
+pub frame-keeps : {c : Settings} {j : List Event} {i : Inside} (later : Inside) (made : List Placed) (p : Planned) (unit : Option (List ℕ)) (kind : Kind) (octets : List ℕ) (row : Row) (act : Act)
     → Holds c j i → kind ≡ kind_of (header_of octets) (drop 5 octets) → FollowsKind kind i.open_runs later.open_runs (drop 5 octets) → EndsAtOnce kind i.open_runs (drop 5 octets) unit
-    → IsPlanned (map_of (drop 5 octets)) unit i.rings i.unit_rings p → later.rings ≡ put_all i.rings p.copies.items → later.unit_rings ≡ put_all i.unit_rings (placed p.unit)
+    → IsPlanned (map_of (drop 5 octets)) unit i.rings i.unit_rings made p → later.rings ≡ put_all i.rings made → later.unit_rings ≡ put_all i.unit_rings (placed p.unit)
     → IsWhole octets → row ≡ row_of c (run c j) octets → act.event ≡ number_of row → act.accepted ≡ accepts row i.farm.report
     → later.farm.width ≡ i.farm.width → later.farm.report ≡ after row i.farm.report
     → later.ring.items ≡ with_field i.ring.items (buffered_of act (drop 5 octets)) → later.ring.capacity ≡ i.ring.capacity
     → Holds c (j ++ Frame octets ∷ []) later
-frame-keeps {c} {j} {i} later p unit kind octets row act k kind_is follows ends planned rings_are units_are whole row_is event_is accepted_is width report items capacity =
+frame-keeps {c} {j} {i} later made p unit kind octets row act k kind_is follows ends planned rings_are units_are whole row_is event_is accepted_is width report items capacity =
     let b = run c j in
     let pushed = run-push c j (Frame octets) in
     let accepts_is : act.accepted ≡ accepts (row_of c b octets) b.report = rw (accepted_is, row_is, k.report) refl in
     let number_is : act.event ≡ number_of (row_of c b octets) = rw (event_is, row_is) refl in
     let fields : later.ring.items ≡ buffer (step c b (Frame octets)) =
     items ∙ rw (k.fields, number_is, accepts_is) (sym (buffer-kept (row_of c b octets) (accepts (row_of c b octets) b.report) octets b (state-counted c j k.lawful))) in
-    let offered = planned-held (drop 5 octets) unit i.rings later.rings i.unit_rings later.unit_rings p b (queues-kept c j) (units-kept c j) (k.queues, k.units) planned rings_are units_are in
+    let offered = planned-held (drop 5 octets) unit i.rings later.rings i.unit_rings later.unit_rings made p b (queues-kept c j) (units-kept c j) (k.queues, k.units) planned rings_are units_are in
     let queues = frame-queues c b octets i.open_runs unit later.rings later.unit_rings k.runs (rw (← kind_is) ends) offered in
     record {
       allowed = k.allowed;
@@ -152,21 +153,21 @@ released-report c b = refl
 has-release : (b : ChannelState) → 0 < length (buffer b) → b.released < length b.accepted
 has-release b h = omega (arith, length-map (drop b.released b.accepted) (λ (a : Accepted). a.field), length-drop b.released b.accepted)
 
-pub release-keeps : {c : Settings} {j : List Event} {i : Inside} (later : Inside) (p : Planned) (unit : Option (List ℕ))
+pub release-keeps : {c : Settings} {j : List Event} {i : Inside} (later : Inside) (made : List Placed) (p : Planned) (unit : Option (List ℕ))
     → Holds c j i → Follows i.open_runs later.open_runs Ad (first_of i.ring.items) → Ends i.open_runs Ad (first_of i.ring.items) unit
-    → IsPlanned (map_of (first_of i.ring.items)) unit i.rings i.unit_rings p → later.rings ≡ put_all i.rings p.copies.items → later.unit_rings ≡ put_all i.unit_rings (placed p.unit) → 0 < length i.ring.items
+    → IsPlanned (map_of (first_of i.ring.items)) unit i.rings i.unit_rings made p → later.rings ≡ put_all i.rings made → later.unit_rings ≡ put_all i.unit_rings (placed p.unit) → 0 < length i.ring.items
     → later.farm.width ≡ i.farm.width → later.farm.report ≡ after E10 i.farm.report
     → later.ring ≡ record { items = drop 1 i.ring.items; capacity = i.ring.capacity }
     → Holds c (j ++ Release ∷ []) later
-release-keeps {c} {j} {i} later p unit k follows ends planned rings_are units_are some width report is =
+release-keeps {c} {j} {i} later made p unit k follows ends planned rings_are units_are some width report is =
     let b = run c j in
     let pushed = run-push c j Release in
     let len : length i.ring.items ≡ length (buffer b) = ap length k.fields in
     let fields : later.ring.items ≡ buffer (step c b Release) =
     ap (λ (x : Buffer (List ℕ)). x.items) is ∙ ap (drop 1) k.fields ∙ sym (buffer-released c b) in
-    let planned_is : IsPlanned (map_of (first_of (buffer b))) unit i.rings i.unit_rings p = rw k.fields at planned in
+    let planned_is : IsPlanned (map_of (first_of (buffer b))) unit i.rings i.unit_rings made p = rw k.fields at planned in
     let ends_is : Ends i.open_runs Ad (first_of (buffer b)) unit = rw k.fields at ends in
-    let offered = planned-held (first_of (buffer b)) unit i.rings later.rings i.unit_rings later.unit_rings p b (queues-kept c j) (units-kept c j) (k.queues, k.units) planned_is rings_are units_are in
+    let offered = planned-held (first_of (buffer b)) unit i.rings later.rings i.unit_rings later.unit_rings made p b (queues-kept c j) (units-kept c j) (k.queues, k.units) planned_is rings_are units_are in
     let queues = release-queues c b i.open_runs unit later.rings later.unit_rings k.runs ends_is offered in
     record {
       allowed = k.allowed;

@@ -8,6 +8,8 @@ pub mod Streams
 pub mod Shares
 pub mod Counted
 pub mod Copies
+pub mod Passes
+pub mod Places
 pub mod Wholes
 pub mod Chosen
 pub mod Takes

@@ -28,8 +28,8 @@ use Rattle.tc_packet.specs.Reassembly.{OpenRuns, stream, unit_ended}
 use Rattle.tc_channel.specs.Channel.{AreRuns, Ends, EndsAtOnce}
 use Rattle.tc_channel.specs.Run.{step, row_of, kept, passed_on, unit_of, first_of}
 use Rattle.tc_channel.proofs.StateQueues.{AreKept}
-use Rattle.tc_channel.proofs.Copies.{Fit, with_items, shares-put, length-copies}
-use Rattle.tc_channel.specs.HeldQueues.{held, share, queue_for, copies_from, put_all, placed, IsPlanned}
+use Rattle.tc_channel.proofs.Copies.{Fit, shares-put, copies-places, length-copies}
+use Rattle.tc_channel.specs.HeldQueues.{held, share, with_items, shared, shares_in, queue_for, copies_from, put_all, placed, AreShares, IsPlanned}
 
 fit-held : (qs : List Queue) → AreKept qs → Fit (map held qs)
 fit-held [] h = tt
@@ -43,17 +43,24 @@ held-share wanted ps q h =
     ap (λ (x : List (List ℕ)). with_items (held q) x) (one-share wanted ps q)
     ∙ ap (λ (x : List (List ℕ)). record { key = q.key; ring = record { items = x; capacity = q.capacity } }) (sym (drop-append-le q.taken q.admitted (share_of wanted ps q) h))
 
-held-shares : (wanted : ℕ → List ℕ → Bool) (ps : List (List ℕ)) (qs : List Queue) → AreKept qs → map (λ (w : HeldQueue). with_items w (share wanted ps w)) (map held qs) ≡ map held (with_shares wanted ps qs)
+held-shares : (wanted : ℕ → List ℕ → Bool) (ps : List (List ℕ)) (qs : List Queue) → AreKept qs → shared wanted ps (map held qs) ≡ map held (with_shares wanted ps qs)
 held-shares wanted ps [] h = refl
 held-shares wanted ps (q ∷ qs) h =
-    ap (λ (w : HeldQueue). w ∷ map (λ (w : HeldQueue). with_items w (share wanted ps w)) (map held qs)) (held-share wanted ps q h.0.taken)
+    ap (λ (w : HeldQueue). w ∷ shared wanted ps (map held qs)) (held-share wanted ps q h.0.taken)
     ∙ ap (λ (x : List HeldQueue). held (with_share wanted ps q) ∷ x) (held-shares wanted ps qs h.1)
+
+-- copies made queue after queue
+pub from-copies : (wanted : ℕ → List ℕ → Bool) (ps : List (List ℕ)) (ws : List HeldQueue) (copies : List Placed) → Fit ws → copies ≡ copies_from wanted 0 ps ws → AreShares wanted ps ws copies
+from-copies wanted ps ws copies fit is = rw is (record {
+  places = copies-places wanted (length ws) 0 ps ws (omega arith);
+  put = shares-put wanted ps ws fit;
+  count = length-copies wanted 0 ps ws;
+})
 
 -- the queues after the copies were put into them are those of the state
 pub queues-follow : (wanted : ℕ → List ℕ → Bool) (old new : List HeldQueue) (copies : List Placed) (ps : List (List ℕ)) (qs : List Queue) → AreKept qs → old ≡ map held qs
-    → copies ≡ copies_from wanted 0 ps old → new ≡ put_all old copies → new ≡ map held (with_shares wanted ps qs)
-queues-follow wanted old new copies ps qs kept are copies_is new_is =
-    new_is ∙ ap (put_all old) copies_is ∙ ap (λ (x : List HeldQueue). put_all x (copies_from wanted 0 ps x)) are ∙ shares-put wanted ps (map held qs) (fit-held qs kept) ∙ held-shares wanted ps qs kept
+    → AreShares wanted ps old copies → new ≡ put_all old copies → new ≡ map held (with_shares wanted ps qs)
+queues-follow wanted old new copies ps qs kept are shares new_is = new_is ∙ shares.put ∙ ap (shared wanted ps) are ∙ held-shares wanted ps qs kept
 
 -- what a channel holds of its packet queues and of its unit queues is that of the state
 abbrev pub AreHeld : List HeldQueue → List HeldQueue → ChannelState → Type 0
@@ -109,14 +116,17 @@ same-chosen map_id unit_rings qs are = ap (λ (x : List HeldQueue). is_some (que
     at false h = h
 
 -- what was planned leaves the queues of the state to which the unit was offered
-pub planned-held : (field : List ℕ) (unit : Option (List ℕ)) (rings later unit_rings later_units : List HeldQueue) (p : Planned) (b : ChannelState) → AreKept b.queues → AreKept b.units → AreHeld rings unit_rings b
-    → IsPlanned (map_of field) unit rings unit_rings p → later ≡ put_all rings p.copies.items → later_units ≡ put_all unit_rings (placed p.unit) → AreHeld later later_units (offered field unit b)
-planned-held field unit rings later unit_rings later_units p b kept kept_units are planned later_is units_is =
-    let chosen = same-chosen (map_of field) unit_rings b.units are.1 in (
-      queues-follow is_for rings later p.copies.items (packets_offered unit (is_chosen b field)) b.queues kept are.0
-          (planned.copies ∙ ap (λ (t : Bool). copies_from is_for 0 (packets_offered unit t) rings) chosen) later_is,
+pub planned-held : (field : List ℕ) (unit : Option (List ℕ)) (rings later unit_rings later_units : List HeldQueue) (made : List Placed) (p : Planned) (b : ChannelState) → AreKept b.queues → AreKept b.units → AreHeld rings unit_rings b
+    → IsPlanned (map_of field) unit rings unit_rings made p → later ≡ put_all rings made → later_units ≡ put_all unit_rings (placed p.unit) → AreHeld later later_units (offered field unit b)
+planned-held field unit rings later unit_rings later_units made p b kept kept_units are planned later_is units_is =
+    let chosen = same-chosen (map_of field) unit_rings b.units are.1 in
+    let whole : placed p.unit ≡ copies_from (is_of_map (map_of field)) 0 (units_offered unit (is_chosen b field)) unit_rings =
+    planned.whole ∙ ap (λ (t : Bool). copies_from (is_of_map (map_of field)) 0 (units_offered unit t) unit_rings) chosen in
+    let fit : Fit unit_rings = rw are.1 (fit-held b.units kept_units) in (
+      queues-follow is_for rings later made (packets_offered unit (is_chosen b field)) b.queues kept are.0
+          (subst (λ (t : Bool). AreShares is_for (packets_offered unit t) rings made) chosen planned.copies) later_is,
       queues-follow (is_of_map (map_of field)) unit_rings later_units (placed p.unit) (units_offered unit (is_chosen b field)) b.units kept_units are.1
-          (planned.whole ∙ ap (λ (t : Bool). copies_from (is_of_map (map_of field)) 0 (units_offered unit t) unit_rings) chosen) units_is,
+          (from-copies (is_of_map (map_of field)) (units_offered unit (is_chosen b field)) unit_rings (placed p.unit) fit whole) units_is,
     )
 
 -- where no unit is offered, the queues stay
@@ -168,10 +178,11 @@ other-nothing E10 octets b h = refl
 count-is : (wanted : ℕ → List ℕ → Bool) (items : List (List ℕ)) (rings : List HeldQueue) (copies : List Placed) (qs : List Queue) → rings ≡ map held qs → copies ≡ copies_from wanted 0 items rings → length copies ≡ queued_of wanted items qs
 count-is wanted items rings copies qs are is = ap length is ∙ length-copies wanted 0 items rings ∙ ap (λ (x : List HeldQueue). sum_by length (map (share wanted items) x)) are ∙ queued-is wanted items qs
 
-planned-is : (field : List ℕ) (unit : Option (List ℕ)) (rings unit_rings : List HeldQueue) (p : Planned) (b : ChannelState) → AreHeld rings unit_rings b → IsPlanned (map_of field) unit rings unit_rings p → p.delivery ≡ delivery_of field unit b
-planned-is field unit rings unit_rings p b are is =
+planned-is : (field : List ℕ) (unit : Option (List ℕ)) (rings unit_rings : List HeldQueue) (made : List Placed) (p : Planned) (b : ChannelState) → AreHeld rings unit_rings b → IsPlanned (map_of field) unit rings unit_rings made p → p.delivery ≡ delivery_of field unit b
+planned-is field unit rings unit_rings made p b are is =
     let chosen = same-chosen (map_of field) unit_rings b.units are.1 in
-    let packets = count-is is_for (packets_offered unit (is_some (queue_for (map_of field) unit_rings))) rings p.copies.items b.queues are.0 is.copies in
+    let items = packets_offered unit (is_some (queue_for (map_of field) unit_rings)) in
+    let packets : length made ≡ queued_of is_for items b.queues = is.copies.count ∙ ap (shares_in is_for items) are.0 ∙ queued-is is_for items b.queues in
     let units = count-is (is_of_map (map_of field)) (units_offered unit (is_some (queue_for (map_of field) unit_rings))) unit_rings (placed p.unit) b.units are.1 is.whole in
     is.delivery ∙ rw (packets, units, chosen) refl
 
@@ -183,10 +194,10 @@ kind-delivery width vr (kinds.Bc Unlock) room octets b open_runs unit are ends =
 kind-delivery width vr (kinds.Bc (SetVr x)) room octets b open_runs unit are ends = rw ends refl
 kind-delivery width vr kinds.Invalid room octets b open_runs unit are ends = rw ends refl
 
-pub frame-delivery : (c : Settings) (b : ChannelState) (octets : List ℕ) (open_runs : OpenRuns) (unit : Option (List ℕ)) (rings unit_rings : List HeldQueue) (p : Planned) → AreRuns open_runs b.segmented b.passed → AreHeld rings unit_rings b
-    → EndsAtOnce (kind_of (header_of octets) (drop 5 octets)) open_runs (drop 5 octets) unit → IsPlanned (map_of (drop 5 octets)) unit rings unit_rings p → p.delivery ≡ frame_delivery (row_of c b octets) octets b
-frame-delivery c b octets open_runs unit rings unit_rings p are held_are ends is = planned-is (drop 5 octets) unit rings unit_rings p b held_are is ∙ kind-delivery c.width b.report.vr (kind_of (header_of octets) (drop 5 octets)) (has_room c b) octets b open_runs unit are ends
+pub frame-delivery : (c : Settings) (b : ChannelState) (octets : List ℕ) (open_runs : OpenRuns) (unit : Option (List ℕ)) (rings unit_rings : List HeldQueue) (made : List Placed) (p : Planned) → AreRuns open_runs b.segmented b.passed → AreHeld rings unit_rings b
+    → EndsAtOnce (kind_of (header_of octets) (drop 5 octets)) open_runs (drop 5 octets) unit → IsPlanned (map_of (drop 5 octets)) unit rings unit_rings made p → p.delivery ≡ frame_delivery (row_of c b octets) octets b
+frame-delivery c b octets open_runs unit rings unit_rings made p are held_are ends is = planned-is (drop 5 octets) unit rings unit_rings made p b held_are is ∙ kind-delivery c.width b.report.vr (kind_of (header_of octets) (drop 5 octets)) (has_room c b) octets b open_runs unit are ends
 
-pub release-delivery : (b : ChannelState) (open_runs : OpenRuns) (unit : Option (List ℕ)) (rings unit_rings : List HeldQueue) (p : Planned) → AreRuns open_runs b.segmented b.passed → AreHeld rings unit_rings b
-    → Ends open_runs Ad (first_of (buffer b)) unit → IsPlanned (map_of (first_of (buffer b))) unit rings unit_rings p → p.delivery ≡ release_reply_at b
-release-delivery b open_runs unit rings unit_rings p are held_are ends is = planned-is (first_of (buffer b)) unit rings unit_rings p b held_are is ∙ ap (λ (x : Option (List ℕ)). delivery_of (first_of (buffer b)) x b) (ends-unit Ad (first_of (buffer b)) b open_runs unit are ends)
+pub release-delivery : (b : ChannelState) (open_runs : OpenRuns) (unit : Option (List ℕ)) (rings unit_rings : List HeldQueue) (made : List Placed) (p : Planned) → AreRuns open_runs b.segmented b.passed → AreHeld rings unit_rings b
+    → Ends open_runs Ad (first_of (buffer b)) unit → IsPlanned (map_of (first_of (buffer b))) unit rings unit_rings made p → p.delivery ≡ release_reply_at b
+release-delivery b open_runs unit rings unit_rings made p are held_are ends is = planned-is (first_of (buffer b)) unit rings unit_rings made p b held_are is ∙ ap (λ (x : Option (List ℕ)). delivery_of (first_of (buffer b)) x b) (ends-unit Ad (first_of (buffer b)) b open_runs unit are ends)

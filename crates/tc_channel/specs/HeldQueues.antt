@@ -1,6 +1,6 @@
 -- What the code holds of the queues, and what a call is going to put into them.
-use Rattle.std.specs.Prelude.{◌≡◌, ◌≢◌, ℕ, zero, suc, ◌-◌, ◌+◌, ◌<◌, Bool, true, false, List, [], ◌∷◌, ◌++◌, length, map, filter, take, drop, Option, Some, None, is_some, option_map, ◌==◌, if◌then◌else◌}
-use Rattle.std.specs.List.{AllByRecursion}
+use Rattle.std.specs.Prelude.{◌≡◌, ◌≢◌, ℕ, zero, suc, ◌-◌, ◌+◌, ◌<◌, Bool, true, false, List, [], ◌∷◌, ◌++◌, length, map, filter, take, drop, get_or, ◌⊎◌, Option, Some, None, is_some, option_map, ◌==◌, if◌then◌else◌}
+use Rattle.std.specs.List.{AllByRecursion, sum_by}
 use Rattle.circular_buffer.specs.Buffer.{buffer as ring_of, keep_last}
 use Rattle.tc_channel.specs.ChannelState.{Queue, waiting}
 use Rattle.tc_channel.specs.Admission.{is_for, is_of_map, packets_offered, units_offered}
@@ -22,9 +22,25 @@ abbrev pub AreDistinct : List ℕ → Type 0
 AreDistinct [] = Unit {0}
 AreDistinct (a ∷ rest) = AllByRecursion (λ b. a ≢ b) rest × AreDistinct rest
 
+-- how many more items a queue can hold
+abbrev pub room_in : HeldQueue → ℕ
+room_in q = q.ring.capacity - length q.ring.items
+
 -- the wanted items that a queue has room for
 abbrev pub share : (ℕ → List ℕ → Bool) → List (List ℕ) → HeldQueue → List (List ℕ)
-share wanted items q = take (q.ring.capacity - length q.ring.items) (filter (wanted q.key) items)
+share wanted items q = take (room_in q) (filter (wanted q.key) items)
+
+-- a queue with more items at its end
+abbrev pub with_items : HeldQueue → List (List ℕ) → HeldQueue
+with_items q items = record q { ring = ring_of (q.ring.items ++ items) q.ring.capacity }
+
+-- each queue with its share of the items
+abbrev pub shared : (ℕ → List ℕ → Bool) → List (List ℕ) → List HeldQueue → List HeldQueue
+shared wanted items queues = map (λ (q : HeldQueue). with_items q (share wanted items q)) queues
+
+-- how many of the items are queued
+abbrev pub shares_in : (ℕ → List ℕ → Bool) → List (List ℕ) → List HeldQueue → ℕ
+shares_in wanted items queues = sum_by length (map (share wanted items) queues)
 
 -- an item for the queue at this place
 abbrev pub copied_to : ℕ → List ℕ → Placed
@@ -82,26 +98,54 @@ abbrev pub placed_at : Option ℕ → List ℕ → List Placed
 placed_at None unit = []
 placed_at (Some place) unit = copied_to place unit ∷ []
 
+-- how many APIDs there are: they have 11 bits (CCSDS 133.0-B, 4.1.3.3)
+abbrev pub apid_count : ℕ
+apid_count = 2048
+
+-- a number tells the place of an APID among those of the queues, or that none of them has it
+abbrev pub Tells : List ℕ → ℕ → ℕ → ℕ → Type 0
+Tells apids none apid n = ((n < length apids) × (apid ≡ get_or apids n apid)) ⊎ ((n ≡ none) × AllByRecursion (λ other. apid ≢ other) apids)
+
+-- a table of the places of all APIDs
+pub record IsTable (apids : List ℕ) (none : ℕ) (table : List ℕ) : Type 0 where
+  pub size : length table ≡ apid_count
+  pub tells : (apid : ℕ) → apid < apid_count → Tells apids none apid (get_or table apid none)
+
+-- once put, the copies give each queue its share of the items
+pub record AreShares (wanted : ℕ → List ℕ → Bool) (items : List (List ℕ)) (queues : List HeldQueue) (made : List Placed) : Type 0 where
+  pub places : HavePlaces (length queues) made
+  pub put : put_all queues made ≡ shared wanted items queues
+  pub count : length made ≡ shares_in wanted items queues
+
+-- after some of a unit's packets: the copies so far, the room that they leave in each queue, and that the packets left
+-- share it as all packets share the room of now
+pub record IsUnderWay (queues : List HeldQueue) (left all : List (List ℕ)) (made : List Placed) (free : List ℕ) : Type 0 where
+  pub places : HavePlaces (length queues) made
+  pub keys : keys_of (put_all queues made) ≡ keys_of queues
+  pub rooms : free ≡ map room_in (put_all queues made)
+  pub put : shared is_for left (put_all queues made) ≡ shared is_for all queues
+  pub count : length made + shares_in is_for left (put_all queues made) ≡ shares_in is_for all queues
+
 -- what the queues take of a unit of this MAP, and what to answer
-pub record IsPlanned (map_id : ℕ) (unit : Option (List ℕ)) (queues unit_queues : List HeldQueue) (p : Planned) : Type 0 where
-  pub copies : p.copies.items ≡ copies_from is_for 0 (packets_offered unit (is_some (queue_for map_id unit_queues))) queues
+pub record IsPlanned (map_id : ℕ) (unit : Option (List ℕ)) (queues unit_queues : List HeldQueue) (made : List Placed) (p : Planned) : Type 0 where
+  pub copies : AreShares is_for (packets_offered unit (is_some (queue_for map_id unit_queues))) queues made
   pub whole : placed p.unit ≡ copies_from (is_of_map map_id) 0 (units_offered unit (is_some (queue_for map_id unit_queues))) unit_queues
-  pub delivery : p.delivery ≡ delivered unit (is_some (queue_for map_id unit_queues)) (length p.copies.items + length (placed p.unit))
+  pub delivery : p.delivery ≡ delivered unit (is_some (queue_for map_id unit_queues)) (length made + length (placed p.unit))
 
 -- no unit was ended
-pub record IsNothing (p : Planned) : Type 0 where
-  pub copies : p.copies.items ≡ []
+pub record IsNothing (made : List Placed) (p : Planned) : Type 0 where
+  pub copies : made ≡ []
   pub whole : p.unit ≡ None
   pub delivery : p.delivery ≡ nothing
 
 -- what is planned where the MAP isn't chosen
-pub record IsPlannedByPackets (unit : Option (List ℕ)) (queues : List HeldQueue) (p : Planned) : Type 0 where
-  pub copies : p.copies.items ≡ copies_from is_for 0 (packets_offered unit false) queues
+pub record IsPlannedByPackets (unit : Option (List ℕ)) (queues : List HeldQueue) (made : List Placed) (p : Planned) : Type 0 where
+  pub copies : AreShares is_for (packets_offered unit false) queues made
   pub whole : p.unit ≡ None
-  pub delivery : p.delivery ≡ delivered unit false (length p.copies.items)
+  pub delivery : p.delivery ≡ delivered unit false (length made)
 
 -- what is planned of a unit of a chosen MAP
-pub record IsPlannedWhole (map_id : ℕ) (unit : List ℕ) (unit_queues : List HeldQueue) (p : Planned) : Type 0 where
-  pub copies : p.copies.items ≡ []
+pub record IsPlannedWhole (map_id : ℕ) (unit : List ℕ) (unit_queues : List HeldQueue) (made : List Placed) (p : Planned) : Type 0 where
+  pub copies : made ≡ []
   pub whole : placed p.unit ≡ copies_from (is_of_map map_id) 0 (unit ∷ []) unit_queues
   pub delivery : p.delivery ≡ delivered (Some unit) true (length (placed p.unit))

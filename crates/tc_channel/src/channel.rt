@@ -11,11 +11,11 @@ ghost use Rattle.tc_channel.specs.Channel.{Follows, FollowsKind, Ends, EndsAtOnc
 ghost use Rattle.tc_channel.specs.Admission.{map_of};
 ghost use Rattle.tc_channel.specs.HeldQueues.{AreDistinct, keys_of, IsPlanned, items_for, popped};
 
+use crate::copying::{Worksheet, put_copies};
 use crate::event::Event;
 use crate::items::Octets;
 use crate::queues::{
-    HeldQueue, Planned, empty_queues, empty_unit_queues, find, plan, plan_nothing, pop, put_copies,
-    put_unit,
+    HeldQueue, Planned, empty_queues, empty_unit_queues, find, plan, plan_nothing, pop, put_unit,
 };
 use crate::reply::{Delivery, FrameReply, NoMemory, ReleaseFault, TakeFault, TakeUnitFault};
 use crate::settings::{Settings, SettingsFault};
@@ -36,6 +36,8 @@ pub struct Channel {
     reassembler: Reassembler,
     queues: Vec<HeldQueue>,
     units: Vec<HeldQueue>,
+    // nothing that is told of a channel: the invariant leaves it out
+    sheet: Worksheet,
     journal: Vec<Event>,
 }
 
@@ -91,11 +93,12 @@ impl Channel {
             &self.units,
             kind,
             field,
+            &mut self.sheet,
         )?;
         pass_bypass(&mut self.reassembler, kind, field)?;
         self.farm = farm;
         put_field(&mut self.fields, buffered);
-        put_copies(&mut self.queues, planned.copies);
+        put_copies(self.alloc, &mut self.queues, &mut self.sheet.copies);
         put_unit(&mut self.units, planned.unit);
         self.journal.push_reserved(Event::Frame(octets));
         Ok(FrameReply {
@@ -105,8 +108,8 @@ impl Channel {
     }
 
     /// Lets the oldest data field out of the buffer, and queues the unit that it ends: whole where its MAP is chosen, else its
-    /// packets. It makes that unit where it is of several segments or queued whole; where it isn't queued whole, also the list of
-    /// its packets and a copy of each that is queued.
+    /// packets. It makes that unit where it is of several segments or queued whole; where it isn't queued whole, a copy of each
+    /// packet that is queued. The list of these copies is kept from call to call, unless it was long.
     pub fn release(&mut self) -> Result<Delivery, ReleaseFault>
         ensures allowed { IsAllowed self.old.settings }
         ensures lawful { IsLawful self.old.settings self.old.journal }
@@ -125,10 +128,11 @@ impl Channel {
             &self.queues,
             &self.units,
             &self.fields,
+            &mut self.sheet,
         )?;
         pass_oldest(&mut self.reassembler, &self.fields)?;
         self.fields.pop_front();
-        put_copies(&mut self.queues, planned.copies);
+        put_copies(self.alloc, &mut self.queues, &mut self.sheet.copies);
         put_unit(&mut self.units, planned.unit);
         self.farm.step(Arrival::Release);
         self.journal.push_reserved(Event::Release);
@@ -256,6 +260,7 @@ fn start(alloc: Global, settings: Settings) -> Result<Channel, NoMemory>
         reassembler,
         queues,
         units,
+        sheet: Worksheet::new(alloc),
         journal: Vec::new(alloc),
     })
 }
@@ -353,17 +358,18 @@ fn plan_bypass(
     units: &[HeldQueue],
     kind: Kind,
     field: &[u8],
+    sheet: &mut Worksheet,
 ) -> Result<Planned, NoMemory>
     requires field { 0 < length field.now }
     requires distinct { AreDistinct (keys_of queues.now) }
     requires units_distinct { AreDistinct (keys_of units.now) }
-    ensures { IfOk result (λ p. (unit : Option (List ℕ)) × EndsAtOnce kind reassembler.now field.now unit × IsPlanned (map_of field.now) unit queues.now units.now p) }
+    ensures { IfOk result (λ p. (unit : Option (List ℕ)) × EndsAtOnce kind reassembler.now field.now unit × IsPlanned (map_of field.now) unit queues.now units.now sheet.new.copies.items p) }
 {
     match kind {
-        Kind::Bd => plan(alloc, reassembler, queues, units, Service::Bd, field),
-        Kind::Ad(_) => Ok(plan_nothing(alloc)),
-        Kind::Bc(_) => Ok(plan_nothing(alloc)),
-        Kind::Invalid => Ok(plan_nothing(alloc)),
+        Kind::Bd => plan(alloc, reassembler, queues, units, Service::Bd, field, sheet),
+        Kind::Ad(_) => Ok(plan_nothing(sheet)),
+        Kind::Bc(_) => Ok(plan_nothing(sheet)),
+        Kind::Invalid => Ok(plan_nothing(sheet)),
     }
 }
 
@@ -374,12 +380,13 @@ fn plan_oldest(
     queues: &[HeldQueue],
     units: &[HeldQueue],
     fields: &HeapCircularBuffer<Octets>,
+    sheet: &mut Worksheet,
 ) -> Result<Planned, NoMemory>
     requires some { 0 < length fields.now.items }
     requires octets { 0 < length (first_of fields.now.items) }
     requires distinct { AreDistinct (keys_of queues.now) }
     requires units_distinct { AreDistinct (keys_of units.now) }
-    ensures { IfOk result (λ p. (unit : Option (List ℕ)) × Ends reassembler.now Service.Ad (first_of fields.now.items) unit × IsPlanned (map_of (first_of fields.now.items)) unit queues.now units.now p) }
+    ensures { IfOk result (λ p. (unit : Option (List ℕ)) × Ends reassembler.now Service.Ad (first_of fields.now.items) unit × IsPlanned (map_of (first_of fields.now.items)) unit queues.now units.now sheet.new.copies.items p) }
 {
     match fields.front() {
         Some(field) => plan(
@@ -389,7 +396,8 @@ fn plan_oldest(
             units,
             Service::Ad,
             field.as_slice(),
+            sheet,
         ),
-        None => Ok(plan_nothing(alloc)),
+        None => Ok(plan_nothing(sheet)),
     }
 }

@@ -11,6 +11,7 @@
 #![tactic(auto)]
 
 mod channel;
+mod copying;
 mod event;
 mod items;
 mod laws;

@@ -1,23 +1,22 @@
 //! The queues of a channel.
 
-ghost use Rattle.std.specs.Prelude.{ℕ, List, [], ◌∷◌, ◌<◌, ◌≤◌, ◌≡◌, ◌++◌, length, map, IfOk, OnOk, slice_get, is_some, Some, None, Option};
-ghost use Rattle.std.specs.List.{AllByRecursion};
+ghost use Rattle.std.specs.Prelude.{ℕ, List, [], ◌∷◌, ◌<◌, ◌≤◌, ◌≡◌, length, map, IfOk, slice_get, is_some, Some, None, Option};
 ghost use Rattle.std.specs.Option.{option_and_then, option_copied};
-ghost use Rattle.tc_packet.specs.PacketFields.{HasFields, octets_of};
 ghost use Rattle.tc_packet.specs.Reassembly.{bounded};
 ghost use Rattle.tc_channel.specs.ChannelState.{queue_with, empty_queue, empty_unit_queue};
-ghost use Rattle.tc_channel.specs.Admission.{is_for, is_of_map, map_of};
+ghost use Rattle.tc_channel.specs.Admission.{is_of_map, map_of};
 ghost use Rattle.tc_channel.specs.Channel.{Ends};
-ghost use Rattle.tc_channel.specs.HeldQueues.{held, keys_of, AreDistinct, share, copied_to, copies_from, put_all, HavePlaces, queue_for, popped, placed, placed_at, IsNothing, IsPlannedByPackets, IsPlannedWhole, IsPlanned};
+ghost use Rattle.tc_channel.specs.HeldQueues.{held, keys_of, AreDistinct, copies_from, put_all, HavePlaces, queue_for, popped, placed, placed_at, IsNothing, IsPlannedByPackets, IsPlannedWhole, IsPlanned};
 
+use crate::copying::{Worksheet, copy_shares};
 use crate::items::Octets;
 use crate::reply::{Delivery, NoMemory};
 use crate::settings::{MapSetting, QueueSetting};
 use circular_buffer::HeapCircularBuffer;
 use std::alloc::{AllocError, Global};
 use tc_packet::{
-    LARGEST_UNIT, Packet, Part, Reassembler, Service, cut,
-    each_run_within_the_limit_is_left_by_fields, each_unit_has_one_cut, read_segment,
+    LARGEST_UNIT, Part, Reassembler, Service, each_run_within_the_limit_is_left_by_fields,
+    read_segment,
 };
 
 /// The items that wait in one queue. The key of a packet queue is the APID of its application, that of a unit queue its MAP.
@@ -34,10 +33,9 @@ pub(crate) struct Placed {
     pub(crate) item: Octets,
 }
 
-/// What a call is going to queue, and what it answers.
+/// The whole unit that a call is going to queue, and what it answers. The copies of packets stand on a worksheet.
 #[derive(Debug, Drop)]
 pub(crate) struct Planned {
-    pub(crate) copies: Vec<Placed>,
     pub(crate) unit: Option<Placed>,
     pub(crate) delivery: Delivery,
 }
@@ -112,54 +110,6 @@ pub(crate) fn pop(queues: &mut Vec<HeldQueue>, key: u16) -> Option<Octets>
     None
 }
 
-// Copies the packets that a queue has room for.
-fn copy_share(
-    alloc: Global,
-    packets: &[Packet],
-    place: usize,
-    queue: &HeldQueue,
-    copies: &mut Vec<Placed>,
-) -> Result<(), AllocError>
-    requires { AllByRecursion HasFields packets.now }
-    ensures { OnOk result (copies.new.items ≡ copies.old.items ++ map (copied_to place) (share is_for (octets_of packets.now) queue.now)) }
-{
-    let mut room = queue.ring.capacity() - queue.ring.len();
-    for packet in packets {
-        if room > 0 && packet.telecommand && packet.apid == queue.key {
-            let copy = Octets::copied(alloc, packet.octets)?;
-            copies.push(Placed { place, item: copy })?;
-            room -= 1;
-        }
-    }
-    Ok(())
-}
-
-// Copies the packets that the queues take.
-fn copy_shares(
-    alloc: Global,
-    packets: &[Packet],
-    queues: &[HeldQueue],
-) -> Result<Vec<Placed>, AllocError>
-    requires { AllByRecursion HasFields packets.now }
-    ensures { IfOk result (λ v. v.items ≡ copies_from is_for 0 (octets_of packets.now) queues.now) }
-{
-    let mut copies = Vec::new(alloc);
-    for (place, queue) in queues.iter().enumerate() {
-        copy_share(alloc, packets, place, queue, &mut copies)?;
-    }
-    Ok(copies)
-}
-
-/// Puts the copies into their queues.
-pub(crate) fn put_copies(queues: &mut Vec<HeldQueue>, copies: Vec<Placed>)
-    requires { HavePlaces (length queues.old.items) copies.items }
-    ensures { queues.new.items ≡ put_all queues.old.items copies.items }
-{
-    for copied in copies {
-        queues[copied.place].ring.push_back(copied.item);
-    }
-}
-
 /// Puts a whole unit into its queue.
 pub(crate) fn put_unit(units: &mut Vec<HeldQueue>, unit: Option<Placed>)
     requires { HavePlaces (length units.old.items) (placed unit) }
@@ -174,11 +124,11 @@ pub(crate) fn put_unit(units: &mut Vec<HeldQueue>, unit: Option<Placed>)
 }
 
 /// No unit is ended.
-pub(crate) fn plan_nothing(alloc: Global) -> Planned
-    ensures { IsNothing result }
+pub(crate) fn plan_nothing(sheet: &mut Worksheet) -> Planned
+    ensures { IsNothing sheet.new.copies.items result }
 {
+    sheet.copies.clear();
     Planned {
-        copies: Vec::new(alloc),
         unit: None,
         delivery: Delivery {
             queued: 0,
@@ -189,37 +139,43 @@ pub(crate) fn plan_nothing(alloc: Global) -> Planned
 }
 
 // What becomes of the packets of a unit.
-fn plan_packets(alloc: Global, unit: &[u8], queues: &[HeldQueue]) -> Result<Planned, NoMemory>
+fn plan_packets(
+    alloc: Global,
+    unit: &[u8],
+    queues: &[HeldQueue],
+    sheet: &mut Worksheet,
+) -> Result<Planned, NoMemory>
     requires within { length unit.now ≤ LARGEST_UNIT }
     requires distinct { AreDistinct (keys_of queues.now) }
-    ensures { IfOk result (IsPlannedByPackets (Some unit.now) queues.now) }
+    ensures { IfOk result (IsPlannedByPackets (Some unit.now) queues.now sheet.new.copies.items) }
 {
-    each_unit_has_one_cut();
-    let cut = cut(alloc, unit)?;
-    let copies = copy_shares(alloc, &cut.packets, queues)?;
-    let packets = cut.packets.len();
-    let queued = copies.len();
+    let (packets, rest) = copy_shares(alloc, unit, queues, sheet)?;
+    let queued = sheet.copies.len();
     let delivery = Delivery {
         queued: queued as u32,
         dropped: (packets - queued) as u32,
-        rest: !cut.rest.is_empty(),
+        rest,
     };
     Ok(Planned {
-        copies,
         unit: None,
         delivery,
     })
 }
 
 // What becomes of the packets of octets that are a unit by themselves, within the limit. They are cut where they lie.
-fn plan_lying(alloc: Global, octets: &[u8], queues: &[HeldQueue]) -> Result<Planned, NoMemory>
+fn plan_lying(
+    alloc: Global,
+    octets: &[u8],
+    queues: &[HeldQueue],
+    sheet: &mut Worksheet,
+) -> Result<Planned, NoMemory>
     requires distinct { AreDistinct (keys_of queues.now) }
-    ensures { IfOk result (IsPlannedByPackets (bounded octets.now) queues.now) }
+    ensures { IfOk result (IsPlannedByPackets (bounded octets.now) queues.now sheet.new.copies.items) }
 {
     if octets.len() > LARGEST_UNIT {
-        return Ok(plan_nothing(alloc));
+        return Ok(plan_nothing(sheet));
     }
-    plan_packets(alloc, octets, queues)
+    plan_packets(alloc, octets, queues, sheet)
 }
 
 // What becomes of the packets of the unit that a data field would end. A unit of several segments is made for it; a plain
@@ -230,21 +186,22 @@ fn plan_cut(
     queues: &[HeldQueue],
     service: Service,
     field: &[u8],
+    sheet: &mut Worksheet,
 ) -> Result<Planned, NoMemory>
     requires field { 0 < length field.now }
     requires distinct { AreDistinct (keys_of queues.now) }
-    ensures { IfOk result (λ p. (unit : Option (List ℕ)) × Ends reassembler.now service field.now unit × IsPlannedByPackets unit queues.now p) }
+    ensures { IfOk result (λ p. (unit : Option (List ℕ)) × Ends reassembler.now service field.now unit × IsPlannedByPackets unit queues.now sheet.new.copies.items p) }
 {
     if !reassembler.segmented() {
-        return plan_lying(alloc, field, queues);
+        return plan_lying(alloc, field, queues, sheet);
     }
     if read_segment(field[0]).part == Part::Unsegmented {
-        return plan_lying(alloc, &field[1..], queues);
+        return plan_lying(alloc, &field[1..], queues, sheet);
     }
     each_run_within_the_limit_is_left_by_fields();
     match reassembler.unit_after(service, field)? {
-        None => Ok(plan_nothing(alloc)),
-        Some(unit) => plan_packets(alloc, &unit, queues),
+        None => Ok(plan_nothing(sheet)),
+        Some(unit) => plan_packets(alloc, &unit, queues, sheet),
     }
 }
 
@@ -266,10 +223,11 @@ fn place_with_room(units: &[HeldQueue], map: u8) -> Option<usize>
 }
 
 // What becomes of a unit of a chosen MAP. It is moved, not copied, and dropped where its queue has no room.
-fn plan_whole(alloc: Global, unit: Vec<u8>, units: &[HeldQueue], map: u8) -> Planned
+fn plan_whole(unit: Vec<u8>, units: &[HeldQueue], map: u8, sheet: &mut Worksheet) -> Planned
     requires { AreDistinct (keys_of units.now) }
-    ensures { IsPlannedWhole map unit.items units.now result }
+    ensures { IsPlannedWhole map unit.items units.now sheet.new.copies.items result }
 {
+    sheet.copies.clear();
     let unit = match place_with_room(units, map) {
         Some(place) => Some(Placed {
             place,
@@ -279,7 +237,6 @@ fn plan_whole(alloc: Global, unit: Vec<u8>, units: &[HeldQueue], map: u8) -> Pla
     };
     let (queued, dropped) = if unit.is_some() { (1, 0) } else { (0, 1) };
     Planned {
-        copies: Vec::new(alloc),
         unit,
         delivery: Delivery {
             queued,
@@ -289,7 +246,8 @@ fn plan_whole(alloc: Global, unit: Vec<u8>, units: &[HeldQueue], map: u8) -> Pla
     }
 }
 
-/// What becomes of the unit that a data field would end.
+/// What becomes of the unit that a data field would end: its answer, and what is going to be queued of it, the copies of
+/// packets in place of those of the plan before.
 pub(crate) fn plan(
     alloc: Global,
     reassembler: &Reassembler,
@@ -297,18 +255,19 @@ pub(crate) fn plan(
     units: &[HeldQueue],
     service: Service,
     field: &[u8],
+    sheet: &mut Worksheet,
 ) -> Result<Planned, NoMemory>
     requires field { 0 < length field.now }
     requires distinct { AreDistinct (keys_of queues.now) }
     requires units_distinct { AreDistinct (keys_of units.now) }
-    ensures { IfOk result (λ p. (unit : Option (List ℕ)) × Ends reassembler.now service field.now unit × IsPlanned (map_of field.now) unit queues.now units.now p) }
+    ensures { IfOk result (λ p. (unit : Option (List ℕ)) × Ends reassembler.now service field.now unit × IsPlanned (map_of field.now) unit queues.now units.now sheet.new.copies.items p) }
 {
     let map = read_segment(field[0]).map;
     if !is_there(units, map as u16) {
-        return plan_cut(alloc, reassembler, queues, service, field);
+        return plan_cut(alloc, reassembler, queues, service, field, sheet);
     }
     match reassembler.unit_after(service, field)? {
-        None => Ok(plan_nothing(alloc)),
-        Some(unit) => Ok(plan_whole(alloc, unit, units, map)),
+        None => Ok(plan_nothing(sheet)),
+        Some(unit) => Ok(plan_whole(unit, units, map, sheet)),
     }
 }

@@ -2,6 +2,7 @@ mod faults;
 mod growth;
 mod maps;
 mod packets;
+mod queues;
 
 use std::alloc::{AllocError, Global};
 use std::process::Abort;

@@ -6,14 +6,14 @@ use Rattle.tc_channel.proofs.Wholes.{map-is, nothing-planned, packets-planned, w
 use Rattle.tc_channel.proofs.queues.plan.Goals as goal
 
 pub returns-in-None : goal.returns-in-None
-returns-in-None c = (None, λ fields opened. rw c.in-None.is at c.in_ok-unit_after.ensures.unit fields opened, nothing-planned (map_of c.args.field.now) c.args.queues.now c.args.units.now _ c.plan_nothing.ensures)
+returns-in-None c = (None, λ fields opened. rw c.in-None.is at c.in_ok-unit_after.ensures.unit fields opened, nothing-planned (map_of c.args.field.now) c.args.queues.now c.args.units.now _ _ c.plan_nothing.ensures)
 
 pub returns-in-Some : goal.returns-in-Some
 returns-in-Some c =
     let chosen : is_some (queue_for c.read_segment-map.result.map c.args.units.now) ≡ true = sym c.is_there.ensures ∙ c.if-not-is_there.false in (
       Some c.in-Some.unit.items,
       λ fields opened. rw c.in-Some.is at c.in_ok-unit_after.ensures.unit fields opened,
-      subst (λ m. IsPlanned m (Some c.in-Some.unit.items) c.args.queues.now c.args.units.now c.plan_whole.result) (map-is c.args.field.now _ c.read_segment-map.ensures) (whole-planned _ _ c.args.queues.now c.args.units.now _ chosen c.plan_whole.ensures),
+      subst (λ m. IsPlanned m (Some c.in-Some.unit.items) c.args.queues.now c.args.units.now c.plan_whole.new.sheet.copies.items c.plan_whole.result) (map-is c.args.field.now _ c.read_segment-map.ensures) (whole-planned _ _ c.args.queues.now c.args.units.now _ _ chosen c.plan_whole.ensures),
     )
 
 pub returns-then-not-is_there : goal.returns-then-not-is_there
@@ -22,5 +22,5 @@ returns-then-not-is_there c =
     IfOk-weaker c.plan_cut.result _ _ (λ p cut. (
       cut.0,
       cut.1,
-      subst (λ m. IsPlanned m cut.0 c.args.queues.now c.args.units.now p) (map-is c.args.field.now _ c.read_segment-map.ensures) (packets-planned _ _ c.args.queues.now c.args.units.now p other cut.2),
+      subst (λ m. IsPlanned m cut.0 c.args.queues.now c.args.units.now c.plan_cut.new.sheet.copies.items p) (map-is c.args.field.now _ c.read_segment-map.ensures) (packets-planned _ _ c.args.queues.now c.args.units.now _ p other cut.2),
     )) c.plan_cut.ensures

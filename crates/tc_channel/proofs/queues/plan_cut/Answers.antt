@@ -25,7 +25,7 @@ returns-then-not-segmented c =
     IfOk-weaker c.plan_lying.result _ _ (λ p planned. (bounded c.args.field.now, λ fields leave. ap (λ q. unit_ended q fields c.args.field.now) (sym off), planned)) c.plan_lying.ensures
 
 pub returns-in-None : goal.returns-in-None
-returns-in-None c = (None, λ fields opened. rw c.in-None.is at c.in_ok-unit_after.ensures.unit fields opened, nothing-by-packets c.args.queues.now _ c.plan_nothing.ensures)
+returns-in-None c = (None, λ fields opened. rw c.in-None.is at c.in_ok-unit_after.ensures.unit fields opened, nothing-by-packets c.args.queues.now _ _ c.plan_nothing.ensures)
 
 pub returns-then-eq : goal.returns-then-eq
 returns-then-eq c =
@@ -35,5 +35,5 @@ returns-then-eq c =
     IfOk-weaker c.plan_lying-then-eq.result _ _ (λ p planned. (
       bounded (body_of c.args.field.now),
       λ fields leave. sym (ap (λ q. unit_ended q fields c.args.field.now) on ∙ ap (λ (part : Part). ended_by part (open_run fields) (body_of c.args.field.now)) whole),
-      subst (λ octets. IsPlannedByPackets (bounded octets) c.args.queues.now p) body planned,
+      subst (λ octets. IsPlannedByPackets (bounded octets) c.args.queues.now c.plan_lying-then-eq.new.sheet.copies.items p) body planned,
     )) c.plan_lying-then-eq.ensures

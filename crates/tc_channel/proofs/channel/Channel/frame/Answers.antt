@@ -2,7 +2,7 @@ use Rattle.std.proofs.Common.{rules, ◌≡◌, ◌∷◌, [], ◌++◌, nat_lt,
 use Rattle.std.proofs.lemmas.Grind.{common_steps}
 use Rattle.tc_link.specs.Farm.{frame_row, number_of, accepts}
 use Rattle.tc_channel.specs.declared.event.Event.TheVariants.{Frame}
-use Rattle.tc_channel.specs.Admission.{is_for, is_of_map, map_of}
+use Rattle.tc_channel.specs.Admission.{is_of_map, map_of}
 use Rattle.tc_channel.specs.Channel.{buffered_of, with_field}
 use Rattle.tc_channel.specs.Run.{run, row_of}
 use Rattle.tc_channel.specs.Reply.{frame_reply}
@@ -28,7 +28,7 @@ plan_bypass-requires-clause-units_distinct c =
     rw c.deref-2.ensures.value (units-distinct c.self.invariant)
 
 pub put_copies-requires : goal.put_copies-requires
-put_copies-requires c = rw (c.in_ok-planned.ensures.2.copies, c.deref.ensures.value) (have-places is_for _ c.self.inside.queues.items)
+put_copies-requires c = rw c.deref.ensures.value at c.in_ok-planned.ensures.2.copies.places
 
 pub put_unit-requires : goal.put_unit-requires
 put_unit-requires c = rw (c.in_ok-planned.ensures.2.whole, c.deref-2.ensures.value) (have-places (is_of_map (map_of c.field-field.result.now)) _ c.self.inside.units.items)
@@ -37,7 +37,7 @@ pub invariant_of-self-2 : goal.invariant_of-self-2
 invariant_of-self-2 c =
     let f = c.self.inside in
     let e : c.push_reserved.new.self.items ≡ f.journal.items ++ Frame c.args.frame.now ∷ [] = grind (arith, common_steps) in
-    rw e (frame-keeps _ c.in_ok-planned.planned c.in_ok-planned.ensures.0 c.kind-kind.result c.args.frame.now
+    rw e (frame-keeps _ c.plan_bypass.new.sheet.copies.items c.in_ok-planned.planned c.in_ok-planned.ensures.0 c.kind-kind.result c.args.frame.now
     (frame_row f.farm.width f.farm.report.vr c.kind-kind.result (nat_lt c.len.result c.capacity.result)) c.step-act.result
     c.self.invariant c.kind-kind.ensures (rw c.field-field.ensures at c.in_ok-pass_bypass.ensures.ok) (rw c.field-field.ensures at c.in_ok-planned.ensures.1) (rw (c.deref.ensures.value, c.deref-2.ensures.value, c.field-field.ensures) at c.in_ok-planned.ensures.2) c.put_copies.ensures c.put_unit.ensures c.octets.ensures.whole
     (row-is c.args.frame.now c.kind-kind.result c.len.result c.capacity.result c.self.invariant c.kind-kind.ensures c.len.ensures.len c.capacity.ensures.capacity)
@@ -49,7 +49,7 @@ unfolding frame_reply
 returns-clause-reply c =
     let f = c.self.inside in
     let is = row-is c.args.frame.now c.kind-kind.result c.len.result c.capacity.result c.self.invariant c.kind-kind.ensures c.len.ensures.len c.capacity.ensures.capacity in
-    let d = frame-delivery f.settings (run f.settings f.journal.items) c.args.frame.now f.reassembler c.in_ok-planned.ensures.0 f.queues.items f.units.items c.in_ok-planned.planned c.self.invariant.runs (c.self.invariant.queues, c.self.invariant.units)
+    let d = frame-delivery f.settings (run f.settings f.journal.items) c.args.frame.now f.reassembler c.in_ok-planned.ensures.0 f.queues.items f.units.items c.plan_bypass.new.sheet.copies.items c.in_ok-planned.planned c.self.invariant.runs (c.self.invariant.queues, c.self.invariant.units)
     (rw (← c.kind-kind.ensures, ← c.field-field.ensures) c.in_ok-planned.ensures.1) (rw (c.deref.ensures.value, c.deref-2.ensures.value, c.field-field.ensures) at c.in_ok-planned.ensures.2) in
     let event : c.step-act.result.event ≡ number_of (row_of f.settings (run f.settings f.journal.items) c.args.frame.now) = c.step-act.ensures.event ∙ ap number_of is in
     let accepted : c.step-act.result.accepted ≡ accepts (row_of f.settings (run f.settings f.journal.items) c.args.frame.now) (run f.settings f.journal.items).report = c.step-act.ensures.accepted ∙ rw (is, c.self.invariant.report) refl in

@@ -1,7 +1,7 @@
 use Rattle.std.proofs.Common.{◌≡◌, ◌<◌, ◌∷◌, [], ◌++◌, length, arith}
 use Rattle.std.proofs.lemmas.Grind.{common_steps}
 use Rattle.tc_channel.specs.declared.event.Event.TheVariants.{Release}
-use Rattle.tc_channel.specs.Admission.{is_for, is_of_map, map_of}
+use Rattle.tc_channel.specs.Admission.{is_of_map, map_of}
 use Rattle.tc_channel.specs.Run.{run, first_of}
 use Rattle.tc_channel.specs.Reply.{release_reply}
 use Rattle.tc_channel.proofs.Held.{release-keeps, oldest-filled, some-field, have-places}
@@ -44,7 +44,7 @@ plan_oldest-requires-clause-units_distinct c =
     rw c.deref-2.ensures.value (units-distinct c.self.invariant)
 
 pub put_copies-requires : goal.put_copies-requires
-put_copies-requires c = rw (c.in_ok-planned.ensures.2.copies, c.deref.ensures.value) (have-places is_for _ c.self.inside.queues.items)
+put_copies-requires c = rw c.deref.ensures.value at c.in_ok-planned.ensures.2.copies.places
 
 pub put_unit-requires : goal.put_unit-requires
 put_unit-requires c = rw (c.in_ok-planned.ensures.2.whole, c.deref-2.ensures.value) (have-places (is_of_map (map_of (first_of c.self.inside.fields.items))) _ c.self.inside.units.items)
@@ -54,12 +54,12 @@ invariant_of-self-2 c =
     let f = c.self.inside in
     let some : 0 < length f.fields.items = some-field c.self.view_is c.self.invariant (λ e. absurd (let t = c.if-has_empty_buffer.ensures.1 e in cc)) in
     let e : c.push_reserved.new.self.items ≡ f.journal.items ++ Release ∷ [] = grind (arith, common_steps) in
-    rw e (release-keeps _ c.in_ok-planned.planned c.in_ok-planned.ensures.0
+    rw e (release-keeps _ c.plan_oldest.new.sheet.copies.items c.in_ok-planned.planned c.in_ok-planned.ensures.0
     c.self.invariant c.in_ok-pass_oldest.ensures.ok c.in_ok-planned.ensures.1 (rw (c.deref.ensures.value, c.deref-2.ensures.value) at c.in_ok-planned.ensures.2) c.put_copies.ensures c.put_unit.ensures some c.step.ensures.width c.step.ensures.report c.pop_front.ensures.items)
 
 pub returns-clause-reply : goal.returns-clause-reply
 unfolding release_reply
 returns-clause-reply c =
     let f = c.self.inside in
-    rw (← c.self.view_is) (release-delivery (run f.settings f.journal.items) f.reassembler c.in_ok-planned.ensures.0 f.queues.items f.units.items c.in_ok-planned.planned c.self.invariant.runs (c.self.invariant.queues, c.self.invariant.units)
+    rw (← c.self.view_is) (release-delivery (run f.settings f.journal.items) f.reassembler c.in_ok-planned.ensures.0 f.queues.items f.units.items c.plan_oldest.new.sheet.copies.items c.in_ok-planned.planned c.self.invariant.runs (c.self.invariant.queues, c.self.invariant.units)
     (rw c.self.invariant.fields at c.in_ok-planned.ensures.1) (rw (c.deref.ensures.value, c.deref-2.ensures.value, c.self.invariant.fields) at c.in_ok-planned.ensures.2))
