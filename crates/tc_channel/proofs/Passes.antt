@@ -114,7 +114,7 @@ rooms-put p (w ∷ ws) zero a n lt is for_it room some =
     ap (λ (x : ℕ). x ∷ map room_in ws) (ap (λ (x : ℕ). x - 1) room ∙ sym it.room)
 rooms-put p (w ∷ ws) (suc i) a n lt is for_it room some = ap (λ (x : List ℕ). room_in w ∷ x) (rooms-put p ws i a n (omega arith) is for_it room some)
 
--- ---- over one packet
+-- what one packet leaves under way
 pass-on : (qs : List HeldQueue) (p : List ℕ) (ps all : List (List ℕ)) (cs : List Placed) (rooms : List ℕ) → Goes p ps (put_all qs cs) (put_all qs cs) 0 → IsUnderWay qs (p ∷ ps) all cs rooms → IsUnderWay qs ps all cs rooms
 pass-on qs p ps all cs rooms g k =
     let count = g.count in
@@ -155,7 +155,7 @@ copy-on qs p ps all cs rooms i a n distinct lt is for_it room some k =
       count = omega arith;
     }
 
--- ---- the first packet and the last
+-- before the first packet, and after the last
 pub under-way : (qs : List HeldQueue) (all : List (List ℕ)) (cs : List Placed) (rooms : List ℕ) → cs ≡ [] → rooms ≡ map room_in qs → IsUnderWay qs all all cs rooms
 under-way qs all cs rooms none is = rw none (record { places = tt; keys = refl; rooms = is; put = refl; count = omega arith })
 

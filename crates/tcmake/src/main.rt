@@ -3,6 +3,7 @@
 
 mod command_line;
 
+use clap::Error;
 use command_line::judge;
 use std::env::Env;
 use std::io::{BufReader, BufWriter};
@@ -32,10 +33,23 @@ fn words<R: Env + AllocGlobal>(rt: &R) -> io::Result<Vec<String>> {
 fn obey<R: AllocGlobal + Input + Print + Eprint>(rt: &R, words: &[String]) -> ExitCode {
     match judge(rt.alloc(), words) {
         Ok(ending) => tell(rt, serve(rt, ending)),
-        Err(answer) => match answer.print(rt) {
-            Ok(()) => ExitCode::from(answer.exit_code() as u8),
-            Err(_) => ExitCode::from(BAD_COMMAND_LINE),
-        },
+        Err(answer) => print(rt, &answer),
+    }
+}
+
+// Prints help, or why the command line is refused, and gives the exit status. What can't be written to standard output is told
+// on standard error.
+fn print<R: Print + Eprint>(rt: &R, answer: &Error) -> ExitCode {
+    let printed = answer.print(rt);
+    if answer.use_stderr() {
+        return ExitCode::from(BAD_COMMAND_LINE);
+    }
+    match printed {
+        Ok(()) => ExitCode::SUCCESS,
+        Err(_) => {
+            let _ = eprintln!(rt; "cannot write");
+            ExitCode::FAILURE
+        }
     }
 }
 

@@ -52,9 +52,10 @@ fn cuts_as_many_packets_as_the_largest_unit_has(rt: HostRuntime) {
 
 #[test]
 fn reads_one_packet_after_the_other(rt: HostRuntime) {
-    let telemetry = [0x0f, 0xff, 0x40, 0x01, 0x00, 0x01, 0xaa, 0xbb];
-    let mut unit = packets_and(rt.alloc(), 1, &telemetry).expect(&rt, "a unit");
-    unit.push(0xff).expect(&rt, "a unit");
+    let tail = b"\x0f\xff\x40\x01\x00\x01\xaa\xbb\xff";
+    let unit = packets_and(rt.alloc(), 1, tail).expect(&rt, "a unit");
+
+    let (packet, after) = next_packet(&unit).expect(&rt, "a packet");
     let first = Packet {
         telecommand: true,
         secondary: false,
@@ -63,17 +64,21 @@ fn reads_one_packet_after_the_other(rt: HostRuntime) {
         count: 0,
         octets: &PACKET,
     };
+    assert_eq!(&rt; packet, first);
+    assert_eq!(&rt; after, tail.as_slice());
+
+    let (packet, rest) = next_packet(after).expect(&rt, "a packet");
     let second = Packet {
         telecommand: false,
         secondary: true,
         apid: 2_047,
         flags: 1,
         count: 1,
-        octets: &telemetry,
+        octets: &tail[..8],
     };
-    assert_eq!(&rt; next_packet(&unit), Some((first, &unit[7..])));
-    assert_eq!(&rt; next_packet(&unit[7..]), Some((second, b"\xff".as_slice())));
-    assert_eq!(&rt; next_packet(b"\xff"), None);
+    assert_eq!(&rt; packet, second);
+    assert_eq!(&rt; rest, b"\xff".as_slice());
+    assert_eq!(&rt; next_packet(rest), None);
 }
 
 #[test]
