@@ -1,6 +1,6 @@
 //! What help tells beside the commands.
 
-/// The version of the program, which `tcmake` tells, too.
+/// The version of the program.
 pub(crate) const VERSION: &str = "0.1.0";
 
 /// The lines of a script with their limits, the statuses, and an example.
