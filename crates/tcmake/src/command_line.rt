@@ -5,8 +5,11 @@ use std::alloc::Global;
 use std::convert::AsStr;
 use tc_make::Ending;
 
-/// How the frames end that the words ask for, the program's name first. An error is what to print: help, or why the words
-/// are refused.
+/// The version of the program, which `tcrx` tells, too.
+const VERSION: &str = "0.1.0";
+
+/// How the frames end that the words ask for, the program's name first. An error is what to print: help, the version, or why
+/// the words are refused.
 pub(crate) fn judge<'a, S: AsStr>(alloc: Global, words: &'a [S]) -> Result<Ending, Error> {
     let mut command = command(alloc)?;
     let matches = command.try_get_matches_from_mut(words)?;
@@ -26,6 +29,7 @@ fn command<'a>(alloc: Global) -> Result<Command<'a>, Error> {
         .about(
             "Makes telecommand frames and packets, and explains frames and CLCWs: answers the lines of standard input",
         )
+        .version(VERSION)
         .arg(fecf)?;
     Ok(command)
 }

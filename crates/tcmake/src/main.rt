@@ -1,14 +1,15 @@
 //! `tcmake`: makes and explains telecommand frames, line by line.
 #![tactic(auto)]
 
+mod arguments;
 mod command_line;
 
+use arguments::words;
 use clap::Error;
 use command_line::judge;
-use std::env::Env;
+use std::io;
 use std::io::{BufReader, BufWriter};
 use std::process::ExitCode;
-use std::{env, io};
 use tc_make::{Ending, ServingFault, answer_lines};
 
 /// The exit status of a bad command line.
@@ -17,16 +18,11 @@ const BAD_COMMAND_LINE: u8 = 2;
 fn main(rt: HostRuntime) -> ExitCode {
     match words(&rt) {
         Ok(words) => obey(&rt, words.as_slice()),
-        Err(error) => {
-            let _ = eprintln!(rt; "{error}");
+        Err(fault) => {
+            let _ = eprintln!(rt; "tcmake: {fault}");
             ExitCode::from(BAD_COMMAND_LINE)
         }
     }
-}
-
-// The words of the command line, which are text.
-fn words<R: Env + AllocGlobal>(rt: &R) -> io::Result<Vec<String>> {
-    Ok(env::args(rt)?.collect(rt.alloc())?)
 }
 
 // Judges the words before anything is read, and does what they ask for.
@@ -37,8 +33,8 @@ fn obey<R: AllocGlobal + Input + Print + Eprint>(rt: &R, words: &[String]) -> Ex
     }
 }
 
-// Prints help, or why the command line is refused, and gives the exit status. What can't be written to standard output is told
-// on standard error.
+// Prints help, the version, or why the command line is refused, and gives the exit status. What can't be written to standard
+// output is told on standard error.
 fn print<R: Print + Eprint>(rt: &R, answer: &Error) -> ExitCode {
     let printed = answer.print(rt);
     if answer.use_stderr() {

@@ -1,6 +1,7 @@
 //! Each call is made; where it answers want of memory, it is made again.
 
-ghost use Rattle.std.specs.Prelude.{◌≤◌};
+ghost use Rattle.std.specs.Prelude.{◌≤◌, IfOk};
+ghost use Rattle.tc_link.specs.Frame.{IsWhole};
 
 use std::alloc::Global;
 use std::io;
@@ -10,8 +11,8 @@ use std::test::Fail;
 use tc_fecf::{FieldFault, with_field, without_field};
 use tc_link::{Command, Header};
 use tc_make::{
-    Ending, Line, Reason, ServingFault, answer_line, answer_lines, make_command, make_frame,
-    make_packet, parse_line,
+    Ending, Line, Parting, Reason, ServingFault, answer_line, answer_lines, make_command,
+    make_frame, make_packet, parse_line,
 };
 use tc_packet::{Part, Segment};
 
@@ -75,6 +76,50 @@ fn growth_of_a_command(rt: HostRuntime) {
         made = make_command(rt.alloc(), 42, 1, Command::Unlock);
     }
     check(&rt, made, &[0x30, 0x2a, 0x04, 0x05, 0x00, 0x00]);
+}
+
+#[test]
+fn growth_of_a_frame_of_a_unit(rt: HostRuntime) {
+    let parting = Parting {
+        scid: 42,
+        vcid: 1,
+        ns: 0,
+        map: 0,
+        size: 4,
+        unit: &[0x10, 0x05, 0xc0, 0x00, 0x00, 0x00, 0xaa],
+    };
+    let count = parting.count().expect(&rt, "frames");
+    assert!(rt; count == 2);
+    let mut made = parting.frame(rt.alloc(), 1);
+    if is_refused(&rt, "Parting::frame", &made) {
+        made = parting.frame(rt.alloc(), 1);
+    }
+    check(
+        &rt,
+        made,
+        &[0x00, 0x2a, 0x04, 0x08, 0x01, 0x80, 0x00, 0x00, 0xaa],
+    );
+}
+
+// The frame with the control command Unlock, made again where memory was wanting.
+fn unlock(alloc: Global) -> Result<Vec<u8>, Reason>
+    ensures { IfOk result (λ frame. IsWhole frame.items) }
+{
+    match make_command(alloc, 42, 1, Command::Unlock) {
+        Ok(frame) => Ok(frame),
+        Err(_) => make_command(alloc, 42, 1, Command::Unlock),
+    }
+}
+
+#[test]
+fn growth_of_a_frame_as_it_ends(rt: HostRuntime) {
+    let frame = unlock(rt.alloc()).expect(&rt, "a frame");
+    let mut made = Ending::ErrorControl.end(rt.alloc(), frame);
+    if is_refused(&rt, "Ending::end", &made) {
+        let frame = unlock(rt.alloc()).expect(&rt, "a frame");
+        made = Ending::ErrorControl.end(rt.alloc(), frame);
+    }
+    check(&rt, made, &[0x30, 0x2a, 0x04, 0x07, 0x00, 0x00, 0x20, 0xe7]);
 }
 
 #[test]
@@ -192,17 +237,69 @@ fn growth_of_each_answer(rt: HostRuntime) {
     }
 }
 
+// A line that is answered with two frames, each of them, and the answers of other lines.
+const UNIT: &str = "segments 42 1 0 0 4 1005c0000000aa";
+
+const FIRST: &str = "frame 002a040b00401005c0001a74\n";
+
+const LAST: &str = "frame 002a040a01800000aad66b\n";
+
+const UNLOCK: &str = "frame 302a0407000020e7\n";
+
+const BAD: &str = "bad no memory\n";
+
+// Whether these texts, one after the other, are all that was written.
+fn is_written(written: &[u8], texts: &[&str]) -> bool {
+    let mut rest = written;
+    for text in texts {
+        match rest.strip_prefix(text.as_bytes()) {
+            Some(after) => rest = after,
+            None => return false,
+        }
+    }
+    rest.is_empty()
+}
+
 #[test]
-fn growth_of_a_stream_of_lines(rt: HostRuntime) {
-    let mut reader = b"".as_slice();
+fn growth_amid_the_frames_of_a_unit(rt: HostRuntime) {
     let mut kept = Kept {
         room: [0; 256],
         length: 0,
     };
-    let served = answer_lines(rt.alloc(), Ending::DataField, &mut reader, &mut kept);
+    answer_line(rt.alloc(), Ending::ErrorControl, UNIT.as_bytes(), &mut kept).expect(
+        &rt,
+        "an answer",
+    );
+    let written = &kept.room[..kept.length];
+    if is_written(written, &[BAD]) {
+        let _ = println!(rt; "refused: answer_line");
+    } else if is_written(written, &[FIRST, BAD]) {
+        let _ = println!(rt; "refused: answer_line, second frame of a unit");
+    } else {
+        assert!(rt; is_written(written, &[FIRST, LAST]));
+    }
+}
+
+// Want of memory amid the frames of one line does nothing to the next one.
+#[test]
+fn growth_of_a_stream_of_lines(rt: HostRuntime) {
+    let mut reader = b"segments 42 1 0 0 4 1005c0000000aa\nunlock 42 1\n".as_slice();
+    let mut kept = Kept {
+        room: [0; 256],
+        length: 0,
+    };
+    let served = answer_lines(rt.alloc(), Ending::ErrorControl, &mut reader, &mut kept);
+    let written = &kept.room[..kept.length];
     if served.is_err() {
         let _ = println!(rt; "refused: answer_lines");
         assert_eq!(rt; served, Err(ServingFault::NoMemory));
+        assert_eq!(rt; kept.length, 0);
+    } else if is_written(written, &[FIRST, BAD, UNLOCK]) {
+        let _ = println!(rt; "refused: answer_lines, second frame of a unit");
+    } else {
+        let is_good = is_written(written, &[FIRST, LAST, UNLOCK])
+            || is_written(written, &[BAD, UNLOCK])
+            || is_written(written, &[FIRST, LAST, BAD]);
+        assert!(rt; is_good);
     }
-    assert_eq!(rt; kept.length, 0);
 }
