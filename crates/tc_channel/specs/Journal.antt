@@ -2,6 +2,9 @@
 use Rattle.std.specs.Prelude.{List, [], ◌∷◌, ◌++◌}
 use Rattle.tc_channel.specs.declared.settings.Settings.{Settings}
 use Rattle.tc_channel.specs.declared.event.Event.{Event}
+use Rattle.tc_channel.specs.declared.event.Event.TheVariants as events
+use Rattle.tc_channel.specs.declared.lent.LentEvent.{LentEvent}
+use Rattle.tc_channel.specs.declared.lent.LentEvent.TheVariants.{Frame, Release, Take, TakeUnit}
 
 pub record History : Type 0 where
   pub settings : Settings
@@ -10,3 +13,10 @@ pub record History : Type 0 where
 -- the same channel, one event later
 abbrev pub with_event : History → Event → History
 with_event history event = record history { journal = history.journal ++ event ∷ [] }
+
+-- the event whose octets are lent
+abbrev pub event_of : LentEvent → Event
+event_of (Frame octets) = events.Frame octets.now
+event_of Release = events.Release
+event_of (Take apid) = events.Take apid
+event_of (TakeUnit map_id) = events.TakeUnit map_id

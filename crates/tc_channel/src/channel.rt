@@ -1,9 +1,9 @@
 //! A channel and its journal.
 
-ghost use Rattle.std.specs.Prelude.{List, ℕ, ◌≡◌, [], ◌<◌, ◌↔◌, ◌∷◌, ◌++◌, length, slice_get, IfOk, OnOk, OnErr, IsErrOf, MatchResult, IsSome, IsTrue, Some, None, Option, option_map};
+ghost use Rattle.std.specs.Prelude.{List, ℕ, ◌≡◌, [], ◌<◌, ◌↔◌, ◌∷◌, ◌++◌, length, min, ◌^◌, ◌-◌, slice_get, IfOk, OnOk, OnErr, IsErrOf, MatchResult, IsSome, IsTrue, Some, None, Option, option_map};
 ghost use Rattle.std.specs.Option.{option_and_then};
 ghost use Rattle.tc_channel.specs.Settings.{IsAllowed, IsRefusal};
-ghost use Rattle.tc_channel.specs.Journal.{with_event};
+ghost use Rattle.tc_channel.specs.Journal.{with_event, event_of};
 ghost use Rattle.tc_channel.specs.Run.{run, IsLawful, first_of};
 ghost use Rattle.tc_channel.specs.Reply.{frame_reply, release_reply, take_reply, unit_reply, waiting_packets, waiting_units, buffered_fields, clcw as clcw_of};
 ghost use Rattle.tc_channel.specs.Era.{CountsUpInItsEra};
@@ -14,11 +14,15 @@ ghost use Rattle.tc_channel.specs.HeldQueues.{AreDistinct, keys_of, IsPlanned, i
 use crate::copying::{Worksheet, put_copies};
 use crate::event::Event;
 use crate::items::Octets;
+use crate::journal::Journal;
+use crate::kept::Kept;
+use crate::lent::LentEvent;
 use crate::queues::{
     HeldQueue, Planned, empty_queues, empty_unit_queues, find, plan, plan_nothing, pop, put_unit,
 };
 use crate::reply::{Delivery, FrameReply, NoMemory, ReleaseFault, TakeFault, TakeUnitFault};
 use crate::settings::{Settings, SettingsFault};
+use crate::unkept::Unkept;
 use circular_buffer::HeapCircularBuffer;
 use std::alloc::{AllocError, Global};
 use std::marker::Model;
@@ -28,7 +32,7 @@ use tc_packet::{Reassembler, Service};
 /// One virtual channel: FARM-1, the buffer of accepted data fields, reassembly, the packet queues, the unit queues of chosen
 /// MAPs, and the journal of all that it answered. A call that is refused leaves it as it was.
 #[derive(Drop)]
-pub struct Channel {
+pub struct ChannelWith<J: Journal> {
     alloc: Global,
     settings: Settings,
     farm: Farm,
@@ -38,25 +42,32 @@ pub struct Channel {
     units: Vec<HeldQueue>,
     // nothing that is told of a channel: the invariant leaves it out
     sheet: Worksheet,
-    journal: Vec<Event>,
+    journal: J,
 }
 
-impl Model for Channel {
+/// A channel that keeps its journal in memory, and gives it out.
+pub type Channel = ChannelWith<Kept>;
+
+/// A channel whose journal is read by clauses alone and takes no memory, for flight software and long simulations. It does
+/// what [`Channel`] does, by the same proof.
+pub type FlightChannel = ChannelWith<Unkept>;
+
+impl<J: Journal> Model for ChannelWith<J> {
     ghost use Rattle.tc_channel.specs.Journal.{History};
 
     ghost Value = { History };
 
     ghost use Rattle.tc_channel.specs.Channel.{Holds};
 
-    ghost view = { λ c. record { settings = c.settings; journal = c.journal.items } };
+    ghost view = { λ c. record { settings = c.settings; journal = J.events c.journal } };
 
-    ghost invariant = { λ c. Holds c.settings c.journal.items (record { farm = c.farm; ring = c.fields; open_runs = c.reassembler; rings = c.queues.items; unit_rings = c.units.items }) };
+    ghost invariant = { λ c. Holds c.settings (J.events c.journal) (record { farm = c.farm; ring = c.fields; open_runs = c.reassembler; rings = c.queues.items; unit_rings = c.units.items }) };
 }
 
-impl Channel {
+impl<J: Journal + Drop> ChannelWith<J> {
     /// A channel that starts: in S1, with nothing in it and an empty journal.
     /// Its buffer and its queues get room for all that they may hold.
-    pub fn new(alloc: Global, settings: Settings) -> Result<Channel, SettingsFault>
+    pub fn new(alloc: Global, settings: Settings) -> Result<ChannelWith<J>, SettingsFault>
         ensures settings { IfOk result (λ channel. channel.settings ≡ settings) }
         ensures journal { IfOk result (λ channel. channel.journal ≡ []) }
         ensures fault { MatchResult result (λ _. IsAllowed settings) (IsRefusal settings) }
@@ -83,8 +94,8 @@ impl Channel {
         let mut farm = self.farm;
         let act = farm.step(Arrival::Frame { kind, room });
         let field = frame.field();
-        let octets = Octets::copied(self.alloc, frame.octets())?;
-        self.journal.reserve(1)?;
+        let event = LentEvent::Frame(frame.octets());
+        let entry = self.journal.prepare(self.alloc, &event)?;
         let buffered = copy_for_buffer(self.alloc, &act, field)?;
         let planned = plan_bypass(
             self.alloc,
@@ -100,7 +111,7 @@ impl Channel {
         put_field(&mut self.fields, buffered);
         put_copies(self.alloc, &mut self.queues, &mut self.sheet.copies);
         put_unit(&mut self.units, planned.unit);
-        self.journal.push_reserved(Event::Frame(octets));
+        self.journal.append(&event, entry);
         Ok(FrameReply {
             act,
             delivery: planned.delivery,
@@ -121,7 +132,7 @@ impl Channel {
         if self.has_empty_buffer() {
             return Err(ReleaseFault::Empty);
         }
-        self.journal.reserve(1)?;
+        let entry = self.journal.prepare(self.alloc, &LentEvent::Release)?;
         let planned = plan_oldest(
             self.alloc,
             &self.reassembler,
@@ -135,7 +146,7 @@ impl Channel {
         put_copies(self.alloc, &mut self.queues, &mut self.sheet.copies);
         put_unit(&mut self.units, planned.unit);
         self.farm.step(Arrival::Release);
-        self.journal.push_reserved(Event::Release);
+        self.journal.append(&LentEvent::Release, entry);
         Ok(planned.delivery)
     }
 
@@ -149,7 +160,8 @@ impl Channel {
         ensures done { OnOk result (self.new ≡ with_event self.old (Event.Take apid)) }
         ensures refused { OnErr result (self.new ≡ self.old) }
     {
-        let packet = take_oldest(&mut self.queues, &mut self.journal, apid, Event::Take(apid))?;
+        let event = LentEvent::Take(apid);
+        let packet = take_oldest(self.alloc, &mut self.queues, &mut self.journal, apid, &event)?;
         Ok(packet.into_vec())
     }
 
@@ -163,8 +175,8 @@ impl Channel {
         ensures done { OnOk result (self.new ≡ with_event self.old (Event.TakeUnit map)) }
         ensures refused { OnErr result (self.new ≡ self.old) }
     {
-        let event = Event::TakeUnit(map);
-        let unit = take_oldest(&mut self.units, &mut self.journal, map as u16, event)?;
+        let (key, event) = (map as u16, LentEvent::TakeUnit(map));
+        let unit = take_oldest(self.alloc, &mut self.units, &mut self.journal, key, &event)?;
         Ok(unit.into_vec())
     }
 
@@ -222,13 +234,13 @@ impl Channel {
         Some(find(&self.units, map as u16)?.ring.len())
     }
 
-    /// The events so far, the oldest first.
-    pub fn journal(&self) -> &[Event]
-        ensures journal { result.now ≡ self.now.journal }
+    /// How many events there are in the journal; where they are more than 2^64 - 1, that number.
+    pub fn events(&self) -> u64
+        ensures count { result ≡ min (length self.now.journal) (2 ^ 64 - 1) }
         ensures allowed { IsAllowed self.now.settings }
         ensures lawful { IsLawful self.now.settings self.now.journal }
     {
-        &self.journal
+        self.journal.count()
     }
 
     /// The settings that the channel was made by.
@@ -241,8 +253,19 @@ impl Channel {
     }
 }
 
+impl ChannelWith<Kept> {
+    /// The events so far, the oldest first.
+    pub fn journal(&self) -> &[Event]
+        ensures journal { result.now ≡ self.now.journal }
+        ensures allowed { IsAllowed self.now.settings }
+        ensures lawful { IsLawful self.now.settings self.now.journal }
+    {
+        &self.journal.events
+    }
+}
+
 // A channel by settings that were checked.
-fn start(alloc: Global, settings: Settings) -> Result<Channel, NoMemory>
+fn start<J: Journal + Drop>(alloc: Global, settings: Settings) -> Result<ChannelWith<J>, NoMemory>
     requires { IsAllowed settings }
     ensures settings { IfOk result (λ channel. channel.settings ≡ settings) }
     ensures journal { IfOk result (λ channel. channel.journal ≡ []) }
@@ -252,7 +275,7 @@ fn start(alloc: Global, settings: Settings) -> Result<Channel, NoMemory>
     let reassembler = Reassembler::new(alloc, settings.segmented)?;
     let queues = empty_queues(alloc, settings.queues.as_slice())?;
     let units = empty_unit_queues(alloc, settings.maps.as_slice())?;
-    Ok(Channel {
+    Ok(ChannelWith {
         alloc,
         farm: Farm::new(window, settings.first),
         settings,
@@ -261,31 +284,32 @@ fn start(alloc: Global, settings: Settings) -> Result<Channel, NoMemory>
         queues,
         units,
         sheet: Worksheet::new(alloc),
-        journal: Vec::new(alloc),
+        journal: J::start(alloc),
     })
 }
 
 // Takes the oldest item out of the queue with this key, and journals that as this event.
-fn take_oldest(
+fn take_oldest<J: Journal>(
+    alloc: Global,
     queues: &mut Vec<HeldQueue>,
-    journal: &mut Vec<Event>,
+    journal: &mut J,
     key: u16,
-    event: Event,
+    event: &LentEvent<'_>,
 ) -> Result<Octets, TakeFault>
     ensures no_queue { IsErrOf result TakeFault.NoQueue ↔ (items_for key queues.old.items ≡ None) }
     ensures empty { IsErrOf result TakeFault.Empty ↔ (items_for key queues.old.items ≡ Some []) }
     ensures item { IfOk result (λ item. option_and_then (λ items. slice_get items 0) (items_for key queues.old.items) ≡ Some item) }
     ensures queues { OnOk result (queues.new.items ≡ popped key queues.old.items) }
-    ensures journal { OnOk result (journal.new.items ≡ journal.old.items ++ event ∷ []) }
-    ensures refused { OnErr result ((queues.new ≡ queues.old) × (journal.new.items ≡ journal.old.items)) }
+    ensures journal { OnOk result (J.events journal.new ≡ J.events journal.old ++ event_of event.now ∷ []) }
+    ensures refused { OnErr result ((queues.new ≡ queues.old) × (J.events journal.new ≡ J.events journal.old)) }
 {
     let waiting = find(queues, key).ok_or(TakeFault::NoQueue)?;
     if waiting.ring.is_empty() {
         return Err(TakeFault::Empty);
     }
-    journal.reserve(1)?;
+    let entry = journal.prepare(alloc, event)?;
     let item = pop(queues, key).unwrap();
-    journal.push_reserved(event);
+    journal.append(event, entry);
     Ok(item)
 }
 

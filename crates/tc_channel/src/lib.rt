@@ -14,14 +14,20 @@ mod channel;
 mod copying;
 mod event;
 mod items;
+mod journal;
+mod kept;
 mod laws;
+mod lent;
 mod queues;
 mod reply;
 mod settings;
+mod unkept;
 
-pub use channel::Channel;
+pub use channel::{Channel, ChannelWith, FlightChannel};
 pub use event::Event;
 pub use items::{Items, Octets};
+pub use journal::Journal;
+pub use kept::Kept;
 pub use laws::{
     a_longer_run_goes_on, a_plain_channel_takes_each_field_as_a_unit,
     a_unit_is_delivered_whole_or_by_packets, a_unit_is_kept_where_its_queue_has_room,
@@ -29,5 +35,7 @@ pub use laws::{
     chosen_maps_stay, each_clcw_fits_its_word, each_frame_has_a_step, each_journal_has_an_era,
     each_packet_is_queued_or_dropped, queues_keep_to_their_capacity, wait_means_no_room,
 };
+pub use lent::LentEvent;
 pub use reply::{Delivery, FrameReply, NoMemory, ReleaseFault, TakeFault, TakeUnitFault};
 pub use settings::{MapSetting, QueueSetting, Settings, SettingsFault};
+pub use unkept::{EventsSeen, Unkept};

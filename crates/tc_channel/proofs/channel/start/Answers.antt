@@ -5,7 +5,7 @@ use Rattle.tc_channel.proofs.channel.start.Goals as goal
 
 pub invariant_of-result : goal.invariant_of-result
 unfolding run IsLawful
-invariant_of-result c = rw c.new-5.ensures.items (record {
+invariant_of-result g c = rw c.start.ensures.events (record {
   allowed = c.requires;
   lawful = tt;
   width = c.new-3.ensures.width ∙ rw c.unwrap-window.ensures at c.new.ensures.width;

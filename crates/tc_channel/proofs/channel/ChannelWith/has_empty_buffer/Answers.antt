@@ -1,8 +1,8 @@
 use Rattle.std.proofs.Common.{arith}
 use Rattle.std.proofs.lemmas.Grind.{common_steps}
 use Rattle.tc_channel.specs.Reply.{buffered_fields}
-use Rattle.tc_channel.proofs.channel.Channel.has_empty_buffer.Goals as goal
+use Rattle.tc_channel.proofs.channel.ChannelWith.has_empty_buffer.Goals as goal
 
 pub returns : goal.returns
 unfolding buffered_fields
-returns c = rw (← c.self.view_is, ← c.self.invariant.fields) (grind (arith, common_steps))
+returns g c = rw (← c.self.view_is, ← c.self.invariant.fields) (grind (arith, common_steps))

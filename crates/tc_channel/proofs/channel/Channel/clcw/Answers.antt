@@ -1,6 +1,0 @@
-use Rattle.tc_channel.specs.Reply.{clcw}
-use Rattle.tc_channel.proofs.channel.Channel.clcw.Goals as goal
-
-pub returns-clause-word : goal.returns-clause-word
-unfolding clcw
-returns-clause-word c = rw (← c.self.view_is, ← c.self.invariant.report, ← c.report.ensures.report) c.clcw_word.ensures

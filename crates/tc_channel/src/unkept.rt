@@ -1,0 +1,75 @@
+//! The journal that only clauses read.
+
+ghost use Rattle.std.specs.Prelude.{◌≡◌, List, [], ◌∷◌, ◌++◌, length, min, ◌^◌, ◌-◌};
+ghost use Rattle.std.specs.Borrow.{ftrue};
+ghost use Rattle.tc_channel.specs.declared.event.Event.{Event};
+ghost use Rattle.tc_channel.specs.Journal.{event_of};
+
+use crate::journal::Journal;
+use crate::lent::LentEvent;
+use std::alloc::{AllocError, Global};
+use std::marker::Model;
+
+/// A list of events without an octet of memory: clauses read it, no program can.
+#[derive(Drop)]
+pub struct EventsSeen {
+    pub ghost events: { List Event },
+}
+
+impl Model for EventsSeen {
+    ghost also_owns = { λ _. ftrue };
+}
+
+impl EventsSeen {
+    /// The list of no event.
+    pub fn new() -> EventsSeen
+        ensures { result.events ≡ [] }
+    {
+        EventsSeen {}
+    }
+
+    /// One event more. It does nothing at run time.
+    #[inline(always)]
+    pub fn note(&mut self, _event: &LentEvent<'_>)
+        ensures { self.new.events ≡ self.old.events ++ event_of _event.now ∷ [] }
+    {
+    }
+}
+
+/// A journal that isn't kept in memory, but for the number of its events.
+#[derive(Drop)]
+pub struct Unkept {
+    pub seen: EventsSeen,
+    pub count: u64,
+    pub ghost counted: { count ≡ min (length seen.events) (2 ^ 64 - 1) },
+}
+
+impl Journal for Unkept {
+    ghost use Rattle.std.specs.Prelude.{⊤};
+
+    type Entry = ();
+
+    ghost events = { λ u. u.seen.events };
+
+    ghost is_ready = { λ _ _ _. ⊤ };
+
+    fn start(_alloc: Global) -> Unkept {
+        Unkept {
+            seen: EventsSeen::new(),
+            count: 0,
+        }
+    }
+
+    fn prepare(&mut self, _alloc: Global, _event: &LentEvent<'_>) -> Result<(), AllocError> {
+        Ok(())
+    }
+
+    fn append(&mut self, event: &LentEvent<'_>, _entry: ()) {
+        self.seen.note(event);
+        self.count = self.count.saturating_add(1);
+    }
+
+    fn count(&self) -> u64 {
+        self.count
+    }
+}
