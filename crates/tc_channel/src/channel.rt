@@ -17,6 +17,7 @@ use crate::items::Octets;
 use crate::journal::Journal;
 use crate::kept::Kept;
 use crate::lent::LentEvent;
+use crate::past::Past;
 use crate::queues::{
     HeldQueue, Planned, empty_queues, empty_unit_queues, find, plan, plan_nothing, pop, put_unit,
 };
@@ -26,6 +27,7 @@ use crate::unkept::Unkept;
 use circular_buffer::HeapCircularBuffer;
 use std::alloc::{AllocError, Global};
 use std::marker::Model;
+use std::snapshot::Snapshot;
 use tc_link::{Act, Arrival, Farm, Frame, Kind, Link, Report, Window, clcw_word, kind};
 use tc_packet::{Reassembler, Service};
 
@@ -64,7 +66,7 @@ impl<J: Journal> Model for ChannelWith<J> {
     ghost invariant = { λ c. Holds c.settings (J.events c.journal) (record { farm = c.farm; ring = c.fields; open_runs = c.reassembler; rings = c.queues.items; unit_rings = c.units.items }) };
 }
 
-impl<J: Journal + Drop> ChannelWith<J> {
+impl<J: Journal> ChannelWith<J> {
     /// A channel that starts: in S1, with nothing in it and an empty journal.
     /// Its buffer and its queues get room for all that they may hold.
     pub fn new(alloc: Global, settings: Settings) -> Result<ChannelWith<J>, SettingsFault>
@@ -243,6 +245,18 @@ impl<J: Journal + Drop> ChannelWith<J> {
         self.journal.count()
     }
 
+    /// What clauses see of the channel at this moment. It takes no memory.
+    pub fn past(&self) -> Past
+        ensures past { result ≡ self.now }
+        ensures allowed { IsAllowed self.now.settings }
+        ensures lawful { IsLawful self.now.settings self.now.journal }
+    {
+        Past {
+            settings: Snapshot::of(&self.settings),
+            journal: self.journal.seen(),
+        }
+    }
+
     /// The settings that the channel was made by.
     pub fn settings(&self) -> &Settings
         ensures settings { result.now ≡ self.now.settings }
@@ -265,7 +279,7 @@ impl ChannelWith<Kept> {
 }
 
 // A channel by settings that were checked.
-fn start<J: Journal + Drop>(alloc: Global, settings: Settings) -> Result<ChannelWith<J>, NoMemory>
+fn start<J: Journal>(alloc: Global, settings: Settings) -> Result<ChannelWith<J>, NoMemory>
     requires { IsAllowed settings }
     ensures settings { IfOk result (λ channel. channel.settings ≡ settings) }
     ensures journal { IfOk result (λ channel. channel.journal ≡ []) }

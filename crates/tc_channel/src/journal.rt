@@ -6,11 +6,12 @@ ghost use Rattle.tc_channel.specs.declared.lent.LentEvent.{LentEvent};
 ghost use Rattle.tc_channel.specs.Journal.{event_of};
 
 use crate::lent::LentEvent;
+use crate::unkept::EventsSeen;
 use std::alloc::{AllocError, Global};
 
 /// The journal of a channel: all events that it answered, the oldest first. The clauses of a channel read them, whether the
 /// journal keeps them in memory ([`Kept`](crate::Kept)) or not ([`Unkept`](crate::Unkept)).
-pub trait Journal {
+pub trait Journal: Drop + Send {
     /// What is made of an event before the channel changes, so that nothing can be refused after it.
     type Entry: Drop;
 
@@ -33,6 +34,10 @@ pub trait Journal {
     fn append(&mut self, event: &LentEvent<'_>, entry: Self::Entry)
         requires { is_ready self.old entry (event_of event.now) }
         ensures events { events self.new ≡ events self.old ++ event_of event.now ∷ [] };
+
+    /// The events as clauses see them, without an octet.
+    fn seen(&self) -> EventsSeen
+        ensures events { result.events ≡ events self.now };
 
     /// How many events there are; where they are more than 2^64 - 1, that number.
     fn count(&self) -> u64

@@ -6,6 +6,7 @@ use crate::event::Event;
 use crate::items::Octets;
 use crate::journal::Journal;
 use crate::lent::LentEvent;
+use crate::unkept::EventsSeen;
 use std::alloc::{AllocError, Global};
 
 /// A journal in memory: each event, with a copy of each frame's octets.
@@ -40,6 +41,10 @@ impl Journal for Kept {
 
     fn append(&mut self, _event: &LentEvent<'_>, entry: Event) {
         self.events.push_reserved(entry);
+    }
+
+    fn seen(&self) -> EventsSeen {
+        EventsSeen::of(self)
     }
 
     fn count(&self) -> u64 {

@@ -18,6 +18,7 @@ mod journal;
 mod kept;
 mod laws;
 mod lent;
+mod past;
 mod queues;
 mod reply;
 mod settings;
@@ -36,6 +37,7 @@ pub use laws::{
     each_packet_is_queued_or_dropped, queues_keep_to_their_capacity, wait_means_no_room,
 };
 pub use lent::LentEvent;
+pub use past::Past;
 pub use reply::{Delivery, FrameReply, NoMemory, ReleaseFault, TakeFault, TakeUnitFault};
 pub use settings::{MapSetting, QueueSetting, Settings, SettingsFault};
 pub use unkept::{EventsSeen, Unkept};

@@ -6,6 +6,7 @@ ghost use Rattle.tc_channel.specs.declared.event.Event.{Event};
 ghost use Rattle.tc_channel.specs.Journal.{event_of};
 
 use crate::journal::Journal;
+use crate::kept::Kept;
 use crate::lent::LentEvent;
 use std::alloc::{AllocError, Global};
 use std::marker::Model;
@@ -24,6 +25,22 @@ impl EventsSeen {
     /// The list of no event.
     pub fn new() -> EventsSeen
         ensures { result.events ≡ [] }
+    {
+        EventsSeen {}
+    }
+
+    /// The same events once more.
+    #[inline(always)]
+    pub fn again(&self) -> EventsSeen
+        ensures { result.events ≡ self.now.events }
+    {
+        EventsSeen {}
+    }
+
+    /// The events of a journal that is kept in memory.
+    #[inline(always)]
+    pub fn of(_kept: &Kept) -> EventsSeen
+        ensures { result.events ≡ _kept.now.events.items }
     {
         EventsSeen {}
     }
@@ -67,6 +84,10 @@ impl Journal for Unkept {
     fn append(&mut self, event: &LentEvent<'_>, _entry: ()) {
         self.seen.note(event);
         self.count = self.count.saturating_add(1);
+    }
+
+    fn seen(&self) -> EventsSeen {
+        self.seen.again()
     }
 
     fn count(&self) -> u64 {
