@@ -3,22 +3,22 @@
 use atomic_table::{Join, Play, Seat, Split, Table, TableRule};
 use std::alloc::Global;
 use std::marker::{Brand, PhantomData};
-use tc_channel::Channel;
+use tc_channel::Past;
 
-/// What is known at a seat. No value of it is ever made: in a clause each `Channel` is its settings and its journal.
+/// What is known at a seat. No value of it is ever made: in a clause each `Past` is the settings and the journal of a channel.
 pub struct View {
     /// False of a seat that was joined to another, and of no other.
     pub live: bool,
     /// What was published from this seat, or seen from it.
-    pub seen: Channel,
+    pub seen: Past,
     /// What was seen from the seat that was last joined to this one.
-    pub told: Channel,
+    pub told: Past,
 }
 
 /// The rule that every step at a board keeps.
 pub struct BoardRule;
 
-impl TableRule<(), View, Channel> for BoardRule {
+impl TableRule<(), View, Past> for BoardRule {
     ghost use Rattle.tc_status.specs.Board.{IsBoard, view};
 
     ghost holds = { λ _ s. IsBoard s.words s.views };
@@ -90,7 +90,7 @@ impl Join<View> for Tells {
 }
 
 /// One word, which lies on the heap in a block of its own.
-pub type WordTable = Table<(), View, Channel, BoardRule, Global>;
+pub type WordTable = Table<(), View, Past, BoardRule, Global>;
 
 /// A seat at a board, which has no bytes.
 pub type BoardSeat = Seat<(), View>;

@@ -9,7 +9,7 @@ use crate::watcher::Watcher;
 use std::alloc::Global;
 use std::marker::{Brand, Model};
 use std::sync::Arc;
-use tc_channel::{Channel, NoMemory};
+use tc_channel::{ChannelWith, Journal, NoMemory};
 use tc_link::Link;
 
 const NO_FLAG: Link = Link {
@@ -39,13 +39,14 @@ impl Model for Publisher {
 impl Publisher {
     /// Makes a board by the settings of a channel, whose journal so far is its first publication. The board and its word are
     /// the two allocations.
-    pub fn new(alloc: Global, channel: &Channel) -> Result<Publisher, NoMemory>
+    pub fn new<J: Journal>(
+        alloc: Global,
+        channel: &ChannelWith<J>,
+    ) -> Result<Publisher, NoMemory>
         ensures { IfOk result (λ publisher. publisher.published ≡ channel.now) }
     {
-        // It ensures that the settings are allowed.
-        let _ = channel.settings();
         let word = u64::from(channel.clcw(NO_FLAG));
-        let Ok((table, seat)) = WordTable::of_words(alloc, &[word], channel) else {
+        let Ok((table, seat)) = WordTable::of_words(alloc, &[word], &channel.past()) else {
             return Err(NoMemory);
         };
         let board = Board {
@@ -60,12 +61,12 @@ impl Publisher {
     }
 
     /// Publishes the channel's journal: one store.
-    pub fn publish(&mut self, channel: &Channel)
+    pub fn publish<J: Journal>(&mut self, channel: &ChannelWith<J>)
         requires { IsBeginning self.old.published channel.now }
         ensures board { self.new.board ≡ self.old.board }
         ensures published { self.new.published ≡ channel.now }
     {
-        store::<Brand>(&self.board, &mut self.seat, channel);
+        store::<Brand, J>(&self.board, &mut self.seat, channel);
     }
 
     /// A watcher of this board, which has seen what was published. It is refused only where the board can count no more owners.
@@ -83,7 +84,11 @@ impl Publisher {
 }
 
 // The store of a publication.
-fn store<P: Publication>(board: &Arc<Board>, seat: &mut BoardSeat, channel: &Channel)
+fn store<P: Publication, J: Journal>(
+    board: &Arc<Board>,
+    seat: &mut BoardSeat,
+    channel: &ChannelWith<J>,
+)
     requires publication { P.next ≡ channel.now }
     requires seated { IsSeated (arc_value board.now).table.shared.table_id seat.old.table_id seat.old.me }
     requires first { seat.old.id ≡ 0 }

@@ -2,4 +2,4 @@ use Rattle.tc_status.proofs.publisher.Publisher.publish.Given as goal
 
 -- what is published is the channel
 abbrev pub ghosts-store : goal.ghosts-store
-ghosts-store a = record { next = a.channel.now }
+ghosts-store g a = record { next = a.channel.now }
