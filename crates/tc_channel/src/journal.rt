@@ -11,7 +11,7 @@ use std::alloc::{AllocError, Global};
 
 /// The journal of a channel: all events that it answered, the oldest first. The clauses of a channel read them, whether the
 /// journal keeps them in memory ([`Kept`](crate::Kept)) or not ([`Unkept`](crate::Unkept)).
-pub trait Journal: Drop + Send {
+pub trait Journal: Drop {
     /// What is made of an event before the channel changes, so that nothing can be refused after it.
     type Entry: Drop;
 

@@ -10,8 +10,8 @@ ghost use Rattle.tc_status.specs.Board.{IsBeginning};
 use std::alloc::Global;
 use std::marker::Model;
 use tc_channel::{
-    Channel, Delivery, Event, FrameReply, NoMemory, ReleaseFault, Settings, SettingsFault,
-    TakeFault, TakeUnitFault,
+    ChannelWith, Delivery, Event, FrameReply, Journal, Kept, NoMemory, ReleaseFault, Settings,
+    SettingsFault, TakeFault, TakeUnitFault, Unkept,
 };
 use tc_link::Frame;
 use tc_status::{Publisher, Watcher, meet};
@@ -19,12 +19,18 @@ use tc_status::{Publisher, Watcher, meet};
 /// The channel behind a lock, and the publisher of its status. A call that is refused leaves it as it was; one that is
 /// answered publishes the channel before it returns, so that at rest just the channel's journal is published.
 #[derive(Drop)]
-pub struct Desk {
-    channel: Channel,
+pub struct DeskOf<J: Journal> {
+    channel: ChannelWith<J>,
     publisher: Publisher,
 }
 
-impl Model for Desk {
+/// A desk whose channel keeps its journal in memory.
+pub type Desk = DeskOf<Kept>;
+
+/// A desk whose channel's journal takes no memory.
+pub type FlightDesk = DeskOf<Unkept>;
+
+impl<J: Journal> Model for DeskOf<J> {
     ghost use Rattle.std.specs.Prelude.{◌≡◌};
     ghost use Rattle.tc_station.specs.Desk.{AtDesk};
 
@@ -35,22 +41,22 @@ impl Model for Desk {
     ghost invariant = { λ d. d.publisher.published ≡ d.channel };
 }
 
-impl Desk {
+impl<J: Journal> DeskOf<J> {
     /// A desk with a new channel, on a board of its own. It takes the memory of both.
-    pub fn new(alloc: Global, settings: Settings) -> Result<Desk, SettingsFault>
+    pub fn new(alloc: Global, settings: Settings) -> Result<DeskOf<J>, SettingsFault>
         ensures settings { IfOk result (λ desk. desk.channel.settings ≡ settings) }
         ensures journal { IfOk result (λ desk. desk.channel.journal ≡ []) }
         ensures fault { MatchResult result (λ _. IsAllowed settings) (IsRefusal settings) }
     {
-        let channel = Channel::new(alloc, settings)?;
+        let channel = ChannelWith::new(alloc, settings)?;
         let Ok(publisher) = Publisher::new(alloc, &channel) else {
             return Err(SettingsFault::NoMemory);
         };
-        Ok(Desk { channel, publisher })
+        Ok(DeskOf { channel, publisher })
     }
 
     /// The channel.
-    pub fn channel(&self) -> &Channel
+    pub fn channel(&self) -> &ChannelWith<J>
         ensures { result.now ≡ self.now.channel }
     {
         &self.channel
@@ -126,7 +132,7 @@ impl Desk {
         ensures unchanged { self.new ≡ self.old }
     {
         // It ensures that the settings are allowed and the journal is lawful.
-        let _ = self.channel.report();
+        let _ = self.channel.settings();
         self.publisher.watcher()
     }
 
@@ -142,10 +148,10 @@ impl Desk {
     }
 
     /// The channel, out of the desk.
-    pub(crate) fn into_channel(self) -> Channel
+    pub(crate) fn into_channel(self) -> ChannelWith<J>
         ensures { result ≡ self.channel }
     {
-        let Desk {
+        let DeskOf {
             channel,
             publisher: _,
         } = self;

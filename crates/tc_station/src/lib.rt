@@ -17,7 +17,7 @@ mod operator;
 mod station;
 mod work;
 
-pub use desk::Desk;
+pub use desk::{Desk, DeskOf, FlightDesk};
 pub use faults::{
     BringFault, CloseFault, LocateFault, OperatorsFault, ReleaseRefused, StationFault, TakeRefused,
     TakeUnitRefused, WatcherFault, WorkFault,
