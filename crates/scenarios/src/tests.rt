@@ -1,3 +1,4 @@
+mod alone;
 mod gate;
 mod longest;
 mod replay;

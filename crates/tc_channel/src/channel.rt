@@ -163,7 +163,13 @@ impl<J: Journal> ChannelWith<J> {
         ensures refused { OnErr result (self.new ≡ self.old) }
     {
         let event = LentEvent::Take(apid);
-        let packet = take_oldest(self.alloc, &mut self.queues, &mut self.journal, apid, &event)?;
+        let packet = take_oldest(
+            self.alloc,
+            &mut self.queues,
+            &mut self.journal,
+            apid,
+            &event,
+        )?;
         Ok(packet.into_vec())
     }
 

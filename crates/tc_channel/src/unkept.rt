@@ -23,7 +23,7 @@ impl Model for EventsSeen {
 
 impl EventsSeen {
     /// The list of no event.
-    pub fn new() -> EventsSeen
+    pub(crate) fn new() -> EventsSeen
         ensures { result.events ≡ [] }
     {
         EventsSeen {}
@@ -31,7 +31,7 @@ impl EventsSeen {
 
     /// The same events once more.
     #[inline(always)]
-    pub fn again(&self) -> EventsSeen
+    pub(crate) fn again(&self) -> EventsSeen
         ensures { result.events ≡ self.now.events }
     {
         EventsSeen {}
@@ -39,7 +39,7 @@ impl EventsSeen {
 
     /// The events of a journal that is kept in memory.
     #[inline(always)]
-    pub fn of(_kept: &Kept) -> EventsSeen
+    pub(crate) fn of(_kept: &Kept) -> EventsSeen
         ensures { result.events ≡ _kept.now.events.items }
     {
         EventsSeen {}
@@ -47,10 +47,9 @@ impl EventsSeen {
 
     /// One event more. It does nothing at run time.
     #[inline(always)]
-    pub fn note(&mut self, _event: &LentEvent<'_>)
+    pub(crate) fn note(&mut self, _event: &LentEvent<'_>)
         ensures { self.new.events ≡ self.old.events ++ event_of _event.now ∷ [] }
-    {
-    }
+    {}
 }
 
 /// A journal that isn't kept in memory, but for the number of its events.

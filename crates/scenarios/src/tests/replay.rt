@@ -2,6 +2,7 @@
 
 ghost use Rattle.std.specs.Prelude.{◌≡◌};
 
+use super::alone::Alone;
 use super::*;
 use std::process::Abort;
 use tc_channel::{
@@ -143,17 +144,17 @@ impl Crew {
 fn bring_to_both(
     rt: &(impl Wait + Abort),
     crew: &mut Crew,
-    alone: &mut Channel,
+    alone: &mut Alone,
     octets: &[u8],
 ) -> Result<FrameReply, FrameFault> {
     let brought = crew.bring(rt, octets);
     match read_frame(octets) {
         Ok(frame) => {
-            let reply = alone.frame(&frame).expect(rt, "an answer");
-            let vcid = alone.settings().vcid;
+            let reply = alone.frame(rt, &frame);
+            let vcid = alone.kept.settings().vcid;
             let word = match crew.bringing {
                 Bringing::Plain => None,
-                Bringing::Watched => Some(alone.clcw(NO_FLAG)),
+                Bringing::Watched => Some(alone.clcw(rt)),
             };
             assert_eq!(rt; brought, Ok((Brought { vcid, reply }, word)));
             Ok(reply)
@@ -177,10 +178,10 @@ fn release_refused(fault: ReleaseFault) -> ReleaseRefused {
 fn release_both(
     rt: &(impl Wait + Abort),
     crew: &mut Crew,
-    alone: &mut Channel,
+    alone: &mut Alone,
 ) -> Result<Delivery, ReleaseFault> {
-    let vcid = alone.settings().vcid;
-    let delivery = alone.release();
+    let vcid = alone.kept.settings().vcid;
+    let delivery = alone.release(rt);
     assert_eq!(rt; crew.release(rt, vcid), delivery.map_err(release_refused));
     delivery
 }
@@ -205,11 +206,11 @@ fn take_unit_refused(fault: TakeUnitFault) -> TakeUnitRefused {
 fn take_from_both(
     rt: &(impl Wait + Abort),
     crew: &mut Crew,
-    alone: &mut Channel,
+    alone: &mut Alone,
     apid: u16,
 ) -> Result<Vec<u8>, TakeFault> {
-    let vcid = alone.settings().vcid;
-    let packet = alone.take(apid);
+    let vcid = alone.kept.settings().vcid;
+    let packet = alone.take(rt, apid);
     let taken = crew.take(rt, vcid, apid);
     let alike = taken.as_deref().ok() == packet.as_deref().ok();
     assert!(rt; alike, "the packets of channel {vcid} differ");
@@ -222,11 +223,11 @@ fn take_from_both(
 fn take_unit_from_both(
     rt: &(impl Wait + Abort),
     crew: &mut Crew,
-    alone: &mut Channel,
+    alone: &mut Alone,
     map: u8,
 ) -> Result<Vec<u8>, TakeUnitFault> {
-    let vcid = alone.settings().vcid;
-    let unit = alone.take_unit(map);
+    let vcid = alone.kept.settings().vcid;
+    let unit = alone.take_unit(rt, map);
     let taken = crew.take_unit(rt, vcid, map);
     let alike = taken.as_deref().ok() == unit.as_deref().ok();
     assert!(rt; alike, "the units of channel {vcid} differ");
@@ -314,7 +315,9 @@ fn text_of_unit(
 }
 
 // A channel that left the station is as the one that stood alone. A journal may be too long to be shown.
-fn check_alike(rt: &impl Abort, closed: &Channel, alone: &Channel) {
+fn check_alike(rt: &impl Abort, closed: &Channel, alone: &Alone) {
+    alone.check(rt);
+    let alone = &alone.kept;
     assert_eq!(rt; closed.settings(), alone.settings());
     let alike = closed.journal() == alone.journal();
     assert!(rt; alike, "the journals differ");
@@ -361,8 +364,8 @@ fn for_channel_2(octets: Octets) -> Vec<u8> {
 struct Replay {
     alloc: Global,
     crew: Crew,
-    first: Channel,
-    second: Channel,
+    first: Alone,
+    second: Alone,
 }
 
 impl Replay {
@@ -387,17 +390,17 @@ impl Replay {
         Replay {
             alloc,
             crew: Crew::new(rt, alloc, bringing, one(), other()),
-            first: Channel::new(alloc, one()).expect(rt, "a channel"),
-            second: Channel::new(alloc, other()).expect(rt, "a channel"),
+            first: Alone::new(rt, alloc, one(), one()),
+            second: Alone::new(rt, alloc, other(), other()),
         }
     }
 
     // The station tells of each channel what the one that stands alone tells.
     fn check_words(&self, rt: &(impl Wait + Abort)) {
         let station = &self.crew.station;
-        let first = self.first.clcw(NO_FLAG);
+        let first = self.first.clcw(rt);
         assert_eq!(rt; status_of(station, rt, 1), Some(first));
-        let second = self.second.clcw(NO_FLAG);
+        let second = self.second.clcw(rt);
         assert_eq!(rt; status_of(station, rt, 2), Some(second));
     }
 
@@ -474,7 +477,7 @@ impl Replay {
             if let Some(event) = event.filter(|_| !expected.starts_with("refused ")) {
                 journal.push(event).expect(rt, "a journal");
             }
-            let alike = self.first.journal() == journal.as_slice();
+            let alike = self.first.kept.journal() == journal.as_slice();
             assert!(rt; alike, "{}: the journal differs after {told}", row.name);
         }
         assert_eq!(rt; answers.next(), None, "{}", row.name);

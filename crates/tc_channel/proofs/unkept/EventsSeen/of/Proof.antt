@@ -4,7 +4,6 @@ use Rattle.std.proofs.raw_atomic.Walks.{proved}
 use base.Fml.{ftrue}
 use mir.Syntax.{named}
 use mir.Val.{vstruct, vnil}
-use contract.Running.{tables}
 use types.Kit.{‵, raw, ◌⊛◌, ◌$◌, ◌∵◌, !, qed, done, move, keep, split, fjoin, suffices}
 use types.Run.{enter, no_more, returns}
 use types.Part.{agg}
