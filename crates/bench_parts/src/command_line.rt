@@ -2,6 +2,15 @@
 
 ghost use Rattle.std.specs.Prelude.{◌≡◌, ◌<◌, length};
 
+/// What becomes of a channel's journal.
+#[derive(Clone, Copy, Debug, PartialEq, Eq)]
+pub enum Form {
+    /// It is kept in memory.
+    Kept,
+    /// It takes no memory.
+    Flight,
+}
+
 /// What a command line asks for.
 #[derive(Clone, Copy, Debug, PartialEq, Eq)]
 pub enum Action {
@@ -11,18 +20,31 @@ pub enum Action {
     Threads,
     /// Print what a read of a status costs.
     Status,
+    /// Make so many rounds on a channel of this form, and print what they add up to.
+    Rounds(Form, u32),
 }
 
 /// What the words ask for, the program's name first.
 pub fn judge(words: &[String]) -> Option<Action>
     ensures alone { length words.now < 2 → result ≡ Some Action.Scores }
-    ensures many { 2 < length words.now → result ≡ None }
+    ensures many { 4 < length words.now → result ≡ None }
 {
     match words {
         [] | [_] => Some(Action::Scores),
         [_, word] => named(word.as_str()),
+        [_, word, form, count] => rounds(word.as_str(), form.as_str(), count.as_str()),
         _ => None,
     }
+}
+
+// So many rounds on a channel of the form that a word names.
+fn rounds(word: &str, form: &str, count: &str) -> Option<Action> {
+    let form = match (word, form) {
+        ("rounds", "kept") => Form::Kept,
+        ("rounds", "flight") => Form::Flight,
+        _ => return None,
+    };
+    Some(Action::Rounds(form, count.parse().ok()?))
 }
 
 // The one that a word names.
