@@ -271,6 +271,17 @@ impl Farm {
         }
     }
 
+    /// Goes on from six components that a caller kept, with the window that they were kept with.
+    ///
+    /// The FARM-B counter is below 4, as [`Farm::report`] gives it; it allocates nothing.
+    pub fn resumed(window: Window, report: Report) -> Farm
+        requires farm_b { report.farm_b < 4 }
+        ensures width { result.width ≡ window }
+        ensures report { result.report ≡ report }
+    {
+        Farm { window, report }
+    }
+
     /// The six components. A caller of [`Farm::step`] reads here whether the state is S2.
     pub fn report(&self) -> Report
         ensures report { result ≡ self.now.report }

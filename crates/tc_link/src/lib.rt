@@ -24,4 +24,4 @@ pub use laws::{
     some_of_the_first_is_some_number, v_r_changes_by_acceptance_and_set_v_r_alone,
 };
 pub use window::{Place, Window};
-pub use writing::{WriteFault, write_frame};
+pub use writing::{WriteFault, write_frame, written_header};

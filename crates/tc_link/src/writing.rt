@@ -1,6 +1,6 @@
 //! Writing transfer frames.
 
-ghost use Rattle.std.specs.Prelude.{◌≡◌, ◌<◌, ◌≤◌, None, length, unwrap_or, IfOk, IfErr, OnOk};
+ghost use Rattle.std.specs.Prelude.{◌≡◌, ◌<◌, ◌≤◌, ◌++◌, None, Some, MatchResult, length, unwrap_or, IfOk, IfErr, OnOk};
 ghost use Rattle.tc_link.specs.Frame.{IsFrame, IsOctets, header_of, version_of, spare_of, named_length, write_fault_of};
 
 use crate::frame::Header;
@@ -20,13 +20,14 @@ pub enum WriteFault {
     NoMemory,
 }
 
-/// Writes the frame that has this header and this data field.
+/// The five octets of the primary header with which the frame of this header and this data field begins (CCSDS 232.0-B,
+/// 4.1.2); the data field is all that follows them.
 ///
-/// All four combinations of the two flags are written. The only allocation is the frame itself.
-pub fn write_frame(alloc: Global, header: &Header, field: &[u8]) -> Result<Vec<u8>, WriteFault>
-    ensures frame { IfOk result (λ octets. IsFrame octets.items header.now field.now) }
-    ensures written { OnOk result (write_fault_of header.now field.now ≡ None) }
-    ensures refused { IfErr result (λ fault. fault ≡ unwrap_or (write_fault_of header.now field.now) WriteFault.NoMemory) }
+/// All four combinations of the two flags are written. It allocates nothing, and never answers NoMemory.
+pub fn written_header(header: &Header, field: &[u8]) -> Result<[u8; 5], WriteFault>
+    ensures frame { IfOk result (λ front. IsFrame (front ++ field.now) header.now field.now) }
+    ensures five { IfOk result (λ front. length front ≡ 5) }
+    ensures fault { MatchResult result (λ _. write_fault_of header.now field.now ≡ None) (λ fault. write_fault_of header.now field.now ≡ Some fault) }
 {
     if header.scid > 1023 || header.vcid > 63 {
         return Err(WriteFault::BadField);
@@ -37,13 +38,22 @@ pub fn write_frame(alloc: Global, header: &Header, field: &[u8]) -> Result<Vec<u
     if field.len() > 1019 {
         return Err(WriteFault::TooLong);
     }
-    let total = field.len() as u16 + 5;
-    let Ok(mut octets) = Vec::with_capacity(alloc, total as usize) else {
+    Ok(primary_header(header, field.len() as u16 + 5))
+}
+
+/// Writes the frame that has this header and this data field.
+///
+/// All four combinations of the two flags are written. The only allocation is the frame itself.
+pub fn write_frame(alloc: Global, header: &Header, field: &[u8]) -> Result<Vec<u8>, WriteFault>
+    ensures frame { IfOk result (λ octets. IsFrame octets.items header.now field.now) }
+    ensures written { OnOk result (write_fault_of header.now field.now ≡ None) }
+    ensures refused { IfErr result (λ fault. fault ≡ unwrap_or (write_fault_of header.now field.now) WriteFault.NoMemory) }
+{
+    let front = written_header(header, field)?;
+    let Ok(mut octets) = Vec::with_capacity(alloc, field.len() + 5) else {
         return Err(WriteFault::NoMemory);
     };
-    octets
-        .extend_from_slice(&primary_header(header, total))
-        .unwrap();
+    octets.extend_from_slice(&front).unwrap();
     octets.extend_from_slice(field).unwrap();
     Ok(octets)
 }
