@@ -3,8 +3,8 @@
 use std::alloc::Global;
 use std::process::Abort;
 use tc_link::{
-    Act, Arrival, ClcwFields, Command, Farm, FrameFault, Header, Kind, Link, State, Window,
-    WriteFault, clcw_word, kind, read_clcw, read_frame, write_frame,
+    Act, Arrival, ClcwFields, Command, Farm, FrameFault, Header, Kind, Link, Report, State, Window,
+    WriteFault, clcw_word, kind, read_clcw, read_frame, write_frame, written_header,
 };
 
 // The AD frame of 13 octets with this N(S), for spacecraft 42 and virtual channel 1.
@@ -67,6 +67,22 @@ fn a_full_buffer_then_a_lockout_then_an_unlock(rt: HostRuntime) {
         discarded(7)
     );
     assert_eq!(rt; word(&farm), 0x01040201);
+}
+
+#[test]
+fn farm_1_goes_on_from_its_components(rt: HostRuntime) {
+    let report = Report {
+        state: State::S2,
+        vr: 1,
+        lockout: false,
+        wait: true,
+        retransmit: true,
+        farm_b: 3,
+    };
+    let mut farm = Farm::resumed(Window::new(10).expect(&rt, "a width"), report);
+    assert_eq!(rt; word(&farm), 0x01041e01);
+    assert_eq!(rt; farm.step(Arrival::Release), discarded(10));
+    assert_eq!(rt; word(&farm), 0x01040e01);
 }
 
 #[test]
@@ -150,6 +166,16 @@ fn write_refusal(alloc: Global, header: &Header, field: &[u8]) -> Option<WriteFa
 fn a_frame_is_written(rt: HostRuntime) {
     let octets = write_frame(rt.alloc(), &HEADER, &FIELD).expect(&rt, "an answer");
     assert_eq!(rt; octets.as_slice(), ad_frame(0).as_slice());
+}
+
+#[test]
+fn a_header_is_written_without_its_data_field(rt: HostRuntime) {
+    let front = written_header(&HEADER, &FIELD).expect(&rt, "a header");
+    assert_eq!(rt; front.as_slice(), [0x00, 0x2a, 0x04, 0x0c, 0x00].as_slice());
+    assert_eq!(rt;
+        written_header(&HEADER, &[]).err(),
+        Some(WriteFault::EmptyData)
+    );
 }
 
 #[test]
