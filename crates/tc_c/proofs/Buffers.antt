@@ -1,0 +1,12 @@
+-- Two runs of octets in the place of two others leave what follows them.
+use Rattle.std.proofs.Common.{◌≡◌, ◌+◌, ℕ, List, ◌++◌, length, drop, sym}
+use Rattle.std.proofs.Math.Seq.{drop-append-add, drop-append_seam}
+
+after-two : (xs ys rest : List ℕ) → drop (length xs + length ys) (xs ++ (ys ++ rest)) ≡ rest
+after-two xs ys rest = rw (drop-append-add xs (ys ++ rest) (length ys)) (drop-append_seam ys rest)
+
+pub kept : (first second one other rest : List ℕ) → length one ≡ length first → length other ≡ length second
+    → drop (length first + length second) (first ++ (second ++ rest)) ≡ drop (length first + length second) (one ++ (other ++ rest))
+kept first second one other rest e f =
+    let at : drop (length first + length second) (one ++ (other ++ rest)) ≡ rest = rw (sym e) (rw (sym f) (after-two one other rest)) in
+    rw at (after-two first second rest)

@@ -1,0 +1,2 @@
+mod Buffers
+mod Records

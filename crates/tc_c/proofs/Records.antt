@@ -1,0 +1,32 @@
+-- What a record keeps is a FARM-1.
+use Rattle.std.proofs.Common.{rules, arith, ◌≡◌, ℕ, ◌<◌, Bool, true, false, Result, Ok, Err, refl, if◌then◌else◌}
+use Rattle.std.proofs.lemmas.Grind.{common_steps}
+use Rattle.tc_link.specs.declared.farm.Report.{Report}
+use Rattle.tc_link.specs.Farm.{Machine}
+use Rattle.tc_link.specs.Window.{IsWidth}
+use Rattle.tc_c.specs.declared.status.Status.{Status}
+use Rattle.tc_c.specs.declared.status.Status.TheVariants.{BadWidth}
+use Rattle.tc_c.specs.declared.farm.FarmRecord.{FarmRecord}
+use Rattle.tc_c.specs.Farm.{IsFarm, is_width, with_ok, report_of, farm_of, agrees}
+
+pub few : (kept : FarmRecord) (report : Report) → report_of kept ≡ Ok report → report.farm_b < 4
+few kept report e = search (rules, arith) steps 1000000
+
+pub agreed : (kept : FarmRecord) (report : Report) → report_of kept ≡ Ok report → agrees report.state report.lockout report.wait report.retransmit ≡ true
+agreed kept report e = grind (arith, common_steps) steps 1000000
+
+-- a width and components, each of which can be wanting
+parted : (w : Bool) (r : Result Report Status) (width : ℕ) (farm : Machine)
+    → (if w then with_ok r (λ report. Ok (record { width = width; report = report })) else Err BadWidth) ≡ Ok farm
+    → (w ≡ true) × (r ≡ Ok farm.report) × (farm.width ≡ width)
+parted false r width farm e = absurd cc
+parted true (Err fault) width farm e = absurd cc
+parted true (Ok report) width farm e = (refl, cc, cc)
+
+wide : (width : ℕ) → is_width width ≡ true → IsWidth width
+wide width e = grind (arith, common_steps) steps 1000000
+
+pub read : (kept : FarmRecord) (farm : Machine) → farm_of kept ≡ Ok farm → IsFarm farm
+read kept farm e =
+    let parts = parted (is_width kept.width) (report_of kept) kept.width farm e in
+    record { width = rw parts.2 (wide kept.width parts.0); farm_b = few kept farm.report parts.1; flags = agreed kept farm.report parts.1 }

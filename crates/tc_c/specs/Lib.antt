@@ -1,0 +1,5 @@
+pub mod Status
+pub mod Farm
+pub mod Clcw
+pub mod Frame
+pub mod Packet

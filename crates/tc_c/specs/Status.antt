@@ -1,0 +1,101 @@
+-- What a call came to, as a number and as a text.
+use Rattle.std.specs.Prelude.{ℕ, ◌==◌, List, Option, Some, None, codes, if◌then◌else◌}
+use Rattle.tc_link.specs.declared.frame.FrameFault.{FrameFault}
+use Rattle.tc_link.specs.declared.frame.FrameFault.TheVariants as frames
+use Rattle.tc_link.specs.declared.writing.WriteFault.{WriteFault}
+use Rattle.tc_link.specs.declared.writing.WriteFault.TheVariants as writing
+use Rattle.tc_c.specs.declared.status.Status.{Status}
+use Rattle.tc_c.specs.declared.status.Status.TheVariants as st
+
+-- 0 is done; from 1 on no frame stands there, from 10 on none is written, from 20 on FARM-1 refuses, from 30 on CLCWs, from 40
+-- on packets, and from 50 on buffers and pointers
+abbrev pub code_of : Status → ℕ
+code_of st.Done = 0
+code_of st.Short = 1
+code_of st.Version = 2
+code_of st.Spare = 3
+code_of st.LengthSmall = 4
+code_of st.Truncated = 5
+code_of st.BadField = 10
+code_of st.EmptyData = 11
+code_of st.TooLong = 12
+code_of st.NoMemory = 13
+code_of st.BadWidth = 20
+code_of st.BadState = 21
+code_of st.BadFarmB = 22
+code_of st.BadFlag = 23
+code_of st.FlagsDisagree = 24
+code_of st.BadArrival = 25
+code_of st.NoEntry = 26
+code_of st.BadVcid = 30
+code_of st.NoClcw = 31
+code_of st.NoPacket = 40
+code_of st.NoRoom = 50
+code_of st.Null = 51
+code_of st.NoStatus = 52
+
+abbrev pub status_of : ℕ → Option Status
+status_of number =
+    if number == 0 then Some st.Done
+    else if number == 1 then Some st.Short
+    else if number == 2 then Some st.Version
+    else if number == 3 then Some st.Spare
+    else if number == 4 then Some st.LengthSmall
+    else if number == 5 then Some st.Truncated
+    else if number == 10 then Some st.BadField
+    else if number == 11 then Some st.EmptyData
+    else if number == 12 then Some st.TooLong
+    else if number == 13 then Some st.NoMemory
+    else if number == 20 then Some st.BadWidth
+    else if number == 21 then Some st.BadState
+    else if number == 22 then Some st.BadFarmB
+    else if number == 23 then Some st.BadFlag
+    else if number == 24 then Some st.FlagsDisagree
+    else if number == 25 then Some st.BadArrival
+    else if number == 26 then Some st.NoEntry
+    else if number == 30 then Some st.BadVcid
+    else if number == 31 then Some st.NoClcw
+    else if number == 40 then Some st.NoPacket
+    else if number == 50 then Some st.NoRoom
+    else if number == 51 then Some st.Null
+    else if number == 52 then Some st.NoStatus
+    else None
+
+abbrev pub text_of : Status → List ℕ
+text_of st.Done = codes "done"
+text_of st.Short = codes "fewer than 5 octets"
+text_of st.Version = codes "the version isn't 0"
+text_of st.Spare = codes "the spare bits aren't 0"
+text_of st.LengthSmall = codes "the frame length names fewer than 6 octets"
+text_of st.Truncated = codes "the frame length names more octets than there are"
+text_of st.BadField = codes "a field of the header is over its bound"
+text_of st.EmptyData = codes "the data field is empty"
+text_of st.TooLong = codes "the data field has more than 1,019 octets"
+text_of st.NoMemory = codes "no memory"
+text_of st.BadWidth = codes "the width of the window isn't even and 2 to 254"
+text_of st.BadState = codes "the state isn't 1 to 3"
+text_of st.BadFarmB = codes "the FARM-B counter is over 3"
+text_of st.BadFlag = codes "a flag is neither 0 nor 1"
+text_of st.FlagsDisagree = codes "the flags don't agree with the state"
+text_of st.BadArrival = codes "the arrival isn't 1 to 6"
+text_of st.NoEntry = codes "in S2 no expected AD frame finds room"
+text_of st.BadVcid = codes "the virtual channel id is over 63"
+text_of st.NoClcw = codes "the word is no CLCW of COP-1"
+text_of st.NoPacket = codes "no whole packet stands there"
+text_of st.NoRoom = codes "the buffer is too short"
+text_of st.Null = codes "a pointer is null"
+text_of st.NoStatus = codes "no such status"
+
+-- the faults of frames, by their names
+abbrev pub frame_status : FrameFault → Status
+frame_status frames.Short = st.Short
+frame_status frames.Version = st.Version
+frame_status frames.Spare = st.Spare
+frame_status frames.LengthSmall = st.LengthSmall
+frame_status frames.Truncated = st.Truncated
+
+abbrev pub write_status : WriteFault → Status
+write_status writing.BadField = st.BadField
+write_status writing.EmptyData = st.EmptyData
+write_status writing.TooLong = st.TooLong
+write_status writing.NoMemory = st.NoMemory

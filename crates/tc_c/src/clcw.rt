@@ -1,0 +1,111 @@
+//! CLCWs, made of a record of FARM-1 and read into one of their own.
+
+ghost use Rattle.std.specs.Prelude.{◌≡◌, ◌↔◌, IfOk, IfErr};
+ghost use Rattle.tc_link.specs.Clcw.{IsClcw, fields_of};
+ghost use Rattle.tc_c.specs.Status.{code_of};
+ghost use Rattle.tc_c.specs.Clcw.{clcw_of, fields_record, no_clcw};
+
+use crate::farm::{FarmRecord, farm, flag};
+use crate::status::{Status, code};
+use tc_link::{Link, clcw_word, read_clcw};
+
+/// A status with the word that it allows.
+#[repr(C)]
+#[derive(Clone, Copy)]
+pub struct ClcwRecord {
+    pub status: u32,
+    /// The 32 bits of the CLCW, or 0 where the call is refused.
+    pub word: u32,
+}
+
+/// What a CLCW says (CCSDS 232.0-B, 4.2), apart from the fields that are fixed. Flags are 0 or 1.
+#[repr(C)]
+#[derive(Clone, Copy)]
+pub struct ClcwFieldsRecord {
+    pub status: u32,
+    /// The status field of the CLCW, 0 to 7, whose meaning is left to the mission.
+    pub status_field: u8,
+    /// The virtual channel id, 0 to 63.
+    pub vcid: u8,
+    pub no_rf: u8,
+    pub no_bit_lock: u8,
+    pub lockout: u8,
+    pub wait: u8,
+    pub retransmit: u8,
+    /// The FARM-B counter, 0 to 3.
+    pub farm_b: u8,
+    /// The report value V(R).
+    pub vr: u8,
+}
+
+/// The CLCW that reports this FARM-1 for a virtual channel (CCSDS 232.0-B, 4.2).
+///
+/// Its status field is 0, and COP-1 is in effect. The channel's id is 0 to 63, the flags of the link are 0 or 1. A record that
+/// no FARM-1 has is refused as by `tcrx_farm_step`, another id by BadVcid, another flag by BadFlag; the word then is 0.
+#[unsafe(no_mangle)]
+pub extern "C" fn tcrx_clcw(kept: FarmRecord, vcid: u8, no_rf: u8, no_bit_lock: u8) -> ClcwRecord
+    ensures word { IfOk (clcw_of kept vcid no_rf no_bit_lock) (λ word. result ≡ record { status = code_of Status.Done; word = word }) }
+    ensures refused { IfErr (clcw_of kept vcid no_rf no_bit_lock) (λ fault. result ≡ record { status = code_of fault; word = 0 }) }
+{
+    match word(kept, vcid, no_rf, no_bit_lock) {
+        Ok(word) => ClcwRecord {
+            status: code(Status::Done),
+            word,
+        },
+        Err(fault) => ClcwRecord {
+            status: code(fault),
+            word: 0,
+        },
+    }
+}
+
+fn word(kept: FarmRecord, vcid: u8, no_rf: u8, no_bit_lock: u8) -> Result<u32, Status>
+    ensures { result ≡ clcw_of kept vcid no_rf no_bit_lock }
+{
+    let report = farm(kept)?.report();
+    if vcid > 63 {
+        return Err(Status::BadVcid);
+    }
+    let link = Link {
+        no_rf: flag(no_rf)?,
+        no_bit_lock: flag(no_bit_lock)?,
+    };
+    Ok(clcw_word(&report, vcid, link))
+}
+
+/// Reads a word, if it is a CLCW of COP-1: type and version 0, COP 1, and both spares 0.
+///
+/// Another word is refused by NoClcw, with each other number of the answer 0.
+#[unsafe(no_mangle)]
+pub extern "C" fn tcrx_read_clcw(word: u32) -> ClcwFieldsRecord
+    ensures status { (result.status ≡ code_of Status.Done) ↔ IsClcw word }
+    ensures fields { IsClcw word → result ≡ fields_record (fields_of word) }
+    ensures refused { (IsClcw word → ⊥) → result ≡ no_clcw }
+{
+    match read_clcw(word) {
+        Some(fields) => ClcwFieldsRecord {
+            status: code(Status::Done),
+            status_field: fields.status,
+            vcid: fields.vcid,
+            no_rf: u8::from(fields.link.no_rf),
+            no_bit_lock: u8::from(fields.link.no_bit_lock),
+            lockout: u8::from(fields.lockout),
+            wait: u8::from(fields.wait),
+            retransmit: u8::from(fields.retransmit),
+            farm_b: fields.farm_b,
+            vr: fields.vr,
+        },
+        None => ClcwFieldsRecord {
+            status: code(Status::NoClcw),
+            status_field: 0,
+            vcid: 0,
+            no_rf: 0,
+            no_bit_lock: 0,
+            lockout: 0,
+            wait: 0,
+            retransmit: 0,
+            farm_b: 0,
+            vr: 0,
+        },
+    }
+}

@@ -1,0 +1,41 @@
+//! Laws over the definitions of these calls.
+
+ghost use Rattle.std.specs.Prelude.{◌≡◌, ◌<◌, Bool, Ok, Some, IsSome, length};
+ghost use Rattle.tc_link.specs.Bits.{bit};
+ghost use Rattle.tc_link.specs.declared.command.Kind.{Kind};
+ghost use Rattle.tc_link.specs.declared.farm.Arrival.{Arrival};
+ghost use Rattle.tc_link.specs.declared.farm.Arrival.TheVariants.{Frame};
+ghost use Rattle.tc_link.specs.Farm.{Machine, row_of, entry};
+ghost use Rattle.tc_c.specs.declared.farm.FarmRecord.{FarmRecord};
+ghost use Rattle.tc_c.specs.declared.status.Status.{Status};
+ghost use Rattle.tc_c.specs.Status.{code_of, status_of, text_of};
+ghost use Rattle.tc_c.specs.Farm.{IsFarm, record_of, farm_of, arrival_of, left};
+ghost use Rattle.tc_c.specs.Frame.{kind_number, kind_value};
+
+/// Each FARM-1 is read from its record, and a record from which one is read is that one's.
+pub fn a_record_reads_back()
+    ensures back { (farm : Machine) → IsFarm farm → farm_of (record_of farm) ≡ Ok farm }
+    ensures kept { (kept : FarmRecord) (farm : Machine) → farm_of kept ≡ Ok farm → record_of farm ≡ kept }
+    ensures farm { (kept : FarmRecord) (farm : Machine) → farm_of kept ≡ Ok farm → IsFarm farm }
+{}
+
+/// A step that has an entry leaves a FARM-1 whose record the next call reads.
+pub fn a_step_leaves_a_farm()
+    ensures { (farm : Machine) (arrival : Arrival) → IsFarm farm → IsSome (entry (row_of farm.width farm.report.vr arrival) farm.report)
+        → IsFarm (left farm arrival) }
+{}
+
+/// The number and the value by which a kind is told are those by which it comes to FARM-1.
+pub fn each_kind_comes_to_farm_1()
+    ensures { (kind : Kind) (room : Bool) → arrival_of (kind_number kind) (kind_value kind) (bit room) ≡ Ok (Frame kind room) }
+{}
+
+/// Each status has a number of its own.
+pub fn each_status_has_a_number()
+    ensures { (st : Status) → status_of (code_of st) ≡ Some st }
+{}
+
+/// Each text fits 64 octets with the octet 0 after it.
+pub fn each_text_fits_64_octets()
+    ensures { (st : Status) → length (text_of st) < 64 }
+{}
