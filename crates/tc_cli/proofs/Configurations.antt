@@ -1,6 +1,6 @@
 -- Looking for a channel of a configuration, and setting one up besides; and a configuration has none of the faults that settings of a
 -- station may have, but that it is empty.
-use Rattle.std.proofs.Common.{◌≡◌, ◌≢◌, ℕ, ◌<◌, ◌≤◌, true, false, eqb, Option, Some, None, List, [], ◌∷◌, ◌++◌, length, map, get_or, sym, ap, ◌∙◌, subst, arith}
+use Rattle.std.proofs.Common.{◌≡◌, ◌≢◌, ℕ, ◌<◌, ◌≤◌, Bool, true, false, eqb, Option, Some, None, List, [], ◌∷◌, ◌++◌, length, map, get_or, sym, ap, ◌∙◌, subst, arith}
 use Rattle.std.proofs.lemmas.Bool.{eqb-true}
 use Rattle.std.proofs.lemmas.Bool.Decides.{Decides-eqb}
 use Rattle.std.proofs.lemmas.List.{get_or-map, get_or-take, get_or_default, length-map, length-take}
@@ -10,6 +10,7 @@ use Rattle.std.proofs.lemmas.List.Quantifiers.{all_pairs_push}
 use Rattle.std.proofs.lemmas.Map.Made.{IsDistinct-from_AllPairs}
 use Rattle.std.proofs.lemmas.Map.Steps.{length-le_from_distinct_below}
 use Rattle.std.proofs.lemmas.Option.{get_or_from_slice_get, slice_get_within}
+use Rattle.std.specs.Bool.{if◌then◌else◌}
 use Rattle.std.specs.List.{list_any}
 use Rattle.std.specs.Prelude.{All, AllPairs, is_some, MatchOption}
 use Rattle.tc_channel.specs.declared.settings.Settings.{Settings}
@@ -76,3 +77,9 @@ one-more list s c new allowed = record {
       (λ k d l. λ same. new (k, get_or list k d, l, get_or_default list k (get_or list k d) d l, same));
   allowed = All-push IsAllowed list s c.allowed allowed;
 }
+
+-- as before where the memory for one channel more is refused
+pub one-more-if : (more : Bool) (list : List Settings) (s : Settings) → IsConfiguration list → ¬ IsThere list s.vcid → IsAllowed s
+    → IsConfiguration (if more then list ++ s ∷ [] else list)
+one-more-if true list s c new allowed = one-more list s c new allowed
+one-more-if false list s c new allowed = c

@@ -1,13 +1,14 @@
 //! The channels that a script sets up.
 
-ghost use Rattle.std.specs.Prelude.{◌≡◌, ◌≢◌, ◌≤◌, ◌⊎◌, [], length, map, IfOk, IfErr, OnOk, MatchOption, MatchResult};
+ghost use Rattle.std.specs.Prelude.{◌≡◌, ◌≢◌, ◌≤◌, ◌⊎◌, [], length, map, IfOk, IfErr, OnOk, OnErr, MatchOption, MatchResult};
 ghost use Rattle.tc_channel.specs.Settings.{IsAllowed};
+ghost use Rattle.tc_channel.specs.declared.settings.Settings.{Settings};
 ghost use Rattle.tc_cli.specs.Configuration.{AddsChannel, AddsToChannel, IsThere, IsAt, with_addition};
 ghost use Rattle.tc_cli.specs.Parting.{empty_list};
 ghost use Rattle.tc_cli.specs.Phase.{IsChannelRefused, IsAdditionRefused, IsSettingsReason};
 ghost use Rattle.tc_station.specs.StationSettings.{vcids_of};
 
-use crate::growing::append;
+use crate::growing::{append, let_go_of_last};
 use crate::instruction::Addition;
 use std::alloc::Global;
 use std::marker::Model;
@@ -44,40 +45,38 @@ impl Configuration {
         }
     }
 
-    /// With the channel of a channel line besides.
-    pub(crate) fn with_channel(self, settings: Settings) -> Result<Configuration, Reason>
-        ensures done { IfOk result (AddsChannel self settings) }
-        ensures reason { IfErr result (λ reason. (reason ≡ Reason.NoMemory) ⊎ IsChannelRefused self settings reason) }
+    /// Sets up the channel of a channel line besides.
+    pub(crate) fn add_channel(&mut self, settings: Settings) -> Result<(), Reason>
+        ensures done { OnOk result (AddsChannel self.old settings self.new) }
+        ensures reason { IfErr result (λ reason. (reason ≡ Reason.NoMemory) ⊎ IsChannelRefused self.old settings reason) }
+        ensures refused { OnErr result (self.new ≡ self.old) }
     {
-        let Configuration { mut channels } = self;
-        if place_of(&channels, settings.vcid).is_some() {
+        if place_of(&self.channels, settings.vcid).is_some() {
             return Err(Reason::DoubleChannel);
         }
         check(&settings)?;
-        match channels.push(settings) {
-            Ok(()) => Ok(Configuration { channels }),
+        match self.channels.push(settings) {
+            Ok(()) => Ok(()),
             Err(_) => Err(Reason::NoMemory),
         }
     }
 
-    /// With the queue of a queue line or the chosen MAP of a map line besides.
-    pub(crate) fn with_addition(
-        self,
+    /// Gives a channel the queue of a queue line or the chosen MAP of a map line besides.
+    pub(crate) fn add_to_channel(
+        &mut self,
         alloc: Global,
         vcid: u8,
         addition: Addition,
-    ) -> Result<Configuration, Reason>
-        ensures done { IfOk result (AddsToChannel self vcid addition) }
-        ensures reason { IfErr result (λ reason. (reason ≡ Reason.NoMemory) ⊎ IsAdditionRefused self vcid addition reason) }
+    ) -> Result<(), Reason>
+        ensures done { OnOk result (AddsToChannel self.old vcid addition self.new) }
+        ensures reason { IfErr result (λ reason. (reason ≡ Reason.NoMemory) ⊎ IsAdditionRefused self.old vcid addition reason) }
+        ensures refused { OnErr result (self.new ≡ self.old) }
     {
-        let Configuration { mut channels } = self;
-        let Some(place) = place_of(&channels, vcid) else {
+        let Some(place) = place_of(&self.channels, vcid) else {
             return Err(Reason::UnknownChannel);
         };
-        let settings = &mut channels[place];
-        add(alloc, settings, addition)?;
-        check(settings)?;
-        Ok(Configuration { channels })
+        add_checked(alloc, &mut self.channels[place], addition)?;
+        Ok(())
     }
 
     /// The ids of the channels, in their order.
@@ -155,14 +154,40 @@ fn check(settings: &Settings) -> Result<(), Reason>
     Ok(())
 }
 
+// One queue or one chosen MAP more, where a channel can have it.
+fn add_checked(alloc: Global, settings: &mut Settings, addition: Addition) -> Result<(), Reason>
+    ensures done { OnOk result (settings.new ≡ with_addition settings.old addition) }
+    ensures allowed { OnOk result (IsAllowed settings.new) }
+    ensures vcid { settings.new.vcid ≡ settings.old.vcid }
+    ensures reason { IfErr result (λ reason. (reason ≡ Reason.NoMemory) ⊎ IsSettingsReason (with_addition settings.old addition) reason) }
+    ensures refused { OnErr result (settings.new ≡ settings.old) }
+{
+    add(alloc, settings, addition)?;
+    let checked = check(settings);
+    if checked.is_err() {
+        take_back(alloc, settings, addition);
+    }
+    checked
+}
+
 // One queue or one chosen MAP more.
 fn add(alloc: Global, settings: &mut Settings, addition: Addition) -> Result<(), Reason>
     ensures done { OnOk result (settings.new ≡ with_addition settings.old addition) }
-    ensures vcid { settings.new.vcid ≡ settings.old.vcid }
     ensures reason { IfErr result (λ reason. reason ≡ Reason.NoMemory) }
+    ensures refused { OnErr result (settings.new ≡ settings.old) }
 {
     match addition {
         Addition::Queue(queue) => append(alloc, &mut settings.queues, queue),
         Addition::Map(map) => append(alloc, &mut settings.maps, map),
+    }
+}
+
+// Without the queue or the chosen MAP that was added last.
+fn take_back(alloc: Global, settings: &mut Settings, addition: Addition)
+    ensures { (before : Settings) → settings.old ≡ with_addition before addition → settings.new ≡ before }
+{
+    match addition {
+        Addition::Queue(_) => let_go_of_last(alloc, &mut settings.queues),
+        Addition::Map(_) => let_go_of_last(alloc, &mut settings.maps),
     }
 }

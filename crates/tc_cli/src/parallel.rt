@@ -2,11 +2,11 @@
 
 ghost use Rattle.std.specs.Prelude.{◌≡◌, ◌≢◌, ◌⊎◌, ◌≤◌, [], length, IfOk, IfErr, OnOk, IfSome};
 ghost use Rattle.tc_cli.specs.Parallel.{parted_for, IsParted, Parts};
-ghost use Rattle.tc_cli.specs.Parting.{IsGiven};
+ghost use Rattle.tc_cli.specs.Parting.{IsGiven, IsFrameGiven};
 ghost use Rattle.tc_cli.specs.Phase.{Does, IsBad, Setup};
 ghost use Rattle.tc_cli.specs.Report.{AreRising};
 ghost use Rattle.tc_cli.specs.Script.{IsFault, IsGood, IsDone, IsBadLine};
-ghost use Rattle.tc_cli.specs.Stage.{phase_of};
+ghost use Rattle.tc_cli.specs.Stage.{phase_of, IsKept};
 ghost use Rattle.tc_text.specs.Reading.{limit};
 
 use crate::configuration::Configuration;
@@ -16,9 +16,10 @@ use crate::report::write_report;
 use crate::stage::Stage;
 use std::alloc::Global;
 use std::io::{Read, Write};
+use std::mem;
 use std::sync::Wait;
 use std::thread::Threads;
-use tc_channel::Channel;
+use tc_channel::{Channel, Octets};
 use tc_station::{Gate, Job, Order};
 use tc_text::{Reason, ScriptFault, next_line, parse_line, read_whole};
 
@@ -86,81 +87,131 @@ fn part_lines(alloc: Global, scid: u16, script: &[u8]) -> Result<(Plan, u32), Sc
     let mut line = 0u32;
     while let Some((octets, after)) = next_line(rest) {
         line += 1;
-        plan = match part_line(alloc, scid, plan, line, octets) {
-            Ok(next) => next,
+        match part_line(alloc, scid, &mut plan, line, octets) {
+            Ok(()) => {}
             Err(reason) => return Err(ScriptFault::Line { line, reason }),
-        };
+        }
         rest = after;
     }
     Ok((plan, line))
 }
 
-fn part_line(alloc: Global, scid: u16, plan: Plan, line: u32, octets: &[u8]) -> Result<Plan, Reason>
+fn part_line(
+    alloc: Global,
+    scid: u16,
+    plan: &mut Plan,
+    line: u32,
+    octets: &[u8],
+) -> Result<(), Reason>
     requires { scid ≤ 1023 }
-    ensures done { IfOk result (λ new. IsDone (phase_of plan) octets.now (phase_of new)) }
-    ensures reason { IfErr result (λ reason. (reason ≡ Reason.NoMemory) ⊎ IsBadLine (phase_of plan) octets.now reason) }
+    ensures done { OnOk result (IsDone (phase_of plan.old) octets.now (phase_of plan.new)) }
+    ensures reason { IfErr result (λ reason. (reason ≡ Reason.NoMemory) ⊎ IsBadLine (phase_of plan.old) octets.now reason) }
+    ensures refused { IfErr result (λ reason. IsKept reason plan.old plan.new) }
 {
     let said = parse_line(alloc, octets)?;
-    plan.with_line(alloc, scid, line, Instruction::of(alloc, said))
+    plan.part(alloc, scid, line, Instruction::of(alloc, said))
 }
 
 impl Stage<Parted> {
-    // With what a line asks for.
-    fn with_line(
-        self,
+    // Gives what a line asks for to its channel, or sets it up. A line that is refused leaves all as it is, unless
+    // memory is refused before operation.
+    fn part(
+        &mut self,
         alloc: Global,
         scid: u16,
         line: u32,
         instruction: Instruction,
-    ) -> Result<Plan, Reason>
+    ) -> Result<(), Reason>
         requires { scid ≤ 1023 }
-        ensures done { IfOk result (λ new. Does (phase_of self) instruction (phase_of new)) }
-        ensures parted { IfOk result (IsParted scid line self instruction) }
-        ensures reason { IfErr result (λ reason. (reason ≡ Reason.NoMemory) ⊎ IsBad (phase_of self) instruction reason) }
+        ensures done { OnOk result (Does (phase_of self.old) instruction (phase_of self.new)) }
+        ensures parted { OnOk result (IsParted scid line self.old instruction self.new) }
+        ensures reason { IfErr result (λ reason. (reason ≡ Reason.NoMemory) ⊎ IsBad (phase_of self.old) instruction reason) }
+        ensures refused { IfErr result (λ reason. IsKept reason self.old self.new) }
     {
         match instruction {
-            Instruction::Nothing => Ok(self),
-            Instruction::Channel(settings) => self.with_channel(settings),
-            Instruction::Add(vcid, addition) => self.with_addition(alloc, vcid, addition),
-            Instruction::Frame(octets) => {
-                let parted = self.start(alloc, scid)?;
-                Ok(Stage::Operating(parted.with_frame(alloc, line, octets)?))
-            }
-            Instruction::Release(vcid) => self.with_order(alloc, scid, vcid, line, Order::Release),
-            Instruction::Take(vcid, apid) => self.with_order(
+            Instruction::Nothing => Ok(()),
+            Instruction::Channel(settings) => self.add_channel(settings),
+            Instruction::Add(vcid, addition) => self.add_to_channel(alloc, vcid, addition),
+            Instruction::Frame(octets) => self.give_frame(alloc, scid, line, octets),
+            Instruction::Release(vcid) => self.give_order(alloc, scid, vcid, line, Order::Release),
+            Instruction::Take(vcid, apid) => self.give_order(
                 alloc,
                 scid,
                 vcid,
                 line,
                 Order::Take(apid),
             ),
-            Instruction::Unit(vcid, map) => self.with_order(
+            Instruction::Unit(vcid, map) => self.give_order(
                 alloc,
                 scid,
                 vcid,
                 line,
                 Order::TakeUnit(map),
             ),
-            Instruction::Clcw(_) => Ok(Stage::Operating(self.start(alloc, scid)?)),
+            Instruction::Clcw(_) => self.begin(alloc, scid),
         }
     }
 
-    // With the order that a line gives to a channel.
-    fn with_order(
-        self,
+    // Gives the octets of a line to the channel that they are for.
+    fn give_frame(
+        &mut self,
+        alloc: Global,
+        scid: u16,
+        line: u32,
+        octets: Octets,
+    ) -> Result<(), Reason>
+        requires { scid ≤ 1023 }
+        ensures some { OnOk result (phase_of self.old ≢ Setup []) }
+        ensures given { OnOk result (Parts scid (IsFrameGiven line octets) self.old self.new) }
+        ensures reason { IfErr result (λ reason. (reason ≡ Reason.NoMemory) ⊎ ((reason ≡ Reason.NoChannel) × (phase_of self.old ≡ Setup []))) }
+        ensures refused { IfErr result (λ reason. IsKept reason self.old self.new) }
+    {
+        self.begin(alloc, scid)?;
+        match self {
+            Stage::Operating(parted) => parted.give_frame(alloc, line, octets),
+            Stage::SettingUp(_) => unreachable!(),
+        }
+    }
+
+    // Gives the order of a line to a channel.
+    fn give_order(
+        &mut self,
         alloc: Global,
         scid: u16,
         vcid: u8,
         line: u32,
         order: Order,
-    ) -> Result<Plan, Reason>
+    ) -> Result<(), Reason>
         requires { scid ≤ 1023 }
-        ensures some { OnOk result (phase_of self ≢ Setup []) }
-        ensures given { IfOk result (Parts scid (IsGiven vcid (record { line = line; order = order })) self) }
-        ensures reason { IfErr result (λ reason. (reason ≡ Reason.NoMemory) ⊎ ((reason ≡ Reason.NoChannel) × (phase_of self ≡ Setup []))) }
+        ensures some { OnOk result (phase_of self.old ≢ Setup []) }
+        ensures given { OnOk result (Parts scid (IsGiven vcid (record { line = line; order = order })) self.old self.new) }
+        ensures reason { IfErr result (λ reason. (reason ≡ Reason.NoMemory) ⊎ ((reason ≡ Reason.NoChannel) × (phase_of self.old ≡ Setup []))) }
+        ensures refused { IfErr result (λ reason. IsKept reason self.old self.new) }
     {
-        let parted = self.start(alloc, scid)?;
-        Ok(Stage::Operating(parted.with_job(alloc, vcid, Job { line, order })?))
+        self.begin(alloc, scid)?;
+        match self {
+            Stage::Operating(parted) => parted.give(alloc, vcid, Job { line, order }),
+            Stage::SettingUp(_) => unreachable!(),
+        }
+    }
+
+    // Makes the station and its lists, where no operation came before.
+    fn begin(&mut self, alloc: Global, scid: u16) -> Result<(), Reason>
+        requires { scid ≤ 1023 }
+        ensures parted { OnOk result (self.new ≡ Stage.Operating (parted_for scid self.old)) }
+        ensures some { OnOk result (phase_of self.old ≢ Setup []) }
+        ensures reason { IfErr result (λ reason. (reason ≡ Reason.NoMemory) ⊎ ((reason ≡ Reason.NoChannel) × (phase_of self.old ≡ Setup []))) }
+        ensures refused { IfErr result (λ reason. IsKept reason self.old self.new) }
+    {
+        match self {
+            Stage::Operating(_) => Ok(()),
+            Stage::SettingUp(list) => {
+                let there = mem::replace(list, Configuration::new(alloc));
+                let parted = Parted::new(alloc, scid, there)?;
+                *self = Stage::Operating(parted);
+                Ok(())
+            }
+        }
     }
 
     // The jobs so far, of a station made by what was set up where no operation came before.

@@ -1,6 +1,6 @@
 //! Jobs, parted by the channels that they are for, and done by a worker for each channel.
 
-ghost use Rattle.std.specs.Prelude.{◌≡◌, ◌≢◌, ◌≤◌, ◌⊎◌, [], IfOk, IfErr, OnOk, MatchOption};
+ghost use Rattle.std.specs.Prelude.{◌≡◌, ◌≢◌, ◌≤◌, ◌⊎◌, [], IfOk, IfErr, OnOk, OnErr, MatchOption};
 ghost use Rattle.tc_cli.specs.Parting.{newly_parted, IsGiven, IsFrameGiven, IsListed, IsListAt, IsWorkedOut};
 ghost use Rattle.tc_cli.specs.Report.{AreRising};
 ghost use Rattle.tc_cli.specs.Script.{IsWorkFault};
@@ -51,36 +51,36 @@ impl Parted {
         Ok(Parted { station, lists })
     }
 
-    /// With the octets of a line for the channel that their frame names.
-    pub(crate) fn with_frame(
-        self,
+    /// Gives the octets of a line to the channel that their frame names.
+    pub(crate) fn give_frame(
+        &mut self,
         alloc: Global,
         line: u32,
         octets: Octets,
-    ) -> Result<Parted, Reason>
-        ensures given { IfOk result (IsFrameGiven line octets self) }
+    ) -> Result<(), Reason>
+        ensures given { OnOk result (IsFrameGiven line octets self.old self.new) }
         ensures reason { IfErr result (λ reason. reason ≡ Reason.NoMemory) }
+        ensures refused { OnErr result (self.new ≡ self.old) }
     {
         let vcid = match self.station.locate(octets.as_slice()) {
             Ok(located) => located.vcid,
-            Err(_) => return Ok(self),
+            Err(_) => return Ok(()),
         };
         let order = Order::Bring(octets);
-        self.with_job(alloc, vcid, Job { line, order })
+        self.give(alloc, vcid, Job { line, order })
     }
 
-    /// With a job for a channel, where there is such a channel.
-    pub(crate) fn with_job(self, alloc: Global, vcid: u8, job: Job) -> Result<Parted, Reason>
-        ensures given { IfOk result (IsGiven vcid job self) }
+    /// Gives a job to a channel, where there is such a channel.
+    pub(crate) fn give(&mut self, alloc: Global, vcid: u8, job: Job) -> Result<(), Reason>
+        ensures given { OnOk result (IsGiven vcid job self.old self.new) }
         ensures reason { IfErr result (λ reason. reason ≡ Reason.NoMemory) }
+        ensures refused { OnErr result (self.new ≡ self.old) }
     {
-        let Parted { station, mut lists } = self;
-        let Some(place) = place_of(&lists, vcid) else {
-            return Ok(Parted { station, lists });
+        let Some(place) = place_of(&self.lists, vcid) else {
+            return Ok(());
         };
-        let list = &mut lists[place];
-        append(alloc, &mut list.jobs, job)?;
-        Ok(Parted { station, lists })
+        let list = &mut self.lists[place];
+        append(alloc, &mut list.jobs, job)
     }
 
     /// Does the jobs of a script with so many lines, by a worker for each list, and closes the station.

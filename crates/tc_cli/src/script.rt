@@ -1,9 +1,9 @@
 //! A script from its octets to its answers.
 
-ghost use Rattle.std.specs.Prelude.{◌≡◌, ◌⊎◌, ◌≤◌, length, IfOk, IfErr, OnOk, IfSome};
+ghost use Rattle.std.specs.Prelude.{◌≡◌, ◌⊎◌, ◌≤◌, length, IfErr, OnOk, IfSome};
 ghost use Rattle.tc_cli.specs.Script.{IsFault, IsGood, IsDone, IsBadLine, IsReportFault};
 ghost use Rattle.tc_text.specs.Reading.{limit};
-ghost use Rattle.tc_cli.specs.Stage.{phase_of};
+ghost use Rattle.tc_cli.specs.Stage.{phase_of, IsKept};
 
 use crate::answer::Answer;
 use crate::configuration::Configuration;
@@ -57,12 +57,11 @@ fn run_lines<W: Write>(
     let mut line = 0u32;
     while let Some((octets, after)) = next_line(rest) {
         line += 1;
-        let (next, answer) = match perform_line(rt, alloc, scid, session, octets) {
-            Ok(done) => done,
+        let answer = match perform_line(rt, alloc, scid, &mut session, octets) {
+            Ok(answer) => answer,
             Err(reason) => return Err(ScriptFault::Line { line, reason }),
         };
         write_answer(answer, writer)?;
-        session = next;
         rest = after;
     }
     report(rt, alloc, scid, session, line, writer)
@@ -72,12 +71,13 @@ fn perform_line(
     rt: &impl Wait,
     alloc: Global,
     scid: u16,
-    session: Session,
+    session: &mut Session,
     octets: &[u8],
-) -> Result<(Session, Option<Answer>), Reason>
+) -> Result<Option<Answer>, Reason>
     requires { scid ≤ 1023 }
-    ensures done { IfOk result (λ done. IsDone (phase_of session) octets.now (phase_of done.0)) }
-    ensures reason { IfErr result (λ reason. (reason ≡ Reason.NoMemory) ⊎ IsBadLine (phase_of session) octets.now reason) }
+    ensures done { OnOk result (IsDone (phase_of session.old) octets.now (phase_of session.new)) }
+    ensures reason { IfErr result (λ reason. (reason ≡ Reason.NoMemory) ⊎ IsBadLine (phase_of session.old) octets.now reason) }
+    ensures refused { IfErr result (λ reason. IsKept reason session.old session.new) }
 {
     let said = parse_line(alloc, octets)?;
     session.perform(rt, alloc, scid, Instruction::of(alloc, said))

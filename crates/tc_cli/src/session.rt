@@ -4,13 +4,15 @@ ghost use Rattle.std.specs.Prelude.{◌≡◌, ◌≢◌, ◌≤◌, ◌⊎◌, 
 ghost use Rattle.tc_cli.specs.Operation.{IsFrameAnswer, IsReleaseAnswer, IsTakeAnswer, IsUnitAnswer, IsClcwAnswer};
 ghost use Rattle.tc_cli.specs.Phase.{Does, IsBad, IsBadOperation, Operates, Setup};
 ghost use Rattle.tc_cli.specs.Session.{manned_for, IsAnswered, IsOperated};
-ghost use Rattle.tc_cli.specs.Stage.{phase_of};
+ghost use Rattle.tc_cli.specs.Stage.{phase_of, IsKept};
 
 use crate::answer::Answer;
+use crate::configuration::Configuration;
 use crate::instruction::Instruction;
 use crate::manned::MannedStation;
 use crate::stage::Stage;
 use std::alloc::Global;
+use std::mem;
 use std::sync::Wait;
 use tc_channel::Octets;
 use tc_text::Reason;
@@ -18,28 +20,31 @@ use tc_text::Reason;
 /// How far a script has come whose operations are done one after the other.
 pub(crate) type Session = Stage<MannedStation>;
 
-/// What became of a line: how far the script has come, and what an operation is answered.
-pub(crate) type Performed = (Session, Option<Answer>);
-
 impl Stage<MannedStation> {
-    /// Does what a line asks for; an operation has an answer.
+    /// Does what a line asks for; an operation has an answer. A line that is refused leaves all as it is,
+    /// unless memory is refused before operation: then what was set up may be lost.
     pub(crate) fn perform(
-        self,
+        &mut self,
         rt: &impl Wait,
         alloc: Global,
         scid: u16,
         instruction: Instruction,
-    ) -> Result<Performed, Reason>
+    ) -> Result<Option<Answer>, Reason>
         requires { scid ≤ 1023 }
-        ensures done { IfOk result (λ done. Does (phase_of self) instruction (phase_of done.0)) }
-        ensures answer { IfOk result (λ done. IsAnswered scid self instruction done.0 done.1) }
-        ensures reason { IfErr result (λ reason. (reason ≡ Reason.NoMemory) ⊎ IsBad (phase_of self) instruction reason) }
+        ensures done { OnOk result (Does (phase_of self.old) instruction (phase_of self.new)) }
+        ensures answer { IfOk result (λ answer. IsAnswered scid self.old instruction self.new answer) }
+        ensures reason { IfErr result (λ reason. (reason ≡ Reason.NoMemory) ⊎ IsBad (phase_of self.old) instruction reason) }
+        ensures refused { IfErr result (λ reason. IsKept reason self.old self.new) }
     {
         match instruction {
-            Instruction::Nothing => Ok((self, None)),
-            Instruction::Channel(settings) => Ok((self.with_channel(settings)?, None)),
+            Instruction::Nothing => Ok(None),
+            Instruction::Channel(settings) => {
+                self.add_channel(settings)?;
+                Ok(None)
+            }
             Instruction::Add(vcid, addition) => {
-                Ok((self.with_addition(alloc, vcid, addition)?, None))
+                self.add_to_channel(alloc, vcid, addition)?;
+                Ok(None)
             }
             Instruction::Frame(octets) => self.bring(rt, alloc, scid, octets),
             Instruction::Release(vcid) => self.release(rt, alloc, scid, vcid),
@@ -50,84 +55,124 @@ impl Stage<MannedStation> {
     }
 
     fn bring(
-        self,
+        &mut self,
         rt: &impl Wait,
         alloc: Global,
         scid: u16,
         octets: Octets,
-    ) -> Result<Performed, Reason>
+    ) -> Result<Option<Answer>, Reason>
         requires { scid ≤ 1023 }
-        ensures done { IfOk result (λ done. Operates (phase_of self) (phase_of done.0)) }
-        ensures answer { IfOk result (λ done. IsOperated scid (λ station. IsFrameAnswer station octets) self done.0 done.1) }
-        ensures reason { IfErr result (λ reason. (reason ≡ Reason.NoMemory) ⊎ IsBadOperation (phase_of self) reason) }
+        ensures done { OnOk result (Operates (phase_of self.old) (phase_of self.new)) }
+        ensures answer { IfOk result (IsOperated scid (λ station. IsFrameAnswer station octets) self.old self.new) }
+        ensures reason { IfErr result (λ reason. (reason ≡ Reason.NoMemory) ⊎ IsBadOperation (phase_of self.old) reason) }
+        ensures refused { IfErr result (λ reason. IsKept reason self.old self.new) }
     {
-        let mut manned = self.start(rt, alloc, scid)?;
-        let answer = manned.bring(rt, octets.as_slice())?;
-        Ok((Stage::Operating(manned), Some(answer)))
+        self.begin(rt, alloc, scid)?;
+        match self {
+            Stage::Operating(manned) => Ok(Some(manned.bring(rt, octets.as_slice())?)),
+            Stage::SettingUp(_) => unreachable!(),
+        }
     }
 
     fn release(
-        self,
+        &mut self,
         rt: &impl Wait,
         alloc: Global,
         scid: u16,
         vcid: u8,
-    ) -> Result<Performed, Reason>
+    ) -> Result<Option<Answer>, Reason>
         requires { scid ≤ 1023 }
-        ensures done { IfOk result (λ done. Operates (phase_of self) (phase_of done.0)) }
-        ensures answer { IfOk result (λ done. IsOperated scid (λ station. IsReleaseAnswer station vcid) self done.0 done.1) }
-        ensures reason { IfErr result (λ reason. (reason ≡ Reason.NoMemory) ⊎ IsBadOperation (phase_of self) reason) }
+        ensures done { OnOk result (Operates (phase_of self.old) (phase_of self.new)) }
+        ensures answer { IfOk result (IsOperated scid (λ station. IsReleaseAnswer station vcid) self.old self.new) }
+        ensures reason { IfErr result (λ reason. (reason ≡ Reason.NoMemory) ⊎ IsBadOperation (phase_of self.old) reason) }
+        ensures refused { IfErr result (λ reason. IsKept reason self.old self.new) }
     {
-        let mut manned = self.start(rt, alloc, scid)?;
-        let answer = manned.release(rt, vcid)?;
-        Ok((Stage::Operating(manned), Some(answer)))
+        self.begin(rt, alloc, scid)?;
+        match self {
+            Stage::Operating(manned) => Ok(Some(manned.release(rt, vcid)?)),
+            Stage::SettingUp(_) => unreachable!(),
+        }
     }
 
     fn take(
-        self,
+        &mut self,
         rt: &impl Wait,
         alloc: Global,
         scid: u16,
         vcid: u8,
         apid: u16,
-    ) -> Result<Performed, Reason>
+    ) -> Result<Option<Answer>, Reason>
         requires { scid ≤ 1023 }
-        ensures done { IfOk result (λ done. Operates (phase_of self) (phase_of done.0)) }
-        ensures answer { IfOk result (λ done. IsOperated scid (λ station. IsTakeAnswer station vcid apid) self done.0 done.1) }
-        ensures reason { IfErr result (λ reason. (reason ≡ Reason.NoMemory) ⊎ IsBadOperation (phase_of self) reason) }
+        ensures done { OnOk result (Operates (phase_of self.old) (phase_of self.new)) }
+        ensures answer { IfOk result (IsOperated scid (λ station. IsTakeAnswer station vcid apid) self.old self.new) }
+        ensures reason { IfErr result (λ reason. (reason ≡ Reason.NoMemory) ⊎ IsBadOperation (phase_of self.old) reason) }
+        ensures refused { IfErr result (λ reason. IsKept reason self.old self.new) }
     {
-        let mut manned = self.start(rt, alloc, scid)?;
-        let answer = manned.take(rt, vcid, apid)?;
-        Ok((Stage::Operating(manned), Some(answer)))
+        self.begin(rt, alloc, scid)?;
+        match self {
+            Stage::Operating(manned) => Ok(Some(manned.take(rt, vcid, apid)?)),
+            Stage::SettingUp(_) => unreachable!(),
+        }
     }
 
     fn unit(
-        self,
+        &mut self,
         rt: &impl Wait,
         alloc: Global,
         scid: u16,
         vcid: u8,
         map: u8,
-    ) -> Result<Performed, Reason>
+    ) -> Result<Option<Answer>, Reason>
         requires { scid ≤ 1023 }
-        ensures done { IfOk result (λ done. Operates (phase_of self) (phase_of done.0)) }
-        ensures answer { IfOk result (λ done. IsOperated scid (λ station. IsUnitAnswer station vcid map) self done.0 done.1) }
-        ensures reason { IfErr result (λ reason. (reason ≡ Reason.NoMemory) ⊎ IsBadOperation (phase_of self) reason) }
+        ensures done { OnOk result (Operates (phase_of self.old) (phase_of self.new)) }
+        ensures answer { IfOk result (IsOperated scid (λ station. IsUnitAnswer station vcid map) self.old self.new) }
+        ensures reason { IfErr result (λ reason. (reason ≡ Reason.NoMemory) ⊎ IsBadOperation (phase_of self.old) reason) }
+        ensures refused { IfErr result (λ reason. IsKept reason self.old self.new) }
     {
-        let mut manned = self.start(rt, alloc, scid)?;
-        let answer = manned.unit(rt, vcid, map)?;
-        Ok((Stage::Operating(manned), Some(answer)))
+        self.begin(rt, alloc, scid)?;
+        match self {
+            Stage::Operating(manned) => Ok(Some(manned.unit(rt, vcid, map)?)),
+            Stage::SettingUp(_) => unreachable!(),
+        }
     }
 
-    fn clcw(self, rt: &impl Wait, alloc: Global, scid: u16, vcid: u8) -> Result<Performed, Reason>
+    fn clcw(
+        &mut self,
+        rt: &impl Wait,
+        alloc: Global,
+        scid: u16,
+        vcid: u8,
+    ) -> Result<Option<Answer>, Reason>
         requires { scid ≤ 1023 }
-        ensures done { IfOk result (λ done. Operates (phase_of self) (phase_of done.0)) }
-        ensures answer { IfOk result (λ done. IsOperated scid (λ station. IsClcwAnswer station vcid) self done.0 done.1) }
-        ensures reason { IfErr result (λ reason. (reason ≡ Reason.NoMemory) ⊎ IsBadOperation (phase_of self) reason) }
+        ensures done { OnOk result (Operates (phase_of self.old) (phase_of self.new)) }
+        ensures answer { IfOk result (IsOperated scid (λ station. IsClcwAnswer station vcid) self.old self.new) }
+        ensures reason { IfErr result (λ reason. (reason ≡ Reason.NoMemory) ⊎ IsBadOperation (phase_of self.old) reason) }
+        ensures refused { IfErr result (λ reason. IsKept reason self.old self.new) }
     {
-        let mut manned = self.start(rt, alloc, scid)?;
-        let answer = manned.clcw(vcid);
-        Ok((Stage::Operating(manned), Some(answer)))
+        self.begin(rt, alloc, scid)?;
+        match self {
+            Stage::Operating(manned) => Ok(Some(manned.clcw(vcid))),
+            Stage::SettingUp(_) => unreachable!(),
+        }
+    }
+
+    // Makes the station with its operator, where no operation came before.
+    fn begin(&mut self, rt: &impl Wait, alloc: Global, scid: u16) -> Result<(), Reason>
+        requires { scid ≤ 1023 }
+        ensures manned { OnOk result (self.new ≡ Stage.Operating (manned_for scid self.old)) }
+        ensures some { OnOk result (phase_of self.old ≢ Setup []) }
+        ensures reason { IfErr result (λ reason. (reason ≡ Reason.NoMemory) ⊎ ((reason ≡ Reason.NoChannel) × (phase_of self.old ≡ Setup []))) }
+        ensures refused { IfErr result (λ reason. IsKept reason self.old self.new) }
+    {
+        match self {
+            Stage::Operating(_) => Ok(()),
+            Stage::SettingUp(list) => {
+                let there = mem::replace(list, Configuration::new(alloc));
+                let manned = Stage::SettingUp(there).start(rt, alloc, scid)?;
+                *self = Stage::Operating(manned);
+                Ok(())
+            }
+        }
     }
 
     /// The station with its operator, made by what was set up where no operation came before.

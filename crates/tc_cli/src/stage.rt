@@ -1,7 +1,7 @@
 //! How far a script has come: first its channels are set up, then it operates.
 
-ghost use Rattle.std.specs.Prelude.{◌≡◌, ◌⊎◌, IfOk, IfErr, MatchResult};
-ghost use Rattle.tc_cli.specs.Phase.{Does, IsBad, Setup, Operation};
+ghost use Rattle.std.specs.Prelude.{◌≡◌, ◌⊎◌, IfErr, OnOk, OnErr};
+ghost use Rattle.tc_cli.specs.Phase.{Does, IsBad};
 ghost use Rattle.tc_cli.specs.Stage.{phase_of};
 
 use crate::configuration::Configuration;
@@ -11,7 +11,7 @@ use tc_channel::Settings;
 use tc_text::Reason;
 
 /// How far a script has come. What operates is made at the first operation, with the channels that are
-/// set up by then. A bad line ends a script, so no stage is given back with its reason.
+/// set up by then.
 #[derive(Drop)]
 pub(crate) enum Stage<O> {
     SettingUp(Configuration),
@@ -19,35 +19,31 @@ pub(crate) enum Stage<O> {
 }
 
 impl<O: Drop> Stage<O> {
-    /// With the channel of a channel line besides.
-    pub(crate) fn with_channel(self, settings: Settings) -> Result<Stage<O>, Reason>
-        ensures done { IfOk result (λ done. Does (phase_of self) (Instruction.Channel settings) (phase_of done)) }
-        ensures reason { IfErr result (λ reason. (reason ≡ Reason.NoMemory) ⊎ IsBad (phase_of self) (Instruction.Channel settings) reason) }
+    /// Sets up the channel of a channel line.
+    pub(crate) fn add_channel(&mut self, settings: Settings) -> Result<(), Reason>
+        ensures done { OnOk result (Does (phase_of self.old) (Instruction.Channel settings) (phase_of self.new)) }
+        ensures reason { IfErr result (λ reason. (reason ≡ Reason.NoMemory) ⊎ IsBad (phase_of self.old) (Instruction.Channel settings) reason) }
+        ensures refused { OnErr result (self.new ≡ self.old) }
     {
-        let list = self.configuration()?;
-        Ok(Stage::SettingUp(list.with_channel(settings)?))
+        match self {
+            Stage::SettingUp(list) => list.add_channel(settings),
+            Stage::Operating(_) => Err(Reason::TooLate),
+        }
     }
 
-    /// With the queue of a queue line or the chosen MAP of a map line besides.
-    pub(crate) fn with_addition(
-        self,
+    /// Gives a channel the queue of a queue line or the chosen MAP of a map line.
+    pub(crate) fn add_to_channel(
+        &mut self,
         alloc: Global,
         vcid: u8,
         addition: Addition,
-    ) -> Result<Stage<O>, Reason>
-        ensures done { IfOk result (λ done. Does (phase_of self) (Instruction.Add vcid addition) (phase_of done)) }
-        ensures reason { IfErr result (λ reason. (reason ≡ Reason.NoMemory) ⊎ IsBad (phase_of self) (Instruction.Add vcid addition) reason) }
-    {
-        let list = self.configuration()?;
-        Ok(Stage::SettingUp(list.with_addition(alloc, vcid, addition)?))
-    }
-
-    // What is set up, where no operation came before.
-    fn configuration(self) -> Result<Configuration, Reason>
-        ensures { MatchResult result (λ list. phase_of self ≡ Setup list) (λ reason. (reason ≡ Reason.TooLate) × (phase_of self ≡ Operation)) }
+    ) -> Result<(), Reason>
+        ensures done { OnOk result (Does (phase_of self.old) (Instruction.Add vcid addition) (phase_of self.new)) }
+        ensures reason { IfErr result (λ reason. (reason ≡ Reason.NoMemory) ⊎ IsBad (phase_of self.old) (Instruction.Add vcid addition) reason) }
+        ensures refused { OnErr result (self.new ≡ self.old) }
     {
         match self {
-            Stage::SettingUp(list) => Ok(list),
+            Stage::SettingUp(list) => list.add_to_channel(alloc, vcid, addition),
             Stage::Operating(_) => Err(Reason::TooLate),
         }
     }
