@@ -1,3 +1,4 @@
 pub mod Distinct
 pub mod Counts
 pub mod Works
+pub mod Ordered

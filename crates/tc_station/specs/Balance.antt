@@ -1,5 +1,5 @@
 -- The balance between the journals of channels and the operators' counts.
-use Rattle.std.specs.Prelude.{◌≡◌, ℕ, List, length, slice_index, slice_get, Some}
+use Rattle.std.specs.Prelude.{◌≡◌, ◌<◌, ℕ, List, length, slice_index, slice_get, Some}
 use Rattle.std.specs.List.{sum_by}
 use Rattle.tc_channel.specs.Journal.{History}
 use Rattle.tc_station.specs.Tally.{Tally}
@@ -16,3 +16,12 @@ IsInBalance vcids tallies place channel =
 abbrev pub AreInBalance : List ℕ → List Tally → List History → Type 0
 AreInBalance vcids tallies channels =
     (place : ℕ) (channel : History) → slice_get channels place ≡ Some channel → IsInBalance vcids tallies place channel
+
+-- the number of its events is told as it is: 2^64 - 1 is told for as many or more
+abbrev pub IsNumberTold : History → Type 0
+IsNumberTold channel = length channel.journal < 18446744073709551615
+
+-- they are in balance, and the number of each one's events is told as it is
+abbrev pub AreInToldBalance : List ℕ → List Tally → List History → Type 0
+AreInToldBalance vcids tallies channels =
+    (place : ℕ) (channel : History) → slice_get channels place ≡ Some channel → IsInBalance vcids tallies place channel × IsNumberTold channel

@@ -1,10 +1,10 @@
 //! Whether the journals of a closed station are in balance with the operators' counts.
 
 ghost use Rattle.std.specs.Prelude.{◌≡◌, ◌<◌, ◌↔◌, length, IsTrue, All};
-ghost use Rattle.tc_station.specs.Balance.{counted_by_all, IsInBalance, AreInBalance};
+ghost use Rattle.tc_station.specs.Balance.{counted_by_all, IsInBalance, AreInBalance, IsNumberTold, AreInToldBalance};
 
 use crate::operator::Operator;
-use tc_channel::Channel;
+use tc_channel::{Channel, FlightChannel};
 
 // What all operators have counted of the channel at a place.
 fn count_of_all(operators: &[Operator], place: usize) -> u128
@@ -35,6 +35,41 @@ pub(crate) fn are_in_balance(vcids: &[u8], operators: &[Operator], channels: &[C
 {
     for (place, channel) in channels.iter().enumerate() {
         if !is_in_balance(vcids, operators, place, channel) {
+            return false;
+        }
+    }
+    true
+}
+
+// The same of a channel that tells the number of its events, which the largest number of 64 bits is not.
+fn is_in_told_balance(
+    vcids: &[u8],
+    operators: &[Operator],
+    place: usize,
+    channel: &FlightChannel,
+) -> bool
+    requires inside { place < length vcids.now }
+    requires ours { All (λ o. o.vcids ≡ vcids.now) operators.now }
+    ensures { IsTrue result ↔ IsInBalance vcids.now operators.now place channel.now × IsNumberTold channel.now }
+{
+    let events = channel.events();
+    events < u64::MAX
+        && channel.settings().vcid == vcids[place]
+        && u128::from(events) == count_of_all(operators, place)
+}
+
+/// Whether each channel tells the number of its events, and all are in balance.
+pub(crate) fn are_in_told_balance(
+    vcids: &[u8],
+    operators: &[Operator],
+    channels: &[FlightChannel],
+) -> bool
+    requires as_many { length channels.now ≡ length vcids.now }
+    requires ours { All (λ o. o.vcids ≡ vcids.now) operators.now }
+    ensures { IsTrue result ↔ AreInToldBalance vcids.now operators.now channels.now }
+{
+    for (place, channel) in channels.iter().enumerate() {
+        if !is_in_told_balance(vcids, operators, place, channel) {
             return false;
         }
     }

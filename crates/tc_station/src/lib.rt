@@ -19,9 +19,9 @@ mod work;
 
 pub use desk::{Desk, DeskOf, FlightDesk};
 pub use faults::{
-    BringFault, CloseFault, LocateFault, OperatorsFault, ReleaseRefused, StationFault, TakeRefused,
-    TakeUnitRefused, WatcherFault, WorkFault,
+    BringFault, CloseFault, FlightCloseFault, LocateFault, OperatorsFault, ReleaseRefused,
+    StationFault, TakeRefused, TakeUnitRefused, WatcherFault, WorkFault,
 };
 pub use operator::Operator;
-pub use station::{Brought, Located, Station};
+pub use station::{Brought, FlightStation, Located, Station, StationOf};
 pub use work::{FreeGate, Gate, Job, Order, WorkList};

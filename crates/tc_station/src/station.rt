@@ -9,14 +9,14 @@ ghost use Rattle.tc_channel.specs.Run.{IsLawful};
 ghost use Rattle.tc_channel.specs.Reply.{frame_reply, clcw};
 ghost use Rattle.tc_status.specs.Board.{IsBeginning};
 ghost use Rattle.tc_station.specs.Tally.{counted, fresh};
-ghost use Rattle.tc_station.specs.Balance.{AreInBalance};
+ghost use Rattle.tc_station.specs.Balance.{AreInBalance, IsNumberTold};
 ghost use Rattle.tc_station.specs.StationSettings.{vcids_of, HaveDistinctVcids, IsFirstDouble, IsFirstRefused, AreStationSettings, IsStationFault};
 
-use crate::closing::are_in_balance;
-use crate::desk::Desk;
+use crate::closing::{are_in_balance, are_in_told_balance};
+use crate::desk::DeskOf;
 use crate::faults::{
-    BringFault, CloseFault, LocateFault, OperatorsFault, ReleaseRefused, StationFault, TakeRefused,
-    TakeUnitRefused, WatcherFault,
+    BringFault, CloseFault, FlightCloseFault, LocateFault, OperatorsFault, ReleaseRefused,
+    StationFault, TakeRefused, TakeUnitRefused, WatcherFault,
 };
 use crate::operator::{Operator, place_of};
 use crate::work::Gate;
@@ -24,7 +24,10 @@ use crossbeam_utils::CachePadded;
 use std::alloc::Global;
 use std::marker::Model;
 use std::sync::{Mutex, MutexGuard, Wait};
-use tc_channel::{Channel, Delivery, Event, FrameReply, NoMemory, Settings, SettingsFault};
+use tc_channel::{
+    Channel, ChannelWith, Delivery, Event, FlightChannel, FrameReply, Journal, Kept, NoMemory,
+    Settings, SettingsFault, Unkept,
+};
 use tc_link::{Frame, Link, read_frame};
 use tc_status::Watcher;
 
@@ -47,15 +50,22 @@ pub struct Brought {
 
 /// The virtual channels of one spacecraft, each behind a lock of its own, with nothing else on its cache lines.
 #[derive(Drop)]
-pub struct Station {
+pub struct StationOf<J: Journal> {
     alloc: Global,
     scid: u16,
     vcids: Vec<u8>,
     issued: u16,
-    desks: Vec<CachePadded<Mutex<Desk>>>,
+    desks: Vec<CachePadded<Mutex<DeskOf<J>>>>,
 }
 
-impl Model for Station {
+/// A station whose channels keep their journals in memory, and give them out when it is closed.
+pub type Station = StationOf<Kept>;
+
+/// A station whose channels' journals take no memory, for flight software and long simulations. It does what [`Station`] does,
+/// by the same proof.
+pub type FlightStation = StationOf<Unkept>;
+
+impl<J: Journal> Model for StationOf<J> {
     ghost use Rattle.std.specs.Prelude.{◌≡◌, vec_len};
     ghost use Rattle.tc_station.specs.Roster.{Roster};
 
@@ -66,14 +76,14 @@ impl Model for Station {
     ghost invariant = { λ s. vec_len s.desks ≡ vec_len s.vcids };
 }
 
-impl Station {
+impl<J: Journal> StationOf<J> {
     ghost use Rattle.tc_station.specs.Location.{IsLocated, IsPlaced, IsLocateFault, IsBringFault};
     ghost use Rattle.tc_station.specs.Moments.{IsBrought, IsBroughtWatched, IsReleased, IsTaken, IsUnitTaken, IsWatched};
-    ghost use Rattle.tc_station.specs.Faults.{IsReleaseRefused, IsTakeRefused, IsTakeUnitRefused, IsWatcherFault, IsCloseFault};
+    ghost use Rattle.tc_station.specs.Faults.{IsReleaseRefused, IsTakeRefused, IsTakeUnitRefused, IsWatcherFault};
 
     /// A station with a new channel for each of the settings: two lists, and what each channel and its board take. On a
     /// refusal the settings are dropped.
-    pub fn new(alloc: Global, scid: u16, list: Vec<Settings>) -> Result<Station, StationFault>
+    pub fn new(alloc: Global, scid: u16, list: Vec<Settings>) -> Result<StationOf<J>, StationFault>
         ensures made { IfOk result (λ station. station ≡ record { scid = scid; vcids = vcids_of list.items; issued = 0 }) }
         ensures fault { MatchResult result (λ _. AreStationSettings scid list.items) (IsStationFault scid list.items) }
     {
@@ -262,7 +272,7 @@ impl Station {
 
     // The desk of the channel at this place, behind its lock. Contracts know of what is under a lock just what its type says,
     // so the desk is asked for its id; another's would never be given out.
-    fn lock_desk<R: Wait>(&self, rt: &R, place: usize, vcid: u8) -> MutexGuard<'_, Desk>
+    fn lock_desk<R: Wait>(&self, rt: &R, place: usize, vcid: u8) -> MutexGuard<'_, DeskOf<J>>
         requires inside { place < length self.now.vcids }
         ensures own { (mutex_guard_value result).channel.settings.vcid ≡ vcid }
     {
@@ -284,6 +294,10 @@ impl Station {
         gate.pass(vcid);
         drop(desk);
     }
+}
+
+impl StationOf<Kept> {
+    ghost use Rattle.tc_station.specs.Faults.{IsCloseFault};
 
     /// Ends the station: takes the channels out of their locks and compares their journals with the operators' counts. The
     /// list of the channels is the one allocation, and it is made before the station is taken apart.
@@ -300,7 +314,7 @@ impl Station {
         let Ok(room) = Vec::with_capacity(self.alloc, self.desks.len()) else {
             return Err(CloseFault::NoMemory(self, operators));
         };
-        let Station {
+        let StationOf {
             alloc: _,
             scid: _,
             vcids,
@@ -312,6 +326,42 @@ impl Station {
             Ok(channels)
         } else {
             Err(CloseFault::Unbalanced(channels, operators))
+        }
+    }
+}
+
+impl StationOf<Unkept> {
+    ghost use Rattle.tc_station.specs.Faults.{IsFlightCloseFault};
+
+    /// Ends the station: takes the channels out of their locks and compares the numbers of their events with the operators'
+    /// counts. 2^64 - 1 stands for as many events or more, so it is no balance. The list of the channels is the one allocation,
+    /// and it is made before the station is taken apart.
+    pub fn close(self, operators: Vec<Operator>) -> Result<Vec<FlightChannel>, FlightCloseFault>
+        requires ours { All (λ o. o.vcids ≡ self.vcids) operators.items }
+        ensures all { IfOk result (λ _. self.issued ≤ vec_len operators) }
+        ensures balanced { IfOk result (λ channels. AreInBalance self.vcids operators.items channels.items) }
+        ensures told { IfOk result (λ channels. All IsNumberTold channels.items) }
+        ensures channels { IfOk result (λ channels. map (λ c. c.settings.vcid) channels.items ≡ self.vcids) }
+        ensures fault { IfErr result (IsFlightCloseFault self operators.items) }
+    {
+        if operators.len() < usize::from(self.issued) {
+            return Err(FlightCloseFault::Missing(self, operators));
+        }
+        let Ok(room) = Vec::with_capacity(self.alloc, self.desks.len()) else {
+            return Err(FlightCloseFault::NoMemory(self, operators));
+        };
+        let StationOf {
+            alloc: _,
+            scid: _,
+            vcids,
+            issued: _,
+            desks,
+        } = self;
+        let channels = take_out(desks, room);
+        if are_in_told_balance(&vcids, &operators, &channels) {
+            Ok(channels)
+        } else {
+            Err(FlightCloseFault::Unbalanced(channels, operators))
         }
     }
 }
@@ -367,19 +417,23 @@ fn check(scid: u16, list: &[Settings]) -> Result<(), StationFault>
 }
 
 // A station by settings that were checked.
-fn start(alloc: Global, scid: u16, list: Vec<Settings>) -> Result<Station, NoMemory>
+fn start<J: Journal>(
+    alloc: Global,
+    scid: u16,
+    list: Vec<Settings>,
+) -> Result<StationOf<J>, NoMemory>
     ensures { IfOk result (λ station. station ≡ record { scid = scid; vcids = vcids_of list.items; issued = 0 }) }
 {
     let mut vcids = Vec::with_capacity(alloc, list.len())?;
     let mut desks = Vec::with_capacity(alloc, list.len())?;
     for settings in list {
         vcids.push_reserved(settings.vcid);
-        let Ok(desk) = Desk::new(alloc, settings) else {
+        let Ok(desk) = DeskOf::new(alloc, settings) else {
             return Err(NoMemory);
         };
         desks.push_reserved(CachePadded::new(Mutex::new(desk)));
     }
-    Ok(Station {
+    Ok(StationOf {
         alloc,
         scid,
         vcids,
@@ -400,7 +454,10 @@ fn issue(alloc: Global, vcids: &[u8], n: u16) -> Result<Vec<Operator>, NoMemory>
 }
 
 // Takes the channels out of their locks, into a list with room for them. Of each no more is known than its type says.
-fn take_out(desks: Vec<CachePadded<Mutex<Desk>>>, mut room: Vec<Channel>) -> Vec<Channel>
+fn take_out<J: Journal>(
+    desks: Vec<CachePadded<Mutex<DeskOf<J>>>>,
+    mut room: Vec<ChannelWith<J>>,
+) -> Vec<ChannelWith<J>>
     requires empty { vec_len room ≡ 0 }
     requires room { vec_len desks ≤ vec_capacity room }
     ensures { vec_len result ≡ vec_len desks }
@@ -412,7 +469,10 @@ fn take_out(desks: Vec<CachePadded<Mutex<Desk>>>, mut room: Vec<Channel>) -> Vec
 }
 
 // The desk takes a frame in, and a watcher of its board sees it do so.
-fn frame_watched(desk: &mut Desk, frame: &Frame) -> Result<(FrameReply, Watcher), NoMemory>
+fn frame_watched<J: Journal>(
+    desk: &mut DeskOf<J>,
+    frame: &Frame,
+) -> Result<(FrameReply, Watcher), NoMemory>
     ensures allowed { IsAllowed desk.old.channel.settings }
     ensures lawful { IsLawful desk.old.channel.settings desk.old.channel.journal }
     ensures reply { IfOk result (λ answer. answer.0 ≡ frame_reply desk.old.channel.settings desk.old.channel.journal frame.now) }

@@ -1,16 +1,16 @@
 //! Workers: lists of jobs, each done by a thread of its own.
 
 ghost use Rattle.std.specs.Prelude.{◌≡◌, ◌<◌, ℕ, All, Option, None, Some, length, map, slice_index_or, OnOk, OnErr, MatchResult};
-ghost use Rattle.std.specs.Thread.{IsSync};
+ghost use Rattle.std.specs.Thread.{IsSend, IsSync};
 ghost use Rattle.tc_station.specs.Tally.{Tally};
 ghost use Rattle.tc_station.specs.Lowest.{lower};
 
 use crate::faults::{BringFault, ReleaseRefused, TakeRefused, TakeUnitRefused, WorkFault};
 use crate::operator::Operator;
-use crate::station::Station;
+use crate::station::StationOf;
 use std::sync::Wait;
 use std::thread::{Threads, join_mut};
-use tc_channel::{Items, NoMemory, Octets};
+use tc_channel::{Items, Journal, NoMemory, Octets};
 
 /// What each worker passes once, under the lock of its list's channel, before it does its jobs.
 pub trait Gate {
@@ -53,7 +53,11 @@ pub struct WorkList {
     pub jobs: Items<Job>,
 }
 
-impl Station {
+// The locks lend what the journals are made of from thread to thread.
+impl<J: Journal + Send> StationOf<J>
+where
+    J::Entry: Send,
+{
     ghost use Rattle.tc_station.specs.Work.{IsDone, MayWantMemory, IsWorked, AreWorked, IsTallyOf, NoCountFalls, IsRaised, line_of};
 
     /// Does each list of jobs in a thread of its own, with the operator of its place. A refusal other than for memory is
@@ -125,11 +129,11 @@ impl Station {
             × AreWorked self.now front_lists.now a front.old front.new × AreWorked self.now back_lists.now b back.old back.new }
     {
         let mut first = || -> Option<u32>
-            requires { IsSync R.row × IsSync G.row × (length front.now ≡ length front_lists.now) × All (λ o. o.vcids ≡ self.now.vcids) front.now }
+            requires { IsSend J.row × IsSend J.Entry.row × IsSync R.row × IsSync G.row × (length front.now ≡ length front_lists.now) × All (λ o. o.vcids ≡ self.now.vcids) front.now }
             ensures { AreWorked self.entry.now front_lists.entry.now result front.entry.now front.exit.now }
         { self.work_all(rt, gate, front_lists, front) };
         let mut second = || -> Option<u32>
-            requires { IsSync R.row × IsSync G.row × (length back.now ≡ length back_lists.now) × All (λ o. o.vcids ≡ self.now.vcids) back.now }
+            requires { IsSend J.row × IsSend J.Entry.row × IsSync R.row × IsSync G.row × (length back.now ≡ length back_lists.now) × All (λ o. o.vcids ≡ self.now.vcids) back.now }
             ensures { AreWorked self.entry.now back_lists.entry.now result back.entry.now back.exit.now }
         { self.work_all(rt, gate, back_lists, back) };
         let (a, b) = join_mut(rt, &mut first, &mut second);

@@ -2,8 +2,8 @@ use Rattle.std.proofs.Common.{sym}
 use Rattle.tc_station.proofs.Works.{all-worked, moved-worked}
 use Rattle.tc_station.proofs.station.+work.Goals as goal
 
-pub Station::work_all-returns : goal.Station::work_all-returns
-Station::work_all-returns g t c =
+pub StationOf::work_all-returns : goal.StationOf::work_all-returns
+StationOf::work_all-returns g t c =
     let e = c.work_halves.ensures in
     let lists = c.split_at.result in
     let operators = c.split_at_mut-front.result in

@@ -2,7 +2,7 @@ use Rattle.std.proofs.Common.{rules}
 use Rattle.tc_station.proofs.station.frame_watched.Goals as goal
 
 pub returns-clause-seen : goal.returns-clause-seen
-returns-clause-seen c = search rules
+returns-clause-seen g c = search rules
 
 pub returns-clause-board : goal.returns-clause-board
-returns-clause-board c = search rules
+returns-clause-board g c = search rules

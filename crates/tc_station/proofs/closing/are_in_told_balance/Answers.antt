@@ -1,0 +1,16 @@
+use Rattle.std.proofs.Common.{◌∙◌, subst, below_more, arith, rules, refl}
+use Rattle.std.proofs.lemmas.Option.{get_or_from_slice_get, slice_get_within}
+use Rattle.tc_channel.specs.Journal.{History}
+use Rattle.tc_station.specs.Balance.{IsInBalance, IsNumberTold}
+use Rattle.tc_station.proofs.closing.are_in_told_balance.Goals as goal
+
+pub loop-place-preserved : goal.loop-place-preserved
+loop-place-preserved c =
+    let i = c.loop-place.place in
+    let here = c.index-channels-place.result in
+    let good : IsInBalance c.args.vcids.now c.args.operators.now i here × IsNumberTold here = c.is_in_told_balance.ensures.0 (search rules) in
+    below_more _ _ c.loop-place.invariant
+    (λ h e. subst (λ (k : History). IsInBalance c.args.vcids.now c.args.operators.now i k × IsNumberTold k) (c.index-channels-place.is ∙ get_or_from_slice_get c.args.channels.now i h here e) good)
+
+pub returns : goal.returns
+returns c = (λ _ place h e. let inside = slice_get_within c.args.channels.now place h e in c.loop-place.invariant place (omega arith) h e, λ _. refl)

@@ -1,0 +1,28 @@
+use Rattle.std.proofs.Common.{◌≡◌, ◌∙◌, ℕ, List, sym, ap, subst, rules, refl}
+use Rattle.tc_channel.specs.Journal.{History}
+use Rattle.tc_station.specs.Tally.{Tally}
+use Rattle.tc_station.specs.Balance.{AreInBalance}
+use Rattle.tc_station.proofs.Ordered.{in-order}
+use Rattle.tc_station.proofs.station.StationOf+Kept.close.Goals as goal
+
+moved : (a b : List ℕ) (o p : List Tally) (d e : List History) → a ≡ b → o ≡ p → d ≡ e → AreInBalance a o d → AreInBalance b p e
+moved a b o p d e s t u h = subst (λ (x : List ℕ × List Tally × List History). AreInBalance x.0 x.1 x.2) (λ i. (s i, t i, u i)) h
+
+pub returns-then-are_in_balance-clause-balanced : goal.returns-then-are_in_balance-clause-balanced
+returns-then-are_in_balance-clause-balanced c =
+    moved _ _ _ _ _ _ (c.deref.ensures.value ∙ ap (λ s. s.vcids) c.self.view_is) c.deref-2.ensures.value c.deref-3.ensures.value (c.if-are_in_balance.ensures.0 (search rules))
+
+pub returns-then-are_in_balance-clause-channels : goal.returns-then-are_in_balance-clause-channels
+returns-then-are_in_balance-clause-channels c =
+    let good = moved _ _ _ _ _ _ (c.deref.ensures.value ∙ ap (λ s. s.vcids) c.self.view_is) c.deref-2.ensures.value c.deref-3.ensures.value (c.if-are_in_balance.ensures.0 (search rules)) in
+    in-order c.args.self.vcids c.take_out-channels.result.items (search rules) (λ place h at. (good place h at).0)
+
+pub returns-else-are_in_balance-clause-fault : goal.returns-else-are_in_balance-clause-fault
+returns-else-are_in_balance-clause-fault c = (
+  search (rules, ap (λ s. s.issued) c.self.view_is),
+  refl,
+  search rules,
+  λ h.
+      let e = c.if-are_in_balance.ensures.1 (moved _ _ _ _ _ _ (sym (c.deref.ensures.value ∙ ap (λ s. s.vcids) c.self.view_is)) (sym c.deref-2.ensures.value) (sym c.deref-3.ensures.value) h) in
+      absurd cc,
+)

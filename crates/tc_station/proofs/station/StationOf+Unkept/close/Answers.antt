@@ -1,0 +1,35 @@
+use Rattle.std.proofs.Common.{◌≡◌, ◌∙◌, ℕ, List, get_or, sym, ap, subst, rules, refl}
+use Rattle.std.proofs.lemmas.Option.{slice_get-get_or}
+use Rattle.tc_channel.specs.Journal.{History}
+use Rattle.tc_station.specs.Tally.{Tally}
+use Rattle.tc_station.specs.Balance.{AreInToldBalance}
+use Rattle.tc_station.proofs.Ordered.{in-order}
+use Rattle.tc_station.proofs.station.StationOf+Unkept.close.Goals as goal
+
+moved : (a b : List ℕ) (o p : List Tally) (d e : List History) → a ≡ b → o ≡ p → d ≡ e → AreInToldBalance a o d → AreInToldBalance b p e
+moved a b o p d e s t u h = subst (λ (x : List ℕ × List Tally × List History). AreInToldBalance x.0 x.1 x.2) (λ i. (s i, t i, u i)) h
+
+pub returns-then-are_in_told_balance-clause-balanced : goal.returns-then-are_in_told_balance-clause-balanced
+returns-then-are_in_told_balance-clause-balanced c =
+    let good = moved _ _ _ _ _ _ (c.deref.ensures.value ∙ ap (λ s. s.vcids) c.self.view_is) c.deref-2.ensures.value c.deref-3.ensures.value (c.if-are_in_told_balance.ensures.0 (search rules)) in
+    λ place h at. (good place h at).0
+
+pub returns-then-are_in_told_balance-clause-told : goal.returns-then-are_in_told_balance-clause-told
+returns-then-are_in_told_balance-clause-told c =
+    let good = moved _ _ _ _ _ _ (c.deref.ensures.value ∙ ap (λ s. s.vcids) c.self.view_is) c.deref-2.ensures.value c.deref-3.ensures.value (c.if-are_in_told_balance.ensures.0 (search rules)) in
+    λ k d lt. (good k (get_or c.take_out-channels.result.items k d) (slice_get-get_or c.take_out-channels.result.items k d lt)).1
+
+pub returns-then-are_in_told_balance-clause-channels : goal.returns-then-are_in_told_balance-clause-channels
+returns-then-are_in_told_balance-clause-channels c =
+    let good = moved _ _ _ _ _ _ (c.deref.ensures.value ∙ ap (λ s. s.vcids) c.self.view_is) c.deref-2.ensures.value c.deref-3.ensures.value (c.if-are_in_told_balance.ensures.0 (search rules)) in
+    in-order c.args.self.vcids c.take_out-channels.result.items (search rules) (λ place h at. (good place h at).0.0)
+
+pub returns-else-are_in_told_balance-clause-fault : goal.returns-else-are_in_told_balance-clause-fault
+returns-else-are_in_told_balance-clause-fault c = (
+  search (rules, ap (λ s. s.issued) c.self.view_is),
+  refl,
+  search rules,
+  λ h.
+      let e = c.if-are_in_told_balance.ensures.1 (moved _ _ _ _ _ _ (sym (c.deref.ensures.value ∙ ap (λ s. s.vcids) c.self.view_is)) (sym c.deref-2.ensures.value) (sym c.deref-3.ensures.value) h) in
+      absurd cc,
+)
