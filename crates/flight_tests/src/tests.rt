@@ -1,5 +1,6 @@
 mod growth;
 mod rows;
+mod station;
 
 use std::alloc::{AllocError, Global};
 use std::process::Abort;
