@@ -294,6 +294,26 @@ impl<J: Journal> StationOf<J> {
         gate.pass(vcid);
         drop(desk);
     }
+
+    // The ids, and the channels out of their locks: the whole station where their list is refused, which is the one
+    // allocation.
+    fn into_channels(self) -> Result<(Vec<u8>, Vec<ChannelWith<J>>), StationOf<J>>
+        ensures vcids { IfOk result (λ parts. parts.0.items ≡ self.vcids) }
+        ensures channels { IfOk result (λ parts. vec_len parts.1 ≡ length self.vcids) }
+        ensures refused { IfErr result (λ station. station ≡ self) }
+    {
+        let Ok(room) = Vec::with_capacity(self.alloc, self.desks.len()) else {
+            return Err(self);
+        };
+        let StationOf {
+            alloc: _,
+            scid: _,
+            vcids,
+            issued: _,
+            desks,
+        } = self;
+        Ok((vcids, take_out(desks, room)))
+    }
 }
 
 impl StationOf<Kept> {
@@ -311,21 +331,15 @@ impl StationOf<Kept> {
         if operators.len() < usize::from(self.issued) {
             return Err(CloseFault::Missing(self, operators));
         }
-        let Ok(room) = Vec::with_capacity(self.alloc, self.desks.len()) else {
-            return Err(CloseFault::NoMemory(self, operators));
-        };
-        let StationOf {
-            alloc: _,
-            scid: _,
-            vcids,
-            issued: _,
-            desks,
-        } = self;
-        let channels = take_out(desks, room);
-        if are_in_balance(&vcids, &operators, &channels) {
-            Ok(channels)
-        } else {
-            Err(CloseFault::Unbalanced(channels, operators))
+        match self.into_channels() {
+            Err(station) => Err(CloseFault::NoMemory(station, operators)),
+            Ok((vcids, channels)) => {
+                if are_in_balance(&vcids, &operators, &channels) {
+                    Ok(channels)
+                } else {
+                    Err(CloseFault::Unbalanced(channels, operators))
+                }
+            }
         }
     }
 }
@@ -347,21 +361,15 @@ impl StationOf<Unkept> {
         if operators.len() < usize::from(self.issued) {
             return Err(FlightCloseFault::Missing(self, operators));
         }
-        let Ok(room) = Vec::with_capacity(self.alloc, self.desks.len()) else {
-            return Err(FlightCloseFault::NoMemory(self, operators));
-        };
-        let StationOf {
-            alloc: _,
-            scid: _,
-            vcids,
-            issued: _,
-            desks,
-        } = self;
-        let channels = take_out(desks, room);
-        if are_in_told_balance(&vcids, &operators, &channels) {
-            Ok(channels)
-        } else {
-            Err(FlightCloseFault::Unbalanced(channels, operators))
+        match self.into_channels() {
+            Err(station) => Err(FlightCloseFault::NoMemory(station, operators)),
+            Ok((vcids, channels)) => {
+                if are_in_told_balance(&vcids, &operators, &channels) {
+                    Ok(channels)
+                } else {
+                    Err(FlightCloseFault::Unbalanced(channels, operators))
+                }
+            }
         }
     }
 }

@@ -10,12 +10,14 @@ moved a b o p d e s t u h = subst (λ (x : List ℕ × List Tally × List Histor
 
 pub returns-then-are_in_balance-clause-balanced : goal.returns-then-are_in_balance-clause-balanced
 returns-then-are_in_balance-clause-balanced c =
-    moved _ _ _ _ _ _ (c.deref.ensures.value ∙ ap (λ s. s.vcids) c.self.view_is) c.deref-2.ensures.value c.deref-3.ensures.value (c.if-are_in_balance.ensures.0 (search rules))
+    let own : c.in-Ok.vcids.items ≡ c.args.self.vcids = search rules in
+    moved _ _ _ _ _ _ (c.deref.ensures.value ∙ own) c.deref-in-Ok.ensures.value c.deref-in-Ok-2.ensures.value (c.if-are_in_balance.ensures.0 (search rules))
 
 pub returns-then-are_in_balance-clause-channels : goal.returns-then-are_in_balance-clause-channels
 returns-then-are_in_balance-clause-channels c =
-    let good = moved _ _ _ _ _ _ (c.deref.ensures.value ∙ ap (λ s. s.vcids) c.self.view_is) c.deref-2.ensures.value c.deref-3.ensures.value (c.if-are_in_balance.ensures.0 (search rules)) in
-    in-order c.args.self.vcids c.take_out-channels.result.items (search rules) (λ place h at. (good place h at).0)
+    let own : c.in-Ok.vcids.items ≡ c.args.self.vcids = search rules in
+    let good = moved _ _ _ _ _ _ (c.deref.ensures.value ∙ own) c.deref-in-Ok.ensures.value c.deref-in-Ok-2.ensures.value (c.if-are_in_balance.ensures.0 (search rules)) in
+    in-order c.args.self.vcids c.in-Ok.channels.items (search rules) (λ place h at. (good place h at).0)
 
 pub returns-else-are_in_balance-clause-fault : goal.returns-else-are_in_balance-clause-fault
 returns-else-are_in_balance-clause-fault c = (
@@ -23,6 +25,7 @@ returns-else-are_in_balance-clause-fault c = (
   refl,
   search rules,
   λ h.
-      let e = c.if-are_in_balance.ensures.1 (moved _ _ _ _ _ _ (sym (c.deref.ensures.value ∙ ap (λ s. s.vcids) c.self.view_is)) (sym c.deref-2.ensures.value) (sym c.deref-3.ensures.value) h) in
+      let own : c.in-Ok.vcids.items ≡ c.args.self.vcids = search rules in
+      let e = c.if-are_in_balance.ensures.1 (moved _ _ _ _ _ _ (sym (c.deref.ensures.value ∙ own)) (sym c.deref-in-Ok.ensures.value) (sym c.deref-in-Ok-2.ensures.value) h) in
       absurd cc,
 )
