@@ -7,7 +7,8 @@
 //!
 //! What is under a lock is known by its type and by the id that it is asked for, so a call of the [`Station`] promises less: what
 //! it answers is what FARM-1 and the queues answer at some lawful journal of a channel with that id. [`Station::close`] ties the
-//! journals to the operators' counts.
+//! journals to the operators' counts. A [`FlightStation`] does the same with journals that take no memory, and its close goes
+//! by the numbers of their events.
 #![tactic(auto)]
 
 mod closing;
