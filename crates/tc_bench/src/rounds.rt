@@ -30,11 +30,7 @@ fn play<J: Journal>(alloc: Global, count: u32) -> Result<u64> {
 }
 
 // A frame is taken in, its data field released, and its packet taken.
-fn round<J: Journal>(
-    channel: &mut ChannelWith<J>,
-    frame: &Frame,
-    score: &mut Score,
-) -> Result<()> {
+fn round<J: Journal>(channel: &mut ChannelWith<J>, frame: &Frame, score: &mut Score) -> Result<()> {
     let reply = channel.frame(frame)?;
     if !reply.act.accepted {
         return Err(anyhow!("a frame was discarded"));

@@ -39,10 +39,7 @@ impl Model for Publisher {
 impl Publisher {
     /// Makes a board by the settings of a channel, whose journal so far is its first publication. The board and its word are
     /// the two allocations.
-    pub fn new<J: Journal>(
-        alloc: Global,
-        channel: &ChannelWith<J>,
-    ) -> Result<Publisher, NoMemory>
+    pub fn new<J: Journal>(alloc: Global, channel: &ChannelWith<J>) -> Result<Publisher, NoMemory>
         ensures { IfOk result (λ publisher. publisher.published ≡ channel.now) }
     {
         let word = u64::from(channel.clcw(NO_FLAG));
