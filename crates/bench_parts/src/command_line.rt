@@ -27,6 +27,7 @@ pub enum Action {
 /// What the words ask for, the program's name first.
 pub fn judge(words: &[String]) -> Option<Action>
     ensures alone { length words.now < 2 → result ≡ Some Action.Scores }
+    ensures two { length words.now ≡ 3 → result ≡ None }
     ensures many { 4 < length words.now → result ≡ None }
 {
     match words {
