@@ -93,10 +93,10 @@ fn an_operator_of_another_flight_is_out_of_balance(rt: HostRuntime) {
     assert_eq!(rt; others.len(), 1);
 }
 
-// Forty Unlocks for virtual channel 1.
-fn forty_unlocks(alloc: Global) -> Result<WorkList, AllocError> {
+// 41 Unlocks for virtual channel 1.
+fn unlocks(alloc: Global) -> Result<WorkList, AllocError> {
     let mut jobs = Vec::new(alloc);
-    for line in 0..40 {
+    for line in 0..41 {
         let order = Order::Bring(Octets::copied(alloc, &UNLOCK)?);
         jobs.push(Job { line, order })?;
     }
@@ -106,11 +106,11 @@ fn forty_unlocks(alloc: Global) -> Result<WorkList, AllocError> {
     })
 }
 
-// Each of 240 Unlocks raises FARM-B by one, which has two bits.
+// Each of 246 Unlocks raises FARM-B by one, which has two bits and so comes to 2.
 #[test]
 fn six_threads_on_a_station_in_flight(rt: HostRuntime) {
     let alloc = rt.alloc();
-    let one = || forty_unlocks(alloc).expect(&rt, "jobs");
+    let one = || unlocks(alloc).expect(&rt, "jobs");
     let lists = [one(), one(), one(), one(), one(), one()];
     let list = list_of_settings(&rt, alloc);
     let mut station = FlightStation::new(alloc, 42, list).expect(&rt, "a station");
@@ -118,10 +118,10 @@ fn six_threads_on_a_station_in_flight(rt: HostRuntime) {
     let done = station.work(&rt, &FreeGate, &mut operators, &lists);
     assert_eq!(rt; done, Ok(()));
     for operator in &operators {
-        assert_eq!(rt; operator.count(1), Some(40));
+        assert_eq!(rt; operator.count(1), Some(41));
     }
     let mut watcher = station.watcher(&rt, 1).expect(&rt, "a watcher");
-    assert_eq!(rt; station.watch(&mut watcher, NO_FLAG), 0x0104_0000);
+    assert_eq!(rt; station.watch(&mut watcher, NO_FLAG), 0x0104_0400);
 }
 
 // A refused frame leaves the count as it was, and the close is made again.
