@@ -13,6 +13,8 @@ pub mod Places
 pub mod Wholes
 pub mod Chosen
 pub mod Takes
+pub mod Room
+pub mod Octets
 pub mod Filled
 pub mod Held
 pub mod Small

@@ -59,7 +59,7 @@ run_from-both P Q p q c b (Take apid ∷ es) h u = run_from-both P Q p q c (step
 run_from-both P Q p q c b (TakeUnit map_id ∷ es) h u = run_from-both P Q p q c (step c b (TakeUnit map_id)) es h (q.taken map_id b.units u)
 
 -- what holds of empty packet queues, and of empty unit queues, and goes on, holds of each state's
-run-both : (P Q : List Queue → Type 0) → GoesOn P → GoesOn Q → (c : Settings) (journal : List Event) → P (map empty_queue c.queues) → Q (map empty_unit_queue c.maps) → P (run c journal).queues × Q (run c journal).units
+pub run-both : (P Q : List Queue → Type 0) → GoesOn P → GoesOn Q → (c : Settings) (journal : List Event) → P (map empty_queue c.queues) → Q (map empty_unit_queue c.maps) → P (run c journal).queues × Q (run c journal).units
 unfolding run
 run-both P Q p q c journal h u = run_from-both P Q p q c (first_state c) journal h u
 

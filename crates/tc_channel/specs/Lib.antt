@@ -1,6 +1,7 @@
 pub mod Settings
 pub mod Journal
 pub mod ChannelState
+pub mod Memory
 pub mod Admission
 pub mod Run
 pub mod Reply

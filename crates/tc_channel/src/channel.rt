@@ -1,6 +1,6 @@
 //! A channel and its journal.
 
-ghost use Rattle.std.specs.Prelude.{List, ℕ, ◌≡◌, [], ◌<◌, ◌↔◌, ◌∷◌, ◌++◌, length, min, ◌^◌, ◌-◌, slice_get, IfOk, OnOk, OnErr, IsErrOf, MatchResult, IsSome, IsTrue, Some, None, Option, option_map};
+ghost use Rattle.std.specs.Prelude.{List, ℕ, ◌≡◌, [], ◌<◌, ◌≤◌, ◌↔◌, ◌∷◌, ◌++◌, length, min, ◌^◌, ◌-◌, slice_get, IfOk, OnOk, OnErr, IsErrOf, MatchResult, IsSome, IsTrue, Some, None, Option, option_map};
 ghost use Rattle.std.specs.Option.{option_and_then};
 ghost use Rattle.tc_channel.specs.Settings.{IsAllowed, IsRefusal};
 ghost use Rattle.tc_channel.specs.Journal.{with_event, event_of};
@@ -13,19 +13,20 @@ ghost use Rattle.tc_channel.specs.HeldQueues.{AreDistinct, keys_of, IsPlanned, i
 
 use crate::copying::{Worksheet, put_copies};
 use crate::event::Event;
+use crate::fields::{FieldBuffer, LARGEST_FIELD};
 use crate::items::Octets;
 use crate::journal::Journal;
 use crate::kept::Kept;
 use crate::lent::LentEvent;
 use crate::past::Past;
 use crate::queues::{
-    HeldQueue, Planned, empty_queues, empty_unit_queues, find, plan, plan_nothing, pop, put_unit,
+    HeldQueue, Planned, empty_queues, empty_unit_queues, find, oldest_with, plan, plan_nothing,
+    pop, put_unit,
 };
 use crate::reply::{Delivery, FrameReply, NoMemory, ReleaseFault, TakeFault, TakeUnitFault};
 use crate::settings::{Settings, SettingsFault};
 use crate::unkept::Unkept;
-use circular_buffer::HeapCircularBuffer;
-use std::alloc::{AllocError, Global};
+use std::alloc::Global;
 use std::marker::Model;
 use std::snapshot::Snapshot;
 use tc_link::{Act, Arrival, Farm, Frame, Kind, Link, Report, Window, clcw_word, kind};
@@ -38,7 +39,7 @@ pub struct ChannelWith<J: Journal> {
     alloc: Global,
     settings: Settings,
     farm: Farm,
-    fields: HeapCircularBuffer<Octets>,
+    fields: FieldBuffer,
     reassembler: Reassembler,
     queues: Vec<HeldQueue>,
     units: Vec<HeldQueue>,
@@ -51,7 +52,7 @@ pub struct ChannelWith<J: Journal> {
 pub type Channel = ChannelWith<Kept>;
 
 /// A channel whose journal is read by clauses alone and takes no memory, for flight software and long simulations. It does
-/// what [`Channel`] does, by the same proof.
+/// what [`Channel`] does, by the same proof, but gives no journal out.
 pub type FlightChannel = ChannelWith<Unkept>;
 
 impl<J: Journal> Model for ChannelWith<J> {
@@ -82,8 +83,8 @@ impl<J: Journal> ChannelWith<J> {
     }
 
     /// Takes a frame in, of whatever virtual channel. An accepted AD data field is buffered; of an accepted BD data field
-    /// the unit that it ends is queued at once: whole where its MAP is chosen, else its packets. It copies the octets for the
-    /// journal, an accepted AD data field for the buffer, and each packet that is queued; a whole unit is moved.
+    /// the unit that it ends is queued at once: whole where its MAP is chosen, else its packets. It copies the octets for a
+    /// journal that is kept, an accepted AD data field for the buffer, and each packet that is queued; a whole unit is moved.
     pub fn frame(&mut self, frame: &Frame) -> Result<FrameReply, NoMemory>
         ensures allowed { IsAllowed self.old.settings }
         ensures lawful { IsLawful self.old.settings self.old.journal }
@@ -98,7 +99,6 @@ impl<J: Journal> ChannelWith<J> {
         let field = frame.field();
         let event = LentEvent::Frame(frame.octets());
         let entry = self.journal.prepare(self.alloc, &event)?;
-        let buffered = copy_for_buffer(self.alloc, &act, field)?;
         let planned = plan_bypass(
             self.alloc,
             &self.reassembler,
@@ -110,7 +110,7 @@ impl<J: Journal> ChannelWith<J> {
         )?;
         pass_bypass(&mut self.reassembler, kind, field)?;
         self.farm = farm;
-        put_field(&mut self.fields, buffered);
+        put_field(&mut self.fields, &act, field);
         put_copies(self.alloc, &mut self.queues, &mut self.sheet.copies);
         put_unit(&mut self.units, planned.unit);
         self.journal.append(&event, entry);
@@ -152,7 +152,8 @@ impl<J: Journal> ChannelWith<J> {
         Ok(planned.delivery)
     }
 
-    /// Takes the oldest packet out of the queue with this APID. The packet is moved, not copied; the journal alone may grow.
+    /// Takes the oldest packet out of the queue with this APID. The packet is moved, not copied; a journal that is kept may grow,
+    /// and nothing else does.
     pub fn take(&mut self, apid: u16) -> Result<Vec<u8>, TakeFault>
         ensures allowed { IsAllowed self.old.settings }
         ensures lawful { IsLawful self.old.settings self.old.journal }
@@ -173,7 +174,8 @@ impl<J: Journal> ChannelWith<J> {
         Ok(packet.into_vec())
     }
 
-    /// Takes the oldest unit out of the queue of this chosen MAP. The unit is moved, not copied; the journal alone may grow.
+    /// Takes the oldest unit out of the queue of this chosen MAP. The unit is moved, not copied; a journal that is kept may grow,
+    /// and nothing else does.
     pub fn take_unit(&mut self, map: u8) -> Result<Vec<u8>, TakeUnitFault>
         ensures allowed { IsAllowed self.old.settings }
         ensures lawful { IsLawful self.old.settings self.old.journal }
@@ -186,6 +188,26 @@ impl<J: Journal> ChannelWith<J> {
         let (key, event) = (map as u16, LentEvent::TakeUnit(map));
         let unit = take_oldest(self.alloc, &mut self.units, &mut self.journal, key, &event)?;
         Ok(unit.into_vec())
+    }
+
+    /// The octets of the packet that [`take`](ChannelWith::take) with this APID gives next, lent. None where there is no such
+    /// queue, and where it is empty. It takes no memory, and is no event.
+    pub fn oldest(&self, apid: u16) -> Option<&[u8]>
+        ensures packet { option_map (λ octets. octets.now) result ≡ take_reply self.now.settings self.now.journal apid }
+        ensures allowed { IsAllowed self.now.settings }
+        ensures lawful { IsLawful self.now.settings self.now.journal }
+    {
+        oldest_with(&self.queues, apid)
+    }
+
+    /// The octets of the unit that [`take_unit`](ChannelWith::take_unit) with this MAP gives next, lent. None where the MAP isn't
+    /// chosen, and where its queue is empty. It takes no memory, and is no event.
+    pub fn oldest_unit(&self, map: u8) -> Option<&[u8]>
+        ensures unit { option_map (λ octets. octets.now) result ≡ unit_reply self.now.settings self.now.journal map }
+        ensures allowed { IsAllowed self.now.settings }
+        ensures lawful { IsLawful self.now.settings self.now.journal }
+    {
+        oldest_with(&self.units, map as u16)
     }
 
     /// FARM-1's components.
@@ -291,7 +313,7 @@ fn start<J: Journal>(alloc: Global, settings: Settings) -> Result<ChannelWith<J>
     ensures journal { IfOk result (λ channel. channel.journal ≡ []) }
 {
     let window = Window::new(settings.width).unwrap();
-    let fields = HeapCircularBuffer::with_capacity(alloc, settings.buffer as usize)?;
+    let fields = FieldBuffer::with_capacity(alloc, settings.buffer as usize)?;
     let reassembler = Reassembler::new(alloc, settings.segmented)?;
     let queues = empty_queues(alloc, settings.queues.as_slice())?;
     let units = empty_unit_queues(alloc, settings.maps.as_slice())?;
@@ -333,28 +355,15 @@ fn take_oldest<J: Journal>(
     Ok(item)
 }
 
-// The data field of an accepted AD frame, copied.
-fn copy_for_buffer(alloc: Global, act: &Act, field: &[u8]) -> Result<Option<Octets>, AllocError>
-    ensures { IfOk result (λ buffered. buffered ≡ buffered_of act.now field.now) }
-{
-    if act.event == 1 && act.accepted {
-        Ok(Some(Octets::copied(alloc, field)?))
-    } else {
-        Ok(None)
-    }
-}
-
-// Puts a data field, for which there is room, at the buffer's end.
-fn put_field(fields: &mut HeapCircularBuffer<Octets>, field: Option<Octets>)
-    requires { IsSome field → length fields.old.items < fields.old.capacity }
-    ensures items { fields.new.items ≡ with_field fields.old.items field }
+// Copies the data field of an accepted AD frame, for which there is room, to the buffer's end.
+fn put_field(fields: &mut FieldBuffer, act: &Act, field: &[u8])
+    requires field { length field.now ≤ LARGEST_FIELD }
+    requires room { IsSome (buffered_of act.now field.now) → length fields.old.items < fields.old.capacity }
+    ensures items { fields.new.items ≡ with_field fields.old.items (buffered_of act.now field.now) }
     ensures capacity { fields.new.capacity ≡ fields.old.capacity }
 {
-    match field {
-        Some(field) => {
-            fields.push_back(field);
-        }
-        None => {}
+    if act.event == 1 && act.accepted {
+        fields.push_back(field);
     }
 }
 
@@ -376,10 +385,7 @@ fn pass_bypass(reassembler: &mut Reassembler, kind: Kind, field: &[u8]) -> Resul
 }
 
 // Passes the oldest field of the buffer to reassembly.
-fn pass_oldest(
-    reassembler: &mut Reassembler,
-    fields: &HeapCircularBuffer<Octets>,
-) -> Result<(), NoMemory>
+fn pass_oldest(reassembler: &mut Reassembler, fields: &FieldBuffer) -> Result<(), NoMemory>
     requires some { 0 < length fields.now.items }
     requires octets { 0 < length (first_of fields.now.items) }
     ensures ok { OnOk result (Follows reassembler.old reassembler.new Service.Ad (first_of fields.now.items)) }
@@ -387,7 +393,7 @@ fn pass_oldest(
 {
     match fields.front() {
         Some(field) => {
-            reassembler.advance(Service::Ad, field.as_slice())?;
+            reassembler.advance(Service::Ad, field)?;
             Ok(())
         }
         None => Ok(()),
@@ -423,7 +429,7 @@ fn plan_oldest(
     reassembler: &Reassembler,
     queues: &[HeldQueue],
     units: &[HeldQueue],
-    fields: &HeapCircularBuffer<Octets>,
+    fields: &FieldBuffer,
     sheet: &mut Worksheet,
 ) -> Result<Planned, NoMemory>
     requires some { 0 < length fields.now.items }
@@ -433,15 +439,7 @@ fn plan_oldest(
     ensures { IfOk result (λ p. (unit : Option (List ℕ)) × Ends reassembler.now Service.Ad (first_of fields.now.items) unit × IsPlanned (map_of (first_of fields.now.items)) unit queues.now units.now sheet.new.copies.items p) }
 {
     match fields.front() {
-        Some(field) => plan(
-            alloc,
-            reassembler,
-            queues,
-            units,
-            Service::Ad,
-            field.as_slice(),
-            sheet,
-        ),
+        Some(field) => plan(alloc, reassembler, queues, units, Service::Ad, field, sheet),
         None => Ok(plan_nothing(sheet)),
     }
 }

@@ -13,12 +13,12 @@ use std::alloc::{AllocError, Global};
 use tc_packet::{Packet, next_packet};
 
 // How many APIDs there are: they have 11 bits (CCSDS 133.0-B, 4.1.3.3).
-const APIDS: usize = 2_048;
+pub(crate) const APIDS: usize = 2_048;
 
 // A table of places pays for a unit of so many octets and for so many queues.
 const OCTETS_FOR_A_TABLE: usize = 128;
 
-const QUEUES_FOR_A_TABLE: usize = 64;
+pub(crate) const QUEUES_FOR_A_TABLE: usize = 64;
 
 // The list of copies is kept where it has room for no more than so many. One frame has 145 packets at most, seven octets
 // each, so what a frame needs is kept, and what a unit of many segments needed is let go.

@@ -1,23 +1,25 @@
 //! One virtual channel of a telecommand receiver, with the journal of its events.
 //!
-//! A contract sees a [`Channel`] as its settings and its journal. All else that it has is the run of
-//! that journal: FARM-1's components, the buffered data fields, the open runs of reassembly, the packet
-//! queues and the unit queues. The laws over these definitions are the contracts of
+//! A contract sees a [`Channel`], and a [`FlightChannel`], whose journal takes no memory, as its
+//! settings and its journal. All else that it has is the run of that journal: FARM-1's components, the buffered data
+//! fields, the open runs of reassembly, the packet queues and the unit queues. The laws over these definitions are the contracts of
 //! [`allowed_settings_have_no_fault`], [`wait_means_no_room`], [`each_frame_has_a_step`],
 //! [`each_journal_has_an_era`], [`accepted_frames_count_up`], [`queues_keep_to_their_capacity`],
 //! [`chosen_maps_stay`], [`a_unit_is_delivered_whole_or_by_packets`], [`a_unit_is_kept_where_its_queue_has_room`],
 //! [`buffer_keeps_to_its_size`], [`each_packet_is_queued_or_dropped`],
-//! [`each_clcw_fits_its_word`], [`a_longer_run_goes_on`] and [`a_plain_channel_takes_each_field_as_a_unit`].
+//! [`no_more_items_wait_than_memory_counts`], [`each_clcw_fits_its_word`], [`a_longer_run_goes_on`] and [`a_plain_channel_takes_each_field_as_a_unit`].
 #![tactic(auto)]
 
 mod channel;
 mod copying;
 mod event;
+mod fields;
 mod items;
 mod journal;
 mod kept;
 mod laws;
 mod lent;
+mod memory;
 mod past;
 mod queues;
 mod reply;
@@ -37,6 +39,7 @@ pub use laws::{
     each_packet_is_queued_or_dropped, queues_keep_to_their_capacity, wait_means_no_room,
 };
 pub use lent::LentEvent;
+pub use memory::no_more_items_wait_than_memory_counts;
 pub use past::Past;
 pub use reply::{Delivery, FrameReply, NoMemory, ReleaseFault, TakeFault, TakeUnitFault};
 pub use settings::{MapSetting, QueueSetting, Settings, SettingsFault};

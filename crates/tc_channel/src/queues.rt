@@ -1,12 +1,12 @@
 //! The queues of a channel.
 
-ghost use Rattle.std.specs.Prelude.{ℕ, List, [], ◌∷◌, ◌<◌, ◌≤◌, ◌≡◌, length, map, IfOk, slice_get, is_some, Some, None, Option};
+ghost use Rattle.std.specs.Prelude.{ℕ, List, [], ◌∷◌, ◌<◌, ◌≤◌, ◌≡◌, length, map, IfOk, slice_get, is_some, Some, None, Option, option_map};
 ghost use Rattle.std.specs.Option.{option_and_then, option_copied};
 ghost use Rattle.tc_packet.specs.Reassembly.{bounded};
 ghost use Rattle.tc_channel.specs.ChannelState.{queue_with, empty_queue, empty_unit_queue};
 ghost use Rattle.tc_channel.specs.Admission.{is_of_map, map_of};
 ghost use Rattle.tc_channel.specs.Channel.{Ends};
-ghost use Rattle.tc_channel.specs.HeldQueues.{held, keys_of, AreDistinct, copies_from, put_all, HavePlaces, queue_for, popped, placed, placed_at, IsNothing, IsPlannedByPackets, IsPlannedWhole, IsPlanned};
+ghost use Rattle.tc_channel.specs.HeldQueues.{held, keys_of, AreDistinct, copies_from, put_all, HavePlaces, queue_for, items_for, popped, placed, placed_at, IsNothing, IsPlannedByPackets, IsPlannedWhole, IsPlanned};
 
 use crate::copying::{Worksheet, copy_shares};
 use crate::items::Octets;
@@ -95,6 +95,13 @@ fn is_there(queues: &[HeldQueue], key: u16) -> bool
     ensures { result ≡ is_some (queue_for key queues.now) }
 {
     find(queues, key).is_some()
+}
+
+/// The octets of the oldest item of the queue with this key.
+pub(crate) fn oldest_with(queues: &[HeldQueue], key: u16) -> Option<&[u8]>
+    ensures { option_map (λ octets. octets.now) result ≡ option_and_then (λ items. slice_get items 0) (items_for key queues.now) }
+{
+    Some(find(queues, key)?.ring.front()?.as_slice())
 }
 
 /// Takes the oldest item out of the queue with this key.

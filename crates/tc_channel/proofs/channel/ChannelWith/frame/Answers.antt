@@ -42,7 +42,7 @@ invariant_of-self-2 g c =
     c.self.invariant c.kind-kind.ensures (rw c.field-field.ensures at c.in_ok-pass_bypass.ensures.ok) (rw c.field-field.ensures at c.in_ok-planned.ensures.1) (rw (c.deref.ensures.value, c.deref-2.ensures.value, c.field-field.ensures) at c.in_ok-planned.ensures.2) c.put_copies.ensures c.put_unit.ensures c.octets.ensures.whole
     (row-is c.args.frame.now c.kind-kind.result c.len.result c.capacity.result c.self.invariant c.kind-kind.ensures c.len.ensures.len c.capacity.ensures.capacity)
     c.step-act.ensures.event c.step-act.ensures.accepted c.step-act.ensures.width c.step-act.ensures.report
-    (c.put_field.ensures.items ∙ ap (with_field f.fields.items) (c.in_ok-buffered.ensures ∙ ap (buffered_of c.step-act.result) c.field-field.ensures)) c.put_field.ensures.capacity)
+    (c.put_field.ensures.items ∙ ap (λ field. with_field f.fields.items (buffered_of c.step-act.result field)) c.field-field.ensures) c.put_field.ensures.capacity)
 
 pub returns-clause-reply : goal.returns-clause-reply
 unfolding frame_reply

@@ -55,7 +55,7 @@ invariant_of-self-2 g c =
     let some : 0 < length f.fields.items = some-field c.self.view_is c.self.invariant (λ e. absurd (let t = c.if-has_empty_buffer.ensures.1 e in cc)) in
     let e : g.J.Journal.events c.append.new.self ≡ (g.J.Journal.events f.journal) ++ Release ∷ [] = grind (arith, common_steps) in
     rw e (release-keeps _ c.plan_oldest.new.sheet.copies.items c.in_ok-planned.planned c.in_ok-planned.ensures.0
-    c.self.invariant c.in_ok-pass_oldest.ensures.ok c.in_ok-planned.ensures.1 (rw (c.deref.ensures.value, c.deref-2.ensures.value) at c.in_ok-planned.ensures.2) c.put_copies.ensures c.put_unit.ensures some c.step.ensures.width c.step.ensures.report c.pop_front.ensures.items)
+    c.self.invariant c.in_ok-pass_oldest.ensures.ok c.in_ok-planned.ensures.1 (rw (c.deref.ensures.value, c.deref-2.ensures.value) at c.in_ok-planned.ensures.2) c.put_copies.ensures c.put_unit.ensures some c.step.ensures.width c.step.ensures.report c.pop_front.ensures)
 
 pub returns-clause-reply : goal.returns-clause-reply
 unfolding release_reply

@@ -1,0 +1,63 @@
+-- No more items wait in the queues than the bound of memory counts.
+use Rattle.std.proofs.Common.{◌≡◌, ℕ, ◌+◌, ◌≤◌, Bool, true, false, cond, eqb, ◌&&◌, List, [], ◌∷◌, length, map, refl, sym, ap, ◌∙◌, arith}
+use Rattle.std.specs.Prelude.{nat_lt, sum_by}
+use Rattle.std.proofs.lemmas.List.{length-drop}
+use Rattle.std.proofs.lemmas.List.Sums.{sum_by-cons}
+use Rattle.tc_channel.specs.declared.settings.QueueSetting.{QueueSetting}
+use Rattle.tc_channel.specs.declared.settings.MapSetting.{MapSetting}
+use Rattle.tc_channel.specs.declared.settings.Settings.{Settings}
+use Rattle.tc_channel.specs.declared.event.Event.{Event}
+use Rattle.tc_channel.specs.ChannelState.{Queue, empty_queue, empty_unit_queue, waiting}
+use Rattle.tc_channel.specs.Admission.{with_share, with_shares}
+use Rattle.tc_channel.specs.Memory.{packets_held, units_held, waiting_in_all}
+use Rattle.tc_channel.specs.Run.{taken_from, run}
+use Rattle.tc_channel.proofs.StateQueues.{GoesOn, AreKept, run-both, queues-kept, units-kept}
+
+abbrev room : List Queue → ℕ
+room qs = sum_by (λ (q : Queue). q.capacity) qs
+
+room-cons : (q : Queue) (qs : List Queue) → room (q ∷ qs) ≡ q.capacity + room qs
+room-cons q qs = sum_by-cons (λ (x : Queue). x.capacity) q qs
+
+room-with_shares : (wanted : ℕ → List ℕ → Bool) (items : List (List ℕ)) (qs : List Queue) → room (with_shares wanted items qs) ≡ room qs
+room-with_shares wanted items [] = refl
+room-with_shares wanted items (q ∷ qs) = room-cons (with_share wanted items q) (with_shares wanted items qs) ∙ ap (λ x. q.capacity + x) (room-with_shares wanted items qs) ∙ sym (room-cons q qs)
+
+taken-capacity : (key : ℕ) (q : Queue) → (taken_from key q).capacity ≡ q.capacity
+taken-capacity key q = by (eqb q.key key && nat_lt q.taken (length q.admitted)) where
+  by : (t : Bool) → (cond t (record q { taken = q.taken + 1 }) q).capacity ≡ q.capacity
+  by true = refl
+  by false = refl
+
+room-taken : (key : ℕ) (qs : List Queue) → room (map (taken_from key) qs) ≡ room qs
+room-taken key [] = refl
+room-taken key (q ∷ qs) = omega (arith, room-cons (taken_from key q) (map (taken_from key) qs), taken-capacity key q, room-taken key qs, room-cons q qs)
+
+room-goes-on : (first : ℕ) → GoesOn (λ qs. room qs ≡ first)
+room-goes-on first = record {
+  offered = λ wanted items qs h. room-with_shares wanted items qs ∙ h;
+  taken = λ key qs h. room-taken key qs ∙ h;
+}
+
+room-empty : (qs : List QueueSetting) → room (map empty_queue qs) ≡ sum_by (λ (q : QueueSetting). q.capacity) qs
+room-empty [] = refl
+room-empty (q ∷ qs) = room-cons (empty_queue q) (map empty_queue qs) ∙ ap (λ x. q.capacity + x) (room-empty qs) ∙ sym (sum_by-cons (λ (x : QueueSetting). x.capacity) q qs)
+
+room-empty-units : (ms : List MapSetting) → room (map empty_unit_queue ms) ≡ sum_by (λ (m : MapSetting). m.capacity) ms
+room-empty-units [] = refl
+room-empty-units (m ∷ ms) = room-cons (empty_unit_queue m) (map empty_unit_queue ms) ∙ ap (λ x. m.capacity + x) (room-empty-units ms) ∙ sym (sum_by-cons (λ (x : MapSetting). x.capacity) m ms)
+
+room-stays : (s : Settings) (journal : List Event) → (room (run s journal).queues ≡ packets_held s) × (room (run s journal).units ≡ units_held s)
+room-stays s journal = run-both (λ qs. room qs ≡ packets_held s) (λ qs. room qs ≡ units_held s) (room-goes-on (packets_held s)) (room-goes-on (units_held s)) s journal (room-empty s.queues) (room-empty-units s.maps)
+
+waiting-within : (qs : List Queue) → AreKept qs → waiting_in_all qs ≤ room qs
+waiting-within [] h = omega arith
+waiting-within (q ∷ qs) h =
+    let capacity = h.0.capacity in
+    omega (arith, sum_by-cons (λ (x : Queue). length (waiting x)) q qs, length-drop q.taken q.admitted, room-cons q qs, waiting-within qs h.1)
+
+pub packets-within : (s : Settings) (journal : List Event) → waiting_in_all (run s journal).queues ≤ packets_held s
+packets-within s journal = omega (arith, waiting-within (run s journal).queues (queues-kept s journal), (room-stays s journal).0)
+
+pub units-within : (s : Settings) (journal : List Event) → waiting_in_all (run s journal).units ≤ units_held s
+units-within s journal = omega (arith, waiting-within (run s journal).units (units-kept s journal), (room-stays s journal).1)

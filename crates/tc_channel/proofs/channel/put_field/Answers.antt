@@ -1,6 +1,0 @@
-use Rattle.std.proofs.Common.{arith}
-use Rattle.std.proofs.lemmas.Grind.{common_steps}
-use Rattle.tc_channel.proofs.channel.put_field.Goals as goal
-
-pub returns-in-Some-clause-items : goal.returns-in-Some-clause-items
-returns-in-Some-clause-items c = grind (arith, common_steps) steps 1000000
