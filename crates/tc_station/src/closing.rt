@@ -1,4 +1,4 @@
-//! Whether the journals of a closed station are in balance with the operators' counts.
+//! Whether the journals of a closed station, or the numbers of their events, are in balance with the operators' counts.
 
 ghost use Rattle.std.specs.Prelude.{◌≡◌, ◌<◌, ◌↔◌, length, IsTrue, All};
 ghost use Rattle.tc_station.specs.Balance.{counted_by_all, IsInBalance, AreInBalance, IsNumberTold, AreInToldBalance};

@@ -14,6 +14,7 @@
 mod closing;
 mod desk;
 mod faults;
+mod holding;
 mod operator;
 mod station;
 mod work;
@@ -23,6 +24,7 @@ pub use faults::{
     BringFault, CloseFault, FlightCloseFault, LocateFault, OperatorsFault, ReleaseRefused,
     StationFault, TakeRefused, TakeUnitRefused, WatcherFault, WorkFault,
 };
+pub use holding::{Holding, HoldingFault, MapHolding, QueueHolding};
 pub use operator::Operator;
 pub use station::{Brought, FlightStation, Located, Station, StationOf};
 pub use work::{FreeGate, Gate, Job, Order, WorkList};

@@ -18,6 +18,7 @@ use crate::faults::{
     BringFault, CloseFault, FlightCloseFault, LocateFault, OperatorsFault, ReleaseRefused,
     StationFault, TakeRefused, TakeUnitRefused, WatcherFault,
 };
+use crate::holding::{Holding, HoldingFault, holding_in};
 use crate::operator::{Operator, place_of};
 use crate::work::Gate;
 use crossbeam_utils::CachePadded;
@@ -62,7 +63,7 @@ pub struct StationOf<J: Journal> {
 pub type Station = StationOf<Kept>;
 
 /// A station whose channels' journals take no memory, for flight software and long simulations. It does what [`Station`] does,
-/// by the same proof.
+/// by the same proof, but for its close, which compares the numbers of events.
 pub type FlightStation = StationOf<Unkept>;
 
 impl<J: Journal> Model for StationOf<J> {
@@ -80,6 +81,7 @@ impl<J: Journal> StationOf<J> {
     ghost use Rattle.tc_station.specs.Location.{IsLocated, IsPlaced, IsLocateFault, IsBringFault};
     ghost use Rattle.tc_station.specs.Moments.{IsBrought, IsBroughtWatched, IsReleased, IsTaken, IsUnitTaken, IsWatched};
     ghost use Rattle.tc_station.specs.Faults.{IsReleaseRefused, IsTakeRefused, IsTakeUnitRefused, IsWatcherFault};
+    ghost use Rattle.tc_station.specs.Holding.{IsHolding, IsHoldingFault};
 
     /// A station with a new channel for each of the settings: two lists, and what each channel and its board take. On a
     /// refusal the settings are dropped.
@@ -244,6 +246,20 @@ impl<J: Journal> StationOf<J> {
         ensures lawful { IsLawful watcher.new.seen.settings watcher.new.seen.journal }
     {
         watcher.read() + u32::from(link.no_rf) * (1 << 15) + u32::from(link.no_bit_lock) * (1 << 14)
+    }
+
+    /// What a channel has come to, read under its lock.
+    pub fn holding(&self, rt: &impl Wait, vcid: u8) -> Result<Holding, HoldingFault>
+        ensures { MatchResult result (IsHolding self.now vcid) (IsHoldingFault self.now vcid) }
+    {
+        let Some(place) = place_of(&self.vcids, vcid) else {
+            return Err(HoldingFault::UnknownChannel);
+        };
+        let desk = self.lock_desk(rt, place, vcid);
+        match holding_in(self.alloc, desk.channel()) {
+            Ok(holding) => Ok(holding),
+            Err(NoMemory) => Err(HoldingFault::NoMemory),
+        }
     }
 
     /// Brings the frame at the front of the octets to its channel, and makes a watcher that has seen the channel take it,

@@ -1,0 +1,113 @@
+//! What a channel has come to.
+
+ghost use Rattle.std.specs.Prelude.{◌≡◌, IfOk};
+ghost use Rattle.std.specs.List.{filter_map};
+ghost use Rattle.tc_channel.specs.Settings.{IsAllowed};
+ghost use Rattle.tc_channel.specs.Run.{IsLawful, run};
+ghost use Rattle.tc_channel.specs.Reply.{buffered_fields};
+ghost use Rattle.tc_station.specs.Holding.{holding_of, queue_holding, map_holding};
+
+use std::alloc::Global;
+use tc_channel::{ChannelWith, Items, Journal, MapSetting, NoMemory, QueueSetting};
+use tc_link::Report;
+use thiserror::Error;
+
+/// What a channel has come to at one moment.
+#[derive(Debug, Drop)]
+pub struct Holding {
+    /// FARM-1's components.
+    pub report: Report,
+    /// How many data fields wait in the buffer.
+    pub buffered: usize,
+    /// The packet queues, in the order of the settings.
+    pub queues: Items<QueueHolding>,
+    /// The unit queues of the chosen MAPs, in the order of the settings.
+    pub maps: Items<MapHolding>,
+}
+
+/// How many packets wait in the queue of an APID.
+#[derive(Clone, Copy, Debug, PartialEq, Eq)]
+pub struct QueueHolding {
+    pub apid: u16,
+    pub packets: usize,
+}
+
+/// How many units wait in the queue of a chosen MAP.
+#[derive(Clone, Copy, Debug, PartialEq, Eq)]
+pub struct MapHolding {
+    pub map: u8,
+    pub units: usize,
+}
+
+/// Why it isn't told what a channel has come to.
+#[derive(Clone, Copy, Debug, PartialEq, Eq, Error)]
+pub enum HoldingFault {
+    #[error("the station has no such virtual channel")]
+    UnknownChannel,
+    #[error("no memory")]
+    NoMemory,
+}
+
+/// What a channel has come to. The two lists are all that is allocated.
+pub(crate) fn holding_in<J: Journal>(
+    alloc: Global,
+    channel: &ChannelWith<J>,
+) -> Result<Holding, NoMemory>
+    ensures holding { IfOk result (λ holding. holding ≡ holding_of channel.now.settings channel.now.journal) }
+    ensures allowed { IsAllowed channel.now.settings }
+    ensures lawful { IsLawful channel.now.settings channel.now.journal }
+{
+    let settings = channel.settings();
+    let queues = packets_in(alloc, channel, settings.queues.as_slice())?;
+    let maps = units_in(alloc, channel, settings.maps.as_slice())?;
+    Ok(Holding {
+        report: channel.report(),
+        buffered: channel.buffered(),
+        queues: Items::from(queues),
+        maps: Items::from(maps),
+    })
+}
+
+fn packets_in<J: Journal>(
+    alloc: Global,
+    channel: &ChannelWith<J>,
+    queues: &[QueueSetting],
+) -> Result<Vec<QueueHolding>, NoMemory>
+    ensures { IfOk result (λ told. told.items ≡ filter_map (queue_holding channel.now.settings channel.now.journal) queues.now) }
+{
+    let told = queues
+        .iter()
+        .filter_map(|queue| packets_of(channel, queue))
+        .collect(alloc)?;
+    Ok(told)
+}
+
+fn packets_of<J: Journal>(channel: &ChannelWith<J>, queue: &QueueSetting) -> Option<QueueHolding>
+    ensures { result ≡ queue_holding channel.now.settings channel.now.journal queue.now }
+{
+    let apid = queue.apid;
+    let packets = channel.queued(apid)?;
+    Some(QueueHolding { apid, packets })
+}
+
+fn units_in<J: Journal>(
+    alloc: Global,
+    channel: &ChannelWith<J>,
+    maps: &[MapSetting],
+) -> Result<Vec<MapHolding>, NoMemory>
+    ensures { IfOk result (λ told. told.items ≡ filter_map (map_holding channel.now.settings channel.now.journal) maps.now) }
+{
+    let told = maps
+        .iter()
+        .filter_map(|chosen| units_of(channel, chosen))
+        .collect(alloc)?;
+    Ok(told)
+}
+
+fn units_of<J: Journal>(channel: &ChannelWith<J>, chosen: &MapSetting) -> Option<MapHolding>
+    ensures { result ≡ map_holding channel.now.settings channel.now.journal chosen.now }
+{
+    let map = chosen.map;
+    let units = channel.units(map)?;
+    Some(MapHolding { map, units })
+}
