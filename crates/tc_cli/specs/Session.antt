@@ -1,5 +1,5 @@
 -- A script whose lines are done in order: the station that an operation finds, and what a line is answered.
-use Rattle.std.specs.Prelude.{◌≡◌, ℕ, Option, Some, None}
+use Rattle.std.specs.Prelude.{◌≡◌, ◌⊎◌, ℕ, Option, Some, None}
 use Rattle.tc_station.specs.Roster.{Roster}
 use Rattle.tc_station.specs.StationSettings.{vcids_of}
 use Rattle.tc_cli.specs.Manned.{Manned, newly_manned, after_answer}
@@ -7,6 +7,8 @@ use Rattle.tc_cli.specs.Operation.{IsFrameAnswer, IsReleaseAnswer, IsTakeAnswer,
 use Rattle.tc_cli.specs.declared.answer.Answer.{Answer}
 use Rattle.tc_cli.specs.declared.instruction.Instruction.{Instruction}
 use Rattle.tc_cli.specs.declared.instruction.Instruction.TheVariants.{Nothing, Channel, Add, Frame, Release, Take, Unit as TakeUnit, Clcw}
+use Rattle.tc_text.specs.declared.fault.Reason.{Reason}
+use Rattle.tc_text.specs.declared.fault.Reason.TheVariants.{NoMemory}
 use Rattle.tc_cli.specs.declared.stage.Stage.{Stage}
 use Rattle.tc_cli.specs.declared.stage.Stage.TheVariants.{SettingUp, Operating}
 
@@ -17,6 +19,10 @@ Session = Stage Manned
 abbrev pub manned_for : ℕ → Session → Manned
 manned_for scid (SettingUp list) = newly_manned scid (vcids_of list)
 manned_for scid (Operating manned) = manned
+
+-- what a refused line leaves: all as it was, or where memory was wanting the station made for it
+abbrev pub IsLeft : ℕ → Reason → Session → Session → Type 0
+IsLeft scid reason old new = (new ≡ old) ⊎ ((reason ≡ NoMemory) × (new ≡ Operating (manned_for scid old)))
 
 -- an operation is answered at the station that it finds, and is counted
 abbrev pub IsOperated : ℕ → (Roster → Answer → Type 0) → Session → Session → Option Answer → Type 0

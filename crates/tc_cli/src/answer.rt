@@ -7,7 +7,7 @@ use tc_station::LocateFault;
 
 /// What an operation answers.
 #[derive(Debug, Drop)]
-pub(crate) enum Answer {
+pub enum Answer {
     Frame { vcid: u8, reply: FrameReply },
     Release { vcid: u8, delivery: Delivery },
     Take { vcid: u8, apid: u16, packet: Octets },
@@ -18,7 +18,7 @@ pub(crate) enum Answer {
 
 /// Why an operation is refused.
 #[derive(Clone, Copy, Debug, PartialEq, Eq)]
-pub(crate) enum Refusal {
+pub enum Refusal {
     /// Octets that are no frame for a channel of the station.
     Unlocated(LocateFault),
     UnknownChannel,

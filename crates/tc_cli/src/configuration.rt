@@ -8,12 +8,13 @@ ghost use Rattle.tc_cli.specs.Parting.{empty_list};
 ghost use Rattle.tc_cli.specs.Phase.{IsChannelRefused, IsAdditionRefused, IsSettingsReason};
 ghost use Rattle.tc_station.specs.StationSettings.{vcids_of};
 
+use crate::copying::copy_each;
 use crate::growing::{append, let_go_of_last};
 use crate::instruction::Addition;
 use std::alloc::Global;
 use std::marker::Model;
 use tc_channel::{Items, Settings, allowed_settings_have_no_fault};
-use tc_station::{Station, StationFault, WorkList};
+use tc_station::{FlightStation, StationFault, WorkList};
 use tc_text::Reason;
 
 /// The settings of the channels so far, in the order of their lines. A station can have them, as
@@ -93,6 +94,15 @@ impl Configuration {
         Ok(vcids)
     }
 
+    /// The same settings once more.
+    pub(crate) fn copy(&self, alloc: Global) -> Result<Configuration, Reason>
+        ensures copy { IfOk result (λ copy. copy ≡ self.now) }
+        ensures reason { IfErr result (λ reason. reason ≡ Reason.NoMemory) }
+    {
+        let channels = copy_each(alloc, &self.channels)?;
+        Ok(Configuration { channels })
+    }
+
     /// An empty list of jobs for each channel.
     pub(crate) fn lists(&self, alloc: Global) -> Result<Vec<WorkList>, Reason>
         ensures lists { IfOk result (λ lists. lists.items ≡ map empty_list self.now) }
@@ -110,7 +120,7 @@ impl Configuration {
     }
 
     /// A station with these channels.
-    pub(crate) fn station(self, alloc: Global, scid: u16) -> Result<Station, Reason>
+    pub(crate) fn station(self, alloc: Global, scid: u16) -> Result<FlightStation, Reason>
         requires { scid ≤ 1023 }
         ensures station { IfOk result (λ station. station ≡ record { scid = scid; vcids = vcids_of self; issued = 0 }) }
         ensures some { OnOk result (self ≢ []) }
@@ -118,7 +128,7 @@ impl Configuration {
     {
         allowed_settings_have_no_fault();
         let Configuration { channels } = self;
-        match Station::new(alloc, scid, channels) {
+        match FlightStation::new(alloc, scid, channels) {
             Ok(station) => Ok(station),
             Err(StationFault::NoChannel) => Err(Reason::NoChannel),
             Err(StationFault::NoMemory) => Err(Reason::NoMemory),

@@ -2,13 +2,16 @@
 //!
 //! `run_script` reads a script from a reader, does its lines in order, and writes an answer for each
 //! operation and then a report. `parallel_script` does the operations of each channel by a worker of its
-//! own, and writes the report alone. `parse_line` reads one line.
+//! own, and writes the report alone. `parse_line` reads one line. A [`LiveSession`] does lines one by one, as
+//! they come.
 #![tactic(auto)]
 
 mod answer;
 mod configuration;
+mod copying;
 mod growing;
 mod instruction;
+mod live;
 mod manned;
 mod parallel;
 mod parting;
@@ -18,6 +21,8 @@ mod session;
 mod stage;
 mod watchers;
 
+pub use answer::{Answer, Refusal};
+pub use live::LiveSession;
 pub use parallel::parallel_script;
 pub use script::run_script;
 pub use tc_text::{Line, Reason, ScriptFault, parse_line};

@@ -1,6 +1,7 @@
 //! A station with its operator, and what the operations of a script are answered.
 
-ghost use Rattle.std.specs.Prelude.{◌≡◌, IfOk, IfErr, OnOk, OnErr};
+ghost use Rattle.std.specs.Prelude.{◌≡◌, ◌↔◌, Contains, IsTrue, IfOk, IfErr, OnOk, OnErr};
+ghost use Rattle.tc_cli.specs.Live.{IsReported};
 ghost use Rattle.tc_cli.specs.Manned.{newly_manned, after_answer};
 ghost use Rattle.tc_station.specs.Tally.{fresh};
 ghost use Rattle.tc_cli.specs.Operation.{IsFrameAnswer, IsReleaseAnswer, IsTakeAnswer, IsUnitAnswer, IsClcwAnswer};
@@ -12,14 +13,15 @@ use std::marker::Model;
 use std::sync::Wait;
 use tc_channel::Octets;
 use tc_station::{
-    BringFault, Operator, OperatorsFault, ReleaseRefused, Station, TakeRefused, TakeUnitRefused,
+    BringFault, FlightStation, Holding, HoldingFault, Operator, OperatorsFault, ReleaseRefused,
+    TakeRefused, TakeUnitRefused,
 };
 use tc_text::Reason;
 
 /// A station with the one operator that it has issued, and a watcher for each channel.
 #[derive(Drop)]
 pub(crate) struct MannedStation {
-    station: Station,
+    station: FlightStation,
     operator: Operator,
     watchers: Watchers,
 }
@@ -41,7 +43,7 @@ impl MannedStation {
     pub(crate) fn new(
         rt: &impl Wait,
         alloc: Global,
-        mut station: Station,
+        mut station: FlightStation,
         vcids: Vec<u8>,
     ) -> Result<MannedStation, Reason>
         requires new { station.issued ≡ 0 }
@@ -59,7 +61,7 @@ impl MannedStation {
     }
 
     /// The station and its operator, apart.
-    pub(crate) fn into_parts(self) -> (Station, Operator)
+    pub(crate) fn into_parts(self) -> (FlightStation, Operator)
         ensures station { result.0 ≡ self.station }
         ensures operator { result.1 ≡ self.operator }
         ensures ours { result.1.vcids ≡ result.0.vcids }
@@ -155,10 +157,29 @@ impl MannedStation {
             None => Answer::Refused(Refusal::UnknownChannel),
         }
     }
+
+    /// Whether there is a channel with this id.
+    pub(crate) fn has(&self, vcid: u8) -> bool
+        ensures { IsTrue result ↔ Contains self.now.station.vcids vcid }
+    {
+        self.watchers.has(vcid)
+    }
+
+    /// What a channel has come to, if there is one with this id.
+    pub(crate) fn holding(&self, rt: &impl Wait, vcid: u8) -> Result<Option<Holding>, Reason>
+        ensures holding { IfOk result (IsReported self.now.station vcid) }
+        ensures reason { IfErr result (λ reason. reason ≡ Reason.NoMemory) }
+    {
+        match self.station.holding(rt, vcid) {
+            Ok(holding) => Ok(Some(holding)),
+            Err(HoldingFault::UnknownChannel) => Ok(None),
+            Err(HoldingFault::NoMemory) => Err(Reason::NoMemory),
+        }
+    }
 }
 
 // The first operator that a station issues.
-fn only_operator(station: &mut Station) -> Result<Operator, Reason>
+fn only_operator(station: &mut FlightStation) -> Result<Operator, Reason>
     requires { station.old.issued ≡ 0 }
     ensures operator { IfOk result (λ operator. operator ≡ fresh station.old.vcids) }
     ensures issued { OnOk result (station.new ≡ record station.old { issued = 1 }) }

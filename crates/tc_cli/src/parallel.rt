@@ -1,12 +1,13 @@
 //! Scripts whose channels are worked side by side.
 
-ghost use Rattle.std.specs.Prelude.{◌≡◌, ◌≢◌, ◌⊎◌, ◌≤◌, [], length, IfOk, IfErr, OnOk, IfSome};
+ghost use Rattle.std.specs.Prelude.{◌≡◌, ◌≢◌, ◌⊎◌, ◌≤◌, [], All, length, IfOk, IfErr, OnOk, IfSome};
 ghost use Rattle.tc_cli.specs.Parallel.{parted_for, IsParted, Parts};
 ghost use Rattle.tc_cli.specs.Parting.{IsGiven, IsFrameGiven};
 ghost use Rattle.tc_cli.specs.Phase.{Does, IsBad, Setup};
 ghost use Rattle.tc_cli.specs.Report.{AreRising};
 ghost use Rattle.tc_cli.specs.Script.{IsFault, IsGood, IsDone, IsBadLine};
 ghost use Rattle.tc_cli.specs.Stage.{phase_of, IsKept};
+ghost use Rattle.tc_station.specs.Balance.{IsNumberTold};
 ghost use Rattle.tc_text.specs.Reading.{limit};
 
 use crate::configuration::Configuration;
@@ -19,7 +20,7 @@ use std::io::{Read, Write};
 use std::mem;
 use std::sync::Wait;
 use std::thread::Threads;
-use tc_channel::{Channel, Octets};
+use tc_channel::{FlightChannel, Octets};
 use tc_station::{Gate, Job, Order};
 use tc_text::{Reason, ScriptFault, next_line, parse_line, read_whole};
 
@@ -54,10 +55,11 @@ fn work_lines<T: Threads + Wait + Sync, G: Gate + Sync>(
     gate: &G,
     scid: u16,
     script: &[u8],
-) -> Result<Vec<Channel>, ScriptFault>
+) -> Result<Vec<FlightChannel>, ScriptFault>
     requires spacecraft { scid ≤ 1023 }
     requires within { length script.now ≤ limit }
     ensures rising { IfOk result (λ channels. AreRising channels.items) }
+    ensures told { IfOk result (λ channels. All IsNumberTold channels.items) }
     ensures good { OnOk result (IsGood script.now) }
     ensures fault { IfErr result (IsFault script.now) }
 {

@@ -1,9 +1,10 @@
 //! Jobs, parted by the channels that they are for, and done by a worker for each channel.
 
-ghost use Rattle.std.specs.Prelude.{◌≡◌, ◌≢◌, ◌≤◌, ◌⊎◌, [], IfOk, IfErr, OnOk, OnErr, MatchOption};
+ghost use Rattle.std.specs.Prelude.{◌≡◌, ◌≢◌, ◌≤◌, ◌⊎◌, [], All, IfOk, IfErr, OnOk, OnErr, MatchOption};
 ghost use Rattle.tc_cli.specs.Parting.{newly_parted, IsGiven, IsFrameGiven, IsListed, IsListAt, IsWorkedOut};
 ghost use Rattle.tc_cli.specs.Report.{AreRising};
 ghost use Rattle.tc_cli.specs.Script.{IsWorkFault};
+ghost use Rattle.tc_station.specs.Balance.{IsNumberTold};
 
 use crate::configuration::Configuration;
 use crate::growing::append;
@@ -12,14 +13,14 @@ use std::alloc::Global;
 use std::marker::Model;
 use std::sync::Wait;
 use std::thread::Threads;
-use tc_channel::{Channel, Octets};
-use tc_station::{Gate, Job, OperatorsFault, Order, Station, WorkFault, WorkList};
+use tc_channel::{FlightChannel, Octets};
+use tc_station::{FlightStation, Gate, Job, OperatorsFault, Order, WorkFault, WorkList};
 use tc_text::{Reason, ScriptFault};
 
 /// A station that has issued no operator, and a list of jobs for each of its channels.
 #[derive(Drop)]
 pub(crate) struct Parted {
-    station: Station,
+    station: FlightStation,
     lists: Vec<WorkList>,
 }
 
@@ -89,8 +90,9 @@ impl Parted {
         rt: &T,
         gate: &G,
         lines: u32,
-    ) -> Result<Vec<Channel>, ScriptFault>
+    ) -> Result<Vec<FlightChannel>, ScriptFault>
         ensures rising { IfOk result (λ channels. AreRising channels.items) }
+        ensures told { IfOk result (λ channels. All IsNumberTold channels.items) }
         ensures worked { IfOk result (λ channels. IsWorkedOut self channels.items) }
         ensures fault { IfErr result IsWorkFault }
     {

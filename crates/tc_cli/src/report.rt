@@ -3,25 +3,27 @@
 ghost use Rattle.std.specs.Prelude.{◌≡◌, ◌≤◌, All, vec_len, IfOk, IfErr};
 ghost use Rattle.tc_cli.specs.Report.{AreRising, AreBalanced};
 ghost use Rattle.tc_cli.specs.Script.{IsCloseFault};
+ghost use Rattle.tc_station.specs.Balance.{IsNumberTold};
 
 use crate::watchers::NO_FLAGS;
 use std::io;
 use std::io::Write;
-use tc_channel::Channel;
-use tc_station::{CloseFault, Operator, Station};
+use tc_channel::FlightChannel;
+use tc_station::{FlightCloseFault, FlightStation, Operator};
 use tc_text::{Reason, ScriptFault};
 
 /// Closes the station of a script with so many lines. The channels stand in rising virtual channel
-/// id, each in balance with the counts of the operators.
+/// id, each in balance with the counts of the operators, and each tells the number of its events as it is.
 pub(crate) fn close(
-    station: Station,
+    station: FlightStation,
     operators: Vec<Operator>,
     lines: u32,
-) -> Result<Vec<Channel>, ScriptFault>
+) -> Result<Vec<FlightChannel>, ScriptFault>
     requires ours { All (λ o. o.vcids ≡ station.vcids) operators.items }
     requires all { station.issued ≤ vec_len operators }
     ensures rising { IfOk result (λ channels. AreRising channels.items) }
     ensures balanced { IfOk result (λ channels. AreBalanced station.vcids operators.items channels.items) }
+    ensures told { IfOk result (λ channels. All IsNumberTold channels.items) }
     ensures fault { IfErr result (IsCloseFault lines) }
 {
     match station.close(operators) {
@@ -29,18 +31,19 @@ pub(crate) fn close(
             channels.sort_unstable_by_key(|channel| channel.settings().vcid);
             Ok(channels)
         }
-        Err(CloseFault::Unbalanced(_, _)) => Err(ScriptFault::Unbalanced),
-        Err(CloseFault::NoMemory(_, _)) => Err(ScriptFault::Line {
+        Err(FlightCloseFault::Unbalanced(_, _)) => Err(ScriptFault::Unbalanced),
+        Err(FlightCloseFault::NoMemory(_, _)) => Err(ScriptFault::Line {
             line: lines,
             reason: Reason::NoMemory,
         }),
-        Err(CloseFault::Missing(_, _)) => unreachable!(),
+        Err(FlightCloseFault::Missing(_, _)) => unreachable!(),
     }
 }
 
 /// Writes the report of each channel.
-pub(crate) fn write_report<W: Write>(channels: &[Channel], writer: &mut W) -> io::Result<()>
-    requires { AreRising channels.now }
+pub(crate) fn write_report<W: Write>(channels: &[FlightChannel], writer: &mut W) -> io::Result<()>
+    requires rising { AreRising channels.now }
+    requires told { All IsNumberTold channels.now }
 {
     for channel in channels {
         write_channel(channel, writer)?;
@@ -50,11 +53,11 @@ pub(crate) fn write_report<W: Write>(channels: &[Channel], writer: &mut W) -> io
 
 // Writes what a channel has come to, then how many packets wait in each of its queues and how many units on each of its
 // chosen MAPs.
-fn write_channel<W: Write>(channel: &Channel, writer: &mut W) -> io::Result<()> {
+fn write_channel<W: Write>(channel: &FlightChannel, writer: &mut W) -> io::Result<()> {
     let settings = channel.settings();
     let vcid = settings.vcid;
     let word = channel.clcw(NO_FLAGS);
-    let events = channel.journal().len();
+    let events = channel.events();
     let buffered = channel.buffered();
     writeln!(
         writer,

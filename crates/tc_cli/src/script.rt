@@ -3,7 +3,8 @@
 ghost use Rattle.std.specs.Prelude.{◌≡◌, ◌⊎◌, ◌≤◌, length, IfErr, OnOk, IfSome};
 ghost use Rattle.tc_cli.specs.Script.{IsFault, IsGood, IsDone, IsBadLine, IsReportFault};
 ghost use Rattle.tc_text.specs.Reading.{limit};
-ghost use Rattle.tc_cli.specs.Stage.{phase_of, IsKept};
+ghost use Rattle.tc_cli.specs.Session.{IsLeft};
+ghost use Rattle.tc_cli.specs.Stage.{phase_of};
 
 use crate::answer::Answer;
 use crate::configuration::Configuration;
@@ -77,7 +78,7 @@ fn perform_line(
     requires { scid ≤ 1023 }
     ensures done { OnOk result (IsDone (phase_of session.old) octets.now (phase_of session.new)) }
     ensures reason { IfErr result (λ reason. (reason ≡ Reason.NoMemory) ⊎ IsBadLine (phase_of session.old) octets.now reason) }
-    ensures refused { IfErr result (λ reason. IsKept reason session.old session.new) }
+    ensures refused { IfErr result (λ reason. IsLeft scid reason session.old session.new) }
 {
     let said = parse_line(alloc, octets)?;
     session.perform(rt, alloc, scid, Instruction::of(alloc, said))
@@ -92,8 +93,8 @@ fn write_answer<W: Write>(answer: Option<Answer>, writer: &mut W) -> Result<(), 
     }
 }
 
-// The report at the end of a script with so many lines. Where no channel was set up there is none.
-fn report<W: Write>(
+/// The report at the end of a script with so many lines. Where no channel was set up there is none.
+pub(crate) fn report<W: Write>(
     rt: &impl Wait,
     alloc: Global,
     scid: u16,

@@ -1,18 +1,16 @@
 //! A script whose lines are done in order: at the first operation its station is made.
 
-ghost use Rattle.std.specs.Prelude.{◌≡◌, ◌≢◌, ◌≤◌, ◌⊎◌, [], IfOk, IfErr, OnOk};
+ghost use Rattle.std.specs.Prelude.{◌≡◌, ◌≢◌, ◌≤◌, ◌⊎◌, [], IfOk, IfErr, OnErr, OnOk};
 ghost use Rattle.tc_cli.specs.Operation.{IsFrameAnswer, IsReleaseAnswer, IsTakeAnswer, IsUnitAnswer, IsClcwAnswer};
 ghost use Rattle.tc_cli.specs.Phase.{Does, IsBad, IsBadOperation, Operates, Setup};
-ghost use Rattle.tc_cli.specs.Session.{manned_for, IsAnswered, IsOperated};
-ghost use Rattle.tc_cli.specs.Stage.{phase_of, IsKept};
+ghost use Rattle.tc_cli.specs.Session.{manned_for, IsAnswered, IsLeft, IsOperated};
+ghost use Rattle.tc_cli.specs.Stage.{phase_of};
 
 use crate::answer::Answer;
-use crate::configuration::Configuration;
 use crate::instruction::Instruction;
 use crate::manned::MannedStation;
 use crate::stage::Stage;
 use std::alloc::Global;
-use std::mem;
 use std::sync::Wait;
 use tc_channel::Octets;
 use tc_text::Reason;
@@ -21,8 +19,8 @@ use tc_text::Reason;
 pub(crate) type Session = Stage<MannedStation>;
 
 impl Stage<MannedStation> {
-    /// Does what a line asks for; an operation has an answer. A line that is refused leaves all as it is,
-    /// unless memory is refused before operation: then what was set up may be lost.
+    /// Does what a line asks for; an operation has an answer. A line that is refused leaves all as it is; where
+    /// memory is wanting for the first operation, the station may have been made.
     pub(crate) fn perform(
         &mut self,
         rt: &impl Wait,
@@ -34,7 +32,7 @@ impl Stage<MannedStation> {
         ensures done { OnOk result (Does (phase_of self.old) instruction (phase_of self.new)) }
         ensures answer { IfOk result (λ answer. IsAnswered scid self.old instruction self.new answer) }
         ensures reason { IfErr result (λ reason. (reason ≡ Reason.NoMemory) ⊎ IsBad (phase_of self.old) instruction reason) }
-        ensures refused { IfErr result (λ reason. IsKept reason self.old self.new) }
+        ensures refused { IfErr result (λ reason. IsLeft scid reason self.old self.new) }
     {
         match instruction {
             Instruction::Nothing => Ok(None),
@@ -65,7 +63,7 @@ impl Stage<MannedStation> {
         ensures done { OnOk result (Operates (phase_of self.old) (phase_of self.new)) }
         ensures answer { IfOk result (IsOperated scid (λ station. IsFrameAnswer station octets) self.old self.new) }
         ensures reason { IfErr result (λ reason. (reason ≡ Reason.NoMemory) ⊎ IsBadOperation (phase_of self.old) reason) }
-        ensures refused { IfErr result (λ reason. IsKept reason self.old self.new) }
+        ensures refused { IfErr result (λ reason. IsLeft scid reason self.old self.new) }
     {
         self.begin(rt, alloc, scid)?;
         match self {
@@ -85,7 +83,7 @@ impl Stage<MannedStation> {
         ensures done { OnOk result (Operates (phase_of self.old) (phase_of self.new)) }
         ensures answer { IfOk result (IsOperated scid (λ station. IsReleaseAnswer station vcid) self.old self.new) }
         ensures reason { IfErr result (λ reason. (reason ≡ Reason.NoMemory) ⊎ IsBadOperation (phase_of self.old) reason) }
-        ensures refused { IfErr result (λ reason. IsKept reason self.old self.new) }
+        ensures refused { IfErr result (λ reason. IsLeft scid reason self.old self.new) }
     {
         self.begin(rt, alloc, scid)?;
         match self {
@@ -106,7 +104,7 @@ impl Stage<MannedStation> {
         ensures done { OnOk result (Operates (phase_of self.old) (phase_of self.new)) }
         ensures answer { IfOk result (IsOperated scid (λ station. IsTakeAnswer station vcid apid) self.old self.new) }
         ensures reason { IfErr result (λ reason. (reason ≡ Reason.NoMemory) ⊎ IsBadOperation (phase_of self.old) reason) }
-        ensures refused { IfErr result (λ reason. IsKept reason self.old self.new) }
+        ensures refused { IfErr result (λ reason. IsLeft scid reason self.old self.new) }
     {
         self.begin(rt, alloc, scid)?;
         match self {
@@ -127,7 +125,7 @@ impl Stage<MannedStation> {
         ensures done { OnOk result (Operates (phase_of self.old) (phase_of self.new)) }
         ensures answer { IfOk result (IsOperated scid (λ station. IsUnitAnswer station vcid map) self.old self.new) }
         ensures reason { IfErr result (λ reason. (reason ≡ Reason.NoMemory) ⊎ IsBadOperation (phase_of self.old) reason) }
-        ensures refused { IfErr result (λ reason. IsKept reason self.old self.new) }
+        ensures refused { IfErr result (λ reason. IsLeft scid reason self.old self.new) }
     {
         self.begin(rt, alloc, scid)?;
         match self {
@@ -147,7 +145,7 @@ impl Stage<MannedStation> {
         ensures done { OnOk result (Operates (phase_of self.old) (phase_of self.new)) }
         ensures answer { IfOk result (IsOperated scid (λ station. IsClcwAnswer station vcid) self.old self.new) }
         ensures reason { IfErr result (λ reason. (reason ≡ Reason.NoMemory) ⊎ IsBadOperation (phase_of self.old) reason) }
-        ensures refused { IfErr result (λ reason. IsKept reason self.old self.new) }
+        ensures refused { IfErr result (λ reason. IsLeft scid reason self.old self.new) }
     {
         self.begin(rt, alloc, scid)?;
         match self {
@@ -156,19 +154,20 @@ impl Stage<MannedStation> {
         }
     }
 
-    // Makes the station with its operator, where no operation came before.
-    fn begin(&mut self, rt: &impl Wait, alloc: Global, scid: u16) -> Result<(), Reason>
+    /// Makes the station with its operator, where no operation came before: by a copy of what was set up, which stays where memory
+    /// is refused.
+    pub(crate) fn begin(&mut self, rt: &impl Wait, alloc: Global, scid: u16) -> Result<(), Reason>
         requires { scid ≤ 1023 }
         ensures manned { OnOk result (self.new ≡ Stage.Operating (manned_for scid self.old)) }
         ensures some { OnOk result (phase_of self.old ≢ Setup []) }
         ensures reason { IfErr result (λ reason. (reason ≡ Reason.NoMemory) ⊎ ((reason ≡ Reason.NoChannel) × (phase_of self.old ≡ Setup []))) }
-        ensures refused { IfErr result (λ reason. IsKept reason self.old self.new) }
+        ensures refused { OnErr result (self.new ≡ self.old) }
     {
         match self {
             Stage::Operating(_) => Ok(()),
             Stage::SettingUp(list) => {
-                let there = mem::replace(list, Configuration::new(alloc));
-                let manned = Stage::SettingUp(there).start(rt, alloc, scid)?;
+                let copy = list.copy(alloc)?;
+                let manned = Stage::SettingUp(copy).start(rt, alloc, scid)?;
                 *self = Stage::Operating(manned);
                 Ok(())
             }

@@ -1,13 +1,13 @@
 //! A watcher for each channel of a station.
 
-ghost use Rattle.std.specs.Prelude.{◌≡◌, ◌<◌, All, Contains, length, map, slice_index, IfOk, IfErr, MatchOption};
+ghost use Rattle.std.specs.Prelude.{◌≡◌, ◌<◌, ◌↔◌, IsTrue, All, Contains, length, map, slice_index, IfOk, IfErr, MatchOption};
 ghost use Rattle.tc_cli.specs.Operation.{IsStatusOf};
 
 use std::alloc::Global;
 use std::marker::Model;
 use std::sync::Wait;
 use tc_link::Link;
-use tc_station::{Station, WatcherFault};
+use tc_station::{FlightStation, WatcherFault};
 use tc_status::Watcher;
 use tc_text::Reason;
 
@@ -39,7 +39,7 @@ impl Watchers {
     pub(crate) fn new(
         rt: &impl Wait,
         alloc: Global,
-        station: &Station,
+        station: &FlightStation,
         vcids: Vec<u8>,
     ) -> Result<Watchers, Reason>
         requires { vcids.items ≡ station.now.vcids }
@@ -51,12 +51,19 @@ impl Watchers {
     }
 
     /// The CLCW of a channel with one of the ids, with both link flags 0.
-    pub(crate) fn watch(&mut self, station: &Station, vcid: u8) -> Option<u32>
+    pub(crate) fn watch(&mut self, station: &FlightStation, vcid: u8) -> Option<u32>
         ensures ids { self.new ≡ self.old }
         ensures word { MatchOption result (¬ Contains self.old vcid) (λ word. Contains self.old vcid × IsStatusOf vcid word) }
     {
         let place = place_of(&self.vcids, vcid)?;
         Some(station.watch(&mut self.watchers[place], NO_FLAGS))
+    }
+
+    /// Whether there is a channel with this id.
+    pub(crate) fn has(&self, vcid: u8) -> bool
+        ensures { IsTrue result ↔ Contains self.now vcid }
+    {
+        place_of(&self.vcids, vcid).is_some()
     }
 }
 
@@ -64,7 +71,7 @@ impl Watchers {
 fn watch_each(
     rt: &impl Wait,
     alloc: Global,
-    station: &Station,
+    station: &FlightStation,
     vcids: &[u8],
 ) -> Result<Vec<Watcher>, Reason>
     requires { All (Contains station.now.vcids) vcids.now }
@@ -80,7 +87,7 @@ fn watch_each(
     Ok(watchers)
 }
 
-fn watch_one(rt: &impl Wait, station: &Station, vcid: u8) -> Result<Watcher, Reason>
+fn watch_one(rt: &impl Wait, station: &FlightStation, vcid: u8) -> Result<Watcher, Reason>
     requires { Contains station.now.vcids vcid }
     ensures own { IfOk result (λ watcher. watcher.seen.settings.vcid ≡ vcid) }
     ensures reason { IfErr result (λ reason. reason ≡ Reason.NoMemory) }

@@ -1,5 +1,6 @@
 pub mod Word
 pub mod Number
 pub mod Line
+pub mod LiveLine
 pub mod Reason
 pub mod Reading

@@ -5,11 +5,13 @@
 
 mod fault;
 mod line;
+mod live;
 mod reading;
 mod spacecraft;
 mod word;
 
 pub use fault::{Reason, ScriptFault};
 pub use line::{Line, parse_line};
+pub use live::{LiveLine, parse_live_line};
 pub use reading::{MAX_OCTETS, next_line, read_whole};
 pub use spacecraft::SpacecraftId;

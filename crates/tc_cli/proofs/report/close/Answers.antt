@@ -1,6 +1,7 @@
 use Rattle.std.proofs.Common.{rules}
-use Rattle.std.proofs.lemmas.List.Sorted.{IsNonDecreasingBy-from_sort_by_key}
+use Rattle.std.proofs.lemmas.List.Sorted.{IsNonDecreasingBy-from_sort_by_key, All-permutation}
 use Rattle.tc_cli.specs.Report.{vcid_of}
+use Rattle.tc_station.specs.Balance.{IsNumberTold}
 use Rattle.tc_cli.proofs.report.close.Goals as goal
 
 pub returns-in-Ok-clause-rising : goal.returns-in-Ok-clause-rising
@@ -12,3 +13,9 @@ returns-in-Err-Unbalanced-clause-rising c = search rules
 
 pub returns-in-Err-Unbalanced-clause-balanced : goal.returns-in-Err-Unbalanced-clause-balanced
 returns-in-Err-Unbalanced-clause-balanced c = search rules
+
+pub returns-in-Ok-clause-told : goal.returns-in-Ok-clause-told
+returns-in-Ok-clause-told c = All-permutation IsNumberTold _ _ c.sort_unstable_by_key.ensures.permutation c.in-Ok.ensures.told
+
+pub returns-in-Err-Unbalanced-clause-told : goal.returns-in-Err-Unbalanced-clause-told
+returns-in-Err-Unbalanced-clause-told c = search rules

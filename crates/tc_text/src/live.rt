@@ -1,0 +1,77 @@
+//! Lines of a live receiver: those of a script, and two more.
+
+ghost use Rattle.std.specs.Prelude.{◌≡◌, ◌⊎◌, IfOk, IfErr, MatchResult};
+ghost use Rattle.tc_text.specs.Word.{words};
+ghost use Rattle.tc_text.specs.LiveLine.{live_line_of, link_of, report_of, flag_of};
+
+use crate::fault::Reason;
+use crate::line::{Line, parse_line};
+use crate::word::{next_argument, next_word, no_more, small_number, three_arguments};
+use std::alloc::Global;
+use tc_link::Link;
+
+/// What a line says to a live receiver.
+#[derive(Debug, Drop, PartialEq, Eq)]
+pub enum LiveLine {
+    /// What it says in a script.
+    Script(Line),
+    /// The flags of the link from now on, for a virtual channel.
+    Link { vcid: u8, link: Link },
+    /// Asks what a virtual channel has come to.
+    Report(u8),
+}
+
+/// Reads a line, which is given without its line feed. Only a frame's octets take memory.
+#[tactic(auto, unfolding(crate::specs::LiveLine::live_line_of))]
+pub fn parse_live_line(alloc: Global, octets: &[u8]) -> Result<LiveLine, Reason>
+    ensures line { IfOk result (λ line. live_line_of (words octets.now) ≡ Ok line) }
+    ensures reason { IfErr result (λ reason. (reason ≡ Reason.NoMemory) ⊎ (live_line_of (words octets.now) ≡ Err reason)) }
+{
+    let Some((command, arguments)) = next_word(octets) else {
+        return Ok(LiveLine::Script(Line::Blank));
+    };
+    if command == b"link".as_slice() {
+        link(arguments)
+    } else if command == b"report".as_slice() {
+        report(arguments)
+    } else {
+        Ok(LiveLine::Script(parse_line(alloc, octets)?))
+    }
+}
+
+fn link(arguments: &[u8]) -> Result<LiveLine, Reason>
+    ensures line { IfOk result (λ line. link_of (words arguments.now) ≡ Ok line) }
+    ensures reason { IfErr result (λ reason. link_of (words arguments.now) ≡ Err reason) }
+{
+    let (vcid, no_rf, no_bit_lock) = three_arguments(arguments)?;
+    Ok(LiveLine::Link {
+        vcid: small_number(vcid)?,
+        link: Link {
+            no_rf: flag(no_rf)?,
+            no_bit_lock: flag(no_bit_lock)?,
+        },
+    })
+}
+
+fn report(arguments: &[u8]) -> Result<LiveLine, Reason>
+    ensures line { IfOk result (λ line. report_of (words arguments.now) ≡ Ok line) }
+    ensures reason { IfErr result (λ reason. report_of (words arguments.now) ≡ Err reason) }
+{
+    let (vcid, rest) = next_argument(arguments)?;
+    no_more(rest)?;
+    Ok(LiveLine::Report(small_number(vcid)?))
+}
+
+// The flag that a word is: 0 or 1.
+fn flag(word: &[u8]) -> Result<bool, Reason>
+    ensures { MatchResult result (λ flag. flag_of word.now ≡ Ok flag) (λ reason. flag_of word.now ≡ Err reason) }
+{
+    let number = small_number(word)?;
+    if number == 0 {
+        Ok(false)
+    } else if number == 1 {
+        Ok(true)
+    } else {
+        Err(Reason::BadNumber)
+    }
+}
