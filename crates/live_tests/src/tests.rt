@@ -1,0 +1,33 @@
+mod bad;
+mod growths;
+mod lines;
+mod streams;
+
+use std::alloc::Global;
+use std::process::Abort;
+use std::sync::Wait;
+use tc_live::{FrameCheck, Receiver, answer_lines};
+use tc_text::SpacecraftId;
+
+/// A receiver for spacecraft 42.
+fn receiver(rt: &impl Abort, alloc: Global, check: FrameCheck) -> Receiver {
+    let spacecraft = SpacecraftId::new(42).expect(rt, "a spacecraft id");
+    Receiver::new(alloc, spacecraft, check)
+}
+
+/// These lines are answered so, to their end.
+fn check_answers(
+    rt: &(impl Abort + Wait),
+    alloc: Global,
+    check: FrameCheck,
+    lines: &str,
+    answers: &str,
+) {
+    let mut reader = lines.as_bytes();
+    let mut written = Vec::new(alloc);
+    let receiver = receiver(rt, alloc, check);
+    let served = answer_lines(rt, alloc, receiver, &mut reader, &mut written);
+    assert_eq!(rt; served, Ok(()));
+    let text = str::from_utf8(&written).unwrap_or("no text");
+    assert!(rt; text == answers, "{text}");
+}

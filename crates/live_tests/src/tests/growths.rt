@@ -1,0 +1,126 @@
+//! Lines that take memory. With ample memory each is answered at once; with one growth refused it leaves what stood before, and
+//! then is answered the same.
+
+use super::receiver;
+use std::alloc::Global;
+use std::io::Write;
+use std::process::Abort;
+use std::sync::Wait;
+use std::test::Fail;
+use tc_live::{FrameCheck, LiveAnswer, Receiver, ServingFault, answer_lines};
+use tc_text::Reason;
+
+// What a line is answered, at once or after a growth was refused.
+fn answer(
+    rt: &(impl Abort + Wait + Print),
+    alloc: Global,
+    receiver: &mut Receiver,
+    line: &str,
+) -> LiveAnswer {
+    match receiver.do_line(rt, alloc, line.as_bytes()) {
+        Ok(answer) => answer,
+        Err(reason) => {
+            assert_eq!(rt; reason, Reason::NoMemory);
+            let _ = println!(rt; "refused: do_line, {line}");
+            receiver
+                .do_line(rt, alloc, line.as_bytes())
+                .expect(rt, "an answer")
+        }
+    }
+}
+
+// The lines are answered so.
+fn check(
+    rt: &(impl Abort + Wait + Print),
+    alloc: Global,
+    check: FrameCheck,
+    lines: &[(&str, &str)],
+) {
+    let mut receiver = receiver(rt, alloc, check);
+    for (line, expected) in lines {
+        let answer = answer(rt, alloc, &mut receiver, line);
+        let mut room = [0u8; 200];
+        let mut rest = room.as_mut_slice();
+        assert!(rt; write!(&mut rest, "{answer}").is_ok());
+        let left = rest.len();
+        let count = 200usize.saturating_sub(left);
+        assert!(rt; &room[..count.min(200)] == expected.as_bytes(), "{line}");
+    }
+}
+
+#[test]
+fn growth_of_lines(rt: HostRuntime) {
+    let lines = [
+        ("channel 1 10 1 0", ""),
+        ("queue 1 5 1", ""),
+        ("map 1 3 1", ""),
+        ("clcw 1", "clcw 1 01040000\n"),
+        (
+            "report 1",
+            "report 1 state open vr 0 lockout 0 wait 0 retransmit 0 farm-b 0 buffered 0 queue 5 0 map 3 0\n",
+        ),
+        (
+            "frame 002a040c00c01005c0000000aa",
+            "frame 1 E1 accepted 1 queued 0 dropped 0 rest 0\n",
+        ),
+        ("release 1", "release 1 queued 1 dropped 0 rest 0\n"),
+        ("take 1 5", "take 1 5 1005c0000000aa\n"),
+        (
+            "frame 202a040700c3ddee",
+            "frame 1 E6 accepted 1 queued 1 dropped 0 rest 0\n",
+        ),
+        ("unit 1 3", "unit 1 3 ddee\n"),
+        ("clcw 1", "clcw 1 01040201\n"),
+    ];
+    check(&rt, rt.alloc(), FrameCheck::Nothing, lines.as_slice());
+}
+
+#[test]
+fn growth_of_a_first_operation(rt: HostRuntime) {
+    let lines = [
+        ("channel 1 10 1 0", ""),
+        ("queue 1 5 1", ""),
+        ("link 1 1 1", "link 1 1 1\n"),
+        ("clcw 1", "clcw 1 0104c000\n"),
+    ];
+    check(&rt, rt.alloc(), FrameCheck::Nothing, lines.as_slice());
+}
+
+#[test]
+fn growth_of_a_frame_with_its_field(rt: HostRuntime) {
+    let lines = [
+        ("channel 1 10 1 0", ""),
+        (
+            "frame 002a040e00c01005c0000000aa6b6e",
+            "frame 1 E1 accepted 1 queued 0 dropped 0 rest 0\n",
+        ),
+        ("clcw 1", "clcw 1 01040001\n"),
+    ];
+    check(&rt, rt.alloc(), FrameCheck::ErrorControl, lines.as_slice());
+}
+
+// The lines and the final report, at once or after a growth was refused.
+#[test]
+fn growth_of_a_stream(rt: HostRuntime) -> Result<(), Fail> {
+    let text = "channel 1 10 1 0\nqueue 1 5 1\nclcw 1\n";
+    let report = "final 1 01040000 events 0 buffered 0\nqueue 1 5 0\n";
+    let mut room = [0u8; 200];
+    let mut writer = room.as_mut_slice();
+    let mut reader = text.as_bytes();
+    let first = receiver(&rt, rt.alloc(), FrameCheck::Nothing);
+    let served = answer_lines(&rt, rt.alloc(), first, &mut reader, &mut writer);
+    let left = writer.len();
+    let count = 200usize.saturating_sub(left).min(200);
+    let written = str::from_utf8(&room[..count]).unwrap_or("no text");
+    if served == Err(ServingFault::NoMemory) {
+        let _ = println!(rt; "refused: answer_lines");
+    } else {
+        assert_eq!(rt; served, Ok(()));
+        let whole = written.strip_prefix("clcw 1 01040000\n") == Some(report);
+        assert!(rt;
+            whole || written.starts_with("bad no memory\n"),
+            "{written}"
+        );
+    }
+    Ok(())
+}

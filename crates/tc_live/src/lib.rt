@@ -1,0 +1,15 @@
+//! A live receiver: lines in, and each is answered before the next is read.
+//!
+//! [`answer_lines`] does lines until there are no more, and then writes the final report. [`Receiver::do_line`] does one, and says what
+//! it is answered.
+#![tactic(auto)]
+
+mod answer;
+mod check;
+mod receiver;
+mod serving;
+
+pub use answer::LiveAnswer;
+pub use check::FrameCheck;
+pub use receiver::Receiver;
+pub use serving::{MAX_LINE, ServingFault, answer_lines};
