@@ -1,4 +1,4 @@
-//! Tests of the link layer, of packets and of a channel, by their public names. The library itself is empty.
+//! Tests of a channel, by their public names. The library itself is empty.
 #![tactic(auto)]
 
 #[cfg(test)]

@@ -1,5 +1,1 @@
 mod channel;
-mod cutting;
-mod link;
-mod packets;
-mod reassembler;

@@ -40,6 +40,11 @@ fn ad_frame(ns: u8) -> [u8; 13] {
     ]
 }
 
+// `PACKET` in a Type-BD frame.
+const BYPASSED: [u8; 13] = [
+    0x20, 0x2a, 0x04, 0x0c, 0x00, 0xc0, 0x10, 0x05, 0xc0, 0x00, 0x00, 0x00, 0xaa,
+];
+
 fn reply(event: u8, accepted: bool, delivery: Delivery) -> FrameReply {
     let act = Act { event, accepted };
     FrameReply { act, delivery }
@@ -146,6 +151,27 @@ impl Twins {
         assert_eq!(rt; self.kept.journal().len() as u64, events);
     }
 
+    // Both lend this packet for APID 5 and this unit of MAP 3, and nothing where there is no queue.
+    fn lends(&self, rt: &impl Abort, packet: Option<&[u8]>, unit: Option<&[u8]>) {
+        assert_eq!(rt;
+            (self.kept.oldest(5), self.kept.oldest_unit(3)),
+            (packet, unit)
+        );
+        assert_eq!(rt;
+            (self.flight.oldest(5), self.flight.oldest_unit(3)),
+            (packet, unit)
+        );
+        assert_eq!(rt;
+            (self.kept.oldest(6), self.kept.oldest_unit(4)),
+            (None, None)
+        );
+        assert_eq!(rt;
+            (self.flight.oldest(6), self.flight.oldest_unit(4)),
+            (None, None)
+        );
+    }
+
+    // A Type-AD frame that is buffered (event 1) wants no memory of the channel without a journal.
     fn frame(&mut self, rt: &(impl Abort + Print), octets: &[u8], expected: FrameReply) {
         let frame = read_frame(octets).expect(rt, "a frame");
         let kept = match self.kept.frame(&frame) {
@@ -160,6 +186,7 @@ impl Twins {
                     "refused: FlightChannel::frame, event {}",
                     expected.act.event
                 );
+                assert_ne!(rt; expected.act.event, 1);
                 assert_eq!(rt; self.told(), told);
                 self.flight.frame(&frame).expect(rt, "an answer")
             }

@@ -11,9 +11,9 @@ ghost use Rattle.tc_station.specs.StationSettings.{vcids_of};
 
 use std::alloc::{AllocError, Global};
 use std::sync::Wait;
-use tc_channel::{Items, QueueSetting, Settings};
+use tc_channel::{Items, Journal, QueueSetting, Settings};
 use tc_link::Link;
-use tc_station::{Operator, Station};
+use tc_station::{Operator, Station, StationOf};
 
 const NO_FLAG: Link = Link {
     no_rf: false,
@@ -59,7 +59,7 @@ fn list_of_two(
 }
 
 // A channel's CLCW with both link flags 0, as a new watcher reads it, if the station has that channel.
-fn status_of(station: &Station, rt: &impl Wait, vcid: u8) -> Option<u32> {
+fn status_of<J: Journal>(station: &StationOf<J>, rt: &impl Wait, vcid: u8) -> Option<u32> {
     let mut watcher = station.watcher(rt, vcid).ok()?;
     Some(station.watch(&mut watcher, NO_FLAG))
 }

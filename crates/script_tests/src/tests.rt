@@ -13,7 +13,7 @@ const ANSWERS: &str =
 /// The final report of `SCRIPT`.
 const REPORT: &str = "final 1 01040801 events 4 buffered 0\nqueue 1 5 0\n";
 
-/// Two units of a chosen MAP, by either service. The fifth event, for which the journal grows, is that of the second unit line.
+/// Two units of a chosen MAP, by either service.
 const UNITS: &str =
     "channel 1 10 1 0\nmap 1 3 2\nframe 002a040800c3aabbcc\nrelease 1\nframe 202a040700c3ddee\nunit 1 3\nunit 1 3\nclcw 1\n";
 

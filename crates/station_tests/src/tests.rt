@@ -1,6 +1,7 @@
 mod board;
 mod closing;
 mod faults;
+mod holding;
 mod maps;
 mod refusals;
 mod status;

@@ -1,13 +1,13 @@
-//! The lines of a script on channels of a station and on channels that stand alone.
+//! The lines of a script on channels of a station, which keep their journals or are in flight, and on channels that stand alone.
 
-ghost use Rattle.std.specs.Prelude.{◌≡◌};
+ghost use Rattle.std.specs.Prelude.{◌≡◌, All};
 
 use super::alone::Alone;
 use super::*;
 use std::process::Abort;
 use tc_channel::{
-    Channel, Delivery, Event, FrameReply, MapSetting, Octets, ReleaseFault, TakeFault,
-    TakeUnitFault,
+    Channel, ChannelWith, Delivery, Event, FlightChannel, FrameReply, Journal, Kept, MapSetting,
+    Octets, ReleaseFault, TakeFault, TakeUnitFault, Unkept,
 };
 use tc_link::{FrameFault, read_frame};
 use tc_station::{BringFault, Brought, LocateFault, ReleaseRefused, TakeRefused, TakeUnitRefused};
@@ -69,23 +69,23 @@ fn settings_in(
 
 // A station for spacecraft 42 with virtual channels 2 and 1, in this order, and one operator.
 #[derive(Drop)]
-struct Crew {
+struct Crew<J: Journal> {
     bringing: Bringing,
-    station: Station,
+    station: StationOf<J>,
     operator: Operator,
     ghost ours: { operator.vcids ≡ station.vcids },
 }
 
-impl Crew {
+impl<J: Journal> Crew<J> {
     fn new(
         rt: &impl Abort,
         alloc: Global,
         bringing: Bringing,
         first: Settings,
         second: Settings,
-    ) -> Crew {
+    ) -> Crew<J> {
         let list = list_of_two(alloc, second, first).expect(rt, "a list");
-        let mut station = Station::new(alloc, 42, list).expect(rt, "a station");
+        let mut station = StationOf::new(alloc, 42, list).expect(rt, "a station");
         let mut operators = station.operators(1).expect(rt, "operators");
         let operator = operators.pop().expect(rt, "an operator");
         Crew {
@@ -127,7 +127,10 @@ impl Crew {
         self.station.take_unit(rt, &mut self.operator, vcid, map)
     }
 
-    fn close(self, rt: &impl Abort, alloc: Global) -> Vec<Channel> {
+    // The station, and a list of its one operator.
+    fn into_parts(self, rt: &impl Abort, alloc: Global) -> (StationOf<J>, Vec<Operator>)
+        ensures { All (λ o. o.vcids ≡ result.0.vcids) result.1.items }
+    {
         let Crew {
             bringing: _,
             station,
@@ -135,15 +138,29 @@ impl Crew {
         } = self;
         let mut operators = Vec::new(alloc);
         operators.push(operator).expect(rt, "a list");
+        (station, operators)
+    }
+}
+
+impl Crew<Kept> {
+    fn close(self, rt: &impl Abort, alloc: Global) -> Vec<Channel> {
+        let (station, operators) = self.into_parts(rt, alloc);
+        station.close(operators).expect(rt, "a closed station")
+    }
+}
+
+impl Crew<Unkept> {
+    fn close(self, rt: &impl Abort, alloc: Global) -> Vec<FlightChannel> {
+        let (station, operators) = self.into_parts(rt, alloc);
         station.close(operators).expect(rt, "a closed station")
     }
 }
 
 // Brings octets to a channel of the station and to one that stands alone, which answer alike. A watcher of the frame at
 // once reads what the one that stands alone tells.
-fn bring_to_both(
+fn bring_to_both<J: Journal>(
     rt: &(impl Wait + Abort),
-    crew: &mut Crew,
+    crew: &mut Crew<J>,
     alone: &mut Alone,
     octets: &[u8],
 ) -> Result<FrameReply, FrameFault> {
@@ -175,9 +192,9 @@ fn release_refused(fault: ReleaseFault) -> ReleaseRefused {
 }
 
 // Releases a channel of the station and one that stands alone, which answer alike.
-fn release_both(
+fn release_both<J: Journal>(
     rt: &(impl Wait + Abort),
-    crew: &mut Crew,
+    crew: &mut Crew<J>,
     alone: &mut Alone,
 ) -> Result<Delivery, ReleaseFault> {
     let vcid = alone.kept.settings().vcid;
@@ -203,9 +220,9 @@ fn take_unit_refused(fault: TakeUnitFault) -> TakeUnitRefused {
 }
 
 // Takes a packet from a channel of the station and from one that stands alone, which answer alike.
-fn take_from_both(
+fn take_from_both<J: Journal>(
     rt: &(impl Wait + Abort),
-    crew: &mut Crew,
+    crew: &mut Crew<J>,
     alone: &mut Alone,
     apid: u16,
 ) -> Result<Vec<u8>, TakeFault> {
@@ -220,9 +237,9 @@ fn take_from_both(
 }
 
 // Takes a unit from a channel of the station and from one that stands alone, which answer alike.
-fn take_unit_from_both(
+fn take_unit_from_both<J: Journal>(
     rt: &(impl Wait + Abort),
-    crew: &mut Crew,
+    crew: &mut Crew<J>,
     alone: &mut Alone,
     map: u8,
 ) -> Result<Vec<u8>, TakeUnitFault> {
@@ -314,17 +331,22 @@ fn text_of_unit(
     }
 }
 
-// A channel that left the station is as the one that stood alone. A journal may be too long to be shown.
-fn check_alike(rt: &impl Abort, closed: &Channel, alone: &Alone) {
+// A channel that left the station is as the one that stood alone.
+fn check_alike<J: Journal>(rt: &impl Abort, closed: &ChannelWith<J>, alone: &Alone) {
     alone.check(rt);
     let alone = &alone.kept;
     assert_eq!(rt; closed.settings(), alone.settings());
-    let alike = closed.journal() == alone.journal();
-    assert!(rt; alike, "the journals differ");
+    assert_eq!(rt; closed.events(), alone.journal().len() as u64);
     assert_eq!(rt; closed.report(), alone.report());
     assert_eq!(rt; closed.buffered(), alone.buffered());
     assert_eq!(rt; closed.queued(5), alone.queued(5));
     assert_eq!(rt; closed.units(3), alone.units(3));
+}
+
+// The same journal, which may be too long to be shown.
+fn check_journal(rt: &impl Abort, closed: &Channel, alone: &Alone) {
+    let alike = closed.journal() == alone.kept.journal();
+    assert!(rt; alike, "the journals differ");
 }
 
 // As many of these octets as their header tells a frame has, one more than the number in its ten bits of length.
@@ -361,14 +383,14 @@ fn for_channel_2(octets: Octets) -> Vec<u8> {
 
 // Channels 1 and 2 of a station, and beside them a channel with the settings of each that stands alone.
 #[derive(Drop)]
-struct Replay {
+struct Replay<J: Journal> {
     alloc: Global,
-    crew: Crew,
+    crew: Crew<J>,
     first: Alone,
     second: Alone,
 }
 
-impl Replay {
+impl<J: Journal> Replay<J> {
     // Channel 1 has this shape. Channel 2 has the same, but its first V(R) is 100, and its data fields always have segment
     // headers.
     fn new(
@@ -377,7 +399,7 @@ impl Replay {
         bringing: Bringing,
         form: Form,
         shape: (u8, u8, u8),
-    ) -> Replay {
+    ) -> Replay<J> {
         let (width, buffer, _) = shape;
         let by_headers = match form {
             Form::Plain => Form::Segmented,
@@ -482,7 +504,27 @@ impl Replay {
         }
         assert_eq!(rt; answers.next(), None, "{}", row.name);
     }
+}
 
+impl Replay<Kept> {
+    // Closes the station: its channels and their journals are as those that stand alone.
+    fn close(self, rt: &impl Abort) {
+        let Replay {
+            alloc,
+            crew,
+            first,
+            second,
+        } = self;
+        let channels = crew.close(rt, alloc);
+        assert_eq!(rt; channels.len(), 2);
+        check_alike(rt, &channels[0], &second);
+        check_alike(rt, &channels[1], &first);
+        check_journal(rt, &channels[0], &second);
+        check_journal(rt, &channels[1], &first);
+    }
+}
+
+impl Replay<Unkept> {
     // Closes the station: its channels are as those that stand alone.
     fn close(self, rt: &impl Abort) {
         let Replay {
@@ -498,13 +540,28 @@ impl Replay {
     }
 }
 
-// Plays each row, with frames that are brought in each manner, and closes the stations.
+// Plays a row on a station, which is left open.
+fn play_on<J: Journal>(
+    rt: &(impl Wait + Abort),
+    alloc: Global,
+    form: Form,
+    bringing: Bringing,
+    row: &Row,
+) -> Replay<J> {
+    let mut replay = Replay::new(rt, alloc, bringing, form, row.shape);
+    replay.play(rt, row);
+    replay
+}
+
+// Plays each row, with frames that are brought in each manner, on a station whose channels keep their journals and on one in
+// flight, and closes the stations.
 fn play_in(rt: &(impl Wait + Abort), alloc: Global, form: Form, rows: &[Row]) {
     for row in rows {
         for bringing in [Bringing::Plain, Bringing::Watched] {
-            let mut replay = Replay::new(rt, alloc, bringing, form, row.shape);
-            replay.play(rt, row);
-            replay.close(rt)
+            let kept: Replay<Kept> = play_on(rt, alloc, form, bringing, row);
+            kept.close(rt);
+            let flight: Replay<Unkept> = play_on(rt, alloc, form, bringing, row);
+            flight.close(rt)
         }
     }
 }

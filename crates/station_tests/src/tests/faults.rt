@@ -2,8 +2,9 @@ use super::*;
 use tc_channel::SettingsFault;
 use tc_link::FrameFault;
 use tc_station::{
-    BringFault, CloseFault, LocateFault, OperatorsFault, ReleaseRefused, StationFault, TakeRefused,
-    TakeUnitRefused, WatcherFault, WorkFault,
+    BringFault, CloseFault, FlightCloseFault, FlightStation, HoldingFault, LocateFault,
+    OperatorsFault, ReleaseRefused, StationFault, TakeRefused, TakeUnitRefused, WatcherFault,
+    WorkFault,
 };
 
 fn check_text(rt: &impl Abort, alloc: Global, fault: &impl std::fmt::Display, text: &str) {
@@ -58,6 +59,8 @@ fn faults_of_operations_have_texts(rt: HostRuntime) {
     let alloc = rt.alloc();
     let unknown = "the station has no such virtual channel";
     check_text(&rt, alloc, &WatcherFault::UnknownChannel, unknown);
+    check_text(&rt, alloc, &HoldingFault::UnknownChannel, unknown);
+    check_text(&rt, alloc, &HoldingFault::NoMemory, "no memory");
     check_text(&rt, alloc, &WatcherFault::NoMemory, "no memory");
     check_text(&rt, alloc, &ReleaseRefused::UnknownChannel, unknown);
     check_text(&rt, alloc, &ReleaseRefused::Empty, "the buffer is empty");
@@ -109,4 +112,25 @@ fn faults_of_operators_have_texts(rt: HostRuntime) {
     let other = Manned::new(&rt, alloc, &[1]);
     let no_memory = CloseFault::NoMemory(other.station, vec![in alloc].expect(&rt, "an answer"));
     check_text(&rt, alloc, &no_memory, "no memory")
+}
+
+fn station_in_flight(rt: &impl Abort, alloc: Global) -> FlightStation {
+    let list = settings_of(alloc, &[1]).expect(rt, "settings");
+    FlightStation::new(alloc, 42, list).expect(rt, "a station")
+}
+
+#[test]
+fn faults_of_a_close_in_flight_have_texts(rt: HostRuntime) {
+    let alloc = rt.alloc();
+    let missing = FlightCloseFault::Missing(station_in_flight(&rt, alloc), Vec::new(alloc));
+    check_text(&rt, alloc, &missing, "an operator is missing");
+    let no_memory = FlightCloseFault::NoMemory(station_in_flight(&rt, alloc), Vec::new(alloc));
+    check_text(&rt, alloc, &no_memory, "no memory");
+    let unbalanced = FlightCloseFault::Unbalanced(Vec::new(alloc), Vec::new(alloc));
+    check_text(
+        &rt,
+        alloc,
+        &unbalanced,
+        "the operators' counts and the numbers of events differ",
+    )
 }

@@ -1,0 +1,153 @@
+//! Each kind of call, one after the other.
+
+use crate::filler::{By, CONTINUING, FIRST, Filler, Front, LAST, UNSEGMENTED, segment};
+use crate::plan::CALLED;
+use anyhow::{Result, anyhow};
+use tc_channel::Delivery;
+use tc_link::Link;
+
+// The MAP of the packets, which isn't chosen, and the chosen one.
+const PACKETS: u8 = 63;
+
+const CHOSEN: u8 = 0;
+
+// The application of the packets.
+const APID: u8 = 1;
+
+// One packet of seven octets, unsegmented, and two.
+const ONE_PACKET: Front = [0xff, 0x10, 1, 0xc0, 0, 0, 0, 0xaa, 0, 0, 0, 0, 0, 0, 0];
+
+const TWO_PACKETS: Front = [
+    0xff, 0x10, 1, 0xc0, 0, 0, 0, 0xaa, 0x10, 1, 0xc0, 0, 0, 0, 0xbb,
+];
+
+/// Makes each kind of call, and again, and prints a line after each.
+pub(crate) fn print<R: AllocGlobal + Print>(rt: &R) -> Result<()> {
+    let mut filler = Filler::new(rt.alloc(), CALLED.settings(rt.alloc())?)?;
+    for _ in 0..2 {
+        println!(rt; "begun")?;
+        print_without_a_unit(rt, &mut filler)?;
+        print_of_packets(rt, &mut filler)?;
+        print_of_runs(rt, &mut filler)?;
+        print_of_released_runs(rt, &mut filler)?;
+        print_of_units(rt, &mut filler)?;
+    }
+    Ok(())
+}
+
+// What ends no unit.
+fn print_without_a_unit<R: Print>(rt: &R, filler: &mut Filler) -> Result<()> {
+    filler.unlock()?;
+    println!(rt; "frame, Unlock")?;
+    filler.bring_again(8, &ONE_PACKET)?;
+    println!(rt; "frame, discarded")?;
+    let _ = filler.channel.clcw(Link {
+        no_rf: false,
+        no_bit_lock: false,
+    });
+    println!(rt; "clcw")?;
+    Ok(())
+}
+
+// Fails where another number of items was queued.
+fn want(delivery: Delivery, queued: u32) -> Result<()> {
+    if delivery.queued == queued {
+        Ok(())
+    } else {
+        Err(anyhow!("queued {}", delivery.queued))
+    }
+}
+
+// What ends an unsegmented unit, which is cut into packets.
+fn print_of_packets<R: Print>(rt: &R, filler: &mut Filler) -> Result<()> {
+    filler.buffer(8, &ONE_PACKET)?;
+    println!(rt; "frame, Type-AD, accepted")?;
+    want(filler.channel.release()?, 1)?;
+    println!(rt; "release, one packet queued")?;
+    empty(filler, 1)?;
+    println!(rt; "take")?;
+    filler.pass(By::Bd, 8, &ONE_PACKET)?;
+    println!(rt; "frame, Type-BD, one packet queued")?;
+    filler.pass(By::Bd, 15, &TWO_PACKETS)?;
+    println!(rt; "frame, Type-BD, two packets queued")?;
+    filler.pass(By::Bd, 8, &ONE_PACKET)?;
+    println!(rt; "frame, Type-BD, one packet queued")?;
+    filler.pass(By::Bd, 8, &ONE_PACKET)?;
+    println!(rt; "frame, Type-BD, one packet dropped")?;
+    empty(filler, CALLED.packets)?;
+    println!(rt; "take")?;
+    Ok(())
+}
+
+// Takes so many packets.
+fn empty(filler: &mut Filler, packets: u16) -> Result<()> {
+    for _ in 0..packets {
+        drop(filler.channel.take(u16::from(APID))?);
+    }
+    Ok(())
+}
+
+// Segments, the last of which ends a unit that is one packet: a run is doubled as it grows from 6 to 20 and 22 octets, and has room
+// then.
+fn print_of_runs<R: Print>(rt: &R, filler: &mut Filler) -> Result<()> {
+    let next = segment(CONTINUING, PACKETS, APID);
+    filler.pass(By::Bd, 7, &first_of_26(PACKETS))?;
+    println!(rt; "frame, Type-BD, first segment")?;
+    filler.pass(By::Bd, 15, &next)?;
+    println!(rt; "frame, Type-BD, next segment, run grows")?;
+    filler.pass(By::Bd, 3, &next)?;
+    println!(rt; "frame, Type-BD, next segment, run grows")?;
+    filler.pass(By::Bd, 3, &next)?;
+    println!(rt; "frame, Type-BD, next segment, run has room")?;
+    filler.pass(By::Bd, 3, &segment(LAST, PACKETS, APID))?;
+    println!(rt; "frame, Type-BD, last segment, one packet queued")?;
+    empty(filler, 1)?;
+    println!(rt; "take")?;
+    Ok(())
+}
+
+// The same by the buffer.
+fn print_of_released_runs<R: Print>(rt: &R, filler: &mut Filler) -> Result<()> {
+    filler.buffer(7, &first_of_26(PACKETS))?;
+    println!(rt; "frame, Type-AD, accepted")?;
+    filler.buffer(15, &segment(CONTINUING, PACKETS, APID))?;
+    println!(rt; "frame, Type-AD, accepted")?;
+    filler.buffer(7, &segment(LAST, PACKETS, APID))?;
+    println!(rt; "frame, Type-AD, accepted")?;
+    want(filler.channel.release()?, 0)?;
+    println!(rt; "release, first segment")?;
+    want(filler.channel.release()?, 0)?;
+    println!(rt; "release, next segment, run grows")?;
+    want(filler.channel.release()?, 1)?;
+    println!(rt; "release, last segment, one packet queued")?;
+    empty(filler, 1)?;
+    println!(rt; "take")?;
+    Ok(())
+}
+
+// Units of a chosen MAP.
+fn print_of_units<R: Print>(rt: &R, filler: &mut Filler) -> Result<()> {
+    filler.pass(By::Bd, 8, &segment(UNSEGMENTED, CHOSEN, APID))?;
+    println!(rt; "frame, Type-BD, whole unit queued")?;
+    filler.buffer(8, &segment(UNSEGMENTED, CHOSEN, APID))?;
+    println!(rt; "frame, Type-AD, accepted")?;
+    want(filler.channel.release()?, 1)?;
+    println!(rt; "release, whole unit queued")?;
+    filler.pass(By::Bd, 7, &first_of_26(CHOSEN))?;
+    println!(rt; "frame, Type-BD, first segment")?;
+    filler.pass(By::Bd, 3, &segment(LAST, CHOSEN, APID))?;
+    println!(rt; "frame, Type-BD, whole unit queued")?;
+    for _ in 0..3 {
+        drop(filler.channel.take_unit(CHOSEN)?);
+    }
+    println!(rt; "take_unit")?;
+    Ok(())
+}
+
+// The first segment of a packet of 26 octets.
+fn first_of_26(map: u8) -> Front {
+    let mut front = segment(FIRST, map, APID);
+    front[5] = 0;
+    front[6] = 19;
+    front
+}

@@ -1,0 +1,4 @@
+mod cutting;
+mod link;
+mod packets;
+mod reassembler;
