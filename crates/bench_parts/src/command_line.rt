@@ -20,6 +20,8 @@ pub enum Action {
     Threads,
     /// Print what a read of a status costs.
     Status,
+    /// Print what a round on a station costs beside what its parts cost alone.
+    Parts,
     /// Make so many rounds on a channel of this form, and print what they add up to.
     Rounds(Form, u32),
 }
@@ -53,6 +55,7 @@ fn named(word: &str) -> Option<Action> {
     match word {
         "threads" => Some(Action::Threads),
         "status" => Some(Action::Status),
+        "parts" => Some(Action::Parts),
         _ => None,
     }
 }

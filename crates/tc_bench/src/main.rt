@@ -1,13 +1,15 @@
 //! `tc_bench`: a fixed load for stations, and what it costs.
 //!
 //! With no argument it does the load and prints scores that each answer changes: a receiver that answers otherwise prints
-//! others. With `threads` it prints how many frames a second several threads get answered, and with `status` what a read of
-//! a status costs. With `rounds kept` or `rounds flight` and a number it makes so many rounds on a bare channel whose journal
-//! is kept in memory or not, and prints what their answers add up to, so that another program can read what they cost.
+//! others. With `threads` it prints how many frames a second several threads get answered, with `status` what a read of a
+//! status costs, and with `parts` what a round on a station costs beside what its parts cost alone. With `rounds kept` or
+//! `rounds flight` and a number it makes so many rounds on a bare channel whose journal is kept in memory or not, and prints
+//! what their answers add up to, so that another program can read what they cost.
 #![tactic(auto)]
 
 mod crew;
 mod measure;
+mod parts;
 mod round;
 mod rounds;
 mod scores;
@@ -49,7 +51,9 @@ fn obey<R: Threads + Wait + Clock + CpuClock + Sync + AllocGlobal + Print + Epri
     words: &[String],
 ) -> ExitCode {
     let Some(action) = judge(words) else {
-        let _ = eprintln!(rt; "usage: tc_bench [threads | status | rounds (kept | flight) COUNT]");
+        let _ = eprintln!(rt;
+            "usage: tc_bench [threads | status | parts | rounds (kept | flight) COUNT]"
+        );
         return ExitCode::from(BAD_COMMAND_LINE);
     };
     match perform(rt, action) {
@@ -69,6 +73,7 @@ fn perform<R: Threads + Wait + Clock + CpuClock + Sync + AllocGlobal + Print>(
         Action::Scores => scores::print(rt),
         Action::Threads => threads::print(rt),
         Action::Status => status::print(rt),
+        Action::Parts => parts::print(rt),
         Action::Rounds(form, count) => rounds::print(rt, form, count),
     }
 }
