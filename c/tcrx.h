@@ -159,7 +159,8 @@ tcrx_farm_answer tcrx_farm_start(uint8_t width, uint8_t first_vr);
 /*
  * One step of FARM-1, by its state table (CCSDS 232.1-B, 6.3). `arrival` is what tcrx_kind tells of a frame, or TCRX_RELEASE;
  * `number` is what it tells beside it, and of no matter for TCRX_RELEASE. `room` is 1 where the buffer has room for the data
- * field of a Type-AD frame, else 0. The record of an answer is that of a FARM-1 again.
+ * field of a Type-AD frame, else 0. The record of a step that is done is that of a FARM-1 again; that of a refused one is as it
+ * was given.
  * TCRX_BAD_WIDTH, TCRX_BAD_STATE, TCRX_BAD_FARM_B, TCRX_BAD_FLAG and TCRX_FLAGS_DISAGREE: no FARM-1 has this record. Then
  * TCRX_BAD_FLAG of `room`, TCRX_BAD_ARRIVAL, and TCRX_NO_ENTRY, which isn't met where `room` is 0 in TCRX_WAIT, as it is of a
  * buffer that has had no release since it was full.

@@ -3,7 +3,7 @@
  * frame waits in a buffer with room for one, and a CLCW goes out each cycle. The packet of a released data field is told by its
  * application.
  */
-#include "../tcrx.h"
+#include <tcrx.h>
 
 #include <inttypes.h>
 #include <stdbool.h>

@@ -1,5 +1,5 @@
 // Frames of given fields, as a ground test in C++ makes them: written into a buffer, printed, and read back.
-#include "../tcrx.h"
+#include <tcrx.h>
 
 #include <array>
 #include <cstddef>
