@@ -43,7 +43,7 @@ fn print<R: Print + Eprint>(rt: &R, answer: &Error) -> ExitCode {
     match printed {
         Ok(()) => ExitCode::SUCCESS,
         Err(_) => {
-            let _ = eprintln!(rt; "cannot write");
+            let _ = eprintln!(rt; "tcmake: cannot write");
             ExitCode::FAILURE
         }
     }
@@ -54,7 +54,7 @@ fn tell<R: Eprint>(rt: &R, served: Result<(), ServingFault>) -> ExitCode {
     match served {
         Ok(()) => ExitCode::SUCCESS,
         Err(fault) => {
-            let _ = eprintln!(rt; "{fault}");
+            let _ = eprintln!(rt; "tcmake: {fault}");
             ExitCode::FAILURE
         }
     }
