@@ -1,6 +1,6 @@
 //! A station whose channels' journals take no memory.
 
-ghost use Rattle.std.specs.Prelude.{◌≡◌, ◌∷◌, []};
+ghost use Rattle.std.specs.Prelude.{◌≡◌, ◌∷◌, [], All, map};
 ghost use Rattle.tc_station.specs.StationSettings.{vcids_of};
 ghost use Rattle.tc_station.specs.Tally.{fresh};
 
@@ -124,6 +124,24 @@ fn six_threads_on_a_station_in_flight(rt: HostRuntime) {
     assert_eq!(rt; station.watch(&mut watcher, NO_FLAG), 0x0104_0400);
 }
 
+// The channels of a closed station. One growth may be refused.
+fn close(
+    rt: &(impl Abort + Print),
+    station: FlightStation,
+    operators: Vec<Operator>,
+) -> Vec<FlightChannel>
+    requires { All (λ o. o.vcids ≡ station.vcids) operators.items }
+    ensures { map (λ c. c.settings.vcid) result.items ≡ station.vcids }
+{
+    match station.close(operators) {
+        Err(FlightCloseFault::NoMemory(station, operators)) => {
+            let _ = println!(rt; "refused: FlightStation::close");
+            station.close(operators).expect(rt, "a closed station")
+        }
+        closed => closed.expect(rt, "a closed station"),
+    }
+}
+
 // A refused frame leaves the count as it was, and the close is made again.
 #[test]
 fn growth_of_each_call_of_a_flight_station(rt: HostRuntime) {
@@ -149,12 +167,6 @@ fn growth_of_each_call_of_a_flight_station(rt: HostRuntime) {
     }
     let packet = station.take(&rt, bringing, 1, 5).expect(&rt, "a packet");
     assert_eq!(rt; packet.as_slice(), PACKET.as_slice());
-    let channels = match station.close(operators) {
-        Err(FlightCloseFault::NoMemory(station, operators)) => {
-            let _ = println!(&rt; "refused: FlightStation::close");
-            station.close(operators).expect(&rt, "a closed station")
-        }
-        closed => closed.expect(&rt, "a closed station"),
-    };
+    let channels = close(&rt, station, operators);
     assert_eq!(rt; channels[0].events(), 4);
 }
