@@ -3,3 +3,4 @@ pub mod Farm
 pub mod Clcw
 pub mod Frame
 pub mod Packet
+pub mod Place

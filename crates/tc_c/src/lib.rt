@@ -10,6 +10,8 @@ mod farm;
 mod frames;
 mod laws;
 mod packets;
+mod parts;
+mod place;
 mod status;
 
 pub use buffer::{WrittenRecord, tcrx_text_at};

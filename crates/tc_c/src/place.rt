@@ -1,0 +1,58 @@
+//! Where a channel lies in memory, or that none does.
+
+ghost use Rattle.std.specs.Prelude.{◌≡◌, Option, Some, None, IsSome};
+ghost use Rattle.tc_channel.specs.Journal.{History};
+ghost use Rattle.tc_c.specs.Place.{place_owns, history_coded};
+
+use crate::parts::Parts;
+use std::alloc::Global;
+use std::marker::Model;
+use std::ptr;
+use tc_channel::FlightChannel;
+
+/// The place of a channel, or of none. C passes it on, and never reads or copies it.
+#[repr(C)]
+pub struct Place {
+    ptr: *mut u8,
+    alloc: Global,
+    pub ghost channel: { Option History } by { history_coded },
+}
+
+impl Model for Place {
+    ghost also_owns = { λ p. place_owns p.alloc p.ptr p.channel };
+}
+
+impl Place {
+    /// The place of no channel.
+    pub(crate) fn empty(alloc: Global) -> Place
+        ensures { result.channel ≡ None }
+    {
+        Place {
+            ptr: ptr::null_mut(),
+            alloc,
+        }
+    }
+
+    /// The place of a channel in these parts.
+    pub(crate) fn of(parts: Parts<FlightChannel, Global>) -> Place
+        ensures { result.channel ≡ Some parts.value }
+    {
+        let Parts { ptr, alloc } = parts;
+        Place {
+            ptr: ptr as *mut u8,
+            alloc,
+        }
+    }
+
+    /// The parts of the channel that lies here.
+    pub(crate) fn into_parts(self) -> Parts<FlightChannel, Global>
+        requires { IsSome self.channel }
+        ensures { self.channel ≡ Some result.value }
+    {
+        let Place { ptr, alloc } = self;
+        Parts {
+            ptr: ptr as *mut FlightChannel,
+            alloc,
+        }
+    }
+}
