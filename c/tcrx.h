@@ -1,7 +1,8 @@
 /*
  * The receiving end of a telecommand link, for C99 and C++: FARM-1 (CCSDS 232.1-B), the CLCW and transfer frames
- * (CCSDS 232.0-B), and the front of space packets (CCSDS 133.0-B). The library is libtc_c.a, whose functions are proved; beside
- * it they need memmove alone.
+ * (CCSDS 232.0-B), and the front of space packets (CCSDS 133.0-B); and a whole virtual channel of a receiver, with its buffer,
+ * reassembly and queues. The library is libtc_c.a, whose functions are proved; beside it they need memmove, memset and the three
+ * functions of tcrx_memory.c.
  *
  * Records. Each call answers with a record, whose first field is a status: TCRX_DONE, or the first reason why the call is
  * refused, in the order in which its description gives them. All numbers of a record that comes in may have any value, and the
@@ -11,9 +12,14 @@
  * returned, and none writes but to the buffer that its description names, which overlaps nothing else that the call is given.
  * Where a pointer is null the status is TCRX_NULL, and every other number of the answer is 0.
  *
- * Memory and threads. The library keeps nothing between calls and allocates nothing. Calls may be made from any number of
- * threads, interrupt handlers and signal handlers at the same time, as long as none writes octets that another one reads or
- * writes.
+ * Memory and threads. The library keeps nothing of its own between calls, and only the calls of a channel allocate. The others
+ * may be made from any number of threads, interrupt handlers and signal handlers at the same time, as long as none writes octets
+ * that another one reads or writes. The calls of a channel may be made from any thread, but not from an interrupt or signal
+ * handler; a channel is given to one call at a time, so who shares one between threads puts a lock round its calls.
+ *
+ * Allocation. A channel takes its memory by rattle_alloc, rattle_realloc and rattle_dealloc, which tcrx_memory.c defines over
+ * malloc, realloc and free. Flight software may link three of its own in their place, over a pool: that file says what they owe.
+ * Where they give no memory the status is TCRX_NO_MEMORY, and the channel is as it was before the call, which can be made again.
  *
  * Calls whose name ends in _at are those of the library itself, for callers in other languages: they are as the call without
  * _at, and are never given a null pointer.
@@ -43,7 +49,7 @@ enum {
     TCRX_BAD_FIELD = 10,  /* the spacecraft id is over 1,023, or the virtual channel id over 63 */
     TCRX_EMPTY_DATA = 11, /* the data field is empty */
     TCRX_TOO_LONG = 12,   /* the data field has more than 1,019 octets */
-    TCRX_NO_MEMORY = 13,  /* no memory; none of the calls below asks for any */
+    TCRX_NO_MEMORY = 13,  /* no memory; of the calls below those of a channel ask for it */
     /* No FARM-1 has the record, or it makes no such step. */
     TCRX_BAD_WIDTH = 20,      /* the width of the window isn't even and 2 to 254 */
     TCRX_BAD_STATE = 21,      /* the state isn't 1 to 3 */
@@ -60,7 +66,22 @@ enum {
     /* Buffers, pointers and numbers of statuses. */
     TCRX_NO_ROOM = 50,  /* the buffer is too short */
     TCRX_NULL = 51,     /* a pointer is null */
-    TCRX_NO_STATUS = 52 /* there is no such status */
+    TCRX_NO_STATUS = 52, /* there is no such status */
+    /* No channel is made of settings. */
+    TCRX_BAD_BUFFER = 60,   /* the buffer isn't for 1 to 64 data fields */
+    TCRX_BAD_APID = 61,     /* the APID of a queue is over 2,046 */
+    TCRX_DOUBLE_APID = 62,  /* two queues have one APID */
+    TCRX_BAD_CAPACITY = 63, /* a queue isn't for 1 to 256 packets */
+    TCRX_BAD_MAP = 64,      /* a MAP is over 63 */
+    TCRX_DOUBLE_MAP = 65,   /* a MAP is chosen twice */
+    TCRX_BAD_UNITS = 66,    /* the queue of a MAP isn't for 1 to 256 units */
+    TCRX_PLAIN_MAP = 67,    /* a channel without segment headers has no MAPs */
+    /* A channel has none of what is asked for. */
+    TCRX_NO_CHANNEL = 70, /* no channel is held */
+    TCRX_IN_USE = 71,     /* a channel is held already */
+    TCRX_NO_QUEUE = 72,   /* no queue has that APID */
+    TCRX_NO_MAP = 73,     /* that MAP isn't chosen */
+    TCRX_EMPTY = 74       /* nothing waits there */
 };
 
 /* The states of FARM-1. */
@@ -151,6 +172,63 @@ typedef struct {
 } tcrx_written;
 
 /*
+ * Holds a virtual channel, or none. It lies in memory of the caller's, who sets it to TCRX_HOLDS_NONE before the first call and
+ * writes nothing to it after that. A copy of it is no second channel: it may be moved to another place, if the old one is set to
+ * TCRX_HOLDS_NONE before the next call. A channel that is still held when this memory ends isn't freed.
+ */
+typedef struct {
+    uint8_t held;
+    void *place;
+} tcrx_channel;
+
+#define TCRX_HOLDS_NONE \
+    { 0, NULL }
+
+/* What a channel is made by, apart from its queues. */
+typedef struct {
+    uint8_t vcid;      /* the virtual channel id, 0 to 63 */
+    uint8_t width;     /* of the sliding window, even and 2 to 254 */
+    uint8_t buffer;    /* how many data fields the buffer holds, 1 to 64 */
+    uint8_t first_vr;  /* V(R) at the start */
+    uint8_t segmented; /* 1 where data fields begin with a segment header; 0 where each is a unit by itself */
+} tcrx_settings;
+
+/* A queue for the telecommand packets of one application. */
+typedef struct {
+    uint16_t apid;     /* at most 2,046 */
+    uint16_t capacity; /* how many packets it holds, 1 to 256 */
+} tcrx_queue;
+
+/* A chosen MAP, whose units are queued whole and not cut into packets. */
+typedef struct {
+    uint8_t map;       /* at most 63 */
+    uint16_t capacity; /* how many units its queue holds, 1 to 256 */
+} tcrx_map;
+
+/* What became of the unit that a call ended; each number is 0 where it ended none, and where the call is refused. */
+typedef struct {
+    tcrx_status status;
+    uint32_t queued;  /* how many packets were queued; 1 for a unit that was queued whole */
+    uint32_t dropped; /* how many packets were dropped: no telecommand, no queue, or no room in it; 1 for such a whole unit */
+    uint8_t event;    /* 1 to 9, the row E1 to E9 of FARM-1's table */
+    uint8_t accepted; /* 1 where the frame was accepted, else 0 */
+    uint8_t rest;     /* 1 where octets were left that begin with no packet, else 0 */
+} tcrx_reply;
+
+/* The same of a data field that was released. */
+typedef struct {
+    tcrx_status status;
+    uint32_t queued;
+    uint32_t dropped;
+    uint8_t rest;
+} tcrx_delivery;
+
+typedef struct {
+    tcrx_status status;
+    uint64_t count; /* 0 where the call is refused */
+} tcrx_count;
+
+/*
  * FARM-1 that starts: in TCRX_OPEN, every flag and the FARM-B counter 0, V(R) as given.
  * TCRX_BAD_WIDTH.
  */
@@ -185,6 +263,19 @@ tcrx_frame tcrx_read_frame_at(const uint8_t *octets, size_t count);
 tcrx_kind_answer tcrx_kind_at(const uint8_t *octets, size_t count);
 tcrx_written tcrx_write_frame_at(tcrx_header header, const uint8_t *field, size_t field_count, uint8_t *octets, size_t room);
 tcrx_packet tcrx_read_packet_at(const uint8_t *octets, size_t count);
+tcrx_status tcrx_channel_new_at(tcrx_channel *channel, tcrx_settings settings, const tcrx_queue *queues, size_t queue_count,
+                                const tcrx_map *maps, size_t map_count);
+tcrx_reply tcrx_channel_frame_at(tcrx_channel *channel, const uint8_t *octets, size_t count);
+tcrx_delivery tcrx_channel_release_at(tcrx_channel *channel);
+tcrx_written tcrx_channel_take_at(tcrx_channel *channel, uint16_t apid, uint8_t *octets, size_t room);
+tcrx_written tcrx_channel_take_unit_at(tcrx_channel *channel, uint8_t map, uint8_t *octets, size_t room);
+tcrx_clcw_answer tcrx_channel_clcw_at(tcrx_channel *channel, uint8_t no_rf, uint8_t no_bit_lock);
+tcrx_farm_answer tcrx_channel_report_at(tcrx_channel *channel);
+tcrx_count tcrx_channel_buffered_at(tcrx_channel *channel);
+tcrx_count tcrx_channel_queued_at(tcrx_channel *channel, uint16_t apid);
+tcrx_count tcrx_channel_units_at(tcrx_channel *channel, uint8_t map);
+tcrx_count tcrx_channel_events_at(tcrx_channel *channel);
+tcrx_status tcrx_channel_free_at(tcrx_channel *channel);
 
 /* Room for each text. */
 enum { TCRX_TEXT_ROOM = 64 };
@@ -252,6 +343,159 @@ static inline tcrx_packet tcrx_read_packet(const uint8_t *octets, size_t count) 
         return refused;
     }
     return tcrx_read_packet_at(octets, count);
+}
+
+/*
+ * Makes a channel, which is held until it is freed. Nothing that is given is kept. A null list of 0 entries has none.
+ * TCRX_NULL, TCRX_IN_USE, TCRX_BAD_FLAG of `segmented`; then the first fault of the settings in this order: TCRX_BAD_VCID,
+ * TCRX_BAD_WIDTH, TCRX_BAD_BUFFER, TCRX_BAD_APID, TCRX_DOUBLE_APID, TCRX_BAD_CAPACITY, TCRX_BAD_MAP, TCRX_DOUBLE_MAP,
+ * TCRX_BAD_UNITS, TCRX_PLAIN_MAP. TCRX_NO_MEMORY, also where settings with a fault can't be looked at for want of it.
+ */
+static inline tcrx_status tcrx_channel_new(tcrx_channel *channel, tcrx_settings settings, const tcrx_queue *queues,
+                                           size_t queue_count, const tcrx_map *maps, size_t map_count) {
+    const tcrx_queue no_queue = {0, 0};
+    const tcrx_map no_map = {0, 0};
+    if (channel == NULL || (queues == NULL && queue_count != 0) || (maps == NULL && map_count != 0)) {
+        return TCRX_NULL;
+    }
+    return tcrx_channel_new_at(channel, settings, queues == NULL ? &no_queue : queues, queue_count,
+                               maps == NULL ? &no_map : maps, map_count);
+}
+
+/*
+ * Gives the channel the frame at the front of the octets. What follows it is fill. Spacecraft and virtual channel of the frame
+ * are not looked at: tcrx_read_frame tells them, so that each frame is given to the channel that it is for. The data field of an
+ * accepted Type-AD frame waits in the buffer; the unit that an accepted Type-BD frame ends is queued at once.
+ * TCRX_NULL, TCRX_NO_CHANNEL, TCRX_SHORT to TCRX_TRUNCATED, TCRX_NO_MEMORY.
+ */
+static inline tcrx_reply tcrx_channel_frame(tcrx_channel *channel, const uint8_t *octets, size_t count) {
+    if (channel == NULL || octets == NULL) {
+        const tcrx_reply refused = {TCRX_NULL, 0, 0, 0, 0, 0};
+        return refused;
+    }
+    return tcrx_channel_frame_at(channel, octets, count);
+}
+
+/*
+ * Lets the oldest data field out of the buffer, to reassembly. The unit that it ends is cut into packets, which are queued; or
+ * it is queued whole, where its MAP is chosen.
+ * TCRX_NULL, TCRX_NO_CHANNEL, TCRX_EMPTY, TCRX_NO_MEMORY.
+ */
+static inline tcrx_delivery tcrx_channel_release(tcrx_channel *channel) {
+    if (channel == NULL) {
+        const tcrx_delivery refused = {TCRX_NULL, 0, 0, 0};
+        return refused;
+    }
+    return tcrx_channel_release_at(channel);
+}
+
+/*
+ * Takes the oldest packet of the queue with this APID, whole with its header, into the front of a buffer with room for so many
+ * octets. A packet has 7 to 65,542. What follows it in the buffer stays, and where the call is refused the whole buffer and the
+ * packet in its queue.
+ * TCRX_NULL, TCRX_NO_CHANNEL, TCRX_NO_QUEUE, TCRX_EMPTY, TCRX_NO_ROOM, TCRX_NO_MEMORY.
+ */
+static inline tcrx_written tcrx_channel_take(tcrx_channel *channel, uint16_t apid, uint8_t *octets, size_t room) {
+    if (channel == NULL || octets == NULL) {
+        const tcrx_written refused = {TCRX_NULL, 0};
+        return refused;
+    }
+    return tcrx_channel_take_at(channel, apid, octets, room);
+}
+
+/*
+ * The same of the oldest unit of a chosen MAP, which may have no octets.
+ * TCRX_NULL, TCRX_NO_CHANNEL, TCRX_NO_MAP, TCRX_EMPTY, TCRX_NO_ROOM, TCRX_NO_MEMORY.
+ */
+static inline tcrx_written tcrx_channel_take_unit(tcrx_channel *channel, uint8_t map, uint8_t *octets, size_t room) {
+    if (channel == NULL || octets == NULL) {
+        const tcrx_written refused = {TCRX_NULL, 0};
+        return refused;
+    }
+    return tcrx_channel_take_unit_at(channel, map, octets, room);
+}
+
+/*
+ * The CLCW of the channel, with the two flags of the link. Its status field is 0, and COP-1 is in effect.
+ * TCRX_NULL, TCRX_NO_CHANNEL, TCRX_BAD_FLAG.
+ */
+static inline tcrx_clcw_answer tcrx_channel_clcw(tcrx_channel *channel, uint8_t no_rf, uint8_t no_bit_lock) {
+    if (channel == NULL) {
+        const tcrx_clcw_answer refused = {TCRX_NULL, 0};
+        return refused;
+    }
+    return tcrx_channel_clcw_at(channel, no_rf, no_bit_lock);
+}
+
+/*
+ * The record of the channel's FARM-1, with the width of its window.
+ * TCRX_NULL, TCRX_NO_CHANNEL.
+ */
+static inline tcrx_farm_answer tcrx_channel_report(tcrx_channel *channel) {
+    if (channel == NULL) {
+        const tcrx_farm_answer refused = {TCRX_NULL, {0, 0, 0, 0, 0, 0, 0}};
+        return refused;
+    }
+    return tcrx_channel_report_at(channel);
+}
+
+/*
+ * How many data fields wait in the buffer.
+ * TCRX_NULL, TCRX_NO_CHANNEL.
+ */
+static inline tcrx_count tcrx_channel_buffered(tcrx_channel *channel) {
+    if (channel == NULL) {
+        const tcrx_count refused = {TCRX_NULL, 0};
+        return refused;
+    }
+    return tcrx_channel_buffered_at(channel);
+}
+
+/*
+ * How many packets wait in the queue with this APID.
+ * TCRX_NULL, TCRX_NO_CHANNEL, TCRX_NO_QUEUE.
+ */
+static inline tcrx_count tcrx_channel_queued(tcrx_channel *channel, uint16_t apid) {
+    if (channel == NULL) {
+        const tcrx_count refused = {TCRX_NULL, 0};
+        return refused;
+    }
+    return tcrx_channel_queued_at(channel, apid);
+}
+
+/*
+ * How many units wait in the queue of a chosen MAP.
+ * TCRX_NULL, TCRX_NO_CHANNEL, TCRX_NO_MAP.
+ */
+static inline tcrx_count tcrx_channel_units(tcrx_channel *channel, uint8_t map) {
+    if (channel == NULL) {
+        const tcrx_count refused = {TCRX_NULL, 0};
+        return refused;
+    }
+    return tcrx_channel_units_at(channel, map);
+}
+
+/*
+ * How many frames, releases and takes were done; where they are more than 2^64 - 1, that number.
+ * TCRX_NULL, TCRX_NO_CHANNEL.
+ */
+static inline tcrx_count tcrx_channel_events(tcrx_channel *channel) {
+    if (channel == NULL) {
+        const tcrx_count refused = {TCRX_NULL, 0};
+        return refused;
+    }
+    return tcrx_channel_events_at(channel);
+}
+
+/*
+ * Frees the channel with all that waits in it. After that none is held, and another one can be made.
+ * TCRX_NULL, TCRX_NO_CHANNEL.
+ */
+static inline tcrx_status tcrx_channel_free(tcrx_channel *channel) {
+    if (channel == NULL) {
+        return TCRX_NULL;
+    }
+    return tcrx_channel_free_at(channel);
 }
 
 #ifdef __cplusplus

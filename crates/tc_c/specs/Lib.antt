@@ -4,3 +4,4 @@ pub mod Clcw
 pub mod Frame
 pub mod Packet
 pub mod Place
+pub mod Channel

@@ -4,11 +4,13 @@ use Rattle.tc_link.specs.declared.frame.FrameFault.{FrameFault}
 use Rattle.tc_link.specs.declared.frame.FrameFault.TheVariants as frames
 use Rattle.tc_link.specs.declared.writing.WriteFault.{WriteFault}
 use Rattle.tc_link.specs.declared.writing.WriteFault.TheVariants as writing
+use Rattle.tc_channel.specs.declared.settings.SettingsFault.{SettingsFault}
+use Rattle.tc_channel.specs.declared.settings.SettingsFault.TheVariants as settings
 use Rattle.tc_c.specs.declared.status.Status.{Status}
 use Rattle.tc_c.specs.declared.status.Status.TheVariants as st
 
 -- 0 is done; from 1 on no frame stands there, from 10 on none is written, from 20 on FARM-1 refuses, from 30 on CLCWs, from 40
--- on packets, and from 50 on buffers and pointers
+-- on packets, from 50 on buffers and pointers, from 60 on no channel is made of settings, and from 70 on one can't be asked
 abbrev pub code_of : Status → ℕ
 code_of st.Done = 0
 code_of st.Short = 1
@@ -33,6 +35,19 @@ code_of st.NoPacket = 40
 code_of st.NoRoom = 50
 code_of st.Null = 51
 code_of st.NoStatus = 52
+code_of st.BadBuffer = 60
+code_of st.BadApid = 61
+code_of st.DoubleApid = 62
+code_of st.BadCapacity = 63
+code_of st.BadMap = 64
+code_of st.DoubleMap = 65
+code_of st.BadUnits = 66
+code_of st.PlainMap = 67
+code_of st.NoChannel = 70
+code_of st.InUse = 71
+code_of st.NoQueue = 72
+code_of st.NoMap = 73
+code_of st.Empty = 74
 
 abbrev pub status_of : ℕ → Option Status
 status_of number =
@@ -59,6 +74,19 @@ status_of number =
     else if number == 50 then Some st.NoRoom
     else if number == 51 then Some st.Null
     else if number == 52 then Some st.NoStatus
+    else if number == 60 then Some st.BadBuffer
+    else if number == 61 then Some st.BadApid
+    else if number == 62 then Some st.DoubleApid
+    else if number == 63 then Some st.BadCapacity
+    else if number == 64 then Some st.BadMap
+    else if number == 65 then Some st.DoubleMap
+    else if number == 66 then Some st.BadUnits
+    else if number == 67 then Some st.PlainMap
+    else if number == 70 then Some st.NoChannel
+    else if number == 71 then Some st.InUse
+    else if number == 72 then Some st.NoQueue
+    else if number == 73 then Some st.NoMap
+    else if number == 74 then Some st.Empty
     else None
 
 abbrev pub text_of : Status → List ℕ
@@ -85,6 +113,19 @@ text_of st.NoPacket = codes "no whole packet stands there"
 text_of st.NoRoom = codes "the buffer is too short"
 text_of st.Null = codes "a pointer is null"
 text_of st.NoStatus = codes "no such status"
+text_of st.BadBuffer = codes "the buffer isn't for 1 to 64 data fields"
+text_of st.BadApid = codes "the APID of a queue is over 2,046"
+text_of st.DoubleApid = codes "two queues have one APID"
+text_of st.BadCapacity = codes "a queue isn't for 1 to 256 packets"
+text_of st.BadMap = codes "a MAP is over 63"
+text_of st.DoubleMap = codes "a MAP is chosen twice"
+text_of st.BadUnits = codes "the queue of a MAP isn't for 1 to 256 units"
+text_of st.PlainMap = codes "a channel without segment headers has no MAPs"
+text_of st.NoChannel = codes "no channel is held"
+text_of st.InUse = codes "a channel is held already"
+text_of st.NoQueue = codes "no queue has that APID"
+text_of st.NoMap = codes "that MAP isn't chosen"
+text_of st.Empty = codes "nothing waits there"
 
 -- the faults of frames, by their names
 abbrev pub frame_status : FrameFault → Status
@@ -99,3 +140,17 @@ write_status writing.BadField = st.BadField
 write_status writing.EmptyData = st.EmptyData
 write_status writing.TooLong = st.TooLong
 write_status writing.NoMemory = st.NoMemory
+
+-- the faults of settings, by their names
+abbrev pub settings_status : SettingsFault → Status
+settings_status settings.BadVcid = st.BadVcid
+settings_status settings.BadWindow = st.BadWidth
+settings_status settings.BadBuffer = st.BadBuffer
+settings_status settings.BadApid = st.BadApid
+settings_status settings.DoubleApid = st.DoubleApid
+settings_status settings.BadCapacity = st.BadCapacity
+settings_status settings.BadMap = st.BadMap
+settings_status settings.DoubleMap = st.DoubleMap
+settings_status settings.BadUnits = st.BadUnits
+settings_status settings.PlainMap = st.PlainMap
+settings_status settings.NoMemory = st.NoMemory

@@ -114,8 +114,8 @@ pub extern "C" fn tcrx_farm_step(
     }
 }
 
-// The record of FARM-1 with these components.
-fn record(width: u8, report: Report) -> FarmRecord
+/// The record of FARM-1 with these components.
+pub(crate) fn record(width: u8, report: Report) -> FarmRecord
     ensures { result ≡ record_of (record { width = width; report = report }) }
 {
     FarmRecord {
@@ -135,7 +135,8 @@ fn record(width: u8, report: Report) -> FarmRecord
 
 /// The flag that a number stands for.
 pub(crate) fn flag(number: u8) -> Result<bool, Status>
-    ensures { result ≡ flag_of number }
+    ensures flag { result ≡ flag_of number }
+    ensures fault { IfErr result (λ fault. fault ≡ Status.BadFlag) }
 {
     match number {
         0 => Ok(false),

@@ -1,21 +1,35 @@
-//! The receiver's calls for C: FARM-1, CLCWs, transfer frames and space packets over plain numbers, records and octets.
+//! The receiver's calls for C: FARM-1, CLCWs, transfer frames and space packets over plain numbers, records and octets, which
+//! keep no state and allocate nothing; and a channel that the caller holds by a seat in its own memory.
 //!
-//! Each call answers with a record, whose first field is a status. It keeps no state and no pointer, and allocates nothing.
+//! Each call answers with a status, alone or as the first field of a record. It keeps no pointer that it is given.
 //! The header `c/tcrx.h` says the same to callers in C.
 #![tactic(auto)]
 
 mod buffer;
+mod channel;
 mod clcw;
+mod counts;
 mod farm;
 mod frames;
 mod laws;
 mod packets;
 mod parts;
 mod place;
+mod seat;
+mod settings;
 mod status;
+mod takes;
 
 pub use buffer::{WrittenRecord, tcrx_text_at};
+pub use channel::{
+    DeliveryRecord, ReplyRecord, tcrx_channel_frame_at, tcrx_channel_free_at,
+    tcrx_channel_release_at,
+};
 pub use clcw::{ClcwFieldsRecord, ClcwRecord, tcrx_clcw, tcrx_read_clcw};
+pub use counts::{
+    CountRecord, tcrx_channel_buffered_at, tcrx_channel_clcw_at, tcrx_channel_events_at,
+    tcrx_channel_queued_at, tcrx_channel_report_at, tcrx_channel_units_at,
+};
 pub use farm::{FarmAnswer, FarmRecord, StepAnswer, tcrx_farm_start, tcrx_farm_step};
 pub use frames::{
     FrameRecord, HeaderRecord, KindRecord, tcrx_kind_at, tcrx_read_frame_at, tcrx_write_frame_at,
@@ -25,4 +39,8 @@ pub use laws::{
     each_text_fits_64_octets,
 };
 pub use packets::{PacketRecord, tcrx_read_packet_at};
+pub use place::Place;
+pub use seat::Seat;
+pub use settings::{MapRecord, QueueRecord, SettingsRecord, tcrx_channel_new_at};
 pub use status::Status;
+pub use takes::{tcrx_channel_take_at, tcrx_channel_take_unit_at};

@@ -10,8 +10,9 @@ use std::marker::Model;
 use std::ptr;
 use tc_channel::FlightChannel;
 
-/// The place of a channel, or of none. C passes it on, and never reads or copies it.
+/// The place of a channel, or of none. C passes it on, and never reads or copies it. It is let go only where no channel is.
 #[repr(C)]
+#[derive(Drop)]
 pub struct Place {
     ptr: *mut u8,
     alloc: Global,

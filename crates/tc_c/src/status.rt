@@ -1,8 +1,9 @@
 //! What a call came to.
 
-ghost use Rattle.std.specs.Prelude.{◌≡◌};
-ghost use Rattle.tc_c.specs.Status.{code_of, status_of, text_of, frame_status, write_status};
+ghost use Rattle.std.specs.Prelude.{◌≡◌, ◌<◌};
+ghost use Rattle.tc_c.specs.Status.{code_of, status_of, text_of, frame_status, write_status, settings_status};
 
+use tc_channel::SettingsFault;
 use tc_link::{FrameFault, WriteFault};
 
 /// What a call came to: that it is done, or the first reason why it isn't.
@@ -34,6 +35,19 @@ pub enum Status {
     /// A pointer is null: no call of this library answers it, but the guards of the header do.
     Null,
     NoStatus,
+    BadBuffer,
+    BadApid,
+    DoubleApid,
+    BadCapacity,
+    BadMap,
+    DoubleMap,
+    BadUnits,
+    PlainMap,
+    NoChannel,
+    InUse,
+    NoQueue,
+    NoMap,
+    Empty,
 }
 
 /// The number of a status.
@@ -64,6 +78,19 @@ pub(crate) fn code(status: Status) -> u32
         Status::NoRoom => 50,
         Status::Null => 51,
         Status::NoStatus => 52,
+        Status::BadBuffer => 60,
+        Status::BadApid => 61,
+        Status::DoubleApid => 62,
+        Status::BadCapacity => 63,
+        Status::BadMap => 64,
+        Status::DoubleMap => 65,
+        Status::BadUnits => 66,
+        Status::PlainMap => 67,
+        Status::NoChannel => 70,
+        Status::InUse => 71,
+        Status::NoQueue => 72,
+        Status::NoMap => 73,
+        Status::Empty => 74,
     }
 }
 
@@ -95,6 +122,19 @@ pub(crate) fn from_number(number: u32) -> Option<Status>
         50 => Some(Status::NoRoom),
         51 => Some(Status::Null),
         52 => Some(Status::NoStatus),
+        60 => Some(Status::BadBuffer),
+        61 => Some(Status::BadApid),
+        62 => Some(Status::DoubleApid),
+        63 => Some(Status::BadCapacity),
+        64 => Some(Status::BadMap),
+        65 => Some(Status::DoubleMap),
+        66 => Some(Status::BadUnits),
+        67 => Some(Status::PlainMap),
+        70 => Some(Status::NoChannel),
+        71 => Some(Status::InUse),
+        72 => Some(Status::NoQueue),
+        73 => Some(Status::NoMap),
+        74 => Some(Status::Empty),
         _ => None,
     }
 }
@@ -127,12 +167,26 @@ pub(crate) fn text(status: Status) -> &'static [u8]
         Status::NoRoom => b"the buffer is too short",
         Status::Null => b"a pointer is null",
         Status::NoStatus => b"no such status",
+        Status::BadBuffer => b"the buffer isn't for 1 to 64 data fields",
+        Status::BadApid => b"the APID of a queue is over 2,046",
+        Status::DoubleApid => b"two queues have one APID",
+        Status::BadCapacity => b"a queue isn't for 1 to 256 packets",
+        Status::BadMap => b"a MAP is over 63",
+        Status::DoubleMap => b"a MAP is chosen twice",
+        Status::BadUnits => b"the queue of a MAP isn't for 1 to 256 units",
+        Status::PlainMap => b"a channel without segment headers has no MAPs",
+        Status::NoChannel => b"no channel is held",
+        Status::InUse => b"a channel is held already",
+        Status::NoQueue => b"no queue has that APID",
+        Status::NoMap => b"that MAP isn't chosen",
+        Status::Empty => b"nothing waits there",
     }
 }
 
 /// The status of octets with which no frame begins.
 pub(crate) fn frame_fault(fault: FrameFault) -> Status
-    ensures { result ≡ frame_status fault }
+    ensures status { result ≡ frame_status fault }
+    ensures refusal { 0 < code_of result }
 {
     match fault {
         FrameFault::Short => Status::Short,
@@ -152,5 +206,25 @@ pub(crate) fn write_fault(fault: WriteFault) -> Status
         WriteFault::EmptyData => Status::EmptyData,
         WriteFault::TooLong => Status::TooLong,
         WriteFault::NoMemory => Status::NoMemory,
+    }
+}
+
+/// The status of settings of which no channel is made.
+pub(crate) fn settings_fault(fault: SettingsFault) -> Status
+    ensures status { result ≡ settings_status fault }
+    ensures refusal { 0 < code_of result }
+{
+    match fault {
+        SettingsFault::BadVcid => Status::BadVcid,
+        SettingsFault::BadWindow => Status::BadWidth,
+        SettingsFault::BadBuffer => Status::BadBuffer,
+        SettingsFault::BadApid => Status::BadApid,
+        SettingsFault::DoubleApid => Status::DoubleApid,
+        SettingsFault::BadCapacity => Status::BadCapacity,
+        SettingsFault::BadMap => Status::BadMap,
+        SettingsFault::DoubleMap => Status::DoubleMap,
+        SettingsFault::BadUnits => Status::BadUnits,
+        SettingsFault::PlainMap => Status::PlainMap,
+        SettingsFault::NoMemory => Status::NoMemory,
     }
 }

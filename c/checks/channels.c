@@ -1,0 +1,237 @@
+/*
+ * Does a script on standard input through channels that the library holds, one for each `channel` line, and prints its answers
+ * and its final report in the words of the program tcrx, for tools/check_c.
+ *
+ *   channels SCID    for the spacecraft with this id
+ */
+#include "../tcrx.h"
+
+#include <inttypes.h>
+#include <stdbool.h>
+#include <stdio.h>
+#include <stdlib.h>
+#include <string.h>
+
+enum { CHANNELS = 64, MOST_LINE = 1 << 20, MOST_ENTRIES = 2048, MOST_OCTETS = 70000 };
+
+typedef struct {
+    bool there;
+    tcrx_channel held;
+    tcrx_settings settings;
+    tcrx_queue queues[MOST_ENTRIES];
+    size_t queue_count;
+    tcrx_map maps[MOST_ENTRIES];
+    size_t map_count;
+} receiver;
+
+static receiver receivers[CHANNELS];
+static bool made;
+static char line[MOST_LINE + 2];
+static uint8_t octets[MOST_LINE / 2], taken[MOST_OCTETS];
+
+static void fail(const char *what, tcrx_status status) {
+    printf("%s: status %" PRIu32 "\n", what, status);
+    exit(1);
+}
+
+static const char *word(void) {
+    return strtok(NULL, " \t\r\n");
+}
+
+static unsigned number(void) {
+    const char *digits = word();
+    return digits == NULL ? 0 : (unsigned)strtoul(digits, NULL, 10);
+}
+
+static receiver *find(unsigned vcid) {
+    return vcid < CHANNELS && receivers[vcid].there ? &receivers[vcid] : NULL;
+}
+
+static void set_up(const char *what) {
+    const unsigned vcid = number();
+    if (vcid >= CHANNELS) {
+        fail(what, TCRX_BAD_VCID);
+    }
+    receiver *at = &receivers[vcid];
+    if (strcmp(what, "channel") == 0) {
+        const unsigned width = number(), buffer = number(), first = number();
+        const tcrx_settings settings = {(uint8_t)vcid, (uint8_t)width, (uint8_t)buffer, (uint8_t)first, word() == NULL ? 1 : 0};
+        const tcrx_channel none = TCRX_HOLDS_NONE;
+        at->there = true;
+        at->held = none;
+        at->settings = settings;
+    } else if (strcmp(what, "queue") == 0) {
+        at->queues[at->queue_count].apid = (uint16_t)number();
+        at->queues[at->queue_count++].capacity = (uint16_t)number();
+    } else {
+        at->maps[at->map_count].map = (uint8_t)number();
+        at->maps[at->map_count++].capacity = (uint16_t)number();
+    }
+}
+
+static void make_all(void) {
+    for (size_t i = 0; i < CHANNELS && !made; i++) {
+        receiver *at = &receivers[i];
+        if (at->there) {
+            const tcrx_status status =
+                tcrx_channel_new(&at->held, at->settings, at->queues, at->queue_count, at->maps, at->map_count);
+            if (status != TCRX_DONE) {
+                fail("channel", status);
+            }
+        }
+    }
+    made = true;
+}
+
+static const char *refusal(tcrx_status status) {
+    switch (status) {
+    case TCRX_SHORT: return "short";
+    case TCRX_VERSION: return "version";
+    case TCRX_SPARE: return "spare";
+    case TCRX_LENGTH_SMALL: return "length";
+    case TCRX_TRUNCATED: return "truncated";
+    case TCRX_NO_QUEUE: return "no queue";
+    case TCRX_NO_MAP: return "no map";
+    case TCRX_EMPTY: return "empty";
+    default: return "by another status";
+    }
+}
+
+static size_t read_octets(void) {
+    const char *digits = word();
+    size_t count = 0;
+    for (; digits != NULL && digits[2 * count] != '\0'; count++) {
+        const char pair[3] = {digits[2 * count], digits[2 * count + 1], '\0'};
+        octets[count] = (uint8_t)strtoul(pair, NULL, 16);
+    }
+    return count;
+}
+
+static void bring(unsigned scid) {
+    const size_t count = read_octets();
+    const tcrx_frame frame = tcrx_read_frame(octets, count);
+    receiver *at = frame.status == TCRX_DONE ? find(frame.header.vcid) : NULL;
+    if (frame.status != TCRX_DONE) {
+        printf("refused %s\n", refusal(frame.status));
+    } else if (frame.header.scid != scid) {
+        printf("refused spacecraft\n");
+    } else if (at == NULL) {
+        printf("refused channel\n");
+    } else {
+        const tcrx_reply reply = tcrx_channel_frame(&at->held, octets, count);
+        if (reply.status != TCRX_DONE) {
+            fail("frame", reply.status);
+        }
+        printf("frame %u E%u accepted %u", (unsigned)frame.header.vcid, (unsigned)reply.event, (unsigned)reply.accepted);
+        printf(" queued %" PRIu32 " dropped %" PRIu32 " rest %u\n", reply.queued, reply.dropped, (unsigned)reply.rest);
+    }
+}
+
+static void release(unsigned vcid, receiver *at) {
+    const tcrx_delivery delivery = tcrx_channel_release(&at->held);
+    if (delivery.status != TCRX_DONE) {
+        printf("refused %s\n", refusal(delivery.status));
+        return;
+    }
+    printf("release %u queued %" PRIu32 " dropped %" PRIu32, vcid, delivery.queued, delivery.dropped);
+    printf(" rest %u\n", (unsigned)delivery.rest);
+}
+
+/* First into a buffer that is one octet short, which must take nothing, then into one that is just long enough. */
+static void take(const char *what, unsigned vcid, receiver *at, unsigned key) {
+    const bool unit = strcmp(what, "unit") == 0;
+    tcrx_channel *held = &at->held;
+    const uint16_t apid = (uint16_t)key;
+    const uint8_t map = (uint8_t)key;
+    const uint64_t events = tcrx_channel_events(held).count;
+    tcrx_written answer = unit ? tcrx_channel_take_unit(held, map, taken, 0) : tcrx_channel_take(held, apid, taken, 0);
+    if (answer.status == TCRX_NO_ROOM) {
+        const size_t short_of = answer.length - 1, needed = answer.length;
+        answer = unit ? tcrx_channel_take_unit(held, map, taken, short_of) : tcrx_channel_take(held, apid, taken, short_of);
+        if (answer.status != TCRX_NO_ROOM || answer.length != needed || tcrx_channel_events(held).count != events) {
+            fail("a buffer that is short", answer.status);
+        }
+        answer = unit ? tcrx_channel_take_unit(held, map, taken, needed) : tcrx_channel_take(held, apid, taken, needed);
+    }
+    if (answer.status != TCRX_DONE) {
+        printf("refused %s\n", refusal(answer.status));
+        return;
+    }
+    printf("%s %u %u ", what, vcid, key);
+    for (size_t i = 0; i < answer.length; i++) {
+        printf("%02x", taken[i]);
+    }
+    printf("%s\n", answer.length == 0 ? "-" : "");
+}
+
+static void operate(const char *what, unsigned scid) {
+    make_all();
+    if (strcmp(what, "frame") == 0) {
+        bring(scid);
+        return;
+    }
+    const unsigned vcid = number();
+    receiver *at = find(vcid);
+    if (at == NULL) {
+        printf("refused channel\n");
+    } else if (strcmp(what, "release") == 0) {
+        release(vcid, at);
+    } else if (strcmp(what, "clcw") == 0) {
+        printf("clcw %u %08" PRIx32 "\n", vcid, tcrx_channel_clcw(&at->held, 0, 0).word);
+    } else {
+        take(what, vcid, at, number());
+    }
+}
+
+/* FARM-1's record makes the same CLCW as the channel. */
+static void report(unsigned vcid, receiver *at) {
+    const tcrx_farm_answer answer = tcrx_channel_report(&at->held);
+    const uint32_t clcw = tcrx_channel_clcw(&at->held, 1, 0).word;
+    if (answer.farm.width != at->settings.width || tcrx_clcw(answer.farm, (uint8_t)vcid, 1, 0).word != clcw) {
+        fail("report", answer.status);
+    }
+    printf("final %u %08" PRIx32, vcid, tcrx_channel_clcw(&at->held, 0, 0).word);
+    printf(" events %" PRIu64, tcrx_channel_events(&at->held).count);
+    printf(" buffered %" PRIu64 "\n", tcrx_channel_buffered(&at->held).count);
+    for (size_t i = 0; i < at->queue_count; i++) {
+        const uint16_t apid = at->queues[i].apid;
+        printf("queue %u %u %" PRIu64 "\n", vcid, (unsigned)apid, tcrx_channel_queued(&at->held, apid).count);
+    }
+    for (size_t i = 0; i < at->map_count; i++) {
+        const uint8_t map = at->maps[i].map;
+        printf("map %u %u %" PRIu64 "\n", vcid, (unsigned)map, tcrx_channel_units(&at->held, map).count);
+    }
+}
+
+static void finish(void) {
+    make_all();
+    for (unsigned i = 0; i < CHANNELS; i++) {
+        receiver *at = find(i);
+        if (at != NULL) {
+            report(i, at);
+            const tcrx_status freed = tcrx_channel_free(&at->held), again = tcrx_channel_free(&at->held);
+            if (freed != TCRX_DONE || again != TCRX_NO_CHANNEL) {
+                fail("free", freed);
+            }
+        }
+    }
+}
+
+int main(int count, char **words) {
+    if (count != 2) {
+        return 2;
+    }
+    while (fgets(line, sizeof line, stdin) != NULL) {
+        const char *what = strtok(line, " \t\r\n");
+        if (what == NULL || what[0] == '#') {
+            continue;
+        }
+        if (strcmp(what, "channel") == 0 || strcmp(what, "queue") == 0 || strcmp(what, "map") == 0) {
+            set_up(what);
+        } else {
+            operate(what, (unsigned)strtoul(words[1], NULL, 10));
+        }
+    }
+    finish();
+    return 0;
+}

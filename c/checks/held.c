@@ -1,0 +1,180 @@
+/*
+ * Calls of a channel that are refused: nothing held, null pointers, settings out of range, short buffers, unknown flags. Each
+ * must have its status and leave the channel as it was. The last line says how many were as they must be.
+ */
+#include "../tcrx.h"
+
+#include <stdbool.h>
+#include <stdio.h>
+#include <stdlib.h>
+#include <string.h>
+
+static unsigned long passed, failed;
+
+static void expect(bool good, const char *what, unsigned long place) {
+    if (good) {
+        passed += 1;
+        return;
+    }
+    failed += 1;
+    if (failed <= 20) {
+        printf("%s, case %lu\n", what, place);
+    }
+}
+
+static const tcrx_settings good_settings = {63, 254, 64, 255, 1};
+static const tcrx_queue good_queues[] = {{0, 1}, {2046, 256}};
+static const tcrx_map good_maps[] = {{0, 1}, {63, 256}};
+
+/* The status of a new channel; one that is made is freed. */
+static tcrx_status status_of(tcrx_settings settings, const tcrx_queue *queues, size_t q, const tcrx_map *maps, size_t m) {
+    tcrx_channel channel = TCRX_HOLDS_NONE;
+    const tcrx_status status = tcrx_channel_new(&channel, settings, queues, q, maps, m);
+    expect((channel.held == 1) == (status == TCRX_DONE), "whether one is held", status);
+    expect(tcrx_channel_free(&channel) == (status == TCRX_DONE ? TCRX_DONE : TCRX_NO_CHANNEL), "what is freed", status);
+    return status;
+}
+
+static void check_numbers(void) {
+    for (unsigned n = 0; n < 256; n++) {
+        tcrx_settings s = good_settings;
+        s.vcid = (uint8_t)n;
+        expect(status_of(s, NULL, 0, NULL, 0) == (n < 64 ? TCRX_DONE : TCRX_BAD_VCID), "a virtual channel", n);
+        s = good_settings;
+        s.width = (uint8_t)n;
+        const bool width = n >= 2 && n <= 254 && n % 2 == 0;
+        expect(status_of(s, NULL, 0, NULL, 0) == (width ? TCRX_DONE : TCRX_BAD_WIDTH), "a width", n);
+        s = good_settings;
+        s.buffer = (uint8_t)n;
+        expect(status_of(s, NULL, 0, NULL, 0) == (n >= 1 && n <= 64 ? TCRX_DONE : TCRX_BAD_BUFFER), "a buffer", n);
+        s = good_settings;
+        s.first_vr = (uint8_t)n;
+        expect(status_of(s, NULL, 0, NULL, 0) == TCRX_DONE, "a first V(R)", n);
+        s = good_settings;
+        s.segmented = (uint8_t)n;
+        expect(status_of(s, NULL, 0, NULL, 0) == (n < 2 ? TCRX_DONE : TCRX_BAD_FLAG), "whether it is segmented", n);
+    }
+}
+
+static void check_lists(void) {
+    tcrx_settings plain = good_settings;
+    plain.segmented = 0;
+    const tcrx_queue bad_apid[] = {{5, 1}, {2047, 0}}, twice[] = {{5, 1}, {6, 0}, {5, 1}}, empty[] = {{5, 1}, {6, 0}};
+    const tcrx_queue large[] = {{5, 257}};
+    const tcrx_map bad_map[] = {{5, 1}, {64, 0}}, map_twice[] = {{5, 1}, {6, 0}, {5, 1}}, none[] = {{5, 1}, {6, 0}};
+    const tcrx_map many[] = {{5, 257}};
+    expect(status_of(good_settings, good_queues, 2, good_maps, 2) == TCRX_DONE, "good lists", 0);
+    expect(status_of(plain, good_queues, 2, NULL, 0) == TCRX_DONE, "a plain channel", 0);
+    expect(status_of(good_settings, bad_apid, 2, bad_map, 2) == TCRX_BAD_APID, "an APID", 0);
+    expect(status_of(good_settings, twice, 3, bad_map, 2) == TCRX_DOUBLE_APID, "an APID twice", 0);
+    expect(status_of(good_settings, empty, 2, bad_map, 2) == TCRX_BAD_CAPACITY, "a capacity of 0", 0);
+    expect(status_of(good_settings, large, 1, bad_map, 2) == TCRX_BAD_CAPACITY, "a large capacity", 0);
+    expect(status_of(good_settings, NULL, 0, bad_map, 2) == TCRX_BAD_MAP, "a MAP", 0);
+    expect(status_of(good_settings, NULL, 0, map_twice, 3) == TCRX_DOUBLE_MAP, "a MAP twice", 0);
+    expect(status_of(good_settings, NULL, 0, none, 2) == TCRX_BAD_UNITS, "room for no unit", 0);
+    expect(status_of(plain, NULL, 0, many, 1) == TCRX_BAD_UNITS, "room for many units", 0);
+    expect(status_of(plain, NULL, 0, good_maps, 2) == TCRX_PLAIN_MAP, "a MAP of a plain channel", 0);
+    expect(status_of(good_settings, NULL, 1, NULL, 0) == TCRX_NULL, "no queues", 0);
+    expect(status_of(good_settings, NULL, 0, NULL, 1) == TCRX_NULL, "no MAPs", 0);
+    expect(tcrx_channel_new(NULL, good_settings, NULL, 0, NULL, 0) == TCRX_NULL, "no channel", 0);
+}
+
+/* Each call but the one that makes a channel, where none is given or none is held. */
+static void check_none(tcrx_channel *channel, tcrx_status status, unsigned long place) {
+    uint8_t octets[6] = {0x30, 0x2a, 0x04, 0x05, 0x00, 0x00};
+    const tcrx_reply reply = tcrx_channel_frame(channel, octets, sizeof octets);
+    expect(reply.status == status && reply.event == 0 && reply.accepted == 0, "a frame to none", place);
+    expect(tcrx_channel_frame(channel, octets, 0).status == status, "no frame to none", place);
+    expect(tcrx_channel_release(channel).status == status, "a release of none", place);
+    const tcrx_written packet = tcrx_channel_take(channel, 5, octets, 6), unit = tcrx_channel_take_unit(channel, 5, octets, 6);
+    expect(packet.status == status && packet.length == 0 && octets[0] == 0x30, "a packet of none", place);
+    expect(unit.status == status && unit.length == 0 && octets[0] == 0x30, "a unit of none", place);
+    const tcrx_clcw_answer clcw = tcrx_channel_clcw(channel, 2, 2);
+    expect(clcw.status == status && clcw.word == 0, "a CLCW of none", place);
+    const tcrx_farm_answer farm = tcrx_channel_report(channel);
+    expect(farm.status == status && farm.farm.width == 0 && farm.farm.state == 0, "FARM-1 of none", place);
+    expect(tcrx_channel_buffered(channel).status == status, "the buffer of none", place);
+    expect(tcrx_channel_queued(channel, 5).status == status, "a queue of none", place);
+    expect(tcrx_channel_units(channel, 5).status == status, "a MAP of none", place);
+    expect(tcrx_channel_events(channel).status == status, "events of none", place);
+    expect(tcrx_channel_free(channel) == status, "none freed", place);
+}
+
+static bool is_filled(const uint8_t *octets, size_t count) {
+    for (size_t i = 0; i < count; i++) {
+        if (octets[i] != 0xee) {
+            return false;
+        }
+    }
+    return true;
+}
+
+/* A packet of 7 octets and a unit of 3 wait; each is taken into blocks of all shorter lengths, then of the right one. */
+static void check_rooms(tcrx_channel *channel) {
+    static const uint8_t packet[] = {0x20, 0x2a, 0x04, 0x0c, 0x00, 0xc1, 0x10, 0x05, 0xc0, 0x00, 0x00, 0x00, 0xbb};
+    static const uint8_t unit[] = {0x20, 0x2a, 0x04, 0x08, 0x00, 0xc2, 0xaa, 0xbb, 0xcc};
+    expect(tcrx_channel_frame(channel, packet, sizeof packet).queued == 1, "a packet", 0);
+    expect(tcrx_channel_frame(channel, unit, sizeof unit).queued == 1, "a unit", 0);
+    for (size_t room = 0; room <= 9; room++) {
+        uint8_t *to = malloc(room == 0 ? 1 : room);
+        memset(to, 0xee, room == 0 ? 1 : room);
+        const uint64_t events = tcrx_channel_events(channel).count;
+        const tcrx_written first = tcrx_channel_take(channel, 5, to, room);
+        const tcrx_status packet_status = room < 7 ? TCRX_NO_ROOM : room == 7 ? TCRX_DONE : TCRX_EMPTY;
+        expect(first.status == packet_status && first.length == (room > 7 ? 0 : 7), "room for a packet", room);
+        expect(packet_status == TCRX_DONE ? memcmp(to, packet + 6, 7) == 0 : is_filled(to, room), "a packet's buffer", room);
+        memset(to, 0xee, room == 0 ? 1 : room);
+        const tcrx_written second = tcrx_channel_take_unit(channel, 2, to, room);
+        const tcrx_status unit_status = room < 3 ? TCRX_NO_ROOM : room == 3 ? TCRX_DONE : TCRX_EMPTY;
+        expect(second.status == unit_status && second.length == (room > 3 ? 0 : 3), "room for a unit", room);
+        expect(unit_status == TCRX_DONE ? memcmp(to, unit + 6, 3) == 0 : is_filled(to, room), "a unit's buffer", room);
+        expect(tcrx_channel_events(channel).count == events + (room == 7 || room == 3 ? 1 : 0), "events", room);
+        free(to);
+    }
+    expect(tcrx_channel_take(channel, 5, NULL, 7).status == TCRX_NULL, "no buffer", 0);
+    expect(tcrx_channel_take_unit(channel, 2, NULL, 7).status == TCRX_NULL, "no buffer", 1);
+}
+
+static void check_asked(tcrx_channel *channel) {
+    static const uint8_t unlock[] = {0x30, 0x2a, 0x04, 0x05, 0x00, 0x00, 0xff};
+    uint8_t octets[8];
+    expect(tcrx_channel_new(channel, good_settings, NULL, 0, NULL, 0) == TCRX_IN_USE, "a channel that is held", 0);
+    for (size_t count = 0; count < sizeof unlock; count++) {
+        uint8_t *block = malloc(count == 0 ? 1 : count);
+        memcpy(block, unlock, count);
+        const tcrx_status status = count < 5 ? TCRX_SHORT : count < 6 ? TCRX_TRUNCATED : TCRX_DONE;
+        expect(tcrx_channel_frame(channel, block, count).status == status, "a frame", count);
+        free(block);
+    }
+    expect(tcrx_channel_frame(channel, NULL, 6).status == TCRX_NULL, "no octets", 0);
+    expect(tcrx_channel_release(channel).status == TCRX_EMPTY, "an empty buffer", 0);
+    expect(tcrx_channel_take(channel, 6, octets, 8).status == TCRX_NO_QUEUE, "no queue", 0);
+    expect(tcrx_channel_take_unit(channel, 6, octets, 8).status == TCRX_NO_MAP, "no MAP", 0);
+    expect(tcrx_channel_queued(channel, 6).status == TCRX_NO_QUEUE, "no queue", 1);
+    expect(tcrx_channel_units(channel, 6).status == TCRX_NO_MAP, "no MAP", 1);
+    for (unsigned n = 0; n < 256; n++) {
+        const tcrx_status flag = n < 2 ? TCRX_DONE : TCRX_BAD_FLAG;
+        const tcrx_clcw_answer rf = tcrx_channel_clcw(channel, (uint8_t)n, 0), lock = tcrx_channel_clcw(channel, 0, (uint8_t)n);
+        expect(rf.status == flag && rf.word == (n < 2 ? 0x01040200u + n * 0x8000u : 0u), "no RF", n);
+        expect(lock.status == flag && lock.word == (n < 2 ? 0x01040200u + n * 0x4000u : 0u), "no bit lock", n);
+    }
+    expect(tcrx_channel_events(channel).count == 1, "only the frame that is one is an event", 0);
+}
+
+int main(void) {
+    static const tcrx_queue queues[] = {{5, 1}};
+    static const tcrx_map maps[] = {{2, 1}};
+    const tcrx_settings settings = {1, 10, 1, 0, 1};
+    tcrx_channel channel = TCRX_HOLDS_NONE;
+    check_numbers();
+    check_lists();
+    check_none(NULL, TCRX_NULL, 0);
+    check_none(&channel, TCRX_NO_CHANNEL, 1);
+    expect(tcrx_channel_new(&channel, settings, queues, 1, maps, 1) == TCRX_DONE, "a channel", 0);
+    check_asked(&channel);
+    check_rooms(&channel);
+    expect(tcrx_channel_free(&channel) == TCRX_DONE, "a channel freed", 0);
+    check_none(&channel, TCRX_NO_CHANNEL, 2);
+    printf("%lu answers of refused calls of a channel as they must be, %lu otherwise\n", passed, failed);
+    return failed == 0 && passed > 0 ? 0 : 1;
+}

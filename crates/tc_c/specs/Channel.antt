@@ -1,0 +1,87 @@
+-- What a channel answers, as records of numbers.
+use Rattle.std.specs.Prelude.{◌≡◌, ◌⊎◌, ℕ, List, length, map, take, drop, Result, Ok, Err}
+use Rattle.tc_link.specs.Bits.{bit}
+use Rattle.tc_link.specs.declared.Link.{Link}
+use Rattle.tc_channel.specs.declared.reply.Delivery.{Delivery}
+use Rattle.tc_channel.specs.declared.reply.FrameReply.{FrameReply}
+use Rattle.tc_channel.specs.declared.settings.Settings.{Settings}
+use Rattle.tc_channel.specs.declared.settings.QueueSetting.{QueueSetting}
+use Rattle.tc_channel.specs.declared.settings.MapSetting.{MapSetting}
+use Rattle.tc_channel.specs.declared.settings.SettingsFault.{SettingsFault}
+use Rattle.tc_channel.specs.Settings.{IsFault}
+use Rattle.tc_c.specs.declared.status.Status.{Status}
+use Rattle.tc_c.specs.declared.status.Status.TheVariants.{Done, NoMemory, NoRoom}
+use Rattle.tc_c.specs.declared.settings.SettingsRecord.{SettingsRecord}
+use Rattle.tc_c.specs.declared.settings.QueueRecord.{QueueRecord}
+use Rattle.tc_c.specs.declared.settings.MapRecord.{MapRecord}
+use Rattle.tc_c.specs.declared.channel.ReplyRecord.{ReplyRecord}
+use Rattle.tc_c.specs.declared.channel.DeliveryRecord.{DeliveryRecord}
+use Rattle.tc_c.specs.declared.buffer.WrittenRecord.{WrittenRecord}
+use Rattle.tc_c.specs.declared.counts.CountRecord.{CountRecord}
+use Rattle.tc_c.specs.Status.{code_of, settings_status}
+use Rattle.tc_c.specs.Farm.{with_ok, flag_of}
+
+abbrev pub queue_of : QueueRecord → QueueSetting
+queue_of queue = record { apid = queue.apid; capacity = queue.capacity }
+
+abbrev pub map_of : MapRecord → MapSetting
+map_of chosen = record { map = chosen.map; capacity = chosen.capacity }
+
+-- the settings that the records stand for
+abbrev pub settings_of : SettingsRecord → List QueueRecord → List MapRecord → Result Settings Status
+settings_of settings queues maps =
+    with_ok (flag_of settings.segmented) (λ segmented.
+    Ok (record {
+      vcid = settings.vcid;
+      width = settings.width;
+      buffer = settings.buffer;
+      first = settings.first;
+      segmented = segmented;
+      queues = map queue_of queues;
+      maps = map map_of maps;
+    }))
+
+abbrev pub link_of : ℕ → ℕ → Result Link Status
+link_of no_rf no_bit_lock =
+    with_ok (flag_of no_rf) (λ rf. with_ok (flag_of no_bit_lock) (λ lock. Ok (record { no_rf = rf; no_bit_lock = lock })))
+
+abbrev pub reply_record : FrameReply → ReplyRecord
+reply_record reply = record {
+  status = code_of Done;
+  queued = reply.delivery.queued;
+  dropped = reply.delivery.dropped;
+  event = reply.act.event;
+  accepted = bit reply.act.accepted;
+  rest = bit reply.delivery.rest;
+}
+
+abbrev pub no_reply : Status → ReplyRecord
+no_reply fault = record { status = code_of fault; queued = 0; dropped = 0; event = 0; accepted = 0; rest = 0 }
+
+abbrev pub delivery_record : Delivery → DeliveryRecord
+delivery_record delivery = record { status = code_of Done; queued = delivery.queued; dropped = delivery.dropped; rest = bit delivery.rest }
+
+abbrev pub no_delivery : Status → DeliveryRecord
+no_delivery fault = record { status = code_of fault; queued = 0; dropped = 0; rest = 0 }
+
+abbrev pub count_record : ℕ → CountRecord
+count_record count = record { status = code_of Done; count = count }
+
+abbrev pub no_count : Status → CountRecord
+no_count fault = record { status = code_of fault; count = 0 }
+
+-- why no channel is made of what the records stand for: a flag first, then the first fault of the settings; or want of memory
+abbrev pub IsRefusedBy : Result Settings Status → Status → Type 0
+IsRefusedBy (Err flag) fault = fault ≡ flag
+IsRefusedBy (Ok s) fault = (fault ≡ NoMemory) ⊎ ((f : SettingsFault) × IsFault s f × (fault ≡ settings_status f))
+
+abbrev pub no_octets : Status → WrittenRecord
+no_octets fault = record { status = code_of fault; length = 0 }
+
+-- the answer to a buffer that is too short for these octets
+abbrev pub too_short : List ℕ → WrittenRecord
+too_short octets = record { status = code_of NoRoom; length = length octets }
+
+-- octets at the front of a buffer, whose rest is as it was
+abbrev pub IsCopied : List ℕ → List ℕ → List ℕ → Type 0
+IsCopied octets old new = (take (length octets) new ≡ octets) × (drop (length octets) new ≡ drop (length octets) old)

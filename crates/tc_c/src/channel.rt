@@ -1,0 +1,185 @@
+//! Frames into a channel that C holds, releases, and packets and units out of it.
+
+ghost use Rattle.std.specs.Prelude.{◌≡◌, ◌<◌, ◌⊎◌, ℕ, List, [], Some, None, IfSome, IfNone};
+ghost use Rattle.tc_link.specs.Frame.{BeginsWith, fault_of};
+ghost use Rattle.tc_channel.specs.declared.event.Event.TheVariants as Event;
+ghost use Rattle.tc_channel.specs.Journal.{with_event};
+ghost use Rattle.tc_channel.specs.Reply.{frame_reply, release_reply, buffered_fields};
+ghost use Rattle.tc_c.specs.Status.{code_of, frame_status};
+ghost use Rattle.tc_c.specs.Channel.{reply_record, no_reply, delivery_record, no_delivery};
+
+use crate::seat::Seat;
+use crate::status::{Status, code, frame_fault};
+use std::alloc::Global;
+use tc_channel::{Delivery, FlightChannel, FrameReply, ReleaseFault};
+use tc_link::read_frame;
+
+/// What became of a frame. Flags are 0 or 1, and each number is 0 where the call is refused.
+#[repr(C)]
+#[derive(Clone, Copy)]
+pub struct ReplyRecord {
+    pub status: u32,
+    /// How many packets were queued; 1 for a unit that was queued whole.
+    pub queued: u32,
+    /// How many packets were dropped; 1 for a whole unit without room in its queue.
+    pub dropped: u32,
+    /// The number of FARM-1's event, 1 to 9.
+    pub event: u8,
+    /// Whether the frame was accepted.
+    pub accepted: u8,
+    /// Whether octets were left after the last packet.
+    pub rest: u8,
+}
+
+/// What became of a data field that was released. Each number is 0 where the call is refused.
+#[repr(C)]
+#[derive(Clone, Copy)]
+pub struct DeliveryRecord {
+    pub status: u32,
+    /// How many packets were queued; 1 for a unit that was queued whole.
+    pub queued: u32,
+    /// How many packets were dropped; 1 for a whole unit without room in its queue.
+    pub dropped: u32,
+    /// Whether octets were left after the last packet, 0 or 1.
+    pub rest: u8,
+}
+
+fn reply_told(reply: FrameReply) -> ReplyRecord
+    ensures { result ≡ reply_record reply }
+{
+    ReplyRecord {
+        status: code(Status::Done),
+        queued: reply.delivery.queued,
+        dropped: reply.delivery.dropped,
+        event: reply.act.event,
+        accepted: u8::from(reply.act.accepted),
+        rest: u8::from(reply.delivery.rest),
+    }
+}
+
+fn reply_refused(fault: Status) -> ReplyRecord
+    ensures { result ≡ no_reply fault }
+{
+    ReplyRecord {
+        status: code(fault),
+        queued: 0,
+        dropped: 0,
+        event: 0,
+        accepted: 0,
+        rest: 0,
+    }
+}
+
+fn delivery_told(delivery: Delivery) -> DeliveryRecord
+    ensures { result ≡ delivery_record delivery }
+{
+    DeliveryRecord {
+        status: code(Status::Done),
+        queued: delivery.queued,
+        dropped: delivery.dropped,
+        rest: u8::from(delivery.rest),
+    }
+}
+
+fn delivery_refused(fault: Status) -> DeliveryRecord
+    ensures { result ≡ no_delivery fault }
+{
+    DeliveryRecord {
+        status: code(fault),
+        queued: 0,
+        dropped: 0,
+        rest: 0,
+    }
+}
+
+// Gives the channel the frame at the front of the octets.
+fn bring(channel: &mut FlightChannel, octets: &[u8]) -> ReplyRecord
+    ensures done { result.status ≡ 0 → (frame : List ℕ) × BeginsWith octets.now frame × (result ≡ reply_record (frame_reply channel.old.settings channel.old.journal frame)) × (channel.new ≡ with_event channel.old (Event.Frame frame)) }
+    ensures fault { IfSome (fault_of octets.now) (λ fault. result ≡ no_reply (frame_status fault)) }
+    ensures memory { 0 < result.status → IfNone (fault_of octets.now) (result ≡ no_reply Status.NoMemory) }
+    ensures refused { 0 < result.status → channel.new ≡ channel.old }
+{
+    match read_frame(octets) {
+        Ok(frame) => match channel.frame(&frame) {
+            Ok(reply) => reply_told(reply),
+            Err(_) => reply_refused(Status::NoMemory),
+        },
+        Err(fault) => reply_refused(frame_fault(fault)),
+    }
+}
+
+/// Gives the channel the frame at the front of the octets, of whatever virtual channel (CCSDS 232.0-B, 232.1-B). What follows
+/// it is fill.
+///
+/// Refused are a seat with no channel by NoChannel, octets with which no frame begins by their first fault, and want of memory
+/// by NoMemory, with the channel as it was.
+#[unsafe(no_mangle)]
+pub extern "C" fn tcrx_channel_frame_at(
+    alloc: Global,
+    seat: &mut Seat,
+    octets: &[u8],
+) -> ReplyRecord
+    ensures done { IfSome seat.old.place.channel (λ h. result.status ≡ 0 → (frame : List ℕ) × BeginsWith octets.now frame × (result ≡ reply_record (frame_reply h.settings h.journal frame)) × (seat.new.place.channel ≡ Some (with_event h (Event.Frame frame)))) }
+    ensures fault { IfSome seat.old.place.channel (λ h. IfSome (fault_of octets.now) (λ fault. result ≡ no_reply (frame_status fault))) }
+    ensures memory { IfSome seat.old.place.channel (λ h. 0 < result.status → IfNone (fault_of octets.now) (result ≡ no_reply Status.NoMemory)) }
+    ensures refused { 0 < result.status → seat.new.place.channel ≡ seat.old.place.channel }
+    ensures no_channel { IfNone seat.old.place.channel (result ≡ no_reply Status.NoChannel) }
+{
+    match seat.take(alloc) {
+        Some(mut held) => {
+            let reply = bring(&mut held, octets);
+            seat.put(held);
+            reply
+        }
+        None => reply_refused(Status::NoChannel),
+    }
+}
+
+fn let_out(channel: &mut FlightChannel) -> DeliveryRecord
+    ensures done { result.status ≡ 0 → (result ≡ delivery_record (release_reply channel.old.settings channel.old.journal)) × (channel.new ≡ with_event channel.old Event.Release) }
+    ensures empty { buffered_fields channel.old.settings channel.old.journal ≡ [] → result ≡ no_delivery Status.Empty }
+    ensures memory { 0 < result.status → (result ≡ no_delivery Status.NoMemory) ⊎ (buffered_fields channel.old.settings channel.old.journal ≡ []) }
+    ensures refused { 0 < result.status → channel.new ≡ channel.old }
+{
+    match channel.release() {
+        Ok(delivery) => delivery_told(delivery),
+        Err(ReleaseFault::Empty) => delivery_refused(Status::Empty),
+        Err(ReleaseFault::NoMemory) => delivery_refused(Status::NoMemory),
+    }
+}
+
+/// Lets the oldest data field out of the buffer, and queues the unit that it ends: whole where its MAP is chosen, else its
+/// packets.
+///
+/// Refused are a seat with no channel by NoChannel, an empty buffer by Empty, and want of memory by NoMemory, with the channel
+/// as it was.
+#[unsafe(no_mangle)]
+pub extern "C" fn tcrx_channel_release_at(alloc: Global, seat: &mut Seat) -> DeliveryRecord
+    ensures done { IfSome seat.old.place.channel (λ h. result.status ≡ 0 → (result ≡ delivery_record (release_reply h.settings h.journal)) × (seat.new.place.channel ≡ Some (with_event h Event.Release))) }
+    ensures empty { IfSome seat.old.place.channel (λ h. buffered_fields h.settings h.journal ≡ [] → result ≡ no_delivery Status.Empty) }
+    ensures memory { IfSome seat.old.place.channel (λ h. 0 < result.status → (result ≡ no_delivery Status.NoMemory) ⊎ (buffered_fields h.settings h.journal ≡ [])) }
+    ensures refused { 0 < result.status → seat.new.place.channel ≡ seat.old.place.channel }
+    ensures no_channel { IfNone seat.old.place.channel (result ≡ no_delivery Status.NoChannel) }
+{
+    match seat.take(alloc) {
+        Some(mut held) => {
+            let delivery = let_out(&mut held);
+            seat.put(held);
+            delivery
+        }
+        None => delivery_refused(Status::NoChannel),
+    }
+}
+
+/// Frees the channel with all that it holds. Refused is a seat with no channel by NoChannel. The seat then holds none.
+#[unsafe(no_mangle)]
+pub extern "C" fn tcrx_channel_free_at(alloc: Global, seat: &mut Seat) -> u32
+    ensures freed { IfSome seat.old.place.channel (λ _. result ≡ code_of Status.Done) }
+    ensures no_channel { IfNone seat.old.place.channel (result ≡ code_of Status.NoChannel) }
+    ensures empty { seat.new.place.channel ≡ None }
+{
+    match seat.take(alloc) {
+        Some(_held) => code(Status::Done),
+        None => code(Status::NoChannel),
+    }
+}

@@ -1,0 +1,228 @@
+//! What a channel that C holds reports: the CLCW, FARM-1 and counts.
+
+ghost use Rattle.std.specs.Prelude.{◌≡◌, ◌^◌, ◌-◌, length, min, Some, None, Ok, IfSome, IfNone, IfOk, IfErr};
+ghost use Rattle.tc_channel.specs.Run.{run};
+ghost use Rattle.tc_channel.specs.Reply.{waiting_packets, waiting_units, buffered_fields, clcw as word_of};
+ghost use Rattle.tc_c.specs.Status.{code_of};
+ghost use Rattle.tc_c.specs.Farm.{record_of, no_record};
+ghost use Rattle.tc_c.specs.Channel.{link_of, count_record, no_count};
+
+use crate::clcw::ClcwRecord;
+use crate::farm::{FarmAnswer, FarmRecord, flag, record};
+use crate::seat::Seat;
+use crate::status::{Status, code};
+use std::alloc::Global;
+use tc_channel::FlightChannel;
+use tc_link::Link;
+
+/// A status with a count.
+#[repr(C)]
+#[derive(Clone, Copy)]
+pub struct CountRecord {
+    pub status: u32,
+    /// The count; 0 where the call is refused.
+    pub count: u64,
+}
+
+fn counted(count: u64) -> CountRecord
+    ensures { result ≡ count_record count }
+{
+    CountRecord {
+        status: code(Status::Done),
+        count,
+    }
+}
+
+fn not_counted(fault: Status) -> CountRecord
+    ensures { result ≡ no_count fault }
+{
+    CountRecord {
+        status: code(fault),
+        count: 0,
+    }
+}
+
+fn link(no_rf: u8, no_bit_lock: u8) -> Result<Link, Status>
+    ensures { result ≡ link_of no_rf no_bit_lock }
+{
+    Ok(Link {
+        no_rf: flag(no_rf)?,
+        no_bit_lock: flag(no_bit_lock)?,
+    })
+}
+
+fn clcw(channel: &FlightChannel, no_rf: u8, no_bit_lock: u8) -> ClcwRecord
+    ensures word { IfOk (link_of no_rf no_bit_lock) (λ link. result ≡ record { status = code_of Status.Done; word = word_of channel.now.settings channel.now.journal link }) }
+    ensures refused { IfErr (link_of no_rf no_bit_lock) (λ fault. result ≡ record { status = code_of fault; word = 0 }) }
+{
+    match link(no_rf, no_bit_lock) {
+        Ok(link) => ClcwRecord {
+            status: code(Status::Done),
+            word: channel.clcw(link),
+        },
+        Err(fault) => ClcwRecord {
+            status: code(fault),
+            word: 0,
+        },
+    }
+}
+
+/// The CLCW of the channel, with the two flags of the link, 0 or 1 (CCSDS 232.0-B, 4.2).
+///
+/// Refused are a seat with no channel by NoChannel and another flag by BadFlag; the word then is 0. The channel stays as it was.
+#[unsafe(no_mangle)]
+pub extern "C" fn tcrx_channel_clcw_at(
+    alloc: Global,
+    seat: &mut Seat,
+    no_rf: u8,
+    no_bit_lock: u8,
+) -> ClcwRecord
+    ensures word { IfSome seat.old.place.channel (λ h. IfOk (link_of no_rf no_bit_lock) (λ link. result ≡ record { status = code_of Status.Done; word = word_of h.settings h.journal link })) }
+    ensures refused { IfSome seat.old.place.channel (λ h. IfErr (link_of no_rf no_bit_lock) (λ fault. result ≡ record { status = code_of fault; word = 0 })) }
+    ensures no_channel { IfNone seat.old.place.channel (result ≡ record { status = code_of Status.NoChannel; word = 0 }) }
+    ensures unchanged { seat.new.place.channel ≡ seat.old.place.channel }
+{
+    match seat.take(alloc) {
+        Some(held) => {
+            let answer = clcw(&held, no_rf, no_bit_lock);
+            seat.put(held);
+            answer
+        }
+        None => ClcwRecord {
+            status: code(Status::NoChannel),
+            word: 0,
+        },
+    }
+}
+
+fn farm_of(channel: &FlightChannel) -> FarmAnswer
+    ensures { result ≡ record { status = code_of Status.Done; farm = record_of (record { width = channel.now.settings.width; report = (run channel.now.settings channel.now.journal).report }) } }
+{
+    FarmAnswer {
+        status: code(Status::Done),
+        farm: record(channel.settings().width, channel.report()),
+    }
+}
+
+/// The record of the channel's FARM-1, as `tcrx_farm_step` and `tcrx_clcw` take it.
+///
+/// Refused is a seat with no channel by NoChannel, with each number of the record 0. The channel stays as it was.
+#[unsafe(no_mangle)]
+pub extern "C" fn tcrx_channel_report_at(alloc: Global, seat: &mut Seat) -> FarmAnswer
+    ensures farm { IfSome seat.old.place.channel (λ h. result ≡ record { status = code_of Status.Done; farm = record_of (record { width = h.settings.width; report = (run h.settings h.journal).report }) }) }
+    ensures no_channel { IfNone seat.old.place.channel (result ≡ record { status = code_of Status.NoChannel; farm = no_record }) }
+    ensures unchanged { seat.new.place.channel ≡ seat.old.place.channel }
+{
+    match seat.take(alloc) {
+        Some(held) => {
+            let answer = farm_of(&held);
+            seat.put(held);
+            answer
+        }
+        None => FarmAnswer {
+            status: code(Status::NoChannel),
+            farm: FarmRecord {
+                width: 0,
+                state: 0,
+                vr: 0,
+                farm_b: 0,
+                lockout: 0,
+                wait: 0,
+                retransmit: 0,
+            },
+        },
+    }
+}
+
+/// How many data fields wait in the buffer. Refused is a seat with no channel by NoChannel. The channel stays as it was.
+#[unsafe(no_mangle)]
+pub extern "C" fn tcrx_channel_buffered_at(alloc: Global, seat: &mut Seat) -> CountRecord
+    ensures count { IfSome seat.old.place.channel (λ h. result ≡ count_record (length (buffered_fields h.settings h.journal))) }
+    ensures no_channel { IfNone seat.old.place.channel (result ≡ no_count Status.NoChannel) }
+    ensures unchanged { seat.new.place.channel ≡ seat.old.place.channel }
+{
+    match seat.take(alloc) {
+        Some(held) => {
+            let answer = counted(held.buffered() as u64);
+            seat.put(held);
+            answer
+        }
+        None => not_counted(Status::NoChannel),
+    }
+}
+
+fn packets(channel: &FlightChannel, apid: u16) -> CountRecord
+    ensures count { IfSome (waiting_packets channel.now.settings channel.now.journal apid) (λ packets. result ≡ count_record (length packets)) }
+    ensures no_queue { IfNone (waiting_packets channel.now.settings channel.now.journal apid) (result ≡ no_count Status.NoQueue) }
+{
+    match channel.queued(apid) {
+        Some(count) => counted(count as u64),
+        None => not_counted(Status::NoQueue),
+    }
+}
+
+/// How many packets wait in the queue with this APID. Refused are a seat with no channel by NoChannel, and an APID with no queue
+/// by NoQueue. The channel stays as it was.
+#[unsafe(no_mangle)]
+pub extern "C" fn tcrx_channel_queued_at(alloc: Global, seat: &mut Seat, apid: u16) -> CountRecord
+    ensures count { IfSome seat.old.place.channel (λ h. IfSome (waiting_packets h.settings h.journal apid) (λ packets. result ≡ count_record (length packets))) }
+    ensures no_queue { IfSome seat.old.place.channel (λ h. IfNone (waiting_packets h.settings h.journal apid) (result ≡ no_count Status.NoQueue)) }
+    ensures no_channel { IfNone seat.old.place.channel (result ≡ no_count Status.NoChannel) }
+    ensures unchanged { seat.new.place.channel ≡ seat.old.place.channel }
+{
+    match seat.take(alloc) {
+        Some(held) => {
+            let answer = packets(&held, apid);
+            seat.put(held);
+            answer
+        }
+        None => not_counted(Status::NoChannel),
+    }
+}
+
+fn units(channel: &FlightChannel, map: u8) -> CountRecord
+    ensures count { IfSome (waiting_units channel.now.settings channel.now.journal map) (λ units. result ≡ count_record (length units)) }
+    ensures no_map { IfNone (waiting_units channel.now.settings channel.now.journal map) (result ≡ no_count Status.NoMap) }
+{
+    match channel.units(map) {
+        Some(count) => counted(count as u64),
+        None => not_counted(Status::NoMap),
+    }
+}
+
+/// How many units wait in the queue of this chosen MAP. Refused are a seat with no channel by NoChannel, and a MAP that isn't
+/// chosen by NoMap. The channel stays as it was.
+#[unsafe(no_mangle)]
+pub extern "C" fn tcrx_channel_units_at(alloc: Global, seat: &mut Seat, map: u8) -> CountRecord
+    ensures count { IfSome seat.old.place.channel (λ h. IfSome (waiting_units h.settings h.journal map) (λ units. result ≡ count_record (length units))) }
+    ensures no_map { IfSome seat.old.place.channel (λ h. IfNone (waiting_units h.settings h.journal map) (result ≡ no_count Status.NoMap)) }
+    ensures no_channel { IfNone seat.old.place.channel (result ≡ no_count Status.NoChannel) }
+    ensures unchanged { seat.new.place.channel ≡ seat.old.place.channel }
+{
+    match seat.take(alloc) {
+        Some(held) => {
+            let answer = units(&held, map);
+            seat.put(held);
+            answer
+        }
+        None => not_counted(Status::NoChannel),
+    }
+}
+
+/// How many frames, releases and takes there were; where they are more than 2^64 - 1, that number. Refused is a seat with no
+/// channel by NoChannel. The channel stays as it was.
+#[unsafe(no_mangle)]
+pub extern "C" fn tcrx_channel_events_at(alloc: Global, seat: &mut Seat) -> CountRecord
+    ensures count { IfSome seat.old.place.channel (λ h. result ≡ count_record (min (length h.journal) (2 ^ 64 - 1))) }
+    ensures no_channel { IfNone seat.old.place.channel (result ≡ no_count Status.NoChannel) }
+    ensures unchanged { seat.new.place.channel ≡ seat.old.place.channel }
+{
+    match seat.take(alloc) {
+        Some(held) => {
+            let answer = counted(held.events());
+            seat.put(held);
+            answer
+        }
+        None => not_counted(Status::NoChannel),
+    }
+}

@@ -1,0 +1,69 @@
+//! The memory of C's by which it holds a channel.
+
+ghost use Rattle.std.specs.Prelude.{◌≡◌, Some, None, is_some, option_map};
+
+use crate::parts::Parts;
+use crate::place::Place;
+use std::alloc::Global;
+use std::mem::replace;
+use tc_channel::FlightChannel;
+
+/// A channel that C holds, or none. All zero, it holds none.
+#[repr(C)]
+pub struct Seat {
+    pub(crate) held: bool,
+    pub place: Place,
+    pub ghost agrees: { held ≡ is_some place.channel },
+}
+
+impl Seat {
+    fn empty(alloc: Global) -> Seat
+        ensures { result.place.channel ≡ None }
+    {
+        Seat {
+            held: false,
+            place: Place::empty(alloc),
+        }
+    }
+
+    fn of(held: Box<FlightChannel>) -> Seat
+        ensures { result.place.channel ≡ Some held.value }
+    {
+        Seat {
+            held: true,
+            place: Place::of(Parts::of(held)),
+        }
+    }
+
+    /// Takes the channel out, and leaves none.
+    pub(crate) fn take(&mut self, alloc: Global) -> Option<Box<FlightChannel>>
+        ensures channel { self.old.place.channel ≡ option_map (λ held. held.value) result }
+        ensures empty { self.new.place.channel ≡ None }
+    {
+        let Seat { held, place } = replace(self, Seat::empty(alloc));
+        if held {
+            Some(place.into_parts().into_box())
+        } else {
+            None
+        }
+    }
+
+    /// Puts a channel in where none is.
+    pub(crate) fn put(&mut self, held: Box<FlightChannel>)
+        requires { self.old.place.channel ≡ None }
+        ensures { self.new.place.channel ≡ Some held.value }
+    {
+        let Seat {
+            held: _was_held,
+            place,
+        } = replace(self, Seat::of(held));
+        drop(place);
+    }
+
+    /// Whether a channel is held.
+    pub(crate) fn holds(&self) -> bool
+        ensures { result ≡ is_some self.now.place.channel }
+    {
+        self.held
+    }
+}
