@@ -251,6 +251,19 @@ static void check_texts(void) {
         {TCRX_NO_ROOM, "the buffer is too short"},
         {TCRX_NULL, "a pointer is null"},
         {TCRX_NO_STATUS, "no such status"},
+        {TCRX_BAD_BUFFER, "the buffer isn't for 1 to 64 data fields"},
+        {TCRX_BAD_APID, "the APID of a queue is over 2,046"},
+        {TCRX_DOUBLE_APID, "two queues have one APID"},
+        {TCRX_BAD_CAPACITY, "a queue isn't for 1 to 256 packets"},
+        {TCRX_BAD_MAP, "a MAP is over 63"},
+        {TCRX_DOUBLE_MAP, "a MAP is chosen twice"},
+        {TCRX_BAD_UNITS, "the queue of a MAP isn't for 1 to 256 units"},
+        {TCRX_PLAIN_MAP, "a channel without segment headers has no MAPs"},
+        {TCRX_NO_CHANNEL, "no channel is held"},
+        {TCRX_IN_USE, "a channel is held already"},
+        {TCRX_NO_QUEUE, "no queue has that APID"},
+        {TCRX_NO_MAP, "that MAP isn't chosen"},
+        {TCRX_EMPTY, "nothing waits there"},
     };
     unsigned long there = 0;
     for (size_t i = 0; i < sizeof texts / sizeof texts[0]; i++) {

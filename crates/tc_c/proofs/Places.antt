@@ -1,5 +1,5 @@
 -- A place with a channel, and the parts of its box, own what the box owns.
-use Rattle.std.proofs.Common.{◌≡◌, refl, ap, [], Option, Some, None, IsSome}
+use Rattle.std.proofs.Common.{◌≡◌, refl, [], Option, Some, None, IsSome}
 use mir.Syntax.{impl, tnil, dnil}
 use denote.Builtin.{unit}
 use denote.Param.Laws.{of_field}

@@ -24,8 +24,7 @@ use denote.Triple.Call.{calls_at_last}
 use denote.Triple.Spec.{triple_of}
 use denote.Triple.Table.{framed}
 use denote.Triple.Walked.{says, Stays, stay_dropped, walk_of, ends_at}
-use Rattle.std.specs.Box.Ownership.{box_owns}
-use Rattle.std.proofs.alloc.Calls.{token, Goes-blank}
+use Rattle.std.proofs.alloc.Calls.{Goes-blank}
 use Rattle.std.proofs.raw_atomic.Walks.{proved_at}
 use Rattle.std.proofs.BoxSteps.Form.{Bx, D, R, P, B, box_ty, word, box_typed}
 use Rattle.std.proofs.BoxSteps.Steps.{box_out, box_in}

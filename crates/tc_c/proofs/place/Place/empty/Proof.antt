@@ -8,7 +8,7 @@ use base.Fml.{ftrue, fsep}
 use prog.Wp.{WpFn}
 use types.Kit.{‵, raw, ◌⊛◌, ◌$◌, ◌∵◌, !, qed, move, drop, join, split, fsplit, fjoin, fpack, feq_i, suffices, done}
 use types.Part.{agg}
-use types.Run.{no_more, and_then, of_opd, lit, returns, enter}
+use types.Run.{no_more, and_then, lit, returns, enter}
 use types.ByLocal.{alloc_all, pass_all, free_all, look_at, get, sets}
 use contract.Running.{tables}
 use denote.Exit.{yes}
