@@ -36,4 +36,6 @@ def run(seed, fecf, count=300, tclive=None, tcmake=TOP / "tcmake"):
     return f"{count} packets came in their order, each once; {len(past)} frames were sent, {past.count(unlock)} of them Unlocks"
 
 if __name__ == "__main__":
+    if not sys.argv[1:] or not sys.argv[1].isdecimal():
+        sys.exit(__doc__)
     print(run(int(sys.argv[1]), "--fecf" in sys.argv))

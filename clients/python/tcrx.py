@@ -369,7 +369,7 @@ def find_program() -> str:
     beside = Path(__file__).resolve().parents[2] / "tclive"
     found = str(beside) if os.access(beside, os.X_OK) else shutil.which("tclive")
     if found is None:
-        raise NotStarted(f"there is no program {beside}, and no tclive on the path")
+        raise NotStarted(f"tclive isn't on the path, nor at {beside}; name it by program=, or put its folder on the path")
     return found
 
 
