@@ -3,7 +3,7 @@
 use crate::filler::{By, CONTINUING, FIRST, Filler, Front, LAST, UNSEGMENTED, segment};
 use crate::plan::CALLED;
 use anyhow::{Result, anyhow};
-use tc_channel::Delivery;
+use tc_channel::{Delivery, Journal};
 use tc_link::Link;
 
 // The MAP of the packets, which isn't chosen, and the chosen one.
@@ -21,10 +21,18 @@ const TWO_PACKETS: Front = [
     0xff, 0x10, 1, 0xc0, 0, 0, 0, 0xaa, 0x10, 1, 0xc0, 0, 0, 0, 0xbb,
 ];
 
+// How many frames come before each of the two times that each kind of call is made, which is 35 events. So the second time begins
+// after more than 64 events and ends before 128, and the list of a kept journal's events, whose room is doubled, grows in none of
+// its calls.
+const BEFORE: u8 = 20;
+
 /// Makes each kind of call, and again, and prints a line after each.
-pub(crate) fn print<R: AllocGlobal + Print>(rt: &R) -> Result<()> {
-    let mut filler = Filler::new(rt.alloc(), CALLED.settings(rt.alloc())?)?;
+pub(crate) fn print<J: Journal, R: AllocGlobal + Print>(rt: &R) -> Result<()> {
+    let mut filler: Filler<J> = Filler::new(rt.alloc(), CALLED.settings(rt.alloc())?)?;
     for _ in 0..2 {
+        for _ in 0..BEFORE {
+            filler.unlock()?;
+        }
         println!(rt; "begun")?;
         print_without_a_unit(rt, &mut filler)?;
         print_of_packets(rt, &mut filler)?;
@@ -36,7 +44,7 @@ pub(crate) fn print<R: AllocGlobal + Print>(rt: &R) -> Result<()> {
 }
 
 // What ends no unit.
-fn print_without_a_unit<R: Print>(rt: &R, filler: &mut Filler) -> Result<()> {
+fn print_without_a_unit<J: Journal, R: Print>(rt: &R, filler: &mut Filler<J>) -> Result<()> {
     filler.unlock()?;
     println!(rt; "frame, Unlock")?;
     filler.bring_again(8, &ONE_PACKET)?;
@@ -59,7 +67,7 @@ fn want(delivery: Delivery, queued: u32) -> Result<()> {
 }
 
 // What ends an unsegmented unit, which is cut into packets.
-fn print_of_packets<R: Print>(rt: &R, filler: &mut Filler) -> Result<()> {
+fn print_of_packets<J: Journal, R: Print>(rt: &R, filler: &mut Filler<J>) -> Result<()> {
     filler.buffer(8, &ONE_PACKET)?;
     println!(rt; "frame, Type-AD, accepted")?;
     want(filler.channel.release()?, 1)?;
@@ -80,7 +88,7 @@ fn print_of_packets<R: Print>(rt: &R, filler: &mut Filler) -> Result<()> {
 }
 
 // Takes so many packets.
-fn empty(filler: &mut Filler, packets: u16) -> Result<()> {
+fn empty<J: Journal>(filler: &mut Filler<J>, packets: u16) -> Result<()> {
     for _ in 0..packets {
         drop(filler.channel.take(u16::from(APID))?);
     }
@@ -89,7 +97,7 @@ fn empty(filler: &mut Filler, packets: u16) -> Result<()> {
 
 // Segments, the last of which ends a unit that is one packet: a run is doubled as it grows from 6 to 20 and 22 octets, and has room
 // then.
-fn print_of_runs<R: Print>(rt: &R, filler: &mut Filler) -> Result<()> {
+fn print_of_runs<J: Journal, R: Print>(rt: &R, filler: &mut Filler<J>) -> Result<()> {
     let next = segment(CONTINUING, PACKETS, APID);
     filler.pass(By::Bd, 7, &first_of_26(PACKETS))?;
     println!(rt; "frame, Type-BD, first segment")?;
@@ -107,7 +115,7 @@ fn print_of_runs<R: Print>(rt: &R, filler: &mut Filler) -> Result<()> {
 }
 
 // The same by the buffer.
-fn print_of_released_runs<R: Print>(rt: &R, filler: &mut Filler) -> Result<()> {
+fn print_of_released_runs<J: Journal, R: Print>(rt: &R, filler: &mut Filler<J>) -> Result<()> {
     filler.buffer(7, &first_of_26(PACKETS))?;
     println!(rt; "frame, Type-AD, accepted")?;
     filler.buffer(15, &segment(CONTINUING, PACKETS, APID))?;
@@ -126,7 +134,7 @@ fn print_of_released_runs<R: Print>(rt: &R, filler: &mut Filler) -> Result<()> {
 }
 
 // Units of a chosen MAP.
-fn print_of_units<R: Print>(rt: &R, filler: &mut Filler) -> Result<()> {
+fn print_of_units<J: Journal, R: Print>(rt: &R, filler: &mut Filler<J>) -> Result<()> {
     filler.pass(By::Bd, 8, &segment(UNSEGMENTED, CHOSEN, APID))?;
     println!(rt; "frame, Type-BD, whole unit queued")?;
     filler.buffer(8, &segment(UNSEGMENTED, CHOSEN, APID))?;

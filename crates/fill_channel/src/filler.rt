@@ -1,10 +1,10 @@
-//! A channel in flight, and the frames that fill it.
+//! A channel, and the frames that fill it.
 
 ghost use Rattle.std.specs.Prelude.{◌≤◌};
 
 use anyhow::{Result, anyhow};
 use std::alloc::Global;
-use tc_channel::{FlightChannel, Settings};
+use tc_channel::{ChannelWith, Journal, Settings};
 use tc_link::read_frame;
 
 /// The sequence flags of a segment header (CCSDS 232.0-B, 4.1.3.2.2), its two highest bits.
@@ -70,17 +70,17 @@ fn frame_octets(flags: u8, ns: u8, length: u16, front: &Front) -> [u8; 1024]
     octets
 }
 
-/// A channel in flight, and the N(S) of its next Type-AD frame.
+/// A channel, and the N(S) of its next Type-AD frame.
 #[derive(Drop)]
-pub(crate) struct Filler {
-    pub(crate) channel: FlightChannel,
+pub(crate) struct Filler<J: Journal> {
+    pub(crate) channel: ChannelWith<J>,
     ns: u8,
 }
 
-impl Filler {
+impl<J: Journal> Filler<J> {
     /// The channel of these settings, whose V(R) is 0 first.
-    pub(crate) fn new(alloc: Global, settings: Settings) -> Result<Filler> {
-        let channel = FlightChannel::new(alloc, settings)?;
+    pub(crate) fn new(alloc: Global, settings: Settings) -> Result<Filler<J>> {
+        let channel = ChannelWith::new(alloc, settings)?;
         Ok(Filler { channel, ns: 0 })
     }
 
