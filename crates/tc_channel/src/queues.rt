@@ -131,6 +131,7 @@ pub(crate) fn put_unit(units: &mut Vec<HeldQueue>, unit: Option<Placed>)
 }
 
 /// No unit is ended.
+#[inline(always)]
 pub(crate) fn plan_nothing(sheet: &mut Worksheet) -> Planned
     ensures { IsNothing sheet.new.copies.items result }
 {
@@ -146,6 +147,7 @@ pub(crate) fn plan_nothing(sheet: &mut Worksheet) -> Planned
 }
 
 // What becomes of the packets of a unit.
+#[inline(always)]
 fn plan_packets(
     alloc: Global,
     unit: &[u8],
@@ -170,6 +172,7 @@ fn plan_packets(
 }
 
 // What becomes of the packets of octets that are a unit by themselves, within the limit. They are cut where they lie.
+#[inline(always)]
 fn plan_lying(
     alloc: Global,
     octets: &[u8],
@@ -187,6 +190,7 @@ fn plan_lying(
 
 // What becomes of the packets of the unit that a data field would end. A unit of several segments is made for it; a plain
 // field and the body of an unsegmented one are units as they stand.
+#[inline(always)]
 fn plan_cut(
     alloc: Global,
     reassembler: &Reassembler,
@@ -255,6 +259,7 @@ fn plan_whole(unit: Vec<u8>, units: &[HeldQueue], map: u8, sheet: &mut Worksheet
 
 /// What becomes of the unit that a data field would end: its answer, and what is going to be queued of it, the copies of
 /// packets in place of those of the plan before.
+#[inline(always)]
 pub(crate) fn plan(
     alloc: Global,
     reassembler: &Reassembler,

@@ -46,6 +46,7 @@ pub struct Act {
 }
 
 // The act of an arrival, and the components after it.
+#[inline(always)]
 fn stepped(window: &Window, r: Report, arrival: Arrival) -> (Act, Report)
     requires { IsSome (entry (row_of window.now r.vr arrival) r) }
     ensures event { result.0.event ≡ number_of (row_of window.now r.vr arrival) }
@@ -297,6 +298,7 @@ impl Farm {
     ///
     /// The table has an entry wherever an AD frame that comes in S2 finds no room, as it is where
     /// the state is S2 only while the buffer is full.
+    #[inline(always)]
     pub fn step(&mut self, arrival: Arrival) -> Act
         requires { IsSome (entry (row_of self.old.width self.old.report.vr arrival) self.old.report) }
         ensures event { result.event ≡ number_of (row_of self.old.width self.old.report.vr arrival) }

@@ -66,6 +66,7 @@ impl Reassembler {
     }
 
     /// The unit that this field would end, in a list of its own, which is the one allocation.
+    #[inline(always)]
     pub fn unit_after(&self, service: Service, field: &[u8]) -> Result<Option<Vec<u8>>, NoMemory>
         requires { 0 < length field.now }
         ensures unit { (fields : List (List ℕ)) → Leave fields self.now (stream_place service field.now)
@@ -104,6 +105,7 @@ impl Reassembler {
 
     /// Takes the next field of its stream as `push` does, and makes no unit: a run that ends is let go. It grows what stays
     /// open, before the first change, and nothing else.
+    #[inline(always)]
     pub fn advance(&mut self, service: Service, field: &[u8]) -> Result<(), NoMemory>
         requires { 0 < length field.now }
         ensures run { (fields : List (List ℕ)) → Leave fields self.old (stream_place service field.now)
@@ -185,6 +187,7 @@ fn follow(
 }
 
 // The run goes on with a segment that has this body, and no unit is made of what ends.
+#[inline(always)]
 fn go_on(alloc: Global, part: Part, run: &mut Option<Vec<u8>>, body: &[u8]) -> Result<(), NoMemory>
     requires { IsWithinLimit (octets_in run.old) }
     ensures run { OnOk result (octets_in run.new ≡ next_run part (octets_in run.old) body.now) }

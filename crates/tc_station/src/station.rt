@@ -288,6 +288,7 @@ impl<J: Journal> StationOf<J> {
 
     // The desk of the channel at this place, behind its lock. Contracts know of what is under a lock just what its type says,
     // so the desk is asked for its id; another's would never be given out.
+    #[inline(always)]
     fn lock_desk<R: Wait>(&self, rt: &R, place: usize, vcid: u8) -> MutexGuard<'_, DeskOf<J>>
         requires inside { place < length self.now.vcids }
         ensures own { (mutex_guard_value result).channel.settings.vcid ≡ vcid }
