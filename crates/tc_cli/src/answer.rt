@@ -48,7 +48,10 @@ impl fmt::Display for Answer {
                 write!(f, "unit {vcid} {map} ")?;
                 write_unit(f, unit.as_slice())
             }
-            Answer::Clcw { vcid, word } => write!(f, "clcw {vcid} {word:08x}"),
+            Answer::Clcw { vcid, word } => {
+                write!(f, "clcw {vcid} ")?;
+                write_octets(f, &word.to_be_bytes())
+            }
             Answer::Refused(refusal) => write!(f, "refused {refusal}"),
         }
     }
