@@ -1,7 +1,9 @@
 //! Each kind of call, one after the other.
 
-use crate::filler::{By, CONTINUING, FIRST, Filler, Front, LAST, UNSEGMENTED, segment};
-use crate::plan::CALLED;
+use crate::filler::{
+    By, CONTINUING, FIRST, Filler, Front, LARGEST_FIELD, LAST, UNSEGMENTED, plain_packet, segment,
+};
+use crate::plan::{CALLED, PLAIN};
 use anyhow::{Result, anyhow};
 use tc_channel::{Delivery, Journal};
 use tc_link::Link;
@@ -21,26 +23,35 @@ const TWO_PACKETS: Front = [
     0xff, 0x10, 1, 0xc0, 0, 0, 0, 0xaa, 0x10, 1, 0xc0, 0, 0, 0, 0xbb,
 ];
 
-// How many frames come before each of the two times that each kind of call is made, which is 35 events. So the second time begins
-// after more than 64 events and ends before 128, and the list of a kept journal's events, whose room is doubled, grows in none of
-// its calls.
+// How many frames come to each channel before each of the two times that each kind of call is made, which is 35 events on the first
+// channel and five on the plain one. So the second time the first has more than 64 events and fewer than 128, the plain one more than
+// 32 and fewer than 64, and the list of a kept journal's events, whose room is doubled, grows in none of the calls.
 const BEFORE: u8 = 20;
 
 /// Makes each kind of call, and again, and prints a line after each.
 pub(crate) fn print<J: Journal, R: AllocGlobal + Print>(rt: &R) -> Result<()> {
     let mut filler: Filler<J> = Filler::new(rt.alloc(), CALLED.settings(rt.alloc())?)?;
-    for _ in 0..2 {
-        for _ in 0..BEFORE {
-            filler.unlock()?;
-        }
-        println!(rt; "begun")?;
-        print_without_a_unit(rt, &mut filler)?;
-        print_of_packets(rt, &mut filler)?;
-        print_of_runs(rt, &mut filler)?;
-        print_of_released_runs(rt, &mut filler)?;
-        print_of_units(rt, &mut filler)?;
+    let mut plain: Filler<J> = Filler::new(rt.alloc(), PLAIN.settings(rt.alloc())?)?;
+    print_once(rt, &mut filler, &mut plain)?;
+    print_once(rt, &mut filler, &mut plain)
+}
+
+fn print_once<J: Journal, R: Print>(
+    rt: &R,
+    filler: &mut Filler<J>,
+    plain: &mut Filler<J>,
+) -> Result<()> {
+    for _ in 0..BEFORE {
+        filler.unlock()?;
+        plain.unlock()?;
     }
-    Ok(())
+    println!(rt; "begun")?;
+    print_without_a_unit(rt, filler)?;
+    print_of_packets(rt, filler)?;
+    print_of_runs(rt, filler)?;
+    print_of_released_runs(rt, filler)?;
+    print_of_units(rt, filler)?;
+    print_of_plain_fields(rt, plain)
 }
 
 // What ends no unit.
@@ -149,6 +160,19 @@ fn print_of_units<J: Journal, R: Print>(rt: &R, filler: &mut Filler<J>) -> Resul
         drop(filler.channel.take_unit(CHOSEN)?);
     }
     println!(rt; "take_unit")?;
+    Ok(())
+}
+
+// Fields of a plain channel, each of which is one packet.
+fn print_of_plain_fields<J: Journal, R: Print>(rt: &R, plain: &mut Filler<J>) -> Result<()> {
+    plain.pass(By::Bd, LARGEST_FIELD, &plain_packet(APID))?;
+    println!(rt; "frame, Type-BD on a plain channel, one packet queued")?;
+    plain.buffer(LARGEST_FIELD, &plain_packet(APID))?;
+    println!(rt; "frame, Type-AD, accepted")?;
+    want(plain.channel.release()?, 1)?;
+    println!(rt; "release on a plain channel, one packet queued")?;
+    empty(plain, 2)?;
+    println!(rt; "take")?;
     Ok(())
 }
 
