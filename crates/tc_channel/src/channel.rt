@@ -4,10 +4,10 @@ ghost use Rattle.std.specs.Prelude.{List, ℕ, ◌≡◌, [], ◌<◌, ◌≤◌
 ghost use Rattle.std.specs.Option.{option_and_then};
 ghost use Rattle.tc_channel.specs.Settings.{IsAllowed, IsRefusal};
 ghost use Rattle.tc_channel.specs.Journal.{with_event, event_of};
-ghost use Rattle.tc_channel.specs.Run.{run, IsLawful, first_of};
+ghost use Rattle.tc_channel.specs.Run.{run, IsLawful};
 ghost use Rattle.tc_channel.specs.Reply.{frame_reply, release_reply, take_reply, unit_reply, waiting_packets, waiting_units, buffered_fields, clcw as clcw_of};
 ghost use Rattle.tc_channel.specs.Era.{CountsUpInItsEra};
-ghost use Rattle.tc_channel.specs.Channel.{Follows, FollowsKind, Ends, EndsAtOnce, buffered_of, with_field};
+ghost use Rattle.tc_channel.specs.Channel.{Follows, FollowsKind, EndsAtOnce, buffered_of, with_field};
 ghost use Rattle.tc_channel.specs.Admission.{map_of};
 ghost use Rattle.tc_channel.specs.HeldQueues.{AreDistinct, keys_of, IsPlanned, items_for, popped};
 
@@ -135,15 +135,17 @@ impl<J: Journal> ChannelWith<J> {
             return Err(ReleaseFault::Empty);
         }
         let entry = self.journal.prepare(self.alloc, &LentEvent::Release)?;
-        let planned = plan_oldest(
+        let field = self.fields.front();
+        let planned = plan(
             self.alloc,
             &self.reassembler,
             &self.queues,
             &self.units,
-            &self.fields,
+            Service::Ad,
+            field,
             &mut self.sheet,
         )?;
-        pass_oldest(&mut self.reassembler, &self.fields)?;
+        pass(&mut self.reassembler, Service::Ad, field)?;
         self.fields.pop_front();
         put_copies(self.alloc, &mut self.queues, &mut self.sheet.copies);
         put_unit(&mut self.units, planned.unit);
@@ -367,36 +369,27 @@ fn put_field(fields: &mut FieldBuffer, act: &Act, field: &[u8])
     }
 }
 
-// Passes a BD field to reassembly. Nothing grows after it in a call, and nothing has changed before it.
+// Passes a data field to reassembly. Nothing grows after it in a call, and nothing has changed before it.
+fn pass(reassembler: &mut Reassembler, service: Service, field: &[u8]) -> Result<(), NoMemory>
+    requires { 0 < length field.now }
+    ensures ok { OnOk result (Follows reassembler.old reassembler.new service field.now) }
+    ensures err { OnErr result (reassembler.new ≡ reassembler.old) }
+{
+    reassembler.advance(service, field)?;
+    Ok(())
+}
+
+// Passes the field of a BD frame on at once, and no other.
 fn pass_bypass(reassembler: &mut Reassembler, kind: Kind, field: &[u8]) -> Result<(), NoMemory>
     requires { 0 < length field.now }
     ensures ok { OnOk result (FollowsKind kind reassembler.old reassembler.new field.now) }
     ensures err { OnErr result (reassembler.new ≡ reassembler.old) }
 {
     match kind {
-        Kind::Bd => {
-            reassembler.advance(Service::Bd, field)?;
-            Ok(())
-        }
+        Kind::Bd => pass(reassembler, Service::Bd, field),
         Kind::Ad(_) => Ok(()),
         Kind::Bc(_) => Ok(()),
         Kind::Invalid => Ok(()),
-    }
-}
-
-// Passes the oldest field of the buffer to reassembly.
-fn pass_oldest(reassembler: &mut Reassembler, fields: &FieldBuffer) -> Result<(), NoMemory>
-    requires some { 0 < length fields.now.items }
-    requires octets { 0 < length (first_of fields.now.items) }
-    ensures ok { OnOk result (Follows reassembler.old reassembler.new Service.Ad (first_of fields.now.items)) }
-    ensures err { OnErr result (reassembler.new ≡ reassembler.old) }
-{
-    match fields.front() {
-        Some(field) => {
-            reassembler.advance(Service::Ad, field)?;
-            Ok(())
-        }
-        None => Ok(()),
     }
 }
 
@@ -420,26 +413,5 @@ fn plan_bypass(
         Kind::Ad(_) => Ok(plan_nothing(sheet)),
         Kind::Bc(_) => Ok(plan_nothing(sheet)),
         Kind::Invalid => Ok(plan_nothing(sheet)),
-    }
-}
-
-// What becomes of the packets of the unit that the oldest field of the buffer would end.
-fn plan_oldest(
-    alloc: Global,
-    reassembler: &Reassembler,
-    queues: &[HeldQueue],
-    units: &[HeldQueue],
-    fields: &FieldBuffer,
-    sheet: &mut Worksheet,
-) -> Result<Planned, NoMemory>
-    requires some { 0 < length fields.now.items }
-    requires octets { 0 < length (first_of fields.now.items) }
-    requires distinct { AreDistinct (keys_of queues.now) }
-    requires units_distinct { AreDistinct (keys_of units.now) }
-    ensures { IfOk result (λ p. (unit : Option (List ℕ)) × Ends reassembler.now Service.Ad (first_of fields.now.items) unit × IsPlanned (map_of (first_of fields.now.items)) unit queues.now units.now sheet.new.copies.items p) }
-{
-    match fields.front() {
-        Some(field) => plan(alloc, reassembler, queues, units, Service::Ad, field, sheet),
-        None => Ok(plan_nothing(sheet)),
     }
 }

@@ -1,8 +1,8 @@
 //! The buffer of data fields, in places that are made at the start.
 
-ghost use Rattle.std.specs.Prelude.{◌≡◌, ◌<◌, ◌≤◌, ◌==◌, ◌∷◌, [], ◌++◌, length, drop, slice_get, vec_capacity, IfOk};
-ghost use Rattle.std.specs.Option.{option_copied};
+ghost use Rattle.std.specs.Prelude.{◌≡◌, ◌<◌, ◌≤◌, ◌==◌, ◌∷◌, [], ◌++◌, length, drop, vec_capacity, IfOk};
 ghost use Rattle.circular_buffer.specs.Buffer.{buffer};
+ghost use Rattle.tc_channel.specs.Run.{first_of};
 
 use circular_buffer::HeapCircularBuffer;
 use std::alloc::{AllocError, Global};
@@ -123,14 +123,12 @@ impl FieldBuffer {
         self.fields.capacity()
     }
 
-    /// The oldest field.
-    pub(crate) fn front(&self) -> Option<&[u8]>
-        ensures { option_copied result ≡ slice_get self.now.items 0 }
+    /// The oldest field, where one waits.
+    pub(crate) fn front(&self) -> &[u8]
+        requires { 0 < length self.now.items }
+        ensures { result.now ≡ first_of self.now.items }
     {
-        match self.fields.front() {
-            Some(place) => Some(place.as_slice()),
-            None => None,
-        }
+        self.fields.front().unwrap().as_slice()
     }
 
     /// Copies a field into a free place, behind those that wait.
