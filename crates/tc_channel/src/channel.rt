@@ -370,6 +370,7 @@ fn put_field(fields: &mut FieldBuffer, act: &Act, field: &[u8])
 }
 
 // Passes a data field to reassembly. Nothing grows after it in a call, and nothing has changed before it.
+#[inline(always)]
 fn pass(reassembler: &mut Reassembler, service: Service, field: &[u8]) -> Result<(), NoMemory>
     requires { 0 < length field.now }
     ensures ok { OnOk result (Follows reassembler.old reassembler.new service field.now) }
