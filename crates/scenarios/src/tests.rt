@@ -1,10 +1,7 @@
 mod alone;
-mod gate;
 mod longest;
 mod replay;
 mod rows;
-mod sharing;
-mod six_threads;
 
 ghost use Rattle.std.specs.Prelude.{◌≡◌, ◌∷◌, [], IfOk};
 ghost use Rattle.tc_station.specs.StationSettings.{vcids_of};

@@ -233,7 +233,7 @@ fn settings_of_the_channel(alloc: Global) -> Result<Settings, AllocError> {
     };
     Ok(Settings {
         queues: Items::from(Vec::from_slice(alloc, &[queue])?),
-        ..settings(alloc, 1, 10, 64, 0)?
+        ..settings(alloc, 1, 64)?
     })
 }
 

@@ -10,9 +10,7 @@ use tc_station::{CloseFault, ReleaseRefused};
 
 // Channels 1 and 2 with the window 10, room for 64 fields and V(R) 0 first.
 fn new_station(rt: &impl Abort, alloc: Global) -> Station {
-    let first = settings(alloc, 1, 10, 64, 0).expect(rt, "settings");
-    let second = settings(alloc, 2, 10, 64, 0).expect(rt, "settings");
-    let list = list_of_two(alloc, first, second).expect(rt, "a list");
+    let list = two_channels(alloc, 64).expect(rt, "a list");
     Station::new(alloc, 42, list).expect(rt, "a station")
 }
 

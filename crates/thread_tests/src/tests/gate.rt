@@ -91,9 +91,7 @@ fn list_of_one(alloc: Global, vcid: u8, line: u32, octets: &[u8]) -> Result<Work
 fn new_crew(rt: &impl Abort, alloc: Global) -> (Station, Vec<Operator>)
     ensures { result.1.items ≡ replicate 2 (fresh result.0.vcids) }
 {
-    let first = settings(alloc, 1, 10, 1, 0).expect(rt, "settings");
-    let second = settings(alloc, 2, 10, 1, 0).expect(rt, "settings");
-    let list = list_of_two(alloc, first, second).expect(rt, "a list");
+    let list = two_channels(alloc, 1).expect(rt, "a list");
     let mut station = Station::new(alloc, 42, list).expect(rt, "a station");
     let operators = station.operators(2).expect(rt, "operators");
     (station, operators)

@@ -1,0 +1,8 @@
+//! Tests of a station by several threads. The library itself is empty.
+//!
+//! Two threads share a station, a channel is watched by two while four others work on it, and two workers meet at a gate while
+//! each holds the lock of its channel.
+#![tactic(auto)]
+
+#[cfg(test)]
+mod tests;
