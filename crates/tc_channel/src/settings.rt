@@ -1,7 +1,7 @@
 //! The settings of a channel.
 
 ghost use Rattle.std.specs.Prelude.{◌≡◌, ◌↔◌, Any, IsTrue, MatchResult};
-ghost use Rattle.tc_channel.specs.Settings.{HaveApids, AreApart, AreMapsApart};
+ghost use Rattle.tc_channel.specs.Settings.{IsVcid, HaveApids, AreApart, HaveCapacities, AreMaps, AreMapsApart, HaveUnitCapacities, HasMapsByHeaders};
 
 use crate::items::Items;
 use tc_link::Window;
@@ -81,7 +81,7 @@ impl Settings {
     {
         // Read, so that it is known to be an octet.
         let _first = self.first;
-        if self.vcid > 63 {
+        if !is_vcid(self.vcid) {
             return Err(SettingsFault::BadVcid);
         }
         if Window::new(self.width).is_none() {
@@ -90,37 +90,69 @@ impl Settings {
         if self.buffer < 1 || self.buffer > 64 {
             return Err(SettingsFault::BadBuffer);
         }
-        if !self.queues.iter().all(|queue| queue.apid <= 2046) {
+        if !have_apids(&self.queues) {
             return Err(SettingsFault::BadApid);
         }
         if !are_apart(&self.queues) {
             return Err(SettingsFault::DoubleApid);
         }
-        if !self
-            .queues
-            .iter()
-            .all(|queue| queue.capacity >= 1 && queue.capacity <= 256)
-        {
+        if !have_capacities(&self.queues) {
             return Err(SettingsFault::BadCapacity);
         }
-        if !self.maps.iter().all(|map| map.map <= 63) {
+        if !are_maps(&self.maps) {
             return Err(SettingsFault::BadMap);
         }
         if !are_maps_apart(&self.maps) {
             return Err(SettingsFault::DoubleMap);
         }
-        if !self
-            .maps
-            .iter()
-            .all(|map| map.capacity >= 1 && map.capacity <= 256)
-        {
+        if !have_unit_capacities(&self.maps) {
             return Err(SettingsFault::BadUnits);
         }
-        if !self.segmented && !self.maps.is_empty() {
+        if !self.has_maps_by_headers() {
             return Err(SettingsFault::PlainMap);
         }
         Ok(())
     }
+
+    // Whether there is no MAP where there are no segment headers.
+    fn has_maps_by_headers(&self) -> bool
+        ensures { IsTrue result ↔ HasMapsByHeaders self.now }
+    {
+        self.segmented || self.maps.is_empty()
+    }
+}
+
+fn is_vcid(vcid: u8) -> bool
+    ensures { IsTrue result ↔ IsVcid vcid }
+{
+    vcid <= 63
+}
+
+fn have_apids(queues: &[QueueSetting]) -> bool
+    ensures { IsTrue result ↔ HaveApids queues.now }
+{
+    queues.iter().all(|queue| queue.apid <= 2046)
+}
+
+fn have_capacities(queues: &[QueueSetting]) -> bool
+    ensures { IsTrue result ↔ HaveCapacities queues.now }
+{
+    queues
+        .iter()
+        .all(|queue| queue.capacity >= 1 && queue.capacity <= 256)
+}
+
+fn are_maps(maps: &[MapSetting]) -> bool
+    ensures { IsTrue result ↔ AreMaps maps.now }
+{
+    maps.iter().all(|map| map.map <= 63)
+}
+
+fn have_unit_capacities(maps: &[MapSetting]) -> bool
+    ensures { IsTrue result ↔ HaveUnitCapacities maps.now }
+{
+    maps.iter()
+        .all(|map| map.capacity >= 1 && map.capacity <= 256)
 }
 
 // Whether no two queues have one APID. Each APID is marked where it was seen, so that this takes a step a queue.

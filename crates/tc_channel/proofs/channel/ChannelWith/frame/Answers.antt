@@ -36,7 +36,7 @@ put_unit-requires g c = rw (c.in_ok-planned.ensures.2.whole, c.deref-2.ensures.v
 pub invariant_of-self-2 : goal.invariant_of-self-2
 invariant_of-self-2 g c =
     let f = c.self.inside in
-    let e : g.J.Journal.events c.append.new.self ≡ (g.J.Journal.events f.journal) ++ Frame c.args.frame.now ∷ [] = grind (arith, common_steps) in
+    let e : g.J.Journal.events c.append.new.self ≡ (g.J.Journal.events f.journal) ++ Frame c.args.frame.now ∷ [] = grind (arith, common_steps) steps 500000 in
     rw e (frame-keeps _ c.plan_bypass.new.sheet.copies.items c.in_ok-planned.planned c.in_ok-planned.ensures.0 c.kind-kind.result c.args.frame.now
     (frame_row f.farm.width f.farm.report.vr c.kind-kind.result (nat_lt c.len.result c.capacity.result)) c.step-act.result
     c.self.invariant c.kind-kind.ensures (rw c.field-field.ensures at c.in_ok-pass_bypass.ensures.ok) (rw c.field-field.ensures at c.in_ok-planned.ensures.1) (rw (c.deref.ensures.value, c.deref-2.ensures.value, c.field-field.ensures) at c.in_ok-planned.ensures.2) c.put_copies.ensures c.put_unit.ensures c.octets.ensures.whole

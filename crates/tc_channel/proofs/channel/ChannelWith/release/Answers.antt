@@ -47,7 +47,7 @@ pub invariant_of-self-2 : goal.invariant_of-self-2
 invariant_of-self-2 g c =
     let f = c.self.inside in
     let some : 0 < length f.fields.items = some-field c.self.view_is c.self.invariant (λ e. absurd (let t = c.if-has_empty_buffer.ensures.1 e in cc)) in
-    let e : g.J.Journal.events c.append.new.self ≡ (g.J.Journal.events f.journal) ++ Release ∷ [] = grind (arith, common_steps) in
+    let e : g.J.Journal.events c.append.new.self ≡ (g.J.Journal.events f.journal) ++ Release ∷ [] = grind (arith, common_steps) steps 500000 in
     rw e (release-keeps _ c.plan.new.sheet.copies.items c.in_ok-planned.planned c.in_ok-planned.ensures.0
     c.self.invariant (rw c.front-field.ensures at c.in_ok-pass.ensures.ok) (rw c.front-field.ensures at c.in_ok-planned.ensures.1) (rw (c.deref.ensures.value, c.deref-2.ensures.value, c.front-field.ensures) at c.in_ok-planned.ensures.2) c.put_copies.ensures c.put_unit.ensures some c.step.ensures.width c.step.ensures.report c.pop_front.ensures)
 
