@@ -13,8 +13,8 @@ ghost use Rattle.tc_station.specs.StationSettings.{vcids_of};
 use std::alloc::{AllocError, Global};
 use std::process::Abort;
 use tc_channel::{Delivery, FrameReply, Items, MapSetting, QueueSetting, Settings};
-use tc_link::{Act, Link};
-use tc_station::{Operator, Station};
+use tc_link::{Act, Link, read_frame};
+use tc_station::{Desk, Operator, Station};
 
 // No unit was ended.
 const NOTHING: Delivery = Delivery {
@@ -123,24 +123,38 @@ fn settings_with_a_map(alloc: Global) -> Result<Settings, AllocError>
         map: 3,
         capacity: 1,
     };
-    Ok(Settings {
-        maps: Items::from(Vec::from_slice(alloc, &[map])?),
-        ..settings(alloc, 1)?
-    })
+    let maps = Items::from(Vec::from_slice(alloc, &[map])?);
+    let mut settings = settings(alloc, 1)?;
+    settings.maps = maps;
+    Ok(settings)
+}
+
+// As `settings`, with room for 64 data fields.
+fn settings_with_room(rt: &impl Abort, alloc: Global, vcid: u8) -> Settings
+    ensures { result.vcid ≡ vcid }
+{
+    let mut settings = settings(alloc, vcid).expect(rt, "settings");
+    settings.buffer = 64;
+    settings
+}
+
+fn new_desk(rt: &impl Abort, alloc: Global, settings: Settings) -> Desk {
+    Desk::new(alloc, settings).expect(rt, "a desk")
+}
+
+fn take_in(rt: &impl Abort, desk: &mut Desk, octets: &[u8]) -> FrameReply
+    ensures { desk.new.board ≡ desk.old.board }
+{
+    let frame = read_frame(octets).expect(rt, "a frame");
+    desk.frame(&frame).expect(rt, "an answer")
 }
 
 // A station of channels 1 and 2, with room for 64 data fields each.
 fn two_channels(rt: &impl Abort, alloc: Global) -> Manned
     ensures { result.station.vcids ≡ 1 ∷ 2 ∷ [] }
 {
-    let first = Settings {
-        buffer: 64,
-        ..settings(alloc, 1).expect(rt, "settings")
-    };
-    let second = Settings {
-        buffer: 64,
-        ..settings(alloc, 2).expect(rt, "settings")
-    };
+    let first = settings_with_room(rt, alloc, 1);
+    let second = settings_with_room(rt, alloc, 2);
     Manned::by(
         rt,
         alloc,

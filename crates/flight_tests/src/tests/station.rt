@@ -5,6 +5,7 @@ ghost use Rattle.tc_station.specs.StationSettings.{vcids_of};
 ghost use Rattle.tc_station.specs.Tally.{fresh};
 
 use super::*;
+use std::sync::Wait;
 use tc_channel::Octets;
 use tc_station::{
     FlightCloseFault, FlightStation, FreeGate, Job, Operator, Order, ReleaseRefused, WorkList,
@@ -31,14 +32,21 @@ fn new_crew(rt: &(impl Abort + Print), alloc: Global) -> (FlightStation, Vec<Ope
     (station, operators)
 }
 
+// An empty list with room for one channel's settings. One growth may be refused.
+fn room_for_one(rt: &impl Abort, alloc: Global) -> Vec<Settings>
+    ensures { result.items ≡ [] }
+{
+    match Vec::with_capacity(alloc, 1) {
+        Ok(list) => list,
+        Err(_) => Vec::with_capacity(alloc, 1).expect(rt, "a list"),
+    }
+}
+
 // One growth may be refused.
 fn list_of_settings(rt: &impl Abort, alloc: Global) -> Vec<Settings>
     ensures { vcids_of result.items ≡ 1 ∷ [] }
 {
-    let mut list = match Vec::with_capacity(alloc, 1) {
-        Ok(list) => list,
-        Err(_) => Vec::with_capacity(alloc, 1).expect(rt, "a list"),
-    };
+    let mut list = room_for_one(rt, alloc);
     list.push(settings(alloc).expect(rt, "settings"))
         .expect(rt, "a list");
     list
@@ -142,7 +150,38 @@ fn close(
     }
 }
 
-// A refused frame leaves the count as it was, and the close is made again.
+// Brings `BYPASSED` as the second event of the channel; a refused frame leaves the count as it was.
+fn bring_bypassed(
+    rt: &(impl Abort + Print + Wait),
+    station: &FlightStation,
+    bringing: &mut Operator,
+)
+    requires { bringing.old.vcids ≡ station.now.vcids }
+    ensures { bringing.new.vcids ≡ bringing.old.vcids }
+{
+    if station.bring(rt, bringing, &BYPASSED).is_err() {
+        let _ = println!(rt; "refused: FlightStation::bring");
+        assert_eq!(rt; bringing.count(1), Some(1));
+        station
+            .bring(rt, bringing, &BYPASSED)
+            .expect(rt, "an answer");
+    }
+}
+
+// Releases as the third event; a refused release leaves the count as it was.
+fn release_again(rt: &(impl Abort + Print + Wait), station: &FlightStation, bringing: &mut Operator)
+    requires { bringing.old.vcids ≡ station.now.vcids }
+    ensures { bringing.new.vcids ≡ bringing.old.vcids }
+{
+    if let Err(fault) = station.release(rt, bringing, 1) {
+        let _ = println!(rt; "refused: FlightStation::release");
+        assert_eq!(rt; fault, ReleaseRefused::NoMemory);
+        assert_eq!(rt; bringing.count(1), Some(2));
+        assert_eq!(rt; station.release(rt, bringing, 1), Ok(ONE));
+    }
+}
+
+// The close is made again where it is refused memory.
 #[test]
 fn growth_of_each_call_of_a_flight_station(rt: HostRuntime) {
     let alloc = rt.alloc();
@@ -152,19 +191,8 @@ fn growth_of_each_call_of_a_flight_station(rt: HostRuntime) {
     station
         .bring(&rt, bringing, &ad_frame(0))
         .expect(&rt, "an answer");
-    if station.bring(&rt, bringing, &BYPASSED).is_err() {
-        let _ = println!(&rt; "refused: FlightStation::bring");
-        assert_eq!(rt; bringing.count(1), Some(1));
-        station
-            .bring(&rt, bringing, &BYPASSED)
-            .expect(&rt, "an answer");
-    }
-    if let Err(fault) = station.release(&rt, bringing, 1) {
-        let _ = println!(&rt; "refused: FlightStation::release");
-        assert_eq!(rt; fault, ReleaseRefused::NoMemory);
-        assert_eq!(rt; bringing.count(1), Some(2));
-        assert_eq!(rt; station.release(&rt, bringing, 1), Ok(ONE));
-    }
+    bring_bypassed(&rt, &station, bringing);
+    release_again(&rt, &station, bringing);
     let packet = station.take(&rt, bringing, 1, 5).expect(&rt, "a packet");
     assert_eq!(rt; packet.as_slice(), PACKET.as_slice());
     let channels = close(&rt, station, operators);

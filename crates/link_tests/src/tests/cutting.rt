@@ -50,12 +50,15 @@ fn cuts_as_many_packets_as_the_largest_unit_has(rt: HostRuntime) {
     );
 }
 
+// The octets begin with this packet, and these octets come after it; or they begin with none.
+fn check_next(rt: &impl Abort, octets: &[u8], expected: Option<(Packet<'_>, &[u8])>) {
+    assert_eq!(rt; next_packet(octets), expected);
+}
+
 #[test]
 fn reads_one_packet_after_the_other(rt: HostRuntime) {
     let tail = b"\x0f\xff\x40\x01\x00\x01\xaa\xbb\xff";
     let unit = packets_and(rt.alloc(), 1, tail).expect(&rt, "a unit");
-
-    let (packet, after) = next_packet(&unit).expect(&rt, "a packet");
     let first = Packet {
         telecommand: true,
         secondary: false,
@@ -64,10 +67,6 @@ fn reads_one_packet_after_the_other(rt: HostRuntime) {
         count: 0,
         octets: &PACKET,
     };
-    assert_eq!(&rt; packet, first);
-    assert_eq!(&rt; after, tail.as_slice());
-
-    let (packet, rest) = next_packet(after).expect(&rt, "a packet");
     let second = Packet {
         telecommand: false,
         secondary: true,
@@ -76,17 +75,21 @@ fn reads_one_packet_after_the_other(rt: HostRuntime) {
         count: 1,
         octets: &tail[..8],
     };
-    assert_eq!(&rt; packet, second);
-    assert_eq!(&rt; rest, b"\xff".as_slice());
-    assert_eq!(&rt; next_packet(rest), None);
+    check_next(&rt, &unit, Some((first, tail)));
+    check_next(&rt, tail, Some((second, b"\xff")));
+    check_next(&rt, b"\xff", None);
 }
 
 #[test]
 fn reads_no_packet_where_none_stands_at_the_front(rt: HostRuntime) {
-    assert_eq!(&rt; next_packet(b""), None);
-    assert_eq!(&rt; next_packet(&PACKET[..6]), None);
-    assert_eq!(&rt; next_packet(b"\x10\x05\xc0\x00\x00\x01\xaa"), None);
-    assert_eq!(&rt; next_packet(b"\x30\x05\xc0\x00\x00\x00\xaa"), None);
+    for octets in [
+        b"".as_slice(),
+        &PACKET[..6],
+        b"\x10\x05\xc0\x00\x00\x01\xaa".as_slice(),
+        b"\x30\x05\xc0\x00\x00\x00\xaa".as_slice(),
+    ] {
+        check_next(&rt, octets, None);
+    }
 }
 
 #[test]

@@ -1,32 +1,14 @@
 //! Boards: publishers and watchers of a channel that stands alone.
 
-use std::alloc::{AllocError, Global};
-use tc_channel::{Channel, Items, QueueSetting, Settings, SettingsFault};
+use super::settings;
+use std::alloc::Global;
+use std::process::Abort;
+use tc_channel::Channel;
 use tc_link::read_frame;
 use tc_status::{Publisher, meet};
 
-// Virtual channel 1, a window of 10, a buffer of one, V(R) 0, and a queue of one packet for APID 5.
-fn settings(alloc: Global) -> Result<Settings, AllocError> {
-    let queue = QueueSetting {
-        apid: 5,
-        capacity: 1,
-    };
-    Ok(Settings {
-        vcid: 1,
-        width: 10,
-        buffer: 1,
-        first: 0,
-        segmented: true,
-        queues: Vec::from_slice(alloc, &[queue])?.into(),
-        maps: Items::from(Vec::new(alloc)),
-    })
-}
-
-fn new_channel(alloc: Global) -> Result<Channel, SettingsFault> {
-    let Ok(settings) = settings(alloc) else {
-        return Err(SettingsFault::NoMemory);
-    };
-    Channel::new(alloc, settings)
+fn new_channel(rt: &impl Abort, alloc: Global) -> Channel {
+    Channel::new(alloc, settings(alloc, 1).expect(rt, "settings")).expect(rt, "a channel")
 }
 
 // The AD frame of 13 octets with this N(S), for spacecraft 42 and virtual channel 1.
@@ -38,7 +20,7 @@ fn ad_frame(ns: u8) -> [u8; 13] {
 
 #[test]
 fn each_watcher_reads_what_was_published_last(rt: HostRuntime) {
-    let mut channel = new_channel(rt.alloc()).expect(&rt, "an answer");
+    let mut channel = new_channel(&rt, rt.alloc());
     let mut publisher = Publisher::new(rt.alloc(), &channel).expect(&rt, "an answer");
     let mut old = publisher.watcher().expect(&rt, "an answer");
     assert_eq!(rt; old.read(), 0x01040000);

@@ -5,8 +5,7 @@ ghost use Rattle.std.specs.Prelude.{◌≡◌, ◌∷◌, []};
 use super::*;
 use std::sync::Wait;
 use tc_channel::{Event, Octets, ReleaseFault, TakeFault, TakeUnitFault};
-use tc_link::read_frame;
-use tc_station::{Brought, Desk, FreeGate, Job, Order, TakeUnitRefused, WorkList};
+use tc_station::{Brought, FreeGate, Job, Order, TakeUnitRefused, WorkList};
 
 // One unit was queued.
 const KEPT: Delivery = Delivery {
@@ -48,10 +47,7 @@ enum Step<'a> {
 
 fn ask(rt: &impl Abort, desk: &mut Desk, step: Step) {
     match step {
-        Step::Frame(octets, reply) => {
-            let frame = read_frame(octets).expect(rt, "a frame");
-            assert_eq!(rt; desk.frame(&frame), Ok(reply));
-        }
+        Step::Frame(octets, reply) => assert_eq!(rt; take_in(rt, desk, octets), reply),
         Step::Release(answer) => {
             assert_eq!(rt; desk.release(), answer);
         }
@@ -68,6 +64,16 @@ fn ask(rt: &impl Abort, desk: &mut Desk, step: Step) {
             assert_eq!(rt; watcher.read(), word);
         }
     }
+}
+
+// A desk of which these steps were asked.
+fn desk_after(rt: &impl Abort, alloc: Global, steps: &[Step<'_>]) -> Desk {
+    let settings = settings_with_a_map(alloc).expect(rt, "settings");
+    let mut desk = new_desk(rt, alloc, settings);
+    for step in steps {
+        ask(rt, &mut desk, *step);
+    }
+    desk
 }
 
 #[test]
@@ -94,11 +100,7 @@ fn units_from_a_desk(rt: HostRuntime) {
         Step::Take(5, TakeFault::Empty),
         Step::Word(0x01040601),
     ];
-    let settings = settings_with_a_map(alloc).expect(&rt, "settings");
-    let mut desk = Desk::new(alloc, settings).expect(&rt, "a desk");
-    for step in steps {
-        ask(&rt, &mut desk, step);
-    }
+    let desk = desk_after(&rt, alloc, &steps);
     let channel = desk.channel();
     assert_eq!(rt; channel.journal().len(), 7);
     assert_eq!(rt; channel.buffered(), 0);

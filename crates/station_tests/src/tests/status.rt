@@ -1,20 +1,13 @@
 use super::*;
-use tc_link::read_frame;
-use tc_station::{Brought, Desk};
+use tc_station::Brought;
 
 #[test]
 fn a_watcher_that_met_its_desk_reads_the_frame(rt: HostRuntime) {
-    let alloc = rt.alloc();
-    let mut desk = Desk::new(alloc, settings(alloc, 1).expect(&rt, "an answer")).expect(
-        &rt,
-        "an answer",
-    );
+    let settings = settings(rt.alloc(), 1).expect(&rt, "settings");
+    let mut desk = new_desk(&rt, rt.alloc(), settings);
     let mut watcher = desk.watcher().expect(&rt, "an answer");
     assert_eq!(rt; watcher.read(), 0x01040000);
-    let reply = desk
-        .frame(&read_frame(&FRAME).expect(&rt, "an answer"))
-        .expect(&rt, "an answer");
-    assert_eq!(rt; reply, BUFFERED);
+    assert_eq!(rt; take_in(&rt, &mut desk, &FRAME), BUFFERED);
     desk.meet(&mut watcher);
     assert_eq!(rt; watcher.read(), 0x01040001);
 }
@@ -22,17 +15,12 @@ fn a_watcher_that_met_its_desk_reads_the_frame(rt: HostRuntime) {
 // The second frame finds no room, and the release lets FARM-1 go on.
 #[test]
 fn each_answer_of_a_desk_is_published(rt: HostRuntime) {
-    let alloc = rt.alloc();
-    let mut desk = Desk::new(alloc, settings(alloc, 1).expect(&rt, "an answer")).expect(
-        &rt,
-        "an answer",
-    );
+    let settings = settings(rt.alloc(), 1).expect(&rt, "settings");
+    let mut desk = new_desk(&rt, rt.alloc(), settings);
     let mut watcher = desk.watcher().expect(&rt, "an answer");
-    desk.frame(&read_frame(&FRAME).expect(&rt, "an answer"))
-        .expect(&rt, "an answer");
+    take_in(&rt, &mut desk, &FRAME);
     assert_eq!(rt; watcher.read(), 0x01040001);
-    desk.frame(&read_frame(&NEXT).expect(&rt, "an answer"))
-        .expect(&rt, "an answer");
+    take_in(&rt, &mut desk, &NEXT);
     assert_eq!(rt; watcher.read(), 0x01041801);
     desk.release().expect(&rt, "an answer");
     assert_eq!(rt; watcher.read(), 0x01040801);

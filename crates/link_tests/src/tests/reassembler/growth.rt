@@ -67,6 +67,25 @@ fn new(rt: &(impl Abort + Print), alloc: Global) -> Reassembler {
     reassembler
 }
 
+// The unit that a field would end.
+fn asked(
+    rt: &(impl Abort + Print),
+    reassembler: &Reassembler,
+    field: &[u8],
+    call: &str,
+) -> Option<Vec<u8>> {
+    assert!(rt; !field.is_empty());
+    match reassembler.unit_after(Service::Bd, field) {
+        Ok(unit) => unit,
+        Err(NoMemory) => {
+            let _ = println!(rt; "refused: {call}");
+            reassembler
+                .unit_after(Service::Bd, field)
+                .expect(rt, "an answer")
+        }
+    }
+}
+
 // Takes a field, and checks the unit and the open run before and after.
 fn push(
     rt: &(impl Abort + Print),
@@ -153,17 +172,7 @@ fn growth_of_a_unit_asked_for(rt: HostRuntime) {
         (CONTINUING.as_slice(), None),
     ];
     for (field, expected) in units {
-        assert!(rt; !field.is_empty());
-        let unit = match reassembler.unit_after(Service::Bd, field) {
-            Ok(unit) => unit,
-            Err(NoMemory) => {
-                let _ = println!(rt; "refused: unit_after");
-                check_only_run(&rt, &reassembler, Some(&SHORT_RUN));
-                reassembler
-                    .unit_after(Service::Bd, field)
-                    .expect(&rt, "an answer")
-            }
-        };
+        let unit = asked(&rt, &reassembler, field, "unit_after");
         assert_eq!(rt; unit.as_deref(), expected);
         check_only_run(&rt, &reassembler, Some(&SHORT_RUN));
     }
@@ -206,31 +215,30 @@ fn growth_of_a_run_that_goes_on(rt: HostRuntime) {
     }
 }
 
+// Takes a field without a segment header.
+fn push_plain(
+    rt: &(impl Abort + Print),
+    reassembler: &mut Reassembler,
+    field: &[u8],
+) -> Option<Vec<u8>> {
+    assert!(rt; !field.is_empty());
+    match reassembler.push(Service::Bd, field) {
+        Ok(unit) => unit,
+        Err(NoMemory) => {
+            let _ = println!(rt; "refused: push, plain");
+            reassembler.push(Service::Bd, field).expect(rt, "an answer")
+        }
+    }
+}
+
 // A plain field is the unit of both calls, and what a first segment would open is no run.
 #[test]
 fn growth_of_a_plain_unit(rt: HostRuntime) {
     let mut reassembler = made(&rt, rt.alloc(), false);
     for field in [FIRST.as_slice(), LAST.as_slice()] {
-        assert!(rt; !field.is_empty());
-        let after = match reassembler.unit_after(Service::Bd, field) {
-            Ok(unit) => unit,
-            Err(NoMemory) => {
-                let _ = println!(rt; "refused: unit_after, plain");
-                reassembler
-                    .unit_after(Service::Bd, field)
-                    .expect(&rt, "an answer")
-            }
-        };
+        let after = asked(&rt, &reassembler, field, "unit_after, plain");
         assert_eq!(rt; after.as_deref(), Some(field));
-        let unit = match reassembler.push(Service::Bd, field) {
-            Ok(unit) => unit,
-            Err(NoMemory) => {
-                let _ = println!(rt; "refused: push, plain");
-                reassembler
-                    .push(Service::Bd, field)
-                    .expect(&rt, "an answer")
-            }
-        };
+        let unit = push_plain(&rt, &mut reassembler, field);
         assert_eq!(rt; unit.as_deref(), Some(field));
     }
 }

@@ -3,20 +3,35 @@
 use super::*;
 use std::alloc::AllocError;
 
+// A field that isn't empty ends this unit, or none, by both calls.
+fn check_field(
+    rt: &impl Abort,
+    reassembler: &mut Reassembler,
+    service: Service,
+    field: &[u8],
+    expected: Option<&[u8]>,
+) {
+    assert!(rt; !field.is_empty());
+    let after = reassembler.unit_after(service, field);
+    assert_eq!(rt; after.expect(rt, "an answer").as_deref(), expected);
+    let unit = reassembler.push(service, field);
+    assert_eq!(rt; unit.expect(rt, "an answer").as_deref(), expected);
+}
+
+// Takes a field that isn't empty without making its unit.
+fn advance(rt: &impl Abort, reassembler: &mut Reassembler, service: Service, field: &[u8]) {
+    assert!(rt; !field.is_empty());
+    reassembler.advance(service, field).expect(rt, "an answer")
+}
+
 // On a new plain reassembler each field ends the unit beside it, or none, by both calls and of either service.
 fn check_plain(rt: &impl Abort, alloc: Global, rows: &[(&[u8], Option<&[u8]>)]) {
     let mut reassembler = Reassembler::new(alloc, false).expect(rt, "an answer");
     assert!(rt; !reassembler.segmented());
     for (field, expected) in rows {
         for service in [Service::Ad, Service::Bd] {
-            assert!(rt; !field.is_empty());
-            let after = reassembler
-                .unit_after(service, field)
-                .expect(rt, "an answer");
-            assert_eq!(rt; after.as_deref(), *expected);
-            let unit = reassembler.push(service, field).expect(rt, "an answer");
-            assert_eq!(rt; unit.as_deref(), *expected);
-            reassembler.advance(service, field).expect(rt, "an answer");
+            check_field(rt, &mut reassembler, service, field, *expected);
+            advance(rt, &mut reassembler, service, field);
         }
     }
     assert!(rt; !reassembler.segmented());
