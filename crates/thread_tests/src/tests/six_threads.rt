@@ -231,10 +231,9 @@ fn settings_of_the_channel(alloc: Global) -> Result<Settings, AllocError> {
         apid: 5,
         capacity: 256,
     };
-    Ok(Settings {
-        queues: Items::from(Vec::from_slice(alloc, &[queue])?),
-        ..settings(alloc, 1, 64)?
-    })
+    let mut settings = settings(alloc, 1, 64)?;
+    settings.queues = Items::from(Vec::from_slice(alloc, &[queue])?);
+    Ok(settings)
 }
 
 fn new_station(rt: &impl Abort, alloc: Global) -> Station {

@@ -15,11 +15,10 @@ fn with_maps(alloc: Global, segmented: bool, maps: &[(u8, u16)]) -> Result<Setti
     for &(map, capacity) in maps {
         made.push(MapSetting { map, capacity })?;
     }
-    Ok(Settings {
-        segmented,
-        maps: Items::from(made),
-        ..settings(alloc, 0)?
-    })
+    let mut settings = settings(alloc, 0)?;
+    settings.segmented = segmented;
+    settings.maps = Items::from(made);
+    Ok(settings)
 }
 
 fn play_with(rt: &impl Abort, alloc: Global, maps: &[(u8, u16)], steps: &[Step]) {

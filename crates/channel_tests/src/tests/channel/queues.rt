@@ -19,10 +19,9 @@ fn many_queues(alloc: Global, count: u16) -> Result<Settings, AllocError> {
             capacity: 1,
         })?;
     }
-    Ok(Settings {
-        queues: Items::from(queues),
-        ..settings(alloc, 0)?
-    })
+    let mut settings = settings(alloc, 0)?;
+    settings.queues = Items::from(queues);
+    Ok(settings)
 }
 
 // The packet of seven octets of this type and APID, whose data are this octet.
@@ -121,10 +120,9 @@ fn two_queues(alloc: Global) -> Result<Settings, AllocError> {
         apid,
         capacity: 256,
     });
-    Ok(Settings {
-        queues: Items::from(Vec::from_slice(alloc, &queues)?),
-        ..settings(alloc, 0)?
-    })
+    let mut settings = settings(alloc, 0)?;
+    settings.queues = Items::from(Vec::from_slice(alloc, &queues)?);
+    Ok(settings)
 }
 
 // More packets than one frame can have, and a unit of one packet after them.
