@@ -67,18 +67,19 @@ fn new(rt: &(impl Abort + Print), alloc: Global) -> Reassembler {
     reassembler
 }
 
-// The unit that a field would end.
+// The unit that a field would end, beside this open run.
 fn asked(
     rt: &(impl Abort + Print),
     reassembler: &Reassembler,
     field: &[u8],
-    call: &str,
+    run: Option<&[u8]>,
 ) -> Option<Vec<u8>> {
     assert!(rt; !field.is_empty());
     match reassembler.unit_after(Service::Bd, field) {
         Ok(unit) => unit,
         Err(NoMemory) => {
-            let _ = println!(rt; "refused: {call}");
+            let _ = println!(rt; "refused: unit_after");
+            check_only_run(rt, reassembler, run);
             reassembler
                 .unit_after(Service::Bd, field)
                 .expect(rt, "an answer")
@@ -172,7 +173,7 @@ fn growth_of_a_unit_asked_for(rt: HostRuntime) {
         (CONTINUING.as_slice(), None),
     ];
     for (field, expected) in units {
-        let unit = asked(&rt, &reassembler, field, "unit_after");
+        let unit = asked(&rt, &reassembler, field, Some(&SHORT_RUN));
         assert_eq!(rt; unit.as_deref(), expected);
         check_only_run(&rt, &reassembler, Some(&SHORT_RUN));
     }
@@ -215,6 +216,24 @@ fn growth_of_a_run_that_goes_on(rt: HostRuntime) {
     }
 }
 
+// The unit that a field without a segment header would end.
+fn asked_plain(
+    rt: &(impl Abort + Print),
+    reassembler: &Reassembler,
+    field: &[u8],
+) -> Option<Vec<u8>> {
+    assert!(rt; !field.is_empty());
+    match reassembler.unit_after(Service::Bd, field) {
+        Ok(unit) => unit,
+        Err(NoMemory) => {
+            let _ = println!(rt; "refused: unit_after, plain");
+            reassembler
+                .unit_after(Service::Bd, field)
+                .expect(rt, "an answer")
+        }
+    }
+}
+
 // Takes a field without a segment header.
 fn push_plain(
     rt: &(impl Abort + Print),
@@ -236,7 +255,7 @@ fn push_plain(
 fn growth_of_a_plain_unit(rt: HostRuntime) {
     let mut reassembler = made(&rt, rt.alloc(), false);
     for field in [FIRST.as_slice(), LAST.as_slice()] {
-        let after = asked(&rt, &reassembler, field, "unit_after, plain");
+        let after = asked_plain(&rt, &reassembler, field);
         assert_eq!(rt; after.as_deref(), Some(field));
         let unit = push_plain(&rt, &mut reassembler, field);
         assert_eq!(rt; unit.as_deref(), Some(field));
