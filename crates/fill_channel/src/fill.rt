@@ -14,13 +14,17 @@ pub(crate) fn print<R: AllocGlobal + Print>(rt: &R, plan: &Plan) -> Result<()> {
     println!(rt; "bound {}", settings.memory_bound())?;
     let mut filler: Filler<Unkept> = Filler::new(rt.alloc(), settings)?;
     println!(rt; "made")?;
-    if plan.segmented {
-        fill_by_segments(&mut filler, plan)?;
-    } else {
-        fill_plain(&mut filler, plan)?;
-    }
+    fill(&mut filler, plan)?;
     println!(rt; "full")?;
     Ok(())
+}
+
+fn fill<J: Journal>(filler: &mut Filler<J>, plan: &Plan) -> Result<()> {
+    if plan.segmented {
+        fill_by_segments(filler, plan)
+    } else {
+        fill_plain(filler, plan)
+    }
 }
 
 // Fills the queues and the buffer of a plain channel.

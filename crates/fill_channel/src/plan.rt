@@ -1,7 +1,7 @@
 //! The channels that are filled.
 
 use anyhow::Result;
-use std::alloc::Global;
+use std::alloc::{AllocError, Global};
 use tc_channel::{Items, MapSetting, QueueSetting, Settings};
 
 /// A channel: how many data fields its buffer holds, how many queues it has with so many packets each, how many chosen MAPs with so
@@ -59,20 +59,8 @@ pub(crate) const CALLED: Plan = Plan {
 impl Plan {
     /// The settings of such a channel, virtual channel 1 with a window of 10 and V(R) 0 first.
     pub(crate) fn settings(&self, alloc: Global) -> Result<Settings> {
-        let mut queues = Vec::with_capacity(alloc, usize::from(self.queues))?;
-        for apid in 0..self.queues {
-            queues.push(QueueSetting {
-                apid: u16::from(apid),
-                capacity: self.packets,
-            })?;
-        }
-        let mut maps = Vec::with_capacity(alloc, usize::from(self.maps))?;
-        for map in 0..self.maps {
-            maps.push(MapSetting {
-                map,
-                capacity: self.units,
-            })?;
-        }
+        let queues = self.queue_settings(alloc)?;
+        let maps = self.map_settings(alloc)?;
         Ok(Settings {
             vcid: 1,
             width: 10,
@@ -82,5 +70,27 @@ impl Plan {
             queues: Items::from(queues),
             maps: Items::from(maps),
         })
+    }
+
+    fn queue_settings(&self, alloc: Global) -> Result<Vec<QueueSetting>, AllocError> {
+        let mut queues = Vec::with_capacity(alloc, usize::from(self.queues))?;
+        for apid in 0..self.queues {
+            queues.push(QueueSetting {
+                apid: u16::from(apid),
+                capacity: self.packets,
+            })?;
+        }
+        Ok(queues)
+    }
+
+    fn map_settings(&self, alloc: Global) -> Result<Vec<MapSetting>, AllocError> {
+        let mut maps = Vec::with_capacity(alloc, usize::from(self.maps))?;
+        for map in 0..self.maps {
+            maps.push(MapSetting {
+                map,
+                capacity: self.units,
+            })?;
+        }
+        Ok(maps)
     }
 }
