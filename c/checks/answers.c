@@ -1,5 +1,5 @@
 /*
- * Answers lines on standard input by the calls for C, in the words of the program tcrx, for tools/check_c.
+ * Answers lines on standard input by the calls for C, in the words of the program tcrx, for checks/c.
  *
  *   answers script SCID    does the lines `channel`, `frame`, `release` and `clcw` of a script, with a count of the data fields
  *                          in each channel's buffer, and skips all others; it tells no delivery

@@ -1,6 +1,6 @@
 /*
  * Does a script on standard input through channels that the library holds, one for each `channel` line, and prints its answers
- * and its final report in the words of the program tcrx, for tools/check_c.
+ * and its final report in the words of the program tcrx, for checks/c.
  *
  *   channels SCID    for the spacecraft with this id
  */

@@ -44,7 +44,7 @@ fn print<R: Wait + AllocGlobal + Print>(rt: &R) -> Result<()> {
     Ok(())
 }
 
-// What stands between the two marks is what README shows, which tools/check_readme compares.
+// What stands between the two marks is what README shows, which checks/pages compares.
 fn receive(rt: &impl Wait, alloc: Global, octets: &[u8]) -> Result<Seen> {
     // README: from here
     let queues = Items::from(vec![in alloc;

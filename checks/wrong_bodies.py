@@ -1,7 +1,7 @@
 """The crates of the repository with the edits of their must-fail, and what a copy of a crate has in it that tries some of them.
 
 A wrong body stands in such a copy beside the right one, as a function of its own, or instead of it; the right bodies that no edit
-changes are given away. tools/refuse_edits tells why, and tries them.
+changes are given away. checks/refuse_edits tells why, and tries them.
 """
 import re
 from dataclasses import dataclass, field, replace
