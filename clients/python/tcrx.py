@@ -9,7 +9,7 @@
             ...
     print(receiver.final[1].events)
 
-What the lines and answers mean stands in docs/SCRIPTS.md, how a receiver is put on a link in docs/BENCH.md.
+What the lines and answers mean is in docs/reference/scripts.md, how a receiver is put on a link in docs/howto/bench.md.
 
 - What a receiver refuses is an answer, `Refused`, with the reason. It is false, and each other answer is true.
 - What leaves a call without an answer is an exception, a `Fault`. After a `BadLine` or `NotSetUp` the receiver goes on as it
@@ -89,7 +89,7 @@ class State(enum.Enum):
 
 
 class Refusal(enum.Enum):
-    """Why an operation can't be done. docs/SCRIPTS.md says what to do about each."""
+    """Why an operation can't be done. docs/reference/scripts.md says what to do about each."""
 
     SHORT = "short"
     VERSION = "version"
@@ -270,7 +270,7 @@ class NotStarted(Fault):
 
 
 class BadLine(Fault):
-    """A line was answered `bad`; the receiver goes on as it was. docs/SCRIPTS.md has the reasons."""
+    """A line was answered `bad`; the receiver goes on as it was. docs/reference/scripts.md has the reasons."""
 
     def __init__(self, line: str, reason: str) -> None:
         super().__init__(f"{reason}: {shorten(line)}")

@@ -1,4 +1,4 @@
-//! A station, an operator and a watcher at work on one frame: the example that README shows.
+//! A station, an operator and a watcher at work on one frame: the example of the page on the library, docs/howto/library.md.
 //!
 //! It prints what became of the frame, how long the packet is that it brought, and the CLCW after it.
 #![tactic(auto)]
@@ -44,9 +44,9 @@ fn print<R: Wait + AllocGlobal + Print>(rt: &R) -> Result<()> {
     Ok(())
 }
 
-// What stands between the two marks is what README shows, which checks/pages compares.
+// The page shows what is between the two marks, and checks/pages compares them.
 fn receive(rt: &impl Wait, alloc: Global, octets: &[u8]) -> Result<Seen> {
-    // README: from here
+    // the page: from here
     let queues = Items::from(vec![in alloc;
         QueueSetting {
             apid: 5,
@@ -76,7 +76,7 @@ fn receive(rt: &impl Wait, alloc: Global, octets: &[u8]) -> Result<Seen> {
             no_bit_lock: false,
         },
     );
-    // README: to here
+    // the page: to here
     Ok(Seen {
         accepted: brought.reply.act.accepted,
         queued: delivery.queued,
