@@ -38,6 +38,9 @@ from pathlib import Path
 from types import TracebackType
 from typing import BinaryIO, Callable, Dict, FrozenSet, Iterator, List, Match, NoReturn, Optional, Tuple, Type, TypeVar, Union
 
+# That of the programs, and of the newest heading of CHANGELOG.md.
+__version__ = "0.1.0"
+
 __all__ = ["BadLine", "Brought", "Clcw", "Delivery", "Ended", "Event", "Fault", "Final", "NotSetUp", "NotStarted", "Outcome", "Packet",
            "Receiver", "Refusal", "Refused", "Released", "Report", "State", "Unexpected", "Unit"]
 

@@ -1,6 +1,6 @@
 //! What help tells beside the options.
 
-/// The version of the program, which `tcrx` tells, too.
+/// The version, which is that of CHANGELOG.md's newest heading; `checks/launcher` compares each place that says it.
 pub(crate) const VERSION: &str = "0.1.0";
 
 /// The lines with their limits, the statuses, and an example.

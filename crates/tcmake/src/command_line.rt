@@ -5,7 +5,7 @@ use std::alloc::Global;
 use std::convert::AsStr;
 use tc_make::Ending;
 
-/// The version of the program, which `tcrx` tells, too.
+/// The version, which is that of CHANGELOG.md's newest heading; `checks/launcher` compares each place that says it.
 const VERSION: &str = "0.1.0";
 
 /// How the frames end that the words ask for, the program's name first. An error is what to print: help, the version, or why

@@ -1,6 +1,6 @@
 //! What help tells beside the commands.
 
-/// The version of the program.
+/// The version, which is that of CHANGELOG.md's newest heading; `checks/launcher` compares each place that says it.
 pub(crate) const VERSION: &str = "0.1.0";
 
 /// The lines of a script with their limits, the statuses, and an example.
