@@ -1,7 +1,8 @@
-"""The crates of the repository with the edits of their must-fail, and what a copy of a crate has in it that tries some of them.
+"""The crates of the repository with the edits of their must-fail/ and wrong/, and what a copy of a crate has in it that tries
+some of them.
 
-A wrong body stands in such a copy beside the right one, as a function of its own, or instead of it; the right bodies that no edit
-changes are given away. checks/refuse_edits tells why, and tries them.
+A wrong body is added to such a copy next to the right one, as a function of its own, or replaces it; the right bodies that no
+edit changes are given away. checks/refuse_edits says why, and tries them.
 """
 import re
 from dataclasses import dataclass, field, replace
@@ -20,8 +21,14 @@ CALL = re.compile(r"\b([a-z_]\w*)(?:::<[^>]*>)?\(|::([a-z_]\w*)\b")
 # What keeps a function from a body that calls what ensures the false: a const one can't, one of a cycle of calls has a measure of
 # its own in its proofs, and one whose type is told by its body has none without it.
 KEEPS_ITS_BODY = re.compile(r"\bconst fn\b|#\[(?:cycle|measure)\b|-> [^{]*\bimpl\b")
+# The folders of a crate with edits: those that `rt ci` tries one by one, and those that are tried many at once.
+MUST_FAIL, WRONG = "must-fail", "wrong"
 # The line of an edit that names the clause of its function that it turns.
 TURNS = "# turns: "
+# The line below a 'new:' line that has the same exits and the right value.
+ALIKE = "# alike: "
+# What makes a path of its own through a body: a `?`, a branch, an arm of a match, a jump.
+EXIT = re.compile(r"\?(?=[;,.)\]}\s]|$)|\b(?:return|if|else|break|continue|matches)\b|=>|&&|\|\|")
 CLAUSE = re.compile(r"^ +(?:requires|ensures|ghost)\*?(?: (\w+))? \{|^ +ghost ")
 # An answer of what a function ensures, by the beginning of its type.
 ANSWER = re.compile(r"^(?:pub |abbrev )*(returns[\w-]*) :", re.M)
@@ -104,19 +111,44 @@ class Function:
 
 @dataclass
 class Edit:
-    """A file of must-fail: what it puts in place of which texts, each of which stands in its file just once; and the function
-    whose body is all that it changes, where it is one; and the clause of the function that it says it turns, if it says so."""
+    """An edit of must-fail/ or wrong/: what it puts in place of which texts, each of which is in its file just once; what has the
+    same exits and the right value, by the place of the text, if it says so; the function whose body is all that it changes, where
+    it is one; and the clause of the function that it turns, if it says so. Or what must not be refused in the form of an edit:
+    the `right` body, or the one that is `alike`."""
 
     crate: str
     name: str
+    folder: str
     changes: list[tuple[str, str, str]] = field(default_factory=list)
+    alikes: dict[int, str] = field(default_factory=dict)
     function: Function | None = None
     turned: str = ""
-    is_right: bool = False
+    kind: str = "wrong"
 
     def right(self) -> "Edit":
-        """What leaves each text as it is, and so must not be refused in the form in which the edit is."""
-        return replace(self, changes=[(file, old, old) for file, old, _ in self.changes], is_right=True)
+        """What leaves each text as it is."""
+        return replace(self, changes=[(file, old, old) for file, old, _ in self.changes], kind="right")
+
+    def alike(self) -> "Edit":
+        """What has the exits of the edit, and the right values."""
+        changes = [(file, old, self.alikes.get(at, new)) for at, (file, old, new) in enumerate(self.changes)]
+        return replace(self, changes=changes, kind="alike")
+
+    @property
+    def is_right(self) -> bool:
+        """Whether it must not be refused."""
+        return self.kind != "wrong"
+
+    @property
+    def adds_exit(self) -> bool:
+        """Whether it has more exits than what it replaces, as far as the text shows."""
+        return sum(len(EXIT.findall(new)) - len(EXIT.findall(old)) for _, old, new in self.changes) > 0
+
+    @property
+    def needs_false_goal(self) -> bool:
+        """Whether a goal that is merely not proved is no refusal: it may be that of the exit that was added, which no answer names,
+        and nothing shows that it would be proved if the value were right."""
+        return self.kind == "wrong" and self.adds_exit and not self.alikes
 
     @property
     def modules(self) -> list[str]:
@@ -125,8 +157,17 @@ class Edit:
 
     @property
     def title(self) -> str:
-        """The name by which the edit is told."""
-        return f"{self.crate}/{self.name}"
+        """The name by which the edit is reported."""
+        return f"{self.crate}/{self.name}" + (f" ({self.kind})" if self.is_right else "")
+
+    @property
+    def place(self) -> str:
+        """The function that it changes, by its file and type, or the file."""
+        if not self.function:
+            return self.changes[0][0]
+        of_a_trait, of_a_type = (it.match(self.function.block) for it in (OF_A_TRAIT, OF_A_TYPE))
+        owner = of_a_trait[2] if of_a_trait else of_a_type[1] if of_a_type else ""
+        return f"{self.function.file} {owner + '::' if owner else ''}{self.function.name}"
 
 
 @dataclass
@@ -189,11 +230,13 @@ def of_one_clause(answers: str, clause: str) -> str:
 class Crate:
     """A crate of the repository, by its line of crates.txt."""
 
-    def __init__(self, name: str, labels: list[str], named: list[str]):
-        self.name = name
+    def __init__(self, line: str):
+        before, _, after = line.partition(":")
+        self.line = line
+        self.name, *labels = before.split()
         self.is_static = "staticlib" in labels
-        self.named = named
-        self.folder = TOP / "crates" / name
+        self.named = after.split()
+        self.folder = TOP / "crates" / self.name
         self.root = "src/main.rt" if (self.folder / "src/main.rt").is_file() else "src/lib.rt"
 
     @cached_property
@@ -238,16 +281,21 @@ class Crate:
         """Whether goals of the function have answers of their own, which are tried whatever it calls."""
         return any(function.answers.match(it) for it in self.texts)
 
+    @property
+    def has_edits(self) -> bool:
+        """Whether it has edits."""
+        return any((self.folder / it).is_dir() for it in (MUST_FAIL, WRONG))
+
     def edits(self) -> list[Edit]:
-        """Reads its must-fail."""
-        paths = sorted((self.folder / "must-fail").iterdir())
-        return [self.read_edit(it) for it in paths if it.suffix != ".md"]
+        """Reads its edits."""
+        folders = [self.folder / it for it in (MUST_FAIL, WRONG) if (self.folder / it).is_dir()]
+        return [self.read_edit(path) for it in folders for path in sorted(it.iterdir()) if path.suffix != ".md"]
 
     def read_edit(self, path: Path) -> Edit:
-        """Reads a file of must-fail."""
+        """Reads an edit."""
         if path.suffix != ".edit" or not path.is_file():
             raise Fault(f"{path.name}: its name doesn't end in .edit")
-        edit, file, old = Edit(self.name, path.stem), "", ""
+        edit, file, old = Edit(self.name, path.stem, path.parent.name), "", ""
         for line in path.read_text(encoding="utf-8").split("\n"):
             if line.startswith("file: "):
                 file = line.removeprefix("file: ").strip()
@@ -257,6 +305,8 @@ class Crate:
                 old = line.removeprefix("old: ")
             elif line.startswith("new:"):
                 edit.changes.append((file, old, line.removeprefix("new:").removeprefix(" ")))
+            elif line.startswith(ALIKE) and edit.changes:
+                edit.alikes[len(edit.changes) - 1] = line.removeprefix(ALIKE)
         for file, old, _ in edit.changes:
             if (found := self.texts.get(file, "").count(old)) != 1:
                 raise Fault(f"{path.name}: an 'old:' text stands in {file} {found} times, and not once")
@@ -341,7 +391,7 @@ class Crate:
         trial, added = self.given([]), {}
         for number, edit in enumerate(edits):
             right = edit.function
-            name = f"{right.name}_{'right' if edit.is_right else 'wrong'}_{number}"
+            name = f"{right.name}_{edit.kind}_{number}"
             wrong = self.edited([edit], {})[right.file].split("\n")[right.first : right.last + 1]
             wrong[: right.body - right.first] = self.head_of(edit)
             wrong = re.sub(rf"\bfn {right.name}\b", f"fn {name}", "\n".join(wrong), count=1)
@@ -437,5 +487,5 @@ class Crate:
 def read_crates() -> dict[str, Crate]:
     """The crates of the repository, in the order of crates.txt."""
     lines = [line.split("#")[0] for line in (TOP / "crates.txt").read_text(encoding="utf-8").splitlines()]
-    parts = [line.partition(":") for line in lines if ":" in line]
-    return {before.split()[0]: Crate(before.split()[0], before.split()[1:], after.split()) for before, _, after in parts}
+    crates = [Crate(line.strip()) for line in lines if ":" in line]
+    return {it.name: it for it in crates}

@@ -1,0 +1,86 @@
+"""What a check of a crate with edits in it printed, and what that says of each edit. checks/refuse_edits starts the checks."""
+import re
+
+from wrong_bodies import NO_GOAL, Edit, Function
+
+ONLY_CALLS = re.compile(r"(?:; )?it calls .*?, which (?:is|are) not proved")
+ONLY = re.compile(r"^only=(\d+) proved=(\d+)", re.M)
+NAMES_ALONE = re.compile(
+    r"has no field|is not in scope|has no `|was not admitted|is no name|operand is missing|cannot continue"
+)
+# What the check says of a goal that it found false, and not merely unproved.
+IS_FALSE = "the facts known there allow values at which this goal is false"
+
+
+def is_judged(printed: str) -> bool:
+    """Whether the check came as far as to judge the proofs, and doesn't hold all of them for proved."""
+    only = ONLY.search(printed)
+    return only[1] != only[2] if only else bool(re.search(r"^logic=not-proved", printed, re.M))
+
+
+def is_proved(printed: str) -> bool:
+    """Whether the check holds all that it looked at for proved."""
+    only = ONLY.search(printed)
+    return only[1] == only[2] != "0" if only else bool(re.search(r"^logic=proved", printed, re.M))
+
+
+def unproved(printed: str) -> set[str]:
+    """The names of the functions that the check didn't prove, each without its path."""
+    return {it.split("::")[-1] for it in re.findall(r"^fn (\S+): (?:not proved|no proof)", printed, re.M)}
+
+
+def lacks(printed: str, function: str) -> list[str]:
+    """What the check says is wrong with functions of this name, a pattern, except that they call one which isn't proved."""
+    told = re.findall(rf"^fn {function}: (?:(not proved)|no proof: (.*))", printed, re.M)
+    return [it for it in (one or ONLY_CALLS.sub("", other) for one, other in told) if it]
+
+
+def messages(printed: str) -> list[str]:
+    """The messages of the check, each in one line: what goes on in further lines, further in, is one message."""
+    return re.sub(r"\n {2,}(?=\S)", " ", printed).split("\n")
+
+
+def reason(printed: str, edit: Edit, function: Function) -> str | None:
+    """What the check says of a goal or an answer of the edited function itself that isn't proved."""
+    inside = "|".join("".join(f"{word}::" for word in it) for it in function.modules)
+    owner = rf"{function.owner}\w*::" if function.owner else r"(?:[^:\s]+::)?"
+    if not lacks(printed, rf"{edit.crate}::(?:{inside}){owner}{function.name}"):
+        return None
+    for line in messages(printed):
+        goal = re.match(r"note: (src/\S+?):(\d+):\d+: (?:it is not proved that|`search` found no proof)", line)
+        if goal and goal[1] == function.file and function.first < int(goal[2]) <= function.last + 1:
+            if IS_FALSE in line or not edit.needs_false_goal:
+                return line.removeprefix("note: ")
+        answer = re.match(r"(?:\./)?proofs/(\S+)/\w+\.antt:\d+:\d+: error: (.*)", line)
+        if answer and not NAMES_ALONE.search(answer[2]) and f"`{NO_GOAL}`" not in answer[2]:
+            if function.is_answered_in(answer[1]):
+                return line
+    return None
+
+
+def reason_alone(printed: str, edit: Edit) -> str | None:
+    """What the check of a crate with one edit says that isn't proved. A text that it can't read is no refusal."""
+    lines = messages(printed)
+    if any(re.match(r"(\./)?(src|specs)/\S+: error: ", it) and NAMES_ALONE.search(it) for it in lines):
+        return None
+    told = [it for it in lines if re.match(r"note: src/\S+: it is not proved that", it)]
+    told += [it for it in lines if re.match(r"(\./)?\S+:\d+:\d+: error: ", it) and not NAMES_ALONE.search(it)]
+    if edit.needs_false_goal:
+        told = [it for it in told if IS_FALSE in it or re.match(r"(\./)?proofs/", it)]
+        return told[0].removeprefix("note: ") if told else None
+    told += [it for it in lines if re.match(r"(note: )?src/\S+:\d+:\d+:", it)]
+    told += [it for it in lacks(printed, r"\S+") if it != "not proved"]
+    return told[0].removeprefix("note: ") if told else None
+
+
+def unread(printed: str, functions: list[tuple[Edit, Function | None]]) -> list[tuple[Edit, str]]:
+    """The edits at which a text could not be compiled, with what is said of each. Where one can't, the check ends before it asks
+    the prover, after a few seconds."""
+    found = []
+    for line in messages(printed):
+        fault = re.match(r"(?:\./)?(src/\S+?):(\d+):\d+: error\[", line)
+        for edit, function in functions if fault else []:
+            is_here = function and function.file == fault[1] and function.first < int(fault[2]) <= function.last + 1
+            if is_here and edit not in [it for it, _ in found]:
+                found.append((edit, line))
+    return found
