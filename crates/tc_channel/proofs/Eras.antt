@@ -1,7 +1,7 @@
 -- Frames that are accepted after V(R) was set have consecutive numbers.
-use Rattle.std.proofs.Common.{◌≡◌, ◌≢◌, ℕ, zero, suc, ◌+◌, ◌%◌, Bool, true, false, cond, List, [], ◌∷◌, ◌++◌, length, take, drop, Option, Some, None, refl, sym, ap, subst, ◌∙◌, inl, inr, arith, append_assoc}
+use Rattle.std.proofs.Common.{◌≡◌, ◌≢◌, ℕ, zero, suc, ◌+◌, ◌-◌, ◌%◌, Bool, true, false, cond, List, [], ◌∷◌, ◌++◌, length, take, drop, Option, Some, None, refl, sym, ap, subst, ◌∙◌, inl, inr, arith, append_assoc}
 use Rattle.std.specs.Prelude.{slice_get, unwrap_or}
-use Rattle.std.proofs.lemmas.List.{append-nil, length-append}
+use Rattle.std.proofs.lemmas.List.{append-nil, length-append, length-drop}
 use Rattle.std.proofs.Math.Seq.{drop-append_seam}
 use Rattle.std.proofs.lemmas.Bool.Decides.{eqb_tells}
 use Rattle.tc_link.specs.declared.Report.{Report}
@@ -19,7 +19,7 @@ use Rattle.tc_channel.specs.declared.event.Event.{Event}
 use Rattle.tc_channel.specs.declared.event.Event.TheVariants.{Frame, Release, Take, TakeUnit}
 use Rattle.tc_channel.specs.ChannelState.{ChannelState, Accepted, has_room}
 use Rattle.tc_channel.specs.Run.{step, row_of, kept, after_frame, passed_on, run_from, run, IsLawful}
-use Rattle.tc_channel.specs.Era.{set_at, set_by, Starts, NoneSets, IsEra, accepted_since, CountsUp, CountsUpInItsEra}
+use Rattle.tc_channel.specs.Era.{set_at, set_by, Starts, NoneSets, IsEra, accepted_since, CountsUp, CountsUpInItsEra, IsOfSender, ComesFrom}
 use Rattle.tc_channel.specs.Settings.{IsAllowed}
 use Rattle.tc_channel.proofs.Filled.{AreFilled, filled-drop, state-filled}
 use Rattle.tc_channel.proofs.Small.{vr-below}
@@ -272,3 +272,101 @@ era-on c past (e ∷ future) has = subst (HasEra c) (append_assoc past (e ∷ []
 
 pub each-era : (c : Settings) (journal : List Event) → HasEra c journal
 each-era c journal = era-on c [] journal ([], [], c.first, record { parts = refl; starts = inl (refl, refl); last = λ i e q. absurd cc })
+
+-- what was sent is accepted once and in order
+
+-- the fields are those that were sent from number n on
+abbrev AreSent : (ℕ → List ℕ) → ℕ → List Accepted → Type 0
+AreSent sent n [] = Unit {0}
+AreSent sent n (a ∷ accepted) = (a.field ≡ sent n) × AreSent sent (n + 1) accepted
+
+AreSent-append : (sent : ℕ → List ℕ) (n : ℕ) (xs ys : List Accepted) → AreSent sent n xs → AreSent sent (n + length xs) ys → AreSent sent n (xs ++ ys)
+AreSent-append sent n [] ys h k = subst (λ m. AreSent sent m ys) (omega arith) k
+AreSent-append sent n (a ∷ xs) ys h k = (h.0, AreSent-append sent (n + 1) xs ys h.1 (subst (λ m. AreSent sent m ys) (omega arith) k))
+
+sent-at : (sent : ℕ → List ℕ) (n : ℕ) (xs : List Accepted) → AreSent sent n xs → (i : ℕ) (a : Accepted) → slice_get xs i ≡ Some a → a.field ≡ sent (n + i)
+sent-at sent n [] h i a e = absurd cc
+sent-at sent n (b ∷ xs) h zero a e = let q : b ≡ a = cc in rw (← q) (h.0 ∙ ap sent (omega arith))
+sent-at sent n (b ∷ xs) h (suc i) a e = sent-at sent (n + 1) xs h.1 i a e ∙ ap sent (omega arith)
+
+-- only Type-AD frames come by E1
+not-ad : (o : Option Command) (width vr : ℕ) (room : Bool) → frame_row width vr (control_kind o) room ≡ E1 → ⊥
+not-ad o width vr room e = no_command o width vr room e
+
+flags-at_E1 : (width vr ns : ℕ) (bypass control room : Bool) (field : List ℕ) → frame_row width vr (kind_by bypass control ns field) room ≡ E1 → (bypass ≡ false) × (control ≡ false)
+flags-at_E1 width vr ns false false room field e = (refl, refl)
+flags-at_E1 width vr ns true false room field e = absurd cc
+flags-at_E1 width vr ns true true room field e = absurd (no_command (command_of field) width vr room e)
+flags-at_E1 width vr ns false true room field e = absurd cc
+
+-- later goes on from b, where n frames of the sender were accepted, with the next of them
+record Serves (sent : ℕ → List ℕ) (x n : ℕ) (b later : ChannelState) : Type 0 where
+  more : List Accepted
+  grown : later.accepted ≡ b.accepted ++ more
+  fields : AreSent sent n more
+  vr : later.report.vr % 256 ≡ (x + (n + length more)) % 256
+
+quiet : (sent : ℕ → List ℕ) (x n : ℕ) (b later : ChannelState) → b.report.vr % 256 ≡ (x + n) % 256 → later.accepted ≡ b.accepted → later.report.vr ≡ b.report.vr → Serves sent x n b later
+quiet sent x n b later v same vr = record { more = []; grown = same ∙ sym (append-nil b.accepted); fields = tt; vr = rw vr (omega arith) }
+
+other-serves : (sent : ℕ → List ℕ) (x n : ℕ) (b : ChannelState) (octets : List ℕ) (row : Row) → b.report.vr % 256 ≡ (x + n) % 256 → (row ≡ E1 → b.report.state ≢ S1) → set_at row b.report.state ≡ None
+    → Serves sent x n b (after_frame row octets b)
+other-serves sent x n b octets row v other none =
+    quiet sent x n b (after_frame row octets b) v
+    (accepted-kept row (accepts row b.report) octets b (only_S1 row b.report.state other))
+    (vr-kept row b.report.state b.report none other)
+
+frame-serves : (c : Settings) (sent : ℕ → List ℕ) (x n : ℕ) (b : ChannelState) (octets : List ℕ) (row : Row) (st : State) → row_of c b octets ≡ row → b.report.state ≡ st → set_at row st ≡ None
+    → b.report.vr % 256 ≡ (x + n) % 256 → IsOfSender x sent n (Frame octets) → Serves sent x n b (after_frame row octets b)
+frame-serves c sent x n b octets E1 S1 e s none v from =
+    let h = header_of octets in
+    let flags = flags-at_E1 c.width b.report.vr h.ns h.bypass h.control (has_room c b) (drop 5 octets) e in
+    let ns : h.ns ≡ b.report.vr = number-at_E1 c.width b.report.vr h.ns h.bypass h.control (has_room c b) (drop 5 octets) e in
+    let is = from flags.0 flags.1 in
+    let same : is.number ≡ n = (let a = is.ns in let o = is.not_old in let w = is.not_new in omega arith) in
+    rw s (record {
+      more = record { ns = h.ns; field = drop 5 octets } ∷ [];
+      grown = refl;
+      fields = (is.field ∙ ap sent same, tt);
+      vr = omega arith;
+    })
+frame-serves c sent x n b octets E1 S2 e s none v from = other-serves sent x n b octets E1 v (λ _ q. cc (s, q)) (subst (λ (t : State). set_at E1 t ≡ None) (sym s) none)
+frame-serves c sent x n b octets E1 S3 e s none v from = other-serves sent x n b octets E1 v (λ _ q. cc (s, q)) (subst (λ (t : State). set_at E1 t ≡ None) (sym s) none)
+frame-serves c sent x n b octets row st e s none v from = other-serves sent x n b octets row v (λ q. absurd cc) (subst (λ (t : State). set_at row t ≡ None) (sym s) none)
+
+step-serves : (c : Settings) (sent : ℕ → List ℕ) (x n : ℕ) (b : ChannelState) (e : Event) → set_by c b e ≡ None → b.report.vr % 256 ≡ (x + n) % 256 → IsOfSender x sent n e → Serves sent x n b (step c b e)
+unfolding passed_on
+step-serves c sent x n b (Frame octets) none v from = frame-serves c sent x n b octets (row_of c b octets) b.report.state refl refl none v from
+step-serves c sent x n b Release none v from = quiet sent x n b (step c b Release) v refl (vr-kept E10 b.report.state b.report refl (λ q. absurd cc))
+step-serves c sent x n b (Take apid) none v from = quiet sent x n b (step c b (Take apid)) v refl refl
+step-serves c sent x n b (TakeUnit map_id) none v from = quiet sent x n b (step c b (TakeUnit map_id)) v refl refl
+
+Serves-then : (sent : ℕ → List ℕ) (x n : ℕ) (b mid later : ChannelState) (p : Serves sent x n b mid) → Serves sent x (n + length p.more) mid later → Serves sent x n b later
+Serves-then sent x n b mid later p q = record {
+  more = p.more ++ q.more;
+  grown = q.grown ∙ rw p.grown (append_assoc b.accepted p.more q.more);
+  fields = AreSent-append sent n p.more q.more p.fields q.fields;
+  vr = let l = length-append p.more q.more in let v = q.vr in omega arith;
+}
+
+run_from-serves : (c : Settings) (sent : ℕ → List ℕ) (x base n : ℕ) (b : ChannelState) (es : List Event) → NoneSetsFrom c b es → b.report.vr % 256 ≡ (x + n) % 256 → length b.accepted ≡ base + n
+    → ((place : ℕ) (e : Event) → slice_get es place ≡ Some e → IsOfSender x sent (length (run_from c b (take place es)).accepted - base) e) → Serves sent x n b (run_from c b es)
+run_from-serves c sent x base n b [] none v len from = quiet sent x n b b v refl refl
+run_from-serves c sent x base n b (e ∷ es) none v len from =
+    let first : IsOfSender x sent n e = subst (λ m. IsOfSender x sent m e) (omega arith) (from 0 e refl) in
+    let one = step-serves c sent x n b e (none 0 e refl) v first in
+    let longer : length (step c b e).accepted ≡ base + (n + length one.more) = rw one.grown (let l = length-append b.accepted one.more in omega arith) in
+    Serves-then sent x n b (step c b e) (run_from c (step c b e) es) one
+    (run_from-serves c sent x base (n + length one.more) (step c b e) es (λ i later q. none (suc i) later q) one.vr longer (λ place later q. from (suc place) later q))
+
+pub all-sent : (c : Settings) (journal before later : List Event) (x : ℕ) (sent : ℕ → List ℕ) → IsEra c journal before later x → ComesFrom c before later x sent
+    → (i : ℕ) (a : Accepted) → slice_get (accepted_since c before journal) i ≡ Some a → a.field ≡ sent i
+all-sent c journal before later x sent era comes i a is =
+    let start = starts-at c before x era.starts in
+    let whole : run c journal ≡ run_from c (run c before) later = ap (run c) era.parts ∙ run-append c before later in
+    let base = length (run c before).accepted in
+    let from : (place : ℕ) (e : Event) → slice_get later place ≡ Some e → IsOfSender x sent (length (run_from c (run c before) (take place later)).accepted - base) e =
+    λ place e q. subst (λ m. IsOfSender x sent m e) (length-drop base (run c (before ++ take place later)).accepted ∙ ap (λ (b : ChannelState). length b.accepted - base) (run-append c before (take place later))) (comes place e q) in
+    let run-on = run_from-serves c sent x base 0 (run c before) later (none-from c before later era.last) (rw start (omega arith)) (omega arith) from in
+    let since : accepted_since c before journal ≡ run-on.more = rw (whole, run-on.grown) (drop-append_seam (run c before).accepted run-on.more) in
+    sent-at sent 0 run-on.more run-on.fields i a (rw since at is) ∙ ap sent (omega arith)

@@ -10,7 +10,9 @@ use Rattle.tc_packet.specs.declared.Service.TheVariants.{Ad, Bd}
 use Rattle.tc_channel.specs.declared.settings.Settings.{Settings}
 use Rattle.tc_channel.specs.declared.event.Event.{Event}
 use Rattle.tc_channel.specs.declared.event.Event.TheVariants.{Frame, Release, Take, TakeUnit}
-use Rattle.tc_channel.specs.ChannelState.{ChannelState, Accepted, Queue, buffer}
+use Rattle.tc_channel.specs.ChannelState.{ChannelState, Accepted, Queue, buffer, first_state, empty_queue, empty_unit_queue}
+use Rattle.tc_channel.specs.declared.settings.QueueSetting.{QueueSetting}
+use Rattle.tc_channel.specs.declared.settings.MapSetting.{MapSetting}
 use Rattle.tc_channel.specs.Admission.{is_for, is_of_map, map_of, is_chosen, packets_offered, units_offered, share_of, with_shares}
 use Rattle.tc_channel.specs.Laws.{QueueGrows, QueuesGrow, Grows}
 use Rattle.tc_channel.specs.Run.{step, row_of, passed_on, unit_of, taken_from, first_of, run_from, run}
@@ -101,3 +103,29 @@ run_from-grows c b (e ∷ es) = then b (step c b e) (run_from c (step c b e) es)
 
 pub run-grows : (c : Settings) (past future : List Event) → Grows (run c past) (run c (past ++ future))
 run-grows c past future = rw (run-append c past future) (run_from-grows c (run c past) future)
+
+-- the key and the capacity of a queue
+abbrev key_and_capacity : Queue → ℕ × ℕ
+key_and_capacity q = (q.key, q.capacity)
+
+keys-and-capacities-kept : (olds news : List Queue) → QueuesGrow olds news → map key_and_capacity news ≡ map key_and_capacity olds
+keys-and-capacities-kept [] [] g = refl
+keys-and-capacities-kept [] (new ∷ news) g = absurd g
+keys-and-capacities-kept (old ∷ olds) [] g = absurd g
+keys-and-capacities-kept (old ∷ olds) (new ∷ news) g = rw (g.0.key, g.0.capacity, keys-and-capacities-kept olds news g.1) refl
+
+keys-and-capacities-empty : (qs : List QueueSetting) → map key_and_capacity (map empty_queue qs) ≡ map {B = ℕ × ℕ} (λ (q : QueueSetting). (q.apid, q.capacity)) qs
+keys-and-capacities-empty [] = refl
+keys-and-capacities-empty (q ∷ qs) = rw (keys-and-capacities-empty qs) refl
+
+keys-and-capacities-empty-units : (ms : List MapSetting) → map key_and_capacity (map empty_unit_queue ms) ≡ map {B = ℕ × ℕ} (λ (m : MapSetting). (m.map, m.capacity)) ms
+keys-and-capacities-empty-units [] = refl
+keys-and-capacities-empty-units (m ∷ ms) = rw (keys-and-capacities-empty-units ms) refl
+
+pub queues-are : (c : Settings) (journal : List Event) → map key_and_capacity (run c journal).queues ≡ map {B = ℕ × ℕ} (λ (q : QueueSetting). (q.apid, q.capacity)) c.queues
+unfolding run
+queues-are c journal = keys-and-capacities-kept (map empty_queue c.queues) (run c journal).queues (run_from-grows c (first_state c) journal).queues ∙ keys-and-capacities-empty c.queues
+
+pub units-are : (c : Settings) (journal : List Event) → map key_and_capacity (run c journal).units ≡ map {B = ℕ × ℕ} (λ (m : MapSetting). (m.map, m.capacity)) c.maps
+unfolding run
+units-are c journal = keys-and-capacities-kept (map empty_unit_queue c.maps) (run c journal).units (run_from-grows c (first_state c) journal).units ∙ keys-and-capacities-empty-units c.maps

@@ -21,6 +21,7 @@ pub mod Small
 pub mod Eras
 pub mod Faults
 pub mod Growth
+pub mod Given
 pub mod Apart
 pub mod Words
 pub mod Examples

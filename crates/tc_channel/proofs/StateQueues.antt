@@ -70,7 +70,7 @@ keys-with_shares : (wanted : ℕ → List ℕ → Bool) (items : List (List ℕ)
 keys-with_shares wanted items [] = refl
 keys-with_shares wanted items (q ∷ qs) = ap (λ (x : List ℕ). q.key ∷ x) (keys-with_shares wanted items qs)
 
-taken-key : (key : ℕ) (q : Queue) → (taken_from key q).key ≡ q.key
+pub taken-key : (key : ℕ) (q : Queue) → (taken_from key q).key ≡ q.key
 taken-key key q = by (eqb q.key key && nat_lt q.taken (length q.admitted)) where
   by : (t : Bool) → (cond t (record q { taken = q.taken + 1 }) q).key ≡ q.key
   by true = refl

@@ -1,5 +1,6 @@
 -- The era of a journal: what came since V(R) was last set by a Set V(R) that was obeyed.
-use Rattle.std.specs.Prelude.{◌≡◌, ℕ, ◌+◌, ◌%◌, List, [], ◌∷◌, ◌++◌, length, take, drop, ◌⊎◌, slice_get, Option, Some, None}
+use Rattle.std.specs.Prelude.{◌≡◌, ℕ, ◌+◌, ◌%◌, ◌-◌, ◌<◌, false, List, [], ◌∷◌, ◌++◌, length, take, drop, ◌⊎◌, slice_get, Option, Some, None}
+use Rattle.tc_link.specs.Frame.{header_of}
 use Rattle.tc_link.specs.Farm.{Row, E8}
 use Rattle.tc_link.specs.declared.State.{State}
 use Rattle.tc_link.specs.declared.State.TheVariants.{S1, S2}
@@ -7,7 +8,7 @@ use Rattle.tc_channel.specs.declared.settings.Settings.{Settings}
 use Rattle.tc_channel.specs.declared.event.Event.{Event}
 use Rattle.tc_channel.specs.declared.event.Event.TheVariants.{Frame, Release, Take, TakeUnit}
 use Rattle.tc_channel.specs.ChannelState.{ChannelState, Accepted}
-use Rattle.tc_channel.specs.Run.{row_of, run}
+use Rattle.tc_channel.specs.Run.{field_of, row_of, run}
 
 -- Set V(R) is obeyed in S1 and in S2
 abbrev pub set_at : Row → State → Option ℕ
@@ -50,3 +51,24 @@ pub record CountsUp (s : Settings) (journal before : List Event) (x : ℕ) : Typ
 -- in whatever way a journal is parted into an era and what came before
 abbrev pub CountsUpInItsEra : Settings → List Event → Type 0
 CountsUpInItsEra s journal = (before later : List Event) (x : ℕ) → IsEra s journal before later x → CountsUp s journal before x
+
+-- the frame is one that a sender made, whose frame number i, from 0 on, has N(S) = x + i modulo 256 and the data field `sent i`; and it comes
+-- where its number is less than 256 from the number of those that were accepted, so that no two are taken for one another
+pub record IsSent (x : ℕ) (sent : ℕ → List ℕ) (accepted : ℕ) (octets : List ℕ) : Type 0 where
+  pub number : ℕ
+  pub ns : (header_of octets).ns ≡ (x + number) % 256
+  pub field : field_of octets ≡ sent number
+  pub not_old : accepted < number + 256
+  pub not_new : number < accepted + 256
+
+-- what comes where so many were accepted is the sender's, if it is of Type-AD
+abbrev pub IsOfSender : ℕ → (ℕ → List ℕ) → ℕ → Event → Type 0
+IsOfSender x sent accepted (Frame octets) = (header_of octets).bypass ≡ false → (header_of octets).control ≡ false → IsSent x sent accepted octets
+IsOfSender x sent accepted Release = Unit {0}
+IsOfSender x sent accepted (Take apid) = Unit {0}
+IsOfSender x sent accepted (TakeUnit map_id) = Unit {0}
+
+-- each Type-AD frame that comes in the era is the sender's: lost, repeated and put in another order as may be, but none 256 frames old
+abbrev pub ComesFrom : Settings → List Event → List Event → ℕ → (ℕ → List ℕ) → Type 0
+ComesFrom s before later x sent = (place : ℕ) (e : Event) → slice_get later place ≡ Some e
+    → IsOfSender x sent (length (accepted_since s before (before ++ take place later))) e

@@ -6,6 +6,8 @@ pub mod Admission
 pub mod Run
 pub mod Reply
 pub mod Era
+pub mod Given
 pub mod Laws
 pub mod HeldQueues
 pub mod Channel
+pub mod Examples

@@ -1,7 +1,7 @@
 //! Laws over the definitions.
 
-ghost use Rattle.std.specs.Prelude.{List, ℕ, ◌≡◌, ◌≤◌, ◌<◌, ◌+◌, ◌^◌, ◌++◌, ◌↔◌, Option, Some, None, false, [], ◌∷◌, ◌≢◌, IsTrue, length};
-ghost use Rattle.tc_channel.specs.ChannelState.{ChannelState, Queue, buffer};
+ghost use Rattle.std.specs.Prelude.{List, ℕ, ◌≡◌, ◌≤◌, ◌<◌, ◌+◌, ◌^◌, ◌++◌, ◌↔◌, Option, Some, None, false, [], ◌∷◌, ◌≢◌, IsTrue, length, map, slice_get};
+ghost use Rattle.tc_channel.specs.ChannelState.{ChannelState, Accepted, Queue, buffer};
 ghost use Rattle.std.specs.List.{AllByRecursion, Contains};
 ghost use Rattle.tc_link.specs.Frame.{IsWhole};
 ghost use Rattle.tc_link.specs.declared.Link.{Link};
@@ -15,7 +15,9 @@ ghost use Rattle.tc_channel.specs.declared.settings.SettingsFault.{SettingsFault
 ghost use Rattle.tc_channel.specs.Settings.{IsAllowed, IsFault};
 ghost use Rattle.tc_channel.specs.Run.{run, run_from, unit_of, passed_on, HasStep, IsLawful, AreSteps};
 ghost use Rattle.tc_channel.specs.Laws.{IsSound, KeepsToItsCapacity, Grows, IsOfChosenMap, with_unit};
-ghost use Rattle.tc_channel.specs.Era.{IsEra, CountsUpInItsEra};
+ghost use Rattle.tc_channel.specs.Era.{IsEra, CountsUpInItsEra, ComesFrom, accepted_since};
+ghost use Rattle.tc_channel.specs.declared.settings.QueueSetting.{QueueSetting};
+ghost use Rattle.tc_channel.specs.declared.settings.MapSetting.{MapSetting};
 
 use tc_packet::a_plain_field_is_a_unit_by_itself;
 
@@ -107,4 +109,18 @@ pub fn a_unit_is_kept_where_its_queue_has_room()
 pub fn a_unit_is_delivered_whole_or_by_packets()
     ensures whole { (state : ChannelState) (service : Service) (field : List ℕ) → IsTrue (is_chosen state field) → (passed_on service field state).queues ≡ state.queues }
     ensures by_packets { (state : ChannelState) (service : Service) (field : List ℕ) → ¬ IsTrue (is_chosen state field) → (passed_on service field state).units ≡ state.units }
+{}
+
+/// Where each Type-AD frame of an era is a sender's, which numbers its frames from x on modulo 256, and none comes 256 frames too
+/// early or too late, the accepted data fields are what was sent: each once, in order, and none left out. Frames may be lost, come
+/// several times, and out of order.
+pub fn what_was_sent_is_accepted_once_and_in_order()
+    ensures { (s : Settings) (journal before later : List Event) (x : ℕ) (sent : ℕ → List ℕ) → IsEra s journal before later x → ComesFrom s before later x sent
+        → (i : ℕ) (a : Accepted) → slice_get (accepted_since s before journal) i ≡ Some a → a.field ≡ sent i }
+{}
+
+/// The queues of a channel are those of its settings, in their order, each with its capacity, whatever comes.
+pub fn queues_are_those_of_the_settings()
+    ensures queues { (s : Settings) (journal : List Event) → map {B = ℕ × ℕ} (λ (q : Queue). (q.key, q.capacity)) (run s journal).queues ≡ map {B = ℕ × ℕ} (λ (q : QueueSetting). (q.apid, q.capacity)) s.queues }
+    ensures units { (s : Settings) (journal : List Event) → map {B = ℕ × ℕ} (λ (q : Queue). (q.key, q.capacity)) (run s journal).units ≡ map {B = ℕ × ℕ} (λ (m : MapSetting). (m.map, m.capacity)) s.maps }
 {}

@@ -4,16 +4,20 @@
 //! settings and its journal. All else that it has is the run of that journal: FARM-1's components, the buffered data
 //! fields, the open runs of reassembly, the packet queues and the unit queues. The laws over these definitions are the contracts of
 //! [`allowed_settings_have_no_fault`], [`wait_means_no_room`], [`each_frame_has_a_step`],
-//! [`each_journal_has_an_era`], [`accepted_frames_count_up`], [`queues_keep_to_their_capacity`],
+//! [`each_journal_has_an_era`], [`accepted_frames_count_up`], [`what_was_sent_is_accepted_once_and_in_order`],
+//! [`queues_are_those_of_the_settings`], [`queues_keep_to_their_capacity`], [`short_journals_are_answered_so`],
 //! [`chosen_maps_stay`], [`a_unit_is_delivered_whole_or_by_packets`], [`a_unit_is_kept_where_its_queue_has_room`],
 //! [`buffer_keeps_to_its_size`], [`each_packet_is_queued_or_dropped`],
-//! [`no_more_items_wait_than_memory_counts`], [`each_clcw_fits_its_word`], [`a_longer_run_goes_on`] and [`a_plain_channel_takes_each_field_as_a_unit`].
+//! [`no_more_items_wait_than_memory_counts`], [`each_clcw_fits_its_word`], [`a_longer_run_goes_on`], [`what_was_accepted_is_passed_on_in_order`],
+//! [`what_was_admitted_is_given_in_order`] and [`a_plain_channel_takes_each_field_as_a_unit`].
 #![tactic(auto)]
 
+mod answered;
 mod channel;
 mod copying;
 mod event;
 mod fields;
+mod flow;
 mod items;
 mod journal;
 mod kept;
@@ -26,8 +30,10 @@ mod reply;
 mod settings;
 mod unkept;
 
+pub use answered::short_journals_are_answered_so;
 pub use channel::{Channel, ChannelWith, FlightChannel};
 pub use event::Event;
+pub use flow::{what_was_accepted_is_passed_on_in_order, what_was_admitted_is_given_in_order};
 pub use items::{Items, Octets};
 pub use journal::Journal;
 pub use kept::Kept;
@@ -36,7 +42,8 @@ pub use laws::{
     a_unit_is_delivered_whole_or_by_packets, a_unit_is_kept_where_its_queue_has_room,
     accepted_frames_count_up, allowed_settings_have_no_fault, buffer_keeps_to_its_size,
     chosen_maps_stay, each_clcw_fits_its_word, each_frame_has_a_step, each_journal_has_an_era,
-    each_packet_is_queued_or_dropped, queues_keep_to_their_capacity, wait_means_no_room,
+    each_packet_is_queued_or_dropped, queues_are_those_of_the_settings,
+    queues_keep_to_their_capacity, wait_means_no_room, what_was_sent_is_accepted_once_and_in_order,
 };
 pub use lent::LentEvent;
 pub use memory::no_more_items_wait_than_memory_counts;

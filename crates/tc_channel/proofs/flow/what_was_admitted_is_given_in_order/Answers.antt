@@ -1,0 +1,18 @@
+use Rattle.std.proofs.Common.{refl}
+use Rattle.tc_channel.specs.Reply.{waiting_packets, waiting_units}
+use Rattle.tc_channel.proofs.Given.{packets-in-order, units-in-order}
+use Rattle.tc_channel.proofs.flow.what_was_admitted_is_given_in_order.Goals as goal
+
+pub returns-clause-packets : goal.returns-clause-packets
+returns-clause-packets c = packets-in-order
+
+pub returns-clause-units : goal.returns-clause-units
+returns-clause-units c = units-in-order
+
+pub returns-clause-packet : goal.returns-clause-packet
+unfolding waiting_packets
+returns-clause-packet c = λ s journal apid. refl
+
+pub returns-clause-unit : goal.returns-clause-unit
+unfolding waiting_units
+returns-clause-unit c = λ s journal map_id. refl

@@ -1,0 +1,69 @@
+-- Short journals whose answers are worked out by hand, to be read with the definitions: their settings and their frames, octet by octet.
+use Rattle.std.specs.Prelude.{ℕ, true, false, List, [], ◌∷◌}
+use Rattle.tc_link.specs.declared.Link.{Link}
+use Rattle.tc_channel.specs.declared.settings.Settings.{Settings}
+use Rattle.tc_channel.specs.declared.event.Event.{Event}
+use Rattle.tc_channel.specs.declared.event.Event.TheVariants.{Frame}
+
+-- channel 1 with a window of 10, a buffer for so many data fields, V(R) 0, and a queue for one packet of application 5
+abbrev pub buffer_of : ℕ → Settings
+buffer_of fields = record { vcid = 1; width = 10; buffer = fields; first = 0; segmented = true; queues = record { apid = 5; capacity = 1 } ∷ []; maps = [] }
+
+-- the same without segment headers
+abbrev pub plain : Settings
+plain = record { vcid = 1; width = 10; buffer = 1; first = 0; segmented = false; queues = record { apid = 5; capacity = 1 } ∷ []; maps = [] }
+
+-- the same with segment headers, where MAP 3 is chosen and one of its units may wait
+abbrev pub map_3_chosen : Settings
+map_3_chosen = record { vcid = 1; width = 10; buffer = 1; first = 0; segmented = true; queues = record { apid = 5; capacity = 1 } ∷ []; maps = record { map = 3; capacity = 1 } ∷ [] }
+
+abbrev pub link_up : Link
+link_up = record { no_rf = false; no_bit_lock = false }
+
+-- frames of Type-AD for spacecraft 42 and channel 1, with N(S) 0 where none is named; MAP 0 where none is named
+
+-- N(S), an unsegmented packet of application 5 with the one octet aa
+abbrev pub one_packet : ℕ → Event
+one_packet ns = Frame (0x00 ∷ 0x2a ∷ 0x04 ∷ 0x0c ∷ ns ∷ 0xc0 ∷ 0x10 ∷ 0x05 ∷ 0xc0 ∷ 0x00 ∷ 0x00 ∷ 0x00 ∷ 0xaa ∷ [])
+
+-- two packets of application 5 in one unit
+abbrev pub two_packets : Event
+two_packets = Frame (0x00 ∷ 0x2a ∷ 0x04 ∷ 0x13 ∷ 0x00 ∷ 0xc0 ∷ 0x10 ∷ 0x05 ∷ 0xc0 ∷ 0x00 ∷ 0x00 ∷ 0x00 ∷ 0xaa ∷ 0x10 ∷ 0x05 ∷ 0xc0 ∷ 0x01 ∷ 0x00 ∷ 0x00 ∷ 0xbb ∷ [])
+
+-- a packet and one octet more
+abbrev pub packet_and_rest : Event
+packet_and_rest = Frame (0x00 ∷ 0x2a ∷ 0x04 ∷ 0x0d ∷ 0x00 ∷ 0xc0 ∷ 0x10 ∷ 0x05 ∷ 0xc0 ∷ 0x00 ∷ 0x00 ∷ 0x00 ∷ 0xaa ∷ 0xff ∷ [])
+
+-- a packet of telemetry, and an idle packet
+abbrev pub telemetry_and_idle : Event
+telemetry_and_idle = Frame (0x00 ∷ 0x2a ∷ 0x04 ∷ 0x13 ∷ 0x00 ∷ 0xc0 ∷ 0x00 ∷ 0x05 ∷ 0xc0 ∷ 0x00 ∷ 0x00 ∷ 0x00 ∷ 0xaa ∷ 0x17 ∷ 0xff ∷ 0xc0 ∷ 0x00 ∷ 0x00 ∷ 0x00 ∷ 0xaa ∷ [])
+
+-- a packet in two segments, the last of them with N(S) 1
+abbrev pub first_segment : Event
+first_segment = Frame (0x00 ∷ 0x2a ∷ 0x04 ∷ 0x08 ∷ 0x00 ∷ 0x40 ∷ 0x10 ∷ 0x05 ∷ 0xc0 ∷ [])
+
+abbrev pub last_segment : Event
+last_segment = Frame (0x00 ∷ 0x2a ∷ 0x04 ∷ 0x0a ∷ 0x01 ∷ 0x80 ∷ 0x01 ∷ 0x00 ∷ 0x01 ∷ 0xaa ∷ 0xbb ∷ [])
+
+-- a last segment that no first one came before
+abbrev pub lone_last_segment : Event
+lone_last_segment = Frame (0x00 ∷ 0x2a ∷ 0x04 ∷ 0x06 ∷ 0x00 ∷ 0x80 ∷ 0xaa ∷ [])
+
+-- a last segment by Type-BD
+abbrev pub bypass_last_segment : List ℕ
+bypass_last_segment = 0x20 ∷ 0x2a ∷ 0x04 ∷ 0x06 ∷ 0x00 ∷ 0x80 ∷ 0xff ∷ []
+
+-- a packet that is the whole data field, as on a channel without segment headers
+abbrev pub plain_packet : Event
+plain_packet = Frame (0x00 ∷ 0x2a ∷ 0x04 ∷ 0x0b ∷ 0x00 ∷ 0x10 ∷ 0x05 ∷ 0xc0 ∷ 0x00 ∷ 0x00 ∷ 0x00 ∷ 0xaa ∷ [])
+
+-- three octets on MAP 3
+abbrev pub map_3_octets : Event
+map_3_octets = Frame (0x00 ∷ 0x2a ∷ 0x04 ∷ 0x08 ∷ 0x00 ∷ 0xc3 ∷ 0xaa ∷ 0xbb ∷ 0xcc ∷ [])
+
+-- two octets on MAP 3 by Type-BD, and none
+abbrev pub bypass_map_3_octets : List ℕ
+bypass_map_3_octets = 0x20 ∷ 0x2a ∷ 0x04 ∷ 0x07 ∷ 0x00 ∷ 0xc3 ∷ 0xaa ∷ 0xbb ∷ []
+
+abbrev pub bypass_map_3_empty : Event
+bypass_map_3_empty = Frame (0x20 ∷ 0x2a ∷ 0x04 ∷ 0x05 ∷ 0x00 ∷ 0xc3 ∷ [])
