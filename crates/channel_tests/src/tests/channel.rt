@@ -3,14 +3,17 @@ mod growth;
 mod maps;
 mod packets;
 mod queues;
+mod run;
 
-use std::alloc::{AllocError, Global};
+use run::{Run, Step};
+use std::alloc::Global;
+use std::fmt::Debug;
 use std::process::Abort;
 use tc_channel::{
     Channel, Delivery, Event, FrameReply, Items, MapSetting, NoMemory, Octets, QueueSetting,
     ReleaseFault, Settings, SettingsFault, TakeFault, TakeUnitFault,
 };
-use tc_link::{Act, Link, read_frame};
+use tc_link::{Act, Link, Report, read_frame};
 
 // No unit was ended.
 const NOTHING: Delivery = Delivery {
@@ -26,19 +29,29 @@ const ONE: Delivery = Delivery {
     rest: false,
 };
 
-fn accepted(event: u8) -> Act {
-    Act {
-        event,
-        accepted: true,
-    }
-}
+// A Type-AD frame was accepted (event 1).
+const ACCEPTED: Act = Act {
+    event: 1,
+    accepted: true,
+};
 
-fn discarded(event: u8) -> Act {
-    Act {
-        event,
-        accepted: false,
-    }
-}
+// A Type-BD frame was accepted (event 6).
+const BYPASSED: Act = Act {
+    event: 6,
+    accepted: true,
+};
+
+// A Type-AD frame for whose field there was no room was discarded (event 2).
+const NO_ROOM: Act = Act {
+    event: 2,
+    accepted: false,
+};
+
+// A Type-AD frame whose N(S) lies behind V(R) was discarded (event 4).
+const REPEATED: Act = Act {
+    event: 4,
+    accepted: false,
+};
 
 const PACKET: [u8; 7] = [0x10, 0x05, 0xc0, 0x00, 0x00, 0x00, 0xaa];
 
@@ -49,143 +62,106 @@ fn ad_frame(ns: u8) -> [u8; 13] {
     ]
 }
 
-// Virtual channel 1 with the window 10, room for one field, this V(R) first, and a queue of capacity 1 for APID 5.
-fn settings(alloc: Global, first: u8) -> Result<Settings, AllocError> {
-    let queue = QueueSetting {
-        apid: 5,
-        capacity: 1,
-    };
-    Ok(Settings {
-        vcid: 1,
-        width: 10,
-        buffer: 1,
-        first,
-        segmented: true,
-        queues: Items::from(Vec::from_slice(alloc, &[queue])?),
-        maps: Items::from(Vec::new(alloc)),
-    })
+// Settings as data.
+#[derive(Clone, Copy)]
+struct Wanted<'a> {
+    vcid: u8,
+    width: u8,
+    buffer: u8,
+    first: u8,
+    segmented: bool,
+    // APIDs and capacities.
+    queues: &'a [(u16, u16)],
+    // MAPs and capacities.
+    maps: &'a [(u8, u16)],
 }
 
-// What is done to a channel, and what it answers.
-#[derive(Clone, Copy, Debug)]
-enum Step<'a> {
-    // The frame of `ad_frame` with this N(S).
-    Ad(u8, Act),
-    // A frame with fill, and the octets that are kept of it.
-    Filled(&'a [u8], &'a [u8], Act),
-    // A frame without fill.
-    Frame(&'a [u8], Act, Delivery),
-    Release(Result<Delivery, ReleaseFault>),
-    Take(u16, Result<&'a [u8], TakeFault>),
-    TakeUnit(u8, Result<&'a [u8], TakeUnitFault>),
-    // The word with both link flags 0.
-    Clcw(u32),
-    // How many fields are buffered, and how many packets wait for APID 5.
-    Holds(usize, usize),
-    // How many units of this MAP wait.
-    Units(u8, Option<usize>),
-}
-
-// A channel, and the journal that it must have.
-#[derive(Drop)]
-struct Watched {
-    alloc: Global,
-    channel: Channel,
-    journal: Vec<Event>,
-}
-
-impl Watched {
-    fn new(alloc: Global, settings: Settings) -> Result<Watched, SettingsFault> {
-        Ok(Watched {
-            alloc,
-            channel: Channel::new(alloc, settings)?,
-            journal: Vec::new(alloc),
-        })
-    }
-
-    fn frame(&mut self, rt: &impl Abort, given: &[u8], kept: &[u8], expected: FrameReply) {
-        let reply = self
-            .channel
-            .frame(&read_frame(given).expect(rt, "an answer"))
-            .expect(rt, "an answer");
-        assert_eq!(rt; reply, expected);
-        let octets = Octets::copied(self.alloc, kept).expect(rt, "an answer");
-        self.journal
-            .push(Event::Frame(octets))
-            .expect(rt, "an answer");
-    }
-
-    fn release(&mut self, rt: &impl Abort, expected: Result<Delivery, ReleaseFault>) {
-        assert_eq!(rt; self.channel.release(), expected);
-        if expected.is_ok() {
-            self.journal.push(Event::Release).expect(rt, "an answer");
-        }
-    }
-
-    fn take(&mut self, rt: &impl Abort, apid: u16, expected: Result<&[u8], TakeFault>) {
-        let answer = self.channel.take(apid);
-        assert_eq!(rt; answer.as_deref().ok(), expected.ok());
-        assert_eq!(rt; answer.err(), expected.err());
-        if expected.is_ok() {
-            self.journal.push(Event::Take(apid)).expect(rt, "an answer");
-        }
-    }
-
-    fn take_unit(&mut self, rt: &impl Abort, map: u8, expected: Result<&[u8], TakeUnitFault>) {
-        let answer = self.channel.take_unit(map);
-        assert_eq!(rt; answer.as_deref().ok(), expected.ok());
-        assert_eq!(rt; answer.err(), expected.err());
-        if expected.is_ok() {
-            self.journal
-                .push(Event::TakeUnit(map))
-                .expect(rt, "an answer");
-        }
-    }
-
-    fn step(&mut self, rt: &impl Abort, step: Step) {
-        let reply = |act, delivery| FrameReply { act, delivery };
-        match step {
-            Step::Ad(ns, act) => {
-                let octets = ad_frame(ns);
-                self.frame(rt, &octets, &octets, reply(act, NOTHING))
-            }
-            Step::Filled(octets, kept, act) => self.frame(rt, octets, kept, reply(act, NOTHING)),
-            Step::Frame(octets, act, delivery) => {
-                self.frame(rt, octets, octets, reply(act, delivery))
-            }
-            Step::Release(expected) => self.release(rt, expected),
-            Step::Take(apid, expected) => self.take(rt, apid, expected),
-            Step::TakeUnit(map, expected) => self.take_unit(rt, map, expected),
-            Step::Clcw(word) => {
-                assert_eq!(rt; self.channel.clcw(NO_FLAG), word);
-            }
-            Step::Holds(fields, packets) => {
-                assert_eq!(rt; self.channel.buffered(), fields);
-                assert_eq!(rt; self.channel.queued(5), Some(packets));
-            }
-            Step::Units(map, units) => {
-                assert_eq!(rt; self.channel.units(map), units);
-            }
-        }
-    }
-
-    // Each step in turn; after each the journal is as it must be.
-    fn play(&mut self, rt: &impl Abort, steps: &[Step]) {
-        for step in steps {
-            self.step(rt, *step);
-            assert_eq!(rt; self.channel.journal(), self.journal.as_slice());
-        }
-    }
-}
-
-const NO_FLAG: Link = Link {
-    no_rf: false,
-    no_bit_lock: false,
+// Virtual channel 1 with the window 10, room for one field, V(R) 0 first, and a queue of capacity 1 for APID 5.
+const WANTED: Wanted<'static> = Wanted {
+    vcid: 1,
+    width: 10,
+    buffer: 1,
+    first: 0,
+    segmented: true,
+    queues: &[(5, 1)],
+    maps: &[],
 };
 
-// On a channel whose V(R) is 0 first.
-fn play(rt: &impl Abort, alloc: Global, steps: &[Step]) {
-    Watched::new(alloc, settings(alloc, 0).expect(rt, "an answer"))
-        .expect(rt, "an answer")
-        .play(rt, steps)
+// An empty list with room for so many items. One growth may be refused.
+fn room<T>(rt: &impl Abort, alloc: Global, count: usize) -> Vec<T> {
+    match Vec::with_capacity(alloc, count) {
+        Ok(list) => list,
+        Err(_) => Vec::with_capacity(alloc, count).expect(rt, "room"),
+    }
+}
+
+fn queues_of(rt: &impl Abort, alloc: Global, wanted: &[(u16, u16)]) -> Items<QueueSetting> {
+    let mut queues = room(rt, alloc, wanted.len());
+    for &(apid, capacity) in wanted {
+        let queue = QueueSetting { apid, capacity };
+        queues.push(queue).expect(rt, "a queue");
+    }
+    Items::from(queues)
+}
+
+fn maps_of(rt: &impl Abort, alloc: Global, wanted: &[(u8, u16)]) -> Items<MapSetting> {
+    let mut maps = room(rt, alloc, wanted.len());
+    for &(map, capacity) in wanted {
+        let map = MapSetting { map, capacity };
+        maps.push(map).expect(rt, "a MAP");
+    }
+    Items::from(maps)
+}
+
+fn settings(rt: &impl Abort, alloc: Global, wanted: &Wanted<'_>) -> Settings {
+    Settings {
+        vcid: wanted.vcid,
+        width: wanted.width,
+        buffer: wanted.buffer,
+        first: wanted.first,
+        segmented: wanted.segmented,
+        queues: queues_of(rt, alloc, wanted.queues),
+        maps: maps_of(rt, alloc, wanted.maps),
+    }
+}
+
+// A channel by settings that make one; where memory may be refused, that is printed, and it is made again.
+fn new_channel(
+    rt: &(impl Abort + Print),
+    alloc: Global,
+    wanted: &Wanted<'_>,
+    refusable: bool,
+) -> Channel {
+    match Channel::new(alloc, settings(rt, alloc, wanted)) {
+        Ok(channel) => channel,
+        Err(fault) => {
+            let _ = println!(rt; "refused: Channel::new");
+            assert!(rt; refusable);
+            assert_eq!(rt; fault, SettingsFault::NoMemory);
+            Channel::new(alloc, settings(rt, alloc, wanted)).expect(rt, "a channel")
+        }
+    }
+}
+
+// What a channel answers to the frame at the front of these octets.
+fn offer(rt: &impl Abort, channel: &mut Channel, octets: &[u8]) -> Result<FrameReply, NoMemory> {
+    channel.frame(&read_frame(octets).expect(rt, "a frame"))
+}
+
+// A packet or a unit was taken, or the take was refused.
+fn check_item<E: Debug + Drop + PartialEq>(
+    rt: &impl Abort,
+    answer: Result<Vec<u8>, E>,
+    item: Option<&[u8]>,
+    fault: Option<E>,
+) {
+    assert_eq!(rt; answer.as_deref().ok(), item);
+    assert_eq!(rt; answer.err(), fault);
+}
+
+// Settings have this fault, or none, and make no channel because of it, or make one.
+fn check_fault(rt: &impl Abort, alloc: Global, wanted: &Wanted<'_>, fault: Option<SettingsFault>) {
+    let settings = settings(rt, alloc, wanted);
+    assert_eq!(rt; settings.check().err(), fault);
+    assert_eq!(rt; Channel::new(alloc, settings).err(), fault);
 }

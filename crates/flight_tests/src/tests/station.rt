@@ -1,6 +1,6 @@
 //! A station whose channels' journals take no memory.
 
-ghost use Rattle.std.specs.Prelude.{◌≡◌, ◌∷◌, [], All, map};
+ghost use Rattle.std.specs.Prelude.{◌≡◌, ◌∷◌, [], All};
 ghost use Rattle.tc_station.specs.StationSettings.{vcids_of};
 ghost use Rattle.tc_station.specs.Tally.{fresh};
 
@@ -52,48 +52,103 @@ fn list_of_settings(rt: &impl Abort, alloc: Global) -> Vec<Settings>
     list
 }
 
+// What is answered to octets, where no memory is refused.
+fn bring(
+    rt: &impl Wait,
+    station: &FlightStation,
+    operator: &mut Operator,
+    octets: &[u8],
+) -> Option<FrameReply>
+    requires { operator.old.vcids ≡ station.now.vcids }
+    ensures { operator.new.vcids ≡ operator.old.vcids }
+{
+    match station.bring(rt, operator, octets) {
+        Ok(brought) => Some(brought.reply),
+        Err(_) => None,
+    }
+}
+
+fn release(
+    rt: &impl Wait,
+    station: &FlightStation,
+    operator: &mut Operator,
+) -> Result<Delivery, ReleaseRefused>
+    requires { operator.old.vcids ≡ station.now.vcids }
+    ensures { operator.new.vcids ≡ operator.old.vcids }
+{
+    station.release(rt, operator, 1)
+}
+
+// The oldest packet for APID 5 is `PACKET`.
+fn take_packet(rt: &(impl Abort + Wait), station: &FlightStation, operator: &mut Operator)
+    requires { operator.old.vcids ≡ station.now.vcids }
+    ensures { operator.new.vcids ≡ operator.old.vcids }
+{
+    let packet = station.take(rt, operator, 1, 5).expect(rt, "a packet");
+    assert_eq!(rt; packet.as_slice(), PACKET.as_slice());
+}
+
 // The CLCW's flags, FARM-B and report value, as a new watcher reads them.
+fn check_word(rt: &(impl Abort + Wait), station: &FlightStation, word: u32) {
+    let mut watcher = station.watcher(rt, 1).expect(rt, "a watcher");
+    assert_eq!(rt; station.watch(&mut watcher, NO_FLAG), word);
+}
+
+// Three events of channel 1, and a release that is refused.
+fn three_events(rt: &(impl Abort + Wait), station: &FlightStation, operator: &mut Operator)
+    requires { operator.old.vcids ≡ station.now.vcids }
+    ensures { operator.new.vcids ≡ operator.old.vcids }
+{
+    assert_eq!(rt; bring(rt, station, operator, &FIRST), Some(BUFFERED));
+    check_word(rt, station, 0x0104_0001);
+    assert_eq!(rt; release(rt, station, operator), Ok(ONE));
+    assert_eq!(rt; release(rt, station, operator), Err(ReleaseRefused::Empty));
+    take_packet(rt, station, operator);
+    assert_eq!(rt; operator.count(1), Some(3));
+}
+
+// The station that isn't closed, since its operator is missing.
+fn close_without_operators(rt: &impl Abort, alloc: Global, station: FlightStation) -> FlightStation
+    ensures { result.vcids ≡ station.vcids }
+{
+    match station.close(Vec::new(alloc)) {
+        Err(FlightCloseFault::Missing(station, _)) => station,
+        _ => panic!(rt; "closed"),
+    }
+}
+
+// The channels of a closed station, which is refused no memory.
+fn closed(rt: &impl Abort, station: FlightStation, operators: Vec<Operator>) -> Vec<FlightChannel>
+    requires { All (λ o. o.vcids ≡ station.vcids) operators.items }
+{
+    station.close(operators).expect(rt, "a closed station")
+}
+
+// The one channel has so many events, and this CLCW.
+fn check_channels(rt: &impl Abort, channels: &[FlightChannel], events: u64, word: u32) {
+    assert_eq!(rt; channels.len(), 1);
+    assert_eq!(rt; channels[0].events(), events);
+    assert_eq!(rt; channels[0].clcw(NO_FLAG), word);
+}
+
 #[test]
 fn a_station_in_flight(rt: HostRuntime) {
-    let alloc = rt.alloc();
-    let (station, mut operators) = new_crew(&rt, alloc);
-    let bringing = &mut operators[0];
-    let brought = station.bring(&rt, bringing, &ad_frame(0));
-    assert_eq!(rt;
-        brought.map(|brought| brought.reply),
-        Ok(reply(1, true, NOTHING))
-    );
-    let mut watcher = station.watcher(&rt, 1).expect(&rt, "a watcher");
-    assert_eq!(rt; station.watch(&mut watcher, NO_FLAG), 0x0104_0001);
-    assert_eq!(rt; station.release(&rt, bringing, 1), Ok(ONE));
-    assert_eq!(rt;
-        station.release(&rt, bringing, 1),
-        Err(ReleaseRefused::Empty)
-    );
-    let packet = station.take(&rt, bringing, 1, 5).expect(&rt, "a packet");
-    assert_eq!(rt; packet.as_slice(), PACKET.as_slice());
-    assert_eq!(rt; bringing.count(1), Some(3));
-    let (station, operators) = match station.close(Vec::new(alloc)) {
-        Err(FlightCloseFault::Missing(station, _)) => (station, operators),
-        _ => panic!(rt; "closed"),
-    };
-    let channels = station.close(operators).expect(&rt, "a closed station");
-    assert_eq!(rt; channels.len(), 1);
-    assert_eq!(rt; channels[0].events(), 3);
-    assert_eq!(rt; channels[0].clcw(NO_FLAG), 0x0104_0001);
+    let (station, mut operators) = new_crew(&rt, rt.alloc());
+    three_events(&rt, &station, &mut operators[0]);
+    let station = close_without_operators(&rt, rt.alloc(), station);
+    let channels = closed(&rt, station, operators);
+    check_channels(&rt, &channels, 3, 0x0104_0001)
 }
 
 #[test]
 fn an_operator_of_another_flight_is_out_of_balance(rt: HostRuntime) {
     let (station, mut operators) = new_crew(&rt, rt.alloc());
     let (other, others) = new_crew(&rt, rt.alloc());
-    station
-        .bring(&rt, &mut operators[0], &ad_frame(0))
-        .expect(&rt, "an answer");
+    let brought = bring(&rt, &station, &mut operators[0], &FIRST);
+    assert_eq!(rt; brought, Some(BUFFERED));
     match other.close(operators) {
         Err(FlightCloseFault::Unbalanced(channels, operators)) => {
-            assert_eq!(rt; channels.len(), 1);
-            assert_eq!(rt; channels[0].events(), 0);
+            check_channels(&rt, &channels, 0, 0x0104_0000);
             assert_eq!(rt; operators[0].count(1), Some(1));
         }
         _ => panic!(rt; "closed"),
@@ -128,8 +183,7 @@ fn six_threads_on_a_station_in_flight(rt: HostRuntime) {
     for operator in &operators {
         assert_eq!(rt; operator.count(1), Some(41));
     }
-    let mut watcher = station.watcher(&rt, 1).expect(&rt, "a watcher");
-    assert_eq!(rt; station.watch(&mut watcher, NO_FLAG), 0x0104_0400);
+    check_word(&rt, &station, 0x0104_0400)
 }
 
 // The channels of a closed station. One growth may be refused.
@@ -139,14 +193,13 @@ fn close(
     operators: Vec<Operator>,
 ) -> Vec<FlightChannel>
     requires { All (λ o. o.vcids ≡ station.vcids) operators.items }
-    ensures { map (λ c. c.settings.vcid) result.items ≡ station.vcids }
 {
     match station.close(operators) {
         Err(FlightCloseFault::NoMemory(station, operators)) => {
             let _ = println!(rt; "refused: FlightStation::close");
-            station.close(operators).expect(rt, "a closed station")
+            closed(rt, station, operators)
         }
-        closed => closed.expect(rt, "a closed station"),
+        channels => channels.expect(rt, "a closed station"),
     }
 }
 
@@ -154,47 +207,48 @@ fn close(
 fn bring_bypassed(
     rt: &(impl Abort + Print + Wait),
     station: &FlightStation,
-    bringing: &mut Operator,
+    operator: &mut Operator,
 )
-    requires { bringing.old.vcids ≡ station.now.vcids }
-    ensures { bringing.new.vcids ≡ bringing.old.vcids }
+    requires { operator.old.vcids ≡ station.now.vcids }
+    ensures { operator.new.vcids ≡ operator.old.vcids }
 {
-    if station.bring(rt, bringing, &BYPASSED).is_err() {
+    if bring(rt, station, operator, &BYPASSED).is_none() {
         let _ = println!(rt; "refused: FlightStation::bring");
-        assert_eq!(rt; bringing.count(1), Some(1));
-        station
-            .bring(rt, bringing, &BYPASSED)
-            .expect(rt, "an answer");
+        assert_eq!(rt; operator.count(1), Some(1));
+        let brought = bring(rt, station, operator, &BYPASSED);
+        assert_eq!(rt; brought, Some(DELIVERED));
     }
 }
 
 // Releases as the third event; a refused release leaves the count as it was.
-fn release_again(rt: &(impl Abort + Print + Wait), station: &FlightStation, bringing: &mut Operator)
-    requires { bringing.old.vcids ≡ station.now.vcids }
-    ensures { bringing.new.vcids ≡ bringing.old.vcids }
+fn release_again(rt: &(impl Abort + Print + Wait), station: &FlightStation, operator: &mut Operator)
+    requires { operator.old.vcids ≡ station.now.vcids }
+    ensures { operator.new.vcids ≡ operator.old.vcids }
 {
-    if let Err(fault) = station.release(rt, bringing, 1) {
+    if let Err(fault) = release(rt, station, operator) {
         let _ = println!(rt; "refused: FlightStation::release");
         assert_eq!(rt; fault, ReleaseRefused::NoMemory);
-        assert_eq!(rt; bringing.count(1), Some(2));
-        assert_eq!(rt; station.release(rt, bringing, 1), Ok(ONE));
+        assert_eq!(rt; operator.count(1), Some(2));
+        assert_eq!(rt; release(rt, station, operator), Ok(ONE));
     }
+}
+
+// Four events of channel 1. A Type-AD frame wants no memory, so it is never refused for it.
+fn four_events(rt: &(impl Abort + Print + Wait), station: &FlightStation, operator: &mut Operator)
+    requires { operator.old.vcids ≡ station.now.vcids }
+    ensures { operator.new.vcids ≡ operator.old.vcids }
+{
+    assert_eq!(rt; bring(rt, station, operator, &FIRST), Some(BUFFERED));
+    bring_bypassed(rt, station, operator);
+    release_again(rt, station, operator);
+    take_packet(rt, station, operator)
 }
 
 // The close is made again where it is refused memory.
 #[test]
 fn growth_of_each_call_of_a_flight_station(rt: HostRuntime) {
-    let alloc = rt.alloc();
-    let (station, mut operators) = new_crew(&rt, alloc);
-    let bringing = &mut operators[0];
-    // A Type-AD frame wants no memory, so it is never refused for it.
-    station
-        .bring(&rt, bringing, &ad_frame(0))
-        .expect(&rt, "an answer");
-    bring_bypassed(&rt, &station, bringing);
-    release_again(&rt, &station, bringing);
-    let packet = station.take(&rt, bringing, 1, 5).expect(&rt, "a packet");
-    assert_eq!(rt; packet.as_slice(), PACKET.as_slice());
+    let (station, mut operators) = new_crew(&rt, rt.alloc());
+    four_events(&rt, &station, &mut operators[0]);
     let channels = close(&rt, station, operators);
-    assert_eq!(rt; channels[0].events(), 4);
+    check_channels(&rt, &channels, 4, 0x0104_0201)
 }

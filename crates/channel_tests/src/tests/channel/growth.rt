@@ -1,205 +1,73 @@
 //! Each call is made; where it answers want of memory, the channel is as it was, and the call is made again.
 
+use super::Step::{Ad, Clcw, Frame, Holds, Release, ReleaseOf, Take, TakeUnit};
 use super::*;
-use tc_link::Report;
 
-// A copy, where one growth may be refused.
-fn copied(alloc: Global, octets: &[u8]) -> Result<Octets, AllocError> {
-    match Octets::copied(alloc, octets) {
-        Ok(copy) => Ok(copy),
-        Err(_) => Octets::copied(alloc, octets),
+// Room for one field, a queue of capacity 2 for APID 5, and one of capacity 1 for APID 6 and for APID 7; a queue of two units of
+// MAP 3.
+const GROWING: Wanted<'static> = Wanted {
+    queues: &[(5, 2), (6, 1), (7, 1)],
+    maps: &[(3, 2)],
+    ..WANTED
+};
+
+// The same without segment headers, and so without MAPs.
+const PLAIN: Wanted<'static> = Wanted {
+    segmented: false,
+    maps: &[],
+    ..GROWING
+};
+
+// On a channel with segment headers, after so many frames that are discarded.
+fn play_after(rt: &(impl Abort + Print), alloc: Global, earlier: usize, steps: &[Step<'_>]) {
+    let mut run = Run::growing(rt, alloc, &GROWING);
+    for _ in 0..earlier {
+        run.play(rt, &[Ad(0xff, REPEATED)])
+    }
+    run.play(rt, steps)
+}
+
+#[test]
+fn growth_of_a_new_channel(rt: HostRuntime) {
+    Run::growing(&rt, rt.alloc(), &GROWING);
+}
+
+static EACH_CALL: [Step<'static>; 9] = [
+    Ad(0, ACCEPTED),
+    Clcw(0x01040001),
+    Holds(1, 0),
+    Release(Ok(ONE)),
+    Clcw(0x01040001),
+    Holds(0, 1),
+    Take(5, Ok(&PACKET)),
+    Clcw(0x01040001),
+    Holds(0, 0),
+];
+
+// So many frames that are discarded come before, so that the journal grows in each call once.
+#[test]
+fn growth_of_each_call_of_a_channel(rt: HostRuntime) {
+    for earlier in 0..5 {
+        play_after(&rt, rt.alloc(), earlier, &EACH_CALL)
     }
 }
 
-// Room for one field, a queue of capacity 2 for APID 5, and one of capacity 1 for APID 6 and for APID 7; with segment headers also
-// a queue of two units of MAP 3.
-fn settings(alloc: Global, segmented: bool) -> Result<Settings, AllocError> {
-    let queues = [(5, 2), (6, 1), (7, 1)].map(|(apid, capacity)| QueueSetting { apid, capacity });
-    let queues = match Vec::from_slice(alloc, &queues) {
-        Ok(queues) => queues,
-        Err(_) => Vec::from_slice(alloc, &queues)?,
-    };
-    let map = [MapSetting {
-        map: 3,
-        capacity: 2,
-    }];
-    let chosen = if segmented { map.as_slice() } else { &[] };
-    let maps = match Vec::from_slice(alloc, chosen) {
-        Ok(maps) => maps,
-        Err(_) => Vec::from_slice(alloc, chosen)?,
-    };
-    Ok(Settings {
-        vcid: 1,
-        width: 10,
-        buffer: 1,
-        first: 0,
-        segmented,
-        queues: Items::from(queues),
-        maps: Items::from(maps),
-    })
+static WITHOUT_ROOM: [Step<'static>; 7] = [
+    Ad(0, ACCEPTED),
+    Ad(1, NO_ROOM),
+    Clcw(0x01041801),
+    Holds(1, 0),
+    Ad(0, REPEATED),
+    Clcw(0x01041801),
+    Holds(1, 0),
+];
+
+#[test]
+fn growth_of_a_frame_without_room(rt: HostRuntime) {
+    play_after(&rt, rt.alloc(), 0, &WITHOUT_ROOM)
 }
 
-// What is told of a channel, apart from its journal.
-#[derive(Clone, Copy, Debug, PartialEq, Eq)]
-struct Told {
-    report: Report,
-    buffered: usize,
-    // For APID 5 and for APID 7.
-    queued: [Option<usize>; 2],
-    // Of MAP 3.
-    units: Option<usize>,
-}
-
-// A call of a channel and what it answers.
-#[derive(Clone, Copy, Debug)]
-enum Call<'a> {
-    Frame(&'a [u8], Act, Delivery),
-    // Of a unit of this kind.
-    Release(&'a str, Delivery),
-    Take(u16, &'a [u8]),
-    // Of MAP 3.
-    TakeUnit(&'a [u8]),
-    // The CLCW, how many fields are buffered, and how many packets wait for APID 5.
-    Compare(u32, usize, usize),
-}
-
-// A channel, and the journal that it must have.
-#[derive(Drop)]
-struct Short {
-    alloc: Global,
-    channel: Channel,
-    journal: Vec<Event>,
-}
-
-impl Short {
-    fn new(rt: &(impl Abort + Print), alloc: Global, segmented: bool) -> Short {
-        let wanted = settings(alloc, segmented).expect(rt, "an answer");
-        let channel = match Channel::new(alloc, wanted) {
-            Ok(channel) => channel,
-            Err(fault) => {
-                let _ = println!(rt; "refused: Channel::new");
-                assert_eq!(rt; fault, SettingsFault::NoMemory);
-                let wanted = settings(alloc, segmented).expect(rt, "an answer");
-                Channel::new(alloc, wanted).expect(rt, "an answer")
-            }
-        };
-        assert_eq!(rt; channel.journal().len(), 0);
-        Short {
-            alloc,
-            channel,
-            journal: Vec::new(alloc),
-        }
-    }
-
-    fn told(&self) -> Told {
-        Told {
-            report: self.channel.report(),
-            buffered: self.channel.buffered(),
-            queued: [self.channel.queued(5), self.channel.queued(7)],
-            units: self.channel.units(3),
-        }
-    }
-
-    // The journal is the one expected, and this is told of the rest.
-    fn check(&self, rt: &impl Abort, told: Told) {
-        assert_eq!(rt; self.channel.journal(), self.journal.as_slice());
-        assert_eq!(rt; self.told(), told);
-    }
-
-    // The CLCW, how many fields are buffered, and how many packets wait for APID 5.
-    fn compare(&self, rt: &impl Abort, word: u32, fields: usize, packets: usize) {
-        assert_eq!(rt; self.channel.clcw(NO_FLAG), word);
-        assert_eq!(rt; self.channel.buffered(), fields);
-        assert_eq!(rt; self.channel.queued(5), Some(packets));
-    }
-
-    fn note(&mut self, event: Event) -> Result<(), AllocError> {
-        if self.journal.reserve(1).is_err() {
-            self.journal.reserve(1)?;
-        }
-        self.journal.push(event)?;
-        Ok(())
-    }
-
-    fn frame(&mut self, rt: &(impl Abort + Print), octets: &[u8], act: Act, delivery: Delivery) {
-        let told = self.told();
-        let frame = read_frame(octets).expect(rt, "an answer");
-        let reply = match self.channel.frame(&frame) {
-            Ok(reply) => reply,
-            Err(NoMemory) => {
-                let _ = println!(rt; "refused: frame, event {}", act.event);
-                self.check(rt, told);
-                self.channel.frame(&frame).expect(rt, "an answer")
-            }
-        };
-        assert_eq!(rt; reply, FrameReply { act, delivery });
-        let octets = copied(self.alloc, octets).expect(rt, "an answer");
-        self.note(Event::Frame(octets)).expect(rt, "an answer");
-        assert_eq!(rt; self.channel.journal(), self.journal.as_slice());
-    }
-
-    // Releases a unit of this kind.
-    fn release(&mut self, rt: &(impl Abort + Print), unit: &str, delivery: Delivery) {
-        let told = self.told();
-        let answer = match self.channel.release() {
-            Ok(answer) => answer,
-            Err(fault) => {
-                let _ = println!(rt; "refused: release, {unit}");
-                assert_eq!(rt; fault, ReleaseFault::NoMemory);
-                self.check(rt, told);
-                self.channel.release().expect(rt, "an answer")
-            }
-        };
-        assert_eq!(rt; answer, delivery);
-        self.note(Event::Release).expect(rt, "an answer");
-        assert_eq!(rt; self.channel.journal(), self.journal.as_slice());
-    }
-
-    fn take(&mut self, rt: &(impl Abort + Print), apid: u16, packet: &[u8]) {
-        let told = self.told();
-        let answer = match self.channel.take(apid) {
-            Ok(answer) => answer,
-            Err(fault) => {
-                let _ = println!(rt; "refused: take");
-                assert_eq!(rt; fault, TakeFault::NoMemory);
-                self.check(rt, told);
-                self.channel.take(apid).expect(rt, "an answer")
-            }
-        };
-        assert_eq!(rt; answer.as_slice(), packet);
-        self.note(Event::Take(apid)).expect(rt, "an answer");
-        assert_eq!(rt; self.channel.journal(), self.journal.as_slice());
-    }
-
-    fn take_unit(&mut self, rt: &(impl Abort + Print), unit: &[u8]) {
-        let told = self.told();
-        let answer = match self.channel.take_unit(3) {
-            Ok(answer) => answer,
-            Err(fault) => {
-                let _ = println!(rt; "refused: take_unit");
-                assert_eq!(rt; fault, TakeUnitFault::NoMemory);
-                self.check(rt, told);
-                self.channel.take_unit(3).expect(rt, "an answer")
-            }
-        };
-        assert_eq!(rt; answer.as_slice(), unit);
-        self.note(Event::TakeUnit(3)).expect(rt, "an answer");
-        assert_eq!(rt; self.channel.journal(), self.journal.as_slice());
-    }
-
-    // Each call in turn.
-    fn play(&mut self, rt: &(impl Abort + Print), calls: &[Call]) {
-        for call in calls {
-            match *call {
-                Call::Frame(octets, act, delivery) => self.frame(rt, octets, act, delivery),
-                Call::Release(unit, delivery) => self.release(rt, unit, delivery),
-                Call::Take(apid, packet) => self.take(rt, apid, packet),
-                Call::TakeUnit(unit) => self.take_unit(rt, unit),
-                Call::Compare(word, fields, packets) => self.compare(rt, word, fields, packets),
-            }
-        }
-    }
-}
+const TWO: Delivery = Delivery { queued: 2, ..ONE };
 
 // A BD frame with two packets for APID 5.
 const TWO_PACKETS: [u8; 20] = [
@@ -207,82 +75,61 @@ const TWO_PACKETS: [u8; 20] = [
     0x01, 0x00, 0x00, 0xbb,
 ];
 
+// An AD frame with a packet for APID 5, and one for APID 7.
+const TWO_APIDS: [u8; 20] = [
+    0x00, 0x2a, 0x04, 0x13, 0x00, 0xc0, 0x10, 0x05, 0xc0, 0x00, 0x00, 0x00, 0xaa, 0x10, 0x07, 0xc0,
+    0x01, 0x00, 0x00, 0xbb,
+];
+
+// The second packet of each of the two.
+const SECOND: [u8; 7] = [0x10, 0x05, 0xc0, 0x01, 0x00, 0x00, 0xbb];
+
+const SECOND_APID: [u8; 7] = [0x10, 0x07, 0xc0, 0x01, 0x00, 0x00, 0xbb];
+
+static UNITS_OF_TWO_PACKETS: [Step<'static>; 15] = [
+    Frame(&TWO_PACKETS, BYPASSED, TWO),
+    Clcw(0x01040200),
+    Holds(0, 2),
+    Take(5, Ok(&PACKET)),
+    Take(5, Ok(&SECOND)),
+    Clcw(0x01040200),
+    Holds(0, 0),
+    Frame(&TWO_APIDS, ACCEPTED, NOTHING),
+    ReleaseOf("two packets", TWO),
+    Clcw(0x01040201),
+    Holds(0, 1),
+    Take(7, Ok(&SECOND_APID)),
+    Take(5, Ok(&PACKET)),
+    Clcw(0x01040201),
+    Holds(0, 0),
+];
+
+#[test]
+fn growth_of_a_unit_of_two_packets(rt: HostRuntime) {
+    play_after(&rt, rt.alloc(), 0, &UNITS_OF_TWO_PACKETS)
+}
+
 // AD frames with N(S) 1 and 2, whose segments are the two parts of `PACKET`.
 const FIRST_PART: [u8; 9] = [0x00, 0x2a, 0x04, 0x08, 0x01, 0x40, 0x10, 0x05, 0xc0];
 
 const LAST_PART: [u8; 10] = [0x00, 0x2a, 0x04, 0x09, 0x02, 0x80, 0x00, 0x00, 0x00, 0xaa];
 
-#[test]
-fn growth_of_a_new_channel(rt: HostRuntime) {
-    Short::new(&rt, rt.alloc(), true);
-}
-
-// So many frames that are discarded come before, so that the journal grows in each call once.
-#[test]
-fn growth_of_each_call_of_a_channel(rt: HostRuntime) {
-    for earlier in 0..5 {
-        let mut short = Short::new(&rt, rt.alloc(), true);
-        for _ in 0..earlier {
-            short.frame(&rt, &ad_frame(0xff), discarded(4), NOTHING);
-        }
-        short.frame(&rt, &ad_frame(0), accepted(1), NOTHING);
-        short.compare(&rt, 0x01040001, 1, 0);
-        short.release(&rt, "one packet", ONE);
-        short.compare(&rt, 0x01040001, 0, 1);
-        short.take(&rt, 5, &PACKET);
-        short.compare(&rt, 0x01040001, 0, 0);
-    }
-}
-
-#[test]
-fn growth_of_a_frame_without_room(rt: HostRuntime) {
-    let mut short = Short::new(&rt, rt.alloc(), true);
-    short.frame(&rt, &ad_frame(0), accepted(1), NOTHING);
-    short.frame(&rt, &ad_frame(1), discarded(2), NOTHING);
-    short.compare(&rt, 0x01041801, 1, 0);
-    short.frame(&rt, &ad_frame(0), discarded(4), NOTHING);
-    short.compare(&rt, 0x01041801, 1, 0);
-}
-
-const TWO: Delivery = Delivery { queued: 2, ..ONE };
-
-// First both are for APID 5, in a BD frame; then the second is for APID 7, in an AD frame.
-#[test]
-fn growth_of_a_unit_of_two_packets(rt: HostRuntime) {
-    let mut octets = TWO_PACKETS;
-    octets[0] = 0x00;
-    octets[14] = 0x07;
-    let calls = [
-        Call::Frame(&TWO_PACKETS, accepted(6), TWO),
-        Call::Compare(0x01040200, 0, 2),
-        Call::Take(5, &PACKET),
-        Call::Take(5, &TWO_PACKETS[13..]),
-        Call::Compare(0x01040200, 0, 0),
-        Call::Frame(&octets, accepted(1), NOTHING),
-        Call::Release("two packets", TWO),
-        Call::Compare(0x01040201, 0, 1),
-        Call::Take(7, &octets[13..]),
-        Call::Take(5, &PACKET),
-        Call::Compare(0x01040201, 0, 0),
-    ];
-    Short::new(&rt, rt.alloc(), true).play(&rt, &calls)
-}
+static TWO_SEGMENTS: [Step<'static>; 10] = [
+    Ad(0, ACCEPTED),
+    Release(Ok(ONE)),
+    Frame(&FIRST_PART, ACCEPTED, NOTHING),
+    ReleaseOf("first segment", NOTHING),
+    Frame(&LAST_PART, ACCEPTED, NOTHING),
+    ReleaseOf("two segments", ONE),
+    Clcw(0x01040003),
+    Holds(0, 2),
+    Take(5, Ok(&PACKET)),
+    Take(5, Ok(&PACKET)),
+];
 
 #[test]
 fn growth_of_a_unit_of_two_segments(rt: HostRuntime) {
-    let first = ad_frame(0);
-    let calls = [
-        Call::Frame(&first, accepted(1), NOTHING),
-        Call::Release("one packet", ONE),
-        Call::Frame(&FIRST_PART, accepted(1), NOTHING),
-        Call::Release("first segment", NOTHING),
-        Call::Frame(&LAST_PART, accepted(1), NOTHING),
-        Call::Release("two segments", ONE),
-        Call::Compare(0x01040003, 0, 2),
-        Call::Take(5, &PACKET),
-        Call::Take(5, &PACKET),
-    ];
-    Short::new(&rt, rt.alloc(), true).play(&rt, &calls)
+    play_after(&rt, rt.alloc(), 0, &TWO_SEGMENTS)
 }
 
 // `PACKET` without a segment header, in a BD frame and in an AD frame.
@@ -294,19 +141,23 @@ const PLAIN_AD: [u8; 12] = [
     0x00, 0x2a, 0x04, 0x0b, 0x00, 0x10, 0x05, 0xc0, 0x00, 0x00, 0x00, 0xaa,
 ];
 
+static PLAIN_FIELDS: [Step<'static>; 11] = [
+    Frame(&PLAIN_BD, BYPASSED, ONE),
+    Clcw(0x01040200),
+    Holds(0, 1),
+    Frame(&PLAIN_AD, ACCEPTED, NOTHING),
+    ReleaseOf("plain field", ONE),
+    Clcw(0x01040201),
+    Holds(0, 2),
+    Take(5, Ok(&PACKET)),
+    Take(5, Ok(&PACKET)),
+    Clcw(0x01040201),
+    Holds(0, 0),
+];
+
 #[test]
 fn growth_of_a_plain_channel(rt: HostRuntime) {
-    let calls = [
-        Call::Frame(&PLAIN_BD, accepted(6), ONE),
-        Call::Compare(0x01040200, 0, 1),
-        Call::Frame(&PLAIN_AD, accepted(1), NOTHING),
-        Call::Release("plain field", ONE),
-        Call::Compare(0x01040201, 0, 2),
-        Call::Take(5, &PACKET),
-        Call::Take(5, &PACKET),
-        Call::Compare(0x01040201, 0, 0),
-    ];
-    Short::new(&rt, rt.alloc(), false).play(&rt, &calls)
+    Run::growing(&rt, rt.alloc(), &PLAIN).play(&rt, &PLAIN_FIELDS)
 }
 
 // A unit of MAP 3 in a BD frame, and one in two AD frames.
@@ -316,31 +167,34 @@ const FIRST_AD: [u8; 7] = [0x00, 0x2a, 0x04, 0x06, 0x00, 0x43, 0xcc];
 
 const LAST_AD: [u8; 7] = [0x00, 0x2a, 0x04, 0x06, 0x01, 0x83, 0xdd];
 
+static CHOSEN_MAP: [Step<'static>; 11] = [
+    Frame(&WHOLE_BD, BYPASSED, ONE),
+    Frame(&FIRST_AD, ACCEPTED, NOTHING),
+    ReleaseOf("first segment of a chosen MAP", NOTHING),
+    Frame(&LAST_AD, ACCEPTED, NOTHING),
+    ReleaseOf("two segments of a chosen MAP", ONE),
+    Clcw(0x01040202),
+    Holds(0, 0),
+    TakeUnit(3, Ok(&[0xaa, 0xbb])),
+    TakeUnit(3, Ok(&[0xcc, 0xdd])),
+    Clcw(0x01040202),
+    Holds(0, 0),
+];
+
 #[test]
 fn growth_of_units_of_a_chosen_map(rt: HostRuntime) {
-    let calls = [
-        Call::Frame(&WHOLE_BD, accepted(6), ONE),
-        Call::Frame(&FIRST_AD, accepted(1), NOTHING),
-        Call::Release("first segment of a chosen MAP", NOTHING),
-        Call::Frame(&LAST_AD, accepted(1), NOTHING),
-        Call::Release("two segments of a chosen MAP", ONE),
-        Call::Compare(0x01040202, 0, 0),
-        Call::TakeUnit(&[0xaa, 0xbb]),
-        Call::TakeUnit(&[0xcc, 0xdd]),
-        Call::Compare(0x01040202, 0, 0),
-    ];
-    Short::new(&rt, rt.alloc(), true).play(&rt, &calls)
+    play_after(&rt, rt.alloc(), 0, &CHOSEN_MAP)
 }
+
+static TAKE_OF_A_UNIT: [Step<'static>; 2] = [
+    Frame(&WHOLE_BD, BYPASSED, ONE),
+    TakeUnit(3, Ok(&[0xaa, 0xbb])),
+];
 
 // So many frames that are discarded come before, so that the journal grows in a take of a unit once.
 #[test]
 fn growth_of_a_take_of_a_unit(rt: HostRuntime) {
     for earlier in 0..4 {
-        let mut short = Short::new(&rt, rt.alloc(), true);
-        for _ in 0..earlier {
-            short.frame(&rt, &ad_frame(0xff), discarded(4), NOTHING);
-        }
-        short.frame(&rt, &WHOLE_BD, accepted(6), ONE);
-        short.take_unit(&rt, &[0xaa, 0xbb]);
+        play_after(&rt, rt.alloc(), earlier, &TAKE_OF_A_UNIT)
     }
 }
