@@ -1,18 +1,21 @@
 """Sends packets over a bad link until each has come, by what CLCWs say. Usage: python3 examples/bench.py SEED [--fecf]"""
 import random, subprocess, sys
 from pathlib import Path
+from typing import Iterator, List, Optional
 TOP = Path(__file__).resolve().parent.parent
 sys.path.insert(0, str(TOP / "clients/python"))
 from tcrx import Receiver
 
-def link(dice, past, turning):
+def link(dice: random.Random, past: List[bytes], turning: bool) -> Iterator[bytes]:
     """What comes out for the newest frame: one in five is lost, an old one comes again, and bits are turned, up to 16 in a row."""
     for octets in [past[-1]] * (dice.random() > 0.2) + [dice.choice(past[-40:])] * (dice.random() < 0.2):
         turned = dice.randrange(1, 1 << 16) << dice.randrange(8 * len(octets) - 15) if turning and dice.random() < 0.2 else 0
         yield (int.from_bytes(octets, "big") ^ turned).to_bytes(len(octets), "big")
 
-def run(seed, fecf, count=300, tclive=None, tcmake=TOP / "tcmake"):
-    dice, past, came, acknowledged, sent = random.Random(seed), [], [], 0, 0
+def run(seed: int, fecf: bool, count: int = 300, tclive: Optional[Path] = None, tcmake: Path = TOP / "tcmake") -> str:
+    dice, acknowledged, sent = random.Random(seed), 0, 0
+    past: List[bytes] = []
+    came: List[str] = []
     packets = [f"1005{0xc000 + place:04x}0003{dice.getrandbits(32):08x}" for place in range(count)]
     lines = "".join(f"ad 42 1 {place % 256} 0 {packet}\n" for place, packet in enumerate(packets)) + "unlock 42 1\n"
     made = subprocess.run([tcmake] + ["--fecf"] * fecf, input=lines, stdout=subprocess.PIPE, text=True, check=True).stdout
@@ -22,6 +25,7 @@ def run(seed, fecf, count=300, tclive=None, tcmake=TOP / "tcmake"):
         receiver.queue(1, apid=5, capacity=4)
         while len(came) < count:
             clcw = receiver.clcw(1)
+            assert clcw  # channel 1 is there
             moved = (clcw.vr - acknowledged) % 256
             acknowledged += moved  # N(R): each frame before it was accepted
             first = acknowledged if clcw.retransmit or not moved else sent  # nothing moved: as if a timer ran out

@@ -17,7 +17,9 @@ What the lines and answers mean is in docs/reference/scripts.md, how a receiver 
 - A line that sets something up has no answer unless it is bad. So this client writes a second line behind it, `?`, which is
   no command and is always answered `bad unknown command`: where that comes first the line was good, and where something
   else comes before it, that is what was wrong. No line of this client's own begins with an unknown word.
-- Calls may come from several threads: each waits until the one before it has its answer, however long that takes.
+- Calls may come from several threads: each waits until the one before it has its answer. After a fork only the process that
+  started the receiver can use it.
+- With a timeout, a call has so many seconds as a whole, from when it is its turn; after that it raises `TimedOut`.
 
 Standard library alone, Python 3.9 or later.
 """
@@ -31,20 +33,27 @@ import socket
 import subprocess
 import tempfile
 import threading
-from contextlib import contextmanager
+import time
+from contextlib import ExitStack, contextmanager
 from dataclasses import dataclass, field
+from functools import partial
 from operator import index
 from pathlib import Path
 from types import TracebackType
-from typing import BinaryIO, Callable, Dict, FrozenSet, Iterator, List, Match, NoReturn, Optional, Tuple, Type, TypeVar, Union
+from typing import Callable, Dict, FrozenSet, Iterator, List, Literal, Match, NoReturn, Optional, Tuple, Type, TypeVar, Union
 
 # That of the programs, and of the newest heading of CHANGELOG.md.
 __version__ = "0.1.0"
 
 __all__ = ["BadLine", "Brought", "Clcw", "Delivery", "Ended", "Event", "Fault", "Final", "NotSetUp", "NotStarted", "Outcome", "Packet",
-           "Receiver", "Refusal", "Refused", "Released", "Report", "State", "Unexpected", "Unit"]
+           "Receiver", "Refusal", "Refused", "Released", "Report", "State", "TimedOut", "Unexpected", "Unit"]
 
 PROBE, PROBE_ANSWER = "?", "bad unknown command"
+# Octets after which an answer, a final report and the end of standard error aren't read on. The longest answer is a unit of 65,542
+# octets, two digits each; a final report has at most a line for each of 64 channels, 2,047 applications and 64 MAPs of each.
+LONGEST_ANSWER, LONGEST_REPORT, LONGEST_ERROR = 1 << 20, 1 << 23, 1 << 16
+# Seconds that a program has to end by itself, and once it was asked to.
+GRACE = 5.0
 
 
 class Event(enum.Enum):
@@ -78,7 +87,8 @@ class Outcome(enum.Enum):
     DISCARDED = "discarded"
     """It was discarded."""
     LOCKOUT = "lockout"
-    """It was discarded, and the channel is in lockout: it needs an Unlock."""
+    """It was outside the window (E5) and was discarded, and the channel is in lockout. A frame that meets another event in lockout is
+    `DISCARDED`: whether the channel is in lockout is said by `lockout` of its CLCW."""
     COMMAND = "control command"
     """It was a control command: obeyed, but for a Set V(R) in lockout, which is counted and nothing else."""
 
@@ -118,8 +128,15 @@ class Refused:
 
     reason: Refusal
 
-    def __bool__(self) -> bool:
+    def __bool__(self) -> Literal[False]:
         return False
+
+
+class Answered:
+    """An answer that is no refusal. It is true where a truth is asked for."""
+
+    def __bool__(self) -> Literal[True]:
+        return True
 
 
 @dataclass(frozen=True)
@@ -135,7 +152,7 @@ class Delivery:
 
 
 @dataclass(frozen=True)
-class Brought:
+class Brought(Answered):
     """A frame was answered."""
 
     channel: int
@@ -155,7 +172,7 @@ class Brought:
 
 
 @dataclass(frozen=True)
-class Released:
+class Released(Answered):
     """The oldest data field went out of the buffer."""
 
     channel: int
@@ -163,7 +180,7 @@ class Released:
 
 
 @dataclass(frozen=True)
-class Packet:
+class Packet(Answered):
     """A packet was taken out of a queue."""
 
     channel: int
@@ -173,7 +190,7 @@ class Packet:
 
 
 @dataclass(frozen=True)
-class Unit:
+class Unit(Answered):
     """A unit was taken out of the queue of a MAP."""
 
     channel: int
@@ -183,7 +200,7 @@ class Unit:
 
 
 @dataclass(frozen=True)
-class Clcw:
+class Clcw(Answered):
     """A communications link control word (CCSDS 232.0-B, 4.2)."""
 
     word: int
@@ -231,8 +248,8 @@ class Clcw:
 
 
 @dataclass(frozen=True)
-class Report:
-    """What a channel is at the moment, but for its events."""
+class Report(Answered):
+    """What a channel is at the moment, without its events."""
 
     channel: int
     state: State
@@ -286,7 +303,11 @@ class Ended(Fault):
     def __init__(self, status: Optional[int], error: str) -> None:
         super().__init__(f"the receiver has ended{'' if status is None else f' with status {status}'}{': ' if error else ''}{error}")
         self.status, self.error = status, error
-        """The exit status, where it is known (negative for a signal), and what stood on standard error."""
+        """The exit status, where it is known (negative for a signal), and the end of what was on standard error."""
+
+
+class TimedOut(Fault):
+    """No whole answer came within the timeout; the receiver was ended, as the answer may still come."""
 
 
 class Unexpected(Fault):
@@ -310,74 +331,141 @@ def shorten(text: str) -> str:
     return text if len(text) <= 80 else text[:77] + "..."
 
 
-class Process:
-    """The program behind pipes."""
+class Link:
+    """The way to a program: lines go out by one socket and answers come in by another, which may be the same."""
 
-    def __init__(self, words: List[str]) -> None:
-        # Into a file, so that however much is told there keeps nobody waiting.
-        self.errors = tempfile.TemporaryFile()
-        try:
-            self.child = subprocess.Popen(words, stdin=subprocess.PIPE, stdout=subprocess.PIPE, stderr=self.errors)
-        except OSError as error:
-            self.errors.close()
-            raise NotStarted(f"{words[0]} can't be started: {error.strerror}") from error
-        assert self.child.stdin and self.child.stdout
-        self.writer, self.reader = self.child.stdin, self.child.stdout
+    def __init__(self, writer: socket.socket, reader: socket.socket, flags: int = 0) -> None:
+        self.writer, self.reader, self.flags = writer, reader, flags
+        self.left = bytearray()
+
+    def send(self, octets: bytes, until: Optional[float]) -> None:
+        """Sends octets; raises `TimeoutError`, as `socket.timeout`, where the time passes that is given."""
+        rest = memoryview(octets)
+        while rest:
+            set_time(self.writer, until)
+            rest = rest[self.writer.send(rest, self.flags):]
+
+    def receive(self, until: Optional[float]) -> int:
+        """Receives more octets into what is left; how many, 0 at the end."""
+        set_time(self.reader, until)
+        more = self.reader.recv(65536)
+        self.left += more
+        return len(more)
+
+    def take(self, count: int) -> bytes:
+        """The first octets of what is left."""
+        taken = bytes(self.left[:count])
+        del self.left[:count]
+        return taken
+
+    def read_line(self, until: Optional[float]) -> bytes:
+        """The next answer with its line feed; without one where all has ended or the answer is over its bound."""
+        searched = 0
+        while (end := self.left.find(b"\n", searched)) < 0 and len(self.left) <= LONGEST_ANSWER:
+            searched = len(self.left)
+            if not self.receive(until):
+                break
+        return self.take(end + 1 if end >= 0 else len(self.left))
+
+    def read_rest(self, until: Optional[float]) -> bytes:
+        """All that comes until the end; more than the bound of a final report isn't read."""
+        while len(self.left) <= LONGEST_REPORT and self.receive(until):
+            pass
+        return self.take(len(self.left))
 
     def say_end(self) -> None:
-        """Tells the other end that no more lines come."""
-        self.writer.close()
+        """Says to the other end that no more lines come. Copies of the socket that a fork made don't keep it open."""
+        self.writer.shutdown(socket.SHUT_WR)
 
     def end(self, kill: bool) -> Tuple[Optional[int], str]:
-        """The exit status and what stood on standard error; all is closed then."""
-        if kill:
-            self.child.kill()
-        for stream in (self.writer, self.reader):
-            try:
-                stream.close()
-            except OSError:
-                pass
-        status = self.child.wait()
-        self.errors.seek(0)
-        error = self.errors.read().decode(errors="replace").strip()
-        self.errors.close()
-        return status, error
-
-
-class Connection:
-    """A program behind a socket."""
-
-    def __init__(self, given: socket.socket) -> None:
-        self.socket = given
-        self.writer: BinaryIO = given.makefile("wb")
-        self.reader: BinaryIO = given.makefile("rb")
-
-    def say_end(self) -> None:
-        """Tells the other end that no more lines come."""
-        self.socket.shutdown(socket.SHUT_WR)
-
-    def end(self, kill: bool) -> Tuple[Optional[int], str]:
-        """No status, and no text; all is closed then."""
+        """The exit status where there is one, and what was on standard error; all is closed then."""
         del kill
-        for stream in (self.writer, self.reader, self.socket):
+        for each in (self.writer, self.reader):
             try:
-                stream.close()
+                each.close()
             except OSError:
                 pass
         return None, ""
 
 
+def set_time(given: socket.socket, until: Optional[float]) -> None:
+    """Lets a socket wait until then at most."""
+    if until is not None:
+        left = until - time.monotonic()
+        if left <= 0:
+            raise socket.timeout
+        given.settimeout(left)
+    elif given.gettimeout() is not None:
+        given.settimeout(None)
+
+
+def socket_pair(opened: ExitStack) -> Tuple[socket.socket, socket.socket]:
+    """A pair of sockets, which are closed with the stack."""
+    ours, theirs = socket.socketpair()
+    return opened.enter_context(ours), opened.enter_context(theirs)
+
+
+class Process(Link):
+    """A program that this one starts, behind two pairs of sockets: unlike a pipe, the end of one can be said after a fork."""
+
+    def __init__(self, words: List[str]) -> None:
+        with ExitStack() as opened:
+            try:
+                # Into a file, so that a program that writes a lot there isn't kept waiting.
+                self.errors = opened.enter_context(tempfile.TemporaryFile())
+                (writer, its_input), (reader, its_output) = socket_pair(opened), socket_pair(opened)
+                # In a session of its own, so that Ctrl-C ends this program alone.
+                self.child = subprocess.Popen(words, stdin=its_input.fileno(), stdout=its_output.fileno(), stderr=self.errors,
+                                              start_new_session=True)
+            except (OSError, ValueError) as error:
+                raise NotStarted(f"{words[0]} can't be started: {getattr(error, 'strerror', None) or error}") from error
+            opened.pop_all()
+        its_input.close()
+        its_output.close()
+        super().__init__(writer, reader, getattr(socket, "MSG_NOSIGNAL", 0))
+
+    def wait(self, asked: bool) -> int:
+        """The exit status. A program that doesn't end by itself is asked to end, and one that was asked to is made to."""
+        for ending in (self.child.terminate, self.child.kill)[asked:]:
+            try:
+                return self.child.wait(GRACE)
+            except subprocess.TimeoutExpired:
+                ending()
+        return self.child.wait()
+
+    def end(self, kill: bool) -> Tuple[Optional[int], str]:
+        """The exit status, and the end of what was on standard error; all is closed then. To kill is to ask first."""
+        if kill:
+            self.child.terminate()
+        super().end(kill)
+        status = self.wait(kill)
+        with self.errors:
+            self.errors.seek(max(0, self.errors.seek(0, os.SEEK_END) - LONGEST_ERROR))
+            return status, self.errors.read().decode(errors="replace").strip()
+
+
 def find_program() -> str:
-    """Where `tclive` is: at the root of the repository that this file lies in, or else on the path."""
-    beside = Path(__file__).resolve().parents[2] / "tclive"
-    found = str(beside) if os.access(beside, os.X_OK) else shutil.which("tclive")
+    """Where `tclive` is: at the root of the repository where this file is in its folder there, or else on the path."""
+    here = Path(__file__).resolve()
+    at_root = here.parents[2] / "tclive" if here.parts[-3:-1] == ("clients", "python") else None
+    if at_root and os.access(at_root, os.X_OK):
+        return str(at_root)
+    found = shutil.which("tclive")
     if found is None:
-        raise NotStarted(f"tclive isn't on the path, nor at {beside}; name it by program=, or put its folder on the path")
+        places = f"{f'at {at_root}, nor ' if at_root else ''}in a folder of the path ({os.environ.get('PATH', '')})"
+        raise NotStarted(f"there is no program tclive {places}; name it by program=, or put its folder on the path")
     return found
 
 
 Answer = TypeVar("Answer")
-COUNTS = r"queued (\d+) dropped (\d+) rest ([01])"
+# No number of an answer is longer, and Python refuses to read one of thousands of digits.
+NUMBER = r"(\d{1,20})"
+COUNTS = rf"queued {NUMBER} dropped {NUMBER} rest ([01])"
+
+
+def number(value: int) -> int:
+    """A whole number, as which no text, fraction or `None` passes."""
+    return int(index(value))
 
 
 def delivery_of(queued: str, dropped: str, rest: str) -> Delivery:
@@ -387,16 +475,16 @@ def delivery_of(queued: str, dropped: str, rest: str) -> Delivery:
 
 def counts_of(words: str, kind: str) -> Dict[int, int]:
     """The counts behind each word of this kind, by application or MAP."""
-    return {int(place): int(count) for place, count in re.findall(rf"\b{kind} (\d+) (\d+)", words)}
+    return {int(place): int(count) for place, count in re.findall(rf"\b{kind} {NUMBER} {NUMBER}", words)}
 
 
 def final_of(lines: List[str]) -> Dict[int, Final]:
     """The final report, by channel. Raises `ValueError` where these aren't the lines of one."""
     report: Dict[int, Final] = {}
     for line in lines:
-        if found := re.fullmatch(r"final (\d+) ([0-9a-f]{8}) events (\d+) buffered (\d+)", line):
+        if found := re.fullmatch(rf"final {NUMBER} ([0-9a-f]{{8}}) events {NUMBER} buffered {NUMBER}", line):
             report[int(found[1])] = Final(Clcw(int(found[2], 16)), int(found[3]), int(found[4]))
-        elif (found := re.fullmatch(r"(queue|map) (\d+) (\d+) (\d+)", line)) and int(found[2]) in report:
+        elif (found := re.fullmatch(rf"(queue|map) {NUMBER} {NUMBER} {NUMBER}", line)) and int(found[2]) in report:
             channel = report[int(found[2])]
             (channel.queues if found[1] == "queue" else channel.maps)[int(found[3])] = int(found[4])
         else:
@@ -404,110 +492,142 @@ def final_of(lines: List[str]) -> Dict[int, Final]:
     return report
 
 
+def check_timeout(timeout: Optional[float]) -> None:
+    """Raises `ValueError` where this is no limit of time."""
+    if timeout is not None and not timeout > 0:
+        raise ValueError("a timeout is a number of seconds over 0, or None for no limit")
+
+
 class Receiver:
     """A receiver of one spacecraft."""
 
-    def __init__(self, scid: int, *, fecf: bool = False, program: Union[str, "os.PathLike[str]", None] = None) -> None:
+    def __init__(self, scid: int, *, fecf: bool = False, program: Union[str, "os.PathLike[str]", None] = None,
+                 timeout: Optional[float] = None) -> None:
         """Starts `tclive` for the spacecraft with the id `scid` (0 to 1,023). With `fecf` each frame must carry the frame error
-        control field. `program` is where `tclive` stands; else it is looked for at the root of this repository, where a first
-        start builds it, and then on the path.
+        control field. `program` is the path of `tclive`; without it, it is looked for at the root of this repository, where a first
+        start builds it, and then on the path. With a `timeout` each call, this one as well, has so many seconds.
 
-        Raises `NotStarted` where it isn't there, and `Ended`, with what it told, where it ends at once.
+        Raises `NotStarted` where it isn't there, and `Ended`, with what it said, where it ends at once.
         """
-        words = [find_program() if program is None else os.fspath(program), "--scid", str(index(scid))]
-        self._begin(Process(words + ["--fecf"] * fecf))
+        check_timeout(timeout)
+        words = [find_program() if program is None else os.fspath(program), "--scid", str(number(scid))]
+        self._begin(Process(words + ["--fecf"] * fecf), timeout)
 
     @classmethod
     def over(cls, connection: socket.socket) -> Receiver:
         """A receiver behind a connected stream socket, at whose other end `tclive` reads the lines and answers. The socket is the
-        receiver's from now on, and is closed with it. Where it has a timeout and that passes, the receiver has `Ended`."""
+        receiver's from now on, and is closed with it. Where the socket has a timeout, each call has so many seconds."""
         receiver = cls.__new__(cls)
-        receiver._begin(Connection(connection))
+        check_timeout(connection.gettimeout())
+        receiver._begin(Link(connection, connection), connection.gettimeout())
         return receiver
 
-    def _begin(self, link: Union[Process, Connection]) -> None:
+    def _begin(self, link: Link, timeout: Optional[float]) -> None:
         """Sees by the probe that the other end answers."""
-        self._link, self._lock = link, threading.Lock()
+        self._link, self._lock, self._owner = link, threading.Lock(), os.getpid()
         self._final: Optional[Dict[int, Final]] = None
-        self._over: Optional[Fault] = None
+        # Makes the fault of each later call, anew each time: an exception that is raised again keeps all of its traces.
+        self._over: Optional[Callable[[], Fault]] = None
         self._channels: List[int] = []
-        self._ask(PROBE, lambda answer: answer == PROBE_ANSWER or None)
+        self._until: Optional[float] = None
+        self.timeout = timeout
+        """How many seconds each call has, or `None` for no limit. It may be changed between calls."""
+        self._ask(PROBE, [PROBE_ANSWER].index)
 
     # --- Lines and answers ---
 
-    def _give_up(self, fault: Optional[Fault]) -> NoReturn:
-        """Ends the other end and raises the fault, or with what it told."""
-        # A program that ended by itself is on its way out, and its status is what counts; one that is out of step is killed.
-        status, error = self._link.end(kill=fault is not None)
-        self._over = fault or Ended(status, error)
-        raise self._over
+    def _end(self, fault: Optional[Callable[[], Fault]], kill: bool) -> Fault:
+        """Ends the other end; the fault of this call and each later one, which without another is that it ended."""
+        self._over = fault or partial(Ended, None, "")
+        status, error = self._link.end(kill)
+        self._over = fault or partial(Ended, status, error)
+        return self._over()
 
-    def _read(self) -> str:
-        """The next answer, without its end."""
+    @contextmanager
+    def _link_faults(self) -> Iterator[None]:
+        """Ends the receiver where the link fails. A program that ended by itself is on its way out, and its status is what counts."""
         try:
-            line = self._link.reader.readline()
+            yield
+        except socket.timeout:
+            raise self._end(partial(TimedOut, f"no whole answer came within {self.timeout} seconds"), kill=True) from None
         except OSError:
-            line = b""
-        if not line.endswith(b"\n"):
-            self._give_up(None)
-        return line[:-1].decode("ascii", errors="replace")
+            raise self._end(None, kill=False) from None
+
+    def _give_up(self, line: str, answer: str) -> NoReturn:
+        """Ends the other end, which is out of step."""
+        raise self._end(partial(Unexpected, line, answer[:1000]), kill=True) from None
+
+    def _read(self, line: str) -> str:
+        """The answer to a line, without its end."""
+        with self._link_faults():
+            octets = self._link.read_line(self._until)
+        if len(octets) > LONGEST_ANSWER:
+            self._give_up(line, octets[:1000].decode("ascii", errors="replace"))
+        if not octets.endswith(b"\n"):
+            raise self._end(None, kill=False)
+        return octets[:-1].decode("ascii", errors="replace")
 
     def _write(self, lines: str) -> None:
         """Writes lines, which end with a line feed each."""
         if self._over:
-            raise self._over
+            raise self._over()
         if self._final is not None:
             raise Ended(None, "it was closed")
-        try:
-            self._link.writer.write(lines.encode("ascii"))
-            self._link.writer.flush()
-        except OSError:
-            self._give_up(None)
+        if self._link.left:
+            self._give_up("no line", self._link.left[:1000].decode("ascii", errors="replace"))
+        self._until = None if self.timeout is None else time.monotonic() + self.timeout
+        with self._link_faults():
+            self._link.send(lines.encode("ascii"), self._until)
 
     @contextmanager
     def _turn(self) -> Iterator[None]:
         """One line and its answer at a time. Where something else than a fault comes between, as an interrupt, the answer would be taken
         for that of the next line; so the other end is ended."""
+        if os.getpid() != self._owner:
+            raise Ended(None, "only the process that started the receiver can use it")
         with self._lock:
             try:
                 yield
             except Fault:
                 raise
             except BaseException:
-                self._over = self._over or Ended(*self._link.end(kill=True))
+                if self._over is None:
+                    self._end(None, kill=True)
                 raise
 
-    def _ask(self, line: str, read: Callable[[str], Optional[Answer]]) -> Answer:
-        """The answer to a line, as it is read; None where it isn't one to this line."""
+    def _ask(self, line: str, read: Callable[[str], Answer]) -> Answer:
+        """The answer to a line, as it is read, which raises `ValueError` where it isn't one to this line."""
         with self._turn():
             self._write(line + "\n")
-            answer = self._read()
-            value = read(answer)
-            if value is None and not answer.startswith("bad "):
-                self._give_up(Unexpected(line, answer))
-        if value is None:
-            raise BadLine(line, answer[4:])
-        return value
+            answer = self._read(line)
+            try:
+                return read(answer)
+            except ValueError:
+                if not answer.startswith("bad "):
+                    self._give_up(line, answer)
+        raise BadLine(line, answer[4:])
 
     def _operate(self, line: str, pattern: str, refusals: FrozenSet[Refusal], made: Callable[[Match[str]], Answer]) -> Union[Answer, Refused]:
         """The answer to an operation, made of the words that the pattern finds."""
-        def read(answer: str) -> Union[Answer, Refused, None]:
-            if answer.startswith("refused "):
-                return next((Refused(reason) for reason in refusals if reason.value == answer[8:]), None)
+        def read(answer: str) -> Union[Answer, Refused]:
+            if answer.startswith("refused ") and Refusal(answer[8:]) in refusals:
+                return Refused(Refusal(answer[8:]))
             found = re.fullmatch(pattern, answer)
-            return made(found) if found else None
+            if found is None:
+                raise ValueError(answer)
+            return made(found)
         return self._ask(line, read)
 
     def _set_up(self, line: str) -> None:
         """Writes a line that has no answer unless it is bad, and the probe behind it."""
         with self._turn():
             self._write(f"{line}\n{PROBE}\n")
-            answer = self._read()
+            answer = self._read(line)
             if answer == PROBE_ANSWER:
                 return
-            after = self._read()
+            after = self._read(line)
             if not answer.startswith("bad ") or after != PROBE_ANSWER:
-                self._give_up(Unexpected(line, answer))
+                self._give_up(line, answer)
         raise BadLine(line, answer[4:])
 
     # --- Setting up, before any operation ---
@@ -515,16 +635,16 @@ class Receiver:
     def channel(self, vcid: int, *, width: int, buffer: int, first: int, plain: bool = False) -> None:
         """Sets up a virtual channel (0 to 63): the width of its window (even, 2 to 254), how many data fields its buffer holds (1 to
         64), its first V(R) (0 to 255), and whether its data fields have no segment headers."""
-        self._set_up(f"channel {index(vcid)} {index(width)} {index(buffer)} {index(first)}{' plain' if plain else ''}")
+        self._set_up(f"channel {number(vcid)} {number(width)} {number(buffer)} {number(first)}{' plain' if plain else ''}")
         self._channels.append(vcid)
 
     def queue(self, vcid: int, apid: int, capacity: int) -> None:
         """Gives a channel a queue for the packets of an application (0 to 2,046), with room for so many (1 to 256)."""
-        self._set_up(f"queue {index(vcid)} {index(apid)} {index(capacity)}")
+        self._set_up(f"queue {number(vcid)} {number(apid)} {number(capacity)}")
 
     def map(self, vcid: int, map: int, capacity: int) -> None:
         """Gives a channel a queue for the units of a MAP (0 to 63), with room for so many (1 to 256)."""
-        self._set_up(f"map {index(vcid)} {index(map)} {index(capacity)}")
+        self._set_up(f"map {number(vcid)} {number(map)} {number(capacity)}")
 
     # --- Operations ---
 
@@ -532,22 +652,22 @@ class Receiver:
         """Brings octets that arrive, with the frame at their front. For no octets at all there is no line, so a single one is brought
         in their place, which is refused just the same. With a frame error control field every fault of the octets is `CHECK`."""
         digits = memoryview(octets).tobytes().hex() or "00"
-        return self._operate(f"frame {digits}", rf"frame (\d+) (E[1-9]) accepted ([01]) {COUNTS}", OF_FRAMES,
+        return self._operate(f"frame {digits}", rf"frame {NUMBER} (E[1-9]) accepted ([01]) {COUNTS}", OF_FRAMES,
                              lambda found: Brought(int(found[1]), Event(found[2]), found[3] == "1", delivery_of(*found.groups()[3:])))
 
     def release(self, vcid: int) -> Union[Released, Refused]:
         """Lets the oldest data field out of the buffer, to reassembly."""
-        return self._operate(f"release {index(vcid)}", rf"release {index(vcid)} {COUNTS}", OF_CHANNELS | {Refusal.EMPTY},
+        return self._operate(f"release {number(vcid)}", rf"release {number(vcid)} {COUNTS}", OF_CHANNELS | {Refusal.EMPTY},
                              lambda found: Released(vcid, delivery_of(*found.groups())))
 
     def take(self, vcid: int, apid: int) -> Union[Packet, Refused]:
         """Takes the oldest packet out of the queue of an application."""
-        return self._operate(f"take {index(vcid)} {index(apid)}", rf"take {index(vcid)} {index(apid)} ((?:[0-9a-f]{{2}})+)",
+        return self._operate(f"take {number(vcid)} {number(apid)}", rf"take {number(vcid)} {number(apid)} ((?:[0-9a-f]{{2}})+)",
                              OF_CHANNELS | {Refusal.NO_QUEUE, Refusal.EMPTY}, lambda found: Packet(vcid, apid, bytes.fromhex(found[1])))
 
     def take_unit(self, vcid: int, map: int) -> Union[Unit, Refused]:
         """Takes the oldest unit out of the queue of a MAP."""
-        return self._operate(f"unit {index(vcid)} {index(map)}", rf"unit {index(vcid)} {index(map)} (-|(?:[0-9a-f]{{2}})+)",
+        return self._operate(f"unit {number(vcid)} {number(map)}", rf"unit {number(vcid)} {number(map)} (-|(?:[0-9a-f]{{2}})+)",
                              OF_CHANNELS | {Refusal.NO_MAP, Refusal.EMPTY}, lambda found: Unit(vcid, map, bytes.fromhex(found[1].strip("-"))))
 
     def packets(self, vcid: int, apid: int) -> Iterator[bytes]:
@@ -567,18 +687,18 @@ class Receiver:
 
     def clcw(self, vcid: int) -> Union[Clcw, Refused]:
         """The channel's CLCW, with the flags of the link as they were last set."""
-        return self._operate(f"clcw {index(vcid)}", rf"clcw {index(vcid)} ([0-9a-f]{{8}})", OF_CHANNELS, lambda found: Clcw(int(found[1], 16)))
+        return self._operate(f"clcw {number(vcid)}", rf"clcw {number(vcid)} ([0-9a-f]{{8}})", OF_CHANNELS, lambda found: Clcw(int(found[1], 16)))
 
     def link(self, vcid: int, no_rf: bool, no_bit_lock: bool) -> Union[bool, Refused]:
         """Sets the flags of the link in later CLCWs of a channel: No RF Available and No Bit Lock. True where this was done."""
-        line = f"link {index(vcid)} {int(bool(no_rf))} {int(bool(no_bit_lock))}"
+        line = f"link {number(vcid)} {int(bool(no_rf))} {int(bool(no_bit_lock))}"
         return self._operate(line, re.escape(line), OF_CHANNELS, lambda found: True)
 
     def report(self, vcid: int) -> Union[Report, Refused]:
         """What the channel is at the moment."""
-        pattern = (rf"report {index(vcid)} state (open|wait|lockout) vr (\d+) lockout ([01]) wait ([01]) retransmit ([01]) farm-b ([0-3])"
-                   r" buffered (\d+)((?: queue \d+ \d+)*(?: map \d+ \d+)*)")
-        return self._operate(f"report {index(vcid)}", pattern, OF_CHANNELS,
+        pattern = (rf"report {number(vcid)} state (open|wait|lockout) vr {NUMBER} lockout ([01]) wait ([01]) retransmit ([01]) farm-b ([0-3])"
+                   rf" buffered {NUMBER}((?: queue \d{{1,20}} \d{{1,20}})*(?: map \d{{1,20}} \d{{1,20}})*)")
+        return self._operate(f"report {number(vcid)}", pattern, OF_CHANNELS,
                              lambda found: Report(vcid, State(found[1]), int(found[2]), found[3] == "1", found[4] == "1", found[5] == "1", int(found[6]),
                                                   int(found[7]), counts_of(found[8], "queue"), counts_of(found[8], "map")))
 
@@ -600,19 +720,19 @@ class Receiver:
             if self._final is not None:
                 return self._final
             self._write("")
-            try:
+            with self._link_faults():
                 self._link.say_end()
-                text = self._link.reader.read().decode("ascii", errors="replace")
-            except OSError:
-                self._give_up(None)
+                text = self._link.read_rest(self._until).decode("ascii", errors="replace")
+            if len(text) > LONGEST_REPORT:
+                self._give_up("the end of the lines", text)
             try:
                 report = final_of(text.split("\n")[:-1])
             except ValueError as line:
-                self._give_up(Unexpected("the end of the lines", str(line)))
+                self._give_up("the end of the lines", str(line))
             status, error = self._link.end(kill=False)
             if status or (text and not text.endswith("\n")) or not set(self._channels) <= set(report):
-                self._over = Ended(status, error or "without its whole report")
-                raise self._over
+                self._over = partial(Ended, status, error or "without its whole report")
+                raise self._over()
             self._final = report
             return report
 
@@ -623,5 +743,5 @@ class Receiver:
         """Closes the receiver; where an exception is on its way the program is ended, and there is no report."""
         if error is None:
             self.close()
-        elif self._over is None and self._final is None:
-            self._over = Ended(*self._link.end(kill=True))
+        elif self._over is None and self._final is None and os.getpid() == self._owner:
+            self._end(None, kill=True)

@@ -1,0 +1,116 @@
+"""What the checks of the client in Python share: comparisons and their count, octets by the standard's layout, and programs that are
+started beside the test."""
+import signal
+import subprocess
+import sys
+from pathlib import Path
+
+sys.dont_write_bytecode = True
+TOP = Path(__file__).resolve().parent.parent
+CLIENT = TOP / "clients/python/tcrx.py"
+sys.path.insert(0, str(CLIENT.parent))
+from tcrx import Clcw, Delivery  # noqa: E402
+
+# Seconds after which something that doesn't end counts as failed: one wait, and one check as a whole.
+PATIENCE, LONGEST = 60, 900
+NOTHING = Delivery(0, 0, False)
+passed = failed = 0
+begun = []
+
+
+def tell(good, what):
+    """Counts a comparison, and names it where it failed."""
+    global passed, failed
+    passed, failed = passed + bool(good), failed + (not good)
+    if not good:
+        print(f"client: {what}")
+
+
+def same(answer, wanted, what):
+    tell(answer == wanted and type(answer) is type(wanted), f"{what}: {answer!r}, and not {wanted!r}")
+
+
+def raises(kind, call, what):
+    """The exception of a call, which must be of this kind and no other."""
+    try:
+        answer = call()
+    except Exception as fault:
+        tell(type(fault) is kind, f"{what}: {fault!r}, and not {kind.__name__}")
+        return fault
+    tell(False, f"{what}: {answer!r}, and no {kind.__name__}")
+    return None
+
+
+def begin(words, **streams):
+    """A program beside the test, which is killed where its check leaves it behind."""
+    begun.append(subprocess.Popen(words, **streams))
+    return begun[-1]
+
+
+# --- Octets by the standard's layout (docs/reference/formats.md) ---
+
+def frame(number, data, channel=1, bypass=0, command=0, scid=42, fecf=False):
+    """A frame: flags and spacecraft, channel and length, number, data field, and the field of its sum, bit by bit."""
+    length = 5 + len(data) + 2 * fecf - 1
+    octets = (bypass << 13 | command << 12 | scid).to_bytes(2, "big") + (channel << 10 | length).to_bytes(2, "big") + bytes([number]) + data
+    return octets + sum_of(octets) if fecf else octets
+
+
+def sum_of(octets):
+    """The frame error control field (CCSDS 232.0-B, 4.1.4)."""
+    register = 0xFFFF
+    for octet in octets:
+        for place in range(7, -1, -1):
+            out = (register >> 15 ^ octet >> place) & 1
+            register = (register << 1 & 0xFFFF) ^ (0x1021 * out)
+    return register.to_bytes(2, "big")
+
+
+def packet(apid, *data):
+    return (0x1000 | apid).to_bytes(2, "big") + b"\xc0\x00" + (len(data) - 1).to_bytes(2, "big") + bytes(data)
+
+
+def whole(map_id, data):
+    """An unsegmented data field."""
+    return bytes([0xC0 | map_id]) + data
+
+
+UNLOCK, SET_VR_9 = frame(0, b"\x00", bypass=1, command=1), frame(0, b"\x82\x00\x09", bypass=1, command=1)
+ONE = packet(5, 0xAA)
+
+
+def word(channel, flags, farm_b, report):
+    """A CLCW: COP-1, channel, flags (No RF 16, No Bit Lock 8, Lockout 4, Wait 2, Retransmit 1), FARM-B and V(R)."""
+    return Clcw(0x01000000 | channel << 18 | flags << 11 | farm_b << 9 | report)
+
+
+# --- Checks ---
+
+class Stuck(BaseException):
+    """A check doesn't end. It is no `Exception`, so that nothing else takes it for an answer."""
+
+
+def give_up(*_):
+    raise Stuck
+
+
+def attempt(check, *given):
+    """Does a check, and counts as failed what ends it early."""
+    signal.setitimer(signal.ITIMER_REAL, LONGEST, PATIENCE)
+    try:
+        check(*given)
+    except (Exception, Stuck) as fault:
+        tell(False, f"{check.__name__} ended with {fault!r}")
+    finally:
+        signal.setitimer(signal.ITIMER_REAL, 0)
+        for child in begun:
+            if child.poll() is None:
+                child.kill()
+                child.wait()
+        begun.clear()
+
+
+def close(told=""):
+    """Prints the closing line, and ends with the status."""
+    print(f"{passed} comparisons of the client passed, {failed} failed{told}")
+    sys.exit(1 if failed or not passed else 0)
