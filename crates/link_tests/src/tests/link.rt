@@ -1,6 +1,7 @@
 //! Frames, FARM-1 by itself and CLCWs.
 
 use std::alloc::Global;
+use std::fmt::Display;
 use std::process::Abort;
 use tc_link::{
     Act, Arrival, ClcwFields, Command, Farm, FrameFault, Header, Kind, Link, Report, State, Window,
@@ -14,10 +15,8 @@ fn ad_frame(ns: u8) -> [u8; 13] {
     ]
 }
 
-fn first_act(rt: &impl Abort, width: u8, octets: &[u8]) -> Act {
-    let mut farm = Farm::new(Window::new(width).expect(rt, "a width"), 0);
-    let frame = read_frame(octets).expect(rt, "a frame");
-    arrive(&mut farm, kind(&frame), true)
+fn window(rt: &impl Abort, width: u8) -> Window {
+    Window::new(width).expect(rt, "a width")
 }
 
 // A frame comes; in S2 it finds no room.
@@ -37,7 +36,28 @@ fn word(farm: &Farm) -> u32 {
     clcw_word(&farm.report(), 1, no_flag)
 }
 
-fn discarded(event: u8) -> Act {
+// What comes, what FARM-1 makes of it, and the CLCW after it.
+type Row = (Arrival, Act, u32);
+
+fn check_rows(rt: &impl Abort, farm: &mut Farm, rows: &[Row]) {
+    for &(arrival, act, after) in rows {
+        let made = match arrival {
+            Arrival::Frame { kind, room } => arrive(farm, kind, room),
+            Arrival::Release => farm.step(Arrival::Release),
+        };
+        assert_eq!(rt; made, act);
+        assert_eq!(rt; word(farm), after);
+    }
+}
+
+const fn ad(ns: u8, room: bool) -> Arrival {
+    Arrival::Frame {
+        kind: Kind::Ad(ns),
+        room,
+    }
+}
+
+const fn discarded(event: u8) -> Act {
     Act {
         event,
         accepted: false,
@@ -46,27 +66,23 @@ fn discarded(event: u8) -> Act {
 
 #[test]
 fn a_full_buffer_then_a_lockout_then_an_unlock(rt: HostRuntime) {
-    let mut farm = Farm::new(Window::new(10).expect(&rt, "a width"), 0);
     let accepted = Act {
         event: 1,
         accepted: true,
     };
-    for (ns, room, act, after) in [
-        (0, true, accepted, 0x01040001),
-        (1, false, discarded(2), 0x01041801),
-        (2, false, discarded(3), 0x01041801),
-        (6, false, discarded(5), 0x01043801),
-    ] {
-        assert_eq!(rt; arrive(&mut farm, Kind::Ad(ns), room), act);
-        assert_eq!(rt; word(&farm), after);
-    }
-    assert_eq!(rt; farm.step(Arrival::Release), discarded(10));
-    assert_eq!(rt; word(&farm), 0x01042801);
-    assert_eq!(rt;
-        arrive(&mut farm, Kind::Bc(Command::Unlock), false),
-        discarded(7)
-    );
-    assert_eq!(rt; word(&farm), 0x01040201);
+    let unlock = Arrival::Frame {
+        kind: Kind::Bc(Command::Unlock),
+        room: false,
+    };
+    let rows = [
+        (ad(0, true), accepted, 0x01040001),
+        (ad(1, false), discarded(2), 0x01041801),
+        (ad(2, false), discarded(3), 0x01041801),
+        (ad(6, false), discarded(5), 0x01043801),
+        (Arrival::Release, discarded(10), 0x01042801),
+        (unlock, discarded(7), 0x01040201),
+    ];
+    check_rows(&rt, &mut Farm::new(window(&rt, 10), 0), &rows)
 }
 
 #[test]
@@ -79,72 +95,96 @@ fn farm_1_goes_on_from_its_components(rt: HostRuntime) {
         retransmit: true,
         farm_b: 3,
     };
-    let mut farm = Farm::resumed(Window::new(10).expect(&rt, "a width"), report);
+    let mut farm = Farm::resumed(window(&rt, 10), report);
     assert_eq!(rt; word(&farm), 0x01041e01);
-    assert_eq!(rt; farm.step(Arrival::Release), discarded(10));
-    assert_eq!(rt; word(&farm), 0x01040e01);
+    let rows = [(Arrival::Release, discarded(10), 0x01040e01)];
+    check_rows(&rt, &mut farm, &rows)
 }
+
+fn first_act(rt: &impl Abort, width: u8, octets: &[u8]) -> Act {
+    let frame = read_frame(octets).expect(rt, "a frame");
+    arrive(&mut Farm::new(window(rt, width), 0), kind(&frame), true)
+}
+
+// Widths of the window, sequence numbers, and the events of their frames.
+static FIRST_EVENTS: [(u8, u8, u8); 7] = [
+    (254, 0x7e, 3),
+    (254, 0x7f, 5),
+    (254, 0x80, 5),
+    (254, 0x81, 4),
+    (2, 0x01, 5),
+    (2, 0xff, 4),
+    (2, 0xfe, 5),
+];
 
 #[test]
 fn the_widest_and_the_narrowest_window(rt: HostRuntime) {
-    for (width, ns, event) in [
-        (254, 0x7e, 3),
-        (254, 0x7f, 5),
-        (254, 0x80, 5),
-        (254, 0x81, 4),
-        (2, 0x01, 5),
-        (2, 0xff, 4),
-        (2, 0xfe, 5),
-    ] {
+    for &(width, ns, event) in &FIRST_EVENTS {
         let act = first_act(&rt, width, &ad_frame(ns));
         assert_eq!(rt; act, discarded(event), "width {width}, N(S) {ns}");
     }
 }
 
+// Octets of no frame. But for the last ones they are what `ad_frame(0)` begins with, or that with another first octet.
+static FAULTS: [(&[u8], FrameFault); 6] = [
+    (
+        &[
+            0x00, 0x2a, 0x04, 0x0c, 0x00, 0xc0, 0x10, 0x05, 0xc0, 0x00, 0x00, 0x00,
+        ],
+        FrameFault::Truncated,
+    ),
+    (&[0x00, 0x2a, 0x04], FrameFault::Short),
+    (
+        &[
+            0x40, 0x2a, 0x04, 0x0c, 0x00, 0xc0, 0x10, 0x05, 0xc0, 0x00, 0x00, 0x00, 0xaa,
+        ],
+        FrameFault::Version,
+    ),
+    (
+        &[
+            0x04, 0x2a, 0x04, 0x0c, 0x00, 0xc0, 0x10, 0x05, 0xc0, 0x00, 0x00, 0x00, 0xaa,
+        ],
+        FrameFault::Spare,
+    ),
+    (
+        &[
+            0x44, 0x2a, 0x04, 0x0c, 0x00, 0xc0, 0x10, 0x05, 0xc0, 0x00, 0x00, 0x00, 0xaa,
+        ],
+        FrameFault::Version,
+    ),
+    (&[0x00, 0x2a, 0x04, 0x04, 0x00], FrameFault::LengthSmall),
+];
+
 #[test]
 fn each_fault_of_octets(rt: HostRuntime) {
-    let whole = ad_frame(0);
-    assert_eq!(rt; fault(&whole[..12]), Some(FrameFault::Truncated));
-    assert_eq!(rt; fault(&whole[..3]), Some(FrameFault::Short));
-    for (first, expected) in [
-        (0x40, FrameFault::Version),
-        (0x04, FrameFault::Spare),
-        (0x44, FrameFault::Version),
-    ] {
-        let mut octets = whole;
-        octets[0] = first;
-        assert_eq!(rt; fault(&octets), Some(expected), "first octet {first}");
+    for (octets, fault) in &FAULTS {
+        assert_eq!(rt; read_frame(octets).err(), Some(*fault));
     }
-    let small = [0x00, 0x2a, 0x04, 0x04, 0x00];
-    assert_eq!(rt; fault(&small), Some(FrameFault::LengthSmall));
 }
 
-fn fault(octets: &[u8]) -> Option<FrameFault> {
-    read_frame(octets).err()
+fn check_text<T: Display>(rt: &impl Abort, alloc: Global, fault: &T, text: &str) {
+    let written = fault.to_string(alloc).expect(rt, "an answer");
+    assert_eq!(rt; written.as_str(), text);
 }
+
+static FRAME_FAULTS: [(FrameFault, &str); 5] = [
+    (FrameFault::Short, "fewer than 5 octets"),
+    (FrameFault::Version, "the version isn't 0"),
+    (FrameFault::Spare, "the spare bits aren't 0"),
+    (
+        FrameFault::LengthSmall,
+        "the frame length names fewer than 6 octets",
+    ),
+    (
+        FrameFault::Truncated,
+        "the frame length names more octets than there are",
+    ),
+];
 
 #[test]
 fn the_text_of_each_fault(rt: HostRuntime) {
-    for (fault, text) in [
-        (FrameFault::Short, "fewer than 5 octets"),
-        (FrameFault::Version, "the version isn't 0"),
-        (FrameFault::Spare, "the spare bits aren't 0"),
-        (
-            FrameFault::LengthSmall,
-            "the frame length names fewer than 6 octets",
-        ),
-        (
-            FrameFault::Truncated,
-            "the frame length names more octets than there are",
-        ),
-    ] {
-        assert_eq!(rt;
-            fault
-                .to_string(rt.alloc())
-                .expect(&rt, "an answer")
-                .as_str(),
-            text
-        );
+    for (fault, text) in &FRAME_FAULTS {
+        check_text(&rt, rt.alloc(), fault, text)
     }
 }
 
@@ -158,82 +198,81 @@ const HEADER: Header = Header {
 
 const FIELD: [u8; 8] = [0xc0, 0x10, 0x05, 0xc0, 0x00, 0x00, 0x00, 0xaa];
 
-fn write_refusal(alloc: Global, header: &Header, field: &[u8]) -> Option<WriteFault> {
-    write_frame(alloc, header, field).err()
+fn written(rt: &impl Abort, alloc: Global, header: &Header, field: &[u8]) -> Vec<u8> {
+    write_frame(alloc, header, field).expect(rt, "an answer")
 }
 
 #[test]
 fn a_frame_is_written(rt: HostRuntime) {
-    let octets = write_frame(rt.alloc(), &HEADER, &FIELD).expect(&rt, "an answer");
+    let octets = written(&rt, rt.alloc(), &HEADER, &FIELD);
     assert_eq!(rt; octets.as_slice(), ad_frame(0).as_slice());
 }
 
 #[test]
 fn a_header_is_written_without_its_data_field(rt: HostRuntime) {
     let front = written_header(&HEADER, &FIELD).expect(&rt, "a header");
-    assert_eq!(rt; front.as_slice(), [0x00, 0x2a, 0x04, 0x0c, 0x00].as_slice());
+    assert_eq!(rt; front, [0x00, 0x2a, 0x04, 0x0c, 0x00]);
     assert_eq!(rt;
         written_header(&HEADER, &[]).err(),
         Some(WriteFault::EmptyData)
     );
 }
 
+// The octets are a frame with this header and this data field.
+fn check_frame(rt: &impl Abort, octets: &[u8], header: &Header, field: &[u8]) {
+    let frame = read_frame(octets).expect(rt, "a frame");
+    assert_eq!(rt; frame.header(), *header);
+    assert_eq!(rt; frame.field(), field);
+}
+
 #[test]
 fn the_longest_frame_is_written_and_read_back(rt: HostRuntime) {
     let field = [0u8; 1019];
-    let octets = write_frame(rt.alloc(), &HEADER, &field).expect(&rt, "an answer");
+    let octets = written(&rt, rt.alloc(), &HEADER, &field);
     assert_eq!(rt; octets.len(), 1024);
     assert_eq!(rt; &octets[..5], [0x00, 0x2a, 0x07, 0xff, 0x00].as_slice());
-    let frame = read_frame(&octets).expect(&rt, "an answer");
-    assert_eq!(rt; frame.header(), HEADER);
-    assert_eq!(rt; frame.field(), field.as_slice());
+    check_frame(&rt, &octets, &HEADER, &field)
 }
+
+// Headers and data fields of no frame.
+static REFUSED: [(Header, &[u8], WriteFault); 4] = [
+    (HEADER, &[], WriteFault::EmptyData),
+    (HEADER, &[0; 1020], WriteFault::TooLong),
+    (
+        Header {
+            scid: 1024,
+            ..HEADER
+        },
+        &[],
+        WriteFault::BadField,
+    ),
+    (Header { vcid: 64, ..HEADER }, &FIELD, WriteFault::BadField),
+];
 
 #[test]
 fn each_fault_of_what_is_to_be_written(rt: HostRuntime) {
-    let alloc = rt.alloc();
-    let far = Header {
-        scid: 1024,
-        ..HEADER
-    };
-    let no_channel = Header { vcid: 64, ..HEADER };
-    let too_long = [0u8; 1020];
-    assert_eq!(rt;
-        write_refusal(alloc, &HEADER, &[]),
-        Some(WriteFault::EmptyData)
-    );
-    assert_eq!(rt;
-        write_refusal(alloc, &HEADER, &too_long),
-        Some(WriteFault::TooLong)
-    );
-    assert_eq!(rt; write_refusal(alloc, &far, &[]), Some(WriteFault::BadField));
-    assert_eq!(rt;
-        write_refusal(alloc, &no_channel, &FIELD),
-        Some(WriteFault::BadField)
-    );
+    for (header, field, fault) in &REFUSED {
+        assert_eq!(rt; write_frame(rt.alloc(), header, field).err(), Some(*fault));
+    }
 }
+
+static WRITE_FAULTS: [(WriteFault, &str); 4] = [
+    (
+        WriteFault::BadField,
+        "a field of the header is over its bound",
+    ),
+    (WriteFault::EmptyData, "the data field is empty"),
+    (
+        WriteFault::TooLong,
+        "the data field has more than 1,019 octets",
+    ),
+    (WriteFault::NoMemory, "no memory"),
+];
 
 #[test]
 fn the_text_of_each_write_fault(rt: HostRuntime) {
-    for (fault, text) in [
-        (
-            WriteFault::BadField,
-            "a field of the header is over its bound",
-        ),
-        (WriteFault::EmptyData, "the data field is empty"),
-        (
-            WriteFault::TooLong,
-            "the data field has more than 1,019 octets",
-        ),
-        (WriteFault::NoMemory, "no memory"),
-    ] {
-        assert_eq!(rt;
-            fault
-                .to_string(rt.alloc())
-                .expect(&rt, "an answer")
-                .as_str(),
-            text
-        );
+    for (fault, text) in &WRITE_FAULTS {
+        check_text(&rt, rt.alloc(), fault, text)
     }
 }
 
@@ -244,21 +283,22 @@ fn growth_of_a_written_frame(rt: HostRuntime) {
         Err(fault) => {
             let _ = println!(rt; "refused: write_frame");
             assert_eq!(rt; fault, WriteFault::NoMemory);
-            write_frame(rt.alloc(), &HEADER, &FIELD).expect(&rt, "an answer")
+            written(&rt, rt.alloc(), &HEADER, &FIELD)
         }
     };
     assert_eq!(rt; octets.as_slice(), ad_frame(0).as_slice());
 }
 
+const NOT_CLCWS: [u32; 5] = [0x81040000, 0x21040000, 0x00040000, 0x01050000, 0x01040100];
+
 #[test]
 fn words_are_written_and_read(rt: HostRuntime) {
-    let farm = Farm::new(Window::new(10).expect(&rt, "a width"), 0);
+    let farm = Farm::new(window(&rt, 10), 0);
     let both = Link {
         no_rf: true,
         no_bit_lock: true,
     };
     assert_eq!(rt; clcw_word(&farm.report(), 1, both), 0x0104c000);
-    let fields = read_clcw(0x01041801).expect(&rt, "a CLCW");
     let expected = ClcwFields {
         status: 0,
         vcid: 1,
@@ -272,9 +312,9 @@ fn words_are_written_and_read(rt: HostRuntime) {
         farm_b: 0,
         vr: 1,
     };
-    assert_eq!(rt; fields, expected);
-    assert_eq!(rt; read_clcw(0x05040000).expect(&rt, "a CLCW").status, 1);
-    for word in [0x81040000, 0x21040000, 0x00040000, 0x01050000, 0x01040100] {
+    assert_eq!(rt; read_clcw(0x01041801), Some(expected));
+    assert_eq!(rt; read_clcw(0x05040000).map(|fields| fields.status), Some(1));
+    for word in NOT_CLCWS {
         assert_eq!(rt; read_clcw(word), None, "{word:08x}");
     }
 }
@@ -290,10 +330,8 @@ fn each_pair_of_flags_is_written_and_read_back(rt: HostRuntime) {
                 vcid,
                 ns,
             };
-            let octets = write_frame(rt.alloc(), &header, &[0]).expect(&rt, "octets");
-            let frame = read_frame(&octets).expect(&rt, "a frame");
-            assert_eq!(rt; frame.header(), header);
-            assert_eq!(rt; frame.field(), [0].as_slice());
+            let octets = written(&rt, rt.alloc(), &header, &[0]);
+            check_frame(&rt, &octets, &header, &[0])
         }
     }
 }

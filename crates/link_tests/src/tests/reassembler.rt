@@ -4,9 +4,48 @@ mod plain;
 mod streams;
 
 use definition::Given;
-use std::alloc::Global;
+use std::alloc::{AllocError, Global};
 use std::process::Abort;
-use tc_packet::{NoMemory, Reassembler, Service};
+use tc_packet::{NoMemory, Reassembler, Service, read_segment};
+
+// The unit that a field, which isn't empty, would end.
+fn ask(
+    rt: &impl Abort,
+    reassembler: &Reassembler,
+    service: Service,
+    field: &[u8],
+) -> Result<Option<Vec<u8>>, NoMemory> {
+    assert!(rt; !field.is_empty());
+    reassembler.unit_after(service, field)
+}
+
+// The unit that a field, which isn't empty, ends.
+fn push(
+    rt: &impl Abort,
+    reassembler: &mut Reassembler,
+    service: Service,
+    field: &[u8],
+) -> Result<Option<Vec<u8>>, NoMemory> {
+    assert!(rt; !field.is_empty());
+    reassembler.push(service, field)
+}
+
+// Takes a field, which isn't empty, without making the unit that it ends.
+fn advance(
+    rt: &impl Abort,
+    reassembler: &mut Reassembler,
+    service: Service,
+    field: &[u8],
+) -> Result<(), NoMemory> {
+    assert!(rt; !field.is_empty());
+    reassembler.advance(service, field)
+}
+
+// This unit was ended, or none; no memory was refused.
+fn check_unit(rt: &impl Abort, answer: Result<Option<Vec<u8>>, NoMemory>, expected: Option<&[u8]>) {
+    let unit = answer.expect(rt, "an answer");
+    assert_eq!(rt; unit.as_deref(), expected);
+}
 
 // A reassembler, one that goes on without making units, and all that was ever given to both.
 #[derive(Drop)]
@@ -18,55 +57,52 @@ struct Watched {
 }
 
 impl Watched {
-    fn new(alloc: Global) -> Result<Watched, NoMemory> {
-        Ok(Watched {
+    fn new(rt: &impl Abort, alloc: Global) -> Watched {
+        let reassembler = Reassembler::new(alloc, true).expect(rt, "a reassembler");
+        let advanced = Reassembler::new(alloc, true).expect(rt, "a reassembler");
+        Watched {
             alloc,
-            reassembler: Reassembler::new(alloc, true)?,
-            advanced: Reassembler::new(alloc, true)?,
+            reassembler,
+            advanced,
             given: Vec::new(alloc),
-        })
+        }
     }
 
-    // The unit that the field ends: the same by each call and by the definition over the whole stream.
-    fn push(&mut self, rt: &impl Abort, service: Service, field: &[u8]) -> Option<Vec<u8>> {
-        assert!(rt; !field.is_empty());
+    // The unit that the field would end: the same of each reassembler and by the definition over the whole stream.
+    fn unit_after(&self, rt: &impl Abort, service: Service, field: &[u8]) -> Option<Vec<u8>> {
         let expected = definition::unit_after(self.alloc, &self.given, service, field).expect(
             rt,
             "an answer",
         );
         for reassembler in [&self.reassembler, &self.advanced] {
-            let after = reassembler
-                .unit_after(service, field)
-                .expect(rt, "an answer");
-            assert_eq!(rt; after, expected);
+            check_unit(
+                rt,
+                ask(rt, reassembler, service, field),
+                expected.as_deref(),
+            );
         }
-        self.advanced
-            .advance(service, field)
-            .expect(rt, "an answer");
-        let unit = self
-            .reassembler
-            .push(service, field)
-            .expect(rt, "an answer");
-        assert_eq!(rt; unit, expected);
-        let field = Vec::from_slice(self.alloc, field).expect(rt, "an answer");
+        expected
+    }
+
+    fn note(&mut self, rt: &impl Abort, service: Service, field: &[u8]) {
+        let field = Vec::from_slice(self.alloc, field).expect(rt, "a copy");
         self.given
             .push(Given { service, field })
-            .expect(rt, "an answer");
-        unit
+            .expect(rt, "a field");
+    }
+
+    // The field ends this unit, or none, by each call and by the definition.
+    fn push(&mut self, rt: &impl Abort, service: Service, field: &[u8]) -> Option<Vec<u8>> {
+        let expected = self.unit_after(rt, service, field);
+        advance(rt, &mut self.advanced, service, field).expect(rt, "an answer");
+        let answer = push(rt, &mut self.reassembler, service, field);
+        check_unit(rt, answer, expected.as_deref());
+        self.note(rt, service, field);
+        expected
     }
 
     // The open run of the stream is what an empty last segment would make a unit of.
     fn check_run(&self, rt: &impl Abort, service: Service, map: u8) {
-        let close = [0x80 | (map & 0x3f)];
-        let expected = definition::unit_after(self.alloc, &self.given, service, &close).expect(
-            rt,
-            "an answer",
-        );
-        for reassembler in [&self.reassembler, &self.advanced] {
-            let run = reassembler
-                .unit_after(service, &close)
-                .expect(rt, "an answer");
-            assert_eq!(rt; run, expected);
-        }
+        self.unit_after(rt, service, &[0x80 | (map & 0x3f)]);
     }
 }

@@ -3,7 +3,7 @@
 use std::alloc::{AllocError, Global};
 use tc_packet::Service;
 
-#[derive(Debug, Drop)]
+#[derive(Drop)]
 pub struct Given {
     pub service: Service,
     pub field: Vec<u8>,

@@ -1,8 +1,6 @@
 //! Each call is made; where it answers want of memory, no run has changed, and the call is made again.
 
-use std::alloc::Global;
-use std::process::Abort;
-use tc_packet::{NoMemory, Reassembler, Service, read_segment};
+use super::*;
 
 // All fields are of this MAP, and all bodies of this octet.
 const MAP: u8 = 5;
@@ -33,11 +31,9 @@ fn check_run(
     expected: Option<&[u8]>,
 ) {
     let close = [0x80 | (map & 0x3f)];
-    let run = match reassembler.unit_after(service, &close) {
+    let run = match ask(rt, reassembler, service, &close) {
         Ok(run) => run,
-        Err(NoMemory) => reassembler
-            .unit_after(service, &close)
-            .expect(rt, "an answer"),
+        Err(NoMemory) => ask(rt, reassembler, service, &close).expect(rt, "an answer"),
     };
     assert_eq!(rt; run.as_deref(), expected, "{service:?}, MAP {map}");
 }
@@ -61,203 +57,174 @@ fn made(rt: &(impl Abort + Print), alloc: Global, segmented: bool) -> Reassemble
     }
 }
 
-fn new(rt: &(impl Abort + Print), alloc: Global) -> Reassembler {
-    let reassembler = made(rt, alloc, true);
-    check_only_run(rt, &reassembler, None);
-    reassembler
+// A call of this name was refused memory for this field.
+fn tell_refused(rt: &(impl Abort + Print), call: &str, field: &[u8]) {
+    assert!(rt; !field.is_empty());
+    let part = read_segment(field[0]).part;
+    let _ = println!(rt; "refused: {call}, {part:?}");
 }
 
-// The unit that a field would end, beside this open run.
-fn asked(
-    rt: &(impl Abort + Print),
-    reassembler: &Reassembler,
-    field: &[u8],
-    run: Option<&[u8]>,
-) -> Option<Vec<u8>> {
-    assert!(rt; !field.is_empty());
-    match reassembler.unit_after(Service::Bd, field) {
-        Ok(unit) => unit,
-        Err(NoMemory) => {
-            let _ = println!(rt; "refused: unit_after");
-            check_only_run(rt, reassembler, run);
-            reassembler
-                .unit_after(Service::Bd, field)
-                .expect(rt, "an answer")
-        }
-    }
-}
+// A field, the unit that it ends, and the open run after it.
+type Row = (&'static [u8], Option<&'static [u8]>, Option<&'static [u8]>);
 
 // Takes a field, and checks the unit and the open run before and after.
-fn push(
+fn check_push(
     rt: &(impl Abort + Print),
     reassembler: &mut Reassembler,
-    field: &[u8],
-    run: [Option<&[u8]>; 2],
-    expected: Option<&[u8]>,
+    before: Option<&[u8]>,
+    row: &Row,
 ) {
-    let [before, after] = run;
-    assert!(rt; !field.is_empty());
+    let (field, unit, after) = *row;
     check_only_run(rt, reassembler, before);
-    let unit = match reassembler.push(Service::Bd, field) {
-        Ok(unit) => unit,
-        Err(NoMemory) => {
-            let part = read_segment(field[0]).part;
-            let _ = println!(rt; "refused: push, {part:?}");
-            check_only_run(rt, reassembler, before);
-            reassembler.push(Service::Bd, field).expect(rt, "an answer")
-        }
-    };
-    assert_eq!(rt; unit.as_deref(), expected);
+    let mut answer = push(rt, reassembler, Service::Bd, field);
+    if answer.is_err() {
+        tell_refused(rt, "push", field);
+        check_only_run(rt, reassembler, before);
+        answer = push(rt, reassembler, Service::Bd, field);
+    }
+    check_unit(rt, answer, unit);
     check_only_run(rt, reassembler, after);
 }
 
-// A reassembler with `SHORT_RUN` open.
-fn opened(rt: &(impl Abort + Print), alloc: Global) -> Reassembler {
-    let mut reassembler = new(rt, alloc);
-    push(rt, &mut reassembler, &FIRST, [None, Some(&SHORT_RUN)], None);
+// On a new reassembler, which has no open run.
+fn check_pushes(rt: &(impl Abort + Print), alloc: Global, rows: &[Row]) -> Reassembler {
+    let mut reassembler = made(rt, alloc, true);
+    check_only_run(rt, &reassembler, None);
+    let mut before = None;
+    for row in rows {
+        check_push(rt, &mut reassembler, before, row);
+        before = row.2;
+    }
     reassembler
 }
 
 #[test]
 fn growth_of_a_new_reassembler(rt: HostRuntime) {
-    new(&rt, rt.alloc());
+    check_pushes(&rt, rt.alloc(), &[]);
 }
+
+// `FIRST` opens `SHORT_RUN`.
+const OPENED: Row = (&FIRST, None, Some(&SHORT_RUN));
+
+static TWO_FIRST: [Row; 2] = [OPENED, OPENED];
 
 #[test]
 fn growth_of_a_first_segment(rt: HostRuntime) {
-    let mut reassembler = opened(&rt, rt.alloc());
-    let open = Some(SHORT_RUN.as_slice());
-    push(&rt, &mut reassembler, &FIRST, [open, open], None)
+    check_pushes(&rt, rt.alloc(), &TWO_FIRST);
 }
+
+static THREE_SEGMENTS: [Row; 3] = [
+    OPENED,
+    (&CONTINUING, None, Some(&LONG_RUN)),
+    (&LAST, Some(&LONG_UNIT), None),
+];
 
 #[test]
 fn growth_of_a_continuing_segment(rt: HostRuntime) {
-    let mut reassembler = opened(&rt, rt.alloc());
-    let grown = [Some(SHORT_RUN.as_slice()), Some(LONG_RUN.as_slice())];
-    push(&rt, &mut reassembler, &CONTINUING, grown, None);
-    push(
-        &rt,
-        &mut reassembler,
-        &LAST,
-        [Some(&LONG_RUN), None],
-        Some(&LONG_UNIT),
-    )
+    check_pushes(&rt, rt.alloc(), &THREE_SEGMENTS);
 }
+
+static TWO_SEGMENTS: [Row; 2] = [OPENED, (&LAST, Some(&SHORT_UNIT), None)];
 
 #[test]
 fn growth_of_a_last_segment(rt: HostRuntime) {
-    let mut reassembler = opened(&rt, rt.alloc());
-    push(
-        &rt,
-        &mut reassembler,
-        &LAST,
-        [Some(&SHORT_RUN), None],
-        Some(&SHORT_UNIT),
-    )
+    check_pushes(&rt, rt.alloc(), &TWO_SEGMENTS);
 }
+
+static A_RUN_DROPPED: [Row; 2] = [OPENED, (&UNSEGMENTED, Some(&[5, 5]), None)];
 
 #[test]
 fn growth_of_an_unsegmented_unit(rt: HostRuntime) {
-    let mut reassembler = opened(&rt, rt.alloc());
-    let dropped = [Some(SHORT_RUN.as_slice()), None];
-    push(&rt, &mut reassembler, &UNSEGMENTED, dropped, Some(&[5, 5]))
+    check_pushes(&rt, rt.alloc(), &A_RUN_DROPPED);
 }
+
+// With `SHORT_RUN` open, the field would end this unit, or none, and the run stays.
+fn check_asked(
+    rt: &(impl Abort + Print),
+    reassembler: &Reassembler,
+    field: &[u8],
+    unit: Option<&[u8]>,
+) {
+    let mut answer = ask(rt, reassembler, Service::Bd, field);
+    if answer.is_err() {
+        let _ = println!(rt; "refused: unit_after");
+        check_only_run(rt, reassembler, Some(&SHORT_RUN));
+        answer = ask(rt, reassembler, Service::Bd, field);
+    }
+    check_unit(rt, answer, unit);
+    check_only_run(rt, reassembler, Some(&SHORT_RUN));
+}
+
+static ASKED: [(&[u8], Option<&[u8]>); 4] = [
+    (&LAST, Some(&SHORT_UNIT)),
+    (&UNSEGMENTED, Some(&[5, 5])),
+    (&FIRST, None),
+    (&CONTINUING, None),
+];
 
 #[test]
 fn growth_of_a_unit_asked_for(rt: HostRuntime) {
-    let reassembler = opened(&rt, rt.alloc());
-    let units = [
-        (LAST.as_slice(), Some(SHORT_UNIT.as_slice())),
-        (UNSEGMENTED.as_slice(), Some([5, 5].as_slice())),
-        (FIRST.as_slice(), None),
-        (CONTINUING.as_slice(), None),
-    ];
-    for (field, expected) in units {
-        let unit = asked(&rt, &reassembler, field, Some(&SHORT_RUN));
-        assert_eq!(rt; unit.as_deref(), expected);
-        check_only_run(&rt, &reassembler, Some(&SHORT_RUN));
+    let reassembler = check_pushes(&rt, rt.alloc(), &[OPENED]);
+    for (field, unit) in &ASKED {
+        check_asked(&rt, &reassembler, field, *unit)
     }
 }
 
-// Takes a field without making a unit, and checks the open run before and after.
-fn advance(
+// Takes a field without making a unit, and checks the open run before, where it is refused, and after.
+fn check_advance(
     rt: &(impl Abort + Print),
     reassembler: &mut Reassembler,
     field: &[u8],
     before: Option<&[u8]>,
     after: Option<&[u8]>,
 ) {
-    assert!(rt; !field.is_empty());
-    if let Err(NoMemory) = reassembler.advance(Service::Bd, field) {
-        let part = read_segment(field[0]).part;
-        let _ = println!(rt; "refused: advance, {part:?}");
+    if advance(rt, reassembler, Service::Bd, field).is_err() {
+        tell_refused(rt, "advance", field);
         check_only_run(rt, reassembler, before);
-        reassembler
-            .advance(Service::Bd, field)
-            .expect(rt, "an answer");
+        advance(rt, reassembler, Service::Bd, field).expect(rt, "an answer");
     }
     check_only_run(rt, reassembler, after);
 }
 
+// Fields, and the open run after each.
+static RUNS: [(&[u8], Option<&[u8]>); 5] = [
+    (&FIRST, Some(&SHORT_RUN)),
+    (&CONTINUING, Some(&LONG_RUN)),
+    (&LAST, None),
+    (&FIRST, Some(&SHORT_RUN)),
+    (&UNSEGMENTED, None),
+];
+
 #[test]
 fn growth_of_a_run_that_goes_on(rt: HostRuntime) {
-    let rows = [
-        (FIRST.as_slice(), Some(SHORT_RUN.as_slice())),
-        (CONTINUING.as_slice(), Some(LONG_RUN.as_slice())),
-        (LAST.as_slice(), None),
-        (FIRST.as_slice(), Some(SHORT_RUN.as_slice())),
-        (UNSEGMENTED.as_slice(), None),
-    ];
-    let mut reassembler = new(&rt, rt.alloc());
+    let mut reassembler = check_pushes(&rt, rt.alloc(), &[]);
     let mut before = None;
-    for (field, after) in rows {
-        advance(&rt, &mut reassembler, field, before, after);
-        before = after;
+    for (field, after) in &RUNS {
+        check_advance(&rt, &mut reassembler, field, before, *after);
+        before = *after;
     }
 }
 
-// The unit that a field without a segment header would end.
-fn asked_plain(
-    rt: &(impl Abort + Print),
-    reassembler: &Reassembler,
-    field: &[u8],
-) -> Option<Vec<u8>> {
-    assert!(rt; !field.is_empty());
-    match reassembler.unit_after(Service::Bd, field) {
-        Ok(unit) => unit,
-        Err(NoMemory) => {
-            let _ = println!(rt; "refused: unit_after, plain");
-            reassembler
-                .unit_after(Service::Bd, field)
-                .expect(rt, "an answer")
-        }
+// A field without a segment header is the unit of both calls.
+fn check_plain(rt: &(impl Abort + Print), reassembler: &mut Reassembler, field: &[u8]) {
+    let mut answer = ask(rt, reassembler, Service::Bd, field);
+    if answer.is_err() {
+        let _ = println!(rt; "refused: unit_after, plain");
+        answer = ask(rt, reassembler, Service::Bd, field);
     }
+    check_unit(rt, answer, Some(field));
+    let mut answer = push(rt, reassembler, Service::Bd, field);
+    if answer.is_err() {
+        let _ = println!(rt; "refused: push, plain");
+        answer = push(rt, reassembler, Service::Bd, field);
+    }
+    check_unit(rt, answer, Some(field));
 }
 
-// Takes a field without a segment header.
-fn push_plain(
-    rt: &(impl Abort + Print),
-    reassembler: &mut Reassembler,
-    field: &[u8],
-) -> Option<Vec<u8>> {
-    assert!(rt; !field.is_empty());
-    match reassembler.push(Service::Bd, field) {
-        Ok(unit) => unit,
-        Err(NoMemory) => {
-            let _ = println!(rt; "refused: push, plain");
-            reassembler.push(Service::Bd, field).expect(rt, "an answer")
-        }
-    }
-}
-
-// A plain field is the unit of both calls, and what a first segment would open is no run.
+// What a first segment would open is no run.
 #[test]
 fn growth_of_a_plain_unit(rt: HostRuntime) {
     let mut reassembler = made(&rt, rt.alloc(), false);
-    for field in [FIRST.as_slice(), LAST.as_slice()] {
-        let after = asked_plain(&rt, &reassembler, field);
-        assert_eq!(rt; after.as_deref(), Some(field));
-        let unit = push_plain(&rt, &mut reassembler, field);
-        assert_eq!(rt; unit.as_deref(), Some(field));
-    }
+    check_plain(&rt, &mut reassembler, &FIRST);
+    check_plain(&rt, &mut reassembler, &LAST)
 }

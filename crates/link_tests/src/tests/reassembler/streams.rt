@@ -3,13 +3,12 @@
 ghost use Rattle.std.specs.Prelude.{◌<◌};
 
 use super::*;
-use std::alloc::AllocError;
 
 type Row<'a> = (Service, &'a [u8], Option<&'a [u8]>);
 
 // On a new reassembler each field ends the unit beside it, or none.
 fn check_row(rt: &impl Abort, alloc: Global, row: &[Row<'_>]) {
-    let mut watched = Watched::new(alloc).expect(rt, "an answer");
+    let mut watched = Watched::new(rt, alloc);
     for (service, field, expected) in row {
         let unit = watched.push(rt, *service, field);
         assert_eq!(rt; unit.as_deref(), *expected);
@@ -18,97 +17,91 @@ fn check_row(rt: &impl Abort, alloc: Global, row: &[Row<'_>]) {
 
 // On a new reassembler the field ends this unit, or none.
 fn check_alone(rt: &impl Abort, alloc: Global, field: &[u8], expected: Option<&[u8]>) {
-    let unit = Watched::new(alloc)
-        .expect(rt, "an answer")
-        .push(rt, Service::Ad, field);
+    let unit = Watched::new(rt, alloc).push(rt, Service::Ad, field);
     assert_eq!(rt; unit.as_deref(), expected);
 }
 
+const FIRST: Row<'static> = (Service::Ad, b"\x40\x10\x05\xc0", None);
+
+const LAST: Row<'static> = (
+    Service::Ad,
+    b"\x80\x01\x00\x01\xaa\xbb",
+    Some(b"\x10\x05\xc0\x01\x00\x01\xaa\xbb"),
+);
+
+static SERVICES_APART: [Row<'static>; 3] = [FIRST, (Service::Bd, b"\x80\xff", None), LAST];
+
+static MAPS_APART: [Row<'static>; 3] = [
+    FIRST,
+    (Service::Ad, b"\x81\x01\x00\x01\xaa\xbb", None),
+    LAST,
+];
+
+static TWO_SEGMENTS: [Row<'static>; 2] = [FIRST, LAST];
+
 #[test]
 fn keeps_the_services_and_the_maps_apart(rt: HostRuntime) {
-    let packet = b"\x10\x05\xc0\x01\x00\x01\xaa\xbb".as_slice();
-    let first = b"\x40\x10\x05\xc0".as_slice();
-    let last = b"\x80\x01\x00\x01\xaa\xbb".as_slice();
-    let last_on_map_1 = b"\x81\x01\x00\x01\xaa\xbb".as_slice();
-    let services_apart = [
-        (Service::Ad, first, None),
-        (Service::Bd, b"\x80\xff".as_slice(), None),
-        (Service::Ad, last, Some(packet)),
-    ];
-    check_row(&rt, rt.alloc(), &services_apart);
-    let maps_apart = [
-        (Service::Ad, first, None),
-        (Service::Ad, last_on_map_1, None),
-        (Service::Ad, last, Some(packet)),
-    ];
-    check_row(&rt, rt.alloc(), &maps_apart);
-    let two_segments = [
-        (Service::Ad, first, None),
-        (Service::Ad, last, Some(packet)),
-    ];
-    check_row(&rt, rt.alloc(), &two_segments)
+    check_row(&rt, rt.alloc(), &SERVICES_APART);
+    check_row(&rt, rt.alloc(), &MAPS_APART);
+    check_row(&rt, rt.alloc(), &TWO_SEGMENTS)
 }
+
+static FIRST_AGAIN: [Row<'static>; 3] = [
+    (Service::Ad, b"\x40\x01", None),
+    (Service::Ad, b"\x40\x02", None),
+    (Service::Ad, b"\x80\x03", Some(b"\x02\x03")),
+];
+
+static UNSEGMENTED: [Row<'static>; 3] = [
+    (Service::Ad, b"\x40\x01", None),
+    (Service::Ad, b"\xc0\x05", Some(b"\x05")),
+    (Service::Ad, b"\x80\x03", None),
+];
 
 #[test]
 fn drops_what_belongs_to_no_run(rt: HostRuntime) {
-    let first = b"\x40\x01".as_slice();
-    let last = b"\x80\x03".as_slice();
-    let first_again = [
-        (Service::Ad, first, None),
-        (Service::Ad, b"\x40\x02".as_slice(), None),
-        (Service::Ad, last, Some(b"\x02\x03".as_slice())),
-    ];
-    check_row(&rt, rt.alloc(), &first_again);
-    let unsegmented = [
-        (Service::Ad, first, None),
-        (
-            Service::Ad,
-            b"\xc0\x05".as_slice(),
-            Some(b"\x05".as_slice()),
-        ),
-        (Service::Ad, last, None),
-    ];
-    check_row(&rt, rt.alloc(), &unsegmented);
+    check_row(&rt, rt.alloc(), &FIRST_AGAIN);
+    check_row(&rt, rt.alloc(), &UNSEGMENTED);
     check_alone(&rt, rt.alloc(), b"\x80\xaa", None);
     check_alone(&rt, rt.alloc(), b"\xc0", Some(b""))
 }
 
 // The octets, and so many zeros after them.
-fn with_zeros(alloc: Global, octets: &[u8], count: usize) -> Result<Vec<u8>, AllocError> {
-    let mut field = Vec::from_slice(alloc, octets)?;
-    let more = vec![in alloc; 0; count]?;
-    field.extend_from_slice(&more)?;
-    Ok(field)
+fn with_zeros(rt: &impl Abort, alloc: Global, octets: &[u8], count: usize) -> Vec<u8> {
+    let mut field = Vec::from_slice(alloc, octets).expect(rt, "octets");
+    let zeros = vec![in alloc; 0; count];
+    let zeros = zeros.expect(rt, "octets");
+    field.extend_from_slice(&zeros).expect(rt, "octets");
+    field
 }
 
 #[test]
 fn bounds_an_unsegmented_unit(rt: HostRuntime) {
-    let alloc = rt.alloc();
-    let longest = with_zeros(alloc, b"\xc0", 65_542).expect(&rt, "an answer");
-    check_alone(&rt, alloc, &longest, longest.get(1..));
-    let longer = with_zeros(alloc, b"\xc0", 65_543).expect(&rt, "an answer");
-    check_alone(&rt, alloc, &longer, None)
+    let longest = with_zeros(&rt, rt.alloc(), b"\xc0", 65_542);
+    check_alone(&rt, rt.alloc(), &longest, longest.get(1..));
+    let longer = with_zeros(&rt, rt.alloc(), b"\xc0", 65_543);
+    check_alone(&rt, rt.alloc(), &longer, None)
 }
 
-// The unit of a first segment, 63 continuing ones of 1,018 octets and a last one of so many.
-fn long_unit(rt: &impl Abort, alloc: Global, last: usize) -> Option<Vec<u8>> {
-    let mut watched = Watched::new(alloc).expect(rt, "an answer");
-    let first = with_zeros(alloc, b"\x40\x10\x05\xc0\x00\xff\xff", 1_012).expect(rt, "an answer");
+// A first segment, 63 continuing ones of 1,018 octets and a last one of so many end this unit, or none.
+fn check_long(rt: &impl Abort, alloc: Global, last: usize, expected: Option<&[u8]>) {
+    let mut watched = Watched::new(rt, alloc);
+    let first = with_zeros(rt, alloc, b"\x40\x10\x05\xc0\x00\xff\xff", 1_012);
     assert_eq!(rt; watched.push(rt, Service::Bd, &first), None);
-    let continuing = with_zeros(alloc, b"\x00", 1_018).expect(rt, "an answer");
+    let continuing = with_zeros(rt, alloc, b"\x00", 1_018);
     for _ in 0..63 {
         assert_eq!(rt; watched.push(rt, Service::Bd, &continuing), None);
     }
-    let last = with_zeros(alloc, b"\x80", last).expect(rt, "an answer");
-    watched.push(rt, Service::Bd, &last)
+    let last = with_zeros(rt, alloc, b"\x80", last);
+    let unit = watched.push(rt, Service::Bd, &last);
+    assert_eq!(rt; unit.as_deref(), expected);
 }
 
 #[test]
 fn bounds_a_unit_of_many_segments(rt: HostRuntime) {
-    let alloc = rt.alloc();
-    let packet = with_zeros(alloc, b"\x10\x05\xc0\x00\xff\xff", 65_536).expect(&rt, "an answer");
-    assert_eq!(rt; long_unit(&rt, alloc, 390), Some(packet));
-    assert_eq!(rt; long_unit(&rt, alloc, 391), None);
+    let packet = with_zeros(&rt, rt.alloc(), b"\x10\x05\xc0\x00\xff\xff", 65_536);
+    check_long(&rt, rt.alloc(), 390, Some(&packet));
+    check_long(&rt, rt.alloc(), 391, None)
 }
 
 // A linear congruential generator, for numbers below a bound.
@@ -128,23 +121,36 @@ impl Numbers {
     }
 }
 
-// A field of one of three MAPs, more often a continuing one, with a body of fewer octets than the bound.
-fn some_field(alloc: Global, numbers: &mut Numbers, bound: u32) -> Result<Vec<u8>, AllocError>
-    requires { 0 < bound }
-{
+// A segment header of one of three MAPs, more often of a continuing segment.
+fn some_header(numbers: &mut Numbers) -> u8 {
     let flags = match numbers.below(8) {
         0 => 0x40,
         1 => 0x80,
         2 => 0xc0,
         _ => 0x00,
     };
-    let map = [0, 1, 63][numbers.below(3) as usize];
+    flags | [0, 1, 63][numbers.below(3) as usize]
+}
+
+// A field with a body of fewer octets than the bound.
+fn some_field(rt: &impl Abort, alloc: Global, numbers: &mut Numbers, bound: u32) -> Vec<u8>
+    requires { 0 < bound }
+{
     let mut field = Vec::new(alloc);
-    field.push(flags | map)?;
+    field.push(some_header(numbers)).expect(rt, "an octet");
     for _ in 0..numbers.below(bound) {
-        field.push(numbers.below(256) as u8)?;
+        let octet = numbers.below(256) as u8;
+        field.push(octet).expect(rt, "an octet");
     }
-    Ok(field)
+    field
+}
+
+fn some_service(numbers: &mut Numbers) -> Service {
+    if numbers.below(2) == 0 {
+        Service::Ad
+    } else {
+        Service::Bd
+    }
 }
 
 // So many fields, each followed by a look at the open runs of all streams that it may have touched.
@@ -152,14 +158,10 @@ fn check_stream(rt: &impl Abort, alloc: Global, seed: u64, fields: usize, bound:
     requires { 0 < bound }
 {
     let mut numbers = Numbers(seed);
-    let mut watched = Watched::new(alloc).expect(rt, "an answer");
+    let mut watched = Watched::new(rt, alloc);
     for _ in 0..fields {
-        let service = if numbers.below(2) == 0 {
-            Service::Ad
-        } else {
-            Service::Bd
-        };
-        let field = some_field(alloc, &mut numbers, bound).expect(rt, "an answer");
+        let service = some_service(&mut numbers);
+        let field = some_field(rt, alloc, &mut numbers, bound);
         watched.push(rt, service, &field);
         for map in [0, 1, 63] {
             watched.check_run(rt, Service::Ad, map);
