@@ -36,8 +36,8 @@ LOOP = re.compile(r"\b(?:for|while|loop)\b")
 # An answer to a goal that no function has.
 NO_GOAL = "told-briefly"
 NO_GOAL_TEXT = f"\npub {NO_GOAL} : goal.{NO_GOAL}\n{NO_GOAL} c = c\n"
-GIVEN = "crate::given::away(); unreachable!()"
-GIVEN_FILE = "src/given.rt"
+GIVEN = "crate::given_away::away(); unreachable!()"
+GIVEN_FILE = "src/given_away.rt"
 GIVEN_TEXT = """//! What the copies of right bodies call.
 
 ghost use Rattle.std.specs.Prelude.{IsTrue, false};
@@ -357,7 +357,7 @@ class Crate:
         trial.files = {file: "\n".join(lines) for file, lines in texts.items()}
         if given:
             trial.files[GIVEN_FILE] = GIVEN_TEXT
-            trial.files[self.root] = trial.files.get(self.root, self.texts[self.root]) + "mod given;\n"
+            trial.files[self.root] = trial.files.get(self.root, self.texts[self.root]) + "mod given_away;\n"
         return trial
 
     def edited(self, edits: list[Edit], texts: dict[str, str]) -> dict[str, str]:
