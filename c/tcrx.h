@@ -24,10 +24,16 @@
  * not from an interrupt or signal handler. A channel is given to one call at a time: threads that share one need a lock.
  *
  * @par Memory
- * A channel takes its memory by rattle_alloc, rattle_realloc and rattle_dealloc, which tcrx_memory.c defines over malloc,
- * realloc and free. Flight software may link three functions of its own instead, over a pool; tcrx_memory.c says what they must
- * keep to. Where they give no memory the status is #TCRX_NO_MEMORY and the channel is as it was before the call, which can be
- * made again.
+ * A channel takes its memory by rattle_alloc, rattle_realloc and rattle_dealloc. tcrx_memory.c defines them over malloc, realloc
+ * and free, and tcrx_pool.c over a static array. Flight software may link three functions of its own instead; tcrx_memory.c says
+ * what they must keep to. Where they give no memory the status is #TCRX_NO_MEMORY and the channel is as it was before the call,
+ * which can be made again.
+ *
+ * @par Less memory than the bound
+ * tcrx_memory_bound() answers how much a channel can come to hold. With less it can be starved for good: a run of segments that a
+ * Type-BD frame opened keeps its memory until a first, an unsegmented or a last segment comes for the same MAP. Once open runs
+ * have taken all memory each release is answered #TCRX_NO_MEMORY, after an Unlock as well. An unsegmented Type-BD frame with one
+ * octet of data on each MAP ends it: it needs no memory and drops the open run.
  *
  * @par Names that end in _at
  * These are the functions that the library exports, for callers in other languages. Each is the call without _at, but must
@@ -361,6 +367,9 @@ tcrx_kind_answer tcrx_kind_at(const uint8_t *octets, size_t count);
 tcrx_written tcrx_write_frame_at(tcrx_header header, const uint8_t *field, size_t field_count, uint8_t *octets, size_t room);
 /** @copydoc tcrx_read_packet */
 tcrx_packet tcrx_read_packet_at(const uint8_t *octets, size_t count);
+/** @copydoc tcrx_memory_bound */
+tcrx_count tcrx_memory_bound_at(tcrx_settings settings, const tcrx_queue *queues, size_t queue_count, const tcrx_map *maps,
+                                size_t map_count);
 /** @copydoc tcrx_channel_new */
 tcrx_status tcrx_channel_new_at(tcrx_channel *channel, tcrx_settings settings, const tcrx_queue *queues, size_t queue_count,
                                 const tcrx_map *maps, size_t map_count);
@@ -529,6 +538,31 @@ static inline tcrx_packet tcrx_read_packet(const uint8_t *octets, size_t count) 
  * A channel in the caller's memory. A call that is refused leaves the channel as it was.
  * @{
  */
+
+/**
+ * The most octets that a channel of these settings has asked for and not given back, at any moment of its life and with any
+ * frames. Three things are not counted: what the functions of memory add to each block, the block of the channel itself, and the
+ * copies of the two lists, of up to 8 octets an entry, that tcrx_channel_new() makes as well.
+ *
+ * @param settings    the settings
+ * @param queues      the packet queues; null where there are none
+ * @param queue_count how many there are
+ * @param maps        the chosen MAPs; null where there are none
+ * @param map_count   how many there are
+ * @return the count. Refused as by tcrx_channel_new(), by #TCRX_NO_MEMORY as well, since the call copies the lists while it looks
+ * at them; but never by #TCRX_IN_USE.
+ */
+static inline tcrx_count tcrx_memory_bound(tcrx_settings settings, const tcrx_queue *queues, size_t queue_count,
+                                           const tcrx_map *maps, size_t map_count) {
+    const tcrx_queue no_queue = {0, 0};
+    const tcrx_map no_map = {0, 0};
+    if ((queues == NULL && queue_count != 0) || (maps == NULL && map_count != 0)) {
+        const tcrx_count refused = {TCRX_NULL, 0};
+        return refused;
+    }
+    return tcrx_memory_bound_at(settings, queues == NULL ? &no_queue : queues, queue_count, maps == NULL ? &no_map : maps,
+                                map_count);
+}
 
 /**
  * Makes a channel, which is held until it is freed. Nothing that is given is kept.
