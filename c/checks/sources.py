@@ -1,12 +1,12 @@
 #!/usr/bin/env python3
-"""Checks the header for C by itself, without the library.
+"""Checks the header and the files in C and C++ by themselves, without the library.
 
-It must compile as each version of C and C++ that it is for, with all warnings as errors, and so must the lines of code that
+The header must compile as each version of C and C++ that it is for, with all warnings as errors, and so must the lines of code that
 c/README.md shows. Its static assertions must refuse each record with two neighbouring fields swapped, and each with one field more
-in front. The version must be the same as a number, as a text and in the program tcrx. Where doxygen is installed it must read the
-comments without a warning.
+in front. The version must be the same as a number and as a text. Where doxygen is installed it must read the header's comments
+without a warning, and where cppcheck is installed it must find nothing that c/checks/cppcheck.suppressions doesn't answer.
 
-usage: c/checks/header.py      from any folder; the last line says how many checks passed, and names what is not installed
+usage: c/checks/sources.py     from any folder; the last line says how many checks passed, and names what is not installed
 """
 
 import re
@@ -72,16 +72,13 @@ def layouts() -> list[tuple[str, str]]:
 
 
 def same_version() -> list[tuple[str, str]]:
-    """Whether the version is the same wherever it is said."""
+    """Whether the version is the same as a text and as a number."""
     text = re.search(r'#define TCRX_API_TEXT "(\d+)\.(\d+)\.(\d+)"', HEADER.read_text())
-    sources = "".join(path.read_text() for path in sorted((TOP / "crates" / "tcrx" / "src").glob("*.rt")))
-    program = re.search(r'const VERSION: &str = "(.*)";', sources)
-    if text is None or program is None:
+    if text is None:
         return [("the version", "there is none")]
     number = int(text[1]) << 16 | int(text[2]) << 8 | int(text[3])
     lines = f'#include "tcrx.h"\n#if TCRX_API_VERSION != {number}\n#error "another number"\n#endif\n'
-    other = "" if program[1] == ".".join(text.groups()) else f"the program tcrx says {program[1]}"
-    return [("the version's number", compiled(C[0], lines, HEADER.parent)), ("the version of the program", other)]
+    return [("the version's number", compiled(C[0], lines, HEADER.parent))]
 
 
 def comments() -> list[tuple[str, str]]:
@@ -94,17 +91,32 @@ def comments() -> list[tuple[str, str]]:
     return [("the comments, by doxygen", said)]
 
 
+def faults() -> list[tuple[str, str]]:
+    """What cppcheck says of each file, in C and in C++."""
+    said = []
+    for language, version, pattern in (("c", "c99", "*.c"), ("c++", "c++11", "*.cc")):
+        files = sorted(str(path.relative_to(TOP)) for path in (TOP / "c").rglob(pattern))
+        command = ["cppcheck", f"--language={language}", f"--std={version}", "--enable=warning,style,performance,portability"]
+        command += ["--inconclusive", "--quiet", "--error-exitcode=1", "--suppressions-list=c/checks/cppcheck.suppressions"]
+        command += ["-Ic", "-DTCRX_POOL_OCTETS=18000000", *files]
+        done = subprocess.run(command, cwd=TOP, capture_output=True, text=True, check=False)
+        found = done.stdout + done.stderr or ("" if done.returncode == 0 else f"status {done.returncode}")
+        said.append((f"{len(files)} files, by cppcheck", found if files else "there are none"))
+    return said
+
+
 def main() -> int:
     """Makes each check, and says what was found."""
     said = versions() + shown_code() + layouts() + same_version()
-    skipped = [tool for tool in ("doxygen",) if shutil.which(tool) is None]
-    if "doxygen" not in skipped:
-        said += comments()
+    tools = {"doxygen": comments, "cppcheck": faults}
+    skipped = [tool for tool in tools if shutil.which(tool) is None]
+    for tool, check in tools.items():
+        said += check() if tool not in skipped else []
     for what, fault in said:
         if fault:
             print(f"{what}: {fault}")
     failed = sum(bool(fault) for _, fault in said)
-    print(f"header: {len(said) - failed} passed, {failed} failed" + "".join(f", skipped: {tool}" for tool in skipped))
+    print(f"sources: {len(said) - failed} passed, {failed} failed" + "".join(f", skipped: {tool}" for tool in skipped))
     return 1 if failed else 0
 
 
