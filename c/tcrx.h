@@ -1,28 +1,43 @@
-/*
- * The receiving end of a telecommand link, for C99 and C++: FARM-1 (CCSDS 232.1-B), the CLCW and transfer frames
- * (CCSDS 232.0-B), and the front of space packets (CCSDS 133.0-B); and a whole virtual channel of a receiver, with its buffer,
- * reassembly and queues. The library is libtc_c.a, whose functions are proved; beside it they need memmove, memset and the three
- * functions of tcrx_memory.c.
+/**
+ * @file tcrx.h
+ * @brief The spacecraft's end of a CCSDS telecommand link, for C99 and C++11.
  *
- * Records. Each call answers with a record, whose first field is a status: TCRX_DONE, or the first reason why the call is
- * refused, in the order in which its description gives them. All numbers of a record that comes in may have any value, and the
- * call is then done or refused. Flags are 0 or 1. A record is the caller's own; it is passed and returned by value.
+ * FARM-1, the frame acceptance and reporting mechanism (CCSDS 232.1-B); the CLCW, the communications link control word, and
+ * transfer frames (CCSDS 232.0-B); the primary header of space packets (CCSDS 133.0-B); and a whole virtual channel of a
+ * receiver, with its buffer, its reassembly and its queues. The library is libtc_c.a. Its functions are proved. Apart from them
+ * it needs memmove, memset, and the three functions of tcrx_memory.c or tcrx_pool.c.
  *
- * Octets. A pointer to octets comes with their count, and that many octets stand there. No call keeps a pointer after it has
- * returned, and none writes but to the buffer that its description names, which overlaps nothing else that the call is given.
- * Where a pointer is null the status is TCRX_NULL, and every other number of the answer is 0.
+ * @par Answers
+ * Each call answers with a record whose first field is a status: #TCRX_DONE, or the first reason why the call is refused, in
+ * the order in which its description names them. Each number of a record that goes in may have any value; the call is then done
+ * or refused. Flags are 0 or 1. A record belongs to the caller; it is passed and returned by value.
  *
- * Memory and threads. The library keeps nothing of its own between calls, and only the calls of a channel allocate. The others
- * may be made from any number of threads, interrupt handlers and signal handlers at the same time, as long as none writes octets
- * that another one reads or writes. The calls of a channel may be made from any thread, but not from an interrupt or signal
- * handler; a channel is given to one call at a time, so who shares one between threads puts a lock round its calls.
+ * @par Octets
+ * A pointer to octets comes with their count, and there must be that many octets at it. No call keeps a pointer after it has
+ * returned. No call writes to any buffer except the one that its description names, which must not overlap anything else that
+ * the call is given. Where a pointer is null the status is #TCRX_NULL, and every other number of the answer is 0.
  *
- * Allocation. A channel takes its memory by rattle_alloc, rattle_realloc and rattle_dealloc, which tcrx_memory.c defines over
- * malloc, realloc and free. Flight software may link three of its own in their place, over a pool: that file says what they owe.
- * Where they give no memory the status is TCRX_NO_MEMORY, and the channel is as it was before the call, which can be made again.
+ * @par Threads
+ * The library keeps nothing of its own between calls, and only the calls with a channel, or with the settings of one, allocate
+ * memory. The other calls may be made from any number of threads, interrupt handlers and signal handlers at the same time, as
+ * long as none of them writes octets that another one reads or writes. The calls of a channel may be made from any thread, but
+ * not from an interrupt or signal handler. A channel is given to one call at a time: threads that share one need a lock.
  *
- * Calls whose name ends in _at are those of the library itself, for callers in other languages: they are as the call without
- * _at, and are never given a null pointer.
+ * @par Memory
+ * A channel takes its memory by rattle_alloc, rattle_realloc and rattle_dealloc. tcrx_memory.c defines them over malloc, realloc
+ * and free, and tcrx_pool.c over a static array. Flight software may link three functions of its own instead; tcrx_memory.c says
+ * what they must keep to. Where they give no memory the status is #TCRX_NO_MEMORY and the channel is as it was before the call,
+ * which can be made again.
+ *
+ * @par Less memory than the bound
+ * tcrx_memory_bound() answers how much a channel can come to hold. With less it can be starved for good: a run of segments that a
+ * Type-BD frame opened keeps its memory until a first, an unsegmented or a last segment comes for the same MAP. Once open runs
+ * have taken all memory each release is answered #TCRX_NO_MEMORY, after an Unlock as well. An unsegmented Type-BD frame with one
+ * octet of data on each MAP ends it: it needs no memory and drops the open run.
+ *
+ * @par Names that end in _at
+ * These are the functions that the library exports, for callers in other languages. Each is the call without _at, but must
+ * never be given a null pointer.
  */
 #ifndef TCRX_H
 #define TCRX_H
@@ -34,256 +49,369 @@
 extern "C" {
 #endif
 
-/* What a call came to. tcrx_text has a text for each. */
+/**
+ * @defgroup tcrx_version Version of this interface
+ *
+ * Three numbers, MAJOR.MINOR.PATCH. While MAJOR is 0 a new MINOR may break a caller; from 1.0.0 on only a new MAJOR may. A new
+ * PATCH never does. A caller can test for what it needs: `#if TCRX_API_VERSION < 0x000100`.
+ * @{
+ */
+#define TCRX_API_MAJOR 0 /**< Changes that break a caller, from 1.0.0 on. */
+#define TCRX_API_MINOR 1 /**< Additions; while MAJOR is 0, changes that break a caller as well. */
+#define TCRX_API_PATCH 0 /**< Corrections. */
+
+/** The version as a number of 24 bits, eight for each of the three: 0x000100 is 0.1.0. */
+#define TCRX_API_VERSION (TCRX_API_MAJOR * 0x10000 + TCRX_API_MINOR * 0x100 + TCRX_API_PATCH)
+
+/** The version as a text. */
+#define TCRX_API_TEXT "0.1.0"
+/** @} */
+
+/**
+ * @defgroup tcrx_status Statuses
+ *
+ * What a call came to: it was done, or the first reason why it was refused.
+ * @{
+ */
+
+/** The status of a call, one of the numbers below. tcrx_text() has a text for each. */
 typedef uint32_t tcrx_status;
 
+/** Every status that a call can answer. */
 enum {
-    TCRX_DONE = 0,
-    /* No frame stands at the front of the octets. */
-    TCRX_SHORT = 1,        /* fewer than 5 octets */
-    TCRX_VERSION = 2,      /* the version isn't 0 */
-    TCRX_SPARE = 3,        /* the spare bits aren't 0 */
-    TCRX_LENGTH_SMALL = 4, /* the frame length names fewer than 6 octets */
-    TCRX_TRUNCATED = 5,    /* the frame length names more octets than there are */
-    /* No frame is written. */
-    TCRX_BAD_FIELD = 10,  /* the spacecraft id is over 1,023, or the virtual channel id over 63 */
-    TCRX_EMPTY_DATA = 11, /* the data field is empty */
-    TCRX_TOO_LONG = 12,   /* the data field has more than 1,019 octets */
-    TCRX_NO_MEMORY = 13,  /* no memory; of the calls below those of a channel ask for it */
-    /* No FARM-1 has the record, or it makes no such step. */
-    TCRX_BAD_WIDTH = 20,      /* the width of the window isn't even and 2 to 254 */
-    TCRX_BAD_STATE = 21,      /* the state isn't 1 to 3 */
-    TCRX_BAD_FARM_B = 22,     /* the FARM-B counter is over 3 */
-    TCRX_BAD_FLAG = 23,       /* a flag is neither 0 nor 1 */
-    TCRX_FLAGS_DISAGREE = 24, /* FARM-1 never has these flags in that state */
-    TCRX_BAD_ARRIVAL = 25,    /* the arrival isn't 1 to 6 */
-    TCRX_NO_ENTRY = 26,       /* an expected Type-AD frame comes in S2 and is said to find room */
-    /* There is no CLCW. */
-    TCRX_BAD_VCID = 30, /* the virtual channel id is over 63 */
-    TCRX_NO_CLCW = 31,  /* the word is no CLCW of COP-1 */
-    /* There is no packet. */
-    TCRX_NO_PACKET = 40, /* no whole packet of version 0 stands at the front of the octets */
-    /* Buffers, pointers and numbers of statuses. */
-    TCRX_NO_ROOM = 50,  /* the buffer is too short */
-    TCRX_NULL = 51,     /* a pointer is null */
-    TCRX_NO_STATUS = 52, /* there is no such status */
-    /* No channel is made of settings. */
-    TCRX_BAD_BUFFER = 60,   /* the buffer isn't for 1 to 64 data fields */
-    TCRX_BAD_APID = 61,     /* the APID of a queue is over 2,046 */
-    TCRX_DOUBLE_APID = 62,  /* two queues have one APID */
-    TCRX_BAD_CAPACITY = 63, /* a queue isn't for 1 to 256 packets */
-    TCRX_BAD_MAP = 64,      /* a MAP is over 63 */
-    TCRX_DOUBLE_MAP = 65,   /* a MAP is chosen twice */
-    TCRX_BAD_UNITS = 66,    /* the queue of a MAP isn't for 1 to 256 units */
-    TCRX_PLAIN_MAP = 67,    /* a channel without segment headers has no MAPs */
-    /* A channel has none of what is asked for. */
-    TCRX_NO_CHANNEL = 70, /* no channel is held */
-    TCRX_IN_USE = 71,     /* a channel is held already */
-    TCRX_NO_QUEUE = 72,   /* no queue has that APID */
-    TCRX_NO_MAP = 73,     /* that MAP isn't chosen */
-    TCRX_EMPTY = 74       /* nothing waits there */
+    TCRX_DONE = 0, /**< The call was done. */
+
+    TCRX_SHORT = 1,        /**< No frame: there are fewer than 5 octets. */
+    TCRX_BAD_VERSION = 2,  /**< No frame: the version bits of the header aren't 0. */
+    TCRX_SPARE = 3,        /**< No frame: the spare bits of the header aren't 0. */
+    TCRX_LENGTH_SMALL = 4, /**< No frame: the frame length names fewer than 6 octets. */
+    TCRX_TRUNCATED = 5,    /**< No frame: the frame length names more octets than there are. */
+
+    TCRX_BAD_FIELD = 10,  /**< No frame is written: the spacecraft id is over 1,023 or the virtual channel id over 63. */
+    TCRX_EMPTY_DATA = 11, /**< No frame is written: the data field is empty. */
+    TCRX_TOO_LONG = 12,   /**< No frame is written: the data field has more than 1,019 octets. */
+    TCRX_NO_MEMORY = 13,  /**< Out of memory: only calls with a channel, or with the settings of one, ask for any. */
+
+    TCRX_BAD_WIDTH = 20,      /**< The width of the window isn't even and 2 to 254. */
+    TCRX_BAD_STATE = 21,      /**< The state isn't 1 to 3. */
+    TCRX_BAD_FARM_B = 22,     /**< The FARM-B counter is over 3. */
+    TCRX_BAD_FLAG = 23,       /**< A flag is neither 0 nor 1. */
+    TCRX_FLAGS_DISAGREE = 24, /**< FARM-1 never has these flags in that state. */
+    TCRX_BAD_ARRIVAL = 25,    /**< The arrival isn't 1 to 6. */
+    TCRX_NO_ENTRY = 26,       /**< The state table has no entry: an expected Type-AD frame finds room in #TCRX_WAIT. */
+
+    TCRX_BAD_VCID = 30, /**< The virtual channel id is over 63. */
+    TCRX_NO_CLCW = 31,  /**< The word is no CLCW of COP-1. */
+
+    TCRX_NO_PACKET = 40, /**< The octets don't begin with a whole packet of version 0. */
+
+    TCRX_NO_ROOM = 50,   /**< The buffer is too short. */
+    TCRX_NULL = 51,      /**< A pointer is null. */
+    TCRX_NO_STATUS = 52, /**< There is no such status. */
+
+    TCRX_BAD_BUFFER = 60,   /**< Settings: the buffer isn't for 1 to 64 data fields. */
+    TCRX_BAD_APID = 61,     /**< Settings: the APID of a queue is over 2,046. */
+    TCRX_DOUBLE_APID = 62,  /**< Settings: two queues have one APID. */
+    TCRX_BAD_CAPACITY = 63, /**< Settings: a queue isn't for 1 to 256 packets. */
+    TCRX_BAD_MAP = 64,      /**< Settings: a MAP is over 63. */
+    TCRX_DOUBLE_MAP = 65,   /**< Settings: a MAP is chosen twice. */
+    TCRX_BAD_UNITS = 66,    /**< Settings: the queue of a MAP isn't for 1 to 256 units. */
+    TCRX_PLAIN_MAP = 67,    /**< Settings: a channel without segment headers has no MAPs. */
+
+    TCRX_NO_CHANNEL = 70, /**< No channel is held. */
+    TCRX_IN_USE = 71,     /**< A channel is held already. */
+    TCRX_NO_QUEUE = 72,   /**< No queue has that APID. */
+    TCRX_NO_MAP = 73,     /**< That MAP isn't chosen. */
+    TCRX_EMPTY = 74       /**< Nothing waits there. */
 };
 
-/* The states of FARM-1. */
-enum { TCRX_OPEN = 1, TCRX_WAIT = 2, TCRX_LOCKOUT = 3 };
+/** The octets of a buffer that has room for the text of any status. */
+enum { TCRX_TEXT_ROOM = 64 /**< With the 0 at the end of the text. */ };
+/** @} */
 
-/* What comes to FARM-1: a frame of one of five kinds, or a buffer release. */
-enum { TCRX_AD = 1, TCRX_BD = 2, TCRX_UNLOCK = 3, TCRX_SET_VR = 4, TCRX_INVALID = 5, TCRX_RELEASE = 6 };
+/**
+ * @defgroup tcrx_records Records
+ *
+ * What goes into calls and comes out of them. Where a call is refused, each number of its answer except the status is 0, unless
+ * the answer's description says otherwise.
+ * @{
+ */
 
-/* FARM-1: its window's width and its six components. */
+/** The states of FARM-1. */
+enum {
+    TCRX_OPEN = 1,   /**< S1, Open. */
+    TCRX_WAIT = 2,   /**< S2, Wait. */
+    TCRX_LOCKOUT = 3 /**< S3, Lockout. */
+};
+
+/** What comes to FARM-1: a frame of one of five kinds, or a buffer release. */
+enum {
+    TCRX_AD = 1,      /**< A Type-AD frame, with sequence control. */
+    TCRX_BD = 2,      /**< A Type-BD frame, without it. */
+    TCRX_UNLOCK = 3,  /**< A Type-BC frame with the control command Unlock. */
+    TCRX_SET_VR = 4,  /**< A Type-BC frame with the control command Set V(R). */
+    TCRX_INVALID = 5, /**< A Type-AC frame, which is reserved, or a Type-BC frame with no control command. */
+    TCRX_RELEASE = 6  /**< A data field has left the buffer. */
+};
+
+/** FARM-1: the width of its window and its six components. */
 typedef struct {
-    uint8_t width;      /* of the sliding window, even and 2 to 254 */
-    uint8_t state;      /* TCRX_OPEN, TCRX_WAIT or TCRX_LOCKOUT */
-    uint8_t vr;         /* the receiver frame sequence number V(R), modulo 256 */
-    uint8_t farm_b;     /* the FARM-B counter, 0 to 3 */
-    uint8_t lockout;    /* the Lockout flag: 1 in TCRX_LOCKOUT alone */
-    uint8_t wait;       /* the Wait flag: 1 in TCRX_WAIT, 0 in TCRX_OPEN */
-    uint8_t retransmit; /* the Retransmit flag: 1 where Wait is */
+    uint8_t width;      /**< The width of the sliding window, even and 2 to 254. */
+    uint8_t state;      /**< #TCRX_OPEN, #TCRX_WAIT or #TCRX_LOCKOUT. */
+    uint8_t vr;         /**< The receiver frame sequence number V(R), modulo 256. */
+    uint8_t farm_b;     /**< The FARM-B counter, 0 to 3. */
+    uint8_t lockout;    /**< The Lockout flag: 1 only in #TCRX_LOCKOUT. */
+    uint8_t wait;       /**< The Wait flag: 1 in #TCRX_WAIT, 0 in #TCRX_OPEN. */
+    uint8_t retransmit; /**< The Retransmit flag: 1 wherever the Wait flag is. */
 } tcrx_farm;
 
+/** A FARM-1. */
 typedef struct {
-    tcrx_status status;
-    tcrx_farm farm; /* each number 0 where the call is refused */
+    tcrx_status status; /**< #TCRX_DONE, or why not. */
+    tcrx_farm farm;     /**< The record. */
 } tcrx_farm_answer;
 
+/** A step of FARM-1. */
 typedef struct {
-    tcrx_status status;
-    tcrx_farm farm;   /* after the step, or as it was where the call is refused */
-    uint8_t event;    /* 1 to 10, the row E1 to E10 of FARM-1's table; 0 where the call is refused */
-    uint8_t accepted; /* 1 where the frame was accepted, else 0 */
+    tcrx_status status; /**< #TCRX_DONE, or why not. */
+    tcrx_farm farm;     /**< The record after the step; where the call is refused, as it was given. */
+    uint8_t event;      /**< 1 to 10, the row E1 to E10 of the state table. */
+    uint8_t accepted;   /**< 1 where the frame was accepted, else 0. */
 } tcrx_step_answer;
 
+/** A CLCW. */
 typedef struct {
-    tcrx_status status;
-    uint32_t word; /* the CLCW, its first bit the most significant; 0 where the call is refused */
+    tcrx_status status; /**< #TCRX_DONE, or why not. */
+    uint32_t word;      /**< The CLCW. Its first bit is the most significant one. */
 } tcrx_clcw_answer;
 
-/* What a CLCW says. Each number but the status is 0 where the call is refused. */
+/** The fields of a CLCW. */
 typedef struct {
-    tcrx_status status;
-    uint8_t status_field; /* of the CLCW, 0 to 7, whose meaning is left to the mission */
-    uint8_t vcid;         /* 0 to 63 */
-    uint8_t no_rf;        /* No RF Available */
-    uint8_t no_bit_lock;
-    uint8_t lockout;
-    uint8_t wait;
-    uint8_t retransmit;
-    uint8_t farm_b; /* 0 to 3 */
-    uint8_t vr;     /* the report value V(R) */
+    tcrx_status status;   /**< #TCRX_DONE, or why not. */
+    uint8_t status_field; /**< The status field, 0 to 7, whose meaning is left to the mission. */
+    uint8_t vcid;         /**< The virtual channel id, 0 to 63. */
+    uint8_t no_rf;        /**< The No RF Available flag. */
+    uint8_t no_bit_lock;  /**< The No Bit Lock flag. */
+    uint8_t lockout;      /**< The Lockout flag. */
+    uint8_t wait;         /**< The Wait flag. */
+    uint8_t retransmit;   /**< The Retransmit flag. */
+    uint8_t farm_b;       /**< The FARM-B counter, 0 to 3. */
+    uint8_t vr;           /**< The report value, which is V(R). */
 } tcrx_clcw_fields;
 
-/* What the primary header of a frame says, apart from its length. */
+/** The primary header of a frame, apart from the frame length. */
 typedef struct {
-    uint16_t scid;   /* the spacecraft id, 0 to 1,023 */
-    uint8_t vcid;    /* the virtual channel id, 0 to 63 */
-    uint8_t ns;      /* the frame sequence number N(S) */
-    uint8_t bypass;  /* 1 for Type-B, 0 for Type-A */
-    uint8_t control; /* 1 for Type-C, 0 for Type-D */
+    uint16_t scid;   /**< The spacecraft id, 0 to 1,023. */
+    uint8_t vcid;    /**< The virtual channel id, 0 to 63. */
+    uint8_t ns;      /**< The frame sequence number N(S). */
+    uint8_t bypass;  /**< The bypass flag: 1 for Type-B, 0 for Type-A. */
+    uint8_t control; /**< The control command flag: 1 for Type-C, 0 for Type-D. */
 } tcrx_header;
 
-/* A frame at the front of octets: the first `length` of them, of which 5 are the header and the others the data field. */
+/** The frame at the front of octets: the first `length` of them. Five are the header, the others the data field. */
 typedef struct {
-    tcrx_status status;
-    tcrx_header header;
-    uint16_t length; /* 6 to 1,024 */
+    tcrx_status status; /**< #TCRX_DONE, or why not. */
+    tcrx_header header; /**< The primary header. */
+    uint16_t length;    /**< The octets of the frame, 6 to 1,024. */
 } tcrx_frame;
 
-/* What kind a frame is. */
+/** The kind of a frame. */
 typedef struct {
-    tcrx_status status;
-    uint8_t kind;   /* TCRX_AD to TCRX_INVALID; 0 where no frame stands there */
-    uint8_t number; /* the N(S) of TCRX_AD, the new V(R) of TCRX_SET_VR, else 0 */
+    tcrx_status status; /**< #TCRX_DONE, or why not. */
+    uint8_t kind;       /**< #TCRX_AD to #TCRX_INVALID. */
+    uint8_t number;     /**< The N(S) of #TCRX_AD, the new V(R) of #TCRX_SET_VR, else 0. */
 } tcrx_kind_answer;
 
-/* A packet at the front of octets: the first `length` of them, of which 6 are its primary header. */
+/** The packet at the front of octets: the first `length` of them. Six are the primary header. */
 typedef struct {
-    tcrx_status status;
-    uint32_t length;     /* 7 to 65,542 */
-    uint16_t apid;       /* the application process identifier, at most 2,047, which marks idle packets */
-    uint16_t count;      /* the sequence count or the name, at most 16,383 */
-    uint8_t telecommand; /* the packet type: 1 for telecommand, 0 for telemetry */
-    uint8_t secondary;   /* the secondary header flag */
-    uint8_t sequence;    /* the sequence flags, at most 3 */
+    tcrx_status status;  /**< #TCRX_DONE, or why not. */
+    uint32_t length;     /**< The octets of the packet, 7 to 65,542. */
+    uint16_t apid;       /**< The application process identifier (APID), at most 2,047, which marks idle packets. */
+    uint16_t count;      /**< The sequence count or the name, at most 16,383. */
+    uint8_t telecommand; /**< The packet type: 1 for telecommand, 0 for telemetry. */
+    uint8_t secondary;   /**< The secondary header flag. */
+    uint8_t sequence;    /**< The sequence flags, at most 3. */
 } tcrx_packet;
 
+/** What was written into a buffer. */
 typedef struct {
-    tcrx_status status;
-    size_t length; /* how many octets were written, or how many the buffer needs at TCRX_NO_ROOM; else 0 */
+    tcrx_status status; /**< #TCRX_DONE, or why not. */
+    size_t length;      /**< The octets that were written, or that the buffer needs at #TCRX_NO_ROOM. */
 } tcrx_written;
 
-/*
- * Holds a virtual channel, or none. It lies in memory of the caller's, who sets it to TCRX_HOLDS_NONE before the first call and
- * writes nothing to it after that. A copy of it is no second channel: it may be moved to another place, if the old one is set to
- * TCRX_HOLDS_NONE before the next call. A channel that is still held when this memory ends isn't freed.
+/**
+ * A virtual channel, or none. It is in the caller's memory. The caller sets it to #TCRX_HOLDS_NONE before the first call, and
+ * writes nothing to it after that. A copy of it is no second channel. It may be moved to another place, if the old one is set to
+ * #TCRX_HOLDS_NONE before the next call. A channel that is still held when this memory ends isn't freed.
  */
 typedef struct {
-    uint8_t held;
-    void *place;
+    uint8_t held; /**< 1 where a channel is held, else 0. */
+    void *place;  /**< The library's own. */
 } tcrx_channel;
 
+/** The initial value of a #tcrx_channel. */
 #define TCRX_HOLDS_NONE \
     { 0, NULL }
 
-/* What a channel is made by, apart from its queues. */
+/** What a channel is made by, apart from its queues. */
 typedef struct {
-    uint8_t vcid;      /* the virtual channel id, 0 to 63 */
-    uint8_t width;     /* of the sliding window, even and 2 to 254 */
-    uint8_t buffer;    /* how many data fields the buffer holds, 1 to 64 */
-    uint8_t first_vr;  /* V(R) at the start */
-    uint8_t segmented; /* 1 where data fields begin with a segment header; 0 where each is a unit by itself */
+    uint8_t vcid;      /**< The virtual channel id, 0 to 63. */
+    uint8_t width;     /**< The width of the sliding window, even and 2 to 254. */
+    uint8_t buffer;    /**< How many data fields the buffer holds, 1 to 64. */
+    uint8_t first_vr;  /**< V(R) at the start. */
+    uint8_t segmented; /**< 1 where data fields begin with a segment header; 0 where each is a unit by itself. */
 } tcrx_settings;
 
-/* A queue for the telecommand packets of one application. */
+/** A queue for the telecommand packets of one application. */
 typedef struct {
-    uint16_t apid;     /* at most 2,046 */
-    uint16_t capacity; /* how many packets it holds, 1 to 256 */
+    uint16_t apid;     /**< The APID of the packets, at most 2,046. */
+    uint16_t capacity; /**< How many packets the queue holds, 1 to 256. */
 } tcrx_queue;
 
-/* A chosen MAP, whose units are queued whole and not cut into packets. */
+/** A chosen MAP (multiplexer access point), whose units are queued whole instead of being cut into packets. */
 typedef struct {
-    uint8_t map;       /* at most 63 */
-    uint16_t capacity; /* how many units its queue holds, 1 to 256 */
+    uint8_t map;       /**< The MAP, at most 63. */
+    uint16_t capacity; /**< How many units its queue holds, 1 to 256. */
 } tcrx_map;
 
-/* What became of the unit that a call ended; each number is 0 where it ended none, and where the call is refused. */
+/** What a frame came to, and what became of the unit that it ended. Where it ended none, each number of the unit is 0. */
 typedef struct {
-    tcrx_status status;
-    uint32_t queued;  /* how many packets were queued; 1 for a unit that was queued whole */
-    uint32_t dropped; /* how many packets were dropped: no telecommand, no queue, or no room in it; 1 for such a whole unit */
-    uint8_t event;    /* 1 to 9, the row E1 to E9 of FARM-1's table */
-    uint8_t accepted; /* 1 where the frame was accepted, else 0 */
-    uint8_t rest;     /* 1 where octets were left that begin with no packet, else 0 */
+    tcrx_status status; /**< #TCRX_DONE, or why not. */
+    uint32_t queued;    /**< How many packets were queued; 1 for a unit that was queued whole. */
+    uint32_t dropped;   /**< How many packets were dropped: no telecommand, no queue, or no room; 1 for such a whole unit. */
+    uint8_t event;      /**< 1 to 9, the row E1 to E9 of the state table of FARM-1. */
+    uint8_t accepted;   /**< 1 where the frame was accepted, else 0. */
+    uint8_t rest;       /**< 1 where octets were left that begin with no packet, else 0. */
 } tcrx_reply;
 
-/* The same of a data field that was released. */
+/** What became of the unit that a released data field ended. Where it ended none, each number is 0. */
 typedef struct {
-    tcrx_status status;
-    uint32_t queued;
-    uint32_t dropped;
-    uint8_t rest;
+    tcrx_status status; /**< #TCRX_DONE, or why not. */
+    uint32_t queued;    /**< As in #tcrx_reply. */
+    uint32_t dropped;   /**< As in #tcrx_reply. */
+    uint8_t rest;       /**< As in #tcrx_reply. */
 } tcrx_delivery;
 
+/** A count. */
 typedef struct {
-    tcrx_status status;
-    uint64_t count; /* 0 where the call is refused */
+    tcrx_status status; /**< #TCRX_DONE, or why not. */
+    uint64_t count;     /**< The count. */
 } tcrx_count;
 
-/*
- * FARM-1 that starts: in TCRX_OPEN, every flag and the FARM-B counter 0, V(R) as given.
- * TCRX_BAD_WIDTH.
- */
-tcrx_farm_answer tcrx_farm_start(uint8_t width, uint8_t first_vr);
+/** @cond */
+/* The layout that the library has for each record. Another one would be an array of a negative size. */
+#define TCRX_LAYOUT(record, holds) typedef char record##_layout[(holds) ? 1 : -1]
+#define TCRX_AT(record, field, place) (offsetof(record, field) == (place))
+TCRX_LAYOUT(tcrx_farm, sizeof(tcrx_farm) == 7 && TCRX_AT(tcrx_farm, width, 0) && TCRX_AT(tcrx_farm, state, 1)
+                           && TCRX_AT(tcrx_farm, vr, 2) && TCRX_AT(tcrx_farm, farm_b, 3) && TCRX_AT(tcrx_farm, lockout, 4)
+                           && TCRX_AT(tcrx_farm, wait, 5) && TCRX_AT(tcrx_farm, retransmit, 6));
+TCRX_LAYOUT(tcrx_farm_answer, sizeof(tcrx_farm_answer) == 12 && TCRX_AT(tcrx_farm_answer, status, 0)
+                                  && TCRX_AT(tcrx_farm_answer, farm, 4));
+TCRX_LAYOUT(tcrx_step_answer, sizeof(tcrx_step_answer) == 16 && TCRX_AT(tcrx_step_answer, status, 0)
+                                  && TCRX_AT(tcrx_step_answer, farm, 4) && TCRX_AT(tcrx_step_answer, event, 11)
+                                  && TCRX_AT(tcrx_step_answer, accepted, 12));
+TCRX_LAYOUT(tcrx_clcw_answer, sizeof(tcrx_clcw_answer) == 8 && TCRX_AT(tcrx_clcw_answer, status, 0)
+                                  && TCRX_AT(tcrx_clcw_answer, word, 4));
+TCRX_LAYOUT(tcrx_clcw_fields, sizeof(tcrx_clcw_fields) == 16 && TCRX_AT(tcrx_clcw_fields, status, 0)
+                                  && TCRX_AT(tcrx_clcw_fields, status_field, 4) && TCRX_AT(tcrx_clcw_fields, vcid, 5)
+                                  && TCRX_AT(tcrx_clcw_fields, no_rf, 6) && TCRX_AT(tcrx_clcw_fields, no_bit_lock, 7)
+                                  && TCRX_AT(tcrx_clcw_fields, lockout, 8) && TCRX_AT(tcrx_clcw_fields, wait, 9)
+                                  && TCRX_AT(tcrx_clcw_fields, retransmit, 10) && TCRX_AT(tcrx_clcw_fields, farm_b, 11)
+                                  && TCRX_AT(tcrx_clcw_fields, vr, 12));
+TCRX_LAYOUT(tcrx_header, sizeof(tcrx_header) == 6 && TCRX_AT(tcrx_header, scid, 0) && TCRX_AT(tcrx_header, vcid, 2)
+                             && TCRX_AT(tcrx_header, ns, 3) && TCRX_AT(tcrx_header, bypass, 4)
+                             && TCRX_AT(tcrx_header, control, 5));
+TCRX_LAYOUT(tcrx_frame, sizeof(tcrx_frame) == 12 && TCRX_AT(tcrx_frame, status, 0) && TCRX_AT(tcrx_frame, header, 4)
+                            && TCRX_AT(tcrx_frame, length, 10));
+TCRX_LAYOUT(tcrx_kind_answer, sizeof(tcrx_kind_answer) == 8 && TCRX_AT(tcrx_kind_answer, status, 0)
+                                  && TCRX_AT(tcrx_kind_answer, kind, 4) && TCRX_AT(tcrx_kind_answer, number, 5));
+TCRX_LAYOUT(tcrx_packet, sizeof(tcrx_packet) == 16 && TCRX_AT(tcrx_packet, status, 0) && TCRX_AT(tcrx_packet, length, 4)
+                             && TCRX_AT(tcrx_packet, apid, 8) && TCRX_AT(tcrx_packet, count, 10)
+                             && TCRX_AT(tcrx_packet, telecommand, 12) && TCRX_AT(tcrx_packet, secondary, 13)
+                             && TCRX_AT(tcrx_packet, sequence, 14));
+TCRX_LAYOUT(tcrx_written, sizeof(tcrx_written) == 2 * sizeof(size_t) && TCRX_AT(tcrx_written, status, 0)
+                              && TCRX_AT(tcrx_written, length, sizeof(size_t)));
+TCRX_LAYOUT(tcrx_channel, sizeof(tcrx_channel) == 2 * sizeof(void *) && TCRX_AT(tcrx_channel, held, 0)
+                              && TCRX_AT(tcrx_channel, place, sizeof(void *)));
+TCRX_LAYOUT(tcrx_settings, sizeof(tcrx_settings) == 5 && TCRX_AT(tcrx_settings, vcid, 0) && TCRX_AT(tcrx_settings, width, 1)
+                               && TCRX_AT(tcrx_settings, buffer, 2) && TCRX_AT(tcrx_settings, first_vr, 3)
+                               && TCRX_AT(tcrx_settings, segmented, 4));
+TCRX_LAYOUT(tcrx_queue, sizeof(tcrx_queue) == 4 && TCRX_AT(tcrx_queue, apid, 0) && TCRX_AT(tcrx_queue, capacity, 2));
+TCRX_LAYOUT(tcrx_map, sizeof(tcrx_map) == 4 && TCRX_AT(tcrx_map, map, 0) && TCRX_AT(tcrx_map, capacity, 2));
+TCRX_LAYOUT(tcrx_reply, sizeof(tcrx_reply) == 16 && TCRX_AT(tcrx_reply, status, 0) && TCRX_AT(tcrx_reply, queued, 4)
+                            && TCRX_AT(tcrx_reply, dropped, 8) && TCRX_AT(tcrx_reply, event, 12)
+                            && TCRX_AT(tcrx_reply, accepted, 13) && TCRX_AT(tcrx_reply, rest, 14));
+TCRX_LAYOUT(tcrx_delivery, sizeof(tcrx_delivery) == 16 && TCRX_AT(tcrx_delivery, status, 0)
+                               && TCRX_AT(tcrx_delivery, queued, 4) && TCRX_AT(tcrx_delivery, dropped, 8)
+                               && TCRX_AT(tcrx_delivery, rest, 12));
+TCRX_LAYOUT(tcrx_count, sizeof(tcrx_count) == 16 && TCRX_AT(tcrx_count, status, 0) && TCRX_AT(tcrx_count, count, 8));
+#undef TCRX_AT
+#undef TCRX_LAYOUT
+/** @endcond */
+/** @} */
 
-/*
- * One step of FARM-1, by its state table (CCSDS 232.1-B, 6.3). `arrival` is what tcrx_kind tells of a frame, or TCRX_RELEASE;
- * `number` is what it tells beside it, and of no matter for TCRX_RELEASE. `room` is 1 where the buffer has room for the data
- * field of a Type-AD frame, else 0. The record of a step that is done is that of a FARM-1 again; that of a refused one is as it
- * was given.
- * TCRX_BAD_WIDTH, TCRX_BAD_STATE, TCRX_BAD_FARM_B, TCRX_BAD_FLAG and TCRX_FLAGS_DISAGREE: no FARM-1 has this record. Then
- * TCRX_BAD_FLAG of `room`, TCRX_BAD_ARRIVAL, and TCRX_NO_ENTRY, which isn't met where `room` is 0 in TCRX_WAIT, as it is of a
- * buffer that has had no release since it was full.
+/**
+ * @defgroup tcrx_library Calls of the library
+ *
+ * For callers in other languages. They must never be given a null pointer; a list of no entries and a buffer with no room still
+ * need one that isn't null. Callers in C use the names without _at.
+ * @{
  */
-tcrx_step_answer tcrx_farm_step(tcrx_farm farm, uint8_t arrival, uint8_t number, uint8_t room);
-
-/*
- * The CLCW that reports FARM-1 for a virtual channel, 0 to 63, with the two flags of the link. Its status field is 0, and COP-1
- * is in effect.
- * The first five of tcrx_farm_step, then TCRX_BAD_VCID, and TCRX_BAD_FLAG of the link.
- */
-tcrx_clcw_answer tcrx_clcw(tcrx_farm farm, uint8_t vcid, uint8_t no_rf, uint8_t no_bit_lock);
-
-/*
- * What a word says, if it is a CLCW of COP-1: type and version 0, COP 1 and both spares 0.
- * TCRX_NO_CLCW.
- */
-tcrx_clcw_fields tcrx_read_clcw(uint32_t word);
-
+/** @copydoc tcrx_text */
 tcrx_written tcrx_text_at(tcrx_status status, uint8_t *text, size_t room);
+/** @copydoc tcrx_read_frame */
 tcrx_frame tcrx_read_frame_at(const uint8_t *octets, size_t count);
+/** @copydoc tcrx_kind */
 tcrx_kind_answer tcrx_kind_at(const uint8_t *octets, size_t count);
+/** @copydoc tcrx_write_frame */
 tcrx_written tcrx_write_frame_at(tcrx_header header, const uint8_t *field, size_t field_count, uint8_t *octets, size_t room);
+/** @copydoc tcrx_read_packet */
 tcrx_packet tcrx_read_packet_at(const uint8_t *octets, size_t count);
+/** @copydoc tcrx_memory_bound */
+tcrx_count tcrx_memory_bound_at(tcrx_settings settings, const tcrx_queue *queues, size_t queue_count, const tcrx_map *maps,
+                                size_t map_count);
+/** @copydoc tcrx_channel_new */
 tcrx_status tcrx_channel_new_at(tcrx_channel *channel, tcrx_settings settings, const tcrx_queue *queues, size_t queue_count,
                                 const tcrx_map *maps, size_t map_count);
+/** @copydoc tcrx_channel_frame */
 tcrx_reply tcrx_channel_frame_at(tcrx_channel *channel, const uint8_t *octets, size_t count);
+/** @copydoc tcrx_channel_release */
 tcrx_delivery tcrx_channel_release_at(tcrx_channel *channel);
+/** @copydoc tcrx_channel_take */
 tcrx_written tcrx_channel_take_at(tcrx_channel *channel, uint16_t apid, uint8_t *octets, size_t room);
+/** @copydoc tcrx_channel_take_unit */
 tcrx_written tcrx_channel_take_unit_at(tcrx_channel *channel, uint8_t map, uint8_t *octets, size_t room);
+/** @copydoc tcrx_channel_clcw */
 tcrx_clcw_answer tcrx_channel_clcw_at(tcrx_channel *channel, uint8_t no_rf, uint8_t no_bit_lock);
+/** @copydoc tcrx_channel_report */
 tcrx_farm_answer tcrx_channel_report_at(tcrx_channel *channel);
+/** @copydoc tcrx_channel_buffered */
 tcrx_count tcrx_channel_buffered_at(tcrx_channel *channel);
+/** @copydoc tcrx_channel_queued */
 tcrx_count tcrx_channel_queued_at(tcrx_channel *channel, uint16_t apid);
+/** @copydoc tcrx_channel_units */
 tcrx_count tcrx_channel_units_at(tcrx_channel *channel, uint8_t map);
+/** @copydoc tcrx_channel_events */
 tcrx_count tcrx_channel_events_at(tcrx_channel *channel);
+/** @copydoc tcrx_channel_free */
 tcrx_status tcrx_channel_free_at(tcrx_channel *channel);
+/** @} */
 
-/* Room for each text. */
-enum { TCRX_TEXT_ROOM = 64 };
+/**
+ * @defgroup tcrx_single Single calls
+ *
+ * They keep no state and allocate nothing.
+ * @{
+ */
 
-/*
- * Writes the text of a status to the front of a buffer with room for so many characters: ASCII, and a 0 at its end, which the
- * length counts. What follows it stays, and where the call is refused the whole buffer.
- * TCRX_NULL, TCRX_NO_STATUS, TCRX_NO_ROOM.
+/**
+ * Writes the text of a status to the front of a buffer: ASCII characters, and a 0 at the end, which the length counts. The rest
+ * of the buffer stays as it was; where the call is refused, the whole buffer.
+ *
+ * @param status the status
+ * @param text   the buffer
+ * @param room   how many characters it has room for; #TCRX_TEXT_ROOM is enough
+ * @return the length. Refused by #TCRX_NULL, #TCRX_NO_STATUS, #TCRX_NO_ROOM.
  */
 static inline tcrx_written tcrx_text(tcrx_status status, char *text, size_t room) {
     if (text == NULL) {
@@ -293,9 +421,55 @@ static inline tcrx_written tcrx_text(tcrx_status status, char *text, size_t room
     return tcrx_text_at(status, (uint8_t *)text, room);
 }
 
-/*
- * Reads the frame at the front of the octets. What follows it is fill.
- * TCRX_NULL, then TCRX_SHORT to TCRX_TRUNCATED.
+/**
+ * FARM-1 that starts: in #TCRX_OPEN, with every flag and the FARM-B counter 0.
+ *
+ * @param width    the width of the sliding window, even and 2 to 254
+ * @param first_vr the first V(R)
+ * @return the record. Refused by #TCRX_BAD_WIDTH.
+ */
+tcrx_farm_answer tcrx_farm_start(uint8_t width, uint8_t first_vr);
+
+/**
+ * One step of FARM-1, by its state table (CCSDS 232.1-B, 6.3). Keep the record of the answer, and give it to the next call.
+ *
+ * @param farm    the record before the step
+ * @param arrival the kind of a frame, as tcrx_kind() answers it, or #TCRX_RELEASE
+ * @param number  the number that tcrx_kind() answers; for #TCRX_RELEASE any
+ * @param room    1 where the buffer has room for the data field of a Type-AD frame, else 0
+ * @return the step. The record of a step that was done is that of a FARM-1 again; that of a refused one is as it was given.
+ * Refused by #TCRX_BAD_WIDTH, #TCRX_BAD_STATE, #TCRX_BAD_FARM_B, #TCRX_BAD_FLAG and #TCRX_FLAGS_DISAGREE, where no FARM-1 has
+ * this record; then by #TCRX_BAD_FLAG of `room`, #TCRX_BAD_ARRIVAL, and #TCRX_NO_ENTRY. The last is never met where `room` is 0
+ * in #TCRX_WAIT, which holds for a buffer that has had no release since it was full.
+ */
+tcrx_step_answer tcrx_farm_step(tcrx_farm farm, uint8_t arrival, uint8_t number, uint8_t room);
+
+/**
+ * The CLCW that reports a FARM-1. Its status field is 0, and COP-1 is in effect.
+ *
+ * @param farm        the record
+ * @param vcid        the virtual channel id, 0 to 63
+ * @param no_rf       the No RF Available flag of the link
+ * @param no_bit_lock the No Bit Lock flag of the link
+ * @return the word. Refused by the first five statuses of tcrx_farm_step(), then by #TCRX_BAD_VCID, and #TCRX_BAD_FLAG of the
+ * link.
+ */
+tcrx_clcw_answer tcrx_clcw(tcrx_farm farm, uint8_t vcid, uint8_t no_rf, uint8_t no_bit_lock);
+
+/**
+ * Reads a word that may be a CLCW of COP-1: one whose type and version are 0, whose COP is 1 and whose spare bits are 0.
+ *
+ * @param word the word
+ * @return its fields. Refused by #TCRX_NO_CLCW.
+ */
+tcrx_clcw_fields tcrx_read_clcw(uint32_t word);
+
+/**
+ * Reads the frame at the front of octets. What follows the frame is fill.
+ *
+ * @param octets the octets
+ * @param count  how many there are
+ * @return the header and the length of the frame. Refused by #TCRX_NULL, then #TCRX_SHORT to #TCRX_TRUNCATED.
  */
 static inline tcrx_frame tcrx_read_frame(const uint8_t *octets, size_t count) {
     if (octets == NULL) {
@@ -305,10 +479,12 @@ static inline tcrx_frame tcrx_read_frame(const uint8_t *octets, size_t count) {
     return tcrx_read_frame_at(octets, count);
 }
 
-/*
- * What kind the frame at the front of the octets is, by its two flags and its data field. Type-AC frames, which are reserved,
- * and Type-BC frames with no control command are TCRX_INVALID.
- * As tcrx_read_frame.
+/**
+ * The kind of the frame at the front of octets, by its two flags and its data field, as tcrx_farm_step() takes it.
+ *
+ * @param octets the octets
+ * @param count  how many there are
+ * @return the kind. Refused as by tcrx_read_frame().
  */
 static inline tcrx_kind_answer tcrx_kind(const uint8_t *octets, size_t count) {
     if (octets == NULL) {
@@ -318,11 +494,17 @@ static inline tcrx_kind_answer tcrx_kind(const uint8_t *octets, size_t count) {
     return tcrx_kind_at(octets, count);
 }
 
-/*
- * Writes the frame of this header and this data field, of 1 to 1,019 octets, to the front of a buffer with `room` octets. The
- * frame has 5 octets more than its data field. What follows it in the buffer stays, and where the call is refused the whole
- * buffer.
- * TCRX_NULL, TCRX_BAD_FLAG, TCRX_BAD_FIELD, TCRX_EMPTY_DATA, TCRX_TOO_LONG, TCRX_NO_ROOM.
+/**
+ * Writes a frame to the front of a buffer. The frame has 5 octets more than its data field. The rest of the buffer stays as it
+ * was; where the call is refused, the whole buffer.
+ *
+ * @param header      the fields of its header
+ * @param field       its data field
+ * @param field_count the octets of the data field, 1 to 1,019
+ * @param octets      the buffer
+ * @param room        the octets of the buffer
+ * @return the length of the frame. Refused by #TCRX_NULL, #TCRX_BAD_FLAG, #TCRX_BAD_FIELD, #TCRX_EMPTY_DATA, #TCRX_TOO_LONG,
+ * #TCRX_NO_ROOM.
  */
 static inline tcrx_written tcrx_write_frame(tcrx_header header, const uint8_t *field, size_t field_count, uint8_t *octets,
                                             size_t room) {
@@ -333,9 +515,13 @@ static inline tcrx_written tcrx_write_frame(tcrx_header header, const uint8_t *f
     return tcrx_write_frame_at(header, field, field_count, octets, room);
 }
 
-/*
- * Reads the packet at the front of the octets. Secondary header, sequence flags and count are not judged.
- * TCRX_NULL, TCRX_NO_PACKET.
+/**
+ * Reads the primary header of the packet at the front of octets. The secondary header, the sequence flags and the sequence count
+ * may have any value.
+ *
+ * @param octets the octets
+ * @param count  how many there are
+ * @return the fields of the header and the length of the packet. Refused by #TCRX_NULL, #TCRX_NO_PACKET.
  */
 static inline tcrx_packet tcrx_read_packet(const uint8_t *octets, size_t count) {
     if (octets == NULL) {
@@ -344,12 +530,53 @@ static inline tcrx_packet tcrx_read_packet(const uint8_t *octets, size_t count) 
     }
     return tcrx_read_packet_at(octets, count);
 }
+/** @} */
 
-/*
- * Makes a channel, which is held until it is freed. Nothing that is given is kept. A null list of 0 entries has none.
- * TCRX_NULL, TCRX_IN_USE, TCRX_BAD_FLAG of `segmented`; then the first fault of the settings in this order: TCRX_BAD_VCID,
- * TCRX_BAD_WIDTH, TCRX_BAD_BUFFER, TCRX_BAD_APID, TCRX_DOUBLE_APID, TCRX_BAD_CAPACITY, TCRX_BAD_MAP, TCRX_DOUBLE_MAP,
- * TCRX_BAD_UNITS, TCRX_PLAIN_MAP. TCRX_NO_MEMORY, also where settings with a fault can't be looked at for want of it.
+/**
+ * @defgroup tcrx_channels Calls of a channel
+ *
+ * A channel in the caller's memory. A call that is refused leaves the channel as it was.
+ * @{
+ */
+
+/**
+ * The most octets that a channel of these settings has asked for and not given back, at any moment of its life and with any
+ * frames. Three things are not counted: what the functions of memory add to each block, the block of the channel itself, and the
+ * copies of the two lists, of up to 8 octets an entry, that tcrx_channel_new() makes as well.
+ *
+ * @param settings    the settings
+ * @param queues      the packet queues; null where there are none
+ * @param queue_count how many there are
+ * @param maps        the chosen MAPs; null where there are none
+ * @param map_count   how many there are
+ * @return the count. Refused as by tcrx_channel_new(), by #TCRX_NO_MEMORY as well, since the call copies the lists while it looks
+ * at them; but never by #TCRX_IN_USE.
+ */
+static inline tcrx_count tcrx_memory_bound(tcrx_settings settings, const tcrx_queue *queues, size_t queue_count,
+                                           const tcrx_map *maps, size_t map_count) {
+    const tcrx_queue no_queue = {0, 0};
+    const tcrx_map no_map = {0, 0};
+    if ((queues == NULL && queue_count != 0) || (maps == NULL && map_count != 0)) {
+        const tcrx_count refused = {TCRX_NULL, 0};
+        return refused;
+    }
+    return tcrx_memory_bound_at(settings, queues == NULL ? &no_queue : queues, queue_count, maps == NULL ? &no_map : maps,
+                                map_count);
+}
+
+/**
+ * Makes a channel, which is held until it is freed. Nothing that is given is kept.
+ *
+ * @param channel     where it is to be held, #TCRX_HOLDS_NONE
+ * @param settings    its settings
+ * @param queues      its packet queues; null where there are none
+ * @param queue_count how many there are
+ * @param maps        its chosen MAPs; null where there are none
+ * @param map_count   how many there are
+ * @return #TCRX_DONE. Refused by #TCRX_NULL, #TCRX_IN_USE, #TCRX_BAD_FLAG of `segmented`; then by the first fault of the settings
+ * in this order: #TCRX_BAD_VCID, #TCRX_BAD_WIDTH, #TCRX_BAD_BUFFER, #TCRX_BAD_APID, #TCRX_DOUBLE_APID, #TCRX_BAD_CAPACITY,
+ * #TCRX_BAD_MAP, #TCRX_DOUBLE_MAP, #TCRX_BAD_UNITS, #TCRX_PLAIN_MAP. Refused by #TCRX_NO_MEMORY where memory runs out, which may
+ * come before a fault of the settings is found.
  */
 static inline tcrx_status tcrx_channel_new(tcrx_channel *channel, tcrx_settings settings, const tcrx_queue *queues,
                                            size_t queue_count, const tcrx_map *maps, size_t map_count) {
@@ -362,11 +589,18 @@ static inline tcrx_status tcrx_channel_new(tcrx_channel *channel, tcrx_settings 
                                maps == NULL ? &no_map : maps, map_count);
 }
 
-/*
- * Gives the channel the frame at the front of the octets. What follows it is fill. Spacecraft and virtual channel of the frame
- * are not looked at: tcrx_read_frame tells them, so that each frame is given to the channel that it is for. The data field of an
- * accepted Type-AD frame waits in the buffer; the unit that an accepted Type-BD frame ends is queued at once.
- * TCRX_NULL, TCRX_NO_CHANNEL, TCRX_SHORT to TCRX_TRUNCATED, TCRX_NO_MEMORY.
+/**
+ * Gives the channel the frame at the front of octets. What follows the frame is fill. The data field of an accepted Type-AD
+ * frame waits in the buffer. The unit that an accepted Type-BD frame ends is queued at once.
+ *
+ * The spacecraft id and the virtual channel id of the frame are not looked at. tcrx_read_frame() answers them, so that the
+ * caller can give each frame to the channel that it is for.
+ *
+ * @param channel the channel
+ * @param octets  the octets
+ * @param count   how many there are
+ * @return the event, and what became of the unit. Refused by #TCRX_NULL, #TCRX_NO_CHANNEL, #TCRX_SHORT to #TCRX_TRUNCATED,
+ * #TCRX_NO_MEMORY.
  */
 static inline tcrx_reply tcrx_channel_frame(tcrx_channel *channel, const uint8_t *octets, size_t count) {
     if (channel == NULL || octets == NULL) {
@@ -376,10 +610,12 @@ static inline tcrx_reply tcrx_channel_frame(tcrx_channel *channel, const uint8_t
     return tcrx_channel_frame_at(channel, octets, count);
 }
 
-/*
- * Lets the oldest data field out of the buffer, to reassembly. The unit that it ends is cut into packets, which are queued; or
- * it is queued whole, where its MAP is chosen.
- * TCRX_NULL, TCRX_NO_CHANNEL, TCRX_EMPTY, TCRX_NO_MEMORY.
+/**
+ * Passes the oldest data field of the buffer on to reassembly. The unit that it ends is cut into packets, which are queued; a
+ * unit of a chosen MAP is queued whole.
+ *
+ * @param channel the channel
+ * @return what became of the unit. Refused by #TCRX_NULL, #TCRX_NO_CHANNEL, #TCRX_EMPTY, #TCRX_NO_MEMORY.
  */
 static inline tcrx_delivery tcrx_channel_release(tcrx_channel *channel) {
     if (channel == NULL) {
@@ -389,11 +625,16 @@ static inline tcrx_delivery tcrx_channel_release(tcrx_channel *channel) {
     return tcrx_channel_release_at(channel);
 }
 
-/*
- * Takes the oldest packet of the queue with this APID, whole with its header, into the front of a buffer with room for so many
- * octets. A packet has 7 to 65,542. What follows it in the buffer stays, and where the call is refused the whole buffer and the
- * packet in its queue.
- * TCRX_NULL, TCRX_NO_CHANNEL, TCRX_NO_QUEUE, TCRX_EMPTY, TCRX_NO_ROOM, TCRX_NO_MEMORY.
+/**
+ * Takes the oldest packet of a queue, whole with its header, to the front of a buffer. A packet has 7 to 65,542 octets. The rest
+ * of the buffer stays as it was; where the call is refused, the whole buffer, and the packet stays in its queue.
+ *
+ * @param channel the channel
+ * @param apid    the APID of the queue
+ * @param octets  the buffer
+ * @param room    the octets of the buffer
+ * @return the length of the packet. Refused by #TCRX_NULL, #TCRX_NO_CHANNEL, #TCRX_NO_QUEUE, #TCRX_EMPTY, #TCRX_NO_ROOM,
+ * #TCRX_NO_MEMORY.
  */
 static inline tcrx_written tcrx_channel_take(tcrx_channel *channel, uint16_t apid, uint8_t *octets, size_t room) {
     if (channel == NULL || octets == NULL) {
@@ -403,9 +644,15 @@ static inline tcrx_written tcrx_channel_take(tcrx_channel *channel, uint16_t api
     return tcrx_channel_take_at(channel, apid, octets, room);
 }
 
-/*
- * The same of the oldest unit of a chosen MAP, which may have no octets.
- * TCRX_NULL, TCRX_NO_CHANNEL, TCRX_NO_MAP, TCRX_EMPTY, TCRX_NO_ROOM, TCRX_NO_MEMORY.
+/**
+ * Takes the oldest unit of a chosen MAP in the same way. A unit may have no octets.
+ *
+ * @param channel the channel
+ * @param map     the MAP
+ * @param octets  the buffer
+ * @param room    the octets of the buffer
+ * @return the length of the unit. Refused by #TCRX_NULL, #TCRX_NO_CHANNEL, #TCRX_NO_MAP, #TCRX_EMPTY, #TCRX_NO_ROOM,
+ * #TCRX_NO_MEMORY.
  */
 static inline tcrx_written tcrx_channel_take_unit(tcrx_channel *channel, uint8_t map, uint8_t *octets, size_t room) {
     if (channel == NULL || octets == NULL) {
@@ -415,9 +662,13 @@ static inline tcrx_written tcrx_channel_take_unit(tcrx_channel *channel, uint8_t
     return tcrx_channel_take_unit_at(channel, map, octets, room);
 }
 
-/*
- * The CLCW of the channel, with the two flags of the link. Its status field is 0, and COP-1 is in effect.
- * TCRX_NULL, TCRX_NO_CHANNEL, TCRX_BAD_FLAG.
+/**
+ * The CLCW of the channel. Its status field is 0, and COP-1 is in effect.
+ *
+ * @param channel     the channel
+ * @param no_rf       the No RF Available flag of the link
+ * @param no_bit_lock the No Bit Lock flag of the link
+ * @return the word. Refused by #TCRX_NULL, #TCRX_NO_CHANNEL, #TCRX_BAD_FLAG.
  */
 static inline tcrx_clcw_answer tcrx_channel_clcw(tcrx_channel *channel, uint8_t no_rf, uint8_t no_bit_lock) {
     if (channel == NULL) {
@@ -427,9 +678,11 @@ static inline tcrx_clcw_answer tcrx_channel_clcw(tcrx_channel *channel, uint8_t 
     return tcrx_channel_clcw_at(channel, no_rf, no_bit_lock);
 }
 
-/*
+/**
  * The record of the channel's FARM-1, with the width of its window.
- * TCRX_NULL, TCRX_NO_CHANNEL.
+ *
+ * @param channel the channel
+ * @return the record. Refused by #TCRX_NULL, #TCRX_NO_CHANNEL.
  */
 static inline tcrx_farm_answer tcrx_channel_report(tcrx_channel *channel) {
     if (channel == NULL) {
@@ -439,9 +692,11 @@ static inline tcrx_farm_answer tcrx_channel_report(tcrx_channel *channel) {
     return tcrx_channel_report_at(channel);
 }
 
-/*
+/**
  * How many data fields wait in the buffer.
- * TCRX_NULL, TCRX_NO_CHANNEL.
+ *
+ * @param channel the channel
+ * @return the count. Refused by #TCRX_NULL, #TCRX_NO_CHANNEL.
  */
 static inline tcrx_count tcrx_channel_buffered(tcrx_channel *channel) {
     if (channel == NULL) {
@@ -451,9 +706,12 @@ static inline tcrx_count tcrx_channel_buffered(tcrx_channel *channel) {
     return tcrx_channel_buffered_at(channel);
 }
 
-/*
- * How many packets wait in the queue with this APID.
- * TCRX_NULL, TCRX_NO_CHANNEL, TCRX_NO_QUEUE.
+/**
+ * How many packets wait in a queue.
+ *
+ * @param channel the channel
+ * @param apid    the APID of the queue
+ * @return the count. Refused by #TCRX_NULL, #TCRX_NO_CHANNEL, #TCRX_NO_QUEUE.
  */
 static inline tcrx_count tcrx_channel_queued(tcrx_channel *channel, uint16_t apid) {
     if (channel == NULL) {
@@ -463,9 +721,12 @@ static inline tcrx_count tcrx_channel_queued(tcrx_channel *channel, uint16_t api
     return tcrx_channel_queued_at(channel, apid);
 }
 
-/*
+/**
  * How many units wait in the queue of a chosen MAP.
- * TCRX_NULL, TCRX_NO_CHANNEL, TCRX_NO_MAP.
+ *
+ * @param channel the channel
+ * @param map     the MAP
+ * @return the count. Refused by #TCRX_NULL, #TCRX_NO_CHANNEL, #TCRX_NO_MAP.
  */
 static inline tcrx_count tcrx_channel_units(tcrx_channel *channel, uint8_t map) {
     if (channel == NULL) {
@@ -475,9 +736,11 @@ static inline tcrx_count tcrx_channel_units(tcrx_channel *channel, uint8_t map) 
     return tcrx_channel_units_at(channel, map);
 }
 
-/*
- * How many frames, releases and takes were done; where they are more than 2^64 - 1, that number.
- * TCRX_NULL, TCRX_NO_CHANNEL.
+/**
+ * How many frames, releases and takes were done; where there are more than 2^64 - 1, that number.
+ *
+ * @param channel the channel
+ * @return the count. Refused by #TCRX_NULL, #TCRX_NO_CHANNEL.
  */
 static inline tcrx_count tcrx_channel_events(tcrx_channel *channel) {
     if (channel == NULL) {
@@ -487,9 +750,11 @@ static inline tcrx_count tcrx_channel_events(tcrx_channel *channel) {
     return tcrx_channel_events_at(channel);
 }
 
-/*
- * Frees the channel with all that waits in it. After that none is held, and another one can be made.
- * TCRX_NULL, TCRX_NO_CHANNEL.
+/**
+ * Frees the channel with all that waits in it. After that none is held, and another one can be made in its place.
+ *
+ * @param channel the channel
+ * @return #TCRX_DONE. Refused by #TCRX_NULL, #TCRX_NO_CHANNEL.
  */
 static inline tcrx_status tcrx_channel_free(tcrx_channel *channel) {
     if (channel == NULL) {
@@ -497,6 +762,7 @@ static inline tcrx_status tcrx_channel_free(tcrx_channel *channel) {
     }
     return tcrx_channel_free_at(channel);
 }
+/** @} */
 
 #ifdef __cplusplus
 }

@@ -1,8 +1,8 @@
 /*
- * The memory of channels, over malloc, realloc and free. Link it with libtc_c.a, or three functions of your own in its place,
- * as over a pool.
+ * The memory of channels, over malloc, realloc and free. Link it with libtc_c.a; or tcrx_pool.c, or three functions of your own, in
+ * its place.
  *
- * They owe this:
+ * They must keep to this:
  * - rattle_alloc answers with a new block of so many octets, which is aligned to `alignment`, a power of two up to 16; or, where
  *   it has none, with `given` false.
  * - rattle_realloc makes the block one of so many octets, whose first `kept` octets stay. It may move the block. Where it has no

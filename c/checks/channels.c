@@ -86,7 +86,7 @@ static void make_all(void) {
 static const char *refusal(tcrx_status status) {
     switch (status) {
     case TCRX_SHORT: return "short";
-    case TCRX_VERSION: return "version";
+    case TCRX_BAD_VERSION: return "version";
     case TCRX_SPARE: return "spare";
     case TCRX_LENGTH_SMALL: return "length";
     case TCRX_TRUNCATED: return "truncated";

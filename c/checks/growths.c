@@ -1,8 +1,11 @@
 /*
  * Refuses each growth of a channel's memory in turn: in each call the first block that it asks for, then the second, until it
  * asks for no more. A call that is refused must answer TCRX_NO_MEMORY and leave the channel as it was, though it may keep room
- * that it got; made again it goes on, and is done in the end. No block may be left of a channel that wasn't made, nor of one that
- * was freed. The last line says how many growths were refused.
+ * that it got; made again it goes on, and is done in the end. Packets and units that are taken must be those that were sent. No
+ * block may be left of a channel that wasn't made, nor of one that was freed, nor by a call that looks at settings.
+ *
+ * The memory is that of tcrx_memory.c, which is linked with this. What is refused are its calls of malloc and realloc, which the
+ * linker leads here: by --wrap=malloc, --wrap=realloc and --wrap=free. The last line says how many growths were refused.
  */
 #include "../tcrx.h"
 
@@ -11,17 +14,15 @@
 #include <stdlib.h>
 #include <string.h>
 
-typedef struct {
-    bool given;
-    void *at;
-} rattle_block;
-
-rattle_block rattle_alloc(size_t count, size_t alignment);
-rattle_block rattle_realloc(void *at, size_t kept, size_t count, size_t alignment);
-void rattle_dealloc(void *at);
+void *__real_malloc(size_t count);
+void *__real_realloc(void *at, size_t count);
+void __real_free(void *at);
+void *__wrap_malloc(size_t count);
+void *__wrap_realloc(void *at, size_t count);
+void __wrap_free(void *at);
 
 /* How many growths are given before one is refused, and how many were refused; how many blocks are out. */
-static unsigned long given_first, refused, blocks;
+static unsigned long given_first, refusals, blocks;
 static bool refusing, met;
 
 static bool is_refused(void) {
@@ -33,31 +34,21 @@ static bool is_refused(void) {
         return false;
     }
     met = true;
-    refused += 1;
+    refusals += 1;
     return true;
 }
 
-static char nothing;
-
-static rattle_block answer(void *at) {
-    const rattle_block block = {at != NULL, at != NULL ? at : &nothing};
-    return block;
-}
-
-rattle_block rattle_alloc(size_t count, size_t alignment) {
-    void *at = is_refused() ? NULL : malloc(count == 0 ? alignment : count);
+void *__wrap_malloc(size_t count) {
+    void *at = is_refused() ? NULL : __real_malloc(count);
     blocks += at == NULL ? 0 : 1;
-    return answer(at);
+    return at;
 }
 
-rattle_block rattle_realloc(void *at, size_t kept, size_t count, size_t alignment) {
-    (void)kept;
-    return answer(is_refused() ? NULL : realloc(at, count == 0 ? alignment : count));
-}
+void *__wrap_realloc(void *at, size_t count) { return is_refused() ? NULL : __real_realloc(at, count); }
 
-void rattle_dealloc(void *at) {
+void __wrap_free(void *at) {
     blocks -= 1;
-    free(at);
+    __real_free(at);
 }
 
 static tcrx_channel channel = TCRX_HOLDS_NONE;
@@ -87,12 +78,12 @@ static state look(void) {
     return now;
 }
 
-static tcrx_status make(void) {
-    const tcrx_settings settings = {1, 10, 4, 0, 1};
-    static const tcrx_queue queues[] = {{5, 4}, {9, 2}, {77, 256}};
-    static const tcrx_map maps[] = {{2, 3}, {7, 1}};
-    return tcrx_channel_new(&channel, settings, queues, 3, maps, 2);
-}
+static const tcrx_settings settings = {1, 10, 4, 0, 1};
+static const tcrx_queue queues[] = {{5, 4}, {9, 2}, {77, 256}};
+static const tcrx_map maps[] = {{2, 3}, {7, 1}};
+
+static tcrx_status make(void) { return tcrx_channel_new(&channel, settings, queues, 3, maps, 2); }
+static tcrx_status ask_bound(void) { return tcrx_memory_bound(settings, queues, 3, maps, 2).status; }
 
 static const uint8_t ad0[] = {0x00, 0x2a, 0x04, 0x0c, 0x00, 0xc0, 0x10, 0x05, 0xc0, 0x00, 0x00, 0x00, 0xaa};
 static const uint8_t first[] = {0x00, 0x2a, 0x04, 0x0b, 0x01, 0x40, 0x10, 0x05, 0xc0, 0x00, 0x00, 0x02};
@@ -101,6 +92,7 @@ static const uint8_t last[] = {0x00, 0x2a, 0x04, 0x10, 0x02, 0x80, 0x11, 0x22, 0
 static const uint8_t bd[] = {0x20, 0x2a, 0x04, 0x0c, 0x00, 0xc0, 0x10, 0x05, 0xc0, 0x00, 0x00, 0x00, 0xbb};
 static const uint8_t unit[] = {0x20, 0x2a, 0x04, 0x08, 0x00, 0xc2, 0xaa, 0xbb, 0xcc};
 static const uint8_t half[] = {0x20, 0x2a, 0x04, 0x08, 0x00, 0x42, 0xaa, 0xbb, 0xcc};
+static const uint8_t middle[] = {0x20, 0x2a, 0x04, 0x0c, 0x00, 0x02, 0x01, 0x02, 0x03, 0x04, 0x05, 0x06, 0x07};
 static const uint8_t rest[] = {0x20, 0x2a, 0x04, 0x08, 0x00, 0x82, 0xaa, 0xbb, 0xcc};
 
 static tcrx_status bring_ad0(void) { return tcrx_channel_frame(&channel, ad0, sizeof ad0).status; }
@@ -109,28 +101,52 @@ static tcrx_status bring_last(void) { return tcrx_channel_frame(&channel, last, 
 static tcrx_status bring_bd(void) { return tcrx_channel_frame(&channel, bd, sizeof bd).status; }
 static tcrx_status bring_unit(void) { return tcrx_channel_frame(&channel, unit, sizeof unit).status; }
 static tcrx_status bring_half(void) { return tcrx_channel_frame(&channel, half, sizeof half).status; }
+static tcrx_status bring_middle(void) { return tcrx_channel_frame(&channel, middle, sizeof middle).status; }
 static tcrx_status bring_rest(void) { return tcrx_channel_frame(&channel, rest, sizeof rest).status; }
 static tcrx_status release(void) { return tcrx_channel_release(&channel).status; }
 
+static const uint8_t joined[] = {0x10, 0x05, 0xc0, 0x00, 0x00, 0x02, 0x11, 0x22, 0x33};
+static const uint8_t halves[] = {0xaa, 0xbb, 0xcc, 0x01, 0x02, 0x03, 0x04, 0x05, 0x06, 0x07, 0xaa, 0xbb, 0xcc};
 static uint8_t octets[64];
 
-static tcrx_status take(void) { return tcrx_channel_take(&channel, 5, octets, sizeof octets).status; }
-static tcrx_status take_unit(void) { return tcrx_channel_take_unit(&channel, 2, octets, sizeof octets).status; }
+/* Of the frames that were sent, the packets of queue 5 and the units of MAP 2 in their order; each take must give the next. */
+static const struct { const uint8_t *octets; size_t count; } packets[] = {
+    {bd + 6, 7}, {ad0 + 6, 7}, {joined, sizeof joined}, {bd + 6, 7}}, units[] = {{unit + 6, 3}, {halves, sizeof halves}};
+static size_t packets_taken, units_taken;
+
+static tcrx_status taken(tcrx_written written, const uint8_t *wanted, size_t count, size_t *number) {
+    if (written.status != TCRX_DONE) {
+        return written.status;
+    }
+    *number += 1;
+    return written.length == count && memcmp(octets, wanted, count) == 0 ? TCRX_DONE : TCRX_EMPTY;
+}
+
+static tcrx_status take(void) {
+    const tcrx_written written = tcrx_channel_take(&channel, 5, octets, sizeof octets);
+    return taken(written, packets[packets_taken].octets, packets[packets_taken].count, &packets_taken);
+}
+
+static tcrx_status take_unit(void) {
+    const tcrx_written written = tcrx_channel_take_unit(&channel, 2, octets, sizeof octets);
+    return taken(written, units[units_taken].octets, units[units_taken].count, &units_taken);
+}
 
 /* Makes the call with the first growth refused, then with the second, until it asks for no more. */
 static bool done(tcrx_status (*call)(void)) {
     for (unsigned long n = 0; n < 1000; n++) {
         const state before = look();
+        const unsigned long blocks_before = blocks;
         given_first = n;
         met = false;
         refusing = true;
         const tcrx_status status = call();
         refusing = false;
         if (!met) {
-            return status == TCRX_DONE;
+            return status == TCRX_DONE && (call != ask_bound || blocks == blocks_before);
         }
         const state after = look();
-        if (status != TCRX_NO_MEMORY || memcmp(&before, &after, sizeof before) != 0 || (call == make && blocks != 0)) {
+        if (status != TCRX_NO_MEMORY || memcmp(&before, &after, sizeof before) != 0 || ((call == make || call == ask_bound) && blocks != blocks_before)) {
             return false;
         }
     }
@@ -139,8 +155,8 @@ static bool done(tcrx_status (*call)(void)) {
 
 int main(void) {
     static tcrx_status (*const calls[])(void) = {
-        make, bring_ad0, bring_bd, bring_first, bring_last, release, release, release, bring_unit,
-        bring_half, bring_rest, take, take, take, take_unit, take_unit, bring_bd, take,
+        ask_bound, make, bring_ad0, bring_bd, bring_first, bring_last, release, release, release, bring_unit,
+        bring_half, bring_middle, bring_rest, take, take, take, take_unit, take_unit, bring_bd, ask_bound, take,
     };
     unsigned long good = 0;
     const unsigned long count = sizeof calls / sizeof calls[0];
@@ -152,6 +168,6 @@ int main(void) {
         }
     }
     const bool freed = tcrx_channel_free(&channel) == TCRX_DONE && blocks == 0;
-    printf("%lu growths refused in %lu calls, %lu calls done, %s\n", refused, count, good, freed ? "all freed" : "not all freed");
-    return good == count && freed && refused > 0 ? 0 : 1;
+    printf("%lu growths refused in %lu calls, %lu calls done, %s\n", refusals, count, good, freed ? "all freed" : "not all freed");
+    return good == count && freed && refusals > 0 ? 0 : 1;
 }

@@ -146,7 +146,7 @@ static void check_reading(void) {
     }
     static const uint8_t version[] = {0x70, 0x2a, 0x04, 0x05, 0x00, 0x00}, spare[] = {0x34, 0x2a, 0x04, 0x05, 0x00, 0x00};
     static const uint8_t small[] = {0x30, 0x2a, 0x04, 0x04, 0x00, 0x00}, beyond[] = {0x30, 0x2a, 0x07, 0xff, 0x00, 0x00};
-    check_frame(version, 6, TCRX_VERSION, 100);
+    check_frame(version, 6, TCRX_BAD_VERSION, 100);
     check_frame(spare, 6, TCRX_SPARE, 101);
     check_frame(small, 6, TCRX_LENGTH_SMALL, 102);
     check_frame(beyond, 6, TCRX_TRUNCATED, 103);
@@ -230,7 +230,7 @@ static void check_texts(void) {
     static const struct { tcrx_status status; const char *text; } texts[] = {
         {TCRX_DONE, "done"},
         {TCRX_SHORT, "fewer than 5 octets"},
-        {TCRX_VERSION, "the version isn't 0"},
+        {TCRX_BAD_VERSION, "the version isn't 0"},
         {TCRX_SPARE, "the spare bits aren't 0"},
         {TCRX_LENGTH_SMALL, "the frame length names fewer than 6 octets"},
         {TCRX_TRUNCATED, "the frame length names more octets than there are"},

@@ -25,7 +25,7 @@ static void set_mode(const uint8_t *packet, size_t count) {
 static const application applications[] = {{5, switch_heater}, {9, set_mode}};
 enum { APPLICATIONS = sizeof applications / sizeof applications[0] };
 
-static int tell(tcrx_status status) {
+static int print_refusal(tcrx_status status) {
     char text[TCRX_TEXT_ROOM];
     printf("refused: %s\n", tcrx_text(status, text, sizeof text).status == TCRX_DONE ? text : "no such status");
     return 1;
@@ -45,7 +45,7 @@ static tcrx_status start(tcrx_channel *channel) {
 static void bring(tcrx_channel *channel, const uint8_t *octets, size_t count) {
     const tcrx_frame frame = tcrx_read_frame(octets, count);
     if (frame.status != TCRX_DONE) {
-        tell(frame.status);
+        print_refusal(frame.status);
         return;
     }
     if (frame.header.scid != SPACECRAFT || frame.header.vcid != CHANNEL) {
@@ -54,7 +54,7 @@ static void bring(tcrx_channel *channel, const uint8_t *octets, size_t count) {
     }
     const tcrx_reply reply = tcrx_channel_frame(channel, octets, count);
     if (reply.status != TCRX_DONE) {
-        tell(reply.status);
+        print_refusal(reply.status);
         return;
     }
     printf("frame E%u %s\n", (unsigned)reply.event, reply.accepted == 1 ? "accepted" : "discarded");
@@ -64,7 +64,7 @@ static void release_all(tcrx_channel *channel) {
     while (tcrx_channel_buffered(channel).count > 0) {
         const tcrx_delivery delivery = tcrx_channel_release(channel);
         if (delivery.status != TCRX_DONE) {
-            tell(delivery.status);
+            print_refusal(delivery.status);
             return;
         }
         printf("released: %" PRIu32 " queued, %" PRIu32 " dropped\n", delivery.queued, delivery.dropped);
@@ -80,7 +80,7 @@ static void deliver(tcrx_channel *channel) {
             applications[i].handle(octets, packet.length);
         }
         if (packet.status != TCRX_EMPTY) {
-            tell(packet.status);
+            print_refusal(packet.status);
         }
     }
     const tcrx_written unit = tcrx_channel_take_unit(channel, PAYLOAD_MAP, octets, sizeof octets);
@@ -101,7 +101,7 @@ int main(void) {
     tcrx_channel channel = TCRX_HOLDS_NONE;
     const tcrx_status status = start(&channel);
     if (status != TCRX_DONE) {
-        return tell(status);
+        return print_refusal(status);
     }
     for (size_t i = 0; i < sizeof inputs / sizeof inputs[0]; i++) {
         bring(&channel, inputs[i].octets, inputs[i].count);

@@ -1,7 +1,6 @@
 /*
- * A receiver's main loop over the calls that keep no state: octets come in, FARM-1 steps, the data field of an accepted Type-AD
- * frame waits in a buffer with room for one, and a CLCW goes out each cycle. The packet of a released data field is told by its
- * application.
+ * A receiver's main loop over single calls: octets come in, FARM-1 steps, the data field of an accepted Type-AD frame waits in a
+ * buffer with room for one, and a CLCW goes out in each cycle. Of the packet in a released data field its application is printed.
  */
 #include <tcrx.h>
 
@@ -19,22 +18,22 @@ typedef struct {
     bool full;
 } receiver;
 
-static void tell_refusal(tcrx_status status) {
+static void print_refusal(tcrx_status status) {
     char text[TCRX_TEXT_ROOM];
     const tcrx_written written = tcrx_text(status, text, sizeof text);
     printf("refused: %s\n", written.status == TCRX_DONE ? text : "no such status");
 }
 
-static void tell_clcw(const receiver *self) {
+static void print_clcw(const receiver *self) {
     const tcrx_clcw_answer clcw = tcrx_clcw(self->farm, CHANNEL, 0, 0);
     printf("clcw %08" PRIx32 "\n", clcw.word);
 }
 
-/* The packet of a data field that is an unsegmented unit, which stands behind the segment header of one octet. */
-static void tell_packet(const uint8_t *field, size_t count) {
+/* The packet of a data field that is an unsegmented unit, which follows the segment header of one octet. */
+static void print_packet(const uint8_t *field, size_t count) {
     const tcrx_packet packet = tcrx_read_packet(field + 1, count - 1);
     if (packet.status != TCRX_DONE) {
-        tell_refusal(packet.status);
+        print_refusal(packet.status);
         return;
     }
     printf("packet of application %u with %" PRIu32 " octets\n", (unsigned)packet.apid, packet.length);
@@ -50,7 +49,7 @@ static tcrx_step_answer step(receiver *self, uint8_t arrival, uint8_t number) {
 static void take_octets(receiver *self, const uint8_t *octets, size_t count) {
     const tcrx_frame frame = tcrx_read_frame(octets, count);
     if (frame.status != TCRX_DONE) {
-        tell_refusal(frame.status);
+        print_refusal(frame.status);
         return;
     }
     if (frame.header.scid != SPACECRAFT || frame.header.vcid != CHANNEL) {
@@ -60,7 +59,7 @@ static void take_octets(receiver *self, const uint8_t *octets, size_t count) {
     const tcrx_kind_answer kind = tcrx_kind(octets, count);
     const tcrx_step_answer answer = step(self, kind.kind, kind.number);
     if (answer.status != TCRX_DONE) {
-        tell_refusal(answer.status);
+        print_refusal(answer.status);
         return;
     }
     printf("frame E%u accepted %u\n", (unsigned)answer.event, (unsigned)answer.accepted);
@@ -69,7 +68,7 @@ static void take_octets(receiver *self, const uint8_t *octets, size_t count) {
     }
     const size_t field_count = (size_t)frame.length - 5;
     if (kind.kind == TCRX_BD) {
-        tell_packet(octets + 5, field_count);
+        print_packet(octets + 5, field_count);
         return;
     }
     memcpy(self->field, octets + 5, field_count);
@@ -84,7 +83,7 @@ static void release(receiver *self) {
     }
     self->full = false;
     step(self, TCRX_RELEASE, 0);
-    tell_packet(self->field, self->count);
+    print_packet(self->field, self->count);
 }
 
 int main(void) {
@@ -94,17 +93,17 @@ int main(void) {
     memset(&self, 0, sizeof self);
     const tcrx_farm_answer started = tcrx_farm_start(WIDTH, 0);
     if (started.status != TCRX_DONE) {
-        tell_refusal(started.status);
+        print_refusal(started.status);
         return 1;
     }
     self.farm = started.farm;
-    tell_clcw(&self);
+    print_clcw(&self);
     take_octets(&self, first, sizeof first);
-    tell_clcw(&self);
+    print_clcw(&self);
     take_octets(&self, second, sizeof second);
-    tell_clcw(&self);
+    print_clcw(&self);
     release(&self);
-    tell_clcw(&self);
+    print_clcw(&self);
     take_octets(&self, first, 12);
     release(&self);
     return 0;

@@ -24,7 +24,7 @@ pub struct CountRecord {
     pub count: u64,
 }
 
-fn counted(count: u64) -> CountRecord
+pub(crate) fn counted(count: u64) -> CountRecord
     ensures { result ≡ count_record count }
 {
     CountRecord {
@@ -33,7 +33,7 @@ fn counted(count: u64) -> CountRecord
     }
 }
 
-fn not_counted(fault: Status) -> CountRecord
+pub(crate) fn not_counted(fault: Status) -> CountRecord
     ensures { result ≡ no_count fault }
 {
     CountRecord {

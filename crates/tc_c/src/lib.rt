@@ -5,6 +5,7 @@
 //! The header `c/tcrx.h` says the same to callers in C.
 #![tactic(auto)]
 
+mod bound;
 mod buffer;
 mod channel;
 mod clcw;
@@ -20,6 +21,7 @@ mod settings;
 mod status;
 mod takes;
 
+pub use bound::tcrx_memory_bound_at;
 pub use buffer::{WrittenRecord, tcrx_text_at};
 pub use channel::{
     DeliveryRecord, ReplyRecord, tcrx_channel_frame_at, tcrx_channel_free_at,

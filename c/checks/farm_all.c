@@ -1,0 +1,203 @@
+/*
+ * FARM-1 and CLCWs by exhaustion: each step that there is (every width of the window, state with its flags, V(R), arrival, N(S) and
+ * room), each CLCW that can be written, and each word of 32 bits that can be read. The wanted answers are those of a table that is
+ * written here from CCSDS 232.1-B, 6.3, and CCSDS 232.0-B, 4.2, and shares nothing with the library. It takes about a minute.
+ *
+ * The place of an N(S) in the window is found by searching for how far it is ahead of V(R) or behind it.
+ */
+#include "../tcrx.h"
+
+#include <inttypes.h>
+#include <stdbool.h>
+#include <stdio.h>
+
+enum { EXPECTED, AHEAD, BEHIND, OUTSIDE };
+
+/* The states with the flags Lockout, Wait and Retransmit that FARM-1 can have in them. */
+static const uint8_t states[6][4] = {
+    {TCRX_OPEN, 0, 0, 0}, {TCRX_OPEN, 0, 0, 1}, {TCRX_WAIT, 0, 1, 1},
+    {TCRX_LOCKOUT, 1, 0, 0}, {TCRX_LOCKOUT, 1, 0, 1}, {TCRX_LOCKOUT, 1, 1, 1},
+};
+static uint8_t places[255][256]; /* by width and N(S) - V(R) */
+static uint64_t checked, failed;
+
+static void expect(bool good, const char *what, tcrx_farm farm, unsigned arrival, unsigned number, unsigned room) {
+    checked += 1;
+    failed += good ? 0 : 1;
+    if (!good && failed <= 20) {
+        printf("%s: W %u, S%u, V(R) %u, FARM-B %u, flags %u %u %u; arrival %u, number %u, room %u\n", what, farm.width, farm.state,
+               farm.vr, farm.farm_b, farm.lockout, farm.wait, farm.retransmit, arrival, number, room);
+    }
+}
+
+/* Where N(S) is in the sliding window of this width: its positive part is ahead of V(R), its negative part behind. */
+static uint8_t place_of(unsigned width, unsigned vr, unsigned ns) {
+    if (ns == vr) {
+        return EXPECTED;
+    }
+    for (unsigned k = 1; k <= width / 2; k++) {
+        if (k < width / 2 && ns == (vr + k) % 256) return AHEAD;
+        if (vr == (ns + k) % 256) return BEHIND;
+    }
+    return OUTSIDE;
+}
+
+/* The place depends on the difference of the two numbers alone, so the steps can look it up. */
+static void find_places(void) {
+    const tcrx_farm none = {0, 0, 0, 0, 0, 0, 0};
+    for (unsigned width = 2; width <= 254; width += 2) {
+        for (unsigned vr = 0; vr < 256; vr++) {
+            for (unsigned ns = 0; ns < 256; ns++) {
+                uint8_t *place = &places[width][(ns - vr) & 255];
+                if (vr == 0) *place = place_of(width, vr, ns);
+                expect(*place == place_of(width, vr, ns), "the place of an N(S)", none, width, vr, ns);
+            }
+        }
+    }
+}
+
+static unsigned event_of(tcrx_farm farm, unsigned arrival, unsigned number, unsigned room) {
+    static const uint8_t others[] = {[TCRX_BD] = 6, [TCRX_UNLOCK] = 7, [TCRX_SET_VR] = 8, [TCRX_INVALID] = 9, [TCRX_RELEASE] = 10};
+    if (arrival != TCRX_AD) {
+        return others[arrival];
+    }
+    switch (places[farm.width][(number - farm.vr) & 255]) {
+    case EXPECTED: return room == 1 ? 1 : 2;
+    case AHEAD: return 3;
+    case BEHIND: return 4;
+    default: return 5;
+    }
+}
+
+/* FARM-1 after a Type-AD frame, by the rows E1 to E5. */
+static tcrx_farm after_frame(tcrx_farm farm, unsigned event) {
+    if (farm.state == TCRX_LOCKOUT) {
+        return farm;
+    }
+    if (event == 5) {
+        farm.state = TCRX_LOCKOUT;
+        farm.lockout = 1;
+    }
+    if (farm.state != TCRX_OPEN) {
+        return farm;
+    }
+    if (event == 1) {
+        farm.vr = (uint8_t)(farm.vr + 1);
+        farm.retransmit = 0;
+    }
+    if (event == 2) {
+        farm.state = TCRX_WAIT;
+        farm.wait = 1;
+    }
+    if (event == 2 || event == 3) {
+        farm.retransmit = 1;
+    }
+    return farm;
+}
+
+/* FARM-1 after a Type-B frame or a release, by the rows E6 to E10. */
+static tcrx_farm after_other(tcrx_farm farm, unsigned event, unsigned number) {
+    const bool reset = event == 7 || (event == 8 && farm.state != TCRX_LOCKOUT);
+    if (event >= 6 && event <= 8) {
+        farm.farm_b = (uint8_t)((farm.farm_b + 1) % 4);
+    }
+    if (event == 8 && reset) {
+        farm.vr = (uint8_t)number;
+    }
+    if (reset) {
+        farm.retransmit = farm.wait = farm.lockout = 0;
+        farm.state = TCRX_OPEN;
+    }
+    if (event == 10) {
+        farm.wait = 0;
+        farm.state = farm.state == TCRX_WAIT ? TCRX_OPEN : farm.state;
+    }
+    return farm;
+}
+
+static bool is_same(tcrx_farm a, tcrx_farm b) {
+    return a.width == b.width && a.state == b.state && a.vr == b.vr && a.farm_b == b.farm_b && a.lockout == b.lockout
+        && a.wait == b.wait && a.retransmit == b.retransmit;
+}
+
+static void check_step(tcrx_farm farm, unsigned arrival, unsigned number, unsigned room) {
+    const unsigned event = event_of(farm, arrival, number, room);
+    const tcrx_step_answer step = tcrx_farm_step(farm, (uint8_t)arrival, (uint8_t)number, (uint8_t)room);
+    if (event == 1 && farm.state == TCRX_WAIT) {
+        const bool refused = step.status == TCRX_NO_ENTRY && step.event == 0 && step.accepted == 0 && is_same(step.farm, farm);
+        expect(refused, "a step without an entry", farm, arrival, number, room);
+        return;
+    }
+    const tcrx_farm wanted = event <= 5 ? after_frame(farm, event) : after_other(farm, event, number);
+    const bool accepted = (event == 1 && farm.state == TCRX_OPEN) || event == 6;
+    const bool good = step.status == TCRX_DONE && step.event == event && is_same(step.farm, wanted);
+    expect(good && step.accepted == (accepted ? 1 : 0), "a step", farm, arrival, number, room);
+}
+
+static void check_farm(tcrx_farm farm) {
+    for (unsigned number = 0; number < 256; number++) {
+        check_step(farm, TCRX_AD, number, 0);
+        check_step(farm, TCRX_AD, number, 1);
+        check_step(farm, TCRX_SET_VR, number, number & 1);
+    }
+    for (unsigned farm_b = 0; farm_b < 4; farm_b++) {
+        farm.farm_b = (uint8_t)farm_b;
+        for (unsigned arrival = TCRX_BD; arrival <= TCRX_RELEASE; arrival++) {
+            check_step(farm, arrival, farm.vr, 0);
+            check_step(farm, arrival, (unsigned)farm.vr ^ 0x5au, 1);
+        }
+    }
+}
+
+static tcrx_farm farm_in(unsigned width, unsigned state, unsigned vr, unsigned farm_b) {
+    const tcrx_farm farm = {(uint8_t)width, states[state][0], (uint8_t)vr, (uint8_t)farm_b, states[state][1], states[state][2],
+                            states[state][3]};
+    return farm;
+}
+
+static void check_written(unsigned vcid, tcrx_farm farm) {
+    for (unsigned link = 0; link < 4; link++) {
+        const uint32_t word = UINT32_C(1) << 24 | vcid << 18 | link << 14 | (uint32_t)farm.lockout << 13 | (uint32_t)farm.wait << 12
+            | (uint32_t)farm.retransmit << 11 | (uint32_t)farm.farm_b << 9 | farm.vr;
+        const tcrx_clcw_answer clcw = tcrx_clcw(farm, (uint8_t)vcid, (uint8_t)(link >> 1), link & 1);
+        expect(clcw.status == TCRX_DONE && clcw.word == word, "a CLCW", farm, vcid, link, 0);
+    }
+}
+
+/* The fields of a CLCW from its first bit on (CCSDS 232.0-B, 4.2.1), each with its number of bits. */
+static bool is_read(uint32_t word, tcrx_clcw_fields read) {
+    const bool clcw = word >> 31 == 0 && (word >> 29 & 3) == 0 && (word >> 24 & 3) == 1 && (word >> 16 & 3) == 0 && (word >> 8 & 1) == 0;
+    const uint8_t fields[9] = {read.status_field, read.vcid, read.no_rf, read.no_bit_lock, read.lockout, read.wait, read.retransmit,
+                               read.farm_b, read.vr};
+    static const uint8_t shifts[9] = {26, 18, 15, 14, 13, 12, 11, 9, 0}, bits[9] = {3, 6, 1, 1, 1, 1, 1, 2, 8};
+    for (unsigned i = 0; i < 9; i++) {
+        if (fields[i] != (clcw ? word >> shifts[i] & ((UINT32_C(1) << bits[i]) - 1) : 0)) {
+            return false;
+        }
+    }
+    return read.status == (clcw ? TCRX_DONE : TCRX_NO_CLCW);
+}
+
+int main(void) {
+    const tcrx_farm none = {0, 0, 0, 0, 0, 0, 0};
+    find_places();
+    checked = 0;
+    for (unsigned width = 2; width <= 254; width += 2) {
+        for (unsigned farm = 0; farm < 6 * 256; farm++) check_farm(farm_in(width, farm % 6, farm / 6, width / 2 % 4));
+    }
+    printf("%" PRIu64 " steps", checked);
+    checked = 0;
+    for (unsigned vcid = 0; vcid < 64; vcid++) {
+        for (unsigned farm = 0; farm < 6 * 1024; farm++) check_written(vcid, farm_in(10, farm % 6, farm / 6 % 256, farm / 6 / 256));
+    }
+    printf(", %" PRIu64 " CLCWs written", checked);
+    checked = 0;
+    for (uint32_t upper = 0; upper < 65536; upper++) {
+        for (uint32_t lower = 0; lower < 65536; lower++) {
+            const uint32_t word = upper << 16 | lower;
+            expect(is_read(word, tcrx_read_clcw(word)), "a word", none, upper, lower, 0);
+        }
+    }
+    printf(", %" PRIu64 " words read; %" PRIu64 " otherwise\n", checked, failed);
+    return failed == 0 ? 0 : 1;
+}

@@ -1,0 +1,124 @@
+#!/usr/bin/env python3
+"""Checks the header and the files in C and C++ by themselves, without the library.
+
+The header must compile as each version of C and C++ that it is for, with all warnings as errors, and so must the lines of code that
+c/README.md shows. Its static assertions must refuse each record with two neighbouring fields swapped, and each with one field more
+in front. The version must be the same as a number and as a text. Where doxygen is installed it must read the header's comments
+without a warning, and where cppcheck is installed it must find nothing that c/checks/cppcheck.suppressions doesn't answer.
+
+usage: c/checks/sources.py     from any folder; the last line says how many checks passed, and names what is not installed
+"""
+
+import re
+import shutil
+import subprocess
+import sys
+import tempfile
+from pathlib import Path
+
+TOP = Path(__file__).resolve().parent.parent.parent
+HEADER = TOP / "c" / "tcrx.h"
+WARNINGS = ["-Wall", "-Wextra", "-Werror", "-pedantic"]
+C = [["cc", f"-std={version}", "-x", "c"] for version in ("c99", "c11", "c17")]
+CXX = [["c++", f"-std={version}", "-x", "c++"] for version in ("c++11", "c++14", "c++17", "c++20")]
+RECORD = re.compile(r"^typedef struct \{\n(.*?)^\} (\w+);\n", re.M | re.S)
+# What the lines of code of the page use without a declaration.
+GIVEN = "const uint8_t *octets, size_t count, uint8_t has_room, uint8_t buffer[256]"
+
+
+def compiled(compiler: list[str], lines: str, folder: Path, *flags: str) -> str:
+    """What the compiler says of these lines, with the header of a folder; nothing where they are good."""
+    command = [*compiler, *flags, "-fsyntax-only", f"-I{folder}", "-"]
+    done = subprocess.run(command, input=lines, capture_output=True, text=True, check=False)
+    return "" if done.returncode == 0 else done.stderr or "no reason is given"
+
+
+def versions() -> list[tuple[str, str]]:
+    """The header by each version of each language."""
+    return [(compiler[1], compiled(compiler, '#include "tcrx.h"\n', HEADER.parent, *WARNINGS)) for compiler in C + CXX]
+
+
+def shown_code() -> list[tuple[str, str]]:
+    """The lines of code of c/README.md, by the versions that it says."""
+    blocks = re.findall(r"^```c\n(.*?)^```$", (TOP / "c" / "README.md").read_text(), re.M | re.S)
+    lines = '#include "tcrx.h"\n' + "".join(f"void shown_{i}({GIVEN}) {{\n{block}}}\n" for i, block in enumerate(blocks))
+    said = [(f"the code of c/README.md, {compiler[1]}", compiled(compiler, lines, HEADER.parent)) for compiler in (C[0], CXX[-1])]
+    return [*said, ("the blocks of code of c/README.md", "" if len(blocks) == 2 else f"there are {len(blocks)}")]
+
+
+def changed_records(text: str) -> list[tuple[str, str]]:
+    """The header with one record changed in the ways that its assertions must refuse, each with the name of the record."""
+    changed = []
+    for record in RECORD.finditer(text):
+        fields = record[1].splitlines(keepends=True)
+        others = [["    uint8_t more;\n", *fields]]
+        for i in range(len(fields) - 1):
+            others.append([*fields[:i], fields[i + 1], fields[i], *fields[i + 2 :]])
+        changed += [(record[2], text[: record.start(1)] + "".join(other) + text[record.end(1) :]) for other in others]
+    return changed
+
+
+def layouts() -> list[tuple[str, str]]:
+    """Whether each changed record is refused by its own assertion, in both languages."""
+    changed = changed_records(HEADER.read_text())
+    said = [("the changed records", "" if len(changed) > 60 else f"there are {len(changed)}")]
+    with tempfile.TemporaryDirectory() as folder:
+        for number, (name, text) in enumerate(changed):
+            (Path(folder) / "tcrx.h").write_text(text)
+            for compiler in (C[0], CXX[0]):
+                refused = f"{name}_layout" in compiled(compiler, '#include "tcrx.h"\n', Path(folder))
+                said.append((f"{name} changed, {number}, {compiler[1]}", "" if refused else "it compiles"))
+    return said
+
+
+def same_version() -> list[tuple[str, str]]:
+    """Whether the version is the same as a text and as a number."""
+    text = re.search(r'#define TCRX_API_TEXT "(\d+)\.(\d+)\.(\d+)"', HEADER.read_text())
+    if text is None:
+        return [("the version", "there is none")]
+    number = int(text[1]) << 16 | int(text[2]) << 8 | int(text[3])
+    lines = f'#include "tcrx.h"\n#if TCRX_API_VERSION != {number}\n#error "another number"\n#endif\n'
+    return [("the version's number", compiled(C[0], lines, HEADER.parent))]
+
+
+def comments() -> list[tuple[str, str]]:
+    """What doxygen says of the comments."""
+    with tempfile.TemporaryDirectory() as folder:
+        settings = (TOP / "c" / "Doxyfile").read_text() + f"OUTPUT_DIRECTORY = {folder}\n"
+        done = subprocess.run(["doxygen", "-"], cwd=TOP, input=settings, capture_output=True, text=True, check=False)
+        made = (Path(folder) / "html" / "group__tcrx__channels.html").is_file()
+    said = done.stdout + done.stderr or ("" if done.returncode == 0 and made else "it makes no page")
+    return [("the comments, by doxygen", said)]
+
+
+def faults() -> list[tuple[str, str]]:
+    """What cppcheck says of each file, in C and in C++."""
+    said = []
+    for language, version, pattern in (("c", "c99", "*.c"), ("c++", "c++11", "*.cc")):
+        files = sorted(str(path.relative_to(TOP)) for path in (TOP / "c").rglob(pattern))
+        command = ["cppcheck", f"--language={language}", f"--std={version}", "--enable=warning,style,performance,portability"]
+        command += ["--inconclusive", "--quiet", "--error-exitcode=1", "--suppressions-list=c/checks/cppcheck.suppressions"]
+        command += ["-Ic", "-DTCRX_POOL_OCTETS=18000000", *files]
+        done = subprocess.run(command, cwd=TOP, capture_output=True, text=True, check=False)
+        found = done.stdout + done.stderr or ("" if done.returncode == 0 else f"status {done.returncode}")
+        said.append((f"{len(files)} files, by cppcheck", found if files else "there are none"))
+    return said
+
+
+def main() -> int:
+    """Makes each check, and says what was found."""
+    said = versions() + shown_code() + layouts() + same_version()
+    tools = {"doxygen": comments, "cppcheck": faults}
+    skipped = [tool for tool in tools if shutil.which(tool) is None]
+    for tool, check in tools.items():
+        said += check() if tool not in skipped else []
+    for what, fault in said:
+        if fault:
+            print(f"{what}: {fault}")
+    failed = sum(bool(fault) for _, fault in said)
+    print(f"sources: {len(said) - failed} passed, {failed} failed" + "".join(f", skipped: {tool}" for tool in skipped))
+    return 1 if failed else 0
+
+
+if __name__ == "__main__":
+    sys.exit(main())
