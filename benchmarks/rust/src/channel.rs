@@ -1,7 +1,7 @@
 //! One virtual channel with its journal.
 use crate::journal::Journal;
 use crate::link::{Act, Arrival, Farm, Frame, Link, Report, Window, clcw_word, kind};
-use crate::packet::{Reassembler, Service, cut};
+use crate::packet::{Packet, Reassembler, Service, cut};
 use std::collections::VecDeque;
 
 #[derive(Clone, Debug, PartialEq, Eq)]
@@ -91,23 +91,25 @@ pub struct Channel<J> {
     journal: J,
 }
 
-// Queues the packets of a unit. With the same surface the unit is a list of its own, and its cut a list of packets.
-#[allow(unused_assignments)]
+// Queues the packets of a unit.
 fn offer(queues: &mut [Queue], unit: &[u8]) -> Delivery {
+    if cfg!(feature = "same_surface") {
+        let unit = unit.to_vec();
+        let mut packets = cut(&unit);
+        let list: Vec<Packet<'_>> = packets.by_ref().collect();
+        let delivery = offer_each(queues, list.into_iter());
+        Delivery { rest: !packets.rest().is_empty(), ..delivery }
+    } else {
+        let mut packets = cut(unit);
+        let delivery = offer_each(queues, packets.by_ref());
+        Delivery { rest: !packets.rest().is_empty(), ..delivery }
+    }
+}
+
+fn offer_each<'a>(queues: &mut [Queue], packets: impl Iterator<Item = Packet<'a>>) -> Delivery {
     let mut delivery = Delivery::default();
-    let mut packets = cut(unit);
-    #[cfg(feature = "same_surface")]
-    let unit = unit.to_vec();
-    #[cfg(feature = "same_surface")]
-    let all = {
-        packets = cut(&unit);
-        packets.by_ref().collect::<Vec<_>>()
-    };
-    #[cfg(not(feature = "same_surface"))]
-    let all = packets.by_ref();
-    for packet in all {
-        let queue = queues.iter_mut().find(|it| it.apid == packet.apid);
-        match queue {
+    for packet in packets {
+        match queues.iter_mut().find(|it| it.apid == packet.apid) {
             Some(queue) if packet.telecommand && queue.packets.len() < queue.capacity => {
                 queue.packets.push_back(packet.octets.to_vec());
                 delivery.queued += 1;
@@ -115,7 +117,6 @@ fn offer(queues: &mut [Queue], unit: &[u8]) -> Delivery {
             _ => delivery.dropped += 1,
         }
     }
-    delivery.rest = !packets.rest().is_empty();
     delivery
 }
 

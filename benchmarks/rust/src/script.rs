@@ -248,47 +248,64 @@ impl Running {
     }
 
     fn answer(&mut self, line: &Line, out: &mut String) {
-        let done = |out: &mut String, it: &Delivery| {
-            let _ = writeln!(out, " queued {} dropped {} rest {}", it.queued, it.dropped, u8::from(it.rest));
-        };
         match line {
-            Line::Frame(octets) => match self.station.bring(&mut self.me, octets) {
-                Ok(it) => {
-                    let act = it.reply.act;
-                    let _ = write!(out, "frame {} E{} accepted {}", it.vcid, act.event, u8::from(act.accepted));
-                    done(out, &it.reply.delivery);
-                }
-                Err(fault) => {
-                    let _ = writeln!(out, "{}", refusal(fault));
-                }
-            },
-            Line::Release(vcid) => match self.station.release(&mut self.me, *vcid) {
-                Ok(it) => {
-                    let _ = write!(out, "release {vcid}");
-                    done(out, &it);
-                }
-                Err(ReleaseRefused::UnknownChannel) => out.push_str("refused channel\n"),
-                Err(ReleaseRefused::Empty) => out.push_str("refused empty\n"),
-            },
-            Line::Take(vcid, apid) => match self.station.take(&mut self.me, *vcid, *apid) {
-                Ok(packet) => {
-                    let _ = write!(out, "take {vcid} {apid} ");
-                    write_hex(out, &packet);
-                    out.push('\n');
-                }
-                Err(TakeRefused::UnknownChannel) => out.push_str("refused channel\n"),
-                Err(TakeRefused::NoQueue) => out.push_str("refused no queue\n"),
-                Err(TakeRefused::Empty) => out.push_str("refused empty\n"),
-            },
-            Line::Clcw(vcid) => match self.watchers.iter().find(|it| it.0 == *vcid) {
-                Some((_, watcher)) => {
-                    let _ = writeln!(out, "clcw {vcid} {:08x}", self.station.watch(watcher, Link::default()));
-                }
-                None => out.push_str("refused channel\n"),
-            },
+            Line::Frame(octets) => self.bring(octets, out),
+            Line::Release(vcid) => self.release(*vcid, out),
+            Line::Take(vcid, apid) => self.take(*vcid, *apid, out),
+            Line::Clcw(vcid) => self.clcw(*vcid, out),
             _ => {}
         }
     }
+
+    fn bring(&mut self, octets: &[u8], out: &mut String) {
+        match self.station.bring(&mut self.me, octets) {
+            Ok(it) => {
+                let act = it.reply.act;
+                let _ = write!(out, "frame {} E{} accepted {}", it.vcid, act.event, u8::from(act.accepted));
+                write_delivery(out, &it.reply.delivery);
+            }
+            Err(fault) => {
+                let _ = writeln!(out, "{}", refusal(fault));
+            }
+        }
+    }
+
+    fn release(&mut self, vcid: u8, out: &mut String) {
+        match self.station.release(&mut self.me, vcid) {
+            Ok(it) => {
+                let _ = write!(out, "release {vcid}");
+                write_delivery(out, &it);
+            }
+            Err(ReleaseRefused::UnknownChannel) => out.push_str("refused channel\n"),
+            Err(ReleaseRefused::Empty) => out.push_str("refused empty\n"),
+        }
+    }
+
+    fn take(&mut self, vcid: u8, apid: u16, out: &mut String) {
+        match self.station.take(&mut self.me, vcid, apid) {
+            Ok(packet) => {
+                let _ = write!(out, "take {vcid} {apid} ");
+                write_hex(out, &packet);
+                out.push('\n');
+            }
+            Err(TakeRefused::UnknownChannel) => out.push_str("refused channel\n"),
+            Err(TakeRefused::NoQueue) => out.push_str("refused no queue\n"),
+            Err(TakeRefused::Empty) => out.push_str("refused empty\n"),
+        }
+    }
+
+    fn clcw(&self, vcid: u8, out: &mut String) {
+        match self.watchers.iter().find(|it| it.0 == vcid) {
+            Some((_, watcher)) => {
+                let _ = writeln!(out, "clcw {vcid} {:08x}", self.station.watch(watcher, Link::default()));
+            }
+            None => out.push_str("refused channel\n"),
+        }
+    }
+}
+
+fn write_delivery(out: &mut String, it: &Delivery) {
+    let _ = writeln!(out, " queued {} dropped {} rest {}", it.queued, it.dropped, u8::from(it.rest));
 }
 
 fn report(station: Station<Counted>, operators: Vec<Operator>) -> Result<String, ScriptFault> {
