@@ -743,5 +743,5 @@ class Receiver:
         """Closes the receiver; where an exception is on its way the program is ended, and there is no report."""
         if error is None:
             self.close()
-        elif self._over is None and self._final is None and os.getpid() == self._owner:
+        elif self._over is None and self._final is None:
             self._end(None, kill=True)
