@@ -1,5 +1,5 @@
 /*
- * Compares tcrx_memory_bound with the sum that docs/LIMITS.md gives place by place, which is worked out here anew, for each
+ * Compares tcrx_memory_bound with the sum that docs/explanation/memory.md gives place by place, which is worked out here anew, for each
  * channel of that page and for settings of all sorts; and its refusals with those of tcrx_channel_new, whose answer to the same
  * settings they must be. The last line says how many answers were as they must be.
  */
@@ -86,7 +86,7 @@ static plan *plan_of(tcrx_settings settings, size_t queues, size_t capacity, siz
     return &p;
 }
 
-/* The numbers that docs/LIMITS.md names, and the largest channel that there is. */
+/* The numbers that docs/explanation/memory.md names, and the largest channel that there is. */
 static void check_named(void) {
     const tcrx_settings two = {1, 10, 4, 0, 1}, plain = {1, 10, 4, 0, 0}, one = {1, 10, 1, 0, 1}, many = {1, 10, 64, 0, 1};
     expect(ask(plan_of(two, 2, 4, 0, 0)).count == 17376338, "two queues of 4", 0);
