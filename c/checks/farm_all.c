@@ -164,18 +164,26 @@ static void check_written(unsigned vcid, tcrx_farm farm) {
     }
 }
 
-/* The fields of a CLCW from its first bit on (CCSDS 232.0-B, 4.2.1), each with its number of bits. */
+/* Type and version, COP and both spares of a CLCW (CCSDS 232.0-B, 4.2.1): all 0, but COP 1. */
+static bool is_clcw(uint32_t word) { return (word & UINT32_C(0xe3030100)) == UINT32_C(0x01000000); }
+
+static bool is_none(tcrx_clcw_fields read) {
+    const int any = read.status_field | read.vcid | read.no_rf | read.no_bit_lock | read.lockout | read.wait | read.retransmit
+        | read.farm_b | read.vr;
+    return read.status == TCRX_NO_CLCW && any == 0;
+}
+
+/* The fields of a CLCW from its first bit on, each with its number of bits. */
 static bool is_read(uint32_t word, tcrx_clcw_fields read) {
-    const bool clcw = word >> 31 == 0 && (word >> 29 & 3) == 0 && (word >> 24 & 3) == 1 && (word >> 16 & 3) == 0 && (word >> 8 & 1) == 0;
     const uint8_t fields[9] = {read.status_field, read.vcid, read.no_rf, read.no_bit_lock, read.lockout, read.wait, read.retransmit,
                                read.farm_b, read.vr};
     static const uint8_t shifts[9] = {26, 18, 15, 14, 13, 12, 11, 9, 0}, bits[9] = {3, 6, 1, 1, 1, 1, 1, 2, 8};
     for (unsigned i = 0; i < 9; i++) {
-        if (fields[i] != (clcw ? word >> shifts[i] & ((UINT32_C(1) << bits[i]) - 1) : 0)) {
+        if (fields[i] != (word >> shifts[i] & ((UINT32_C(1) << bits[i]) - 1))) {
             return false;
         }
     }
-    return read.status == (clcw ? TCRX_DONE : TCRX_NO_CLCW);
+    return read.status == TCRX_DONE;
 }
 
 int main(void) {
@@ -195,8 +203,10 @@ int main(void) {
     for (uint32_t upper = 0; upper < 65536; upper++) {
         for (uint32_t lower = 0; lower < 65536; lower++) {
             const uint32_t word = upper << 16 | lower;
-            expect(is_read(word, tcrx_read_clcw(word)), "a word", none, upper, lower, 0);
+            const tcrx_clcw_fields read = tcrx_read_clcw(word);
+            if (!(is_clcw(word) ? is_read(word, read) : is_none(read))) expect(false, "a word", none, upper, lower, 0);
         }
+        checked += 65536;
     }
     printf(", %" PRIu64 " words read; %" PRIu64 " otherwise\n", checked, failed);
     return failed == 0 ? 0 : 1;
