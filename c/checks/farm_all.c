@@ -1,7 +1,7 @@
 /*
  * FARM-1 and CLCWs by exhaustion: each step that there is (every width of the window, state with its flags, V(R), arrival, N(S) and
  * room), each CLCW that can be written, and each word of 32 bits that can be read. The wanted answers are those of a table that is
- * written here from CCSDS 232.1-B, 6.3, and CCSDS 232.0-B, 4.2, and shares nothing with the library. It takes about a minute.
+ * written here from CCSDS 232.1-B, 6.3, and CCSDS 232.0-B, 4.2, and shares nothing with the library. It takes about half a minute.
  *
  * The place of an N(S) in the window is found by searching for how far it is ahead of V(R) or behind it.
  */
