@@ -12,8 +12,8 @@
  *
  * Each slot has 16 octets more for what the pool notes of it.
  *
- * TCRX_POOL_OCTETS is the size of the array. 1.03 times what tcrx_memory_bound() answers is enough for a channel with segment
- * headers, 2 times for one without; for several channels, take the sum. With less a channel can be starved: the memory of a run
+ * TCRX_POOL_OCTETS is the size of the array. Of the settings that were tried, 1.03 times what tcrx_memory_bound() answers was enough
+ * for channels with segment headers, and 2 times for one without; for several channels, take the sum. With less a channel can be starved: the memory of a run
  * that a Type-BD frame opened is kept until a first, an unsegmented or a last segment comes for the same MAP. Where such runs have
  * taken the whole pool each release and each further run is answered TCRX_NO_MEMORY, for good, and an Unlock doesn't change that.
  * The sender can end it: an unsegmented Type-BD frame with one octet of data on each MAP drops the open runs.
