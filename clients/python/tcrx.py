@@ -478,12 +478,20 @@ def counts_of(words: str, kind: str) -> Dict[int, int]:
     return {int(place): int(count) for place, count in re.findall(rf"\b{kind} {NUMBER} {NUMBER}", words)}
 
 
+def clcw_of(channel: int, digits: str) -> Clcw:
+    """A channel's CLCW. Raises `ValueError` where it is that of another one."""
+    clcw = Clcw(int(digits, 16))
+    if clcw.channel != channel:
+        raise ValueError(digits)
+    return clcw
+
+
 def final_of(lines: List[str]) -> Dict[int, Final]:
     """The final report, by channel. Raises `ValueError` where these aren't the lines of one."""
     report: Dict[int, Final] = {}
     for line in lines:
         if found := re.fullmatch(rf"final {NUMBER} ([0-9a-f]{{8}}) events {NUMBER} buffered {NUMBER}", line):
-            report[int(found[1])] = Final(Clcw(int(found[2], 16)), int(found[3]), int(found[4]))
+            report[int(found[1])] = Final(clcw_of(int(found[1]), found[2]), int(found[3]), int(found[4]))
         elif (found := re.fullmatch(rf"(queue|map) {NUMBER} {NUMBER} {NUMBER}", line)) and int(found[2]) in report:
             channel = report[int(found[2])]
             (channel.queues if found[1] == "queue" else channel.maps)[int(found[3])] = int(found[4])
@@ -687,7 +695,8 @@ class Receiver:
 
     def clcw(self, vcid: int) -> Union[Clcw, Refused]:
         """The channel's CLCW, with the flags of the link as they were last set."""
-        return self._operate(f"clcw {number(vcid)}", rf"clcw {number(vcid)} ([0-9a-f]{{8}})", OF_CHANNELS, lambda found: Clcw(int(found[1], 16)))
+        return self._operate(f"clcw {number(vcid)}", rf"clcw {number(vcid)} ([0-9a-f]{{8}})", OF_CHANNELS,
+                             lambda found: clcw_of(number(vcid), found[1]))
 
     def link(self, vcid: int, no_rf: bool, no_bit_lock: bool) -> Union[bool, Refused]:
         """Sets the flags of the link in later CLCWs of a channel: No RF Available and No Bit Lock. True where this was done."""
