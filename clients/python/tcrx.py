@@ -438,8 +438,14 @@ class Process(Link):
         if kill:
             self.child.terminate()
         super().end(kill)
-        status = self.wait(kill)
         with self.errors:
+            try:
+                status = self.wait(kill)
+            except BaseException:
+                # An interrupt while it is waited for: it isn't left behind.
+                self.child.kill()
+                self.child.wait()
+                raise
             self.errors.seek(max(0, self.errors.seek(0, os.SEEK_END) - LONGEST_ERROR))
             return status, self.errors.read().decode(errors="replace").strip()
 
