@@ -1,30 +1,78 @@
-// Preloaded before a test program: the growth whose number REFUSE_AT gives is answered with no memory,
-// and the file that REFUSE_MARK names is made where that happened.
+// Preloaded before a program: forks a child for each growth before its main, until one met none of that number. The growth is
+// answered with no memory there.
+//
+// REFUSE_EACH gives the front of the names of all files here. The child for growth N writes to FRONT.N.out and FRONT.N.err, and
+// reads the file that REFUSE_INPUT names. FRONT.runs has a line for each child: its growth, its status, and 1 if it met the growth.
 #define _GNU_SOURCE
 #include <dlfcn.h>
 #include <errno.h>
 #include <fcntl.h>
 #include <stdatomic.h>
+#include <stdio.h>
 #include <stdlib.h>
+#include <sys/mman.h>
+#include <sys/wait.h>
 #include <unistd.h>
 
 static atomic_long growths;
 static long refused_growth;
+static atomic_int *met;
+
+static int opened(const char *name, int flags) {
+    int file = open(name, flags, 0600);
+    if (file < 0) _exit(125);
+    return file;
+}
+
+static void stand_for(int descriptor, const char *name, int flags) {
+    int file = opened(name, flags);
+    if (dup2(file, descriptor) < 0 || close(file) < 0) _exit(125);
+}
+
+static void begin_child(const char *front, long growth) {
+    char name[4096];
+    const char *input = getenv("REFUSE_INPUT");
+    stand_for(STDIN_FILENO, input ? input : "/dev/null", O_RDONLY);
+    snprintf(name, sizeof name, "%s.%ld.out", front, growth);
+    stand_for(STDOUT_FILENO, name, O_CREAT | O_TRUNC | O_WRONLY);
+    snprintf(name, sizeof name, "%s.%ld.err", front, growth);
+    stand_for(STDERR_FILENO, name, O_CREAT | O_TRUNC | O_WRONLY);
+    atomic_store(&growths, 0);
+    refused_growth = growth;
+}
+
+static int status_of(pid_t child) {
+    int status;
+    if (waitpid(child, &status, 0) != child) _exit(125);
+    return WIFEXITED(status) ? WEXITSTATUS(status) : 128 + WTERMSIG(status);
+}
 
 __attribute__((constructor)) static void start(void) {
-    const char *number = getenv("REFUSE_AT");
-    refused_growth = number ? atol(number) : 0;
-    atomic_store(&growths, 0);
+    char name[4096];
+    const char *front = getenv("REFUSE_EACH");
+    if (!front) return;
+    met = mmap(NULL, sizeof *met, PROT_READ | PROT_WRITE, MAP_SHARED | MAP_ANONYMOUS, -1, 0);
+    if (met == MAP_FAILED) _exit(125);
+    snprintf(name, sizeof name, "%s.runs", front);
+    int runs = opened(name, O_CREAT | O_TRUNC | O_WRONLY | O_CLOEXEC);
+    for (long growth = 1;; growth++) {
+        atomic_store(met, 0);
+        pid_t child = fork();
+        if (child < 0) _exit(125);
+        if (child == 0) {
+            close(runs);
+            begin_child(front, growth);
+            return;
+        }
+        int status = status_of(child);
+        dprintf(runs, "%ld %d %d\n", growth, status, atomic_load(met));
+        if (!atomic_load(met)) _exit(0);
+    }
 }
 
 static int is_refused(void) {
     if (!refused_growth || atomic_fetch_add(&growths, 1) + 1 != refused_growth) return 0;
-    const char *mark = getenv("REFUSE_MARK");
-    if (mark) {
-        int file = open(mark, O_CREAT | O_WRONLY, 0600);
-        if (file < 0) abort();
-        close(file);
-    }
+    atomic_store(met, 1);
     errno = ENOMEM;
     return 1;
 }

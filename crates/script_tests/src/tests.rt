@@ -3,6 +3,32 @@ mod parallel;
 mod streams;
 mod texts;
 
+use std::io::Write;
+use std::sync::Wait;
+use std::thread::Threads;
+use tc_cli::{ScriptFault, parallel_script, run_script};
+use tc_station::FreeGate;
+
+// A script of spacecraft 42. The call that has the contract stands here alone, for any script.
+fn run<T: Wait + AllocGlobal, W: Write>(
+    rt: &T,
+    script: &[u8],
+    writer: &mut W,
+) -> Result<(), ScriptFault> {
+    let mut reader = script;
+    run_script(rt, rt.alloc(), 42, &mut reader, writer)
+}
+
+// The same in parallel.
+fn run_in_parallel<T: Threads + Wait + Sync + AllocGlobal, W: Write>(
+    rt: &T,
+    script: &[u8],
+    writer: &mut W,
+) -> Result<(), ScriptFault> {
+    let mut reader = script;
+    parallel_script(rt, rt.alloc(), &FreeGate, 42, &mut reader, writer)
+}
+
 /// A frame that becomes a packet, and one that finds no room.
 const SCRIPT: &str =
     "channel 1 10 1 0\nqueue 1 5 1\nclcw 1\nframe 002a040c00c01005c0000000aa\nclcw 1\nframe 002a040c01c01005c0000000aa\nclcw 1\nrelease 1\nclcw 1\ntake 1 5\nrelease 1\n";

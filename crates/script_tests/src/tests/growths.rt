@@ -1,27 +1,30 @@
 //! Calls that take memory. With ample memory each answers at once; with one growth refused each
 //! leaves what stood before, and then answers the same.
 
-use super::{ANSWERS, REPORT, SCRIPT, UNITS, UNITS_ANSWERS, UNITS_REPORT};
+use super::{ANSWERS, REPORT, SCRIPT, UNITS, UNITS_ANSWERS, UNITS_REPORT, run, run_in_parallel};
 use std::alloc::Global;
 use std::process::Abort;
 use std::sync::Wait;
 use std::thread::Threads;
-use tc_cli::{Line, Reason, ScriptFault, parallel_script, parse_line, run_script};
-use tc_station::FreeGate;
+use tc_cli::{Line, Reason, ScriptFault, parse_line};
+
+/// A line, read at once or after a growth was refused.
+fn parsed<T: Abort + Print>(rt: &T, alloc: Global, text: &[u8]) -> Line {
+    match parse_line(alloc, text) {
+        Ok(line) => line,
+        Err(reason) => {
+            assert_eq!(rt; reason, Reason::NoMemory);
+            let _ = println!(rt; "refused: parse_line");
+            parse_line(alloc, text).expect(rt, "a line")
+        }
+    }
+}
 
 #[test]
 fn parse_line_growth(rt: HostRuntime) {
-    let text = b"frame 302a04050000".as_slice();
-    let line = match parse_line(rt.alloc(), text) {
-        Err(Reason::NoMemory) => {
-            let _ = println!(rt; "refused: parse_line");
-            parse_line(rt.alloc(), text)
-        }
-        parsed => parsed,
-    };
     let unlock = [0x30, 0x2a, 0x04, 0x05, 0, 0];
-    match line {
-        Ok(Line::Frame(octets)) => assert_eq!(rt; octets.as_slice(), unlock.as_slice()),
+    match parsed(&rt, rt.alloc(), b"frame 302a04050000") {
+        Line::Frame(octets) => assert_eq!(rt; octets.as_slice(), unlock.as_slice()),
         _ => panic!(rt; "the line isn't read"),
     }
 }
@@ -66,13 +69,11 @@ fn check_script<T: Abort + Print + Wait + AllocGlobal>(
     lines: u32,
 ) {
     let mut answers = room(rt, rt.alloc());
-    let mut reader = script.as_bytes();
-    if let Err(fault) = run_script(rt, rt.alloc(), 42, &mut reader, &mut answers) {
+    if let Err(fault) = run(rt, script.as_bytes(), &mut answers) {
         let _ = println!(rt; "refused: run_script, {fault}");
         check_refused(rt, fault, answers.as_slice(), expected, setups, lines);
         answers.clear();
-        let mut reader = script.as_bytes();
-        let done = run_script(rt, rt.alloc(), 42, &mut reader, &mut answers);
+        let done = run(rt, script.as_bytes(), &mut answers);
         assert_eq!(rt; done, Ok(()));
     }
     assert_eq!(rt; answers.as_slice(), expected.as_bytes());
@@ -107,9 +108,7 @@ fn check_parallel<R: Threads + Wait + Sync + Abort + Print + AllocGlobal>(
     last: u32,
 ) {
     let mut found = room(rt, rt.alloc());
-    let mut reader = script.as_bytes();
-    let done = parallel_script(rt, rt.alloc(), &FreeGate, 42, &mut reader, &mut found);
-    if let Err(fault) = done {
+    if let Err(fault) = run_in_parallel(rt, script.as_bytes(), &mut found) {
         let ScriptFault::Line { line, reason } = fault else {
             panic!(rt; "another fault");
         };
@@ -117,8 +116,7 @@ fn check_parallel<R: Threads + Wait + Sync + Abort + Print + AllocGlobal>(
         assert_eq!(rt; reason, Reason::NoMemory);
         assert!(rt; line == 0 || (first <= line && line <= last));
         assert!(rt; found.is_empty());
-        let mut reader = script.as_bytes();
-        let done = parallel_script(rt, rt.alloc(), &FreeGate, 42, &mut reader, &mut found);
+        let done = run_in_parallel(rt, script.as_bytes(), &mut found);
         assert_eq!(rt; done, Ok(()));
     }
     assert_eq!(rt; found.as_slice(), report.as_bytes());
