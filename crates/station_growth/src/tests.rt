@@ -5,12 +5,16 @@ mod desk;
 mod station;
 mod work;
 
-ghost use Rattle.std.specs.Prelude.{◌≡◌, ◌∷◌, [], IfOk};
+ghost use Rattle.std.specs.Prelude.{◌≡◌, ◌∷◌, [], All, replicate};
+ghost use Rattle.tc_station.specs.Tally.{fresh};
 
-use std::alloc::{AllocError, Global};
+use std::alloc::Global;
 use std::process::Abort;
-use tc_channel::{Delivery, Event, FrameReply, Items, MapSetting, Octets, QueueSetting, Settings};
+use tc_channel::{
+    Channel, Delivery, Event, FrameReply, Items, MapSetting, Octets, QueueSetting, Settings,
+};
 use tc_link::{Act, Link};
+use tc_station::{CloseFault, Operator, OperatorsFault, Station, StationFault};
 
 // No unit was ended.
 const NOTHING: Delivery = Delivery {
@@ -105,25 +109,17 @@ const BYPASSED_UNIT: FrameReply = FrameReply {
     delivery: ONE,
 };
 
-// What is told after the event of a frame whose growth was refused: whether it carries a whole unit.
-fn cargo(octets: &[u8]) -> &'static str {
-    match octets.get(5) {
-        Some(0xc3) => ", whole unit",
-        _ => "",
-    }
-}
-
 // These items. One growth may be refused.
-fn copied<T: Copy>(alloc: Global, items: &[T]) -> Result<Vec<T>, AllocError> {
+fn copied<T: Copy>(rt: &impl Abort, alloc: Global, items: &[T]) -> Vec<T> {
     match Vec::from_slice(alloc, items) {
-        Ok(copy) => Ok(copy),
-        Err(_) => Vec::from_slice(alloc, items),
+        Ok(copy) => copy,
+        Err(_) => Vec::from_slice(alloc, items).expect(rt, "a copy"),
     }
 }
 
 // Virtual channel 1: the window 10, one buffered field, V(R) 0 first, a queue of capacity 2 for APID 5, and one for MAP 3. One
 // growth may be refused.
-fn settings(alloc: Global) -> Result<Settings, AllocError> {
+fn settings(rt: &impl Abort, alloc: Global) -> Settings {
     let queue = QueueSetting {
         apid: 5,
         capacity: 2,
@@ -132,47 +128,114 @@ fn settings(alloc: Global) -> Result<Settings, AllocError> {
         map: 3,
         capacity: 2,
     };
-    Ok(Settings {
+    Settings {
         vcid: 1,
         width: 10,
         buffer: 1,
         first: 0,
         segmented: true,
-        queues: Items::from(copied(alloc, &[queue])?),
-        maps: Items::from(copied(alloc, &[map])?),
-    })
+        queues: Items::from(copied(rt, alloc, &[queue])),
+        maps: Items::from(copied(rt, alloc, &[map])),
+    }
+}
+
+// An empty list with room for two items. One growth may be refused.
+fn room<T: Drop>(rt: &impl Abort, alloc: Global) -> Vec<T>
+    ensures { result.items ≡ [] }
+{
+    match Vec::with_capacity(alloc, 2) {
+        Ok(list) => list,
+        Err(_) => Vec::with_capacity(alloc, 2).expect(rt, "a list"),
+    }
 }
 
 // A list of this item alone. One growth may be refused.
-fn list_of<T: Drop>(alloc: Global, item: T) -> Result<Vec<T>, AllocError>
-    ensures { IfOk result (λ list. list.items ≡ item ∷ []) }
+fn list_of<T: Drop>(rt: &impl Abort, alloc: Global, item: T) -> Vec<T>
+    ensures { result.items ≡ item ∷ [] }
 {
-    let mut list = match Vec::with_capacity(alloc, 1) {
-        Ok(list) => list,
-        Err(_) => Vec::with_capacity(alloc, 1)?,
-    };
-    list.push(item)?;
-    Ok(list)
+    let mut list = room(rt, alloc);
+    list.push(item).expect(rt, "room");
+    list
 }
 
 // The settings alone, as a station takes them.
 fn list_of_settings(rt: &impl Abort, alloc: Global) -> Vec<Settings> {
-    list_of(alloc, settings(alloc).expect(rt, "settings")).expect(rt, "a list")
+    list_of(rt, alloc, settings(rt, alloc))
 }
 
-// The event of a frame with these octets. One growth may be refused.
-fn frame_event(alloc: Global, octets: &[u8]) -> Result<Event, AllocError> {
+fn station_once(rt: &impl Abort, alloc: Global) -> Result<Station, StationFault> {
+    Station::new(alloc, 42, list_of_settings(rt, alloc))
+}
+
+// A station of this channel for spacecraft 42. One growth may be refused.
+fn new_station(rt: &(impl Abort + Print), alloc: Global) -> Station {
+    match station_once(rt, alloc) {
+        Ok(station) => station,
+        Err(StationFault::NoMemory) => {
+            let _ = println!(rt; "refused: Station::new");
+            station_once(rt, alloc).expect(rt, "a station")
+        }
+        Err(_) => panic!(rt; "another refusal"),
+    }
+}
+
+// So many operators of the station. One growth may be refused.
+fn new_operators(rt: &(impl Abort + Print), station: &mut Station, n: u16) -> Vec<Operator>
+    ensures { result.items ≡ replicate n (fresh station.new.vcids) }
+{
+    match station.operators(n) {
+        Ok(operators) => operators,
+        Err(OperatorsFault::NoMemory) => {
+            let _ = println!(rt; "refused: operators");
+            station.operators(n).expect(rt, "operators")
+        }
+        Err(_) => panic!(rt; "another refusal"),
+    }
+}
+
+// A station with one operator. One growth may be refused.
+fn new_crew(rt: &(impl Abort + Print), alloc: Global) -> (Station, Vec<Operator>)
+    ensures { result.1.items ≡ fresh result.0.vcids ∷ [] }
+{
+    let mut station = new_station(rt, alloc);
+    let operators = new_operators(rt, &mut station, 1);
+    (station, operators)
+}
+
+// Octets on the heap. One growth may be refused.
+fn octets_of(rt: &impl Abort, alloc: Global, octets: &[u8]) -> Octets {
     match Octets::copied(alloc, octets) {
-        Ok(copy) => Ok(Event::Frame(copy)),
-        Err(_) => Ok(Event::Frame(Octets::copied(alloc, octets)?)),
+        Ok(copy) => copy,
+        Err(_) => Octets::copied(alloc, octets).expect(rt, "octets"),
     }
 }
 
 // Appends to a journal. One growth may be refused.
-fn note(journal: &mut Vec<Event>, event: Event) -> Result<(), AllocError> {
+fn note(rt: &impl Abort, journal: &mut Vec<Event>, event: Event) {
     if journal.reserve(1).is_err() {
-        journal.reserve(1)?;
+        journal.reserve(1).expect(rt, "room");
     }
-    journal.push(event)?;
-    Ok(())
+    journal.push(event).expect(rt, "room");
+}
+
+// There are so many operators, each of which has counted this of channel 1.
+fn check_counts(rt: &impl Abort, operators: &[Operator], number: usize, count: u64) {
+    assert_eq!(rt; operators.len(), number);
+    for operator in operators {
+        assert!(rt; operator.count(1) == Some(count), "not {count} counted");
+    }
+}
+
+// Closes a station that these operators are in balance with. Where memory is wanting, it gives both back, and is closed then.
+fn closed(rt: &(impl Abort + Print), station: Station, operators: Vec<Operator>) -> Vec<Channel>
+    requires { All (λ o. o.vcids ≡ station.vcids) operators.items }
+{
+    match station.close(operators) {
+        Ok(channels) => channels,
+        Err(CloseFault::NoMemory(station, operators)) => {
+            let _ = println!(rt; "refused: close");
+            station.close(operators).expect(rt, "channels")
+        }
+        Err(_) => panic!(rt; "neither closed nor without memory"),
+    }
 }

@@ -1,24 +1,37 @@
 mod board;
 mod closing;
+mod crew;
 mod faults;
 mod holding;
 mod maps;
 mod refusals;
 mod status;
+mod steps;
 mod work;
 
-ghost use Rattle.std.specs.Prelude.{◌≡◌, ◌∷◌, [], IfOk};
+ghost use Rattle.std.specs.Prelude.{◌≡◌, ◌∷◌, [], All, replicate};
 ghost use Rattle.tc_station.specs.StationSettings.{vcids_of};
+ghost use Rattle.tc_station.specs.Tally.{fresh};
 
-use std::alloc::{AllocError, Global};
+use crew::{Manned, two_channels};
+use std::alloc::Global;
 use std::process::Abort;
-use tc_channel::{Delivery, FrameReply, Items, MapSetting, QueueSetting, Settings};
-use tc_link::{Act, Link, read_frame};
-use tc_station::{Desk, Operator, Station};
+use tc_channel::{
+    Channel, Delivery, FrameReply, Items, MapSetting, Octets, QueueSetting, Settings,
+};
+use tc_link::{Act, Link};
+use tc_station::{Brought, Job, Operator, Order, Station, WorkList};
 
 // No unit was ended.
 const NOTHING: Delivery = Delivery {
     queued: 0,
+    dropped: 0,
+    rest: false,
+};
+
+// One packet was queued, and nothing was left; or one unit of a chosen MAP was.
+const ONE: Delivery = Delivery {
+    queued: 1,
     dropped: 0,
     rest: false,
 };
@@ -60,104 +73,162 @@ const BUFFERED: FrameReply = FrameReply {
     delivery: NOTHING,
 };
 
+// The reply to a frame that finds no room.
+const NO_ROOM: FrameReply = FrameReply {
+    act: Act {
+        event: 2,
+        accepted: false,
+    },
+    delivery: NOTHING,
+};
+
+// The packet of `FRAME`.
+const PACKET: [u8; 7] = [0x10, 0x05, 0xc0, 0x00, 0x00, 0x00, 0xaa];
+
+// A BD frame for virtual channel 1 whose segment is a whole unit of MAP 3, of two octets, and the reply where the unit finds room.
+const UNIT_FRAME: [u8; 8] = [0x20, 0x2a, 0x04, 0x07, 0x00, 0xc3, 0xaa, 0xbb];
+
+const UNIT_KEPT: FrameReply = FrameReply {
+    act: Act {
+        event: 6,
+        accepted: true,
+    },
+    delivery: ONE,
+};
+
+// What became of `FRAME` or `NEXT`, and of `UNIT_FRAME`, that a station was brought.
+const BROUGHT: Brought = Brought {
+    vcid: 1,
+    reply: BUFFERED,
+};
+
+const UNIT_BROUGHT: Brought = Brought {
+    vcid: 1,
+    reply: UNIT_KEPT,
+};
+
 // The window 10, one buffered field, V(R) 0 first, a queue of capacity 2 for APID 5, and no chosen MAP.
-fn settings(alloc: Global, vcid: u8) -> Result<Settings, AllocError>
-    ensures { IfOk result (λ s. s.vcid ≡ vcid) }
+fn settings(rt: &impl Abort, alloc: Global, vcid: u8) -> Settings
+    ensures { result.vcid ≡ vcid }
 {
     let queue = QueueSetting {
         apid: 5,
         capacity: 2,
     };
-    Ok(Settings {
+    let queues = Vec::from_slice(alloc, &[queue]).expect(rt, "queues");
+    Settings {
         vcid,
         width: 10,
         buffer: 1,
         first: 0,
         segmented: true,
-        queues: Items::from(Vec::from_slice(alloc, &[queue])?),
+        queues: Items::from(queues),
         maps: Items::from(Vec::new(alloc)),
-    })
+    }
 }
 
 // Settings for each of these virtual channels.
-fn settings_of(alloc: Global, vcids: &[u8]) -> Result<Vec<Settings>, AllocError>
-    ensures { IfOk result (λ list. vcids_of list.items ≡ vcids.now) }
+fn settings_of(rt: &impl Abort, alloc: Global, vcids: &[u8]) -> Vec<Settings>
+    ensures { vcids_of result.items ≡ vcids.now }
 {
-    let mut list = Vec::with_capacity(alloc, vcids.len())?;
+    let mut list = Vec::with_capacity(alloc, vcids.len()).expect(rt, "a list");
     for vcid in vcids {
-        list.push(settings(alloc, *vcid)?)?;
+        list.push(settings(rt, alloc, *vcid)).expect(rt, "room");
     }
-    Ok(list)
-}
-
-// A station for spacecraft 42, with one operator.
-#[derive(Drop)]
-struct Manned {
-    station: Station,
-    operator: Operator,
-    ghost ours: { operator.vcids ≡ station.vcids },
-}
-
-impl Manned {
-    fn new(rt: &impl Abort, alloc: Global, vcids: &[u8]) -> Manned
-        ensures { result.station.vcids ≡ vcids.now }
-    {
-        Manned::by(rt, alloc, settings_of(alloc, vcids).expect(rt, "settings"))
-    }
-
-    fn by(rt: &impl Abort, alloc: Global, list: Vec<Settings>) -> Manned
-        ensures { result.station.vcids ≡ vcids_of list.items }
-    {
-        let mut station = Station::new(alloc, 42, list).expect(rt, "a station");
-        let mut operators = station.operators(1).expect(rt, "operators");
-        let operator = operators.pop().expect(rt, "an operator");
-        Manned { station, operator }
-    }
+    list
 }
 
 // Virtual channel 1 as above, with a queue for one unit of MAP 3.
-fn settings_with_a_map(alloc: Global) -> Result<Settings, AllocError>
-    ensures { IfOk result (λ s. s.vcid ≡ 1) }
+fn settings_with_a_map(rt: &impl Abort, alloc: Global) -> Settings
+    ensures { result.vcid ≡ 1 }
 {
     let map = MapSetting {
         map: 3,
         capacity: 1,
     };
-    let maps = Items::from(Vec::from_slice(alloc, &[map])?);
-    let mut settings = settings(alloc, 1)?;
-    settings.maps = maps;
-    Ok(settings)
+    let maps = Vec::from_slice(alloc, &[map]).expect(rt, "maps");
+    let mut settings = settings(rt, alloc, 1);
+    settings.maps = Items::from(maps);
+    settings
 }
 
 // As `settings`, with room for 64 data fields.
 fn settings_with_room(rt: &impl Abort, alloc: Global, vcid: u8) -> Settings
     ensures { result.vcid ≡ vcid }
 {
-    let mut settings = settings(alloc, vcid).expect(rt, "settings");
+    let mut settings = settings(rt, alloc, vcid);
     settings.buffer = 64;
     settings
 }
 
-fn new_desk(rt: &impl Abort, alloc: Global, settings: Settings) -> Desk {
-    Desk::new(alloc, settings).expect(rt, "a desk")
+// A list of these settings.
+fn list_of_two(rt: &impl Abort, alloc: Global, first: Settings, second: Settings) -> Vec<Settings>
+    ensures { vcids_of result.items ≡ first.vcid ∷ second.vcid ∷ [] }
+{
+    vec![in alloc; first, second].expect(rt, "a list")
 }
 
-fn take_in(rt: &impl Abort, desk: &mut Desk, octets: &[u8]) -> FrameReply
-    ensures { desk.new.board ≡ desk.old.board }
+// A station for spacecraft 42.
+fn new_station(rt: &impl Abort, alloc: Global, list: Vec<Settings>) -> Station
+    ensures { result.vcids ≡ vcids_of list.items }
 {
-    let frame = read_frame(octets).expect(rt, "a frame");
-    desk.frame(&frame).expect(rt, "an answer")
+    Station::new(alloc, 42, list).expect(rt, "a station")
 }
 
-// A station of channels 1 and 2, with room for 64 data fields each.
-fn two_channels(rt: &impl Abort, alloc: Global) -> Manned
-    ensures { result.station.vcids ≡ 1 ∷ 2 ∷ [] }
+// So many operators of a station that has issued none.
+fn new_operators(rt: &impl Abort, station: &mut Station, n: u16) -> Vec<Operator>
+    ensures fresh { result.items ≡ replicate n (fresh station.new.vcids) }
+    ensures kept { station.new.vcids ≡ station.old.vcids }
 {
-    let first = settings_with_room(rt, alloc, 1);
-    let second = settings_with_room(rt, alloc, 2);
-    Manned::by(
-        rt,
-        alloc,
-        vec![in alloc; first, second].expect(rt, "a list"),
-    )
+    station.operators(n).expect(rt, "operators")
+}
+
+// Closes a station that these operators are in balance with.
+fn closed(rt: &impl Abort, station: Station, operators: Vec<Operator>) -> Vec<Channel>
+    requires { All (λ o. o.vcids ≡ station.vcids) operators.items }
+{
+    station.close(operators).expect(rt, "channels")
+}
+
+// There are as many channels, with so many events each.
+fn check_events(rt: &impl Abort, channels: &[Channel], counts: &[usize]) {
+    assert_eq!(rt; channels.len(), counts.len());
+    for (channel, count) in channels.iter().zip(counts) {
+        assert_eq!(rt; channel.journal().len(), *count);
+    }
+}
+
+// There are so many operators, each of which has counted so much of these channels.
+fn check_counts(
+    rt: &impl Abort,
+    operators: &[Operator],
+    number: usize,
+    counts: &[(u8, Option<u64>)],
+) {
+    assert_eq!(rt; operators.len(), number);
+    for operator in operators {
+        check_tally(rt, operator, counts);
+    }
+}
+
+fn check_tally(rt: &impl Abort, operator: &Operator, counts: &[(u8, Option<u64>)]) {
+    for (vcid, count) in counts {
+        assert!(rt; operator.count(*vcid) == *count, "channel {vcid}");
+    }
+}
+
+// Brings a copy of these octets.
+fn order(rt: &impl Abort, alloc: Global, octets: &[u8]) -> Order {
+    Order::Bring(Octets::copied(alloc, octets).expect(rt, "octets"))
+}
+
+fn job(line: u32, order: Order) -> Job {
+    Job { line, order }
+}
+
+fn list_for(vcid: u8, jobs: Vec<Job>) -> WorkList {
+    WorkList {
+        vcid,
+        jobs: Items::from(jobs),
+    }
 }

@@ -7,7 +7,7 @@ use tc_station::Desk;
 use tc_status::Watcher;
 
 // What a desk tells of its channel, apart from its journal, and what a watcher of the desk reads.
-#[derive(Clone, Copy, Debug, PartialEq, Eq)]
+#[derive(Clone, Copy, PartialEq, Eq)]
 struct Told {
     report: Report,
     word: u32,
@@ -16,16 +16,14 @@ struct Told {
     units: Option<usize>,
 }
 
-// A call of a desk, what a frame is answered, and the CLCW after it.
-#[derive(Clone, Copy, Debug)]
+// A call of a desk, and what a frame is answered. In a table it stands between the name that it is told by where memory was
+// wanting, and the CLCW after it.
+#[derive(Clone, Copy)]
 enum Call<'a> {
-    Frame(&'a [u8], FrameReply, u32),
-    // Of a data field with this.
-    Release(&'a str, u32),
-    Take(u32),
-    TakeUnit(u32),
-    // Nothing is left to release or to take.
-    Empty,
+    Frame(&'a [u8], FrameReply),
+    Release,
+    Take,
+    TakeUnit,
 }
 
 // A desk and a watcher of its board, and the journal that its channel must have.
@@ -37,24 +35,33 @@ struct Short {
     journal: Vec<Event>,
 }
 
+fn desk_once(rt: &impl Abort, alloc: Global) -> Result<Desk, SettingsFault> {
+    Desk::new(alloc, settings(rt, alloc))
+}
+
 fn new_desk(rt: &(impl Abort + Print), alloc: Global) -> Desk {
-    match Desk::new(alloc, settings(alloc).expect(rt, "an answer")) {
+    match desk_once(rt, alloc) {
         Ok(desk) => desk,
-        Err(fault) => {
+        Err(SettingsFault::NoMemory) => {
             let _ = println!(rt; "refused: Desk::new");
-            assert_eq!(rt; fault, SettingsFault::NoMemory);
-            Desk::new(alloc, settings(alloc).expect(rt, "an answer")).expect(rt, "an answer")
+            desk_once(rt, alloc).expect(rt, "a desk")
         }
+        Err(_) => panic!(rt; "another refusal"),
     }
 }
 
-fn new_watcher(rt: &(impl Abort + Print), desk: &mut Desk) -> Watcher {
-    match desk.watcher() {
-        Ok(watcher) => watcher,
-        Err(NoMemory) => {
-            let _ = println!(rt; "refused: Desk::watcher");
-            desk.watcher().expect(rt, "an answer")
-        }
+// A watcher takes no memory.
+fn new_watcher(rt: &impl Abort, desk: &mut Desk) -> Watcher {
+    desk.watcher().expect(rt, "a watcher")
+}
+
+// The event of a call that was answered. One growth may be refused.
+fn event_of(rt: &impl Abort, alloc: Global, call: Call) -> Event {
+    match call {
+        Call::Frame(octets, _) => Event::Frame(octets_of(rt, alloc, octets)),
+        Call::Release => Event::Release,
+        Call::Take => Event::Take(5),
+        Call::TakeUnit => Event::TakeUnit(3),
     }
 }
 
@@ -81,106 +88,137 @@ impl Short {
         }
     }
 
-    // The journal is the one expected, and this is told of the rest.
-    fn check(&mut self, rt: &impl Abort, told: Told) {
-        assert_eq!(rt; self.desk.channel().journal(), self.journal.as_slice());
-        assert_eq!(rt; self.told(), told);
+    // The journal is the one expected.
+    fn check_journal(&self, rt: &impl Abort) {
+        assert!(rt; self.desk.channel().journal() == self.journal.as_slice());
     }
 
-    // An operation was answered: the journal has its event, and the CLCW is this one, by the channel and by the watcher.
-    fn answered(&mut self, rt: &impl Abort, event: Event, word: u32) {
-        note(&mut self.journal, event).expect(rt, "a journal");
-        assert_eq!(rt; self.desk.channel().journal(), self.journal.as_slice());
+    // This is told, and the journal is the one expected.
+    fn check(&mut self, rt: &impl Abort, told: Told) {
+        self.check_journal(rt);
+        assert!(rt; self.told() == told);
+    }
+
+    // The CLCW is this one, by the channel and by the watcher.
+    fn check_word(&mut self, rt: &impl Abort, word: u32) {
         assert_eq!(rt; self.desk.channel().clcw(NO_FLAG), word);
         assert_eq!(rt; self.watcher.read(), word);
     }
 
-    fn frame(&mut self, rt: &(impl Abort + Print), octets: &[u8], expected: FrameReply, word: u32) {
-        let told = self.told();
+    fn release(&mut self) -> Result<Delivery, ReleaseFault> {
+        self.desk.release()
+    }
+
+    fn take(&mut self) -> Result<Vec<u8>, TakeFault> {
+        self.desk.take(5)
+    }
+
+    fn take_unit(&mut self) -> Result<Vec<u8>, TakeUnitFault> {
+        self.desk.take_unit(3)
+    }
+
+    // Each of these says whether the call was answered, as it must be, or memory was wanting.
+    fn frame_is_answered(&mut self, rt: &impl Abort, octets: &[u8], expected: FrameReply) -> bool {
         let frame = read_frame(octets).expect(rt, "a frame");
-        let reply = match self.desk.frame(&frame) {
-            Ok(reply) => reply,
-            Err(NoMemory) => {
-                let _ = println!(rt;
-                    "refused: Desk::frame, event {}{}",
-                    expected.act.event,
-                    cargo(octets)
-                );
-                self.check(rt, told);
-                self.desk.frame(&frame).expect(rt, "an answer")
+        match self.desk.frame(&frame) {
+            Ok(reply) => {
+                assert!(rt; reply == expected);
+                true
             }
-        };
-        assert_eq!(rt; reply, expected);
-        let event = frame_event(self.alloc, octets).expect(rt, "an event");
-        self.answered(rt, event, word)
+            Err(NoMemory) => false,
+        }
     }
 
-    fn release(&mut self, rt: &(impl Abort + Print), cargo: &str, word: u32) {
-        let told = self.told();
-        let delivery = match self.desk.release() {
-            Ok(delivery) => delivery,
-            Err(fault) => {
-                let _ = println!(rt; "refused: Desk::release, {cargo}");
-                assert_eq!(rt; fault, ReleaseFault::NoMemory);
-                self.check(rt, told);
-                self.desk.release().expect(rt, "an answer")
+    fn release_is_answered(&mut self, rt: &impl Abort) -> bool {
+        match self.release() {
+            Ok(delivery) => {
+                assert!(rt; delivery == ONE);
+                true
             }
-        };
-        assert_eq!(rt; delivery, ONE);
-        self.answered(rt, Event::Release, word)
+            Err(ReleaseFault::NoMemory) => false,
+            Err(_) => panic!(rt; "another refusal"),
+        }
     }
 
-    fn take(&mut self, rt: &(impl Abort + Print), word: u32) {
-        let told = self.told();
-        let packet = match self.desk.take(5) {
-            Ok(packet) => packet,
-            Err(fault) => {
-                let _ = println!(rt; "refused: Desk::take");
-                assert_eq!(rt; fault, TakeFault::NoMemory);
-                self.check(rt, told);
-                self.desk.take(5).expect(rt, "an answer")
+    fn take_is_answered(&mut self, rt: &impl Abort) -> bool {
+        match self.take() {
+            Ok(packet) => {
+                assert!(rt; packet.as_slice() == PACKET.as_slice());
+                true
             }
-        };
-        assert_eq!(rt; packet.as_slice(), PACKET.as_slice());
-        self.answered(rt, Event::Take(5), word)
+            Err(TakeFault::NoMemory) => false,
+            Err(_) => panic!(rt; "another refusal"),
+        }
     }
 
-    fn take_unit(&mut self, rt: &(impl Abort + Print), word: u32) {
-        let told = self.told();
-        let unit = match self.desk.take_unit(3) {
-            Ok(unit) => unit,
-            Err(fault) => {
-                let _ = println!(rt; "refused: Desk::take_unit");
-                assert_eq!(rt; fault, TakeUnitFault::NoMemory);
-                self.check(rt, told);
-                self.desk.take_unit(3).expect(rt, "an answer")
+    fn take_of_a_unit_is_answered(&mut self, rt: &impl Abort) -> bool {
+        match self.take_unit() {
+            Ok(unit) => {
+                assert!(rt; unit.as_slice() == UNIT.as_slice());
+                true
             }
-        };
-        assert_eq!(rt; unit.as_slice(), UNIT.as_slice());
-        self.answered(rt, Event::TakeUnit(3), word)
+            Err(TakeUnitFault::NoMemory) => false,
+            Err(_) => panic!(rt; "another refusal"),
+        }
+    }
+
+    fn is_answered(&mut self, rt: &impl Abort, call: Call) -> bool {
+        match call {
+            Call::Frame(octets, reply) => self.frame_is_answered(rt, octets, reply),
+            Call::Release => self.release_is_answered(rt),
+            Call::Take => self.take_is_answered(rt),
+            Call::TakeUnit => self.take_of_a_unit_is_answered(rt),
+        }
+    }
+
+    // Makes a call. Want of memory must have left all as it was, and the call is made again then.
+    fn make(&mut self, rt: &(impl Abort + Print), name: &str, call: Call, word: u32) {
+        let told = self.told();
+        if !self.is_answered(rt, call) {
+            let _ = println!(rt; "refused: {name}");
+            self.check(rt, told);
+            assert!(rt; self.is_answered(rt, call), "{name}");
+        }
+        let event = event_of(rt, self.alloc, call);
+        note(rt, &mut self.journal, event);
+        self.check_journal(rt);
+        self.check_word(rt, word);
+    }
+
+    // Each call in turn.
+    fn play(&mut self, rt: &(impl Abort + Print), calls: &[(&str, Call, u32)]) {
+        for (name, call, word) in calls {
+            self.make(rt, name, *call, *word);
+        }
+    }
+
+    fn check_packets(&mut self, rt: &impl Abort, packets: usize) {
+        assert!(rt; self.told().packets == Some(packets));
     }
 
     // Nothing is left to release or to take, and nothing is noted of the refusals.
     fn check_empty(&mut self, rt: &impl Abort) {
         let told = self.told();
-        assert_eq!(rt; self.desk.take(5).err(), Some(TakeFault::Empty));
-        assert_eq!(rt; self.desk.take_unit(3).err(), Some(TakeUnitFault::Empty));
-        assert_eq!(rt; self.desk.release(), Err(ReleaseFault::Empty));
+        assert!(rt; self.take().err() == Some(TakeFault::Empty));
+        assert!(rt; self.take_unit().err() == Some(TakeUnitFault::Empty));
+        assert!(rt; self.release() == Err(ReleaseFault::Empty));
         self.check(rt, told)
     }
+}
 
-    // Each call in turn.
-    fn play(&mut self, rt: &(impl Abort + Print), calls: &[Call]) {
-        for call in calls {
-            match *call {
-                Call::Frame(octets, reply, word) => self.frame(rt, octets, reply, word),
-                Call::Release(cargo, word) => self.release(rt, cargo, word),
-                Call::Take(word) => self.take(rt, word),
-                Call::TakeUnit(word) => self.take_unit(rt, word),
-                Call::Empty => self.check_empty(rt),
-            }
-        }
-    }
+// Makes the first calls at a new desk, which leave nothing, and then the others, which leave so many packets.
+fn check_calls(
+    rt: &(impl Abort + Print),
+    alloc: Global,
+    first: &[(&str, Call, u32)],
+    then: &[(&str, Call, u32)],
+    packets: usize,
+) {
+    let mut short = Short::new(rt, alloc);
+    short.play(rt, first);
+    short.check_empty(rt);
+    short.play(rt, then);
+    short.check_packets(rt, packets);
 }
 
 // The journal grows with the first event and with the fifth, which is a take: it makes no other growth.
@@ -188,32 +226,51 @@ impl Short {
 fn growth_of_each_call_of_a_desk(rt: HostRuntime) {
     let mut third = NEXT;
     third[4] = 2;
-    let calls = [
-        Call::Frame(&FRAME, BUFFERED, 0x01040001),
-        Call::Release("a packet", 0x01040001),
-        Call::Take(0x01040001),
-        Call::Empty,
-        Call::Frame(&TWO_PACKETS, BYPASSED, 0x01040201),
-        Call::Take(0x01040201),
-        Call::Frame(&NEXT, BUFFERED, 0x01040202),
-        Call::Frame(&third, NO_ROOM, 0x01041a02),
-        Call::Release("a packet", 0x01040a02),
+    let first = [
+        (
+            "Desk::frame, event 1",
+            Call::Frame(&FRAME, BUFFERED),
+            0x01040001,
+        ),
+        ("Desk::release, a packet", Call::Release, 0x01040001),
+        ("Desk::take", Call::Take, 0x01040001),
     ];
-    let mut short = Short::new(&rt, rt.alloc());
-    short.play(&rt, &calls);
-    assert_eq!(rt; short.told().packets, Some(2));
+    let then = [
+        (
+            "Desk::frame, event 6",
+            Call::Frame(&TWO_PACKETS, BYPASSED),
+            0x01040201,
+        ),
+        ("Desk::take", Call::Take, 0x01040201),
+        (
+            "Desk::frame, event 1",
+            Call::Frame(&NEXT, BUFFERED),
+            0x01040202,
+        ),
+        (
+            "Desk::frame, event 2",
+            Call::Frame(&third, NO_ROOM),
+            0x01041a02,
+        ),
+        ("Desk::release, a packet", Call::Release, 0x01040a02),
+    ];
+    check_calls(&rt, rt.alloc(), &first, &then, 2)
 }
 
 // The fifth event is the take of a unit, which makes no other growth.
 #[test]
 fn growth_of_each_call_of_a_desk_on_a_chosen_map(rt: HostRuntime) {
+    let bypassed = Call::Frame(&BD_UNIT, BYPASSED_UNIT);
     let calls = [
-        Call::Frame(&AD_UNIT, BUFFERED, 0x01040001),
-        Call::Release("a whole unit", 0x01040001),
-        Call::Frame(&BD_UNIT, BYPASSED_UNIT, 0x01040201),
-        Call::TakeUnit(0x01040201),
-        Call::TakeUnit(0x01040201),
-        Call::Empty,
+        (
+            "Desk::frame, event 1, whole unit",
+            Call::Frame(&AD_UNIT, BUFFERED),
+            0x01040001,
+        ),
+        ("Desk::release, a whole unit", Call::Release, 0x01040001),
+        ("Desk::frame, event 6, whole unit", bypassed, 0x01040201),
+        ("Desk::take_unit", Call::TakeUnit, 0x01040201),
+        ("Desk::take_unit", Call::TakeUnit, 0x01040201),
     ];
-    Short::new(&rt, rt.alloc()).play(&rt, &calls)
+    check_calls(&rt, rt.alloc(), &calls, &[], 0)
 }

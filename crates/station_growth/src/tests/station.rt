@@ -1,23 +1,19 @@
 //! Calls of a station.
 
-ghost use Rattle.std.specs.Prelude.{◌≡◌, replicate};
-ghost use Rattle.tc_station.specs.Tally.{fresh};
+ghost use Rattle.std.specs.Prelude.{◌≡◌};
 
 use super::*;
 use std::sync::Wait;
-use tc_station::{
-    BringFault, Brought, CloseFault, Operator, OperatorsFault, ReleaseRefused, Station,
-    StationFault, TakeRefused, TakeUnitRefused, WatcherFault,
-};
+use tc_station::{BringFault, Brought, ReleaseRefused, TakeRefused, TakeUnitRefused};
 use tc_status::Watcher;
 
-// A call of a station, what a frame is answered, and the CLCW after it.
-#[derive(Clone, Copy, Debug)]
+// A call of a station, and what a frame is answered. In a table it stands between the name that it is told by where memory was
+// wanting, and the CLCW after it.
+#[derive(Clone, Copy)]
 enum Call<'a> {
-    Bring(&'a [u8], FrameReply, u32),
-    BringWatched(&'a [u8], FrameReply, u32),
-    // Of a data field with this.
-    Release(&'a str, u32),
+    Bring(&'a [u8], FrameReply),
+    BringWatched(&'a [u8], FrameReply),
+    Release,
     Take,
     TakeUnit,
 }
@@ -33,47 +29,26 @@ struct Short {
     ghost ours: { operator.vcids ≡ station.vcids },
 }
 
-fn new_station(rt: &(impl Abort + Print), alloc: Global) -> Station {
-    match Station::new(alloc, 42, list_of_settings(rt, alloc)) {
-        Ok(station) => station,
-        Err(fault) => {
-            let _ = println!(rt; "refused: Station::new");
-            assert_eq!(rt; fault, StationFault::NoMemory);
-            Station::new(alloc, 42, list_of_settings(rt, alloc)).expect(rt, "an answer")
-        }
-    }
+// A watcher takes no memory.
+fn new_watcher(rt: &(impl Wait + Abort), station: &Station) -> Watcher {
+    station.watcher(rt, 1).expect(rt, "a watcher")
 }
 
-fn new_operators(rt: &(impl Abort + Print), station: &mut Station, n: u16) -> Vec<Operator>
-    ensures { result.items ≡ replicate n (fresh station.new.vcids) }
-{
-    match station.operators(n) {
-        Ok(operators) => operators,
-        Err(fault) => {
-            let _ = println!(rt; "refused: operators");
-            assert_eq!(rt; fault, OperatorsFault::NoMemory);
-            station.operators(n).expect(rt, "an answer")
-        }
-    }
-}
-
-fn new_watcher(rt: &(impl Wait + Abort + Print), station: &Station) -> Watcher {
-    match station.watcher(rt, 1) {
-        Ok(watcher) => watcher,
-        Err(fault) => {
-            let _ = println!(rt; "refused: Station::watcher");
-            assert_eq!(rt; fault, WatcherFault::NoMemory);
-            station.watcher(rt, 1).expect(rt, "an answer")
-        }
+// The event of a call that was answered. One growth may be refused.
+fn event_of(rt: &impl Abort, alloc: Global, call: Call) -> Event {
+    match call {
+        Call::Bring(frame, _) => Event::Frame(octets_of(rt, alloc, frame)),
+        Call::BringWatched(frame, _) => Event::Frame(octets_of(rt, alloc, frame)),
+        Call::Release => Event::Release,
+        Call::Take => Event::Take(5),
+        Call::TakeUnit => Event::TakeUnit(3),
     }
 }
 
 impl Short {
     fn new(rt: &(impl Wait + Abort + Print), alloc: Global) -> Short {
-        let mut station = new_station(rt, alloc);
-        let operator = new_operators(rt, &mut station, 1)
-            .pop()
-            .expect(rt, "an operator");
+        let (station, mut operators) = new_crew(rt, alloc);
+        let operator = operators.pop().expect(rt, "an operator");
         let watcher = new_watcher(rt, &station);
         Short {
             alloc,
@@ -90,131 +65,104 @@ impl Short {
 
     // The operator has counted what is in the journal, and the word is this one.
     fn check(&mut self, rt: &impl Abort, word: u32) {
-        assert_eq!(rt; self.operator.count(1), Some(self.journal.len() as u64));
+        let count = self.journal.len() as u64;
+        assert!(rt;
+            self.operator.count(1) == Some(count),
+            "not {count} counted"
+        );
         assert_eq!(rt; self.word(), word);
     }
 
-    fn bring(
-        &mut self,
-        rt: &(impl Wait + Abort + Print),
-        frame: &[u8],
-        reply: FrameReply,
-        word: u32,
-    ) {
-        let before = self.word();
-        let brought = match self.station.bring(rt, &mut self.operator, frame) {
-            Ok(brought) => brought,
-            Err(fault) => {
-                let _ = println!(rt; "refused: bring, event {}{}", reply.act.event, cargo(frame));
-                assert_eq!(rt; fault, BringFault::NoMemory);
-                self.check(rt, before);
-                self.station
-                    .bring(rt, &mut self.operator, frame)
-                    .expect(rt, "an answer")
+    // Each of these says whether the call was answered, as it must be, or memory was wanting.
+    fn bring(&mut self, rt: &(impl Wait + Abort), frame: &[u8], reply: FrameReply) -> bool {
+        match self.station.bring(rt, &mut self.operator, frame) {
+            Ok(brought) => {
+                assert!(rt; brought == Brought { vcid: 1, reply });
+                true
             }
-        };
-        assert_eq!(rt; brought, Brought { vcid: 1, reply });
-        let event = frame_event(self.alloc, frame).expect(rt, "an event");
-        note(&mut self.journal, event).expect(rt, "a journal");
-        self.check(rt, word);
+            Err(BringFault::NoMemory) => false,
+            Err(_) => panic!(rt; "another refusal"),
+        }
     }
 
     fn bring_watched(
         &mut self,
-        rt: &(impl Wait + Abort + Print),
+        rt: &(impl Wait + Abort),
         frame: &[u8],
         reply: FrameReply,
         word: u32,
-    ) {
-        let before = self.word();
-        let (brought, mut own) = match self.station.bring_watched(rt, &mut self.operator, frame) {
-            Ok(answer) => answer,
-            Err(fault) => {
-                let _ = println!(rt;
-                    "refused: bring_watched, event {}{}",
-                    reply.act.event,
-                    cargo(frame)
-                );
-                assert_eq!(rt; fault, BringFault::NoMemory);
-                self.check(rt, before);
-                self.station
-                    .bring_watched(rt, &mut self.operator, frame)
-                    .expect(rt, "an answer")
+    ) -> bool {
+        match self.station.bring_watched(rt, &mut self.operator, frame) {
+            Ok((brought, mut own)) => {
+                assert!(rt; brought == Brought { vcid: 1, reply });
+                assert_eq!(rt; own.read(), word);
+                true
             }
-        };
-        assert_eq!(rt; brought, Brought { vcid: 1, reply });
-        assert_eq!(rt; own.read(), word);
-        let event = frame_event(self.alloc, frame).expect(rt, "an event");
-        note(&mut self.journal, event).expect(rt, "a journal");
+            Err(BringFault::NoMemory) => false,
+            Err(_) => panic!(rt; "another refusal"),
+        }
+    }
+
+    fn release(&mut self, rt: &(impl Wait + Abort)) -> bool {
+        match self.station.release(rt, &mut self.operator, 1) {
+            Ok(delivery) => {
+                assert!(rt; delivery == ONE);
+                true
+            }
+            Err(ReleaseRefused::NoMemory) => false,
+            Err(_) => panic!(rt; "another refusal"),
+        }
+    }
+
+    fn take(&mut self, rt: &(impl Wait + Abort)) -> bool {
+        match self.station.take(rt, &mut self.operator, 1, 5) {
+            Ok(packet) => {
+                assert!(rt; packet.as_slice() == PACKET.as_slice());
+                true
+            }
+            Err(TakeRefused::NoMemory) => false,
+            Err(_) => panic!(rt; "another refusal"),
+        }
+    }
+
+    fn take_unit(&mut self, rt: &(impl Wait + Abort)) -> bool {
+        match self.station.take_unit(rt, &mut self.operator, 1, 3) {
+            Ok(unit) => {
+                assert!(rt; unit.as_slice() == UNIT.as_slice());
+                true
+            }
+            Err(TakeUnitRefused::NoMemory) => false,
+            Err(_) => panic!(rt; "another refusal"),
+        }
+    }
+
+    fn is_answered(&mut self, rt: &(impl Wait + Abort), call: Call, word: u32) -> bool {
+        match call {
+            Call::Bring(frame, reply) => self.bring(rt, frame, reply),
+            Call::BringWatched(frame, reply) => self.bring_watched(rt, frame, reply, word),
+            Call::Release => self.release(rt),
+            Call::Take => self.take(rt),
+            Call::TakeUnit => self.take_unit(rt),
+        }
+    }
+
+    // Makes a call. Want of memory must have left all as it was, and the call is made again then.
+    fn make(&mut self, rt: &(impl Wait + Abort + Print), name: &str, call: Call, word: u32) {
+        let before = self.word();
+        if !self.is_answered(rt, call, word) {
+            let _ = println!(rt; "refused: {name}");
+            self.check(rt, before);
+            assert!(rt; self.is_answered(rt, call, word), "{name}");
+        }
+        let event = event_of(rt, self.alloc, call);
+        note(rt, &mut self.journal, event);
         self.check(rt, word);
-    }
-
-    fn release(&mut self, rt: &(impl Wait + Abort + Print), cargo: &str, word: u32) {
-        let before = self.word();
-        let delivery = match self.station.release(rt, &mut self.operator, 1) {
-            Ok(delivery) => delivery,
-            Err(fault) => {
-                let _ = println!(rt; "refused: Station::release, {cargo}");
-                assert_eq!(rt; fault, ReleaseRefused::NoMemory);
-                self.check(rt, before);
-                self.station
-                    .release(rt, &mut self.operator, 1)
-                    .expect(rt, "an answer")
-            }
-        };
-        assert_eq!(rt; delivery, ONE);
-        note(&mut self.journal, Event::Release).expect(rt, "a journal");
-        self.check(rt, word);
-    }
-
-    fn take(&mut self, rt: &(impl Wait + Abort + Print)) {
-        let before = self.word();
-        let packet = match self.station.take(rt, &mut self.operator, 1, 5) {
-            Ok(packet) => packet,
-            Err(fault) => {
-                let _ = println!(rt; "refused: Station::take");
-                assert_eq!(rt; fault, TakeRefused::NoMemory);
-                self.check(rt, before);
-                self.station
-                    .take(rt, &mut self.operator, 1, 5)
-                    .expect(rt, "an answer")
-            }
-        };
-        assert_eq!(rt; packet.as_slice(), PACKET.as_slice());
-        note(&mut self.journal, Event::Take(5)).expect(rt, "a journal");
-        self.check(rt, before);
-    }
-
-    fn take_unit(&mut self, rt: &(impl Wait + Abort + Print)) {
-        let before = self.word();
-        let unit = match self.station.take_unit(rt, &mut self.operator, 1, 3) {
-            Ok(unit) => unit,
-            Err(fault) => {
-                let _ = println!(rt; "refused: Station::take_unit");
-                assert_eq!(rt; fault, TakeUnitRefused::NoMemory);
-                self.check(rt, before);
-                self.station
-                    .take_unit(rt, &mut self.operator, 1, 3)
-                    .expect(rt, "an answer")
-            }
-        };
-        assert_eq!(rt; unit.as_slice(), UNIT.as_slice());
-        note(&mut self.journal, Event::TakeUnit(3)).expect(rt, "a journal");
-        self.check(rt, before);
     }
 
     // Each call in turn.
-    fn play(&mut self, rt: &(impl Wait + Abort + Print), calls: &[Call]) {
-        for call in calls {
-            match *call {
-                Call::Bring(frame, reply, word) => self.bring(rt, frame, reply, word),
-                Call::BringWatched(frame, reply, word) => {
-                    self.bring_watched(rt, frame, reply, word)
-                }
-                Call::Release(cargo, word) => self.release(rt, cargo, word),
-                Call::Take => self.take(rt),
-                Call::TakeUnit => self.take_unit(rt),
-            }
+    fn play(&mut self, rt: &(impl Wait + Abort + Print), calls: &[(&str, Call, u32)]) {
+        for (name, call, word) in calls {
+            self.make(rt, name, *call, *word);
         }
     }
 
@@ -227,18 +175,18 @@ impl Short {
             watcher: _,
             journal,
         } = self;
-        let operators = list_of(alloc, operator).expect(rt, "an answer");
-        let channels = match station.close(operators) {
-            Ok(channels) => channels,
-            Err(CloseFault::NoMemory(station, operators)) => {
-                let _ = println!(rt; "refused: close");
-                station.close(operators).expect(rt, "an answer")
-            }
-            Err(_) => panic!(rt; "neither closed nor without memory"),
-        };
+        let operators = list_of(rt, alloc, operator);
+        let channels = closed(rt, station, operators);
         assert_eq!(rt; channels.len(), 1);
-        assert_eq!(rt; channels[0].journal(), journal.as_slice());
+        assert!(rt; channels[0].journal() == journal.as_slice());
     }
+}
+
+// Makes the calls at a new station, and closes it.
+fn check_calls(rt: &(impl Wait + Abort + Print), alloc: Global, calls: &[(&str, Call, u32)]) {
+    let mut short = Short::new(rt, alloc);
+    short.play(rt, calls);
+    short.close(rt)
 }
 
 #[test]
@@ -253,17 +201,8 @@ fn growth_of_a_new_station(rt: HostRuntime) {
 fn growth_of_operators(rt: HostRuntime) {
     let mut station = new_station(&rt, rt.alloc());
     let operators = new_operators(&rt, &mut station, 3);
-    assert_eq!(rt; operators.len(), 3);
-    for operator in &operators {
-        assert_eq!(rt; operator.count(1), Some(0));
-    }
-    let channels = match station.close(operators) {
-        Ok(channels) => channels,
-        Err(CloseFault::NoMemory(station, operators)) => station
-            .close(operators)
-            .expect(&rt, "an answer"),
-        Err(_) => panic!(rt; "neither closed nor without memory"),
-    };
+    check_counts(&rt, &operators, 3, 0);
+    let channels = closed(&rt, station, operators);
     assert_eq!(rt; channels.len(), 1);
 }
 
@@ -271,45 +210,61 @@ fn growth_of_operators(rt: HostRuntime) {
 #[test]
 fn growth_of_each_call_of_a_station(rt: HostRuntime) {
     let calls = [
-        Call::Bring(&FRAME, BUFFERED, 0x01040001),
-        Call::Bring(&NEXT, NO_ROOM, 0x01041801),
-        Call::Bring(&FRAME, BEHIND, 0x01041801),
-        Call::Release("a packet", 0x01040801),
-        Call::Take,
-        Call::Bring(&TWO_PACKETS, BYPASSED, 0x01040a01),
-        Call::Take,
+        ("bring, event 1", Call::Bring(&FRAME, BUFFERED), 0x01040001),
+        ("bring, event 2", Call::Bring(&NEXT, NO_ROOM), 0x01041801),
+        ("bring, event 4", Call::Bring(&FRAME, BEHIND), 0x01041801),
+        ("Station::release, a packet", Call::Release, 0x01040801),
+        ("Station::take", Call::Take, 0x01040801),
+        (
+            "bring, event 6",
+            Call::Bring(&TWO_PACKETS, BYPASSED),
+            0x01040a01,
+        ),
+        ("Station::take", Call::Take, 0x01040a01),
     ];
-    let mut short = Short::new(&rt, rt.alloc());
-    short.play(&rt, &calls);
-    short.close(&rt)
+    check_calls(&rt, rt.alloc(), &calls)
 }
 
 #[test]
 fn growth_of_watched_frames(rt: HostRuntime) {
+    let bypassed = Call::BringWatched(&TWO_PACKETS, BYPASSED);
     let calls = [
-        Call::BringWatched(&FRAME, BUFFERED, 0x01040001),
-        Call::BringWatched(&NEXT, NO_ROOM, 0x01041801),
-        Call::Release("a packet", 0x01040801),
-        Call::Take,
-        Call::BringWatched(&FRAME, BEHIND, 0x01040801),
-        Call::BringWatched(&TWO_PACKETS, BYPASSED, 0x01040a01),
+        (
+            "bring_watched, event 1",
+            Call::BringWatched(&FRAME, BUFFERED),
+            0x01040001,
+        ),
+        (
+            "bring_watched, event 2",
+            Call::BringWatched(&NEXT, NO_ROOM),
+            0x01041801,
+        ),
+        ("Station::release, a packet", Call::Release, 0x01040801),
+        ("Station::take", Call::Take, 0x01040801),
+        (
+            "bring_watched, event 4",
+            Call::BringWatched(&FRAME, BEHIND),
+            0x01040801,
+        ),
+        ("bring_watched, event 6", bypassed, 0x01040a01),
     ];
-    let mut short = Short::new(&rt, rt.alloc());
-    short.play(&rt, &calls);
-    short.close(&rt)
+    check_calls(&rt, rt.alloc(), &calls)
 }
 
 // The fifth event is the take of a unit, which makes no other growth.
 #[test]
 fn growth_of_each_call_on_a_chosen_map(rt: HostRuntime) {
+    let bypassed = Call::Bring(&BD_UNIT, BYPASSED_UNIT);
     let calls = [
-        Call::Bring(&AD_UNIT, BUFFERED, 0x01040001),
-        Call::Release("a whole unit", 0x01040001),
-        Call::Bring(&BD_UNIT, BYPASSED_UNIT, 0x01040201),
-        Call::TakeUnit,
-        Call::TakeUnit,
+        (
+            "bring, event 1, whole unit",
+            Call::Bring(&AD_UNIT, BUFFERED),
+            0x01040001,
+        ),
+        ("Station::release, a whole unit", Call::Release, 0x01040001),
+        ("bring, event 6, whole unit", bypassed, 0x01040201),
+        ("Station::take_unit", Call::TakeUnit, 0x01040201),
+        ("Station::take_unit", Call::TakeUnit, 0x01040201),
     ];
-    let mut short = Short::new(&rt, rt.alloc());
-    short.play(&rt, &calls);
-    short.close(&rt)
+    check_calls(&rt, rt.alloc(), &calls)
 }

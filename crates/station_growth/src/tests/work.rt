@@ -1,52 +1,31 @@
 //! Workers, of which each growth that is refused is told with its line or done without.
 
-ghost use Rattle.std.specs.Prelude.{◌≡◌, ◌≤◌, ◌∷◌, [], IfOk};
-ghost use Rattle.tc_station.specs.Tally.{fresh};
+ghost use Rattle.std.specs.Prelude.{◌≡◌, ◌≤◌, All, length, map};
 
 use super::*;
-use tc_station::{CloseFault, FreeGate, Job, Operator, Order, Station, WorkFault, WorkList};
+use std::sync::Wait;
+use std::thread::Threads;
+use tc_station::{FreeGate, Job, Order, WorkFault, WorkList};
 
 const UNLOCK: [u8; 6] = [0x30, 0x2a, 0x04, 0x05, 0x00, 0x00];
 
 // A job that brings an Unlock to virtual channel 1. One growth may be refused.
-fn unlock(alloc: Global, line: u32) -> Result<Job, AllocError> {
-    let octets = match Octets::copied(alloc, &UNLOCK) {
-        Ok(octets) => octets,
-        Err(_) => Octets::copied(alloc, &UNLOCK)?,
-    };
-    Ok(Job {
+fn unlock(rt: &impl Abort, alloc: Global, line: u32) -> Job {
+    Job {
         line,
-        order: Order::Bring(octets),
-    })
+        order: Order::Bring(octets_of(rt, alloc, &UNLOCK)),
+    }
 }
 
 // Two Unlocks, on lines 5 and 6. One growth may be refused.
-fn two_unlocks(alloc: Global) -> Result<WorkList, AllocError> {
-    let mut jobs = match Vec::with_capacity(alloc, 2) {
-        Ok(jobs) => jobs,
-        Err(_) => Vec::with_capacity(alloc, 2)?,
-    };
-    jobs.push(unlock(alloc, 5)?)?;
-    jobs.push(unlock(alloc, 6)?)?;
-    Ok(WorkList {
+fn two_unlocks(rt: &impl Abort, alloc: Global) -> WorkList {
+    let mut jobs = room(rt, alloc);
+    jobs.push(unlock(rt, alloc, 5)).expect(rt, "room");
+    jobs.push(unlock(rt, alloc, 6)).expect(rt, "room");
+    WorkList {
         vcid: 1,
         jobs: Items::from(jobs),
-    })
-}
-
-// A station of one channel with one operator, in a list as `work` takes it. One growth may be refused.
-fn new_crew(rt: &impl Abort, alloc: Global) -> (Station, Vec<Operator>)
-    ensures { result.1.items ≡ fresh result.0.vcids ∷ [] }
-{
-    let mut station = match Station::new(alloc, 42, list_of_settings(rt, alloc)) {
-        Ok(station) => station,
-        Err(_) => Station::new(alloc, 42, list_of_settings(rt, alloc)).expect(rt, "a station"),
-    };
-    let operators = match station.operators(1) {
-        Ok(operators) => operators,
-        Err(_) => station.operators(1).expect(rt, "operators"),
-    };
-    (station, operators)
+    }
 }
 
 // How many Unlocks were answered, by the lowest line that memory was refused for.
@@ -67,24 +46,33 @@ fn answered(rt: &(impl Abort + Print), done: Result<(), WorkFault>) -> u64
     }
 }
 
+// Does the lists, and says how many Unlocks were answered.
+fn do_lists<R: Threads + Wait + Sync + Abort + Print>(
+    rt: &R,
+    station: &Station,
+    operators: &mut Vec<Operator>,
+    lists: &[WorkList],
+) -> u64
+    requires as_many { length operators.old.items ≡ length lists.now }
+    requires ours { All (λ o. o.vcids ≡ station.now.vcids) operators.old.items }
+    ensures kept { map (λ o. o.vcids) operators.new.items ≡ map (λ o. o.vcids) operators.old.items }
+    ensures most { result ≤ 2 }
+{
+    answered(rt, station.work(rt, &FreeGate, operators, lists))
+}
+
 #[test]
 fn growth_of_work(rt: HostRuntime) {
     let alloc = rt.alloc();
-    let lists = [two_unlocks(alloc).expect(&rt, "jobs")];
+    let lists = [two_unlocks(&rt, alloc)];
     let (station, mut operators) = new_crew(&rt, alloc);
-    let first = answered(&rt, station.work(&rt, &FreeGate, &mut operators, &lists));
-    assert_eq!(rt; operators[0].count(1), Some(first));
+    let first = do_lists(&rt, &station, &mut operators, &lists);
+    check_counts(&rt, &operators, 1, first);
     // The next growth isn't refused.
-    let second = answered(&rt, station.work(&rt, &FreeGate, &mut operators, &lists));
+    let second = do_lists(&rt, &station, &mut operators, &lists);
     assert!(rt; first == 2 || second == 2);
-    assert_eq!(rt; operators[0].count(1), Some(first + second));
-    let channels = match station.close(operators) {
-        Ok(channels) => channels,
-        Err(CloseFault::NoMemory(station, operators)) => station
-            .close(operators)
-            .expect(&rt, "an answer"),
-        Err(_) => panic!(rt; "neither closed nor without memory"),
-    };
+    check_counts(&rt, &operators, 1, first + second);
+    let channels = closed(&rt, station, operators);
     assert_eq!(rt; channels.len(), 1);
     assert_eq!(rt; channels[0].journal().len() as u64, first + second);
 }

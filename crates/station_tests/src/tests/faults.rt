@@ -14,6 +14,13 @@ fn check_text(rt: &impl Abort, alloc: Global, fault: &impl std::fmt::Display, te
     );
 }
 
+// Each fault with its text.
+fn check_texts<F: std::fmt::Display>(rt: &impl Abort, alloc: Global, texts: &[(F, &str)]) {
+    for (fault, text) in texts {
+        check_text(rt, alloc, fault, text);
+    }
+}
+
 #[test]
 fn faults_of_settings_have_texts(rt: HostRuntime) {
     let alloc = rt.alloc();
@@ -54,83 +61,96 @@ fn faults_of_octets_have_texts(rt: HostRuntime) {
     check_text(&rt, alloc, &BringFault::NoMemory, "no memory")
 }
 
+const UNKNOWN: &str = "the station has no such virtual channel";
+
 #[test]
 fn faults_of_operations_have_texts(rt: HostRuntime) {
     let alloc = rt.alloc();
-    let unknown = "the station has no such virtual channel";
-    check_text(&rt, alloc, &WatcherFault::UnknownChannel, unknown);
-    check_text(&rt, alloc, &HoldingFault::UnknownChannel, unknown);
-    check_text(&rt, alloc, &HoldingFault::NoMemory, "no memory");
-    check_text(&rt, alloc, &WatcherFault::NoMemory, "no memory");
-    check_text(&rt, alloc, &ReleaseRefused::UnknownChannel, unknown);
-    check_text(&rt, alloc, &ReleaseRefused::Empty, "the buffer is empty");
-    check_text(&rt, alloc, &ReleaseRefused::NoMemory, "no memory");
-    check_text(&rt, alloc, &TakeRefused::UnknownChannel, unknown);
-    check_text(
-        &rt,
-        alloc,
-        &TakeRefused::NoQueue,
-        "no queue with that application process identifier",
-    );
-    check_text(&rt, alloc, &TakeRefused::Empty, "the queue is empty");
-    check_text(&rt, alloc, &TakeRefused::NoMemory, "no memory");
-    check_text(&rt, alloc, &TakeUnitRefused::UnknownChannel, unknown);
-    check_text(
-        &rt,
-        alloc,
-        &TakeUnitRefused::NoMap,
-        "no queue for that multiplexer access point",
-    );
-    check_text(&rt, alloc, &TakeUnitRefused::Empty, "the queue is empty");
-    check_text(&rt, alloc, &TakeUnitRefused::NoMemory, "no memory")
+    let watching = [
+        (WatcherFault::UnknownChannel, UNKNOWN),
+        (WatcherFault::NoMemory, "no memory"),
+    ];
+    check_texts(&rt, alloc, watching.as_slice());
+    let holding = [
+        (HoldingFault::UnknownChannel, UNKNOWN),
+        (HoldingFault::NoMemory, "no memory"),
+    ];
+    check_texts(&rt, alloc, holding.as_slice());
+    let releases = [
+        (ReleaseRefused::UnknownChannel, UNKNOWN),
+        (ReleaseRefused::Empty, "the buffer is empty"),
+        (ReleaseRefused::NoMemory, "no memory"),
+    ];
+    check_texts(&rt, alloc, releases.as_slice());
+    check_takes(&rt, alloc);
+}
+
+fn check_takes(rt: &impl Abort, alloc: Global) {
+    let takes = [
+        (TakeRefused::UnknownChannel, UNKNOWN),
+        (
+            TakeRefused::NoQueue,
+            "no queue with that application process identifier",
+        ),
+        (TakeRefused::Empty, "the queue is empty"),
+        (TakeRefused::NoMemory, "no memory"),
+    ];
+    check_texts(rt, alloc, takes.as_slice());
+    let units = [
+        (TakeUnitRefused::UnknownChannel, UNKNOWN),
+        (
+            TakeUnitRefused::NoMap,
+            "no queue for that multiplexer access point",
+        ),
+        (TakeUnitRefused::Empty, "the queue is empty"),
+        (TakeUnitRefused::NoMemory, "no memory"),
+    ];
+    check_texts(rt, alloc, units.as_slice());
+}
+
+fn check_close_text(rt: &impl Abort, alloc: Global, fault: CloseFault, text: &str) {
+    check_text(rt, alloc, &fault, text);
 }
 
 #[test]
 fn faults_of_operators_have_texts(rt: HostRuntime) {
     let alloc = rt.alloc();
-    check_text(
-        &rt,
-        alloc,
-        &OperatorsFault::TooMany,
-        "more than 65535 operators",
-    );
-    check_text(&rt, alloc, &OperatorsFault::NoMemory, "no memory");
+    let issuing = [
+        (OperatorsFault::TooMany, "more than 65535 operators"),
+        (OperatorsFault::NoMemory, "no memory"),
+    ];
+    check_texts(&rt, alloc, issuing.as_slice());
     let refused = WorkFault::NoMemory { line: 12 };
     check_text(&rt, alloc, &refused, "line 12: no memory");
     let Manned { station, operator } = Manned::new(&rt, alloc, &[1]);
-    let missing = CloseFault::Missing(station, vec![in alloc].expect(&rt, "an answer"));
-    check_text(&rt, alloc, &missing, "an operator is missing");
-    let mut operators = Vec::new(alloc);
-    operators.push(operator).expect(&rt, "an answer");
+    let missing = CloseFault::Missing(station, Vec::new(alloc));
+    check_close_text(&rt, alloc, missing, "an operator is missing");
+    let operators = vec![in alloc; operator].expect(&rt, "a list");
     let unbalanced = CloseFault::Unbalanced(Vec::new(alloc), operators);
-    check_text(
-        &rt,
-        alloc,
-        &unbalanced,
-        "the operators' counts and the journals differ",
-    );
-    let other = Manned::new(&rt, alloc, &[1]);
-    let no_memory = CloseFault::NoMemory(other.station, vec![in alloc].expect(&rt, "an answer"));
-    check_text(&rt, alloc, &no_memory, "no memory")
+    let text = "the operators' counts and the journals differ";
+    check_close_text(&rt, alloc, unbalanced, text);
+    let station = new_station(&rt, alloc, settings_of(&rt, alloc, &[1]));
+    let no_memory = CloseFault::NoMemory(station, Vec::new(alloc));
+    check_close_text(&rt, alloc, no_memory, "no memory")
 }
 
 fn station_in_flight(rt: &impl Abort, alloc: Global) -> FlightStation {
-    let list = settings_of(alloc, &[1]).expect(rt, "settings");
+    let list = settings_of(rt, alloc, &[1]);
     FlightStation::new(alloc, 42, list).expect(rt, "a station")
+}
+
+fn check_flight_text(rt: &impl Abort, alloc: Global, fault: FlightCloseFault, text: &str) {
+    check_text(rt, alloc, &fault, text);
 }
 
 #[test]
 fn faults_of_a_close_in_flight_have_texts(rt: HostRuntime) {
     let alloc = rt.alloc();
     let missing = FlightCloseFault::Missing(station_in_flight(&rt, alloc), Vec::new(alloc));
-    check_text(&rt, alloc, &missing, "an operator is missing");
+    check_flight_text(&rt, alloc, missing, "an operator is missing");
     let no_memory = FlightCloseFault::NoMemory(station_in_flight(&rt, alloc), Vec::new(alloc));
-    check_text(&rt, alloc, &no_memory, "no memory");
+    check_flight_text(&rt, alloc, no_memory, "no memory");
     let unbalanced = FlightCloseFault::Unbalanced(Vec::new(alloc), Vec::new(alloc));
-    check_text(
-        &rt,
-        alloc,
-        &unbalanced,
-        "the operators' counts and the numbers of events differ",
-    )
+    let text = "the operators' counts and the numbers of events differ";
+    check_flight_text(&rt, alloc, unbalanced, text)
 }

@@ -7,59 +7,66 @@ use tc_station::{
     WatcherFault,
 };
 
-fn fault_of(rt: &impl Abort, alloc: Global, scid: u16, vcids: &[u8]) -> StationFault {
-    let list = settings_of(alloc, vcids).expect(rt, "settings");
-    match Station::new(alloc, scid, list) {
+fn check_fault(rt: &impl Abort, alloc: Global, scid: u16, vcids: &[u8], expected: StationFault) {
+    match Station::new(alloc, scid, settings_of(rt, alloc, vcids)) {
         Ok(_) => panic!(rt; "a station"),
-        Err(fault) => fault,
+        Err(fault) => assert_eq!(rt; fault, expected),
     }
 }
 
 #[test]
 fn settings_that_make_no_station(rt: HostRuntime) {
     let alloc = rt.alloc();
-    assert_eq!(rt; fault_of(&rt, alloc, 1024, &[]), StationFault::BadScid);
-    assert_eq!(rt; fault_of(&rt, alloc, 1023, &[]), StationFault::NoChannel);
-    assert_eq!(rt;
-        fault_of(&rt, alloc, 42, &[64, 64]),
-        StationFault::DoubleVcid(64)
-    );
-    assert_eq!(rt;
-        fault_of(&rt, alloc, 42, &[64]),
-        StationFault::Settings(64, SettingsFault::BadVcid)
-    );
+    check_fault(&rt, alloc, 1024, &[], StationFault::BadScid);
+    check_fault(&rt, alloc, 1023, &[], StationFault::NoChannel);
+    check_fault(&rt, alloc, 42, &[64, 64], StationFault::DoubleVcid(64));
+    let bad = StationFault::Settings(64, SettingsFault::BadVcid);
+    check_fault(&rt, alloc, 42, &[64], bad);
+}
+
+// How many operators are issued.
+fn check_issued(
+    rt: &impl Abort,
+    station: &mut Station,
+    n: u16,
+    issued: Result<usize, OperatorsFault>,
+) {
+    match station.operators(n) {
+        Ok(operators) => assert!(rt; issued == Ok(operators.len())),
+        Err(fault) => assert!(rt; issued == Err(fault)),
+    }
 }
 
 #[test]
 fn more_operators_than_have_numbers(rt: HostRuntime) {
     let alloc = rt.alloc();
-    let mut station = Station::new(
-        alloc,
-        42,
-        settings_of(alloc, &[1]).expect(&rt, "an answer"),
-    ).expect(&rt, "an answer");
-    assert_eq!(rt;
-        station.operators(65535).expect(&rt, "an answer").len(),
-        65535
-    );
-    match station.operators(1) {
-        Ok(_) => panic!(&rt; "one more"),
-        Err(fault) => assert_eq!(rt; fault, OperatorsFault::TooMany),
+    let mut station = new_station(&rt, alloc, settings_of(&rt, alloc, &[1]));
+    check_issued(&rt, &mut station, 65535, Ok(65535));
+    check_issued(&rt, &mut station, 1, Err(OperatorsFault::TooMany));
+    check_issued(&rt, &mut station, 0, Ok(0));
+}
+
+fn check_unlocated(rt: &impl Abort, station: &Station, octets: &[u8], expected: LocateFault) {
+    match station.locate(octets) {
+        Ok(_) => panic!(rt; "located"),
+        Err(fault) => assert_eq!(rt; fault, expected),
     }
-    assert_eq!(rt; station.operators(0).expect(&rt, "an answer").len(), 0);
+}
+
+// These octets are a frame for virtual channel 1.
+fn check_located(rt: &impl Abort, station: &Station, octets: &[u8]) {
+    let located = station.locate(octets).expect(rt, "a place");
+    assert_eq!(rt; located.vcid, 1);
+    assert!(rt; located.frame.octets() == octets);
 }
 
 // Octets for no channel are refused alike where they are located and where they are brought.
 fn check_unplaced(rt: &(impl Wait + Abort), crew: &mut Manned, octets: &[u8], fault: LocateFault) {
-    match crew.station.locate(octets) {
-        Ok(_) => panic!(rt; "located"),
-        Err(other) => assert_eq!(rt; other, fault),
-    }
-    let brought = crew.station.bring(rt, &mut crew.operator, octets);
-    assert_eq!(rt; brought, Err(BringFault::Locate(fault)));
-    let watched = crew.station.bring_watched(rt, &mut crew.operator, octets);
-    assert_eq!(rt; watched.err(), Some(BringFault::Locate(fault)));
-    assert_eq!(rt; crew.operator.count(1), Some(0));
+    check_unlocated(rt, &crew.station, octets, fault);
+    crew.bring(rt, octets, Err(BringFault::Locate(fault)));
+    let watched = crew.bring_watched(rt, octets);
+    assert!(rt; watched.err() == Some(BringFault::Locate(fault)));
+    crew.check_count(rt, 1, Some(0));
 }
 
 #[test]
@@ -75,37 +82,19 @@ fn octets_for_no_channel(rt: HostRuntime) {
     check_unplaced(&rt, &mut crew, &OTHER_BOTH, LocateFault::OtherSpacecraft);
     let short = LocateFault::Frame(FrameFault::Short);
     check_unplaced(&rt, &mut crew, &FRAME[..3], short);
-    let located = crew.station.locate(&FRAME).expect(&rt, "an answer");
-    assert_eq!(rt; located.vcid, 1);
-    assert_eq!(rt; located.frame.octets(), FRAME.as_slice());
-}
-
-fn check_release(rt: &(impl Wait + Abort), crew: &mut Manned, vcid: u8, refused: ReleaseRefused) {
-    let answer = crew.station.release(rt, &mut crew.operator, vcid);
-    assert_eq!(rt; answer, Err(refused));
-}
-
-fn check_take(
-    rt: &(impl Wait + Abort),
-    crew: &mut Manned,
-    vcid: u8,
-    apid: u16,
-    refused: TakeRefused,
-) {
-    let answer = crew.station.take(rt, &mut crew.operator, vcid, apid);
-    assert_eq!(rt; answer.err(), Some(refused));
+    check_located(&rt, &crew.station, &FRAME);
 }
 
 #[test]
 fn operations_on_no_channel_and_on_none_there(rt: HostRuntime) {
     let mut crew = Manned::new(&rt, rt.alloc(), &[1]);
-    check_release(&rt, &mut crew, 2, ReleaseRefused::UnknownChannel);
-    check_release(&rt, &mut crew, 1, ReleaseRefused::Empty);
-    check_take(&rt, &mut crew, 2, 5, TakeRefused::UnknownChannel);
-    check_take(&rt, &mut crew, 1, 6, TakeRefused::NoQueue);
-    check_take(&rt, &mut crew, 1, 5, TakeRefused::Empty);
+    crew.release(&rt, 2, Err(ReleaseRefused::UnknownChannel));
+    crew.release(&rt, 1, Err(ReleaseRefused::Empty));
+    crew.refuse_take(&rt, 2, 5, TakeRefused::UnknownChannel);
+    crew.refuse_take(&rt, 1, 6, TakeRefused::NoQueue);
+    crew.refuse_take(&rt, 1, 5, TakeRefused::Empty);
     let unknown = crew.station.watcher(&rt, 2);
     assert_eq!(rt; unknown.err(), Some(WatcherFault::UnknownChannel));
-    assert_eq!(rt; crew.operator.count(1), Some(0));
-    assert_eq!(rt; crew.operator.count(2), None);
+    crew.check_count(&rt, 1, Some(0));
+    crew.check_count(&rt, 2, None);
 }

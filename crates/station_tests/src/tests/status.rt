@@ -1,67 +1,56 @@
+use super::steps::{Step, Watched};
 use super::*;
-use tc_station::Brought;
 
 #[test]
 fn a_watcher_that_met_its_desk_reads_the_frame(rt: HostRuntime) {
-    let settings = settings(rt.alloc(), 1).expect(&rt, "settings");
-    let mut desk = new_desk(&rt, rt.alloc(), settings);
-    let mut watcher = desk.watcher().expect(&rt, "an answer");
-    assert_eq!(rt; watcher.read(), 0x01040000);
-    assert_eq!(rt; take_in(&rt, &mut desk, &FRAME), BUFFERED);
-    desk.meet(&mut watcher);
-    assert_eq!(rt; watcher.read(), 0x01040001);
+    let steps = [
+        Step::Word(0x01040000),
+        Step::Frame(&FRAME, BUFFERED),
+        Step::Meet,
+        Step::Word(0x01040001),
+    ];
+    let mut watched = Watched::new(&rt, rt.alloc(), settings(&rt, rt.alloc(), 1));
+    watched.play(&rt, &steps);
 }
 
 // The second frame finds no room, and the release lets FARM-1 go on.
 #[test]
 fn each_answer_of_a_desk_is_published(rt: HostRuntime) {
-    let settings = settings(rt.alloc(), 1).expect(&rt, "settings");
-    let mut desk = new_desk(&rt, rt.alloc(), settings);
-    let mut watcher = desk.watcher().expect(&rt, "an answer");
-    take_in(&rt, &mut desk, &FRAME);
-    assert_eq!(rt; watcher.read(), 0x01040001);
-    take_in(&rt, &mut desk, &NEXT);
-    assert_eq!(rt; watcher.read(), 0x01041801);
-    desk.release().expect(&rt, "an answer");
-    assert_eq!(rt; watcher.read(), 0x01040801);
-    desk.take(5).expect(&rt, "an answer");
-    assert_eq!(rt; watcher.read(), 0x01040801);
+    let steps = [
+        Step::Frame(&FRAME, BUFFERED),
+        Step::Word(0x01040001),
+        Step::Frame(&NEXT, NO_ROOM),
+        Step::Word(0x01041801),
+        Step::Release(Ok(ONE)),
+        Step::Word(0x01040801),
+        Step::Take(5, Ok(&PACKET)),
+        Step::Word(0x01040801),
+    ];
+    let mut watched = Watched::new(&rt, rt.alloc(), settings(&rt, rt.alloc(), 1));
+    watched.play(&rt, &steps);
 }
 
 #[test]
 fn each_watcher_reads_its_own_channel(rt: HostRuntime) {
-    let Manned {
-        station,
-        mut operator,
-    } = two_channels(&rt, rt.alloc());
-    let mut first = station.watcher(&rt, 1).expect(&rt, "an answer");
-    let mut second = station.watcher(&rt, 2).expect(&rt, "an answer");
-    station
-        .bring(&rt, &mut operator, &FRAME)
-        .expect(&rt, "an answer");
-    assert_eq!(rt; station.watch(&mut first, NO_FLAG), 0x01040001);
-    assert_eq!(rt; station.watch(&mut second, NO_FLAG), 0x01080000);
-    let (brought, mut own) = station
-        .bring_watched(&rt, &mut operator, &NEXT)
-        .expect(&rt, "an answer");
-    let reply = BUFFERED;
-    assert_eq!(rt; brought, Brought { vcid: 1, reply });
-    assert_eq!(rt; own.read(), 0x01040002);
-    assert_eq!(rt; operator.count(1), Some(2));
-    assert_eq!(rt; operator.count(2), Some(0));
+    let mut crew = two_channels(&rt, rt.alloc());
+    let mut first = crew.watcher(&rt, 1);
+    let mut second = crew.watcher(&rt, 2);
+    crew.bring(&rt, &FRAME, Ok(BROUGHT));
+    crew.watch(&rt, &mut first, NO_FLAG, 0x01040001);
+    crew.watch(&rt, &mut second, NO_FLAG, 0x01080000);
+    crew.check_watched(&rt, &NEXT, BROUGHT, 0x01040002);
+    crew.check_count(&rt, 1, Some(2));
+    crew.check_count(&rt, 2, Some(0));
 }
 
 #[test]
 fn link_flags_are_those_of_the_reader(rt: HostRuntime) {
-    let Manned {
-        station,
-        operator: _,
-    } = Manned::new(&rt, rt.alloc(), &[1]);
-    let mut watcher = station.watcher(&rt, 1).expect(&rt, "an answer");
+    let crew = Manned::new(&rt, rt.alloc(), &[1]);
+    let mut watcher = crew.watcher(&rt, 1);
     let both = Link {
         no_rf: true,
         no_bit_lock: true,
     };
-    assert_eq!(rt; station.watch(&mut watcher, both), 0x0104c000);
-    assert_eq!(rt; station.watch(&mut watcher, NO_FLAG), 0x01040000);
+    crew.watch(&rt, &mut watcher, both, 0x0104c000);
+    crew.watch(&rt, &mut watcher, NO_FLAG, 0x01040000);
 }
