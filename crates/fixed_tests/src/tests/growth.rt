@@ -1,0 +1,36 @@
+//! The only call that asks for memory is made until it has it; no other one is ever refused any.
+
+use super::Step::{DropUnit, Frame, Release, Take, TakeUnit};
+use super::*;
+
+// A unit of MAP 3 in a Type-BD frame.
+const WHOLE: [u8; 8] = [0x20, 0x2a, 0x04, 0x07, 0x00, 0xc3, 0xaa, 0xbb];
+
+static EACH_CALL: [Step<'static>; 8] = [
+    Frame(&FIRST, BUFFERED),
+    Frame(&BYPASSED, DELIVERED),
+    Frame(&WHOLE, DELIVERED),
+    Frame(&WHOLE, DELIVERED),
+    Release(Ok(ONE)),
+    Take(5, 16, Ok(&PACKET)),
+    TakeUnit(3, 16, Ok(&[0xaa, 0xbb])),
+    DropUnit(3, true),
+];
+
+// A channel of these settings, where one growth may be refused.
+fn made(rt: &impl Abort, alloc: Global) -> Result<Run, SettingsFault> {
+    Run::new(alloc, settings(alloc).expect(rt, "settings"))
+}
+
+#[test]
+fn growth_of_a_fixed_channel(rt: HostRuntime) {
+    let mut run = match made(&rt, rt.alloc()) {
+        Ok(run) => run,
+        Err(fault) => {
+            let _ = println!(&rt; "refused: FixedChannel::new");
+            assert_eq!(&rt; fault, SettingsFault::NoMemory);
+            made(&rt, rt.alloc()).expect(&rt, "a channel")
+        }
+    };
+    run.play(&rt, &EACH_CALL)
+}

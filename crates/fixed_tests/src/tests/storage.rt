@@ -1,0 +1,45 @@
+//! How many octets are asked for, worked out by hand from the sizes of x86-64: the own words of a room have 32 octets where it is
+//! free and 32 where it is taken, those of a stream 40, those of a queue 72.
+
+use super::*;
+use tc_fixed::storage;
+
+// Two queues of 4 packets and a buffer of 4, with segment headers or without.
+fn two_queues(alloc: Global, segmented: bool) -> Result<Settings, AllocError> {
+    let queues = [
+        QueueSetting {
+            apid: 5,
+            capacity: 4,
+        },
+        QueueSetting {
+            apid: 6,
+            capacity: 4,
+        },
+    ];
+    Ok(Settings {
+        vcid: 1,
+        width: 10,
+        buffer: 4,
+        first: 0,
+        segmented,
+        queues: listed(alloc, &queues)?,
+        maps: listed(alloc, &[])?,
+    })
+}
+
+// Without segment headers 4 times 64 + 1,019 for the buffer, 2 times 72 for the queues, and 8 times 64 + 1,019 for packets. With them
+// packets have 65,542 octets, and there are 128 times 40 + 65,542 for the streams.
+#[test]
+fn octets_of_two_queues(rt: HostRuntime) {
+    let plain = two_queues(rt.alloc(), false).expect(&rt, "settings");
+    assert_eq!(&rt; storage(&plain), 13_140);
+    let segmented = two_queues(rt.alloc(), true).expect(&rt, "settings");
+    assert_eq!(&rt; storage(&segmented), 8_923_820);
+}
+
+// The queue of a MAP has the words of any other: a buffer of 1, two queues, and four items.
+#[test]
+fn octets_of_a_chosen_map(rt: HostRuntime) {
+    let settings = settings(rt.alloc()).expect(&rt, "settings");
+    assert_eq!(&rt; storage(&settings), 8_658_147);
+}

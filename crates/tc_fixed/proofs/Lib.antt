@@ -1,0 +1,4 @@
+pub mod Sizes
+pub mod Ways
+pub mod Inside
+pub mod Taking

@@ -1,0 +1,4 @@
+pub mod Delivering
+pub mod Channel
+pub mod Taking
+pub mod Storage

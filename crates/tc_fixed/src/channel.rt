@@ -1,0 +1,394 @@
+//! A channel that asks for memory where it is made, and never after.
+
+ghost use Rattle.std.specs.Prelude.{List, ℕ, ◌≡◌, [], ◌<◌, ◌≤◌, ◌↔◌, ◌∷◌, ◌++◌, ◌^◌, ◌-◌, length, min, IfOk, OnOk, OnErr, IsErrOf, MatchResult, IsSome, IsTrue, Some, None, Option, option_map, false};
+ghost use Rattle.tc_channel.specs.declared.event.Event.TheVariants as Event;
+ghost use Rattle.tc_channel.specs.Settings.{IsAllowed, IsRefusal};
+ghost use Rattle.tc_channel.specs.Journal.{with_event};
+ghost use Rattle.tc_channel.specs.Run.{run, IsLawful};
+ghost use Rattle.tc_channel.specs.Reply.{frame_reply, release_reply, take_reply, unit_reply, waiting_packets, waiting_units, buffered_fields, clcw as clcw_of};
+ghost use Rattle.tc_channel.specs.Era.{CountsUpInItsEra};
+ghost use Rattle.tc_channel.specs.Channel.{Follows, FollowsKind, Ends, EndsAtOnce, buffered_of, with_field};
+ghost use Rattle.tc_channel.specs.Admission.{map_of};
+ghost use Rattle.tc_channel.specs.Memory.{largest_item, largest_field};
+ghost use Rattle.tc_channel.specs.HeldQueues.{AreDistinct, keys_of};
+ghost use Rattle.tc_rooms.specs.Runs.{open_runs};
+ghost use Rattle.tc_fixed.specs.Delivering.{rings_in, room_sizes, IsDelivered};
+ghost use Rattle.tc_fixed.specs.Channel.{AreLargest, AreAll};
+ghost use Rattle.tc_fixed.specs.Taking.{IsOver, IsLaid};
+
+use crate::faults::{NoUnitTaken, NothingReleased, NothingTaken};
+use crate::noted::Noted;
+use crate::past::Past;
+use crate::queues::{
+    FixedQueue, deliver, deliver_nothing, drop_from, empty_queues, empty_unit_queues, find,
+    oldest_with, take_from,
+};
+use std::alloc::{AllocError, Global};
+use std::marker::Model;
+use std::snapshot::Snapshot;
+use tc_channel::{Delivery, FrameReply, LentEvent, Settings, SettingsFault, Unkept};
+use tc_link::{Act, Arrival, Farm, Frame, Kind, Link, Report, Window, clcw_word, kind};
+use tc_packet::{LARGEST_UNIT, Service, read_segment};
+use tc_rooms::{Ended, FixedReassembler, Slots};
+
+/// The most octets of a data field: a frame has 1,024 at most (CCSDS 232.0-B, 4.1.2.7), and 5 of them are its primary header.
+pub(crate) const LARGEST_FIELD: usize = 1_019;
+
+/// One virtual channel, as a [`ChannelWith`](tc_channel::ChannelWith): FARM-1, the buffer of accepted data fields, reassembly, the
+/// packet queues, the unit queues of chosen MAPs, and the journal of all that it answered. It has a room for each data field,
+/// packet, unit and open run that it may ever hold, and only `new` asks for memory. So no other call allocates, and none can be
+/// refused for want of memory. A call that is refused leaves the channel as it was.
+#[derive(Drop)]
+pub struct FixedChannelWith<N: Noted> {
+    settings: Settings,
+    farm: Farm,
+    fields: Slots,
+    reassembler: FixedReassembler,
+    queues: Vec<FixedQueue>,
+    units: Vec<FixedQueue>,
+    journal: N,
+}
+
+/// Such a channel in flight: its journal is read by clauses alone, and takes no memory.
+pub type FixedChannel = FixedChannelWith<Unkept>;
+
+impl<N: Noted> Model for FixedChannelWith<N> {
+    ghost use Rattle.tc_channel.specs.Journal.{History};
+    ghost use Rattle.tc_fixed.specs.Channel.{HoldsInRooms};
+
+    ghost Value = { History };
+
+    ghost view = { λ c. record { settings = c.settings; journal = N.noted c.journal } };
+
+    ghost invariant = { λ c. HoldsInRooms c.settings (N.noted c.journal) (record { farm = c.farm; fields = c.fields; store = c.reassembler; queues = c.queues.items; units = c.units.items }) };
+}
+
+impl<N: Noted> FixedChannelWith<N> {
+    /// A channel that starts: in S1, with nothing in it and an empty journal. All memory that it ever has is asked for here:
+    /// [`storage`](crate::storage) octets.
+    pub fn new(alloc: Global, settings: Settings) -> Result<FixedChannelWith<N>, SettingsFault>
+        ensures settings { IfOk result (λ channel. channel.settings ≡ settings) }
+        ensures journal { IfOk result (λ channel. channel.journal ≡ []) }
+        ensures fault { MatchResult result (λ _. IsAllowed settings) (IsRefusal settings) }
+    {
+        settings.check()?;
+        match start(alloc, settings) {
+            Ok(channel) => Ok(channel),
+            Err(_) => Err(SettingsFault::NoMemory),
+        }
+    }
+
+    /// Takes a frame in, of whatever virtual channel. An accepted AD data field is copied into the buffer; of an accepted BD data
+    /// field the unit that it ends is queued at once: whole where its MAP is chosen, else its packets, each copied into its room.
+    pub fn frame(&mut self, frame: &Frame) -> FrameReply
+        ensures allowed { IsAllowed self.old.settings }
+        ensures lawful { IsLawful self.old.settings self.old.journal }
+        ensures reply { result ≡ frame_reply self.old.settings self.old.journal frame.now }
+        ensures done { self.new ≡ with_event self.old (Event.Frame frame.now) }
+    {
+        let kind = kind(frame);
+        let room = self.fields.len() < self.fields.capacity();
+        let act = self.farm.step(Arrival::Frame { kind, room });
+        let field = frame.field();
+        let event = LentEvent::Frame(frame.octets());
+        let delivery = pass_bypass(
+            &mut self.reassembler,
+            &mut self.queues,
+            &mut self.units,
+            kind,
+            field,
+        );
+        put_field(&mut self.fields, &act, field);
+        self.journal.note(&event);
+        FrameReply { act, delivery }
+    }
+
+    /// Lets the oldest data field out of the buffer, and queues the unit that it ends: whole where its MAP is chosen, else its
+    /// packets.
+    pub fn release(&mut self) -> Result<Delivery, NothingReleased>
+        ensures allowed { IsAllowed self.old.settings }
+        ensures lawful { IsLawful self.old.settings self.old.journal }
+        ensures empty { IsErrOf result NothingReleased.Empty ↔ (buffered_fields self.old.settings self.old.journal ≡ []) }
+        ensures reply { IfOk result (λ delivery. delivery ≡ release_reply self.old.settings self.old.journal) }
+        ensures done { OnOk result (self.new ≡ with_event self.old Event.Release) }
+        ensures refused { OnErr result (self.new ≡ self.old) }
+    {
+        let Some(field) = self.fields.front() else {
+            return Err(NothingReleased::Empty);
+        };
+        let delivery = pass(
+            &mut self.reassembler,
+            &mut self.queues,
+            &mut self.units,
+            Service::Ad,
+            field,
+        );
+        self.fields.pop_front();
+        self.farm.step(Arrival::Release);
+        self.journal.note(&LentEvent::Release);
+        Ok(delivery)
+    }
+
+    /// Takes the oldest packet out of the queue with this APID: copies it to the front of these octets, and says how many it has.
+    pub fn take(&mut self, apid: u16, into: &mut [u8]) -> Result<usize, NothingTaken>
+        ensures allowed { IsAllowed self.old.settings }
+        ensures lawful { IsLawful self.old.settings self.old.journal }
+        ensures no_queue { IsErrOf result NothingTaken.NoQueue ↔ (waiting_packets self.old.settings self.old.journal apid ≡ None) }
+        ensures empty { IsErrOf result NothingTaken.Empty ↔ (waiting_packets self.old.settings self.old.journal apid ≡ Some []) }
+        ensures no_room { IsErrOf result NothingTaken.NoRoom ↔ IsOver (length into.old) (take_reply self.old.settings self.old.journal apid) }
+        ensures reply { IfOk result (λ count. IsLaid (take_reply self.old.settings self.old.journal apid) count into.old into.new) }
+        ensures done { OnOk result (self.new ≡ with_event self.old (Event.Take apid)) }
+        ensures refused { OnErr result ((self.new ≡ self.old) × (into.new ≡ into.old)) }
+    {
+        let count = take_from(&mut self.queues, apid, into)?;
+        self.journal.note(&LentEvent::Take(apid));
+        Ok(count)
+    }
+
+    /// Takes the oldest unit out of the queue of this chosen MAP: copies it to the front of these octets, and says how many it has.
+    pub fn take_unit(&mut self, map: u8, into: &mut [u8]) -> Result<usize, NoUnitTaken>
+        ensures allowed { IsAllowed self.old.settings }
+        ensures lawful { IsLawful self.old.settings self.old.journal }
+        ensures no_map { IsErrOf result NoUnitTaken.NoMap ↔ (waiting_units self.old.settings self.old.journal map ≡ None) }
+        ensures empty { IsErrOf result NoUnitTaken.Empty ↔ (waiting_units self.old.settings self.old.journal map ≡ Some []) }
+        ensures no_room { IsErrOf result NoUnitTaken.NoRoom ↔ IsOver (length into.old) (unit_reply self.old.settings self.old.journal map) }
+        ensures reply { IfOk result (λ count. IsLaid (unit_reply self.old.settings self.old.journal map) count into.old into.new) }
+        ensures done { OnOk result (self.new ≡ with_event self.old (Event.TakeUnit map)) }
+        ensures refused { OnErr result ((self.new ≡ self.old) × (into.new ≡ into.old)) }
+    {
+        let count = take_from(&mut self.units, map as u16, into)?;
+        self.journal.note(&LentEvent::TakeUnit(map));
+        Ok(count)
+    }
+
+    /// Takes the oldest packet out of the queue with this APID and drops it, where one waits, and says whether it did.
+    /// [`oldest`](FixedChannelWith::oldest) lends it before.
+    pub fn drop_oldest(&mut self, apid: u16) -> bool
+        ensures allowed { IsAllowed self.old.settings }
+        ensures lawful { IsLawful self.old.settings self.old.journal }
+        ensures waits { IsTrue result ↔ IsSome (take_reply self.old.settings self.old.journal apid) }
+        ensures done { IsTrue result → self.new ≡ with_event self.old (Event.Take apid) }
+        ensures refused { result ≡ false → self.new ≡ self.old }
+    {
+        if !drop_from(&mut self.queues, apid) {
+            return false;
+        }
+        self.journal.note(&LentEvent::Take(apid));
+        true
+    }
+
+    /// Takes the oldest unit out of the queue of this chosen MAP and drops it, where one waits, and says whether it did.
+    /// [`oldest_unit`](FixedChannelWith::oldest_unit) lends it before.
+    pub fn drop_oldest_unit(&mut self, map: u8) -> bool
+        ensures allowed { IsAllowed self.old.settings }
+        ensures lawful { IsLawful self.old.settings self.old.journal }
+        ensures waits { IsTrue result ↔ IsSome (unit_reply self.old.settings self.old.journal map) }
+        ensures done { IsTrue result → self.new ≡ with_event self.old (Event.TakeUnit map) }
+        ensures refused { result ≡ false → self.new ≡ self.old }
+    {
+        if !drop_from(&mut self.units, map as u16) {
+            return false;
+        }
+        self.journal.note(&LentEvent::TakeUnit(map));
+        true
+    }
+
+    /// The octets of the packet that [`take`](FixedChannelWith::take) with this APID gives next, lent. None where there is no such
+    /// queue, and where it is empty. It is no event.
+    pub fn oldest(&self, apid: u16) -> Option<&[u8]>
+        ensures packet { option_map (λ octets. octets.now) result ≡ take_reply self.now.settings self.now.journal apid }
+        ensures allowed { IsAllowed self.now.settings }
+        ensures lawful { IsLawful self.now.settings self.now.journal }
+    {
+        oldest_with(&self.queues, apid)
+    }
+
+    /// The octets of the unit that [`take_unit`](FixedChannelWith::take_unit) with this MAP gives next, lent. None where the MAP
+    /// isn't chosen, and where its queue is empty. It is no event.
+    pub fn oldest_unit(&self, map: u8) -> Option<&[u8]>
+        ensures unit { option_map (λ octets. octets.now) result ≡ unit_reply self.now.settings self.now.journal map }
+        ensures allowed { IsAllowed self.now.settings }
+        ensures lawful { IsLawful self.now.settings self.now.journal }
+    {
+        oldest_with(&self.units, map as u16)
+    }
+
+    /// FARM-1's components.
+    pub fn report(&self) -> Report
+        ensures report { result ≡ (run self.now.settings self.now.journal).report }
+        ensures farm_b { result.farm_b < 4 }
+        ensures allowed { IsAllowed self.now.settings }
+        ensures lawful { IsLawful self.now.settings self.now.journal }
+        ensures era { CountsUpInItsEra self.now.settings self.now.journal }
+    {
+        self.farm.report()
+    }
+
+    /// The communications link control word.
+    pub fn clcw(&self, link: Link) -> u32
+        ensures word { result ≡ clcw_of self.now.settings self.now.journal link }
+        ensures allowed { IsAllowed self.now.settings }
+        ensures lawful { IsLawful self.now.settings self.now.journal }
+    {
+        clcw_word(&self.farm.report(), self.settings.vcid, link)
+    }
+
+    /// How many data fields wait in the buffer.
+    pub fn buffered(&self) -> usize
+        ensures count { result ≡ length (buffered_fields self.now.settings self.now.journal) }
+        ensures allowed { IsAllowed self.now.settings }
+        ensures lawful { IsLawful self.now.settings self.now.journal }
+    {
+        self.fields.len()
+    }
+
+    /// How many packets wait in the queue with this APID, if there is one.
+    pub fn queued(&self, apid: u16) -> Option<usize>
+        ensures count { result ≡ option_map length (waiting_packets self.now.settings self.now.journal apid) }
+        ensures allowed { IsAllowed self.now.settings }
+        ensures lawful { IsLawful self.now.settings self.now.journal }
+    {
+        Some(find(&self.queues, apid)?.slots.len())
+    }
+
+    /// How many units wait in the queue of this MAP, if it is chosen.
+    pub fn units(&self, map: u8) -> Option<usize>
+        ensures count { result ≡ option_map length (waiting_units self.now.settings self.now.journal map) }
+        ensures allowed { IsAllowed self.now.settings }
+        ensures lawful { IsLawful self.now.settings self.now.journal }
+    {
+        Some(find(&self.units, map as u16)?.slots.len())
+    }
+
+    /// How many events there are in the journal; where they are more than 2^64 - 1, that number.
+    pub fn events(&self) -> u64
+        ensures count { result ≡ min (length self.now.journal) (2 ^ 64 - 1) }
+        ensures allowed { IsAllowed self.now.settings }
+        ensures lawful { IsLawful self.now.settings self.now.journal }
+    {
+        self.journal.count()
+    }
+
+    /// What clauses see of the channel at this moment. It takes no memory.
+    pub fn past(&self) -> Past
+        ensures past { result ≡ self.now }
+        ensures allowed { IsAllowed self.now.settings }
+        ensures lawful { IsLawful self.now.settings self.now.journal }
+    {
+        Past {
+            settings: Snapshot::of(&self.settings),
+            journal: self.journal.seen(),
+        }
+    }
+
+    /// The settings that the channel was made by.
+    pub fn settings(&self) -> &Settings
+        ensures settings { result.now ≡ self.now.settings }
+        ensures allowed { IsAllowed self.now.settings }
+        ensures lawful { IsLawful self.now.settings self.now.journal }
+    {
+        &self.settings
+    }
+}
+
+// A channel by settings that were checked.
+fn start<N: Noted>(alloc: Global, settings: Settings) -> Result<FixedChannelWith<N>, AllocError>
+    requires { IsAllowed settings }
+    ensures settings { IfOk result (λ channel. channel.settings ≡ settings) }
+    ensures journal { IfOk result (λ channel. channel.journal ≡ []) }
+{
+    let window = Window::new(settings.width).unwrap();
+    let largest = if settings.segmented {
+        LARGEST_UNIT
+    } else {
+        LARGEST_FIELD
+    };
+    let fields = Slots::with_capacity(alloc, settings.buffer as usize, LARGEST_FIELD)?;
+    let reassembler = FixedReassembler::new(alloc, settings.segmented, largest)?;
+    let queues = empty_queues(alloc, settings.queues.as_slice(), largest)?;
+    let units = empty_unit_queues(alloc, settings.maps.as_slice(), largest)?;
+    Ok(FixedChannelWith {
+        farm: Farm::new(window, settings.first),
+        settings,
+        fields,
+        reassembler,
+        queues,
+        units,
+        journal: N::start(alloc),
+    })
+}
+
+// Copies the data field of an accepted AD frame, for which there is room, to the buffer's end.
+fn put_field(fields: &mut Slots, act: &Act, field: &[u8])
+    requires field { length field.now ≤ fields.old.size }
+    requires room { IsSome (buffered_of act.now field.now) → length fields.old.ring.items < fields.old.ring.capacity }
+    ensures items { fields.new.ring.items ≡ with_field fields.old.ring.items (buffered_of act.now field.now) }
+    ensures capacity { fields.new.ring.capacity ≡ fields.old.ring.capacity }
+    ensures size { fields.new.size ≡ fields.old.size }
+{
+    if act.event == 1 && act.accepted {
+        fields.push_back(field);
+    }
+}
+
+// Passes a data field to reassembly, and delivers the unit that it ends.
+fn pass(
+    reassembler: &mut FixedReassembler,
+    queues: &mut Vec<FixedQueue>,
+    units: &mut Vec<FixedQueue>,
+    service: Service,
+    field: &[u8],
+) -> Delivery
+    requires field { 0 < length field.now }
+    requires within { length field.now ≤ largest_field }
+    requires limits { AreLargest reassembler.old }
+    requires distinct { AreDistinct (keys_of (rings_in queues.old.items)) }
+    requires units_distinct { AreDistinct (keys_of (rings_in units.old.items)) }
+    requires sizes { AreAll (largest_item reassembler.old.segmented) (room_sizes queues.old.items) }
+    requires unit_sizes { AreAll (largest_item reassembler.old.segmented) (room_sizes units.old.items) }
+    ensures follows { Follows (open_runs reassembler.old) (open_runs reassembler.new) service field.now }
+    ensures limits { AreLargest reassembler.new }
+    ensures segmented { reassembler.new.segmented ≡ reassembler.old.segmented }
+    ensures delivered { (unit : Option (List ℕ)) × Ends (open_runs reassembler.old) service field.now unit
+        × IsDelivered (map_of field.now) unit (rings_in queues.old.items) (rings_in queues.new.items) (rings_in units.old.items) (rings_in units.new.items) result }
+    ensures sizes { room_sizes queues.new.items ≡ room_sizes queues.old.items }
+    ensures unit_sizes { room_sizes units.new.items ≡ room_sizes units.old.items }
+{
+    let map = read_segment(field[0]).map;
+    match reassembler.pass(service, field) {
+        Ended::Nothing => deliver_nothing(),
+        Ended::Lying(from) => deliver(queues, units, map, &field[from..]),
+        Ended::Joined(place) => deliver(queues, units, map, reassembler.joined(place)),
+    }
+}
+
+// Passes the field of a BD frame on at once, and no other.
+fn pass_bypass(
+    reassembler: &mut FixedReassembler,
+    queues: &mut Vec<FixedQueue>,
+    units: &mut Vec<FixedQueue>,
+    kind: Kind,
+    field: &[u8],
+) -> Delivery
+    requires field { 0 < length field.now }
+    requires within { length field.now ≤ largest_field }
+    requires limits { AreLargest reassembler.old }
+    requires distinct { AreDistinct (keys_of (rings_in queues.old.items)) }
+    requires units_distinct { AreDistinct (keys_of (rings_in units.old.items)) }
+    requires sizes { AreAll (largest_item reassembler.old.segmented) (room_sizes queues.old.items) }
+    requires unit_sizes { AreAll (largest_item reassembler.old.segmented) (room_sizes units.old.items) }
+    ensures follows { FollowsKind kind (open_runs reassembler.old) (open_runs reassembler.new) field.now }
+    ensures limits { AreLargest reassembler.new }
+    ensures segmented { reassembler.new.segmented ≡ reassembler.old.segmented }
+    ensures delivered { (unit : Option (List ℕ)) × EndsAtOnce kind (open_runs reassembler.old) field.now unit
+        × IsDelivered (map_of field.now) unit (rings_in queues.old.items) (rings_in queues.new.items) (rings_in units.old.items) (rings_in units.new.items) result }
+    ensures sizes { room_sizes queues.new.items ≡ room_sizes queues.old.items }
+    ensures unit_sizes { room_sizes units.new.items ≡ room_sizes units.old.items }
+{
+    match kind {
+        Kind::Bd => pass(reassembler, queues, units, Service::Bd, field),
+        Kind::Ad(_) => deliver_nothing(),
+        Kind::Bc(_) => deliver_nothing(),
+        Kind::Invalid => deliver_nothing(),
+    }
+}

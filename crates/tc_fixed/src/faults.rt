@@ -1,0 +1,51 @@
+//! Why a call gives nothing. None of these is want of memory.
+
+ghost use Rattle.std.specs.Prelude.{◌≡◌};
+
+use thiserror::Error;
+
+/// Why no data field was released.
+#[derive(Clone, Copy, Debug, PartialEq, Eq, Error)]
+pub enum NothingReleased {
+    #[error("the buffer is empty")]
+    Empty,
+}
+
+/// Why no packet was taken.
+#[derive(Clone, Copy, Debug, PartialEq, Eq, Error)]
+pub enum NothingTaken {
+    #[error("no queue with that application process identifier")]
+    NoQueue,
+    #[error("the queue is empty")]
+    Empty,
+    /// The packet has more octets than the place that it would be copied to. It still waits.
+    #[error("no room for the packet")]
+    NoRoom,
+}
+
+/// Why no unit was taken.
+#[derive(Clone, Copy, Debug, PartialEq, Eq, Error)]
+pub enum NoUnitTaken {
+    #[error("no queue for that multiplexer access point")]
+    NoMap,
+    #[error("the queue is empty")]
+    Empty,
+    /// The unit has more octets than the place that it would be copied to. It still waits.
+    #[error("no room for the unit")]
+    NoRoom,
+}
+
+/// The same fault, of the unit queue of a MAP.
+impl From<NothingTaken> for NoUnitTaken {
+    ghost use Rattle.tc_fixed.specs.Taking.{unit_fault_of};
+
+    ghost from_gives = { λ fault e. e ≡ unit_fault_of fault };
+
+    fn from(fault: NothingTaken) -> NoUnitTaken {
+        match fault {
+            NothingTaken::NoQueue => NoUnitTaken::NoMap,
+            NothingTaken::Empty => NoUnitTaken::Empty,
+            NothingTaken::NoRoom => NoUnitTaken::NoRoom,
+        }
+    }
+}

@@ -1,0 +1,76 @@
+-- Runs and units within a limit that is not over the largest unit.
+use Rattle.std.proofs.Common.{◌≡◌, ℕ, ◌<◌, ◌≤◌, Bool, true, false, leb, List, ◌++◌, ◌-◌, length, Option, Some, None, refl, sym, ◌∙◌, arith}
+use Rattle.std.proofs.lemmas.Bool.{le-leb, lt-leb, leb-true, leb-false}
+use Rattle.std.proofs.lemmas.List.{length-append}
+use Rattle.tc_packet.specs.declared.segment.Part.{Part}
+use Rattle.tc_packet.specs.declared.segment.Part.TheVariants.{First, Continuing, Last, Unsegmented}
+use Rattle.tc_packet.specs.Reassembly.{IsWithinLimit, bounded, extended, ended_by}
+use Rattle.tc_packet.specs.Runs.{next_run}
+use Rattle.tc_rooms.specs.Runs.{at_most, IsAtMost}
+
+pub at_most-some : (n : ℕ) (octets : List ℕ) → length octets ≤ n → at_most n (Some octets) ≡ Some octets
+at_most-some n octets h = rw (le-leb (length octets) n h) refl
+
+pub at_most-none : (n : ℕ) (octets : List ℕ) → n < length octets → at_most n (Some octets) ≡ None
+at_most-none n octets h = rw (lt-leb (length octets) n h) refl
+
+-- no unit over a limit is left by it
+pub at_most-within : (n : ℕ) (o : Option (List ℕ)) → IsAtMost n (at_most n o)
+at_most-within n None = tt
+at_most-within n (Some octets) = by (leb (length octets) n) refl where
+  by : (t : Bool) → leb (length octets) n ≡ t → IsAtMost n (at_most n (Some octets))
+  by true h = rw h (leb-true (length octets) n h)
+  by false h = rw h tt
+
+-- the bound of the largest unit says nothing more than a limit within it
+pub at_most-bounded : (n : ℕ) (octets : List ℕ) → n ≤ 65542 → at_most n (bounded octets) ≡ at_most n (Some octets)
+at_most-bounded n octets small = by (leb (length octets) 65542) refl where
+  by : (t : Bool) → leb (length octets) 65542 ≡ t → at_most n (bounded octets) ≡ at_most n (Some octets)
+  by true h = rw h refl
+  by false h = let long = leb-false (length octets) 65542 h in rw h (sym (at_most-none n octets (omega arith)))
+
+-- what is over a limit stays over it
+at_most-extended : (n : ℕ) (run : Option (List ℕ)) (body : List ℕ) → n ≤ 65542 → at_most n (extended (at_most n run) body) ≡ at_most n (extended run body)
+at_most-extended n None body small = refl
+at_most-extended n (Some octets) body small = by (leb (length octets) n) refl where
+  by : (t : Bool) → leb (length octets) n ≡ t → at_most n (extended (at_most n (Some octets)) body) ≡ at_most n (extended (Some octets) body)
+  by true h = rw h refl
+  by false h =
+      let long = leb-false (length octets) n h in
+      let l = length-append octets body in
+      rw h (sym (at_most-bounded n (octets ++ body) small ∙ at_most-none n (octets ++ body) (omega arith)))
+
+-- a run that was left by its limit goes on as it would without
+pub next-at_most : (n : ℕ) (part : Part) (run : Option (List ℕ)) (body : List ℕ) → n ≤ 65542 → at_most n (next_run part (at_most n run) body) ≡ at_most n (next_run part run body)
+next-at_most n First run body small = refl
+next-at_most n Continuing run body small = at_most-extended n run body small
+next-at_most n Last run body small = refl
+next-at_most n Unsegmented run body small = refl
+
+pub ended-at_most : (n : ℕ) (part : Part) (run : Option (List ℕ)) (body : List ℕ) → n ≤ 65542 → at_most n (ended_by part (at_most n run) body) ≡ at_most n (ended_by part run body)
+ended-at_most n First run body small = refl
+ended-at_most n Continuing run body small = refl
+ended-at_most n Last run body small = at_most-extended n run body small
+ended-at_most n Unsegmented run body small = refl
+
+-- the largest unit is a limit that leaves what is within it
+pub at_most-largest : (o : Option (List ℕ)) → IsWithinLimit o → at_most 65542 o ≡ o
+at_most-largest None within = refl
+at_most-largest (Some octets) within = at_most-some 65542 octets within
+
+-- one more body in a room
+pub grown : (n : ℕ) (octets body : List ℕ) → n ≤ 65542 → length octets ≤ n → length body ≤ n - length octets → at_most n (extended (Some octets) body) ≡ Some (octets ++ body)
+grown n octets body small within fits =
+    let l = length-append octets body in
+    at_most-bounded n (octets ++ body) small ∙ at_most-some n (octets ++ body) (omega arith)
+
+pub overgrown : (n : ℕ) (octets body : List ℕ) → n ≤ 65542 → length octets ≤ n → n - length octets < length body → at_most n (extended (Some octets) body) ≡ None
+overgrown n octets body small within long =
+    let l = length-append octets body in
+    at_most-bounded n (octets ++ body) small ∙ at_most-none n (octets ++ body) (omega arith)
+
+pub opened : (n : ℕ) (body : List ℕ) → n ≤ 65542 → length body ≤ n → at_most n (bounded body) ≡ Some body
+opened n body small fits = at_most-bounded n body small ∙ at_most-some n body fits
+
+pub refused : (n : ℕ) (body : List ℕ) → n ≤ 65542 → n < length body → at_most n (bounded body) ≡ None
+refused n body small long = at_most-bounded n body small ∙ at_most-none n body long

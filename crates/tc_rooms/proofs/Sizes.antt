@@ -1,0 +1,64 @@
+-- Rooms of one size.
+use Rattle.std.proofs.Common.{◌≡◌, ℕ, zero, suc, ◌+◌, ◌≤◌, ◌<◌, ◌-◌, length, List, [], ◌∷◌, ◌++◌, drop, map, replicate, ap, ◌∙◌, Option, Some, None, arith}
+use Rattle.std.specs.Prelude.{slice_get}
+use Rattle.std.specs.List.{AllByRecursion}
+use Rattle.std.proofs.lemmas.List.{map_push, length-append, replicate-append-replicate}
+use Rattle.circular_buffer.specs.Buffer.{Buffer, buffer, keep_last}
+use Rattle.tc_rooms.specs.Rooms.{Laid, HaveSize, AreSlots}
+use Rattle.tc_rooms.specs.Runs.{open_in, sizes_of, AreWithin}
+use Rattle.tc_rooms.specs.declared.runs.Run.{Run}
+
+pub size-push : (n : ℕ) (rooms : List Laid) (room : Laid) → HaveSize n rooms → room.size ≡ n → HaveSize n (rooms ++ room ∷ [])
+size-push n [] room all one = (one, tt)
+size-push n (r ∷ rooms) room all one = (all.0, size-push n rooms room all.1 one)
+
+pub size-drop : (k n : ℕ) (rooms : List Laid) → HaveSize n rooms → HaveSize n (drop k rooms)
+size-drop zero n rooms all = all
+size-drop (suc k) n [] all = all
+size-drop (suc k) n (r ∷ rooms) all = size-drop k n rooms all.1
+
+-- all but the last, and the last
+pub size-before : (n : ℕ) (rooms : List Laid) (room : Laid) → HaveSize n (rooms ++ room ∷ []) → HaveSize n rooms × (room.size ≡ n)
+size-before n [] room all = (tt, all.0)
+size-before n (r ∷ rooms) room all = let later = size-before n rooms room all.1 in ((all.0, later.0), later.1)
+
+-- one more room with no run in it
+pub closed-push : (runs : List Run) (run : Run) (n : ℕ) → map open_in runs ≡ replicate n None → open_in run ≡ None → map open_in (runs ++ run ∷ []) ≡ replicate (n + 1) None
+closed-push runs run n are closed = map_push open_in runs run ∙ ap (λ (x : List (Option (List ℕ))). x ++ open_in run ∷ []) are ∙ ap (λ (x : Option (List ℕ)). replicate n None ++ x ∷ []) closed ∙ replicate-append-replicate n 1 None
+
+pub sized-push : (runs : List Run) (run : Run) (n size : ℕ) → sizes_of runs ≡ replicate n size → run.room.size ≡ size → sizes_of (runs ++ run ∷ []) ≡ replicate (n + 1) size
+sized-push runs run n size are one = map_push (λ (r : Run). r.room.size) runs run ∙ ap (λ (x : List ℕ). x ++ run.room.size ∷ []) are ∙ ap (λ (x : ℕ). replicate n size ++ x ∷ []) one ∙ replicate-append-replicate n 1 size
+
+pub within-push : (runs : List Run) (run : Run) → AreWithin runs → length run.room.octets ≤ run.room.size → AreWithin (runs ++ run ∷ [])
+within-push [] run all one = (one, tt)
+within-push (r ∷ runs) run all one = (all.0, within-push runs run all.1 one)
+
+-- rooms of one size are within a limit that this size is within
+pub sized-within : (runs : List Run) (n size limit : ℕ) → sizes_of runs ≡ replicate n size → size ≤ limit → AllByRecursion (λ (r : Run). r.room.size ≤ limit) runs
+sized-within [] n size limit are le = tt
+sized-within (r ∷ runs) zero size limit are le = absurd cc
+sized-within (r ∷ runs) (suc n) size limit are le =
+    let head : r.room.size ≡ size = cc in
+    let tail : sizes_of runs ≡ replicate n size = cc in
+    (omega arith, sized-within runs n size limit tail le)
+
+-- an item takes the last free room
+pub room-taken : (size most : ℕ) (taken later : Buffer Laid) (free rest : List Laid) (room next : Laid) → AreSlots size most taken free → free ≡ rest ++ room ∷ [] → length taken.items < taken.capacity
+    → next.size ≡ room.size → later ≡ buffer (keep_last taken.capacity (taken.items ++ next ∷ [])) taken.capacity → AreSlots size most later rest
+room-taken size most taken later free rest room next k free_is fits same is =
+    let both = size-before size rest room (rw free_is at k.free_sizes) in
+    let l = length-append taken.items (next ∷ []) in
+    let none : length (taken.items ++ next ∷ []) - taken.capacity ≡ 0 = omega arith in
+    let long : length free ≡ length rest + 1 = ap length free_is ∙ length-append rest (room ∷ []) in
+    let count = k.count in
+    rw (is, none) (record {
+      count = omega arith;
+      places = k.places;
+      taken_sizes = size-push size taken.items next k.taken_sizes (same ∙ both.1);
+      free_sizes = both.0;
+    })
+
+-- the first room is of the size, too
+pub first-size : (n : ℕ) (rooms : List Laid) (room : Laid) → HaveSize n rooms → Some room ≡ slice_get rooms 0 → room.size ≡ n
+first-size n [] room all is = absurd cc
+first-size n (r ∷ rooms) room all is = let e : room ≡ r = cc in ap (λ (x : Laid). x.size) e ∙ all.0
