@@ -1,0 +1,245 @@
+/*
+ * The calls of the library by numbers of 32 bits and by addresses alone, which each machine passes in the same way, so that no
+ * rule for records of a machine matters. It is compiled to the LLVM module of the library's own machine, and linked with that; the
+ * whole becomes a WebAssembly module, of which tools/portable and tools/page make what they write.
+ *
+ * Each call answers a status, and puts the other fields of the answer into `numbers`. Settings and headers that go in stand there,
+ * too. An instance of the module holds one channel.
+ */
+#include "tcrx.h"
+
+#define EXPORT(name) __attribute__((export_name(#name), used)) name
+
+typedef uint32_t u32;
+
+enum { MOST_FRAME = 1024 };
+
+static u32 numbers[16];
+/* Where a frame or a data field that a call reads stands, and then one that it writes. */
+static uint8_t frames[2 * MOST_FRAME] __attribute__((aligned(16)));
+static tcrx_channel channel = TCRX_HOLDS_NONE;
+
+/* The heap of the module (heap.c). */
+void *heap_take(uint64_t count, uint64_t alignment);
+void *heap_resize(void *at, uint64_t kept, uint64_t count, uint64_t alignment);
+void heap_give(void *at);
+
+/* What the library takes its memory by. In its LLVM module the two are numbers of 64 bits. */
+typedef struct {
+    uint64_t given;
+    uint64_t at;
+} rattle_block;
+
+rattle_block rattle_alloc(size_t count, size_t alignment);
+rattle_block rattle_realloc(void *at, size_t kept, size_t count, size_t alignment);
+void rattle_dealloc(void *at);
+
+static rattle_block block_of(void *at) {
+    const rattle_block block = {at != NULL, (uint64_t)(uintptr_t)(at != NULL ? at : frames)};
+    return block;
+}
+
+rattle_block rattle_alloc(size_t count, size_t alignment) {
+    return block_of(heap_take(count, alignment));
+}
+
+rattle_block rattle_realloc(void *at, size_t kept, size_t count, size_t alignment) {
+    return block_of(heap_resize(at, kept, count, alignment));
+}
+
+void rattle_dealloc(void *at) {
+    heap_give(at);
+}
+
+static tcrx_farm farm_of(u32 first, u32 second) {
+    const tcrx_farm farm = {(uint8_t)first,  (uint8_t)(first >> 8),  (uint8_t)(first >> 16), (uint8_t)(first >> 24),
+                            (uint8_t)second, (uint8_t)(second >> 8), (uint8_t)(second >> 16)};
+    return farm;
+}
+
+static void answer_farm(tcrx_farm farm) {
+    numbers[0] = farm.width | (u32)farm.state << 8 | (u32)farm.vr << 16 | (u32)farm.farm_b << 24;
+    numbers[1] = farm.lockout | (u32)farm.wait << 8 | (u32)farm.retransmit << 16;
+}
+
+static void answer_count(uint64_t count) {
+    numbers[0] = (u32)count;
+    numbers[1] = (u32)(count >> 32);
+}
+
+static tcrx_settings settings_given(void) {
+    const tcrx_settings settings = {(uint8_t)numbers[0], (uint8_t)numbers[1], (uint8_t)numbers[2], (uint8_t)numbers[3],
+                                    (uint8_t)numbers[4]};
+    return settings;
+}
+
+u32 *EXPORT(module_numbers)(void) {
+    return numbers;
+}
+
+uint8_t *EXPORT(module_frames)(void) {
+    return frames;
+}
+
+/* Room for so many octets or entries in the module, until it is given back; null where there is none. */
+void *EXPORT(module_room)(u32 count) {
+    return heap_take(count, 1);
+}
+
+u32 EXPORT(module_room_back)(void *at) {
+    heap_give(at);
+    return TCRX_DONE;
+}
+
+u32 EXPORT(module_farm_start)(u32 width, u32 first_vr) {
+    const tcrx_farm_answer answer = tcrx_farm_start((uint8_t)width, (uint8_t)first_vr);
+    answer_farm(answer.farm);
+    return answer.status;
+}
+
+u32 EXPORT(module_farm_step)(u32 first, u32 second, u32 arrival, u32 number, u32 room) {
+    const tcrx_step_answer answer = tcrx_farm_step(farm_of(first, second), (uint8_t)arrival, (uint8_t)number, (uint8_t)room);
+    answer_farm(answer.farm);
+    numbers[2] = answer.event;
+    numbers[3] = answer.accepted;
+    return answer.status;
+}
+
+u32 EXPORT(module_clcw)(u32 first, u32 second, u32 vcid, u32 no_rf, u32 no_bit_lock) {
+    const tcrx_clcw_answer answer = tcrx_clcw(farm_of(first, second), (uint8_t)vcid, (uint8_t)no_rf, (uint8_t)no_bit_lock);
+    numbers[0] = answer.word;
+    return answer.status;
+}
+
+u32 EXPORT(module_read_clcw)(u32 word) {
+    const tcrx_clcw_fields at = tcrx_read_clcw(word);
+    const uint8_t fields[] = {at.status_field, at.vcid,       at.no_rf,  at.no_bit_lock, at.lockout,
+                              at.wait,         at.retransmit, at.farm_b, at.vr};
+    for (u32 i = 0; i < sizeof fields; i++) {
+        numbers[i] = fields[i];
+    }
+    return at.status;
+}
+
+u32 EXPORT(module_text)(u32 status, uint8_t *text, u32 room) {
+    const tcrx_written answer = tcrx_text_at(status, text, room);
+    answer_count(answer.length);
+    return answer.status;
+}
+
+u32 EXPORT(module_read_frame)(const uint8_t *octets, u32 count) {
+    const tcrx_frame answer = tcrx_read_frame_at(octets, count);
+    numbers[0] = answer.header.scid;
+    numbers[1] = answer.header.vcid;
+    numbers[2] = answer.header.ns;
+    numbers[3] = answer.header.bypass;
+    numbers[4] = answer.header.control;
+    numbers[5] = answer.length;
+    return answer.status;
+}
+
+u32 EXPORT(module_kind)(const uint8_t *octets, u32 count) {
+    const tcrx_kind_answer answer = tcrx_kind_at(octets, count);
+    numbers[0] = answer.kind;
+    numbers[1] = answer.number;
+    return answer.status;
+}
+
+u32 EXPORT(module_write_frame)(const uint8_t *field, u32 field_count, uint8_t *octets, u32 room) {
+    const tcrx_header header = {(uint16_t)numbers[0], (uint8_t)numbers[1], (uint8_t)numbers[2], (uint8_t)numbers[3],
+                                (uint8_t)numbers[4]};
+    const tcrx_written answer = tcrx_write_frame_at(header, field, field_count, octets, room);
+    answer_count(answer.length);
+    return answer.status;
+}
+
+u32 EXPORT(module_read_packet)(const uint8_t *octets, u32 count) {
+    const tcrx_packet answer = tcrx_read_packet_at(octets, count);
+    numbers[0] = answer.length;
+    numbers[1] = answer.apid;
+    numbers[2] = answer.count;
+    numbers[3] = answer.telecommand;
+    numbers[4] = answer.secondary;
+    numbers[5] = answer.sequence;
+    return answer.status;
+}
+
+u32 EXPORT(module_memory_bound)(const tcrx_queue *queues, u32 queue_count, const tcrx_map *maps, u32 map_count) {
+    const tcrx_count answer = tcrx_memory_bound_at(settings_given(), queues, queue_count, maps, map_count);
+    answer_count(answer.count);
+    return answer.status;
+}
+
+u32 EXPORT(module_channel_new)(const tcrx_queue *queues, u32 queue_count, const tcrx_map *maps, u32 map_count) {
+    return tcrx_channel_new_at(&channel, settings_given(), queues, queue_count, maps, map_count);
+}
+
+u32 EXPORT(module_channel_frame)(const uint8_t *octets, u32 count) {
+    const tcrx_reply answer = tcrx_channel_frame_at(&channel, octets, count);
+    numbers[0] = answer.queued;
+    numbers[1] = answer.dropped;
+    numbers[2] = answer.event;
+    numbers[3] = answer.accepted;
+    numbers[4] = answer.rest;
+    return answer.status;
+}
+
+u32 EXPORT(module_channel_release)(void) {
+    const tcrx_delivery answer = tcrx_channel_release_at(&channel);
+    numbers[0] = answer.queued;
+    numbers[1] = answer.dropped;
+    numbers[2] = answer.rest;
+    return answer.status;
+}
+
+u32 EXPORT(module_channel_take)(u32 apid, uint8_t *octets, u32 room) {
+    const tcrx_written answer = tcrx_channel_take_at(&channel, (uint16_t)apid, octets, room);
+    answer_count(answer.length);
+    return answer.status;
+}
+
+u32 EXPORT(module_channel_take_unit)(u32 map, uint8_t *octets, u32 room) {
+    const tcrx_written answer = tcrx_channel_take_unit_at(&channel, (uint8_t)map, octets, room);
+    answer_count(answer.length);
+    return answer.status;
+}
+
+u32 EXPORT(module_channel_clcw)(u32 no_rf, u32 no_bit_lock) {
+    const tcrx_clcw_answer answer = tcrx_channel_clcw_at(&channel, (uint8_t)no_rf, (uint8_t)no_bit_lock);
+    numbers[0] = answer.word;
+    return answer.status;
+}
+
+u32 EXPORT(module_channel_report)(void) {
+    const tcrx_farm_answer answer = tcrx_channel_report_at(&channel);
+    answer_farm(answer.farm);
+    return answer.status;
+}
+
+u32 EXPORT(module_channel_buffered)(void) {
+    const tcrx_count answer = tcrx_channel_buffered_at(&channel);
+    answer_count(answer.count);
+    return answer.status;
+}
+
+u32 EXPORT(module_channel_queued)(u32 apid) {
+    const tcrx_count answer = tcrx_channel_queued_at(&channel, (uint16_t)apid);
+    answer_count(answer.count);
+    return answer.status;
+}
+
+u32 EXPORT(module_channel_units)(u32 map) {
+    const tcrx_count answer = tcrx_channel_units_at(&channel, (uint8_t)map);
+    answer_count(answer.count);
+    return answer.status;
+}
+
+u32 EXPORT(module_channel_events)(void) {
+    const tcrx_count answer = tcrx_channel_events_at(&channel);
+    answer_count(answer.count);
+    return answer.status;
+}
+
+u32 EXPORT(module_channel_free)(void) {
+    return tcrx_channel_free_at(&channel);
+}

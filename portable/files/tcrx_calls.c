@@ -1,0 +1,386 @@
+/*
+ * The calls of tcrx.h over the module: octets and lists are copied into the memory of an instance and out of it. A call of a channel
+ * that isn't held goes to the instance of the calls without a channel, which holds none either, so that its answer is the library's.
+ */
+#include "tcrx.h"
+
+#include "tcrx_instance.h"
+
+static uint32_t least(size_t count, uint32_t most) {
+    return count < most ? (uint32_t)count : most;
+}
+
+static uint32_t first_half(tcrx_farm farm) {
+    return farm.width | (uint32_t)farm.state << 8 | (uint32_t)farm.vr << 16 | (uint32_t)farm.farm_b << 24;
+}
+
+static uint32_t second_half(tcrx_farm farm) {
+    return farm.lockout | (uint32_t)farm.wait << 8 | (uint32_t)farm.retransmit << 16;
+}
+
+static tcrx_farm farm_of(tcrx_instance *at) {
+    const uint32_t first = tcrx_number(at, 0), second = tcrx_number(at, 1);
+    const tcrx_farm farm = {(uint8_t)first,  (uint8_t)(first >> 8),  (uint8_t)(first >> 16), (uint8_t)(first >> 24),
+                            (uint8_t)second, (uint8_t)(second >> 8), (uint8_t)(second >> 16)};
+    return farm;
+}
+
+static uint64_t count_of(tcrx_instance *at) {
+    return tcrx_number(at, 0) | (uint64_t)tcrx_number(at, 1) << 32;
+}
+
+/* What a call wrote to a place in the memory goes to the caller where it was done. */
+static tcrx_written written_of(tcrx_instance *at, tcrx_status status, uint32_t place, uint8_t *octets) {
+    const tcrx_written answer = {status, (size_t)count_of(at)};
+    if (status == TCRX_DONE) {
+        tcrx_get(at, place, octets, (uint32_t)answer.length);
+    }
+    return answer;
+}
+
+static tcrx_instance *begin(const tcrx_channel *channel) {
+    return channel->held ? (tcrx_instance *)channel->place : tcrx_instance_shared();
+}
+
+static void end(const tcrx_channel *channel) {
+    if (!channel->held) {
+        tcrx_instance_back();
+    }
+}
+
+/* The frame at the front of octets is all that the library looks at. */
+static uint32_t put_frame(tcrx_instance *at, const uint8_t *octets, size_t count) {
+    const uint32_t looked_at = least(count, TCRX_MODULE_FRAME);
+    tcrx_put(at, at->read, octets, looked_at);
+    return looked_at;
+}
+
+tcrx_farm_answer tcrx_farm_start(uint8_t width, uint8_t first_vr) {
+    tcrx_farm_answer answer;
+    tcrx_instance *at = tcrx_instance_shared();
+    answer.status = Z_tcrxZ_module_farm_start(&at->module, width, first_vr);
+    answer.farm = farm_of(at);
+    tcrx_instance_back();
+    return answer;
+}
+
+tcrx_step_answer tcrx_farm_step(tcrx_farm farm, uint8_t arrival, uint8_t number, uint8_t room) {
+    tcrx_step_answer answer;
+    tcrx_instance *at = tcrx_instance_shared();
+    answer.status = Z_tcrxZ_module_farm_step(&at->module, first_half(farm), second_half(farm), arrival, number, room);
+    answer.farm = farm_of(at);
+    answer.event = (uint8_t)tcrx_number(at, 2);
+    answer.accepted = (uint8_t)tcrx_number(at, 3);
+    tcrx_instance_back();
+    return answer;
+}
+
+tcrx_clcw_answer tcrx_clcw(tcrx_farm farm, uint8_t vcid, uint8_t no_rf, uint8_t no_bit_lock) {
+    tcrx_clcw_answer answer;
+    tcrx_instance *at = tcrx_instance_shared();
+    answer.status = Z_tcrxZ_module_clcw(&at->module, first_half(farm), second_half(farm), vcid, no_rf, no_bit_lock);
+    answer.word = tcrx_number(at, 0);
+    tcrx_instance_back();
+    return answer;
+}
+
+tcrx_clcw_fields tcrx_read_clcw(uint32_t word) {
+    tcrx_clcw_fields answer;
+    tcrx_instance *at = tcrx_instance_shared();
+    answer.status = Z_tcrxZ_module_read_clcw(&at->module, word);
+    answer.status_field = (uint8_t)tcrx_number(at, 0);
+    answer.vcid = (uint8_t)tcrx_number(at, 1);
+    answer.no_rf = (uint8_t)tcrx_number(at, 2);
+    answer.no_bit_lock = (uint8_t)tcrx_number(at, 3);
+    answer.lockout = (uint8_t)tcrx_number(at, 4);
+    answer.wait = (uint8_t)tcrx_number(at, 5);
+    answer.retransmit = (uint8_t)tcrx_number(at, 6);
+    answer.farm_b = (uint8_t)tcrx_number(at, 7);
+    answer.vr = (uint8_t)tcrx_number(at, 8);
+    tcrx_instance_back();
+    return answer;
+}
+
+tcrx_written tcrx_text_at(tcrx_status status, uint8_t *text, size_t room) {
+    tcrx_instance *at = tcrx_instance_shared();
+    const tcrx_status done = Z_tcrxZ_module_text(&at->module, status, at->written, least(room, TCRX_MODULE_FRAME));
+    const tcrx_written answer = written_of(at, done, at->written, text);
+    tcrx_instance_back();
+    return answer;
+}
+
+tcrx_frame tcrx_read_frame_at(const uint8_t *octets, size_t count) {
+    tcrx_frame answer;
+    tcrx_instance *at = tcrx_instance_shared();
+    answer.status = Z_tcrxZ_module_read_frame(&at->module, at->read, put_frame(at, octets, count));
+    answer.header.scid = (uint16_t)tcrx_number(at, 0);
+    answer.header.vcid = (uint8_t)tcrx_number(at, 1);
+    answer.header.ns = (uint8_t)tcrx_number(at, 2);
+    answer.header.bypass = (uint8_t)tcrx_number(at, 3);
+    answer.header.control = (uint8_t)tcrx_number(at, 4);
+    answer.length = (uint16_t)tcrx_number(at, 5);
+    tcrx_instance_back();
+    return answer;
+}
+
+tcrx_kind_answer tcrx_kind_at(const uint8_t *octets, size_t count) {
+    tcrx_kind_answer answer;
+    tcrx_instance *at = tcrx_instance_shared();
+    answer.status = Z_tcrxZ_module_kind(&at->module, at->read, put_frame(at, octets, count));
+    answer.kind = (uint8_t)tcrx_number(at, 0);
+    answer.number = (uint8_t)tcrx_number(at, 1);
+    tcrx_instance_back();
+    return answer;
+}
+
+/* A data field of more octets than are copied is too long, and so are those that are. */
+tcrx_written tcrx_write_frame_at(tcrx_header header, const uint8_t *field, size_t field_count, uint8_t *octets, size_t room) {
+    tcrx_instance *at = tcrx_instance_shared();
+    const uint32_t numbers[] = {header.scid, header.vcid, header.ns, header.bypass, header.control};
+    const uint32_t count = put_frame(at, field, field_count);
+    for (uint32_t i = 0; i < 5; i++) {
+        tcrx_set_number(at, i, numbers[i]);
+    }
+    const tcrx_status status =
+        Z_tcrxZ_module_write_frame(&at->module, at->read, count, at->written, least(room, TCRX_MODULE_FRAME));
+    const tcrx_written answer = written_of(at, status, at->written, octets);
+    tcrx_instance_back();
+    return answer;
+}
+
+/* Octets in the memory of an instance, until they are given back: 0 where it has no room for them. */
+static uint32_t copied(tcrx_instance *at, const uint8_t *octets, uint32_t count) {
+    const uint32_t place = (uint32_t)Z_tcrxZ_module_room(&at->module, count);
+    if (place != 0) {
+        tcrx_put(at, place, octets, count);
+    }
+    return place;
+}
+
+tcrx_packet tcrx_read_packet_at(const uint8_t *octets, size_t count) {
+    tcrx_packet answer = {TCRX_NO_MEMORY, 0, 0, 0, 0, 0, 0};
+    tcrx_instance *at = tcrx_instance_shared();
+    const uint32_t read = least(count, TCRX_MODULE_PACKET), place = copied(at, octets, read);
+    if (place != 0) {
+        answer.status = Z_tcrxZ_module_read_packet(&at->module, place, read);
+        answer.length = tcrx_number(at, 0);
+        answer.apid = (uint16_t)tcrx_number(at, 1);
+        answer.count = (uint16_t)tcrx_number(at, 2);
+        answer.telecommand = (uint8_t)tcrx_number(at, 3);
+        answer.secondary = (uint8_t)tcrx_number(at, 4);
+        answer.sequence = (uint8_t)tcrx_number(at, 5);
+        Z_tcrxZ_module_room_back(&at->module, place);
+    }
+    tcrx_instance_back();
+    return answer;
+}
+
+/* The settings of a channel in the memory of an instance, with its two lists, whole. */
+typedef struct {
+    uint32_t queues, queue_count, maps, map_count;
+} lists;
+
+/* Room for the entries of a list, of four octets each: 0 where there is none. */
+static uint32_t list_room(tcrx_instance *at, size_t count) {
+    return count > UINT32_MAX / 4 ? 0 : (uint32_t)Z_tcrxZ_module_room(&at->module, 4 * (uint32_t)count);
+}
+
+static void give_back(tcrx_instance *at, lists put) {
+    if (put.queues != 0) {
+        Z_tcrxZ_module_room_back(&at->module, put.queues);
+    }
+    if (put.maps != 0) {
+        Z_tcrxZ_module_room_back(&at->module, put.maps);
+    }
+}
+
+static bool put_lists(tcrx_instance *at, lists *put, const tcrx_queue *queues, size_t queue_count, const tcrx_map *maps,
+                      size_t map_count) {
+    const lists all = {list_room(at, queue_count), (uint32_t)queue_count, list_room(at, map_count), (uint32_t)map_count};
+    if (all.queues == 0 || all.maps == 0) {
+        give_back(at, all);
+        return false;
+    }
+    for (uint32_t i = 0; i < all.queue_count; i++) {
+        const uint16_t apid = queues[i].apid, capacity = queues[i].capacity;
+        const uint8_t entry[] = {(uint8_t)apid, (uint8_t)(apid >> 8), (uint8_t)capacity, (uint8_t)(capacity >> 8)};
+        tcrx_put(at, all.queues + 4 * i, entry, 4);
+    }
+    for (uint32_t i = 0; i < all.map_count; i++) {
+        const uint16_t capacity = maps[i].capacity;
+        const uint8_t entry[] = {maps[i].map, 0, (uint8_t)capacity, (uint8_t)(capacity >> 8)};
+        tcrx_put(at, all.maps + 4 * i, entry, 4);
+    }
+    *put = all;
+    return true;
+}
+
+static void put_settings(tcrx_instance *at, tcrx_settings settings) {
+    const uint32_t numbers[] = {settings.vcid, settings.width, settings.buffer, settings.first_vr, settings.segmented};
+    for (uint32_t i = 0; i < 5; i++) {
+        tcrx_set_number(at, i, numbers[i]);
+    }
+}
+
+tcrx_count tcrx_memory_bound_at(tcrx_settings settings, const tcrx_queue *queues, size_t queue_count, const tcrx_map *maps,
+                                size_t map_count) {
+    tcrx_count answer = {TCRX_NO_MEMORY, 0};
+    tcrx_instance *at = tcrx_instance_shared();
+    lists put;
+    if (put_lists(at, &put, queues, queue_count, maps, map_count)) {
+        put_settings(at, settings);
+        answer.status = Z_tcrxZ_module_memory_bound(&at->module, put.queues, put.queue_count, put.maps, put.map_count);
+        answer.count = count_of(at);
+        give_back(at, put);
+    }
+    tcrx_instance_back();
+    return answer;
+}
+
+/* The channel in its instance, with room for the longest packet that it can come to hold. */
+static tcrx_status make(tcrx_instance *at, tcrx_settings settings, const tcrx_queue *queues, size_t queue_count,
+                        const tcrx_map *maps, size_t map_count) {
+    lists put;
+    if (!put_lists(at, &put, queues, queue_count, maps, map_count)) {
+        return TCRX_NO_MEMORY;
+    }
+    put_settings(at, settings);
+    const tcrx_status status =
+        Z_tcrxZ_module_channel_new(&at->module, put.queues, put.queue_count, put.maps, put.map_count);
+    give_back(at, put);
+    if (status == TCRX_DONE && settings.segmented) {
+        at->packet = (uint32_t)Z_tcrxZ_module_room(&at->module, TCRX_MODULE_PACKET);
+        at->packet_room = TCRX_MODULE_PACKET;
+    }
+    return status == TCRX_DONE && at->packet == 0 ? TCRX_NO_MEMORY : status;
+}
+
+/* A fault of the settings is found before an instance asks for memory. */
+tcrx_status tcrx_channel_new_at(tcrx_channel *channel, tcrx_settings settings, const tcrx_queue *queues, size_t queue_count,
+                                const tcrx_map *maps, size_t map_count) {
+    if (channel->held) {
+        return TCRX_IN_USE;
+    }
+    const tcrx_status fault = tcrx_memory_bound_at(settings, queues, queue_count, maps, map_count).status;
+    tcrx_instance *at = fault == TCRX_DONE ? tcrx_instance_new() : NULL;
+    if (at == NULL) {
+        return fault == TCRX_DONE ? TCRX_NO_MEMORY : fault;
+    }
+    const tcrx_status status = make(at, settings, queues, queue_count, maps, map_count);
+    if (status == TCRX_DONE) {
+        channel->held = 1;
+        channel->place = at;
+    } else {
+        tcrx_instance_end(at);
+    }
+    return status;
+}
+
+tcrx_reply tcrx_channel_frame_at(tcrx_channel *channel, const uint8_t *octets, size_t count) {
+    tcrx_reply answer;
+    tcrx_instance *at = begin(channel);
+    answer.status = Z_tcrxZ_module_channel_frame(&at->module, at->read, put_frame(at, octets, count));
+    answer.queued = tcrx_number(at, 0);
+    answer.dropped = tcrx_number(at, 1);
+    answer.event = (uint8_t)tcrx_number(at, 2);
+    answer.accepted = (uint8_t)tcrx_number(at, 3);
+    answer.rest = (uint8_t)tcrx_number(at, 4);
+    end(channel);
+    return answer;
+}
+
+tcrx_delivery tcrx_channel_release_at(tcrx_channel *channel) {
+    tcrx_delivery answer;
+    tcrx_instance *at = begin(channel);
+    answer.status = Z_tcrxZ_module_channel_release(&at->module);
+    answer.queued = tcrx_number(at, 0);
+    answer.dropped = tcrx_number(at, 1);
+    answer.rest = (uint8_t)tcrx_number(at, 2);
+    end(channel);
+    return answer;
+}
+
+tcrx_written tcrx_channel_take_at(tcrx_channel *channel, uint16_t apid, uint8_t *octets, size_t room) {
+    tcrx_instance *at = begin(channel);
+    const tcrx_status status = Z_tcrxZ_module_channel_take(&at->module, apid, at->packet, least(room, at->packet_room));
+    const tcrx_written answer = written_of(at, status, at->packet, octets);
+    end(channel);
+    return answer;
+}
+
+tcrx_written tcrx_channel_take_unit_at(tcrx_channel *channel, uint8_t map, uint8_t *octets, size_t room) {
+    tcrx_instance *at = begin(channel);
+    const tcrx_status status = Z_tcrxZ_module_channel_take_unit(&at->module, map, at->packet, least(room, at->packet_room));
+    const tcrx_written answer = written_of(at, status, at->packet, octets);
+    end(channel);
+    return answer;
+}
+
+tcrx_clcw_answer tcrx_channel_clcw_at(tcrx_channel *channel, uint8_t no_rf, uint8_t no_bit_lock) {
+    tcrx_clcw_answer answer;
+    tcrx_instance *at = begin(channel);
+    answer.status = Z_tcrxZ_module_channel_clcw(&at->module, no_rf, no_bit_lock);
+    answer.word = tcrx_number(at, 0);
+    end(channel);
+    return answer;
+}
+
+tcrx_farm_answer tcrx_channel_report_at(tcrx_channel *channel) {
+    tcrx_farm_answer answer;
+    tcrx_instance *at = begin(channel);
+    answer.status = Z_tcrxZ_module_channel_report(&at->module);
+    answer.farm = farm_of(at);
+    end(channel);
+    return answer;
+}
+
+tcrx_count tcrx_channel_buffered_at(tcrx_channel *channel) {
+    tcrx_count answer;
+    tcrx_instance *at = begin(channel);
+    answer.status = Z_tcrxZ_module_channel_buffered(&at->module);
+    answer.count = count_of(at);
+    end(channel);
+    return answer;
+}
+
+tcrx_count tcrx_channel_queued_at(tcrx_channel *channel, uint16_t apid) {
+    tcrx_count answer;
+    tcrx_instance *at = begin(channel);
+    answer.status = Z_tcrxZ_module_channel_queued(&at->module, apid);
+    answer.count = count_of(at);
+    end(channel);
+    return answer;
+}
+
+tcrx_count tcrx_channel_units_at(tcrx_channel *channel, uint8_t map) {
+    tcrx_count answer;
+    tcrx_instance *at = begin(channel);
+    answer.status = Z_tcrxZ_module_channel_units(&at->module, map);
+    answer.count = count_of(at);
+    end(channel);
+    return answer;
+}
+
+tcrx_count tcrx_channel_events_at(tcrx_channel *channel) {
+    tcrx_count answer;
+    tcrx_instance *at = begin(channel);
+    answer.status = Z_tcrxZ_module_channel_events(&at->module);
+    answer.count = count_of(at);
+    end(channel);
+    return answer;
+}
+
+tcrx_status tcrx_channel_free_at(tcrx_channel *channel) {
+    if (!channel->held) {
+        tcrx_instance *none = tcrx_instance_shared();
+        const tcrx_status status = Z_tcrxZ_module_channel_free(&none->module);
+        tcrx_instance_back();
+        return status;
+    }
+    tcrx_instance *at = (tcrx_instance *)channel->place;
+    const tcrx_status status = Z_tcrxZ_module_channel_free(&at->module);
+    tcrx_instance_end(at);
+    channel->held = 0;
+    channel->place = NULL;
+    return status;
+}
