@@ -1,0 +1,271 @@
+"""What the checks of tcrx-bench share: comparisons and their count, the bench as a process, its ports, and its log."""
+from __future__ import annotations
+
+import json
+import os
+import re
+import signal
+import socket
+import subprocess
+import sys
+import tempfile
+import time
+from collections import Counter
+from contextlib import contextmanager
+from itertools import zip_longest
+from pathlib import Path
+from typing import Any, Callable, Dict, Iterator, List, Tuple
+
+sys.dont_write_bytecode = True
+TOP = Path(__file__).resolve().parent.parent
+# Seconds after which something that doesn't end counts as failed: one wait, and one check as a whole.
+PATIENCE, LONGEST = 60, 600
+counted: Counter[bool] = Counter()
+begun: List[subprocess.Popen[bytes]] = []
+PROGRAM = TOP / "clients/python/tcrx_bench.py"
+SETUP = "channel 1 10 8 0\nqueue 1 5 16\n"
+
+
+def tell(good: object, what: str) -> None:
+    """Counts a comparison, and names it where it failed."""
+    counted[bool(good)] += 1
+    if not good:
+        print(f"bench: {what}")
+
+
+def same(answer: object, wanted: object, what: str) -> None:
+    """Compares an answer with what is wanted."""
+    tell(answer == wanted, f"{what}: {answer!r}, and not {wanted!r}")
+
+
+class Stuck(BaseException):
+    """A check doesn't end. It is no `Exception`, so that nothing else takes it for an answer."""
+
+
+def give_up(*_: object) -> None:
+    """Ends a check that doesn't end."""
+    raise Stuck
+
+
+@contextmanager
+def limited() -> Iterator[None]:
+    """Ends what takes too long."""
+    signal.signal(signal.SIGALRM, give_up)
+    signal.alarm(LONGEST)
+    try:
+        yield
+    finally:
+        signal.alarm(0)
+
+
+def attempt(check: Callable[..., None], *given: object, keep: bool = False) -> None:
+    """Does a check, and counts as failed what ends it early. What it began is ended, unless it is to be kept."""
+    try:
+        with limited():
+            check(*given)
+    except (Exception, Stuck) as fault:  # pylint: disable=broad-exception-caught  # whichever comes counts
+        tell(False, f"{check.__name__} ended with {fault!r}")
+    for child in [] if keep else begun:
+        if child.poll() is None:
+            child.kill()
+            child.wait()
+
+
+def close(what: str, skipped: str = "") -> int:
+    """Prints the closing line; the status."""
+    print(f"{what}: {counted[True]} comparisons passed, {counted[False]} failed{skipped}")
+    return 1 if counted[False] or not (counted[True] or skipped) else 0
+
+
+def programs(words: List[str]) -> List[Path]:
+    """tclive, tcrx and tcmake: those that were named, or those of this tree, which are built where they aren't."""
+    names = ("tclive", "tcrx", "tcmake")
+    if words:
+        return [Path(word).resolve() for _, word in zip(names, words)]
+    for name in names:
+        subprocess.run([TOP / name, "--version"], stdout=subprocess.DEVNULL, check=True)
+    return [TOP / f"crates/{name}/out/{name}" for name in names]
+
+
+def until(true: Callable[[], object], seconds: float = PATIENCE) -> bool:
+    """Waits until something is true; whether it came to be."""
+    end = time.monotonic() + seconds
+    while not true():
+        if time.monotonic() > end:
+            return False
+        time.sleep(0.01)
+    return True
+
+
+def read_all(link: socket.socket) -> bytes:
+    """All that comes until the other end closes."""
+    octets = b""
+    link.settimeout(PATIENCE)
+    try:
+        while more := link.recv(1 << 16):
+            octets += more
+    except ConnectionResetError:
+        pass
+    return octets
+
+
+def read_count(link: socket.socket, count: int) -> bytes:
+    """So many octets, or fewer where no more come."""
+    octets = b""
+    link.settimeout(PATIENCE)
+    while len(octets) < count and (more := link.recv(count - len(octets))):
+        octets += more
+    return octets
+
+
+class Bench:
+    """A bench that runs, from its start to its end. Its ports are free ones."""
+
+    def __init__(self, tclive: Path, work: Path, *words: str, setup: str = SETUP, scid: int = 42, python: str = sys.executable,
+                 limit: str = "unlimited") -> None:
+        self.folder = Path(tempfile.mkdtemp(dir=work))
+        self.log = self.folder / "log"
+        self.errors = open(self.folder / "errors", "w+b")  # pylint: disable=consider-using-with  # it is closed in `ended`
+        (self.folder / "setup").write_text(setup)
+        log = [] if "--log" in words else ["--log", str(self.log)]
+        # With a limit of what a file may have, in kibibytes.
+        given = ["bash", "-c", f'ulimit -f {limit}; exec "$0" "$@"', python, str(PROGRAM), "--scid", str(scid), "--program", str(tclive),
+                 "--setup", str(self.folder / "setup"), *log, *words]
+        # pylint: disable-next=consider-using-with  # it is ended in `ended`, or by the check
+        self.child = subprocess.Popen(given, stdin=subprocess.DEVNULL, stdout=subprocess.PIPE, stderr=self.errors)
+        begun.append(self.child)
+        self.ports: Dict[str, int] = {}
+        assert self.child.stdout
+        for line in iter(self.child.stdout.readline, b""):
+            if line == b"ready\n":
+                break
+            kind, address = line.decode().split()
+            self.ports[kind] = int(address.rpartition(":")[2])
+
+    def connect(self, kind: str, source: str = "127.0.0.1", buffer: int = 0) -> socket.socket:
+        """A connection to a port, with a small buffer for what comes where one is named."""
+        link = socket.socket()
+        if buffer:
+            link.setsockopt(socket.SOL_SOCKET, socket.SO_RCVBUF, buffer)
+        link.settimeout(PATIENCE)
+        link.bind((source, 0))
+        link.connect(("127.0.0.1", self.ports[kind]))
+        return link
+
+    def datagram(self, octets: bytes, source: str = "127.0.0.1") -> None:
+        """Sends a datagram to the port for frames."""
+        with socket.socket(socket.AF_INET, socket.SOCK_DGRAM) as link:
+            link.bind((source, 0))
+            link.sendto(octets, ("127.0.0.1", self.ports["tc-udp"]))
+
+    def ask(self, lines: str) -> List[str]:
+        """The answers to lines over a connection of their own, which is closed behind them."""
+        with self.connect("lines") as link:
+            link.sendall(lines.encode("latin-1"))
+            link.shutdown(socket.SHUT_WR)
+            return read_all(link).decode("latin-1").split("\n")[:-1]
+
+    def get(self, path: str, method: str = "GET", host: str = "localhost") -> Tuple[str, str]:
+        """The head and the body of an answer over HTTP."""
+        with self.connect("http") as link:
+            link.sendall(f"{method} {path} HTTP/1.1\r\nHost: {host}\r\n\r\n".encode())
+            head, _, body = read_all(link).decode().partition("\r\n\r\n")
+            return head, body
+
+    def end(self, number: int = signal.SIGTERM) -> Tuple[int, str, str]:
+        """Asks it to end, and gives its status, what it printed behind its ports, and what was on standard error."""
+        self.child.send_signal(number)
+        return self.ended()
+
+    def ended(self) -> Tuple[int, str, str]:
+        """The same of one that ends by itself."""
+        printed, _ = self.child.communicate(timeout=PATIENCE)
+        self.errors.seek(0)
+        error = self.errors.read().decode()
+        self.errors.close()
+        return self.child.returncode, printed.decode(), error
+
+    def state(self) -> Any:
+        """The state as it is given over HTTP."""
+        return json.loads(self.get("/state")[1])
+
+    def port(self, kind: str) -> Any:
+        """What is counted on a port."""
+        return next(port for port in self.state()["ports"] if port["port"] == kind)
+
+    def open_files(self) -> List[str]:
+        """What the process has open, without the files of its event loop."""
+        found = []
+        for number in os.listdir(f"/proc/{self.child.pid}/fd"):
+            try:
+                found.append(os.readlink(f"/proc/{self.child.pid}/fd/{number}"))
+            except OSError:
+                pass
+        return found
+
+    def threads(self) -> int:
+        """How many threads the process has."""
+        return len(os.listdir(f"/proc/{self.child.pid}/task"))
+
+    def receiver(self) -> int:
+        """The process of its tclive."""
+        return int(Path(f"/proc/{self.child.pid}/task/{self.child.pid}/children").read_text(encoding="ascii").split()[0])
+
+
+# --- The log ---
+
+def lines_of(log: Path) -> List[str]:
+    """The lines of a log."""
+    return log.read_text(encoding="latin-1").split("\n")[:-1]
+
+
+def script_of(log: Path) -> str:
+    """The script that a log is, without its comments: `tcrx` takes a mebibyte."""
+    return "".join(line + "\n" for line in lines_of(log) if not line.startswith("#"))
+
+
+def answers_of(log: Path) -> str:
+    """The answers that a log has for `tcrx`."""
+    return "".join(line[3:] + "\n" for line in lines_of(log) if line.startswith("#= "))
+
+
+def words_sent(log: Path) -> List[str]:
+    """Each CLCW of a log in its order, with the flags of the link."""
+    found: List[str] = []
+    for line in lines_of(log):
+        if match := re.fullmatch(r"#([=~]) clcw \d+ ([0-9a-f]{8})", line):
+            if match[1] == "~":
+                found.pop()
+            found.append(match[2])
+    return found
+
+
+def run_tcrx(tcrx: Path, script: str, scid: int = 42) -> str:
+    """What `tcrx run` prints for a script."""
+    ran = run([tcrx, "run", "--scid", str(scid)], script)
+    return ran.stdout + ran.stderr
+
+
+def same_lines(answer: str, wanted: str, what: str) -> None:
+    """Compares texts of many lines, and shows the first that differ."""
+    pairs = zip_longest(answer.split("\n"), wanted.split("\n"))
+    found = next((f"line {place}: {one!r}, and not {other!r}" for place, (one, other) in enumerate(pairs, 1) if one != other), "")
+    tell(not found and wanted, f"{what}: {found or 'nothing to compare'}")
+
+
+def replay(bench: Bench, tclive: Path) -> subprocess.CompletedProcess[str]:
+    """A run of --replay over a log."""
+    return run([sys.executable, PROGRAM, "--replay", bench.log, "--program", tclive])
+
+
+def run(words: List[Any], given: str = "") -> subprocess.CompletedProcess[str]:
+    """A run of a command to its end."""
+    return subprocess.run(words, input=given, capture_output=True, text=True, timeout=PATIENCE, check=False)
+
+
+def replays(bench: Bench, tclive: Path, tcrx: Path, what: str) -> None:
+    """Compares the answers of a log with those of `tcrx`, and of `tclive` by the bench itself."""
+    same_lines(run_tcrx(tcrx, script_of(bench.log)), answers_of(bench.log), f"{what}: the log by tcrx")
+    ran = replay(bench, tclive)
+    same((ran.returncode, ran.stderr), (0, ""), f"{what}: the log by --replay")
+    tell(re.fullmatch(r"\d+ answers and the final report are those of the log\n", ran.stdout), f"{what}: --replay prints {ran.stdout!r}")

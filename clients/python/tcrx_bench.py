@@ -1,0 +1,286 @@
+"""A bench that several can share: one spacecraft's telecommand receiver for many connections.
+
+Frames come in over TCP and UDP as they are, and people's lines; all go to one `tclive`, in the order of their arrival. CLCWs, packets
+and units go out to whoever listens, and a page shows the state. docs/howto/bench.md has the first three commands, and
+docs/reference/tcrx-bench.md each option.
+
+Standard library alone, Python 3.9 or later; tcrx.py and the folder tcrx_bench_parts must be next to this file.
+"""
+from __future__ import annotations
+
+import asyncio
+import os
+import signal
+import sys
+import time
+from argparse import Namespace
+from functools import partial
+from typing import Callable, Dict, List, Optional, Tuple
+
+if sys.version_info < (3, 9):
+    sys.exit("tcrx-bench: Python 3.9 or later is needed")
+
+# pylint: disable=wrong-import-position
+import tcrx  # noqa: E402
+from tcrx_bench_parts.craft import Craft, Release  # noqa: E402
+from tcrx_bench_parts.engine import Engine  # noqa: E402
+from tcrx_bench_parts.journal import Journal, replay  # noqa: E402
+from tcrx_bench_parts.octets import Cutter  # noqa: E402
+from tcrx_bench_parts.options import read_setup, read_words, warning_of  # noqa: E402
+from tcrx_bench_parts.ports import (Connection, Datagrams, FrameConnection, Hub, LineConnection, Notes, Port, Reader, Target, all_senders,  # noqa: E402
+                                    readers_sender)
+from tcrx_bench_parts.web import Visitor, Web  # noqa: E402
+
+# Seconds between two writes of the log; that readers have at the end; and after which it is said that the program isn't up yet.
+LOG_PAUSE, LAST_READ, SLOW_START = 0.2, 1.0, 3.0
+
+
+class NotUp(Exception):
+    """The bench can't begin; the status says which end that is."""
+
+    def __init__(self, text: str, status: int) -> None:
+        super().__init__(text)
+        self.status = status
+
+
+class LinkWatch:  # pylint: disable=too-few-public-methods  # it is called by the clock and by each frame
+    """Sets the flags of the link where no frame came for some time, and takes them back with the next one."""
+
+    def __init__(self, craft: Craft, seconds: float) -> None:
+        self.craft, self.seconds, self.last, self.lost = craft, seconds, time.monotonic(), False
+        craft.arrived = self._arrived
+        self._look()
+
+    def _arrived(self) -> None:
+        self.last = time.monotonic()
+        if self.lost:
+            self.lost = False
+            self.craft.set_link(False)
+
+    def _look(self) -> None:
+        left = self.last + self.seconds - time.monotonic()
+        if self.craft.closed:
+            return
+        if left <= 0 and not self.lost:
+            self.lost = True
+            self.craft.set_link(True)
+        self.craft.engine.loop.call_later(max(left, 0.01) if not self.lost else self.seconds, self._look)
+
+
+class Bench:  # pylint: disable=too-many-instance-attributes  # it is made of these parts
+    """The receiver with its ports, from the begin to the end."""
+
+    def __init__(self, options: Namespace, engine: Engine, journal: Journal, notes: Notes) -> None:
+        self.options, self.engine, self.journal, self.notes = options, engine, journal, notes
+        release = Release.MANUAL if options.release == "manual" else Release.AUTO if options.release_after is None else Release.AFTER
+        self.craft = Craft(engine, journal, options.scid, options.fecf, release, options.release_after or 0.0)
+        self.hub = Hub(self.craft, notes, options.connections, options.patience)
+        self.web: Optional[Web] = None
+        self.listening: Dict[str, List[Port]] = {}
+        self.targets: List[Target] = []
+        self.said_fault = False
+
+    # --- The begin ---
+
+    async def set_up(self, lines: List[Tuple[int, str]]) -> None:
+        """Has the program set up, which may have to be built first."""
+        bad: List[str] = []
+        first: "asyncio.Future[str]" = self.engine.loop.create_future()
+
+        def answered(number: int, line: str, answer: str) -> None:
+            if answer:
+                bad.append(f"{self.options.setup}, line {number}: {answer[4:]}")
+            else:
+                words = line.split(" ")
+                self.craft.note_set_up(words[0], [int(word) for word in words[1:] if word != "plain"], words[-1] == "plain")
+                self.journal.write(line)
+        for number, line in lines:
+            self.engine.set_up(line, partial(answered, number, line))
+        self.engine.ask(tcrx.PROBE, first.set_result)
+        either = {first, self.engine.over}
+        started, _ = await asyncio.wait(either, timeout=SLOW_START, return_when=asyncio.FIRST_COMPLETED)
+        if not started:
+            self.notes.say("tclive isn't up yet; the first start in a tree proves and builds it, which takes minutes")
+            await asyncio.wait(either, return_when=asyncio.FIRST_COMPLETED)
+        if self.engine.over.done():
+            raise NotUp(self.engine.over.result() or "the receiver has ended", 1)
+        if bad:
+            raise NotUp(bad[0], 2)
+
+    async def open_ports(self) -> None:
+        """Opens all ports. Raises `NotUp` where one can't be opened."""
+        makers: Dict[str, Callable[[Port], Connection]] = {
+            "tc-tcp": lambda port: FrameConnection(port, Cutter(self.options.scid, self.options.fill, self.options.resync)),
+            "lines": LineConnection, "clcw-tcp": Reader, "packets-tcp": Reader, "units-tcp": Reader, "http": self._visitor}
+        for place in self.options.places:
+            try:
+                if place.kind in makers:
+                    self.listening.setdefault(place.kind, []).append(await self.hub.listen(place, makers[place.kind]))
+                elif place.kind == "tc-udp":
+                    Datagrams(place, self.hub, self.options.fill)
+                else:
+                    self.targets.append(Target(place, self.hub))
+            except (OSError, OverflowError) as error:
+                raise NotUp(f"--{place.kind} {place.host}:{place.port}: {getattr(error, 'strerror', None) or error}", 1) from None
+        for name, kind in (("send_clcw", "clcw"), ("send_packet", "packets"), ("send_unit", "units")):
+            setattr(self.craft, name, self._sender(kind))
+
+    def _visitor(self, port: Port) -> Visitor:
+        """A connection of the page."""
+        if self.web is None:
+            self.web = Web(self.hub)
+        return Visitor(port, self.web)
+
+    def _sender(self, kind: str) -> Callable[[bytes], None]:
+        """What sends to all places of a kind."""
+        senders: List[Callable[[bytes], None]] = [target.send for target in self.targets if target.port.place.kind == f"{kind}-udp"]
+        return all_senders([*senders, readers_sender(self.listening.get(f"{kind}-tcp", []))])
+
+    def say_ports(self) -> None:
+        """Says where it listens, one line a port. Raises `NotUp` where that can't be written."""
+        lines = [f"{port.place.kind} {port.address}" for port in self.hub.ports]
+        if not self.write("".join(line + "\n" for line in [*lines, "ready"])):
+            raise NotUp("standard output can't be written", 1)
+
+    def write(self, text: str) -> bool:
+        """Writes to standard output; whether that could be done."""
+        try:
+            print(text, end="", flush=True)
+            return True
+        except OSError:
+            # What is left of it isn't tried again at the very end.
+            os.dup2(os.open(os.devnull, os.O_WRONLY), sys.stdout.fileno())
+            return False
+
+    # --- What happens from time to time ---
+
+    def begin_timers(self) -> None:
+        """Begins what happens from time to time."""
+        if self.options.period:
+            self._say_clcw()
+        if self.options.link_timeout:
+            LinkWatch(self.craft, self.options.link_timeout)
+        self._write_log()
+
+    def _say_clcw(self) -> None:
+        """Has a CLCW made, if somebody is there for it."""
+        if self.craft.closed:
+            return
+        if any(target.port.place.kind == "clcw-udp" for target in self.targets) or any(port.open for port in self.listening.get("clcw-tcp", [])):
+            self.craft.say_next_clcw()
+        self.engine.loop.call_later(self.options.period, self._say_clcw)
+
+    def _write_log(self) -> None:
+        """Writes what came to the log."""
+        if self.craft.closed:
+            return
+        self.journal.flush()
+        if self.journal.fault:
+            self._say_log_fault()
+        self.engine.loop.call_later(LOG_PAUSE, self._write_log)
+
+    def _say_log_fault(self) -> None:
+        """Says once that the log ends early."""
+        if not self.said_fault:
+            self.said_fault = True
+            self.notes.say(f"{self.journal.fault}; it ends here, and the bench goes on")
+            self.craft.note_text("log", self.journal.fault)
+
+    # --- The end ---
+
+    async def end(self) -> int:
+        """Answers what has arrived, prints the final report, and closes all; the status."""
+        await self.hub.stop_listening()
+        until = time.monotonic() + self.options.patience
+        while not self.engine.over.done() and not self.craft.idle() and time.monotonic() < until:
+            await asyncio.sleep(0.005)
+        self.craft.closed = True
+        if not self.engine.over.done():
+            self.engine.end_lines()
+            await self.engine.over
+        why = self.engine.over.result()
+        if why:
+            self._tell_all(why)
+        else:
+            self.journal.end(self.engine.report)
+        if self.web:
+            self.web.end(why)
+        self.journal.close()
+        if self.journal.fault:
+            self._say_log_fault()
+        await self.hub.close(LAST_READ)
+        for target in self.targets:
+            target.close()
+        said = bool(why) or self._say_report()
+        return 1 if why or self.journal.fault or not said else 0
+
+    def _say_report(self) -> bool:
+        """Prints the final report; whether that could be written."""
+        if self.write("".join([line + "\n" for line in self.engine.report])):
+            return True
+        self.notes.say("the final report can't be written")
+        return False
+
+    def _tell_all(self, why: str) -> None:
+        """Tells everyone why there are no more answers, and notes what was not answered."""
+        self.notes.say(why)
+        for line, _ in self.engine.pending:
+            self.journal.write(f"# unanswered: {line[:3000]}".replace("\n", " "))
+        self.journal.write(f"# {why}".replace("\n", " "))
+        for port in self.hub.ports:
+            for connection in list(port.open):
+                if connection.welcome and not isinstance(connection, Visitor):
+                    connection.done = True
+                    connection.transport.write(connection.last_words(why))
+
+
+async def serve(options: Namespace, lines: List[Tuple[int, str]]) -> int:
+    """Begins, serves until it is asked to end or the receiver ends, and ends; the status."""
+    loop = asyncio.get_running_loop()
+    asked: "asyncio.Future[str]" = loop.create_future()
+    notes = Notes()
+    try:
+        journal = Journal(options.log, options.scid, options.fecf)
+    except OSError as error:
+        raise NotUp(f"--log {options.log}: {error.strerror}", 2) from None
+    words = [options.program or tcrx.find_program(), "--scid", str(options.scid)] + ["--fecf"] * options.fecf
+    engine = Engine(tcrx.Process(words), options.patience)
+    for number in (signal.SIGTERM, signal.SIGINT, signal.SIGHUP):
+        loop.add_signal_handler(number, lambda: engine.stop("interrupted twice") if asked.done() else asked.set_result("asked to end"))
+    bench = Bench(options, engine, journal, notes)
+    try:
+        await bench.set_up(lines)
+        await bench.open_ports()
+        bench.say_ports()
+    except NotUp as error:
+        engine.stop(str(error))
+        await bench.hub.stop_listening()
+        journal.close()
+        raise
+    for place in options.open_to_others:
+        notes.say(warning_of(place))
+    bench.begin_timers()
+    await asyncio.wait({asked, engine.over}, return_when=asyncio.FIRST_COMPLETED)
+    return await bench.end()
+
+
+def main() -> int:
+    """Reads the command line, and serves or replays; the status."""
+    options = read_words(sys.argv[1:])
+    if options.replay:
+        return replay(options.replay, options.program)
+    try:
+        return asyncio.run(serve(options, read_setup(options.setup) if options.setup else []))
+    except NotUp as error:
+        print(f"tcrx-bench: {error}", file=sys.stderr)
+        return error.status
+    except tcrx.NotStarted as error:
+        print(f"tcrx-bench: {error}", file=sys.stderr)
+        return 1
+    except ValueError as error:
+        print(f"tcrx-bench: {error}", file=sys.stderr)
+        return 2
+
+
+if __name__ == "__main__":
+    sys.exit(main())

@@ -1,0 +1,132 @@
+"""Frames, segments and packets, as far as the bench looks into them: to cut a stream into frames, and to foresee what a frame leads to.
+
+The receiver judges each frame by itself. What is foreseen here saves waiting for answers, and is compared with them.
+"""
+from __future__ import annotations
+
+import re
+from typing import Dict, List, NamedTuple, Optional, Tuple
+
+# Octets of a header, of the shortest frame, and of the longest run of segments that the receiver joins.
+HEADER, SHORTEST, LONGEST_UNIT = 5, 6, 65542
+
+
+class Header(NamedTuple):
+    """The header of a telecommand transfer frame."""
+
+    bypass: bool
+    command: bool
+    scid: int
+    channel: int
+    length: int
+    number: int
+
+
+def header_of(octets: bytes) -> Optional[Header]:
+    """The header at the front, or None where these octets begin no frame."""
+    if len(octets) < HEADER or octets[0] & 0xCC:
+        return None
+    length = ((octets[2] & 3) << 8 | octets[3]) + 1
+    if length < SHORTEST:
+        return None
+    return Header(bool(octets[0] & 0x20), bool(octets[0] & 0x10), (octets[0] & 3) << 8 | octets[1], octets[2] >> 2, length, octets[4])
+
+
+def without_sum(octets: bytes) -> bytes:
+    """A frame without the frame error control field at its end: two octets fewer, and so it says in its length field."""
+    shorter = bytearray(octets[:-2])
+    length = len(shorter) - 1
+    shorter[2] = shorter[2] & 0xFC | length >> 8
+    shorter[3] = length & 255
+    return bytes(shorter)
+
+
+def applications_of(unit: bytes) -> List[int]:
+    """The application of each telecommand packet in a unit, up to octets that begin with no packet."""
+    found, at = [], 0
+    while len(unit) - at >= 7 and unit[at] >> 5 == 0:
+        end = at + 7 + (unit[at + 4] << 8 | unit[at + 5])
+        if end > len(unit):
+            break
+        if unit[at] & 0x10:
+            found.append((unit[at] & 7) << 8 | unit[at + 1])
+        at = end
+    return found
+
+
+class Segments:  # pylint: disable=too-few-public-methods  # a step and its state
+    """The segments of a channel that wait for their last one, by service and MAP."""
+
+    def __init__(self) -> None:
+        self.runs: Dict[Tuple[bool, int], bytearray] = {}
+
+    def add(self, bypass: bool, field: bytes) -> Optional[Tuple[int, bytes]]:
+        """The MAP and the unit that a data field with a segment header ends, or None."""
+        kind, key = field[0] >> 6, (bypass, field[0] & 63)
+        run = self.runs.pop(key, None)
+        if kind == 3:
+            return key[1], field[1:]
+        if kind == 1:
+            self.runs[key] = bytearray(field[1:])
+        elif run is not None and len(run) + len(field) - 1 <= LONGEST_UNIT:
+            run += field[1:]
+            if kind == 2:
+                return key[1], bytes(run)
+            self.runs[key] = run
+        return None
+
+
+class Cutter:
+    """Cuts the octets of one connection into frames by their own length field."""
+
+    def __init__(self, scid: int, fill: int, resync: bool) -> None:
+        self.fill, self.resync, self.scid = fill, resync, scid
+        self.kept, self.to_skip = bytearray(), 0
+        self.place = 0
+        """How many octets were cut off so far."""
+        self.skipped = 0
+        """How many octets began no frame, and were left out to find the next header."""
+        first = bytes(flags << 4 | scid >> 8 for flags in range(4))
+        self.pattern = re.compile(b"[" + re.escape(first) + b"]" + re.escape(bytes([scid & 255])), re.S)
+
+    def feed(self, octets: bytes) -> Tuple[List[bytes], str]:
+        """The frames that are whole now, and what is wrong with the octets behind them, if anything is."""
+        kept = self.kept
+        kept += octets
+        frames: List[bytes] = []
+        at, fault, end = 0, "", len(kept)
+        while not fault:
+            if self.to_skip:
+                step = min(self.to_skip, end - at)
+                at, self.to_skip = at + step, self.to_skip - step
+            if end - at < HEADER:
+                break
+            length = ((kept[at + 2] & 3) << 8 | kept[at + 3]) + 1
+            if kept[at] & 0xCC or length < SHORTEST or (self.resync and not self.pattern.match(kept, at)):
+                if not self.resync:
+                    fault = f"octets that begin no frame: {kept[at:at + HEADER].hex()} at octet {self.place + at}"
+                    break
+                at = self.find_next(at + 1)
+            elif end - at < length:
+                break
+            else:
+                frames.append(bytes(kept[at:at + length]))
+                at += length
+                self.to_skip = -length % self.fill
+        self.place += at
+        del kept[:at]
+        return frames, fault
+
+    def find_next(self, begin: int) -> int:
+        """Where the next header of this spacecraft may begin; what is before it is skipped."""
+        found = self.pattern.search(self.kept, begin)
+        # A last octet may be the first of a header.
+        at = found.start() if found else max(begin, len(self.kept) - 1)
+        self.skipped += at - begin + 1
+        return at
+
+    def skip_begun(self) -> None:
+        """Leaves out the first octet of a frame whose others didn't come."""
+        at = self.find_next(1)
+        self.place += at
+        del self.kept[:at]

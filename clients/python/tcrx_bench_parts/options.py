@@ -1,0 +1,164 @@
+"""The command line of the bench."""
+from __future__ import annotations
+
+import argparse
+import ipaddress
+from pathlib import Path
+from typing import Any, List, Optional, Sequence, Tuple
+
+from tcrx import __version__
+
+from .ports import Place, parse_place
+
+# What is listened on: the option's name, and what it is for.
+LISTENS = (
+    ("tc-tcp", "raw frames over TCP, one after the other"),
+    ("tc-udp", "raw frames over UDP, one in each datagram"),
+    ("lines", "lines of tclive over TCP; answers go to the connection that asked"),
+    ("clcw-tcp", "CLCWs to whoever connects, four octets each"),
+    ("packets-tcp", "packets to whoever connects, one after the other"),
+    ("units-tcp", "units to whoever connects, each after its channel, MAP and length"),
+    ("http", "a page with the state; /state has it as JSON, /metrics for Prometheus"),
+)
+SENDS = (("clcw-udp", "CLCWs to HOST:PORT, one in each datagram"), ("packets-udp", "packets to HOST:PORT, one in each datagram"),
+         ("units-udp", "units to HOST:PORT, one in each datagram"))
+
+
+def number_in(least: int, most: int) -> Any:
+    """A reader of whole numbers of a range."""
+    def read(word: str) -> int:
+        if not word.isascii() or not word.isdecimal() or len(word) > 9 or not least <= int(word) <= most:
+            raise argparse.ArgumentTypeError(f"{word!r} isn't a number from {least} to {most}")
+        return int(word)
+    return read
+
+
+def seconds(word: str) -> float:
+    """A number of seconds."""
+    try:
+        value = float(word)
+    except ValueError:
+        value = -1.0
+    if not 0 <= value <= 1e6:
+        raise argparse.ArgumentTypeError(f"{word!r} isn't a number of seconds")
+    return value
+
+
+class Listen(argparse.Action):
+    """Notes a place that is listened on."""
+
+    def __call__(self, parser: argparse.ArgumentParser, namespace: argparse.Namespace, values: Any, option_string: Optional[str] = None) -> None:
+        kind = self.option_strings[0][2:]
+        sends = kind in [name for name, _ in SENDS]
+        try:
+            place, named = parse_place(kind, values, None if sends else "127.0.0.1")
+        except ValueError:
+            parser.error(f"argument --{kind}: {values!r} isn't {'HOST:PORT' if sends else '[HOST:]PORT'}")
+        namespace.places.append(place)
+        if named and not sends and not is_loopback(place.host):
+            namespace.open_to_others.append(place)
+        namespace.last = None if sends else place
+
+
+class Allow(argparse.Action):
+    """Notes who may connect to the place before it."""
+
+    def __call__(self, parser: argparse.ArgumentParser, namespace: argparse.Namespace, values: Any, option_string: Optional[str] = None) -> None:
+        if namespace.last is None:
+            parser.error("argument --allow: it comes behind the port that it is for")
+        try:
+            namespace.last.allowed.append(ipaddress.ip_network(values))
+        except ValueError:
+            parser.error(f"argument --allow: {values!r} isn't ADDRESS or ADDRESS/BITS, with no bit behind these")
+
+
+def is_loopback(host: str) -> bool:
+    """Whether this machine alone can reach it."""
+    try:
+        return ipaddress.ip_address(host).is_loopback
+    except ValueError:
+        return host == "localhost"
+
+
+class Lines(argparse.RawDescriptionHelpFormatter):
+    """Help with options on lines of their own width."""
+
+    def __init__(self, prog: str) -> None:
+        super().__init__(prog, max_help_position=28, width=118)
+
+
+def make_parser() -> argparse.ArgumentParser:
+    """The parser of the command line."""
+    made = argparse.ArgumentParser(prog="tcrx-bench", allow_abbrev=False, formatter_class=Lines, usage="tcrx-bench --scid N [OPTION]...", description=(
+        "One spacecraft's telecommand receiver for many connections: frames come in over TCP and UDP and go to one tclive;\n"
+        "CLCWs and packets go out. PORT is a port of 127.0.0.1, HOST:PORT one of that host; 0 takes a free port."))
+    made.add_argument("-V", "--version", action="version", version=f"tcrx-bench {__version__}")
+    made.add_argument("--scid", type=number_in(0, 1023), metavar="<N>", help="the spacecraft identifier, 0 to 1023")
+    made.add_argument("--fecf", action="store_true", help="each frame ends with its frame error control field")
+    made.add_argument("--setup", type=Path, metavar="<FILE>", help="a file of channel, queue and map lines")
+    made.add_argument("--program", metavar="<FILE>", help="the tclive to start")
+    for name, text in LISTENS:
+        made.add_argument(f"--{name}", action=Listen, dest="places", metavar="<PORT>", help=text)
+    for name, text in SENDS:
+        made.add_argument(f"--{name}", action=Listen, dest="places", metavar="<PORT>", help=text)
+    made.add_argument("--allow", action=Allow, dest="last", metavar="<ADDRESS>", help="ADDRESS or ADDRESS/BITS: who may use the port before it; again for more")
+    add_behaviour(made)
+    made.set_defaults(places=[], open_to_others=[], last=None)
+    return made
+
+
+def add_behaviour(made: argparse.ArgumentParser) -> None:
+    """Adds the options that say how the bench behaves."""
+    made.add_argument("--fill", type=number_in(1, 1024), default=1, metavar="<N>", help="each frame is padded to a multiple of N octets")
+    made.add_argument("--resync", action="store_true", help="after octets that begin no frame, look for the next header of this spacecraft")
+    made.add_argument("--period", type=seconds, default=1.0, metavar="<SECONDS>", help="time between CLCWs that follow no frame; 1 if not given, 0 for none")
+    made.add_argument("--release", choices=("auto", "manual"), default="auto", metavar="<WHEN>",
+                      help="auto: release and take what is accepted; manual: by lines")
+    made.add_argument("--release-after", type=seconds, metavar="<SECONDS>", help="release and take this long after the frame")
+    made.add_argument("--link-timeout", type=seconds, metavar="<SECONDS>", help="set No RF and No Bit Lock if no frame came for this long")
+    made.add_argument("--connections", type=number_in(1, 10000), default=32, metavar="<N>", help="connections that a port takes at a time; 32 if not given")
+    made.add_argument("--patience", type=seconds, default=10.0, metavar="<SECONDS>",
+                      help="time for the rest of a frame, and for an answer of tclive; 10 if not given")
+    made.add_argument("--log", type=Path, metavar="<FILE>", help="write frames, lines and answers there, as a script; the file must be new")
+    made.add_argument("--replay", type=Path, metavar="<FILE>", help="give a log to tclive, compare the answers, and end")
+
+
+def read_words(words: Sequence[str]) -> argparse.Namespace:
+    """The options; a bad command line ends the program with status 2."""
+    made = make_parser()
+    options = made.parse_args(words)
+    if options.replay:
+        return options
+    if options.scid is None:
+        made.error("the following arguments are required: --scid")
+    if not options.places:
+        made.error("no port is named, so nobody could connect")
+    if options.release_after is not None and options.release == "manual":
+        made.error("argument --release-after: not with --release manual")
+    if not options.patience:
+        made.error("argument --patience: it must be over 0")
+    return options
+
+
+def read_setup(path: Path) -> List[Tuple[int, str]]:
+    """The lines of a file that sets up, with their numbers. Raises `ValueError` where it can't be read or has others."""
+    try:
+        lines = path.read_text(encoding="latin-1").split("\n")
+    except OSError as error:
+        raise ValueError(f"{path} can't be read: {error.strerror}") from None
+    found = []
+    for number, line in enumerate(lines, 1):
+        words = line.split()
+        if not words or words[0].startswith("#"):
+            continue
+        if words[0] not in ("channel", "queue", "map"):
+            raise ValueError(f"{path}, line {number}: only channel, queue and map lines set up")
+        found.append((number, " ".join(words)))
+    return found
+
+
+def warning_of(place: Place) -> str:
+    """What is to be known of a port that others can reach."""
+    who = "whoever is at " + ", ".join(map(str, place.allowed)) if place.allowed else "whoever connects"
+    what = "commands the receiver" if place.kind in ("tc-tcp", "tc-udp", "lines") else "sees what it received"
+    return f"warning: --{place.kind} listens on {place.host}: {who} {what}, without any login"

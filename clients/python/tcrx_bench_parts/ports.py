@@ -1,0 +1,559 @@
+"""The ports of the bench: frames and lines come in, CLCWs, packets and units go out. All in the thread of the event loop."""
+from __future__ import annotations
+
+import asyncio
+import ipaddress
+import re
+import socket
+import sys
+import time
+from collections import deque
+from typing import Callable, Deque, Dict, List, NamedTuple, Optional, Set, Tuple, Union, cast
+
+from .craft import Craft
+from .octets import Cutter
+
+# Octets of a line, without its end; octets that wait for a slow reader of CLCWs, and of packets or units; lines of one connection that
+# wait for their answers.
+LONGEST_LINE, MOST_WORDS, MOST_KEPT, MOST_ASKED = 8192, 1024, 1 << 22, 512
+# Octets of the kernel's buffer for a reader of CLCWs: old ones are of no use.
+CLCW_BUFFER = 4096
+# Octets that are read at once, so that nobody waits long for another.
+CHUNK = 1 << 14
+# Datagrams that are read at once, the octets of one, and turns that wait for the receiver beyond which datagrams are lost.
+MOST_AT_ONCE, LONGEST_DATAGRAM, MOST_BEFORE = 64, 65536, 16384
+# Octets that the kernel keeps of datagrams, where it may.
+DATAGRAM_BUFFER = 1 << 22
+# Seconds that a connection that was told why it is closed has to read that, and how many such there are at most.
+LINGER, MOST_LINGERING = 0.5, 256
+
+Network = Union[ipaddress.IPv4Network, ipaddress.IPv6Network]
+WORDS = re.compile(r"[ \t\r]+")
+
+
+class Place(NamedTuple):
+    """A port that is listened on, or that datagrams go to: what for, the host and the port, and who may connect."""
+
+    kind: str
+    host: str
+    port: int
+    allowed: List[Network] = []
+
+    def allows(self, address: str) -> bool:
+        """Whether one with this address may connect."""
+        if not self.allowed:
+            return True
+        given = ipaddress.ip_address(address.partition("%")[0])
+        mapped = getattr(given, "ipv4_mapped", None)
+        return any((mapped or given) in network for network in self.allowed)
+
+
+def shown(host: str, port: int) -> str:
+    """An address as it is written in the command line."""
+    return f"[{host}]:{port}" if ":" in host else f"{host}:{port}"
+
+
+class Notes:  # pylint: disable=too-few-public-methods  # what it has said counts
+    """Says on standard error what happens, but not without end: of more lines than some in ten seconds their number is said."""
+
+    MOST, SECONDS = 20, 10.0
+
+    def __init__(self) -> None:
+        self.begun, self.count = 0.0, 0
+
+    def say(self, text: str) -> None:
+        """Writes a line."""
+        now = time.monotonic()
+        if now - self.begun > self.SECONDS:
+            if self.count > self.MOST:
+                self._print(f"{self.count - self.MOST} more such lines weren't written")
+            self.begun, self.count = now, 0
+        self.count += 1
+        if self.count <= self.MOST:
+            self._print(text)
+
+    @staticmethod
+    def _print(text: str) -> None:
+        try:
+            print(f"tcrx-bench: {text}", file=sys.stderr, flush=True)
+        except OSError:
+            pass
+
+
+class Port:
+    """A port with its connections and what is counted there."""
+
+    def __init__(self, place: Place, hub: Hub) -> None:
+        self.place, self.hub = place, hub
+        self.address = shown(place.host, place.port)
+        self.open: Set[Connection] = set()
+        self.counts: Dict[str, int] = {}
+        self.server: Optional[asyncio.AbstractServer] = None
+
+    def count(self, what: str, more: int = 1) -> None:
+        """Counts what happened here."""
+        self.counts[what] = self.counts.get(what, 0) + more
+        self.hub.craft.changes += 1
+
+    def note(self, peer: str, text: str) -> None:
+        """Says what happened with a peer, on standard error and among the events."""
+        self.hub.notes.say(f"{self.place.kind} {peer}: {text}")
+        self.hub.craft.note_text(f"{self.place.kind} {peer}", text)
+
+    def state(self) -> Dict[str, object]:
+        """What is known of it, as values of JSON."""
+        return {"port": self.place.kind, "address": self.address, "open": len(self.open), **self.counts}
+
+
+class Hub:
+    """All ports with what they share."""
+
+    def __init__(self, craft: Craft, notes: Notes, most: int, patience: float) -> None:
+        self.craft, self.notes, self.most, self.patience = craft, notes, most, patience
+        self.ports: List[Port] = []
+        self.datagrams: List[Datagrams] = []
+        self.loop = asyncio.get_running_loop()
+        self.lingering: Dict[Connection, None] = {}
+        """Those that were told why they are closed, in that order."""
+        self.closed = False
+        craft.slow = self._slow
+        self._sweep()
+
+    def _slow(self, slow: bool) -> None:
+        """Reads nothing more that leads to lines for the receiver, or reads on."""
+        for port in self.ports:
+            for connection in port.open:
+                connection.hold(slow)
+
+    def _sweep(self) -> None:
+        """Looks at each connection from time to time."""
+        if not self.closed:
+            for port in self.ports:
+                for connection in list(port.open):
+                    connection.look()
+            self.loop.call_later(min(1.0, self.patience / 4), self._sweep)
+
+    async def listen(self, place: Place, made: Callable[[Port], Connection]) -> Port:
+        """Listens for connections. Raises `OSError` where that can't be done."""
+        port = Port(place, self)
+        port.server = await self.loop.create_server(lambda: made(port), place.host, place.port)
+        port.address = address_of(port.server.sockets[0])
+        self.ports.append(port)
+        return port
+
+    def linger(self, connection: Connection) -> None:
+        """Closes a connection once the other end had time to read why. Where too many wait for that, the oldest had its time."""
+        if len(self.lingering) >= MOST_LINGERING:
+            next(iter(self.lingering)).leave()
+        self.lingering[connection] = None
+        self.loop.call_later(LINGER, connection.leave)
+
+    async def stop_listening(self) -> None:
+        """Takes no more connections, and reads nothing more."""
+        self.closed = True
+        for port in self.ports:
+            if port.server:
+                port.server.close()
+            for connection in port.open:
+                connection.hold(True)
+        for each in self.datagrams:
+            each.close()
+
+    async def close(self, seconds: float) -> None:
+        """Closes all connections; one that doesn't read what is there for it is cut off after some seconds."""
+        for port in self.ports:
+            for connection in list(port.open):
+                connection.transport.close()
+        until = time.monotonic() + seconds
+        while any(port.open for port in self.ports) and time.monotonic() < until:
+            await asyncio.sleep(0.01)
+        for port in self.ports:
+            for connection in list(port.open):
+                connection.transport.abort()
+        await asyncio.sleep(0)
+
+
+def address_of(given: socket.socket) -> str:
+    """Where a socket is bound."""
+    host, port = given.getsockname()[:2]
+    return shown(host, port)
+
+
+class Connection(asyncio.BufferedProtocol):
+    """One connection. `welcome` says whether a text may be written to it before it is closed."""
+
+    welcome = True
+    transport: asyncio.Transport
+    # What is read is passed on before anything else is read, so all have one buffer.
+    room = bytearray(CHUNK)
+
+    def __init__(self, port: Port) -> None:
+        self.port, self.hub = port, port.hub
+        self.peer, self.source = "", ""
+        self.done = self.paused = False
+
+    def connection_made(self, transport: asyncio.BaseTransport) -> None:
+        """Takes the connection, or says why not."""
+        self.transport = cast(asyncio.Transport, transport)
+        name = transport.get_extra_info("peername") or ("?", 0)
+        self.peer = shown(name[0], name[1])
+        self.source = f"{self.port.place.kind} {self.peer}"
+        if not self.port.place.allows(name[0]):
+            self._refuse("this address isn't allowed here")
+        elif len(self.port.open) >= self.hub.most:
+            self._refuse(f"there are {self.hub.most} connections, and no more are taken")
+        else:
+            self.port.open.add(self)
+            self.port.count("connections")
+            self.opened()
+            if self.hub.craft.is_slow:
+                self.hold(True)
+
+    def _refuse(self, why: str) -> None:
+        """Counts and closes a connection that isn't taken."""
+        self.port.count("turned_away")
+        self.turn_away(why)
+
+    def opened(self) -> None:
+        """The connection was taken."""
+
+    def get_buffer(self, sizehint: int) -> bytearray:
+        """Where octets are read to."""
+        return self.room
+
+    def buffer_updated(self, nbytes: int) -> None:
+        """So many octets were read."""
+        self.data_received(bytes(self.room[:nbytes]))
+
+    def data_received(self, data: bytes) -> None:
+        """What came; nothing is done with it where nothing is to come."""
+
+    def turn_away(self, why: str) -> None:
+        """Says why the connection is closed, and closes it once the other end had time to read that."""
+        if self.done:
+            return
+        self.done = True
+        self.port.note(self.peer, why)
+        if not self.welcome:
+            self.transport.abort()
+            return
+        self.transport.write(self.last_words(why))
+        if self.transport.can_write_eof():
+            self.transport.write_eof()
+        # What still comes is read, as the text would be lost otherwise.
+        self.hub.linger(self)
+
+    def last_words(self, why: str) -> bytes:
+        """What is written before the connection is closed."""
+        return f"tcrx-bench: {why}\n".encode("ascii", errors="replace")
+
+    def leave(self) -> None:
+        """Closes the connection, where it isn't over."""
+        self.hub.lingering.pop(self, None)
+        self.transport.abort()
+
+    def connection_lost(self, exc: Optional[Exception]) -> None:
+        """The connection is over."""
+        self.hub.lingering.pop(self, None)
+        self.port.open.discard(self)
+        self.hub.craft.changes += 1
+
+    def hold(self, held: bool) -> None:
+        """Reads nothing for now, or reads on."""
+
+    def look(self) -> None:
+        """Looks whether it is time for something."""
+
+    def pause_writing(self) -> None:
+        """The other end doesn't read what is written."""
+        self.paused = True
+
+    def resume_writing(self) -> None:
+        """It does again."""
+        self.paused = False
+
+
+class FrameConnection(Connection):
+    """Raw frames, one after the other."""
+
+    def __init__(self, port: Port, cutter: Cutter) -> None:
+        super().__init__(port)
+        self.cutter = cutter
+        self.begun: Optional[float] = None
+        """Since when a frame has begun that isn't whole."""
+
+    def data_received(self, data: bytes) -> None:
+        """Brings the frames that are whole now."""
+        if self.done:
+            return
+        skipped = self.cutter.skipped
+        frames, fault = self.cutter.feed(data)
+        for frame in frames:
+            self.hub.craft.bring(frame, self.source)
+        self.port.count("frames", len(frames))
+        if frames or not self.cutter.kept:
+            self.begun = None
+        if self.cutter.kept and self.begun is None:
+            self.begun = time.monotonic()
+        if self.cutter.skipped != skipped:
+            self._note_skipped(self.cutter.skipped - skipped, "octets began no frame")
+        if fault:
+            self.port.count("faults")
+            self.turn_away(fault)
+
+    def _note_skipped(self, count: int, why: str) -> None:
+        self.port.count("skipped_octets", count)
+        self.port.note(self.peer, f"{count} octets skipped: {why}")
+
+    def look(self) -> None:
+        """A frame that has begun must be whole after some time."""
+        if self.begun is None or self.done or time.monotonic() - self.begun < self.hub.patience:
+            return
+        what = f"{len(self.cutter.kept)} octets of a frame, and no more within {self.hub.patience:g} seconds"
+        self.port.count("faults")
+        if not self.cutter.resync:
+            self.turn_away(what)
+            return
+        self.begun = None
+        skipped = self.cutter.skipped
+        self.cutter.skip_begun()
+        self._note_skipped(self.cutter.skipped - skipped, what)
+        self.data_received(b"")
+
+    def connection_lost(self, exc: Optional[Exception]) -> None:
+        """Says so where it ended within a frame."""
+        if self.cutter.kept and not self.done:
+            self.port.count("faults")
+            self.port.note(self.peer, f"the connection ended with {len(self.cutter.kept)} octets of a frame")
+        super().connection_lost(exc)
+
+    def hold(self, held: bool) -> None:
+        hold_transport(self, held)
+
+
+def hold_transport(connection: Connection, held: bool) -> None:
+    """Has a transport read nothing, or read on."""
+    if connection.transport.is_closing():
+        return
+    if held and connection.transport.is_reading():
+        connection.transport.pause_reading()
+    elif not held and not connection.transport.is_reading():
+        connection.transport.resume_reading()
+
+
+class LineConnection(Connection):
+    """Lines, as `tclive` reads them; the answers go back."""
+
+    def __init__(self, port: Port) -> None:
+        super().__init__(port)
+        self.begun = b""
+        self.too_long = False
+        self.asked = 0
+        self.held = self.ended = False
+
+    def data_received(self, data: bytes) -> None:
+        """Passes the lines that are whole on."""
+        if self.done:
+            return
+        *lines, begun = (self.begun + data).split(b"\n")
+        for line in lines:
+            self._order(line, self.too_long)
+            self.too_long = False
+        self.too_long = self.too_long or len(begun) > LONGEST_LINE
+        self.begun = begun[:LONGEST_LINE + 1]
+        self._balance()
+
+    def _order(self, octets: bytes, too_long: bool) -> None:
+        """Passes a line on, unless it has neither an answer nor an effect."""
+        if too_long or len(octets) > LONGEST_LINE:
+            # A line that is answered `bad` in any case, so that the answers keep their order.
+            self._ask("?", "bad too long")
+            return
+        words = [word for word in WORDS.split(octets.decode("latin-1")) if word]
+        if words and not words[0].startswith("#"):
+            self.port.count("lines")
+            self._ask(" ".join(words))
+
+    def _ask(self, line: str, instead: str = "") -> None:
+        """Passes a line on, and writes its answer, or another one instead. A good line that sets up has none."""
+        def answered(answer: str) -> None:
+            self.asked -= 1
+            if answer and not self.transport.is_closing():
+                self.transport.write(f"{instead or answer}\n".encode("ascii", errors="replace"))
+            self._balance()
+        self.asked += 1
+        self.hub.craft.order(line, self.source, answered)
+
+    def _balance(self) -> None:
+        """Reads no more lines while many answers are to come, or aren't read."""
+        hold_transport(self, self.held or self.asked > MOST_ASKED or self.paused)
+        if self.ended and not self.asked and not self.transport.is_closing():
+            self.transport.close()
+
+    def eof_received(self) -> bool:
+        """No more lines come; the answers of those that are under way still go out."""
+        if self.begun and not self.done:
+            self._order(self.begun, self.too_long)
+            self.begun = b""
+        self.ended = True
+        self.hub.loop.call_soon(self._balance)
+        return not self.done
+
+    def hold(self, held: bool) -> None:
+        self.held = held
+        self._balance()
+
+    def pause_writing(self) -> None:
+        super().pause_writing()
+        self._balance()
+
+    def resume_writing(self) -> None:
+        super().resume_writing()
+        self._balance()
+
+
+class Reader(Connection):
+    """One that reads CLCWs, packets or units. Where it is slow it loses the oldest of what waits."""
+
+    welcome = False
+
+    def __init__(self, port: Port) -> None:
+        super().__init__(port)
+        self.kept: Deque[bytes] = deque()
+        self.size, self.most = 0, MOST_WORDS if port.place.kind == "clcw-tcp" else MOST_KEPT
+        self.called = False
+
+    def opened(self) -> None:
+        """Small buffers: what waits is to wait here, where the oldest can be left out."""
+        self.transport.set_write_buffer_limits(0)
+        if self.most == MOST_WORDS:
+            self.transport.get_extra_info("socket").setsockopt(socket.SOL_SOCKET, socket.SO_SNDBUF, CLCW_BUFFER)
+
+    def send(self, octets: bytes) -> None:
+        """Keeps this for the reader, and leaves out the oldest of what it didn't read."""
+        self.kept.append(octets)
+        self.size += len(octets)
+        while self.size > self.most and self.paused:
+            self.size -= len(self.kept.popleft())
+            self.port.count("lost")
+        if not self.called and not self.paused:
+            self.called = True
+            self.hub.loop.call_soon(self._write)
+
+    def _write(self) -> None:
+        """Writes all that is kept, in one go."""
+        self.called = False
+        if self.kept and not self.paused and not self.transport.is_closing():
+            self.port.count("sent", len(self.kept))
+            octets = b"".join(self.kept)
+            self.kept.clear()
+            self.size = 0
+            self.transport.write(octets)
+
+    def resume_writing(self) -> None:
+        super().resume_writing()
+        self._write()
+
+    def connection_lost(self, exc: Optional[Exception]) -> None:
+        """What it didn't read is lost."""
+        if self.kept:
+            self.port.count("lost", len(self.kept))
+        super().connection_lost(exc)
+
+
+def readers_sender(ports: List[Port]) -> Callable[[bytes], None]:
+    """What sends octets to all readers of these ports."""
+    def send(octets: bytes) -> None:
+        for port in ports:
+            for connection in port.open:
+                cast(Reader, connection).send(octets)
+    return send
+
+
+# --- Datagrams ---
+
+def bound(place: Place) -> socket.socket:
+    """A socket for datagrams that come to a place."""
+    family, _, _, _, address = socket.getaddrinfo(place.host, place.port, type=socket.SOCK_DGRAM)[0]
+    given = socket.socket(family, socket.SOCK_DGRAM)
+    try:
+        given.setblocking(False)
+        given.bind(address)
+    except OSError:
+        given.close()
+        raise
+    return given
+
+
+class Datagrams:  # pylint: disable=too-few-public-methods  # it is called by the event loop
+    """A port that takes a frame in each datagram."""
+
+    def __init__(self, place: Place, hub: Hub, fill: int) -> None:
+        self.port, self.hub, self.fill = Port(place, hub), hub, fill
+        self.socket = bound(place)
+        self.socket.setsockopt(socket.SOL_SOCKET, socket.SO_RCVBUF, DATAGRAM_BUFFER)
+        self.port.address = address_of(self.socket)
+        hub.ports.append(self.port)
+        hub.datagrams.append(self)
+        hub.loop.add_reader(self.socket, self._read)
+
+    def _read(self) -> None:
+        """Brings the frames of some datagrams. Where too much waits before them they are lost, and counted."""
+        for _ in range(MOST_AT_ONCE):
+            try:
+                octets, sender = self.socket.recvfrom(LONGEST_DATAGRAM)
+            except OSError:
+                return
+            if not self.port.place.allows(sender[0]):
+                self.port.count("turned_away")
+            elif len(self.hub.craft.waiting) > MOST_BEFORE:
+                self.port.count("lost")
+            else:
+                self.port.count("frames")
+                if self.fill > 1 and len(octets) >= 4:
+                    octets = octets[:((octets[2] & 3) << 8 | octets[3]) + 1]
+                self.hub.craft.bring(octets, f"{self.port.place.kind} {shown(sender[0], sender[1])}")
+
+    def close(self) -> None:
+        """Reads nothing more."""
+        self.hub.loop.remove_reader(self.socket)
+        self.socket.close()
+
+
+class Target:
+    """A place that datagrams are sent to."""
+
+    def __init__(self, place: Place, hub: Hub) -> None:
+        family, _, _, _, self.address = socket.getaddrinfo(place.host, place.port, type=socket.SOCK_DGRAM)[0]
+        self.socket = socket.socket(family, socket.SOCK_DGRAM)
+        self.socket.setblocking(False)
+        self.port = Port(place, hub)
+        hub.ports.append(self.port)
+
+    def send(self, octets: bytes) -> None:
+        """Sends a datagram; one that can't be sent is lost."""
+        try:
+            self.socket.sendto(octets, self.address)
+            self.port.count("sent")
+        except OSError:
+            self.port.count("lost")
+
+    def close(self) -> None:
+        """Sends nothing more."""
+        self.socket.close()
+
+
+def all_senders(senders: List[Callable[[bytes], None]]) -> Callable[[bytes], None]:
+    """What calls each of these."""
+    def send(octets: bytes) -> None:
+        for each in senders:
+            each(octets)
+    return send
+
+
+def parse_place(kind: str, word: str, default: Optional[str] = "127.0.0.1") -> Tuple[Place, bool]:
+    """The place that `[HOST:]PORT` names, and whether a host was named. Raises `ValueError` where it is none."""
+    found = re.fullmatch(r"(?:(\[[^\]]+\]|[^:\[\]]+):)?(\d{1,5})", word)
+    if found is None or int(found[2]) > 65535 or (default is None and found[1] is None):
+        raise ValueError(word)
+    return Place(kind, found[1].strip("[]") if found[1] else str(default), int(found[2]), []), found[1] is not None

@@ -1,0 +1,262 @@
+"""The page: one file, the state as JSON and as Prometheus text, and server-sent events. It only reads."""
+from __future__ import annotations
+
+import base64
+import hashlib
+import ipaddress
+import json
+import re
+import time
+from pathlib import Path
+from typing import Dict, Iterator, List, Optional, Tuple, cast
+
+from tcrx import __version__
+
+from .ports import Connection, Hub, Port
+
+PAGE = Path(__file__).resolve().parent / "page.html"
+# Octets of a request, and seconds between two looks at what changed.
+LONGEST_REQUEST, PAUSE = 8192, 0.2
+# Seconds after which something is sent, so that a connection that is gone is noticed.
+BREATH = 15.0
+HEADERS = "X-Content-Type-Options: nosniff\r\nReferrer-Policy: no-referrer\r\nCache-Control: no-store\r\nConnection: close\r\n"
+
+
+def hash_of(text: str) -> str:
+    """What the content security policy says of a script or a style sheet."""
+    return f"'sha256-{base64.b64encode(hashlib.sha256(text.encode()).digest()).decode()}'"
+
+
+def policy_of(page: str) -> str:
+    """The content security policy: the page's own script and style sheet, and this server."""
+    scripts, styles = (" ".join(hash_of(text) for text in re.findall(rf"<{name}>(.*?)</{name}>", page, re.S)) for name in ("script", "style"))
+    return (f"default-src 'none'; script-src {scripts}; style-src {styles}; connect-src 'self'; img-src data:; base-uri 'none'; form-action 'none'; "
+            "frame-ancestors 'none'")
+
+
+class Web:
+    """What the connections of the page share."""
+
+    def __init__(self, hub: Hub) -> None:
+        self.hub, self.craft = hub, hub.craft
+        self.page = PAGE.read_text(encoding="utf-8")
+        self.policy = policy_of(self.page)
+        self.begun = time.time()
+        self.receiver = "running"
+        self.followers: List[Follower] = []
+        self.shown = -1
+        self.asked = False
+        self._tick()
+
+    def state(self, since: int = 0) -> Dict[str, object]:
+        """All that is known, with the events after one of this number."""
+        return {"program": f"tcrx-bench {__version__}", "receiver": self.receiver, "begun": round(self.begun, 3),
+                "seconds": round(self.craft.now(), 3), **self.craft.state(), "ports": [port.state() for port in self.hub.ports],
+                "count_of_events": self.craft.count_of_events,
+                "events": [event for event in self.craft.last_events if cast(int, event["id"]) > since]}
+
+    def _tick(self) -> None:
+        """Looks from time to time whether something changed that is to be sent."""
+        if self.hub.closed:
+            return
+        followers = [each for each in self.followers if not each.paused]
+        if followers and not self.asked and (self.craft.changes != self.shown or any(each.is_new() for each in followers)):
+            self.asked = True
+            self.shown = self.craft.changes
+            self.craft.refresh(self.send)
+        self.hub.loop.call_later(PAUSE, self._tick)
+
+    def send(self) -> None:
+        """Sends what changed to each that follows and is not slow; one that is gets all of it later, but for events that are too old."""
+        self.asked = False
+        for each in self.followers:
+            if not each.paused:
+                each.send(self.state(each.seen))
+
+    def end(self, why: str) -> None:
+        """Says that the receiver is no more."""
+        self.receiver = why or "ended"
+        self.send()
+
+
+def allowed_host(name: str, named: str) -> bool:
+    """Whether a request may be for a host of this name: an address, this machine or the one that was named. Another site that has its
+    name lead here can't read the page so."""
+    host = re.sub(r":\d+$", "", name).strip("[]")
+    try:
+        ipaddress.ip_address(host)
+        return True
+    except ValueError:
+        return host.lower() in ("localhost", named.lower())
+
+
+class Visitor(Connection):
+    """One request over HTTP."""
+
+    def __init__(self, port: Port, web: Web) -> None:
+        super().__init__(port)
+        self.web = web
+        self.request = b""
+        self.came = time.monotonic()
+        self.follower: Optional[Follower] = None
+
+    def last_words(self, why: str) -> bytes:
+        return answer(503, "text/plain", f"{why}\n")
+
+    def data_received(self, data: bytes) -> None:
+        """Answers once the request is whole."""
+        if self.done or self.follower:
+            return
+        self.request += data
+        head, end, _ = self.request.partition(b"\r\n\r\n")
+        if len(head) > LONGEST_REQUEST:
+            self._say(431, "the request is too long\n")
+        elif end:
+            self._answer(head.decode("latin-1").split("\r\n"))
+
+    def look(self) -> None:
+        """A request must be whole after some time, and one that follows is sent something from time to time."""
+        if self.follower:
+            self.follower.breathe()
+        elif not self.done and time.monotonic() - self.came > self.hub.patience:
+            self._say(408, f"no whole request within {self.hub.patience:g} seconds\n")
+
+    def _say(self, status: int, text: str, kind: str = "text/plain", more: str = "") -> None:
+        """Writes an answer, and closes."""
+        self.done = True
+        self.port.count("requests")
+        self.transport.write(answer(status, kind, text, more, body=not self.request.startswith(b"HEAD ")))
+        self.transport.close()
+
+    def _answer(self, lines: List[str]) -> None:
+        """The answer to a request."""
+        found = re.fullmatch(r"([A-Z]+) (/[^ ?]*)(?:\?[^ ]*)? HTTP/1\.[01]", lines[0])
+        method, path = (found[1], found[2]) if found else ("", "")
+        hosts = [line.partition(":")[2].strip() for line in lines[1:] if line.lower().startswith("host:")]
+        if found is None:
+            self._say(400, "this is no request\n")
+        elif len(hosts) > 1 or not all(allowed_host(host, self.port.place.host) for host in hosts):
+            self._say(421, "this host isn't served here\n")
+        elif method not in ("GET", "HEAD"):
+            self._say(405, "this page only reads\n", more="Allow: GET, HEAD\r\n")
+        elif path == "/":
+            self._say(200, self.web.page, "text/html", f"Content-Security-Policy: {self.web.policy}\r\n")
+        elif path in ("/state", "/metrics"):
+            self.done = True
+            self.web.craft.refresh(lambda: self._say_state(path))
+        elif path == "/events" and method == "GET":
+            self.follower = Follower(self)
+        else:
+            self._say(404, "there is /, /state, /metrics and /events\n")
+
+    def _say_state(self, path: str) -> None:
+        """The state at this moment."""
+        if self.transport.is_closing():
+            return
+        if path == "/state":
+            self._say(200, json.dumps(self.web.state()) + "\n", "application/json")
+        else:
+            self._say(200, "".join(line + "\n" for line in metrics_of(self.web.state())), "text/plain; version=0.0.4")
+
+    def connection_lost(self, exc: Optional[Exception]) -> None:
+        if self.follower and self.follower in self.web.followers:
+            self.web.followers.remove(self.follower)
+        super().connection_lost(exc)
+
+
+STATUSES = {200: "OK", 400: "Bad Request", 404: "Not Found", 405: "Method Not Allowed", 408: "Request Timeout", 421: "Misdirected Request",
+            431: "Request Header Fields Too Large", 503: "Service Unavailable"}
+
+
+def answer(status: int, kind: str, text: str, more: str = "", body: bool = True) -> bytes:
+    """An answer over HTTP."""
+    octets = text.encode()
+    named = kind if "version=" in kind else f"{kind}; charset=utf-8"
+    head = f"HTTP/1.1 {status} {STATUSES[status]}\r\nContent-Type: {named}\r\nContent-Length: {len(octets)}\r\n{HEADERS}{more}\r\n"
+    return head.encode("latin-1") + (octets if body else b"")
+
+
+class Follower:
+    """A page that is sent what changes, as server-sent events."""
+
+    def __init__(self, visitor: Visitor) -> None:
+        self.visitor = visitor
+        self.seen, self.sent = 0, 0.0
+        visitor.port.count("requests")
+        visitor.transport.set_write_buffer_limits(1 << 16)
+        visitor.transport.write(f"HTTP/1.1 200 OK\r\nContent-Type: text/event-stream; charset=utf-8\r\n{HEADERS}\r\nretry: 2000\n\n".encode())
+        visitor.web.followers.append(self)
+
+    @property
+    def paused(self) -> bool:
+        """Whether what was sent before isn't read yet."""
+        return self.visitor.paused
+
+    def is_new(self) -> bool:
+        """Whether nothing was sent to it yet."""
+        return self.sent == 0.0
+
+    def send(self, state: Dict[str, object]) -> None:
+        """Sends a state."""
+        self.seen, self.sent = cast(int, state["count_of_events"]), time.monotonic()
+        self.visitor.transport.write(f"data: {json.dumps(state)}\n\n".encode())
+
+    def breathe(self) -> None:
+        """Sends a comment where nothing was sent for long."""
+        if self.sent and not self.paused and time.monotonic() - self.sent > BREATH:
+            self.sent = time.monotonic()
+            self.visitor.transport.write(b": still here\n\n")
+
+
+# --- Prometheus ---
+
+def labelled(name: str, **labels: object) -> str:
+    """A name with its labels."""
+    words = ",".join(f'{label}="{value}"' for label, value in labels.items())
+    return f"tcrx_{name}{{{words}}}" if words else f"tcrx_{name}"
+
+
+def channel_metrics(channel: Dict[str, object]) -> Iterator[Tuple[str, str, Dict[str, object], object]]:
+    """The name, the kind, the labels and the value of each figure of a channel."""
+    about = {"channel": channel["channel"]}
+    for event, count in cast(Dict[str, int], channel["events"]).items():
+        yield "frames_total", "counter", {**about, "event": event}, count
+    for flag in ("lockout", "wait", "retransmit", "no_rf", "no_bit_lock"):
+        yield "flag", "gauge", {**about, "flag": flag}, int(cast(bool, channel[flag]))
+    yield "vr", "gauge", about, channel["vr"]
+    yield "farm_b", "gauge", about, channel["farm_b"]
+    buffer = cast(Dict[str, int], channel["buffer"])
+    yield "buffer_fields", "gauge", about, buffer["used"]
+    for name, key in (("queue_packets", "apid"), ("map_units", "map")):
+        for queue in cast(List[Dict[str, int]], channel["queues" if key == "apid" else "maps"]):
+            yield name, "gauge", {**about, key: queue[key]}, queue["used"]
+
+
+def all_metrics(state: Dict[str, object]) -> Iterator[Tuple[str, str, Dict[str, object], object]]:
+    """The same of all that is known."""
+    yield "seconds", "gauge", {}, state["seconds"]
+    yield "packets_total", "counter", {}, state["packets"]
+    yield "units_total", "counter", {}, state["units"]
+    for name in ("refused", "bad"):
+        for reason, count in cast(Dict[str, int], state[name]).items():
+            yield f"{name}_total", "counter", {"reason": reason}, count
+    for channel in cast(List[Dict[str, object]], state["channels"]):
+        yield from channel_metrics(channel)
+    for port in cast(List[Dict[str, object]], state["ports"]):
+        about = {"port": port["port"], "address": port["address"]}
+        yield "port_open", "gauge", about, port["open"]
+        for what, value in port.items():
+            if what not in about and what != "open":
+                yield f"port_{what}_total", "counter", about, value
+
+
+def metrics_of(state: Dict[str, object]) -> Iterator[str]:
+    """The lines of the Prometheus text: those of one name together, behind its kind."""
+    families: Dict[str, List[str]] = {}
+    kinds: Dict[str, str] = {}
+    for name, kind, labels, value in all_metrics(state):
+        kinds[name] = kind
+        families.setdefault(name, []).append(f"{labelled(name, **labels)} {value}")
+    for name, lines in families.items():
+        yield f"# TYPE tcrx_{name} {kinds[name]}"
+        yield from lines

@@ -1,0 +1,20 @@
+# Completion of tcrx-bench for Bash: its options, the files of those that take one, and the file behind a redirection.
+_tcrx_bench() {
+    local current=${COMP_WORDS[COMP_CWORD]} previous=${COMP_WORDS[COMP_CWORD - 1]}
+    COMPREPLY=()
+    if [[ $previous == *[\<\>]* || $previous == @(--setup|--program|--log|--replay) ]]; then
+        mapfile -t COMPREPLY < <(compgen -f -- "$current")
+        compopt -o filenames 2>/dev/null
+        return
+    fi
+    case $previous in
+        --release) mapfile -t COMPREPLY < <(compgen -W 'auto manual' -- "$current") ;;
+        # A number, a port or an address follows.
+        --scid | --tc-* | --lines | --clcw-* | --packets-* | --units-* | --http | --allow | --fill | --period | --release-after | --link-timeout | \
+            --connections | --patience) ;;
+        *) mapfile -t COMPREPLY < <(compgen -W '--scid --fecf --setup --program --tc-tcp --tc-udp --lines --clcw-tcp --packets-tcp --units-tcp --http
+            --clcw-udp --packets-udp --units-udp --allow --fill --resync --period --release --release-after --link-timeout --connections --patience
+            --log --replay -h --help -V --version' -- "$current") ;;
+    esac
+}
+complete -F _tcrx_bench tcrx-bench

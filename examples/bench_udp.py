@@ -1,0 +1,92 @@
+"""The sender of bench.py, which sends its frames to tcrx-bench by UDP. Usage: python3 examples/bench_udp.py SEED [--fecf]"""
+import select
+import signal
+import socket
+import subprocess
+import sys
+import tempfile
+from contextlib import contextmanager
+from pathlib import Path
+from typing import Dict, Iterator, List, Optional
+
+TOP = Path(__file__).resolve().parent.parent
+sys.path[:0] = [str(TOP / "examples"), str(TOP / "clients/python")]
+# pylint: disable-next=wrong-import-position  # both are found by the path above
+import bench
+from tcrx import Clcw  # pylint: disable=wrong-import-position
+
+# Seconds without a CLCW after which no more are expected, and between two that follow no frame.
+QUIET, PERIOD = 0.004, "0.02"
+
+
+class Remote:
+    """What the sender needs of a receiver, over the ports of a bench that releases and takes by itself."""
+
+    def __init__(self, frames: int, packets: int, clcws: socket.socket) -> None:
+        self.clcws, self.frames = clcws, socket.socket(socket.AF_INET, socket.SOCK_DGRAM)
+        self.frames.connect(("127.0.0.1", frames))
+        self.packets_link = socket.create_connection(("127.0.0.1", packets), 60)
+        self.left = b""
+
+    def bring(self, octets: bytes) -> None:
+        """Sends what the link makes of a frame."""
+        self.frames.send(octets)
+
+    def clcw(self, vcid: int) -> Clcw:
+        """The newest CLCW, once all frames that were sent are answered: no other one comes for a moment."""
+        octets = self.clcws.recv(4)
+        while select.select([self.clcws], [], [], QUIET)[0]:
+            octets = self.clcws.recv(4)
+        clcw = Clcw(int.from_bytes(octets, "big"))
+        assert clcw.channel == vcid
+        return clcw
+
+    def release(self, _: int) -> bool:
+        """Whether packets came: the bench released them."""
+        return bool(select.select([self.packets_link], [], [], 0)[0])
+
+    def packets(self, _: int, apid: int) -> Iterator[bytes]:
+        """The packets that came, each as long as its length field says."""
+        self.left += self.packets_link.recv(65536)
+        while len(self.left) >= 7 and len(self.left) >= (end := 7 + int.from_bytes(self.left[4:6], "big")):
+            assert int.from_bytes(self.left[:2], "big") & 0x7FF == apid
+            yield self.left[:end]
+            self.left = self.left[end:]
+
+    def close(self) -> None:
+        """Closes its sockets."""
+        for link in (self.frames, self.packets_link, self.clcws):
+            link.close()
+
+
+@contextmanager
+def start(fecf: bool, tclive: Optional[Path]) -> Iterator[Remote]:
+    """Starts a bench on free ports."""
+    clcws = socket.socket(socket.AF_INET, socket.SOCK_DGRAM)
+    clcws.bind(("127.0.0.1", 0))
+    clcws.settimeout(60)
+    with tempfile.NamedTemporaryFile("w") as setup:
+        setup.write("channel 1 20 4 0\nqueue 1 5 4\n")
+        setup.flush()
+        words: List[str] = [sys.executable, str(TOP / "clients/python/tcrx_bench.py"), "--scid", "42", "--setup", setup.name, "--tc-udp", "0",
+                            "--packets-tcp", "0", "--clcw-udp", f"127.0.0.1:{clcws.getsockname()[1]}", "--period", PERIOD, *["--fecf"] * fecf]
+        words += ["--program", str(tclive)] if tclive else []
+        with subprocess.Popen(words, stdout=subprocess.PIPE, text=True) as child:
+            assert child.stdout
+            ports: Dict[str, int] = {}
+            for line in iter(child.stdout.readline, "ready\n"):
+                kind, _, port = line.replace(":", " ").split()
+                ports[kind] = int(port)
+            remote = Remote(ports["tc-udp"], ports["packets-tcp"], clcws)
+            try:
+                yield remote
+            finally:
+                remote.close()
+                child.send_signal(signal.SIGTERM)
+                child.communicate()
+
+
+if __name__ == "__main__":
+    if not sys.argv[1:] or not sys.argv[1].isdecimal():
+        sys.exit(__doc__)
+    print(bench.run(int(sys.argv[1]), "--fecf" in sys.argv, begin=start))
