@@ -2,7 +2,8 @@
  * Refuses each growth of a channel's memory in turn: in each call the first block that it asks for, then the second, until it
  * asks for no more. A call that is refused must answer TCRX_NO_MEMORY and leave the channel as it was, though it may keep room
  * that it got; made again it goes on, and is done in the end. Packets and units that are taken must be those that were sent. No
- * block may be left of a channel that wasn't made, nor of one that was freed, nor by a call that looks at settings.
+ * block may be left of a channel that wasn't made, nor of one that was freed. The bound, Type-AD frames and takes must ask for none,
+ * and settings that make no channel must be refused by their fault before any is asked for.
  *
  * The memory is that of tcrx_memory.c, which is linked with this. What is refused are its calls of malloc and realloc, which the
  * linker leads here: by --wrap=malloc, --wrap=realloc and --wrap=free. The last line says how many growths were refused.
@@ -132,8 +133,20 @@ static tcrx_status take_unit(void) {
     return taken(written, units[units_taken].octets, units[units_taken].count, &units_taken);
 }
 
-/* Makes the call with the first growth refused, then with the second, until it asks for no more. */
-static bool done(tcrx_status (*call)(void)) {
+/* Two queues with one APID make no channel, and that is answered without a block. */
+static bool is_refused_by_its_fault(void) {
+    static const tcrx_queue twice[] = {{5, 4}, {5, 4}};
+    tcrx_channel other = TCRX_HOLDS_NONE;
+    given_first = 0;
+    met = false;
+    refusing = true;
+    const tcrx_status status = tcrx_channel_new(&other, settings, twice, 2, NULL, 0);
+    refusing = false;
+    return status == TCRX_DOUBLE_APID && !met;
+}
+
+/* Makes the call with the first growth refused, then with the second, until it asks for no more. One that grows nothing asks for none. */
+static bool done(tcrx_status (*call)(void), bool grows) {
     for (unsigned long n = 0; n < 1000; n++) {
         const state before = look();
         const unsigned long blocks_before = blocks;
@@ -143,10 +156,11 @@ static bool done(tcrx_status (*call)(void)) {
         const tcrx_status status = call();
         refusing = false;
         if (!met) {
-            return status == TCRX_DONE && (call != ask_bound || blocks == blocks_before);
+            return status == TCRX_DONE;
         }
         const state after = look();
-        if (status != TCRX_NO_MEMORY || memcmp(&before, &after, sizeof before) != 0 || ((call == make || call == ask_bound) && blocks != blocks_before)) {
+        if (!grows || status != TCRX_NO_MEMORY || memcmp(&before, &after, sizeof before) != 0 ||
+            (call == make && blocks != blocks_before)) {
             return false;
         }
     }
@@ -154,20 +168,26 @@ static bool done(tcrx_status (*call)(void)) {
 }
 
 int main(void) {
-    static tcrx_status (*const calls[])(void) = {
-        ask_bound, make, bring_ad0, bring_bd, bring_first, bring_last, release, release, release, bring_unit,
-        bring_half, bring_middle, bring_rest, take, take, take, take_unit, take_unit, bring_bd, ask_bound, take,
+    static const struct { tcrx_status (*call)(void); bool grows; } calls[] = {
+        {ask_bound, false}, {make, true},       {bring_ad0, false}, {bring_bd, true},     {bring_first, false}, {bring_last, false},
+        {release, true},    {release, true},    {release, true},    {bring_unit, true},   {bring_half, true},   {bring_middle, true},
+        {bring_rest, true}, {take, false},      {take, false},      {take, false},        {take_unit, false},   {take_unit, false},
+        {bring_bd, true},   {ask_bound, false}, {take, false},
     };
     unsigned long good = 0;
     const unsigned long count = sizeof calls / sizeof calls[0];
     for (size_t i = 0; i < count; i++) {
-        if (done(calls[i])) {
+        if (done(calls[i].call, calls[i].grows)) {
             good += 1;
         } else {
             printf("call %zu isn't as it must be\n", i);
         }
     }
+    const bool told = is_refused_by_its_fault();
     const bool freed = tcrx_channel_free(&channel) == TCRX_DONE && blocks == 0;
+    if (!told) {
+        printf("two queues with one APID aren't refused by that\n");
+    }
     printf("%lu growths refused in %lu calls, %lu calls done, %s\n", refusals, count, good, freed ? "all freed" : "not all freed");
-    return good == count && freed && refusals > 0 ? 0 : 1;
+    return good == count && told && freed && refusals > 0 ? 0 : 1;
 }

@@ -1,8 +1,8 @@
 #!/usr/bin/env python3
 """Checks the header and the files in C and C++ by themselves, without the library.
 
-The header must compile as each version of C and C++ that it is for, with all warnings as errors, and so must the lines of code that
-c/README.md shows. Its static assertions must refuse each record with two neighbouring fields swapped, and each with one field more
+The headers must compile as each version of C and C++ that they are for, with all warnings as errors, and so must the lines of code
+that c/README.md shows. Its static assertions must refuse each record with two neighbouring fields swapped, and each with one field more
 in front. The version must be the same as a number and as a text. Where doxygen is installed it must read the header's comments
 without a warning, and where cppcheck is installed it must find nothing that c/checks/cppcheck.suppressions doesn't answer.
 
@@ -34,8 +34,13 @@ def compiled(compiler: list[str], lines: str, folder: Path, *flags: str) -> str:
 
 
 def versions() -> list[tuple[str, str]]:
-    """The header by each version of each language."""
-    return [(compiler[1], compiled(compiler, '#include "tcrx.h"\n', HEADER.parent, *WARNINGS)) for compiler in C + CXX]
+    """The header by each version of each language, and that for C++ as flight software is built as well."""
+    said = [(compiler[1], compiled(compiler, '#include "tcrx.h"\n', HEADER.parent, *WARNINGS)) for compiler in C + CXX]
+    for compiler in CXX[2:]:
+        for flags in (("-fexceptions", "-frtti"), ("-fno-exceptions", "-fno-rtti")):
+            found = compiled(compiler, '#include "tcrx.hpp"\n', HEADER.parent, *WARNINGS, *flags)
+            said.append((f"tcrx.hpp, {' '.join([compiler[1], *flags])}", found))
+    return said
 
 
 def shown_code() -> list[tuple[str, str]]:
@@ -52,8 +57,8 @@ def changed_records(text: str) -> list[tuple[str, str]]:
     for record in RECORD.finditer(text):
         fields = record[1].splitlines(keepends=True)
         others = [["    uint8_t more;\n", *fields]]
-        for i in range(len(fields) - 1):
-            others.append([*fields[:i], fields[i + 1], fields[i], *fields[i + 2 :]])
+        for place in range(len(fields) - 1):
+            others.append([*fields[:place], fields[place + 1], fields[place], *fields[place + 2 :]])
         changed += [(record[2], text[: record.start(1)] + "".join(other) + text[record.end(1) :]) for other in others]
     return changed
 
@@ -91,17 +96,21 @@ def comments() -> list[tuple[str, str]]:
     return [("the comments, by doxygen", said)]
 
 
+def cppcheck(language: str, version: str, files: list[str]) -> str:
+    """What cppcheck says of files; nothing where they are good."""
+    command = ["cppcheck", f"--language={language}", f"--std={version}", "--enable=warning,style,performance,portability"]
+    command += ["--inconclusive", "--quiet", "--error-exitcode=1", "--suppressions-list=c/checks/cppcheck.suppressions"]
+    command += ["--template={file}:{line}: {severity}: {message} [{id}]", "-Ic", "-DTCRX_POOL_OCTETS=18000000", *files]
+    done = subprocess.run(command, cwd=TOP, capture_output=True, text=True, check=False)
+    return done.stdout + done.stderr or ("" if done.returncode == 0 else f"status {done.returncode}")
+
+
 def faults() -> list[tuple[str, str]]:
     """What cppcheck says of each file, in C and in C++."""
     said = []
-    for language, version, pattern in (("c", "c99", "*.c"), ("c++", "c++11", "*.cc")):
+    for language, version, pattern in (("c", "c99", "*.c"), ("c++", "c++17", "*.cc")):
         files = sorted(str(path.relative_to(TOP)) for path in (TOP / "c").rglob(pattern))
-        command = ["cppcheck", f"--language={language}", f"--std={version}", "--enable=warning,style,performance,portability"]
-        command += ["--inconclusive", "--quiet", "--error-exitcode=1", "--suppressions-list=c/checks/cppcheck.suppressions"]
-        command += ["-Ic", "-DTCRX_POOL_OCTETS=18000000", *files]
-        done = subprocess.run(command, cwd=TOP, capture_output=True, text=True, check=False)
-        found = done.stdout + done.stderr or ("" if done.returncode == 0 else f"status {done.returncode}")
-        said.append((f"{len(files)} files, by cppcheck", found if files else "there are none"))
+        said.append((f"{len(files)} files, by cppcheck", cppcheck(language, version, files) if files else "there are none"))
     return said
 
 

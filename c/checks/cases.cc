@@ -1,0 +1,219 @@
+// Does a script on standard input through channels of tcrx.hpp, one for each `channel` line, and prints its answers and its final
+// report in the words of the program tcrx, for checks/bindings.
+//
+//   cases SCID    for the spacecraft with this id
+#include "../tcrx.hpp"
+
+#include <cstdint>
+#include <cstdio>
+#include <cstdlib>
+#include <iostream>
+#include <iterator>
+#include <map>
+#include <sstream>
+#include <string>
+#include <utility>
+#include <vector>
+
+namespace {
+
+struct Receiver {
+    tcrx::Settings settings;
+    std::vector<tcrx::Queue> queues;
+    std::vector<tcrx::Map> maps;
+    tcrx::Channel channel;
+};
+
+// A channel is moved wherever it goes: as a value into the map, and between two maps at the end.
+std::map<unsigned, Receiver> receivers;
+bool made = false;
+
+[[noreturn]] void fail(const char *what, tcrx::Status status) {
+    std::printf("%s: %s\n", what, tcrx::text(status).c_str());
+    std::exit(1);
+}
+
+unsigned number(std::istream &words) {
+    unsigned read = 0;
+    words >> read;
+    return read;
+}
+
+void set_up(const std::string &what, std::istream &words) {
+    const unsigned vcid = number(words);
+    Receiver &at = receivers[vcid];
+    const unsigned first = number(words), second = number(words);
+    if (what == "queue") {
+        at.queues.push_back({static_cast<std::uint16_t>(first), static_cast<std::uint16_t>(second)});
+    } else if (what == "map") {
+        at.maps.push_back({static_cast<std::uint8_t>(first), static_cast<std::uint16_t>(second)});
+    } else {
+        const unsigned start = number(words);
+        std::string plain;
+        words >> plain;
+        at.settings = {static_cast<std::uint8_t>(vcid), static_cast<std::uint8_t>(first), static_cast<std::uint8_t>(second),
+                       static_cast<std::uint8_t>(start), plain.empty()};
+    }
+}
+
+void make_all() {
+    for (auto &[vcid, at] : receivers) {
+        if (!made) {
+            tcrx::Result<tcrx::Channel> result = tcrx::Channel::make(at.settings, at.queues, at.maps);
+            if (!result) {
+                fail("channel", result.status());
+            }
+            at.channel = std::move(*result);
+        }
+    }
+    made = true;
+}
+
+const char *refusal(tcrx::Status status) {
+    switch (status) {
+    case tcrx::Status::too_short: return "short";
+    case tcrx::Status::bad_version: return "version";
+    case tcrx::Status::spare: return "spare";
+    case tcrx::Status::length_small: return "length";
+    case tcrx::Status::truncated: return "truncated";
+    case tcrx::Status::no_queue: return "no queue";
+    case tcrx::Status::no_map: return "no map";
+    case tcrx::Status::empty: return "empty";
+    default: return "by another status";
+    }
+}
+
+std::vector<std::uint8_t> octets_of(const std::string &digits) {
+    std::vector<std::uint8_t> octets;
+    for (std::size_t i = 0; i + 1 < digits.size(); i += 2) {
+        octets.push_back(static_cast<std::uint8_t>(std::strtoul(digits.substr(i, 2).c_str(), nullptr, 16)));
+    }
+    return octets;
+}
+
+Receiver *find(unsigned vcid) {
+    const auto found = receivers.find(vcid);
+    return found == receivers.end() ? nullptr : &found->second;
+}
+
+void bring(const std::string &digits, unsigned scid) {
+    const std::vector<std::uint8_t> octets = octets_of(digits);
+    const tcrx::Result<tcrx::Frame> frame = tcrx::read_frame(octets);
+    if (!frame) {
+        std::printf("refused %s\n", refusal(frame.status()));
+        return;
+    }
+    Receiver *at = find(frame->header.vcid);
+    if (frame->header.scid != scid || at == nullptr) {
+        std::printf("refused %s\n", frame->header.scid != scid ? "spacecraft" : "channel");
+        return;
+    }
+    const tcrx::Result<tcrx::Brought> brought = at->channel.frame(octets);
+    if (!brought) {
+        fail("frame", brought.status());
+    }
+    const tcrx::Delivery &delivery = brought->delivery;
+    std::printf("frame %u E%u accepted %u", frame->header.vcid, static_cast<unsigned>(brought->event), brought->accepted ? 1U : 0U);
+    std::printf(" queued %u dropped %u rest %u\n", delivery.queued, delivery.dropped, delivery.rest ? 1U : 0U);
+}
+
+void release(unsigned vcid, Receiver &at) {
+    const tcrx::Result<tcrx::Delivery> delivery = at.channel.release();
+    if (!delivery) {
+        std::printf("refused %s\n", refusal(delivery.status()));
+        return;
+    }
+    std::printf("release %u queued %u dropped %u rest %u\n", vcid, delivery->queued, delivery->dropped, delivery->rest ? 1U : 0U);
+}
+
+// First into no room, which must take nothing, then into room that is just long enough.
+void take(const std::string &what, unsigned vcid, Receiver &at, unsigned key) {
+    const bool unit = what == "unit";
+    const auto into = [&](tcrx::Room room) {
+        return unit ? at.channel.take_unit(static_cast<std::uint8_t>(key), room) : at.channel.take(static_cast<std::uint16_t>(key), room);
+    };
+    const std::uint64_t events = at.channel.events().value();
+    std::vector<std::uint8_t> room;
+    tcrx::Result<tcrx::Octets> taken = into(room);
+    if (taken.status() == tcrx::Status::no_room) {
+        if (at.channel.events().value() != events) {
+            fail("room that is short", taken.status());
+        }
+        room.resize(taken.error().needed);
+        taken = into(room);
+    }
+    if (!taken) {
+        std::printf("refused %s\n", refusal(taken.status()));
+        return;
+    }
+    std::printf("%s %u %u ", what.c_str(), vcid, key);
+    for (const std::uint8_t octet : *taken) {
+        std::printf("%02x", octet);
+    }
+    std::printf("%s\n", taken->empty() ? "-" : "");
+}
+
+void operate(const std::string &what, std::istream &words, unsigned scid) {
+    make_all();
+    if (what == "frame") {
+        std::string digits;
+        words >> digits;
+        bring(digits, scid);
+        return;
+    }
+    const unsigned vcid = number(words);
+    Receiver *at = find(vcid);
+    if (at == nullptr) {
+        std::printf("refused channel\n");
+    } else if (what == "release") {
+        release(vcid, *at);
+    } else if (what == "clcw") {
+        std::printf("clcw %u %08x\n", vcid, at->channel.clcw()->word);
+    } else {
+        take(what, vcid, *at, number(words));
+    }
+}
+
+// FARM-1's record makes the same CLCW as the channel, and the CLCW reads back.
+void report(unsigned vcid, Receiver &at) {
+    const tcrx::Result<tcrx::Farm> farm = at.channel.report();
+    const tcrx::Clcw clcw = *at.channel.clcw(true, false);
+    const tcrx::Result<tcrx::Clcw> again = tcrx::clcw(*farm, static_cast<std::uint8_t>(vcid), true, false);
+    const tcrx::Result<tcrx::Clcw> read = tcrx::read_clcw(clcw.word);
+    if (!again || !read || again->word != clcw.word || read->vr() != farm->vr || clcw.lockout() != farm->lockout || !clcw.no_rf()) {
+        fail("report", farm.status());
+    }
+    std::printf("final %u %08x events %llu buffered %llu\n", vcid, at.channel.clcw()->word,
+                static_cast<unsigned long long>(*at.channel.events()), static_cast<unsigned long long>(*at.channel.buffered()));
+    for (const tcrx::Queue &queue : at.queues) {
+        std::printf("queue %u %u %llu\n", vcid, queue.apid, static_cast<unsigned long long>(*at.channel.queued(queue.apid)));
+    }
+    for (const tcrx::Map &map : at.maps) {
+        std::printf("map %u %u %llu\n", vcid, map.map, static_cast<unsigned long long>(*at.channel.units(map.map)));
+    }
+}
+
+}  // namespace
+
+int main(int count, char **arguments) {
+    if (count != 2) {
+        return 2;
+    }
+    const unsigned scid = static_cast<unsigned>(std::strtoul(arguments[1], nullptr, 10));
+    for (std::string line; std::getline(std::cin, line);) {
+        std::istringstream words(line);
+        std::string what;
+        words >> what;
+        if (what == "channel" || what == "queue" || what == "map") {
+            set_up(what, words);
+        } else if (!what.empty() && what[0] != '#') {
+            operate(what, words, scid);
+        }
+    }
+    make_all();
+    std::map<unsigned, Receiver> moved = std::move(receivers);
+    for (auto &[vcid, at] : moved) {
+        report(vcid, at);
+    }
+    return 0;
+}

@@ -1,0 +1,245 @@
+// What tcrx.hpp does at the edges, for checks/bindings: channels that are moved, dropped, freed and used after that; each growth
+// of memory refused in turn; two channels in two threads; views of nothing; settings that are refused. Linked with
+// c/checks/refusing_memory.c. The last line says how many checks passed.
+#include "../tcrx.hpp"
+
+#include <array>
+#include <cstdint>
+#include <cstdio>
+#include <string>
+#include <thread>
+#include <utility>
+#include <vector>
+
+extern "C" long tcrx_refuse(long growth);
+extern "C" long tcrx_blocks();
+
+namespace {
+
+using Bytes = std::vector<std::uint8_t>;
+constexpr tcrx::Settings settings = {1, 10, 4, 0};
+const std::array<tcrx::Queue, 2> queues = {{{5, 4}, {9, 2}}};
+const std::array<tcrx::Map, 1> maps = {{{2, 3}}};
+int passed = 0;
+int failed = 0;
+
+void tell(bool good, const std::string &what) {
+    (good ? passed : failed) += 1;
+    if (!good) {
+        std::printf("ends: %s: WRONG\n", what.c_str());
+    }
+}
+
+tcrx::Channel make() {
+    return *tcrx::Channel::make(settings, queues, maps);
+}
+
+// A frame of spacecraft 42 on channel 1, written by the library.
+Bytes frame(std::uint8_t number, bool bypass, const Bytes &field) {
+    Bytes room(1024);
+    const tcrx::Result<tcrx::Octets> written = tcrx::write_frame({42, 1, number, bypass, false}, field, room);
+    room.resize(written->size());
+    return room;
+}
+
+Bytes first_packet() {
+    return frame(0, false, {0xc0, 0x10, 0x05, 0xc0, 0x00, 0x00, 0x00, 0xaa});
+}
+
+// All that can be asked of a channel, as numbers.
+std::vector<std::uint64_t> look(tcrx::Channel &channel) {
+    const tcrx::Farm farm = channel.report().value();
+    return {channel.clcw(true).value().word,   farm.vr, farm.farm_b, farm.width, channel.buffered().value(), channel.queued(5).value(),
+            channel.queued(9).value(), channel.units(2).value(), channel.events().value()};
+}
+
+// Whether each call of a channel is refused as one of none.
+bool is_none(tcrx::Channel &channel) {
+    Bytes room(8);
+    constexpr tcrx::Status none = tcrx::Status::no_channel;
+    return !channel.is_held() && channel.frame(first_packet()).status() == none && channel.release().status() == none
+        && channel.take(5, room).status() == none && channel.take_unit(2, room).status() == none && channel.clcw().status() == none
+        && channel.report().status() == none && channel.buffered().status() == none && channel.queued(5).status() == none
+        && channel.units(2).status() == none && channel.events().status() == none && channel.free() == none;
+}
+
+void check_moves() {
+    tcrx::Channel never;
+    tell(is_none(never), "a channel that was never made");
+    tcrx::Channel first = make();
+    const long of_one = tcrx_blocks();
+    tell(first.frame(first_packet())->event == tcrx::Event::e1, "a frame before a move");
+    const std::vector<std::uint64_t> before = look(first);
+    tcrx::Channel second(std::move(first));
+    tell(is_none(first), "a channel that was moved from");  // NOLINT: it holds none
+    tell(look(second) == before, "what a move leaves");
+    tcrx::Channel third = make();
+    third = std::move(second);
+    tell(look(third) == before && is_none(second), "a move over a channel that is held");
+    tell(tcrx_blocks() <= of_one + 2, "the channel below it is freed");
+    tcrx::Channel &same = third;
+    third = std::move(same);
+    tell(look(third) == before, "a move onto itself");
+    std::swap(third, second);
+    tell(look(second) == before && is_none(third), "a swap");
+    tell(second.free() == tcrx::Status::done && is_none(second), "a channel that was freed");
+    tell(tcrx_blocks() == 0, "no block is left of freed channels");
+    second = make();
+    tell(second.is_held() && second.events().value() == 0, "a new one in its place");
+}
+
+void check_drops() {
+    {
+        std::vector<tcrx::Channel> channels;
+        for (int i = 0; i < 20; i++) {
+            channels.push_back(make());
+            (void)channels.back().frame(first_packet());
+        }
+        tell(channels.front().buffered().value() == 1 && tcrx_blocks() > 0, "channels in a vector that grows");
+    }
+    tell(tcrx_blocks() == 0, "no block is left of channels that ended");
+}
+
+// Makes a call with each of its growths refused in turn, until it meets none; what it answers then. How many were refused is added.
+template <typename Call>
+tcrx::Status with_refusals(tcrx::Channel &channel, Call call, const std::string &what, int &refusals) {
+    for (long growth = 0; growth < 1000; growth++) {
+        const std::vector<std::uint64_t> before = look(channel);
+        tcrx_refuse(growth);
+        const tcrx::Status status = call();
+        if (tcrx_refuse(-1) >= 0) {
+            return status;
+        }
+        refusals += 1;
+        tell(status == tcrx::Status::no_memory && look(channel) == before, what + " with a growth refused");
+    }
+    return tcrx::Status::no_memory;
+}
+
+void check_refused_growths() {
+    int refusals = 0;
+    tcrx::Channel channel;
+    const auto made = [&] {
+        tcrx::Result<tcrx::Channel> result = tcrx::Channel::make(settings, queues, maps);
+        if (result) {
+            channel = std::move(*result);
+        }
+        return result.status();
+    };
+    for (long growth = 0; growth < 1000; growth++) {
+        tcrx_refuse(growth);
+        const tcrx::Status status = made();
+        if (tcrx_refuse(-1) >= 0) {
+            break;
+        }
+        refusals += 1;
+        tell(status == tcrx::Status::no_memory && tcrx_blocks() == 0, "a channel that isn't made");
+    }
+    tell(channel.is_held() && refusals > 0, "a channel that is made in the end");
+    Bytes room(64);
+    const Bytes half = frame(0, true, {0x42, 1, 2, 3}), rest = frame(0, true, {0x82, 4, 5, 6}), whole = first_packet();
+    const std::vector<std::pair<std::string, tcrx::Status>> done = {
+        {"a Type-AD frame", with_refusals(channel, [&] { return channel.frame(whole).status(); }, "a Type-AD frame", refusals)},
+        {"a first segment", with_refusals(channel, [&] { return channel.frame(half).status(); }, "a first segment", refusals)},
+        {"a last segment", with_refusals(channel, [&] { return channel.frame(rest).status(); }, "a last segment", refusals)},
+        {"a release", with_refusals(channel, [&] { return channel.release().status(); }, "a release", refusals)},
+        {"a take", with_refusals(channel, [&] { return channel.take(5, room).status(); }, "a take", refusals)},
+        {"a unit", with_refusals(channel, [&] { return channel.take_unit(2, room).status(); }, "a unit", refusals)}};
+    for (const auto &[what, status] : done) {
+        tell(status == tcrx::Status::done, what + " in the end");
+    }
+    tell(Bytes(room.begin(), room.begin() + 6) == Bytes({1, 2, 3, 4, 5, 6}), "the unit that came of it");
+    tell(refusals >= 8, std::to_string(refusals) + " growths were refused");
+    std::printf("ends: %d growths refused\n", refusals);
+}
+
+// Rounds on a channel of its own; how many packets were as they were sent.
+int rounds(std::uint8_t octet, int count) {
+    tcrx::Channel channel = make();
+    std::array<std::uint8_t, 64> room{};
+    int good = 0;
+    for (int i = 0; i < count; i++) {
+        const Bytes sent = frame(static_cast<std::uint8_t>(i), false, {0xc0, 0x10, 0x05, 0xc0, 0x00, 0x00, 0x00, octet});
+        const bool came = channel.frame(sent)->accepted && channel.release()->queued == 1;
+        const tcrx::Result<tcrx::Octets> taken = channel.take(5, room);
+        good += came && taken && taken->size() == 7 && (*taken)[6] == octet ? 1 : 0;
+    }
+    return good;
+}
+
+void check_threads() {
+    std::array<int, 2> good{};
+    std::array<std::thread, 2> threads;
+    for (std::size_t i = 0; i < threads.size(); i++) {
+        threads[i] = std::thread([&good, i] { good[i] = rounds(static_cast<std::uint8_t>(0xa0 + i), 5000); });
+    }
+    for (std::thread &thread : threads) {
+        thread.join();
+    }
+    tell(good[0] == 5000 && good[1] == 5000, "two channels in two threads");
+}
+
+void check_views() {
+    tcrx::Channel channel = make();
+    tell(channel.frame({}).status() == tcrx::Status::too_short, "no octets");
+    tell(channel.frame({nullptr, 6}).status() == tcrx::Status::null, "six octets nowhere");
+    tell(tcrx::read_frame({}).status() == tcrx::Status::too_short, "no octets to be read");
+    tell(tcrx::read_packet({}).status() == tcrx::Status::no_packet, "no octets of a packet");
+    tell(tcrx::write_frame({}, {}, {}).status() == tcrx::Status::empty_data, "a frame of nothing");
+    const Bytes field = {1, 2, 3};
+    const tcrx::Result<tcrx::Octets> written = tcrx::write_frame({}, field, {});
+    tell(written.status() == tcrx::Status::no_room && written.error().needed == 8, "a frame into no room");
+    const Bytes sent = first_packet();
+    const tcrx::Result<tcrx::Frame> read = tcrx::read_frame(sent);
+    tell(read->header.scid == 42 && read->header.vcid == 1 && read->octets.size() == sent.size(), "a frame that is read");
+    tell(read->field().size() == 8 && read->field()[7] == 0xaa && read->field().data() == sent.data() + 5, "its data field");
+    const tcrx::Result<tcrx::Packet> packet = tcrx::read_packet(read->field().part(1));
+    tell(packet->apid == 5 && packet->telecommand && !packet->secondary && packet->sequence == 3 && packet->octets.size() == 7,
+         "a packet that is read");
+    tell(tcrx::Octets(sent).part(99).empty() && tcrx::Octets(sent).part(1, 2).size() == 2, "parts of a view");
+    (void)channel.frame(sent);
+    (void)channel.release();
+    const tcrx::Result<tcrx::Octets> taken = channel.take(5, {});
+    tell(taken.status() == tcrx::Status::no_room && taken.error().needed == 7, "a packet into no room");
+    tell(channel.take(6, {}).status() == tcrx::Status::no_queue && channel.take_unit(3, {}).status() == tcrx::Status::no_map, "no such queue");
+    tell(taken.value_or(sent).size() == sent.size() && taken->empty(), "the value of a refused call");
+}
+
+void check_settings() {
+    const tcrx::Queue twice[] = {{5, 1}, {5, 1}}, high[] = {{2047, 1}}, none[] = {{5, 0}};
+    const tcrx::Map map_twice[] = {{2, 1}, {2, 1}}, high_map[] = {{64, 1}}, no_units[] = {{2, 0}}, one_map[] = {{2, 1}};
+    const auto status = [](const tcrx::Settings &tried, tcrx::Queues its_queues, tcrx::Maps its_maps) {
+        const tcrx::Status made = tcrx::Channel::make(tried, its_queues, its_maps).status();
+        return tcrx::memory_bound(tried, its_queues, its_maps).status() == made ? made : tcrx::Status::no_status;
+    };
+    using tcrx::Status;
+    tell(status({64, 10, 4, 0}, {}, {}) == Status::bad_vcid && status({1, 9, 4, 0}, {}, {}) == Status::bad_width, "bad numbers");
+    tell(status({1, 10, 0, 0}, {}, {}) == Status::bad_buffer && status(settings, high, {}) == Status::bad_apid, "bad numbers, 2");
+    tell(status(settings, twice, {}) == Status::double_apid && status(settings, none, {}) == Status::bad_capacity, "bad queues");
+    tell(status(settings, {}, high_map) == Status::bad_map && status(settings, {}, map_twice) == Status::double_map, "bad MAPs");
+    tell(status(settings, {}, no_units) == Status::bad_units, "a MAP without room");
+    tell(status({1, 10, 4, 0, false}, {}, one_map) == Status::plain_map, "a MAP without segment headers");
+    tell(status(settings, {nullptr, 1}, {}) == Status::null && status(settings, {}, {}) == Status::done, "queues nowhere");
+    tell(tcrx::memory_bound(settings, queues, maps).value() > 65542, "a bound");
+    tell(std::string(tcrx::text(Status::empty).c_str()) == "nothing waits there", "a text");
+    tell(tcrx::text(static_cast<Status>(99)).c_str()[0] == '\0', "the text of no status");
+    const tcrx::Result<tcrx::Farm> farm = tcrx::start_farm(10, 7);
+    const tcrx::Result<tcrx::Step> step = tcrx::step(*farm, {tcrx::Arrival::ad, 7}, true);
+    tell(step->accepted && step->event == tcrx::Event::e1 && step->farm.vr == 8 && step->farm.width == 10, "a step of FARM-1");
+    tell(tcrx::start_farm(9, 0).status() == Status::bad_width, "a FARM-1 of an odd width");
+    tell(tcrx::clcw(*farm, 64).status() == Status::bad_vcid && tcrx::read_clcw(0xffffffff).status() == Status::no_clcw, "no CLCW");
+}
+
+}  // namespace
+
+int main() {
+    check_moves();
+    check_drops();
+    check_refused_growths();
+    check_threads();
+    check_views();
+    check_settings();
+    tell(tcrx_blocks() == 0, "no block is left");
+    std::printf("ends: %d passed, %d failed\n", passed, failed);
+    return failed == 0 && passed > 0 ? 0 : 1;
+}

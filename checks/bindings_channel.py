@@ -1,0 +1,387 @@
+#!/usr/bin/env python3
+"""Calls the channel of the client in Python over a shared library: each conformance case without a bad line, each growth of memory
+refused, channels that are closed, dropped, copied and shared by threads, and the declarations against the header by a C program.
+
+usage: checks/bindings_channel.py LIBRARY REFUSING     the shared library, and one over c/checks/refusing_memory.c
+The last line says how many checks passed. `checks/bindings` starts it.
+"""
+from __future__ import annotations
+
+import copy
+import ctypes
+import ctypes.util
+import gc
+import os
+import pickle
+import re
+import subprocess
+import sys
+import tempfile
+import threading
+from functools import partial
+from pathlib import Path
+from typing import Any, Callable, Dict, List, Tuple, Type
+
+sys.dont_write_bytecode = True
+# pylint: disable=wrong-import-position  # they leave no bytecode, and the client is found by client_parts
+from client_parts import NOTHING, ONE, TOP, UNLOCK, counted, frame, packet, raises, same, tell, whole  # noqa: E402
+import tcrx  # noqa: E402
+import tcrx_channel  # noqa: E402
+from tcrx import (Brought, Channel, Clcw, Delivery, Ended, Event, Final, NotSetUp, NotStarted, Outcome, Packet, Refusal, Refused,  # noqa: E402
+                  Released, Report, State, Unit)
+from tcrx_channel import BadSettings, Frame, NoMemory, memory_bound, read_frame  # noqa: E402
+# pylint: enable=wrong-import-position
+
+DATA, HEADER = TOP / "crates/conformance/data", TOP / "c/tcrx.h"
+SETTINGS: Dict[str, Any] = {"width": 10, "buffer": 4, "first": 0, "queues": {5: 4, 9: 2}, "maps": {2: 3}}
+
+
+# --- Cases ---
+
+class Script:
+    """A script that is done through channels of this process, and the lines that it prints, in the words of the program tcrx."""
+
+    def __init__(self, scid: int) -> None:
+        self.scid = scid
+        self.settings: Dict[int, Dict[str, Any]] = {}
+        self.channels: Dict[int, Channel] = {}
+        self.printed: List[str] = []
+
+    def set_up(self, words: List[str]) -> None:
+        """A line that sets something up. The channels are made before the first operation."""
+        settings = self.settings.setdefault(int(words[1]), {"queues": {}, "maps": {}})
+        if words[0] == "channel":
+            settings.update(zip(("width", "buffer", "first"), map(int, words[2:5])), plain=len(words) > 5)
+        else:
+            settings[words[0] + "s"][int(words[2])] = int(words[3])
+
+    def make_all(self) -> None:
+        """Makes the channels that aren't made."""
+        for vcid, settings in self.settings.items():
+            if vcid not in self.channels:
+                self.channels[vcid] = Channel(vcid, **settings)
+
+    def answer(self, words: List[str]) -> Any:
+        """What is answered to an operation."""
+        if words[0] == "frame":
+            octets = bytes.fromhex(words[1])
+            read = read_frame(octets)
+            if not isinstance(read, Frame):
+                return read
+            if read.scid != self.scid:
+                return Refused(Refusal.SPACECRAFT)
+            channel = self.channels.get(read.vcid)
+            return channel.bring(octets) if channel else Refused(Refusal.CHANNEL)
+        channel = self.channels.get(int(words[1]))
+        if channel is None:
+            return Refused(Refusal.CHANNEL)
+        calls: Dict[str, Callable[..., Any]] = {"release": channel.release, "clcw": channel.clcw, "take": channel.take,
+                                                "unit": channel.take_unit}
+        return calls[words[0]](*map(int, words[2:]))
+
+    def line(self, answer: Any) -> str:
+        """An answer in a line."""
+        if isinstance(answer, Refused):
+            return f"refused {answer.reason.value}"
+        if isinstance(answer, Clcw):
+            return f"clcw {answer.channel} {answer.word:08x}"
+        if isinstance(answer, (Packet, Unit)):
+            what, key = ("take", answer.apid) if isinstance(answer, Packet) else ("unit", answer.map)
+            return f"{what} {answer.channel} {key} {answer.octets.hex() or '-'}"
+        delivery = answer.delivery
+        unit = f"queued {delivery.queued} dropped {delivery.dropped} rest {int(delivery.rest)}"
+        if isinstance(answer, Brought):
+            return f"frame {answer.channel} {answer.event.value} accepted {int(answer.accepted)} {unit}"
+        return f"release {answer.channel} {unit}"
+
+    def finish(self) -> None:
+        """Closes the channels, and prints what they were. The report says the same."""
+        self.make_all()
+        for vcid, channel in sorted(self.channels.items()):
+            report = channel.report()
+            final = channel.close()
+            same((report.vr, report.lockout, report.wait, report.retransmit, report.farm_b, report.buffered, report.queues, report.maps),
+                 (final.clcw.vr, final.clcw.lockout, final.clcw.wait, final.clcw.retransmit, final.clcw.farm_b, final.buffered, final.queues,
+                  final.maps), "a report next to the final one")
+            self.printed.append(f"final {vcid} {final.clcw.word:08x} events {final.events} buffered {final.buffered}")
+            self.printed += [f"queue {vcid} {apid} {count}" for apid, count in final.queues.items()]
+            self.printed += [f"map {vcid} {place} {count}" for place, count in final.maps.items()]
+
+    def run(self, text: str) -> str:
+        """Does a script."""
+        for line in text.split("\n"):
+            # The words of a script are separated by these alone.
+            words = re.findall(r"[^ \t\r]+", line)
+            if not words or words[0].startswith("#"):
+                continue
+            if words[0] in ("channel", "queue", "map"):
+                self.set_up(words)
+            else:
+                self.make_all()
+                self.printed.append(self.line(self.answer(words)))
+        self.finish()
+        return "".join(line + "\n" for line in self.printed)
+
+
+def check_cases() -> None:
+    """Every answer and the final report of each case."""
+    rows = [line.split(" ") for line in (DATA / "index").read_text().splitlines()]
+    cases = [(row[0], int(row[1])) for row in rows if len(row) == 2]
+    for name, scid in cases:
+        text = (DATA / f"{name}.script").read_bytes().decode(errors="replace")
+        printed, stored = Script(scid).run(text), (DATA / f"{name}.out").read_text()
+        wrong = next((pair for pair in zip(printed.split("\n"), stored.split("\n")) if pair[0] != pair[1]), None)
+        tell(printed == stored, f"case {name}: {wrong}")
+    tell(len(cases) >= 158, f"{len(cases)} cases")
+    print(f"channel in Python: {len(cases)} conformance cases")
+
+
+# --- Answers ---
+
+def check_values() -> None:
+    """The values of each kind of answer, and their truth."""
+    with Channel(1, **SETTINGS) as channel:
+        brought = channel.bring(frame(0, whole(0, ONE)))
+        same(brought, Brought(1, Event.E1, True, NOTHING), "a frame")
+        same(isinstance(brought, Brought) and brought.outcome, Outcome.ACCEPTED, "its outcome")
+        same(channel.release(), Released(1, Delivery(1, 0, False)), "a release")
+        same(channel.release(), Refused(Refusal.EMPTY), "a release of nothing")
+        same(channel.take(5), Packet(1, 5, ONE), "a packet")
+        same((channel.take(5), channel.take(6)), (Refused(Refusal.EMPTY), Refused(Refusal.NO_QUEUE)), "no packet")
+        same(channel.take_unit(3), Refused(Refusal.NO_MAP), "no MAP")
+        channel.bring(frame(0, whole(2, b""), bypass=1))
+        same(channel.report(), Report(1, State.OPEN, 1, False, False, False, 1, 0, {5: 0, 9: 0}, {2: 1}), "a report")
+        same(channel.take_unit(2), Unit(1, 2, b""), "a unit of no octets")
+        same(channel.clcw(), Clcw(0x01040201), "a CLCW")
+        channel.link(True, True)
+        same((channel.clcw().no_rf, channel.clcw().no_bit_lock, channel.events), (True, True, 5), "the flags of the link")
+        channel.link(False, False)
+        for octets in (bytearray(UNLOCK), memoryview(UNLOCK)):
+            same(channel.bring(octets), Brought(1, Event.E7, False, NOTHING), "octets of another type")
+        two = packet(5, 1) + packet(9, 2) + b"\x10"
+        same(channel.bring(frame(0, whole(1, two), bypass=1)), Brought(1, Event.E6, True, Delivery(2, 0, True)), "two packets and a rest")
+        same((list(channel.packets(5)), list(channel.packets(9))), ([packet(5, 1)], [packet(9, 2)]), "packets that wait")
+        raises(NotSetUp, lambda: list(channel.packets(6)), "packets of no queue")
+        raises(NotSetUp, lambda: list(channel.units(6)), "units of no MAP")
+    same(channel.final, Final(Clcw(0x01040001), 10, 0, {5: 0, 9: 0}, {2: 0}), "the report at the end")
+    same((bool(brought), bool(Refused(Refusal.EMPTY))), (True, False), "the truth of answers")
+
+
+def check_long_units() -> None:
+    """A unit that is longer than the room that a channel has of its own."""
+    with Channel(1, width=10, buffer=4, first=0, maps={2: 3}) as channel:
+        parts = [bytes([place]) * 1000 for place in range(9)]
+        for place, part in enumerate(parts):
+            flags = 0x40 if place == 0 else 0x80 if place == 8 else 0x00
+            channel.bring(frame(0, bytes([flags | 2]) + part, bypass=1))
+        same(list(channel.units(2)), [b"".join(parts)], "a unit of 9,000 octets")
+
+
+def changed(change: Dict[str, Any]) -> Dict[str, Any]:
+    """The settings with a change."""
+    return {**SETTINGS, **change}
+
+
+def check_refused() -> None:
+    """Settings, values and libraries that are refused."""
+    tried: Tuple[Dict[str, Any], ...] = (
+        {"width": 9}, {"buffer": 0}, {"buffer": 65}, {"queues": {2047: 1}}, {"queues": {5: 0}}, {"maps": {64: 1}}, {"maps": {2: 257}},
+        {"plain": True})
+    texts = [str(raises(BadSettings, partial(Channel, 1, **changed(change)), f"{change}")) for change in tried]
+    texts.append(str(raises(BadSettings, lambda: Channel(64, **SETTINGS), "channel 64")))
+    tell(texts[0] == "the width of the window isn't even and 2 to 254" and all(texts), f"why settings are refused: {texts}")
+    same(str(raises(BadSettings, lambda: memory_bound(1, **changed({"width": 9})), "the bound of an odd window")), texts[0], "the same text")
+    tell(memory_bound(1, **SETTINGS) > 65542, "a bound of memory")
+    raises(ValueError, lambda: Channel(256, **SETTINGS), "a number that C's type doesn't have")
+    raises(ValueError, lambda: Channel(1, **changed({"queues": {70000: 1}})), "an APID that C's type doesn't have")
+    text: Any = "1"
+    raises(TypeError, lambda: Channel(text, **SETTINGS), "a text for a number")
+    with Channel(1, **SETTINGS) as channel:
+        raises(ValueError, lambda: channel.take(-1), "an APID below 0")
+        raises(TypeError, lambda: channel.bring(text), "a text for octets")
+        refusals = [channel.bring(octets) for octets in (b"", b"\x00" * 4, b"\x40" + UNLOCK[1:], b"\x04" + UNLOCK[1:], UNLOCK[:5],
+                                                         UNLOCK[:3] + b"\x04" + UNLOCK[4:])]
+        same([refused.reason.value for refused in refusals if isinstance(refused, Refused)],
+             ["short", "short", "version", "spare", "truncated", "length"], "no frames")
+        same([read_frame(octets) for octets in (b"", UNLOCK[:5])], [refusals[0], refusals[4]], "no frames to be read")
+        same(channel.events, 0, "what they changed")
+    raises(NotStarted, lambda: Channel(1, **SETTINGS, library="/nowhere/libtcrx.so.0"), "a library that isn't there")
+    raises(NotStarted, lambda: Channel(1, **SETTINGS, library=ctypes.util.find_library("c")), "another library")
+    raises(AttributeError, lambda: getattr(tcrx, "Chanel"), "a name that tcrx doesn't have")
+
+
+# --- Ends ---
+
+def check_ends() -> None:
+    """Channels that are closed, used after that, copied and left behind."""
+    channel = Channel(1, **SETTINGS)
+    raises(ValueError, lambda: channel.final, "the report of an open channel")
+    final = channel.close()
+    tell(channel.close() is final and channel.final is final, "a second close")
+    calls = (lambda: channel.bring(UNLOCK), channel.release, lambda: channel.take(5), lambda: channel.take_unit(2), channel.clcw,
+             channel.report, lambda: channel.events, lambda: list(channel.packets(5)))
+    for place, call in enumerate(calls):
+        same(str(raises(Ended, call, f"call {place} after the close")), "the receiver has ended: it was closed", "why")
+    copies: Tuple[Callable[[Channel], object], ...] = (copy.copy, copy.deepcopy, pickle.dumps)
+    for copied in copies:
+        with Channel(1, **SETTINGS) as other:
+            raises(TypeError, partial(copied, other), "a copy of a channel")
+    try:
+        with Channel(1, **SETTINGS) as other:
+            raise KeyError
+    except KeyError:
+        raises(Ended, other.release, "a channel that an exception left")
+    left = "from tcrx import Channel; channel = Channel(1, width=10, buffer=2, first=0); kept = [channel]; kept.append(kept); print('ended')"
+    ran = subprocess.run([sys.executable, "-c", left], env={**os.environ, "PYTHONPATH": str(TOP / "clients/python")}, capture_output=True, text=True,
+                         check=False)
+    same((ran.returncode, ran.stdout, ran.stderr), (0, "ended\n", ""), "a channel that is open when Python ends")
+
+
+def check_threads() -> None:
+    """Two channels in two threads, and one channel that four threads share."""
+    def rounds(octet: int, good: List[bool]) -> None:
+        with Channel(1, **SETTINGS) as channel:
+            for number in range(2000):
+                came = channel.bring(frame(number % 256, whole(0, packet(5, octet)))) and channel.release()
+                good.append(bool(came) and channel.take(5) == Packet(1, 5, packet(5, octet)))
+    answers: List[List[bool]] = [[], []]
+    threads = [threading.Thread(target=rounds, args=(0xA0 + place, good)) for place, good in enumerate(answers)]
+    for thread in threads:
+        thread.start()
+    for thread in threads:
+        thread.join()
+    same(answers, [[True] * 2000] * 2, "two channels in two threads")
+    with Channel(1, **SETTINGS) as shared:
+        threads = [threading.Thread(target=lambda: [shared.bring(UNLOCK) for _ in range(1000)]) for _ in range(4)]
+        for thread in threads:
+            thread.start()
+        for thread in threads:
+            thread.join()
+        same((shared.events, shared.clcw().farm_b), (4000, 0), "a channel that four threads share")
+
+
+def check_fork() -> None:
+    """After a fork each process has its own."""
+    with Channel(1, **SETTINGS) as channel:
+        channel.bring(frame(0, whole(0, ONE)))
+        child = os.fork()
+        if child == 0:
+            good = bool(channel.release()) and channel.take(5) == Packet(1, 5, ONE) and channel.close().events == 3
+            os._exit(0 if good else 1)  # pylint: disable=protected-access  # a child of a fork ends so
+        same(os.waitpid(child, 0)[1], 0, "the channel of a child")
+        same((channel.events, bool(channel.release())), (1, True), "the channel of its parent")
+
+
+# --- Memory ---
+
+def check_growths(refusing: str) -> None:
+    """Each growth refused in turn, in each kind of call."""
+    memory = ctypes.PyDLL(refusing)
+    memory.tcrx_refuse.restype, memory.tcrx_blocks.restype = ctypes.c_long, ctypes.c_long
+    memory.tcrx_refuse.argtypes = [ctypes.c_long]
+    refused = 0
+
+    def done(call: Callable[[], Any], look: Callable[[], object], what: str) -> Any:
+        """What a call answers once it meets no refused growth; each before that changes nothing."""
+        nonlocal refused
+        for growth in range(1000):
+            before = look()
+            memory.tcrx_refuse(growth)
+            try:
+                answer = call()
+            except NoMemory as error:
+                answer = error
+            if memory.tcrx_refuse(-1) >= 0:
+                return answer
+            refused += 1
+            tell(isinstance(answer, NoMemory) and isinstance(answer, MemoryError) and look() == before, f"{what}, growth {growth}: {answer!r}")
+        return None
+    channel = done(lambda: Channel(1, **SETTINGS, library=refusing), memory.tcrx_blocks, "a channel")
+    made = refused
+    steps = ((lambda: channel.bring(frame(0, whole(0, ONE))), Brought(1, Event.E1, True, NOTHING)),
+             (lambda: channel.bring(frame(0, b"\x42\x01\x02", bypass=1)), Brought(1, Event.E6, True, NOTHING)),
+             (lambda: channel.bring(frame(0, b"\x82\x03", bypass=1)), Brought(1, Event.E6, True, Delivery(1, 0, False))),
+             (channel.release, Released(1, Delivery(1, 0, False))),
+             (lambda: channel.take(5), Packet(1, 5, ONE)),
+             (lambda: channel.take_unit(2), Unit(1, 2, b"\x01\x02\x03")))
+    for call, wanted in steps:
+        same(done(call, lambda: (channel.report(), channel.events), f"{wanted}"), wanted, "a call in the end")
+    done(lambda: memory_bound(1, **SETTINGS, library=refusing), memory.tcrx_blocks, "a bound")
+    tell(made > 0 and refused >= 8, f"{refused} growths were refused, {made} of a channel that is made")
+    print(f"channel in Python: {refused} growths refused")
+    tell(memory.tcrx_blocks() > 0, "a channel has blocks")
+    del call, steps, channel
+    gc.collect()
+    same(memory.tcrx_blocks(), 0, "blocks of a channel that nothing refers to")
+    with Channel(1, **SETTINGS, library=refusing):
+        tell(memory.tcrx_blocks() > 0, "a channel in a with has blocks")
+    same(memory.tcrx_blocks(), 0, "blocks of a channel that was closed")
+
+
+# --- Declarations ---
+
+def name_in_c(kind: Type[ctypes.Structure]) -> str:
+    """A record's name in the header: _FarmAnswer is tcrx_farm_answer."""
+    if kind.__name__ == "_Held":
+        return "tcrx_channel"
+    return "tcrx_" + "_".join(word.lower() for word in re.findall(r"[A-Z][a-z]*", kind.__name__))
+
+
+def check_places(kinds: List[Type[ctypes.Structure]]) -> None:
+    """Each record's size and places, by a C program."""
+    lines = ['#include "tcrx.h"', "#include <stdio.h>", "int main(void) {"]
+    wanted: List[str] = []
+    for kind in kinds:
+        name = name_in_c(kind)
+        lines.append(f'printf("{name} %zu\\n", sizeof({name}));')
+        wanted.append(f"{name} {ctypes.sizeof(kind)}")
+        for field in (str(each[0]) for each in kind._fields_):  # pylint: disable=protected-access
+            lines.append(f'printf("{name} {field} %zu\\n", offsetof({name}, {field}));')
+            wanted.append(f"{name} {field} {getattr(kind, field).offset}")
+    with tempfile.TemporaryDirectory() as folder:
+        (Path(folder) / "said.c").write_text("\n".join([*lines, "return 0; }\n"]))
+        subprocess.run([os.environ.get("CC", "cc"), f"-I{HEADER.parent}", "said.c", "-o", "said"], cwd=folder, check=True)
+        said = subprocess.run([Path(folder) / "said"], capture_output=True, text=True, check=True).stdout
+    same(said.split("\n")[:-1], wanted, "sizes and places")
+
+
+def check_declarations() -> None:
+    """Each record by a C program, and each function's types by the header's text."""
+    kinds = [kind for kind in vars(tcrx_channel).values() if isinstance(kind, type) and issubclass(kind, ctypes.Structure)
+             and kind is not ctypes.Structure]
+    tell(len(kinds) > 10, f"{len(kinds)} records")
+    check_places(kinds)
+    in_python: Dict[str, Any] = {"tcrx_status": ctypes.c_uint32, "uint8_t": ctypes.c_uint8, "uint16_t": ctypes.c_uint16,
+                                 "size_t": ctypes.c_size_t, "const uint8_t *": ctypes.c_char_p, "uint8_t *": ctypes.c_void_p}
+    for kind in kinds:
+        in_python[name_in_c(kind)] = kind
+        in_python[f"{name_in_c(kind)} *"] = in_python[f"const {name_in_c(kind)} *"] = ctypes.POINTER(kind)
+    for call, declared in tcrx_channel.CALLS.items():
+        found = re.search(rf"^(\w+) {call}\(([^)]*)\);", HEADER.read_text(), re.M)
+        tell(found, f"the header has no {call}")
+        if found:
+            types = [re.sub(r"\w+$", "", " ".join(each.split())).strip() for each in found[2].split(",")]
+            same(declared, (in_python[found[1]], [in_python[each] for each in types]), f"the declaration of {call}")
+
+
+def main() -> int:
+    """Each part, over the libraries that the words name."""
+    library, refusing = sys.argv[1], sys.argv[2]
+    os.environ["TCRX_LIB_DIR"] = str(Path(library).parent)
+    same(tcrx_channel.find_library(), library, "the library that is found")
+    same((tcrx.Channel, hasattr(tcrx, "Channel")), (Channel, True), "the channel of tcrx")
+    check_declarations()
+    check_cases()
+    check_values()
+    check_long_units()
+    check_refused()
+    check_ends()
+    check_threads()
+    check_fork()
+    check_growths(refusing)
+    print(f"channel in Python {sys.version_info.major}.{sys.version_info.minor}: {counted[True]} passed, {counted[False]} failed")
+    return 1 if counted[False] or not counted[True] else 0
+
+
+if __name__ == "__main__":
+    sys.exit(main())

@@ -1,0 +1,88 @@
+"""Packs the client for pip: what pip asks of a build backend (PEP 517), with the standard library alone.
+
+In the wheel each module is a package of one file, since only a package can say by `py.typed` that it has types (PEP 561).
+"""
+from __future__ import annotations
+
+import base64
+import hashlib
+import io
+import re
+import tarfile
+import zipfile
+from pathlib import Path
+from typing import Dict, List, Mapping, Optional
+
+HERE = Path(__file__).resolve().parent
+NAME = "dekorihe"
+MODULES = ("tcrx", "tcrx_channel")
+OWN_FILES = ("pyproject.toml", "packing.py", "py.typed", *(f"{module}.py" for module in MODULES))
+
+
+def version() -> str:
+    """That of the client."""
+    found = re.search(r'^__version__ = "(.*)"$', (HERE / "tcrx.py").read_text(encoding="utf-8"), re.M)
+    if found is None:
+        raise ValueError("tcrx.py has no version")
+    return found[1]
+
+
+def metadata() -> str:
+    """What the package says of itself."""
+    return (f"Metadata-Version: 2.1\nName: {NAME}\nVersion: {version()}\n"
+            "Summary: A CCSDS telecommand receiver: a live program's client, and a virtual channel in the process\n"
+            "License: Apache-2.0\nRequires-Python: >=3.9\nClassifier: Typing :: Typed\n")
+
+
+def contents() -> Dict[str, bytes]:
+    """The files of the wheel, apart from the list of them."""
+    files: Dict[str, bytes] = {}
+    for module in MODULES:
+        files[f"{module}/__init__.py"] = (HERE / f"{module}.py").read_bytes()
+        files[f"{module}/py.typed"] = b""
+    about = f"{NAME}-{version()}.dist-info"
+    for name in ("LICENSE", "NOTICE"):
+        if (HERE.parent.parent / name).is_file():
+            files[f"{about}/{name}"] = (HERE.parent.parent / name).read_bytes()
+    files[f"{about}/METADATA"] = metadata().encode()
+    files[f"{about}/WHEEL"] = b"Wheel-Version: 1.0\nGenerator: packing\nRoot-Is-Purelib: true\nTag: py3-none-any\n"
+    return files
+
+
+def listed(files: Mapping[str, bytes]) -> bytes:
+    """The list of the wheel's files with their digests."""
+    rows: List[str] = []
+    for name, octets in files.items():
+        digest = base64.urlsafe_b64encode(hashlib.sha256(octets).digest()).rstrip(b"=").decode()
+        rows.append(f"{name},sha256={digest},{len(octets)}")
+    rows.append(f"{NAME}-{version()}.dist-info/RECORD,,")
+    return ("\n".join(rows) + "\n").encode()
+
+
+def build_wheel(wheel_directory: str, config_settings: Optional[Mapping[str, object]] = None,
+                metadata_directory: Optional[str] = None) -> str:
+    """Writes the wheel, and answers its name. All times in it are the same, so that it is the same each time."""
+    del config_settings, metadata_directory
+    name = f"{NAME}-{version()}-py3-none-any.whl"
+    files = contents()
+    files[f"{NAME}-{version()}.dist-info/RECORD"] = listed(files)
+    with zipfile.ZipFile(Path(wheel_directory) / name, "w", zipfile.ZIP_DEFLATED) as wheel:
+        for path, octets in files.items():
+            entry = zipfile.ZipInfo(path)
+            entry.external_attr = 0o644 << 16
+            wheel.writestr(entry, octets, zipfile.ZIP_DEFLATED)
+    return name
+
+
+def build_sdist(sdist_directory: str, config_settings: Optional[Mapping[str, object]] = None) -> str:
+    """Writes the archive of the sources, and answers its name."""
+    del config_settings
+    folder = f"{NAME}-{version()}"
+    files = {name: (HERE / name).read_bytes() for name in OWN_FILES}
+    files["PKG-INFO"] = metadata().encode()
+    with tarfile.open(Path(sdist_directory) / f"{folder}.tar.gz", "w:gz", format=tarfile.PAX_FORMAT) as archive:
+        for name, octets in files.items():
+            entry = tarfile.TarInfo(f"{folder}/{name}")
+            entry.size = len(octets)
+            archive.addfile(entry, io.BytesIO(octets))
+    return f"{folder}.tar.gz"

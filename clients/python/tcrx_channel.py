@@ -1,0 +1,423 @@
+"""A virtual channel in the process of a Python program: the calls of the shared library libtcrx.so.0, by ctypes.
+
+    from tcrx import Channel
+
+    with Channel(1, width=10, buffer=2, first=0, queues={5: 8}) as channel:
+        brought = channel.bring(bytes.fromhex("002a040c00c01005c0000000aa"))
+        channel.release()
+        for octets in channel.packets(5):
+            ...
+    print(channel.final.events)
+
+What of the proofs reaches a caller: the functions of the library are proved, each answers what its definition says. This module
+is not proved: that its records are laid out as in the header, that it passes each argument on, makes a value of each answer and
+frees a channel once is tested, by the same cases as the calls from C. Nothing is proved of Python, ctypes or libffi.
+
+The values are those of `tcrx`: an operation is answered by `Brought`, `Released`, `Packet`, `Unit`, `Clcw` or `Report`, or by
+`Refused` with its reason. What leaves a call without an answer is an exception.
+
+- Threads. The library is called with the GIL held, since a call takes about a microsecond. So calls of one channel from several
+  threads take turns, and each is whole; channels of several threads don't run at the same time. Where Python has no GIL a lock in
+  each channel makes its calls take turns.
+- An interrupt (Ctrl-C) never comes amid a call of the library. The channel goes on, but the answer may be lost.
+- After a fork each process has the channel as it was then, and the two have nothing in common from then on.
+- A channel that is neither closed nor in a `with` is freed by its finaliser, when nothing refers to it or when Python ends.
+
+Standard library alone, Python 3.9 or later.
+"""
+from __future__ import annotations
+
+import ctypes
+import os
+import shutil
+import threading
+import weakref
+from ctypes import POINTER, Structure, byref, c_char_p, c_size_t, c_uint8, c_uint16, c_uint32, c_uint64, c_void_p
+from dataclasses import dataclass
+from operator import index
+from pathlib import Path
+from types import TracebackType
+from typing import Any, Dict, Iterator, List, Mapping, NoReturn, Optional, Tuple, Type, Union
+
+from tcrx import (Brought, Clcw, Delivery, Ended, Event, Fault, Final, NotSetUp, NotStarted, Packet, Refusal, Refused, Released, Report,
+                  State, Unit)
+
+__all__ = ["BadSettings", "Channel", "Frame", "NoMemory", "find_library", "memory_bound", "read_frame"]
+
+LIBRARY = "libtcrx.so.0"
+DONE, NO_MEMORY, NO_ROOM, NO_CHANNEL, TEXT_ROOM = 0, 13, 50, 70, 64
+# The statuses that are answers.
+REFUSED = {1: Refused(Refusal.SHORT), 2: Refused(Refusal.VERSION), 3: Refused(Refusal.SPARE), 4: Refused(Refusal.LENGTH),
+           5: Refused(Refusal.TRUNCATED), 72: Refused(Refusal.NO_QUEUE), 73: Refused(Refusal.NO_MAP), 74: Refused(Refusal.EMPTY)}
+EVENTS = dict(enumerate(Event, 1))
+STATES = {1: State.OPEN, 2: State.WAIT, 3: State.LOCKOUT}
+# What becomes of most units, made once.
+NOTHING, ONE_QUEUED = Delivery(0, 0, False), Delivery(1, 0, False)
+# Octets that a packet or a unit is taken into; a longer one is taken again into as many as it needs.
+FIRST_ROOM = 4096
+
+
+class BadSettings(Fault):
+    """No channel is made of these settings."""
+
+
+class NoMemory(Fault, MemoryError):
+    """There is no memory for the call; the channel is as it was, and the call can be made again."""
+
+
+# Records of C have fields alone.
+# pylint: disable=too-few-public-methods
+class _Settings(Structure):
+    _fields_ = [(name, c_uint8) for name in ("vcid", "width", "buffer", "first_vr", "segmented")]
+
+
+class _Queue(Structure):
+    _fields_ = [("apid", c_uint16), ("capacity", c_uint16)]
+
+
+class _Map(Structure):
+    _fields_ = [("map", c_uint8), ("capacity", c_uint16)]
+
+
+class _Held(Structure):
+    _fields_ = [("held", c_uint8), ("place", c_void_p)]
+
+
+class _Header(Structure):
+    _fields_ = [("scid", c_uint16), ("vcid", c_uint8), ("ns", c_uint8), ("bypass", c_uint8), ("control", c_uint8)]
+
+
+class _Frame(Structure):
+    _fields_ = [("status", c_uint32), ("header", _Header), ("length", c_uint16)]
+
+
+class _Farm(Structure):
+    _fields_ = [(name, c_uint8) for name in ("width", "state", "vr", "farm_b", "lockout", "wait", "retransmit")]
+
+
+class _FarmAnswer(Structure):
+    _fields_ = [("status", c_uint32), ("farm", _Farm)]
+
+
+class _ClcwAnswer(Structure):
+    _fields_ = [("status", c_uint32), ("word", c_uint32)]
+
+
+class _Written(Structure):
+    _fields_ = [("status", c_uint32), ("length", c_size_t)]
+
+
+class _Reply(Structure):
+    _fields_ = [("status", c_uint32), ("queued", c_uint32), ("dropped", c_uint32), ("event", c_uint8), ("accepted", c_uint8), ("rest", c_uint8)]
+
+
+class _Delivery(Structure):
+    _fields_ = [("status", c_uint32), ("queued", c_uint32), ("dropped", c_uint32), ("rest", c_uint8)]
+
+
+class _Count(Structure):
+    _fields_ = [("status", c_uint32), ("count", c_uint64)]
+
+
+# pylint: enable=too-few-public-methods
+_LISTS = [_Settings, POINTER(_Queue), c_size_t, POINTER(_Map), c_size_t]
+_HELD = POINTER(_Held)
+# What each function takes and answers, as the header declares it.
+CALLS: Dict[str, Tuple[Any, List[Any]]] = {
+    "tcrx_text_at": (_Written, [c_uint32, c_void_p, c_size_t]),
+    "tcrx_read_frame_at": (_Frame, [c_char_p, c_size_t]),
+    "tcrx_memory_bound_at": (_Count, _LISTS),
+    "tcrx_channel_new_at": (c_uint32, [_HELD, *_LISTS]),
+    "tcrx_channel_frame_at": (_Reply, [_HELD, c_char_p, c_size_t]),
+    "tcrx_channel_release_at": (_Delivery, [_HELD]),
+    "tcrx_channel_take_at": (_Written, [_HELD, c_uint16, c_void_p, c_size_t]),
+    "tcrx_channel_take_unit_at": (_Written, [_HELD, c_uint8, c_void_p, c_size_t]),
+    "tcrx_channel_clcw_at": (_ClcwAnswer, [_HELD, c_uint8, c_uint8]),
+    "tcrx_channel_report_at": (_FarmAnswer, [_HELD]),
+    "tcrx_channel_buffered_at": (_Count, [_HELD]),
+    "tcrx_channel_queued_at": (_Count, [_HELD, c_uint16]),
+    "tcrx_channel_units_at": (_Count, [_HELD, c_uint8]),
+    "tcrx_channel_events_at": (_Count, [_HELD]),
+    "tcrx_channel_free_at": (c_uint32, [_HELD]),
+}
+
+
+def find_library() -> str:
+    """Where the shared library is: in the folder that TCRX_LIB_DIR names; or in `lib` next to the folder of the path that has
+    `tclive`, as tools/install puts it; or else by its name alone, where the loader finds it."""
+    named = os.environ.get("TCRX_LIB_DIR")
+    if named:
+        return str(Path(named) / LIBRARY)
+    program = shutil.which("tclive")
+    near = Path(program).resolve().parent.parent / "lib" / LIBRARY if program else None
+    return str(near) if near and near.is_file() else LIBRARY
+
+
+_libraries: Dict[str, ctypes.PyDLL] = {}
+
+
+def load(path: Union[str, "os.PathLike[str]", None]) -> ctypes.PyDLL:
+    """The library, with the types of its calls. Raises `NotStarted` where it isn't there."""
+    name = find_library() if path is None else os.fspath(path)
+    if name not in _libraries:
+        try:
+            library = ctypes.PyDLL(name)
+            for call, (answer, arguments) in CALLS.items():
+                function = getattr(library, call)
+                function.restype, function.argtypes = answer, arguments
+        except (OSError, AttributeError) as error:
+            raise NotStarted(f"there is no library {name}: {error}; name it by library=, or its folder by TCRX_LIB_DIR") from error
+        _libraries[name] = library
+    return _libraries[name]
+
+
+def in_range(value: int, most: int, what: str) -> int:
+    """A whole number that the type in C can have."""
+    number = int(index(value))
+    if not 0 <= number <= most:
+        raise ValueError(f"{what} is {number}, and must be 0 to {most}")
+    return number
+
+
+def text_of(library: ctypes.PyDLL, status: int) -> str:
+    """The library's text of a status."""
+    room = ctypes.create_string_buffer(TEXT_ROOM)
+    written = library.tcrx_text_at(status, room, TEXT_ROOM)
+    return room.value.decode("ascii") if written.status == DONE else f"status {status}"
+
+
+# pylint: disable-next=too-many-arguments  # they are the settings of a channel
+def lists_of(vcid: int, width: int, buffer: int, first: int, plain: bool, queues: Optional[Mapping[int, int]],
+             maps: Optional[Mapping[int, int]]) -> Tuple[Any, ...]:
+    """The arguments that settings are passed by. A list of no entries still needs a place."""
+    settings = _Settings(in_range(vcid, 255, "vcid"), in_range(width, 255, "width"), in_range(buffer, 255, "buffer"),
+                         in_range(first, 255, "first"), 0 if plain else 1)
+    its_queues = [_Queue(in_range(apid, 65535, "an APID"), in_range(room, 65535, "a capacity")) for apid, room in (queues or {}).items()]
+    its_maps = [_Map(in_range(map_id, 255, "a MAP"), in_range(room, 65535, "a capacity")) for map_id, room in (maps or {}).items()]
+    return (settings, (_Queue * max(1, len(its_queues)))(*its_queues), len(its_queues),
+            (_Map * max(1, len(its_maps)))(*its_maps), len(its_maps))
+
+
+def check_made(library: ctypes.PyDLL, status: int) -> None:
+    """Raises why settings were refused."""
+    if status == NO_MEMORY:
+        raise NoMemory(text_of(library, status))
+    if status != DONE:
+        raise BadSettings(text_of(library, status))
+
+
+def memory_bound(vcid: int, *, width: int, buffer: int, first: int, plain: bool = False,
+                 queues: Optional[Mapping[int, int]] = None, maps: Optional[Mapping[int, int]] = None,
+                 library: Union[str, "os.PathLike[str]", None] = None) -> int:
+    """The most octets that a channel of these settings has asked for and not given back, at any moment and with any frames."""
+    loaded = load(library)
+    answer = loaded.tcrx_memory_bound_at(*lists_of(vcid, width, buffer, first, plain, queues, maps))
+    check_made(loaded, answer.status)
+    return int(answer.count)
+
+
+@dataclass(frozen=True)
+class Frame:
+    """The header of the frame at the front of octets, and how many octets it has."""
+
+    scid: int
+    vcid: int
+    ns: int  # pylint: disable=invalid-name  # the standard's N(S)
+    """N(S), the frame sequence number."""
+    bypass: bool
+    """Type-B in place of Type-A."""
+    control: bool
+    """Type-C in place of Type-D."""
+    length: int
+
+
+def read_frame(octets: Union[bytes, bytearray, memoryview], *, library: Union[str, "os.PathLike[str]", None] = None) -> Union[Frame, Refused]:
+    """The header of the frame at the front of octets, by which a caller gives it to the channel that it is for."""
+    whole = bytes(octets)
+    frame = load(library).tcrx_read_frame_at(whole, len(whole))
+    if frame.status != DONE:
+        return REFUSED[frame.status]
+    read = frame.header
+    return Frame(read.scid, read.vcid, read.ns, read.bypass == 1, read.control == 1, frame.length)
+
+
+def delivery_of(answer: Any) -> Delivery:
+    """What an answer says of a unit."""
+    queued, dropped, rest = answer.queued, answer.dropped, answer.rest
+    if queued > 1 or dropped or rest:
+        return Delivery(queued, dropped, rest == 1)
+    return ONE_QUEUED if queued else NOTHING
+
+
+def free(library: ctypes.PyDLL, held: _Held) -> None:
+    """Frees a channel that is held; none is left then."""
+    library.tcrx_channel_free_at(byref(held))
+
+
+# pylint: disable-next=too-many-instance-attributes  # what a call needs is found once, where the channel is made
+class Channel:
+    """A virtual channel of a receiver, in this process."""
+
+    def __init__(self, vcid: int, *, width: int, buffer: int, first: int, plain: bool = False,
+                 queues: Optional[Mapping[int, int]] = None, maps: Optional[Mapping[int, int]] = None,
+                 library: Union[str, "os.PathLike[str]", None] = None) -> None:
+        """Makes a virtual channel (0 to 63): the width of its window (even, 2 to 254), how many data fields its buffer holds (1 to
+        64), its first V(R) (0 to 255), and whether its data fields have no segment headers; the room of its queues by application,
+        and of those by MAP, 1 to 256 each. `library` is the path of libtcrx.so.0; without it, it is looked for by `find_library`.
+
+        Raises `NotStarted` where the library isn't there, `BadSettings`, and `NoMemory`.
+        """
+        self._library, self._lock = load(library), threading.Lock()
+        self.vcid = in_range(vcid, 255, "vcid")
+        self._queues, self._maps = tuple(queues or ()), tuple(maps or ())
+        self._final: Optional[Final] = None
+        self._link = (0, 0)
+        self._held = _Held(0, None)
+        self._at = byref(self._held)
+        self._room = ctypes.create_string_buffer(FIRST_ROOM)
+        self._seen = memoryview(self._room)
+        lists = lists_of(vcid, width, buffer, first, plain, queues, maps)
+        check_made(self._library, self._library.tcrx_channel_new_at(self._at, *lists))
+        self._finalizer = weakref.finalize(self, free, self._library, self._held)
+
+    def __reduce__(self) -> NoReturn:
+        raise TypeError("a channel can't be copied or pickled: a copy of it is no second channel")
+
+    def _raise(self, status: int) -> NoReturn:
+        """Raises what leaves a call without an answer."""
+        if status == NO_CHANNEL:
+            raise Ended(None, "it was closed")
+        if status == NO_MEMORY:
+            raise NoMemory(text_of(self._library, status))
+        raise Fault(text_of(self._library, status))
+
+    def _refuse(self, status: int) -> Refused:
+        """A status that is an answer; each other one is raised."""
+        refused = REFUSED.get(status)
+        return self._raise(status) if refused is None else refused
+
+    def _count(self, answer: Any) -> int:
+        """A count that was asked for."""
+        if answer.status != DONE:
+            self._raise(answer.status)
+        return int(answer.count)
+
+    # --- Operations ---
+
+    def bring(self, octets: Union[bytes, bytearray, memoryview]) -> Union[Brought, Refused]:
+        """Brings octets that arrive, with the frame at their front. Which spacecraft and channel it is for isn't looked at: `read_frame`
+        says it."""
+        whole = octets if isinstance(octets, bytes) else bytes(octets)
+        with self._lock:
+            reply = self._library.tcrx_channel_frame_at(self._at, whole, len(whole))
+        if reply.status:
+            return self._refuse(reply.status)
+        return Brought(self.vcid, EVENTS[reply.event], reply.accepted == 1, delivery_of(reply))
+
+    def release(self) -> Union[Released, Refused]:
+        """Lets the oldest data field out of the buffer, to reassembly."""
+        with self._lock:
+            answer = self._library.tcrx_channel_release_at(self._at)
+        if answer.status:
+            return self._refuse(answer.status)
+        return Released(self.vcid, delivery_of(answer))
+
+    def _taken(self, call: Any, key: int) -> Union[bytes, Refused]:
+        """What a call takes out of a queue: into the channel's own room, or into as much as it needs."""
+        with self._lock:
+            written = call(self._at, key, self._room, FIRST_ROOM)
+            if not written.status:
+                return self._seen[:written.length].tobytes()
+            if written.status != NO_ROOM:
+                return self._refuse(written.status)
+            room = ctypes.create_string_buffer(written.length)
+            written = call(self._at, key, room, written.length)
+            return self._refuse(written.status) if written.status else room.raw
+
+    def take(self, apid: int) -> Union[Packet, Refused]:
+        """Takes the oldest packet out of the queue of an application."""
+        taken = self._taken(self._library.tcrx_channel_take_at, in_range(apid, 65535, "an APID"))
+        return Packet(self.vcid, apid, taken) if isinstance(taken, bytes) else taken
+
+    # pylint: disable-next=redefined-builtin  # as in tcrx
+    def take_unit(self, map: int) -> Union[Unit, Refused]:
+        """Takes the oldest unit out of the queue of a MAP."""
+        taken = self._taken(self._library.tcrx_channel_take_unit_at, in_range(map, 255, "a MAP"))
+        return Unit(self.vcid, map, taken) if isinstance(taken, bytes) else taken
+
+    def packets(self, apid: int) -> Iterator[bytes]:
+        """The packets that wait for an application, oldest first, each taken when it is asked for, until none waits. Raises `NotSetUp`
+        where there is no such queue."""
+        while isinstance(packet := self.take(apid), Packet):
+            yield packet.octets
+        if packet.reason is not Refusal.EMPTY:
+            raise NotSetUp(packet)
+
+    # pylint: disable-next=redefined-builtin  # as in tcrx
+    def units(self, map: int) -> Iterator[bytes]:
+        """The units that wait in the queue of a MAP, likewise."""
+        while isinstance(unit := self.take_unit(map), Unit):
+            yield unit.octets
+        if unit.reason is not Refusal.EMPTY:
+            raise NotSetUp(unit)
+
+    def clcw(self) -> Clcw:
+        """Its CLCW, with the flags of the link as they were last set."""
+        with self._lock:
+            answer = self._library.tcrx_channel_clcw_at(self._at, *self._link)
+        if answer.status:
+            self._raise(answer.status)
+        return Clcw(answer.word)
+
+    def link(self, no_rf: bool, no_bit_lock: bool) -> None:
+        """Sets the flags of the link in later CLCWs: No RF Available and No Bit Lock."""
+        self._link = (int(bool(no_rf)), int(bool(no_bit_lock)))
+
+    def report(self) -> Report:
+        """What the channel is at the moment."""
+        with self._lock:
+            answer = self._library.tcrx_channel_report_at(self._at)
+            if answer.status:
+                self._raise(answer.status)
+            farm, (buffered, queues, maps) = answer.farm, self._counts()
+        return Report(self.vcid, STATES[farm.state], farm.vr, farm.lockout == 1, farm.wait == 1, farm.retransmit == 1, farm.farm_b,
+                      buffered, queues, maps)
+
+    def _counts(self) -> Tuple[int, Dict[int, int], Dict[int, int]]:
+        """How much waits in the buffer and in each queue."""
+        library, at = self._library, self._at
+        queues = {apid: self._count(library.tcrx_channel_queued_at(at, apid)) for apid in self._queues}
+        maps = {map: self._count(library.tcrx_channel_units_at(at, map)) for map in self._maps}
+        return self._count(library.tcrx_channel_buffered_at(at)), queues, maps
+
+    @property
+    def events(self) -> int:
+        """How many frames, releases and takes were answered."""
+        with self._lock:
+            return self._count(self._library.tcrx_channel_events_at(self._at))
+
+    # --- The end ---
+
+    @property
+    def final(self) -> Final:
+        """What the channel was when it was closed."""
+        if self._final is None:
+            raise ValueError("the channel isn't closed")
+        return self._final
+
+    def close(self) -> Final:
+        """Frees the channel, and returns what it was then. Called again it returns the same."""
+        if self._final is None:
+            clcw, events = self.clcw(), self.events
+            with self._lock:
+                if self._final is None:
+                    self._final = Final(clcw, events, *self._counts())
+                    self._finalizer()
+        return self._final
+
+    def __enter__(self) -> Channel:
+        return self
+
+    def __exit__(self, kind: Optional[Type[BaseException]], error: Optional[BaseException], trace: Optional[TracebackType]) -> None:
+        """Closes the channel."""
+        self.close()

@@ -1,0 +1,86 @@
+//! The declarations against the header: a C program says the size of each record, the place of each field and each number, and the
+//! names are those that the header has.
+
+use std::collections::BTreeSet;
+use std::fmt::Write;
+use std::path::PathBuf;
+use std::process::Command;
+use std::{env, fs};
+use tcrx_sys::{API_VERSION, HOLDS_NONE, LAYOUTS, NUMBERS};
+
+fn folder_of_header() -> PathBuf {
+    PathBuf::from(env!("CARGO_MANIFEST_DIR")).join("../../../c")
+}
+
+/// What a C program prints of the header: of each record its size and its fields' places, of each name its number.
+fn said_in_c() -> String {
+    let mut lines = String::from("#include \"tcrx.h\"\n#include <stdio.h>\nint main(void) {\n");
+    for (record, _, fields) in LAYOUTS {
+        writeln!(lines, "printf(\"{record} %zu\", sizeof({record}));").expect("a string has room");
+        for (field, _) in *fields {
+            writeln!(lines, "printf(\" {field} %zu\", offsetof({record}, {field}));").expect("a string has room");
+        }
+        lines.push_str("printf(\"\\n\");\n");
+    }
+    for (name, _) in NUMBERS {
+        writeln!(lines, "printf(\"{name} %u\\n\", (unsigned)TCRX_{name});").expect("a string has room");
+    }
+    lines.push_str("printf(\"version %u\\n\", (unsigned)TCRX_API_VERSION);\nreturn 0;\n}\n");
+    let folder = PathBuf::from(env!("CARGO_TARGET_TMPDIR"));
+    let (source, program) = (folder.join("header.c"), folder.join("header"));
+    fs::write(&source, lines).expect("the source");
+    let compiler = env::var_os("CC").unwrap_or_else(|| "cc".into());
+    let compiled = Command::new(compiler).arg("-I").arg(folder_of_header()).arg(&source).arg("-o").arg(&program).status();
+    assert!(compiled.expect("a C compiler").success());
+    String::from_utf8(Command::new(&program).output().expect("the program").stdout).expect("ASCII")
+}
+
+fn said_here() -> String {
+    let mut lines = String::new();
+    for (record, size, fields) in LAYOUTS {
+        write!(lines, "{record} {size}").expect("a string has room");
+        for (field, place) in *fields {
+            write!(lines, " {field} {place}").expect("a string has room");
+        }
+        lines.push('\n');
+    }
+    for (name, number) in NUMBERS {
+        writeln!(lines, "{name} {number}").expect("a string has room");
+    }
+    lines + &format!("version {API_VERSION}\n")
+}
+
+#[test]
+fn records_and_numbers_are_those_of_c() {
+    assert_eq!(said_here(), said_in_c());
+    assert!(HOLDS_NONE.held == 0 && HOLDS_NONE.place.is_null());
+}
+
+/// The words that follow one text and come before another, in each line that has both.
+fn names<'text>(text: &'text str, begins: &str, ends: &str) -> BTreeSet<&'text str> {
+    let found = text.lines().filter_map(|line| line.split_once(begins)?.1.split_once(ends)).map(|(name, _)| name);
+    found.filter(|name| name.chars().all(|each| each.is_ascii_alphanumeric() || each == '_')).collect()
+}
+
+#[test]
+fn each_name_of_the_header_is_declared() {
+    let header = fs::read_to_string(folder_of_header().join("tcrx.h")).expect("the header");
+    let declared = fs::read_to_string(PathBuf::from(env!("CARGO_MANIFEST_DIR")).join("src/lib.rs")).expect("the declarations");
+    let records: BTreeSet<&str> = LAYOUTS.iter().map(|(record, _, _)| *record).collect();
+    assert_eq!(records, names(&header, "} ", ";").into_iter().filter(|name| name.starts_with("tcrx_")).collect());
+    let numbers: BTreeSet<&str> = NUMBERS.iter().map(|(name, _)| *name).collect();
+    assert_eq!(numbers, header.lines().filter_map(constant).collect());
+    let calls: BTreeSet<&str> =
+        declared.lines().filter_map(|line| line.trim().strip_prefix("pub fn ")?.split('(').next()).collect();
+    let exported =
+        header.lines().filter(|line| line.starts_with("tcrx_")).filter_map(|line| line.split('(').next()?.rsplit(' ').next());
+    assert_eq!(calls, exported.collect());
+    assert!(calls.len() > 20 && records.len() > 15 && numbers.len() > 40);
+}
+
+/// The name of a constant of an enumeration behind `TCRX_`.
+fn constant(line: &str) -> Option<&str> {
+    let (name, number) = line.trim().trim_start_matches("enum { ").strip_prefix("TCRX_")?.split_once(" = ")?;
+    let is_number = number.starts_with(|each: char| each.is_ascii_digit());
+    is_number.then_some(name)
+}

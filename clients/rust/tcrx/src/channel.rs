@@ -1,0 +1,215 @@
+//! A virtual channel that the library holds.
+
+use crate::errors::{BringError, ReleaseError, SettingsError, TakeError};
+use crate::link::{Clcw, Event, Farm};
+use core::cell::UnsafeCell;
+use core::fmt;
+use tcrx_sys as sys;
+
+/// What a channel is made by.
+#[derive(Clone, Copy, Debug, PartialEq, Eq)]
+pub struct Settings<'lists> {
+    /// The virtual channel id, 0 to 63.
+    pub vcid: u8,
+    /// The width of the sliding window, even and 2 to 254.
+    pub width: u8,
+    /// How many data fields the buffer holds, 1 to 64.
+    pub buffer: u8,
+    /// V(R) at the start.
+    pub first_vr: u8,
+    /// Whether data fields begin with a segment header; where not, each is a unit by itself.
+    pub segmented: bool,
+    /// The packet queues, by application.
+    pub queues: &'lists [sys::Queue],
+    /// The chosen MAPs, whose units are queued whole.
+    pub maps: &'lists [sys::Map],
+}
+
+impl Settings<'_> {
+    fn record(&self) -> sys::Settings {
+        let (vcid, width, buffer, first_vr) = (self.vcid, self.width, self.buffer, self.first_vr);
+        sys::Settings { vcid, width, buffer, first_vr, segmented: self.segmented.into() }
+    }
+
+    /// The most octets that a channel of these settings has asked for and not given back, at any moment and with any frames.
+    pub fn memory_bound(&self) -> Result<u64, SettingsError> {
+        let (queues, maps) = (self.queues, self.maps);
+        // SAFETY: both pointers are to as many entries as the counts say.
+        let answer = unsafe { sys::tcrx_memory_bound_at(self.record(), queues.as_ptr(), queues.len(), maps.as_ptr(), maps.len()) };
+        if answer.status == sys::DONE {
+            Ok(answer.count)
+        } else {
+            Err(SettingsError::of(answer.status, 0))
+        }
+    }
+}
+
+/// What became of the unit that an operation ended. Where it ended none, nothing was queued or dropped.
+#[derive(Clone, Copy, Debug, Default, PartialEq, Eq, Hash)]
+pub struct Delivery {
+    /// How many packets were queued; 1 for a unit that was queued whole.
+    pub queued: u32,
+    /// How many were dropped.
+    pub dropped: u32,
+    /// Whether octets were left that begin with no packet.
+    pub rest: bool,
+}
+
+/// What a frame came to.
+#[derive(Clone, Copy, Debug, PartialEq, Eq, Hash)]
+pub struct Brought {
+    /// The row of FARM-1's table that it met.
+    pub event: Event,
+    /// Whether it was accepted.
+    pub accepted: bool,
+    /// What became of the unit that it ended.
+    pub delivery: Delivery,
+}
+
+/// The flags of the link that a CLCW reports.
+#[derive(Clone, Copy, Debug, Default, PartialEq, Eq, Hash)]
+pub struct Link {
+    /// No RF Available.
+    pub no_rf: bool,
+    /// No Bit Lock.
+    pub no_bit_lock: bool,
+}
+
+/// A virtual channel, with its buffer, its reassembly and its queues. It is freed where it is dropped.
+///
+/// It can be sent to another thread. Two threads that share one need a lock:
+///
+/// ```compile_fail,E0277
+/// fn shared(_: impl Sync) {}
+/// fn of(channel: tcrx::Channel) {
+///     shared(channel);
+/// }
+/// ```
+pub struct Channel(UnsafeCell<sys::Channel>);
+
+// SAFETY: the library's calls of a channel may be made from any thread, and so may the functions of memory. The cell keeps two
+// threads from making one at the same time.
+unsafe impl Send for Channel {}
+
+impl Channel {
+    /// Makes a channel.
+    pub fn new(settings: &Settings<'_>) -> Result<Self, SettingsError> {
+        let mut held = sys::HOLDS_NONE;
+        let (queues, maps) = (settings.queues, settings.maps);
+        // SAFETY: the channel holds none, and both lists have as many entries as the counts say.
+        let status = unsafe {
+            sys::tcrx_channel_new_at(&mut held, settings.record(), queues.as_ptr(), queues.len(), maps.as_ptr(), maps.len())
+        };
+        if status == sys::DONE {
+            Ok(Channel(UnsafeCell::new(held)))
+        } else {
+            Err(SettingsError::of(status, 0))
+        }
+    }
+
+    /// Gives it the frame at the front of octets. Which spacecraft and channel the frame is for isn't looked at:
+    /// [`Frame::read`](crate::Frame::read) says it.
+    pub fn frame(&mut self, octets: &[u8]) -> Result<Brought, BringError> {
+        // SAFETY: a channel is held, by nobody else, and there are as many octets as the count says.
+        let reply = unsafe { sys::tcrx_channel_frame_at(self.0.get_mut(), octets.as_ptr(), octets.len()) };
+        if reply.status != sys::DONE {
+            return Err(BringError::of(reply.status, 0));
+        }
+        let delivery = Delivery { queued: reply.queued, dropped: reply.dropped, rest: reply.rest == 1 };
+        Ok(Brought { event: Event::of(reply.event), accepted: reply.accepted == 1, delivery })
+    }
+
+    /// Passes the oldest data field of the buffer on to reassembly and the queues.
+    pub fn release(&mut self) -> Result<Delivery, ReleaseError> {
+        // SAFETY: a channel is held, by nobody else.
+        let delivery = unsafe { sys::tcrx_channel_release_at(self.0.get_mut()) };
+        if delivery.status != sys::DONE {
+            return Err(ReleaseError::of(delivery.status, 0));
+        }
+        Ok(Delivery { queued: delivery.queued, dropped: delivery.dropped, rest: delivery.rest == 1 })
+    }
+
+    /// Takes the oldest packet of a queue to the front of `room`; the answer is the packet, there. Where the room is too short the
+    /// packet stays, and the error says how many octets it needs.
+    pub fn take<'room>(&mut self, apid: u16, room: &'room mut [u8]) -> Result<&'room [u8], TakeError> {
+        // SAFETY: a channel is held, by nobody else, and the room is as long as it says.
+        let written = unsafe { sys::tcrx_channel_take_at(self.0.get_mut(), apid, room.as_mut_ptr(), room.len()) };
+        if written.status == sys::DONE {
+            Ok(&room[..written.length])
+        } else {
+            Err(TakeError::of(written.status, written.length))
+        }
+    }
+
+    /// Takes the oldest unit of a chosen MAP in the same way. A unit may have no octets.
+    pub fn take_unit<'room>(&mut self, map: u8, room: &'room mut [u8]) -> Result<&'room [u8], TakeError> {
+        // SAFETY: a channel is held, by nobody else, and the room is as long as it says.
+        let written = unsafe { sys::tcrx_channel_take_unit_at(self.0.get_mut(), map, room.as_mut_ptr(), room.len()) };
+        if written.status == sys::DONE {
+            Ok(&room[..written.length])
+        } else {
+            Err(TakeError::of(written.status, written.length))
+        }
+    }
+
+    /// Its CLCW.
+    pub fn clcw(&self, link: Link) -> Clcw {
+        // SAFETY: a channel is held. No other thread has it, since the cell isn't `Sync`, and the call is over before another begins.
+        Clcw::of(unsafe { sys::tcrx_channel_clcw_at(self.0.get(), link.no_rf.into(), link.no_bit_lock.into()) }.word)
+    }
+
+    /// The record of its FARM-1.
+    pub fn report(&self) -> Farm {
+        // SAFETY: as for `clcw`.
+        Farm::of(unsafe { sys::tcrx_channel_report_at(self.0.get()) }.farm)
+    }
+
+    /// How many data fields wait in the buffer.
+    pub fn buffered(&self) -> u64 {
+        // SAFETY: as for `clcw`.
+        unsafe { sys::tcrx_channel_buffered_at(self.0.get()) }.count
+    }
+
+    /// How many packets wait in the queue of an application; none where it has no queue.
+    pub fn queued(&self, apid: u16) -> Option<u64> {
+        // SAFETY: as for `clcw`.
+        let answer = unsafe { sys::tcrx_channel_queued_at(self.0.get(), apid) };
+        (answer.status == sys::DONE).then_some(answer.count)
+    }
+
+    /// How many units wait in the queue of a MAP; none where it isn't chosen.
+    pub fn units(&self, map: u8) -> Option<u64> {
+        // SAFETY: as for `clcw`.
+        let answer = unsafe { sys::tcrx_channel_units_at(self.0.get(), map) };
+        (answer.status == sys::DONE).then_some(answer.count)
+    }
+
+    /// How many frames, releases and takes were done.
+    pub fn events(&self) -> u64 {
+        // SAFETY: as for `clcw`.
+        unsafe { sys::tcrx_channel_events_at(self.0.get()) }.count
+    }
+
+    /// Frees it before the end of its scope. After that it can't be used:
+    ///
+    /// ```compile_fail,E0382
+    /// fn of(channel: tcrx::Channel) -> u64 {
+    ///     channel.close();
+    ///     channel.events()
+    /// }
+    /// ```
+    pub fn close(self) {}
+}
+
+impl Drop for Channel {
+    fn drop(&mut self) {
+        // SAFETY: a channel is held, by nobody else, and isn't used after this.
+        unsafe { sys::tcrx_channel_free_at(self.0.get_mut()) };
+    }
+}
+
+impl fmt::Debug for Channel {
+    fn fmt(&self, to: &mut fmt::Formatter<'_>) -> fmt::Result {
+        to.debug_struct("Channel").field("farm", &self.report()).field("events", &self.events()).finish_non_exhaustive()
+    }
+}

@@ -1,0 +1,37 @@
+//! The spacecraft's end of a CCSDS telecommand link: transfer frames, FARM-1 (the frame acceptance and reporting mechanism), space
+//! packets and CLCWs (communications link control words), over the library of `tcrx.h`.
+//!
+//! **What of the proofs reaches a caller.** The functions of the library are proved: each answers what its definition says. This
+//! crate is not proved. It passes each argument on, makes a value of each answer, and frees a channel once; tests compare all of that
+//! with the cases that the library's other callers answer. What Rust adds is that a slice is as long as it says, that a channel isn't
+//! used after its end, and that two threads don't use one at the same time.
+//!
+//! ```
+//! use tcrx::{Channel, Event, Link, Queue, Settings};
+//!
+//! # fn main() -> Result<(), Box<dyn std::error::Error>> {
+//! let queues = [Queue { apid: 5, capacity: 16 }];
+//! let settings = Settings { vcid: 1, width: 10, buffer: 4, first_vr: 0, segmented: true, queues: &queues, maps: &[] };
+//! let mut channel = Channel::new(&settings)?;
+//! let brought = channel.frame(&[0x00, 0x2a, 0x04, 0x0c, 0x00, 0xc0, 0x10, 0x05, 0xc0, 0x00, 0x00, 0x00, 0xaa])?;
+//! assert_eq!(brought.event, Event::E1);
+//! channel.release()?;
+//! let mut room = [0; 64];
+//! assert_eq!(channel.take(5, &mut room)?, [0x10, 0x05, 0xc0, 0x00, 0x00, 0x00, 0xaa]);
+//! assert_eq!(channel.clcw(Link::default()).word(), 0x01040001);
+//! # Ok(())
+//! # }
+//! ```
+//!
+//! Without `std`, and without an allocator of Rust's: packets are taken into slices of the caller's. Which library is linked, and who
+//! gives it memory, is said by the crate `tcrx-sys`, whose features `shared` and `own-memory` are this crate's as well.
+#![no_std]
+
+mod channel;
+mod errors;
+mod link;
+
+pub use channel::{Brought, Channel, Delivery, Link, Settings};
+pub use errors::{BringError, FarmError, FrameError, ReleaseError, SettingsError, TakeError, WriteError};
+pub use link::{Arrival, Clcw, Event, Farm, Frame, Header, Kind, Packet, State, Step};
+pub use tcrx_sys::{Map, Queue};

@@ -1,0 +1,355 @@
+//! Single calls, which keep no state and ask for no memory: frames, packets, CLCWs and FARM-1.
+
+use crate::errors::{FarmError, FrameError, WriteError};
+use tcrx_sys as sys;
+
+/// The primary header of a frame, apart from the frame length.
+#[derive(Clone, Copy, Debug, Default, PartialEq, Eq, Hash)]
+pub struct Header {
+    /// The spacecraft id, 0 to 1,023.
+    pub scid: u16,
+    /// The virtual channel id, 0 to 63.
+    pub vcid: u8,
+    /// The frame sequence number N(S).
+    pub ns: u8,
+    /// Type-B in place of Type-A.
+    pub bypass: bool,
+    /// Type-C in place of Type-D.
+    pub control: bool,
+}
+
+impl Header {
+    /// Writes a frame of this header and a data field of 1 to 1,019 octets to the front of `room`; the answer is the frame, there.
+    pub fn write<'room>(&self, field: &[u8], room: &'room mut [u8]) -> Result<&'room [u8], WriteError> {
+        let header =
+            sys::Header { scid: self.scid, vcid: self.vcid, ns: self.ns, bypass: self.bypass.into(), control: self.control.into() };
+        // SAFETY: both pointers are to as many octets as the counts say, and only one of them is written to.
+        let written = unsafe { sys::tcrx_write_frame_at(header, field.as_ptr(), field.len(), room.as_mut_ptr(), room.len()) };
+        match written.status {
+            sys::DONE => Ok(&room[..written.length]),
+            status => Err(WriteError::of(status, written.length)),
+        }
+    }
+}
+
+/// What comes to FARM-1.
+#[derive(Clone, Copy, Debug, PartialEq, Eq, Hash)]
+#[repr(u8)]
+pub enum Arrival {
+    /// A Type-AD frame.
+    Ad = sys::AD,
+    /// A Type-BD frame.
+    Bd = sys::BD,
+    /// A Type-BC frame with the control command Unlock.
+    Unlock = sys::UNLOCK,
+    /// A Type-BC frame with the control command Set V(R).
+    SetVr = sys::SET_VR,
+    /// A Type-AC frame, or a Type-BC frame with no control command.
+    Invalid = sys::INVALID,
+    /// A data field has left the buffer.
+    Release = sys::RELEASE,
+}
+
+/// The kind of a frame, as [`Farm::step`] takes it.
+#[derive(Clone, Copy, Debug, PartialEq, Eq, Hash)]
+pub struct Kind {
+    /// What it is.
+    pub arrival: Arrival,
+    /// The N(S) of a Type-AD frame, the new V(R) of a Set V(R), else 0.
+    pub number: u8,
+}
+
+/// The frame at the front of octets.
+#[derive(Clone, Copy, Debug, PartialEq, Eq, Hash)]
+pub struct Frame<'octets> {
+    header: Header,
+    octets: &'octets [u8],
+}
+
+impl<'octets> Frame<'octets> {
+    /// Reads it. What follows it is fill.
+    pub fn read(octets: &'octets [u8]) -> Result<Self, FrameError> {
+        // SAFETY: the pointer is to as many octets as the count says.
+        let frame = unsafe { sys::tcrx_read_frame_at(octets.as_ptr(), octets.len()) };
+        if frame.status != sys::DONE {
+            return Err(FrameError::of(frame.status, 0));
+        }
+        let read = frame.header;
+        let header = Header { scid: read.scid, vcid: read.vcid, ns: read.ns, bypass: read.bypass == 1, control: read.control == 1 };
+        Ok(Frame { header, octets: &octets[..frame.length.into()] })
+    }
+
+    /// Its primary header.
+    pub fn header(&self) -> Header {
+        self.header
+    }
+
+    /// All of its octets.
+    pub fn octets(&self) -> &'octets [u8] {
+        self.octets
+    }
+
+    /// Its data field.
+    pub fn field(&self) -> &'octets [u8] {
+        &self.octets[5..]
+    }
+
+    /// Its kind.
+    pub fn kind(&self) -> Kind {
+        // SAFETY: the pointer is to as many octets as the count says.
+        let answer = unsafe { sys::tcrx_kind_at(self.octets.as_ptr(), self.octets.len()) };
+        let arrival = match answer.kind {
+            sys::AD => Arrival::Ad,
+            sys::BD => Arrival::Bd,
+            sys::UNLOCK => Arrival::Unlock,
+            sys::SET_VR => Arrival::SetVr,
+            _ => Arrival::Invalid,
+        };
+        Kind { arrival, number: answer.number }
+    }
+}
+
+/// The packet at the front of octets.
+#[derive(Clone, Copy, Debug, PartialEq, Eq, Hash)]
+pub struct Packet<'octets> {
+    /// The application process id, which is 2,047 for idle packets.
+    pub apid: u16,
+    /// The sequence count or the name.
+    pub count: u16,
+    /// Telecommand, not telemetry.
+    pub telecommand: bool,
+    /// The secondary header flag.
+    pub secondary: bool,
+    /// The sequence flags, at most 3.
+    pub sequence: u8,
+    /// All of its octets, of which six are the primary header.
+    pub octets: &'octets [u8],
+}
+
+impl<'octets> Packet<'octets> {
+    /// Reads it; none where the octets don't begin with a whole packet of version 0.
+    pub fn read(octets: &'octets [u8]) -> Option<Self> {
+        // SAFETY: the pointer is to as many octets as the count says.
+        let packet = unsafe { sys::tcrx_read_packet_at(octets.as_ptr(), octets.len()) };
+        (packet.status == sys::DONE).then(|| Packet {
+            apid: packet.apid,
+            count: packet.count,
+            telecommand: packet.telecommand == 1,
+            secondary: packet.secondary == 1,
+            sequence: packet.sequence,
+            octets: &octets[..packet.length as usize],
+        })
+    }
+}
+
+/// A CLCW of COP-1.
+#[derive(Clone, Copy, Debug, PartialEq, Eq, Hash)]
+pub struct Clcw(u32);
+
+impl Clcw {
+    pub(crate) fn of(word: u32) -> Self {
+        Clcw(word)
+    }
+
+    /// Reads a word; none where it is no CLCW of COP-1.
+    pub fn read(word: u32) -> Option<Self> {
+        // SAFETY: the call takes no pointer.
+        let fields = unsafe { sys::tcrx_read_clcw(word) };
+        (fields.status == sys::DONE).then_some(Clcw(word))
+    }
+
+    /// All 32 bits.
+    pub fn word(self) -> u32 {
+        self.0
+    }
+
+    fn bits(self, from: u32, mask: u32) -> u8 {
+        (self.0 >> from & mask) as u8
+    }
+
+    /// The status field, whose meaning is left to the mission.
+    pub fn status_field(self) -> u8 {
+        self.bits(26, 7)
+    }
+
+    /// The virtual channel id.
+    pub fn vcid(self) -> u8 {
+        self.bits(18, 63)
+    }
+
+    /// No RF Available.
+    pub fn no_rf(self) -> bool {
+        self.bits(15, 1) == 1
+    }
+
+    /// No Bit Lock.
+    pub fn no_bit_lock(self) -> bool {
+        self.bits(14, 1) == 1
+    }
+
+    /// An Unlock is needed.
+    pub fn lockout(self) -> bool {
+        self.bits(13, 1) == 1
+    }
+
+    /// The buffer has no room.
+    pub fn wait(self) -> bool {
+        self.bits(12, 1) == 1
+    }
+
+    /// Frames from V(R) on are wanted again.
+    pub fn retransmit(self) -> bool {
+        self.bits(11, 1) == 1
+    }
+
+    /// The FARM-B counter, 0 to 3.
+    pub fn farm_b(self) -> u8 {
+        self.bits(9, 3)
+    }
+
+    /// V(R), the number of the frame that is expected next.
+    pub fn vr(self) -> u8 {
+        self.bits(0, 255)
+    }
+}
+
+/// A state of FARM-1.
+#[derive(Clone, Copy, Debug, PartialEq, Eq, Hash)]
+#[repr(u8)]
+pub enum State {
+    /// S1.
+    Open = sys::OPEN,
+    /// S2.
+    Wait = sys::WAIT,
+    /// S3.
+    Lockout = sys::LOCKOUT,
+}
+
+/// The row of FARM-1's state table.
+#[derive(Clone, Copy, Debug, PartialEq, Eq, Hash)]
+pub enum Event {
+    /// Type-AD, expected, with room in the buffer.
+    E1,
+    /// Type-AD, expected, with no room in the buffer.
+    E2,
+    /// Type-AD, ahead of V(R): one before it was lost.
+    E3,
+    /// Type-AD, behind V(R): it came before.
+    E4,
+    /// Type-AD, outside the window.
+    E5,
+    /// Type-BD.
+    E6,
+    /// Type-BC, Unlock.
+    E7,
+    /// Type-BC, Set V(R).
+    E8,
+    /// Invalid.
+    E9,
+    /// A release of the buffer.
+    E10,
+}
+
+impl Event {
+    /// By its number. The library answers no other one.
+    pub(crate) fn of(number: u8) -> Self {
+        match number {
+            1 => Event::E1,
+            2 => Event::E2,
+            3 => Event::E3,
+            4 => Event::E4,
+            5 => Event::E5,
+            6 => Event::E6,
+            7 => Event::E7,
+            8 => Event::E8,
+            10 => Event::E10,
+            _ => Event::E9,
+        }
+    }
+}
+
+/// FARM-1: the width of its window and its six components.
+#[derive(Clone, Copy, Debug, PartialEq, Eq, Hash)]
+pub struct Farm {
+    /// The width of the sliding window, even and 2 to 254.
+    pub width: u8,
+    /// Its state.
+    pub state: State,
+    /// V(R), the number of the frame that is expected next.
+    pub vr: u8,
+    /// The FARM-B counter, 0 to 3.
+    pub farm_b: u8,
+    /// The Lockout flag.
+    pub lockout: bool,
+    /// The Wait flag.
+    pub wait: bool,
+    /// The Retransmit flag.
+    pub retransmit: bool,
+}
+
+/// A step of FARM-1.
+#[derive(Clone, Copy, Debug, PartialEq, Eq, Hash)]
+pub struct Step {
+    /// The record after it.
+    pub farm: Farm,
+    /// Its row of the state table.
+    pub event: Event,
+    /// Whether the frame was accepted.
+    pub accepted: bool,
+}
+
+impl Farm {
+    /// FARM-1 that starts.
+    pub fn new(width: u8, first_vr: u8) -> Result<Self, FarmError> {
+        // SAFETY: the call takes no pointer.
+        let answer = unsafe { sys::tcrx_farm_start(width, first_vr) };
+        if answer.status == sys::DONE {
+            Ok(Farm::of(answer.farm))
+        } else {
+            Err(FarmError::of(answer.status, 0))
+        }
+    }
+
+    /// The next step. `room` says whether the buffer has room for the data field of a Type-AD frame.
+    pub fn step(self, kind: Kind, room: bool) -> Result<Step, FarmError> {
+        // SAFETY: the call takes no pointer.
+        let answer = unsafe { sys::tcrx_farm_step(self.record(), kind.arrival as u8, kind.number, room.into()) };
+        if answer.status != sys::DONE {
+            return Err(FarmError::of(answer.status, 0));
+        }
+        Ok(Step { farm: Farm::of(answer.farm), event: Event::of(answer.event), accepted: answer.accepted == 1 })
+    }
+
+    /// The CLCW that reports it.
+    pub fn clcw(self, vcid: u8, no_rf: bool, no_bit_lock: bool) -> Result<Clcw, FarmError> {
+        // SAFETY: the call takes no pointer.
+        let answer = unsafe { sys::tcrx_clcw(self.record(), vcid, no_rf.into(), no_bit_lock.into()) };
+        if answer.status == sys::DONE {
+            Ok(Clcw(answer.word))
+        } else {
+            Err(FarmError::of(answer.status, 0))
+        }
+    }
+
+    pub(crate) fn of(farm: sys::Farm) -> Self {
+        let state = match farm.state {
+            sys::WAIT => State::Wait,
+            sys::LOCKOUT => State::Lockout,
+            _ => State::Open,
+        };
+        let (lockout, wait, retransmit) = (farm.lockout == 1, farm.wait == 1, farm.retransmit == 1);
+        Farm { width: farm.width, state, vr: farm.vr, farm_b: farm.farm_b, lockout, wait, retransmit }
+    }
+
+    fn record(self) -> sys::Farm {
+        sys::Farm {
+            width: self.width,
+            state: self.state as u8,
+            vr: self.vr,
+            farm_b: self.farm_b,
+            lockout: self.lockout.into(),
+            wait: self.wait.into(),
+            retransmit: self.retransmit.into(),
+        }
+    }
+}

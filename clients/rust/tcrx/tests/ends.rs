@@ -1,0 +1,146 @@
+//! Channels that are moved, dropped and sent to other threads, and calls that are refused.
+
+use std::error::Error;
+use std::thread;
+use tcrx::{
+    Arrival, Channel, Clcw, Delivery, Event, Farm, FarmError, Frame, Header, Kind, Link, Map, Packet, Queue, ReleaseError,
+    Settings, SettingsError, State, TakeError, WriteError,
+};
+
+const PACKET: [u8; 7] = [0x10, 0x05, 0xc0, 0x00, 0x00, 0x00, 0xaa];
+const QUEUES: &[Queue] = &[Queue { apid: 5, capacity: 4 }, Queue { apid: 9, capacity: 2 }];
+const MAPS: &[Map] = &[Map { map: 2, capacity: 3 }];
+const SETTINGS: Settings<'static> =
+    Settings { vcid: 1, width: 10, buffer: 4, first_vr: 0, segmented: true, queues: QUEUES, maps: MAPS };
+
+fn frame(ns: u8, bypass: bool, field: &[u8]) -> Vec<u8> {
+    let mut room = [0; 1024];
+    Header { scid: 42, vcid: 1, ns, bypass, control: false }.write(field, &mut room).expect("a frame").to_vec()
+}
+
+fn packet_frame(ns: u8, octet: u8) -> Vec<u8> {
+    frame(ns, false, &[0xc0, 0x10, 0x05, 0xc0, 0x00, 0x00, 0x00, octet])
+}
+
+#[test]
+fn a_channel_that_is_moved_is_the_same() {
+    let mut channel = Channel::new(&SETTINGS).expect("settings");
+    channel.frame(&packet_frame(0, 0xaa)).expect("a frame");
+    let mut boxed = Box::new(channel);
+    assert_eq!((boxed.events(), boxed.buffered(), boxed.report().vr), (1, 1, 1));
+    assert_eq!(boxed.release(), Ok(Delivery { queued: 1, dropped: 0, rest: false }));
+    let mut all: Vec<Channel> = (0..20).map(|_| Channel::new(&SETTINGS).expect("settings")).collect();
+    all.push(*boxed);
+    all.reverse();
+    let mut room = [0; 64];
+    assert_eq!(all[0].take(5, &mut room), Ok(&PACKET[..]));
+    assert_eq!(all[0].queued(5), Some(0));
+    let other = std::mem::replace(&mut all[0], Channel::new(&SETTINGS).expect("settings"));
+    assert_eq!((other.events(), all[0].events()), (3, 0));
+    other.close();
+}
+
+#[test]
+fn two_channels_in_two_threads() {
+    fn rounds(mut channel: Channel, octet: u8) -> u32 {
+        let mut room = [0; 64];
+        (0..5000u32)
+            .filter(|number| {
+                let accepted = channel.frame(&packet_frame(*number as u8, octet)).is_ok_and(|brought| brought.accepted);
+                let queued = channel.release().is_ok_and(|delivery| delivery.queued == 1);
+                accepted && queued && channel.take(5, &mut room).is_ok_and(|packet| packet.len() == 7 && packet[6] == octet)
+            })
+            .count() as u32
+    }
+    let threads: Vec<_> = [0xa0, 0xa1]
+        .map(|octet| {
+            let channel = Channel::new(&SETTINGS).expect("settings");
+            thread::spawn(move || rounds(channel, octet))
+        })
+        .into();
+    for thread in threads {
+        assert_eq!(thread.join().expect("no panic"), 5000);
+    }
+}
+
+#[test]
+fn refused_settings_say_why() {
+    let twice = [QUEUES[0], QUEUES[0]];
+    let map_twice = [MAPS[0], MAPS[0]];
+    let tried = [
+        (Settings { vcid: 64, ..SETTINGS }, SettingsError::BadVcid),
+        (Settings { width: 9, ..SETTINGS }, SettingsError::BadWidth),
+        (Settings { buffer: 0, ..SETTINGS }, SettingsError::BadBuffer),
+        (Settings { queues: &[Queue { apid: 2047, capacity: 1 }], ..SETTINGS }, SettingsError::BadApid),
+        (Settings { queues: &twice, ..SETTINGS }, SettingsError::DoubleApid),
+        (Settings { queues: &[Queue { apid: 5, capacity: 257 }], ..SETTINGS }, SettingsError::BadCapacity),
+        (Settings { maps: &[Map { map: 64, capacity: 1 }], ..SETTINGS }, SettingsError::BadMap),
+        (Settings { maps: &map_twice, ..SETTINGS }, SettingsError::DoubleMap),
+        (Settings { maps: &[Map { map: 2, capacity: 0 }], ..SETTINGS }, SettingsError::BadUnits),
+        (Settings { segmented: false, ..SETTINGS }, SettingsError::PlainMap),
+    ];
+    for (settings, error) in tried {
+        assert_eq!(Channel::new(&settings).err(), Some(error));
+        assert_eq!(settings.memory_bound(), Err(error));
+        assert!(!error.to_string().is_empty() && !error.to_string().starts_with("status"), "{error}");
+    }
+    assert!(SETTINGS.memory_bound().expect("settings") > 65_542);
+    let boxed: Box<dyn Error> = SettingsError::BadWidth.into();
+    assert_eq!(boxed.to_string(), "the width of the window isn't even and 2 to 254");
+    assert_eq!(SettingsError::Other(99).to_string(), "status 99");
+    assert_eq!((SettingsError::BadWidth.status(), SettingsError::Other(99).status()), (20, 99));
+}
+
+#[test]
+fn refused_takes_say_what_they_need() {
+    let mut channel = Channel::new(&SETTINGS).expect("settings");
+    let mut room = [0; 6];
+    assert_eq!(channel.release(), Err(ReleaseError::Empty));
+    assert_eq!(channel.take(5, &mut room), Err(TakeError::Empty));
+    assert_eq!(channel.take(6, &mut room), Err(TakeError::NoQueue));
+    assert_eq!(channel.take_unit(3, &mut room), Err(TakeError::NoMap));
+    channel.frame(&frame(0, true, &[0xc0, 0x10, 0x05, 0xc0, 0x00, 0x00, 0x00, 0xaa])).expect("a frame");
+    assert_eq!(channel.take(5, &mut room), Err(TakeError::NoRoom { needed: 7 }));
+    assert_eq!(channel.take(5, &mut []), Err(TakeError::NoRoom { needed: 7 }));
+    assert_eq!((channel.queued(5), channel.queued(6), channel.units(2), channel.units(3)), (Some(1), None, Some(0), None));
+    channel.frame(&frame(0, true, &[0xc2])).expect("a frame");
+    assert_eq!(channel.take_unit(2, &mut []), Ok(&[][..]), "a unit of no octets");
+    assert!(format!("{channel:?}").contains("events: 3"), "{channel:?}");
+}
+
+#[test]
+fn single_calls() {
+    let field = [0xc0, 0x10, 0x05, 0xc0, 0x00, 0x00, 0x00, 0xaa];
+    let octets = frame(7, false, &field);
+    let read = Frame::read(&octets).expect("a frame");
+    assert_eq!(read.header(), Header { scid: 42, vcid: 1, ns: 7, bypass: false, control: false });
+    assert_eq!((read.field(), read.octets(), read.kind()), (&field[..], &octets[..], Kind { arrival: Arrival::Ad, number: 7 }));
+    let packet = Packet::read(&read.field()[1..]).expect("a packet");
+    assert_eq!(
+        (packet.apid, packet.telecommand, packet.secondary, packet.sequence, packet.octets),
+        (5, true, false, 3, &PACKET[..])
+    );
+    assert_eq!(Packet::read(&[]), None);
+    let header = Header { scid: 1024, ..Header::default() };
+    assert_eq!(header.write(&field, &mut [0; 64]), Err(WriteError::BadField));
+    assert_eq!(Header::default().write(&[], &mut [0; 64]), Err(WriteError::EmptyData));
+    assert_eq!(Header::default().write(&[0; 1020], &mut [0; 2000]), Err(WriteError::TooLong));
+    assert_eq!(Header::default().write(&field, &mut [0; 12]), Err(WriteError::NoRoom { needed: 13 }));
+    let step = Farm::new(10, 7).expect("a width").step(read.kind(), true).expect("a step");
+    assert_eq!((step.event, step.accepted, step.farm.vr, step.farm.state), (Event::E1, true, 8, State::Open));
+    let waits = step.farm.step(Kind { arrival: Arrival::Ad, number: 8 }, false).expect("a step").farm;
+    assert_eq!((waits.state, waits.wait, waits.retransmit), (State::Wait, true, true));
+    assert_eq!(waits.step(Kind { arrival: Arrival::Ad, number: 8 }, true), Err(FarmError::NoEntry));
+    let released = waits.step(Kind { arrival: Arrival::Release, number: 0 }, true).expect("a step");
+    assert_eq!((released.event, released.farm.state), (Event::E10, State::Open));
+    assert_eq!(Farm::new(9, 0), Err(FarmError::BadWidth));
+    assert_eq!(Farm { farm_b: 4, ..waits }.clcw(1, false, false), Err(FarmError::BadFarmB));
+    assert_eq!(Farm { state: State::Open, ..waits }.clcw(1, false, false), Err(FarmError::FlagsDisagree));
+    assert_eq!(waits.clcw(64, false, false), Err(FarmError::BadVcid));
+    assert_eq!(Clcw::read(u32::MAX), None);
+    let clcw = Clcw::read(0x0104_fe7b).expect("a CLCW");
+    assert_eq!((clcw.vcid(), clcw.no_rf(), clcw.no_bit_lock(), clcw.lockout(), clcw.wait()), (1, true, true, true, true));
+    assert_eq!((clcw.retransmit(), clcw.farm_b(), clcw.vr(), clcw.status_field()), (true, 3, 0x7b, 0));
+    let channel = Channel::new(&SETTINGS).expect("settings");
+    assert!(channel.clcw(Link { no_rf: false, no_bit_lock: true }).no_bit_lock());
+}
