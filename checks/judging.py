@@ -76,10 +76,12 @@ def reason_alone(printed: str, edit: Edit) -> str | None:
 def unread(printed: str, functions: list[tuple[Edit, Function | None]]) -> list[tuple[Edit, str]]:
     """The edits at which a text could not be compiled, with what is said of each. Where one can't, the check ends before it asks
     the prover, after a few seconds."""
-    found = []
+    found: list[tuple[Edit, str]] = []
     for line in messages(printed):
         fault = re.match(r"(?:\./)?(src/\S+?):(\d+):\d+: error\[", line)
-        for edit, function in functions if fault else []:
+        if not fault:
+            continue
+        for edit, function in functions:
             is_here = function and function.file == fault[1] and function.first < int(fault[2]) <= function.last + 1
             if is_here and edit not in [it for it, _ in found]:
                 found.append((edit, line))
