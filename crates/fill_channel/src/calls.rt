@@ -3,10 +3,10 @@
 use crate::filler::{
     By, CONTINUING, FIRST, Filler, Front, LARGEST_FIELD, LAST, UNSEGMENTED, plain_packet, segment,
 };
+use crate::form::Form;
 use crate::plan::{CALLED, PLAIN};
 use anyhow::{Result, anyhow};
-use tc_channel::{Delivery, Journal};
-use tc_link::Link;
+use tc_channel::Delivery;
 
 // The MAP of the packets, which isn't chosen, and the chosen one.
 const PACKETS: u8 = 63;
@@ -29,17 +29,17 @@ const TWO_PACKETS: Front = [
 const BEFORE: u8 = 20;
 
 /// Makes each kind of call, and again, and prints a line after each.
-pub(crate) fn print<J: Journal, R: AllocGlobal + Print>(rt: &R) -> Result<()> {
-    let mut filler: Filler<J> = Filler::new(rt.alloc(), CALLED.settings(rt.alloc())?)?;
-    let mut plain: Filler<J> = Filler::new(rt.alloc(), PLAIN.settings(rt.alloc())?)?;
+pub(crate) fn print<F: Form, R: AllocGlobal + Print>(rt: &R) -> Result<()> {
+    let mut filler: Filler<F> = Filler::new(rt.alloc(), CALLED.settings(rt.alloc())?)?;
+    let mut plain: Filler<F> = Filler::new(rt.alloc(), PLAIN.settings(rt.alloc())?)?;
     print_once(rt, &mut filler, &mut plain)?;
     print_once(rt, &mut filler, &mut plain)
 }
 
-fn print_once<J: Journal, R: Print>(
+fn print_once<F: Form, R: Print>(
     rt: &R,
-    filler: &mut Filler<J>,
-    plain: &mut Filler<J>,
+    filler: &mut Filler<F>,
+    plain: &mut Filler<F>,
 ) -> Result<()> {
     for _ in 0..BEFORE {
         filler.unlock()?;
@@ -55,15 +55,12 @@ fn print_once<J: Journal, R: Print>(
 }
 
 // What ends no unit.
-fn print_without_a_unit<J: Journal, R: Print>(rt: &R, filler: &mut Filler<J>) -> Result<()> {
+fn print_without_a_unit<F: Form, R: Print>(rt: &R, filler: &mut Filler<F>) -> Result<()> {
     filler.unlock()?;
     println!(rt; "frame, Unlock")?;
     filler.bring_again(8, &ONE_PACKET)?;
     println!(rt; "frame, discarded")?;
-    let _ = filler.channel.clcw(Link {
-        no_rf: false,
-        no_bit_lock: false,
-    });
+    let _ = filler.channel.word();
     println!(rt; "clcw")?;
     Ok(())
 }
@@ -78,10 +75,10 @@ fn want(delivery: Delivery, queued: u32) -> Result<()> {
 }
 
 // What ends an unsegmented unit, which is cut into packets.
-fn print_of_packets<J: Journal, R: Print>(rt: &R, filler: &mut Filler<J>) -> Result<()> {
+fn print_of_packets<F: Form, R: Print>(rt: &R, filler: &mut Filler<F>) -> Result<()> {
     filler.buffer(8, &ONE_PACKET)?;
     println!(rt; "frame, Type-AD, accepted")?;
-    want(filler.channel.release()?, 1)?;
+    want(filler.channel.let_out()?, 1)?;
     println!(rt; "release, one packet queued")?;
     empty(filler, 1)?;
     println!(rt; "take")?;
@@ -99,16 +96,16 @@ fn print_of_packets<J: Journal, R: Print>(rt: &R, filler: &mut Filler<J>) -> Res
 }
 
 // Takes so many packets.
-fn empty<J: Journal>(filler: &mut Filler<J>, packets: u16) -> Result<()> {
+fn empty<F: Form>(filler: &mut Filler<F>, packets: u16) -> Result<()> {
     for _ in 0..packets {
-        drop(filler.channel.take(u16::from(APID))?);
+        filler.channel.take_packet(u16::from(APID))?;
     }
     Ok(())
 }
 
 // Segments, the last of which ends a unit that is one packet: a run is doubled as it grows from 6 to 20 and 22 octets, and has room
 // then.
-fn print_of_runs<J: Journal, R: Print>(rt: &R, filler: &mut Filler<J>) -> Result<()> {
+fn print_of_runs<F: Form, R: Print>(rt: &R, filler: &mut Filler<F>) -> Result<()> {
     let next = segment(CONTINUING, PACKETS, APID);
     filler.pass(By::Bd, 7, &first_of_26(PACKETS))?;
     println!(rt; "frame, Type-BD, first segment")?;
@@ -126,18 +123,18 @@ fn print_of_runs<J: Journal, R: Print>(rt: &R, filler: &mut Filler<J>) -> Result
 }
 
 // The same by the buffer.
-fn print_of_released_runs<J: Journal, R: Print>(rt: &R, filler: &mut Filler<J>) -> Result<()> {
+fn print_of_released_runs<F: Form, R: Print>(rt: &R, filler: &mut Filler<F>) -> Result<()> {
     filler.buffer(7, &first_of_26(PACKETS))?;
     println!(rt; "frame, Type-AD, accepted")?;
     filler.buffer(15, &segment(CONTINUING, PACKETS, APID))?;
     println!(rt; "frame, Type-AD, accepted")?;
     filler.buffer(7, &segment(LAST, PACKETS, APID))?;
     println!(rt; "frame, Type-AD, accepted")?;
-    want(filler.channel.release()?, 0)?;
+    want(filler.channel.let_out()?, 0)?;
     println!(rt; "release, first segment")?;
-    want(filler.channel.release()?, 0)?;
+    want(filler.channel.let_out()?, 0)?;
     println!(rt; "release, next segment, run grows")?;
-    want(filler.channel.release()?, 1)?;
+    want(filler.channel.let_out()?, 1)?;
     println!(rt; "release, last segment, one packet queued")?;
     empty(filler, 1)?;
     println!(rt; "take")?;
@@ -145,31 +142,31 @@ fn print_of_released_runs<J: Journal, R: Print>(rt: &R, filler: &mut Filler<J>) 
 }
 
 // Units of a chosen MAP.
-fn print_of_units<J: Journal, R: Print>(rt: &R, filler: &mut Filler<J>) -> Result<()> {
+fn print_of_units<F: Form, R: Print>(rt: &R, filler: &mut Filler<F>) -> Result<()> {
     filler.pass(By::Bd, 8, &segment(UNSEGMENTED, CHOSEN, APID))?;
     println!(rt; "frame, Type-BD, whole unit queued")?;
     filler.buffer(8, &segment(UNSEGMENTED, CHOSEN, APID))?;
     println!(rt; "frame, Type-AD, accepted")?;
-    want(filler.channel.release()?, 1)?;
+    want(filler.channel.let_out()?, 1)?;
     println!(rt; "release, whole unit queued")?;
     filler.pass(By::Bd, 7, &first_of_26(CHOSEN))?;
     println!(rt; "frame, Type-BD, first segment")?;
     filler.pass(By::Bd, 3, &segment(LAST, CHOSEN, APID))?;
     println!(rt; "frame, Type-BD, whole unit queued")?;
     for _ in 0..3 {
-        drop(filler.channel.take_unit(CHOSEN)?);
+        filler.channel.take_whole(CHOSEN)?;
     }
     println!(rt; "take_unit")?;
     Ok(())
 }
 
 // Fields of a plain channel, each of which is one packet.
-fn print_of_plain_fields<J: Journal, R: Print>(rt: &R, plain: &mut Filler<J>) -> Result<()> {
+fn print_of_plain_fields<F: Form, R: Print>(rt: &R, plain: &mut Filler<F>) -> Result<()> {
     plain.pass(By::Bd, LARGEST_FIELD, &plain_packet(APID))?;
     println!(rt; "frame, Type-BD on a plain channel, one packet queued")?;
     plain.buffer(LARGEST_FIELD, &plain_packet(APID))?;
     println!(rt; "frame, Type-AD, accepted")?;
-    want(plain.channel.release()?, 1)?;
+    want(plain.channel.let_out()?, 1)?;
     println!(rt; "release on a plain channel, one packet queued")?;
     empty(plain, 2)?;
     println!(rt; "take")?;

@@ -2,9 +2,10 @@
 
 ghost use Rattle.std.specs.Prelude.{◌≤◌};
 
+use crate::form::Form;
 use anyhow::{Result, anyhow};
 use std::alloc::Global;
-use tc_channel::{ChannelWith, Journal, Settings};
+use tc_channel::Settings;
 use tc_link::read_frame;
 
 /// The sequence flags of a segment header (CCSDS 232.0-B, 4.1.3.2.2), its two highest bits.
@@ -72,15 +73,15 @@ fn frame_octets(flags: u8, ns: u8, length: u16, front: &Front) -> [u8; 1024]
 
 /// A channel, and the N(S) of its next Type-AD frame.
 #[derive(Drop)]
-pub(crate) struct Filler<J: Journal> {
-    pub(crate) channel: ChannelWith<J>,
+pub(crate) struct Filler<F: Form> {
+    pub(crate) channel: F,
     ns: u8,
 }
 
-impl<J: Journal> Filler<J> {
+impl<F: Form> Filler<F> {
     /// The channel of these settings, whose V(R) is 0 first.
-    pub(crate) fn new(alloc: Global, settings: Settings) -> Result<Filler<J>> {
-        let channel = ChannelWith::new(alloc, settings)?;
+    pub(crate) fn new(alloc: Global, settings: Settings) -> Result<Filler<F>> {
+        let channel = F::made(alloc, settings)?;
         Ok(Filler { channel, ns: 0 })
     }
 
@@ -95,7 +96,7 @@ impl<J: Journal> Filler<J> {
     ) -> Result<()> {
         let octets = frame_octets(flags, ns, length.min(LARGEST_FIELD), front);
         let frame = read_frame(&octets)?;
-        let act = self.channel.frame(&frame)?.act;
+        let act = self.channel.bring(&frame)?.act;
         if act.event != event {
             return Err(anyhow!("event {}", act.event));
         }
@@ -124,7 +125,7 @@ impl<J: Journal> Filler<J> {
         match by {
             By::Ad => {
                 self.buffer(length, front)?;
-                self.channel.release()?;
+                self.channel.let_out()?;
                 Ok(())
             }
             By::Bd => self.bring(TYPE_BD, 0, length, front, 6),

@@ -1,13 +1,15 @@
 //! `fill_channel`: fills a channel in flight to the bound of its memory, so that another program can count what it asked for.
 //!
 //! With `plain`, `one` or `many` it makes a channel of that plan, tells the bound, and fills the channel. With `calls` it makes each
-//! kind of call once, and again, and prints a line after each, with `kept` likewise on a channel whose journal is kept. Nothing that
-//! it keeps beside the channel grows between two lines.
+//! kind of call once, and again, and prints a line after each, with `kept` likewise on a channel whose journal is kept. With
+//! `fixed_plain`, `fixed_one`, `fixed_many` and `fixed_calls` it does so with the channel in rooms. Nothing that it keeps beside the
+//! channel grows between two lines.
 #![tactic(auto)]
 
 mod calls;
 mod fill;
 mod filler;
+mod form;
 mod plan;
 
 use anyhow::Result;
@@ -15,7 +17,8 @@ use plan::{MANY, ONE, PLAIN};
 use std::env;
 use std::env::Env;
 use std::process::ExitCode;
-use tc_channel::{Kept, Unkept};
+use tc_channel::{Channel, FlightChannel};
+use tc_fixed::FixedChannel;
 
 /// The exit status of a bad command line.
 const BAD_COMMAND_LINE: u8 = 2;
@@ -44,10 +47,16 @@ fn obey<R: AllocGlobal + Print + Eprint>(rt: &R, words: &[String]) -> ExitCode {
         "plain" => fill::print(rt, &PLAIN),
         "one" => fill::print(rt, &ONE),
         "many" => fill::print(rt, &MANY),
-        "calls" => calls::print::<Unkept, R>(rt),
-        "kept" => calls::print::<Kept, R>(rt),
+        "calls" => calls::print::<FlightChannel, R>(rt),
+        "kept" => calls::print::<Channel, R>(rt),
+        "fixed_plain" => fill::print_fixed(rt, &PLAIN),
+        "fixed_one" => fill::print_fixed(rt, &ONE),
+        "fixed_many" => fill::print_fixed(rt, &MANY),
+        "fixed_calls" => calls::print::<FixedChannel, R>(rt),
         _ => {
-            let _ = eprintln!(rt; "usage: fill_channel (plain | one | many | calls | kept)");
+            let _ = eprintln!(rt;
+                "usage: fill_channel [fixed_](plain | one | many | calls) | kept"
+            );
             return ExitCode::from(BAD_COMMAND_LINE);
         }
     };

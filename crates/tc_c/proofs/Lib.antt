@@ -1,3 +1,5 @@
 mod Buffers
 mod Places
 mod Records
+mod Farms
+mod Faults

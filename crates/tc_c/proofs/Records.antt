@@ -23,7 +23,7 @@ parted false r width farm e = absurd cc
 parted true (Err fault) width farm e = absurd cc
 parted true (Ok report) width farm e = (refl, cc, cc)
 
-wide : (width : ℕ) → is_width width ≡ true → IsWidth width
+pub wide : (width : ℕ) → is_width width ≡ true → IsWidth width
 wide width e = grind (arith, common_steps) steps 1000000
 
 pub read : (kept : FarmRecord) (farm : Machine) → farm_of kept ≡ Ok farm → IsFarm farm

@@ -1,5 +1,5 @@
 -- What a channel answers, as records of numbers.
-use Rattle.std.specs.Prelude.{◌≡◌, ◌⊎◌, ℕ, List, length, map, take, drop, Result, Ok, Err}
+use Rattle.std.specs.Prelude.{◌≡◌, ◌⊎◌, ℕ, List, length, take, drop, Result, Ok, Err}
 use Rattle.tc_link.specs.Bits.{bit}
 use Rattle.tc_link.specs.declared.Link.{Link}
 use Rattle.tc_channel.specs.declared.reply.Delivery.{Delivery}
@@ -8,12 +8,10 @@ use Rattle.tc_channel.specs.declared.settings.Settings.{Settings}
 use Rattle.tc_channel.specs.declared.settings.QueueSetting.{QueueSetting}
 use Rattle.tc_channel.specs.declared.settings.MapSetting.{MapSetting}
 use Rattle.tc_channel.specs.declared.settings.SettingsFault.{SettingsFault}
-use Rattle.tc_channel.specs.Settings.{IsFault}
+use Rattle.tc_channel.specs.Settings.{IsAllowed, IsFault}
 use Rattle.tc_c.specs.declared.status.Status.{Status}
 use Rattle.tc_c.specs.declared.status.Status.TheVariants.{Done, NoMemory, NoRoom}
 use Rattle.tc_c.specs.declared.settings.SettingsRecord.{SettingsRecord}
-use Rattle.tc_c.specs.declared.settings.QueueRecord.{QueueRecord}
-use Rattle.tc_c.specs.declared.settings.MapRecord.{MapRecord}
 use Rattle.tc_c.specs.declared.channel.ReplyRecord.{ReplyRecord}
 use Rattle.tc_c.specs.declared.channel.DeliveryRecord.{DeliveryRecord}
 use Rattle.tc_c.specs.declared.buffer.WrittenRecord.{WrittenRecord}
@@ -21,14 +19,8 @@ use Rattle.tc_c.specs.declared.counts.CountRecord.{CountRecord}
 use Rattle.tc_c.specs.Status.{code_of, settings_status}
 use Rattle.tc_c.specs.Farm.{with_ok, flag_of}
 
-abbrev pub queue_of : QueueRecord → QueueSetting
-queue_of queue = record { apid = queue.apid; capacity = queue.capacity }
-
-abbrev pub map_of : MapRecord → MapSetting
-map_of chosen = record { map = chosen.map; capacity = chosen.capacity }
-
 -- the settings that the records stand for
-abbrev pub settings_of : SettingsRecord → List QueueRecord → List MapRecord → Result Settings Status
+abbrev pub settings_of : SettingsRecord → List QueueSetting → List MapSetting → Result Settings Status
 settings_of settings queues maps =
     with_ok (flag_of settings.segmented) (λ segmented.
     Ok (record {
@@ -37,8 +29,8 @@ settings_of settings queues maps =
       buffer = settings.buffer;
       first = settings.first;
       segmented = segmented;
-      queues = map queue_of queues;
-      maps = map map_of maps;
+      queues = queues;
+      maps = maps;
     }))
 
 abbrev pub link_of : ℕ → ℕ → Result Link Status
@@ -70,10 +62,14 @@ count_record count = record { status = code_of Done; count = count }
 abbrev pub no_count : Status → CountRecord
 no_count fault = record { status = code_of fault; count = 0 }
 
--- why no channel is made of what the records stand for: a flag first, then the first fault of the settings; or want of memory
+-- why no channel can be made of what the records stand for: a flag, else the first fault of the settings
+abbrev pub IsUnfit : Result Settings Status → Status → Type 0
+IsUnfit (Err flag) fault = fault ≡ flag
+IsUnfit (Ok s) fault = (f : SettingsFault) × IsFault s f × (fault ≡ settings_status f)
+
+-- why none is made: that, or want of memory where one can be made
 abbrev pub IsRefusedBy : Result Settings Status → Status → Type 0
-IsRefusedBy (Err flag) fault = fault ≡ flag
-IsRefusedBy (Ok s) fault = (fault ≡ NoMemory) ⊎ ((f : SettingsFault) × IsFault s f × (fault ≡ settings_status f))
+IsRefusedBy given fault = IsUnfit given fault ⊎ ((fault ≡ NoMemory) × (s : Settings) × (given ≡ Ok s) × IsAllowed s)
 
 abbrev pub no_octets : Status → WrittenRecord
 no_octets fault = record { status = code_of fault; length = 0 }

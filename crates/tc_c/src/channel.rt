@@ -4,7 +4,7 @@ ghost use Rattle.std.specs.Prelude.{◌≡◌, ◌<◌, ◌⊎◌, ℕ, List, []
 ghost use Rattle.tc_link.specs.Frame.{BeginsWith, fault_of};
 ghost use Rattle.tc_channel.specs.declared.event.Event.TheVariants as Event;
 ghost use Rattle.tc_channel.specs.Journal.{with_event};
-ghost use Rattle.tc_channel.specs.Reply.{frame_reply, release_reply, buffered_fields};
+ghost use Rattle.tc_channel.specs.Reply.{BeginsWithBypassData, frame_reply, release_reply, buffered_fields};
 ghost use Rattle.tc_c.specs.Status.{code_of, frame_status};
 ghost use Rattle.tc_c.specs.Channel.{reply_record, no_reply, delivery_record, no_delivery};
 
@@ -97,6 +97,7 @@ fn bring(channel: &mut FlightChannel, octets: &[u8]) -> ReplyRecord
     ensures done { result.status ≡ 0 → (frame : List ℕ) × BeginsWith octets.now frame × (result ≡ reply_record (frame_reply channel.old.settings channel.old.journal frame)) × (channel.new ≡ with_event channel.old (Event.Frame frame)) }
     ensures fault { IfSome (fault_of octets.now) (λ fault. result ≡ no_reply (frame_status fault)) }
     ensures memory { 0 < result.status → IfNone (fault_of octets.now) (result ≡ no_reply Status.NoMemory) }
+    ensures answered { 0 < result.status → IfNone (fault_of octets.now) (BeginsWithBypassData octets.now) }
     ensures refused { 0 < result.status → channel.new ≡ channel.old }
 {
     match read_frame(octets) {
@@ -111,8 +112,8 @@ fn bring(channel: &mut FlightChannel, octets: &[u8]) -> ReplyRecord
 /// Gives the channel the frame at the front of the octets, of whatever virtual channel (CCSDS 232.0-B, 232.1-B). What follows
 /// it is fill.
 ///
-/// Refused are a seat with no channel by NoChannel, octets with which no frame begins by their first fault, and want of memory
-/// by NoMemory, with the channel as it was.
+/// Refused are a seat with no channel by NoChannel, octets with which no frame begins by their first fault, and a frame of
+/// Type-BD for which memory is wanting by NoMemory, with the channel as it was. No other frame is refused for memory.
 #[unsafe(no_mangle)]
 pub extern "C" fn tcrx_channel_frame_at(
     alloc: Global,
@@ -122,6 +123,7 @@ pub extern "C" fn tcrx_channel_frame_at(
     ensures done { IfSome seat.old.place.channel (λ h. result.status ≡ 0 → (frame : List ℕ) × BeginsWith octets.now frame × (result ≡ reply_record (frame_reply h.settings h.journal frame)) × (seat.new.place.channel ≡ Some (with_event h (Event.Frame frame)))) }
     ensures fault { IfSome seat.old.place.channel (λ h. IfSome (fault_of octets.now) (λ fault. result ≡ no_reply (frame_status fault))) }
     ensures memory { IfSome seat.old.place.channel (λ h. 0 < result.status → IfNone (fault_of octets.now) (result ≡ no_reply Status.NoMemory)) }
+    ensures answered { IfSome seat.old.place.channel (λ _. 0 < result.status → IfNone (fault_of octets.now) (BeginsWithBypassData octets.now)) }
     ensures refused { 0 < result.status → seat.new.place.channel ≡ seat.old.place.channel }
     ensures no_channel { IfNone seat.old.place.channel (result ≡ no_reply Status.NoChannel) }
 {

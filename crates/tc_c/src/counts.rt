@@ -1,7 +1,9 @@
 //! What a channel that C holds reports: the CLCW, FARM-1 and counts.
 
 ghost use Rattle.std.specs.Prelude.{◌≡◌, ◌^◌, ◌-◌, length, min, Some, None, Ok, IfSome, IfNone, IfOk, IfErr};
-ghost use Rattle.tc_channel.specs.Run.{run};
+ghost use Rattle.tc_channel.specs.Run.{run, IsLawful};
+ghost use Rattle.tc_channel.specs.Settings.{IsAllowed};
+ghost use Rattle.tc_channel.specs.Era.{CountsUpInItsEra};
 ghost use Rattle.tc_channel.specs.Reply.{waiting_packets, waiting_units, buffered_fields, clcw as word_of};
 ghost use Rattle.tc_c.specs.Status.{code_of};
 ghost use Rattle.tc_c.specs.Farm.{record_of, no_record};
@@ -96,7 +98,10 @@ pub extern "C" fn tcrx_channel_clcw_at(
 }
 
 fn farm_of(channel: &FlightChannel) -> FarmAnswer
-    ensures { result ≡ record { status = code_of Status.Done; farm = record_of (record { width = channel.now.settings.width; report = (run channel.now.settings channel.now.journal).report }) } }
+    ensures allowed { IsAllowed channel.now.settings }
+    ensures lawful { IsLawful channel.now.settings channel.now.journal }
+    ensures era { CountsUpInItsEra channel.now.settings channel.now.journal }
+    ensures farm { result ≡ record { status = code_of Status.Done; farm = record_of (record { width = channel.now.settings.width; report = (run channel.now.settings channel.now.journal).report }) } }
 {
     FarmAnswer {
         status: code(Status::Done),
@@ -112,6 +117,9 @@ pub extern "C" fn tcrx_channel_report_at(alloc: Global, seat: &mut Seat) -> Farm
     ensures farm { IfSome seat.old.place.channel (λ h. result ≡ record { status = code_of Status.Done; farm = record_of (record { width = h.settings.width; report = (run h.settings h.journal).report }) }) }
     ensures no_channel { IfNone seat.old.place.channel (result ≡ record { status = code_of Status.NoChannel; farm = no_record }) }
     ensures unchanged { seat.new.place.channel ≡ seat.old.place.channel }
+    ensures allowed { IfSome seat.old.place.channel (λ h. IsAllowed h.settings) }
+    ensures lawful { IfSome seat.old.place.channel (λ h. IsLawful h.settings h.journal) }
+    ensures era { IfSome seat.old.place.channel (λ h. CountsUpInItsEra h.settings h.journal) }
 {
     match seat.take(alloc) {
         Some(held) => {

@@ -1,15 +1,22 @@
 //! Laws over the definitions of these calls.
 
-ghost use Rattle.std.specs.Prelude.{◌≡◌, ◌<◌, Bool, Ok, Some, IsSome, length};
+ghost use Rattle.std.specs.Prelude.{◌≡◌, ◌<◌, ℕ, Bool, List, Ok, Some, IsSome, length};
 ghost use Rattle.tc_link.specs.Bits.{bit};
 ghost use Rattle.tc_link.specs.declared.command.Kind.{Kind};
 ghost use Rattle.tc_link.specs.declared.farm.Arrival.{Arrival};
 ghost use Rattle.tc_link.specs.declared.farm.Arrival.TheVariants.{Frame};
+ghost use Rattle.tc_link.specs.declared.frame.FrameFault.{FrameFault};
+ghost use Rattle.tc_link.specs.declared.writing.WriteFault.{WriteFault};
 ghost use Rattle.tc_link.specs.Farm.{Machine, row_of, entry};
+ghost use Rattle.tc_channel.specs.declared.settings.Settings.{Settings};
+ghost use Rattle.tc_channel.specs.declared.settings.SettingsFault.{SettingsFault};
+ghost use Rattle.tc_channel.specs.declared.event.Event.{Event};
+ghost use Rattle.tc_channel.specs.Settings.{IsAllowed};
+ghost use Rattle.tc_channel.specs.Run.{IsLawful, run};
 ghost use Rattle.tc_c.specs.declared.farm.FarmRecord.{FarmRecord};
 ghost use Rattle.tc_c.specs.declared.status.Status.{Status};
-ghost use Rattle.tc_c.specs.Status.{code_of, status_of, text_of};
-ghost use Rattle.tc_c.specs.Farm.{IsFarm, record_of, farm_of, arrival_of, left};
+ghost use Rattle.tc_c.specs.Status.{code_of, status_of, text_of, frame_status, write_status, settings_status};
+ghost use Rattle.tc_c.specs.Farm.{IsFarm, first_farm, record_of, farm_of, arrival_of, left};
 ghost use Rattle.tc_c.specs.Frame.{kind_number, kind_value};
 
 /// Each FARM-1 is read from its record, and a record from which one is read is that one's.
@@ -25,6 +32,14 @@ pub fn a_step_leaves_a_farm()
         → IsFarm (left farm arrival) }
 {}
 
+/// What starts is a FARM-1 whose record the next call reads, and so are the components of a channel after each lawful journal.
+pub fn each_channel_has_a_farm()
+    ensures start { (width first : ℕ) (farm : Machine) → first_farm width first ≡ Ok farm → IsFarm farm }
+    ensures run { (s : Settings) (journal : List Event) → IsAllowed s → IsLawful s journal → IsFarm (record { width = s.width; report = (run s journal).report }) }
+{
+    a_step_leaves_a_farm();
+}
+
 /// The number and the value by which a kind is told are those by which it comes to FARM-1.
 pub fn each_kind_comes_to_farm_1()
     ensures { (kind : Kind) (room : Bool) → arrival_of (kind_number kind) (kind_value kind) (bit room) ≡ Ok (Frame kind room) }
@@ -33,6 +48,13 @@ pub fn each_kind_comes_to_farm_1()
 /// Each status has a number of its own.
 pub fn each_status_has_a_number()
     ensures { (st : Status) → status_of (code_of st) ≡ Some st }
+{}
+
+/// No two faults have one status: those of octets with which no frame begins, of frames that aren't written, and of settings.
+pub fn each_fault_has_a_status_of_its_own()
+    ensures frames { (one other : FrameFault) → frame_status one ≡ frame_status other → one ≡ other }
+    ensures writing { (one other : WriteFault) → write_status one ≡ write_status other → one ≡ other }
+    ensures settings { (one other : SettingsFault) → settings_status one ≡ settings_status other → one ≡ other }
 {}
 
 /// Each text fits 64 octets with the octet 0 after it.

@@ -37,12 +37,13 @@ pub use frames::{
     FrameRecord, HeaderRecord, KindRecord, tcrx_kind_at, tcrx_read_frame_at, tcrx_write_frame_at,
 };
 pub use laws::{
-    a_record_reads_back, a_step_leaves_a_farm, each_kind_comes_to_farm_1, each_status_has_a_number,
+    a_record_reads_back, a_step_leaves_a_farm, each_channel_has_a_farm,
+    each_fault_has_a_status_of_its_own, each_kind_comes_to_farm_1, each_status_has_a_number,
     each_text_fits_64_octets,
 };
 pub use packets::{PacketRecord, tcrx_read_packet_at};
 pub use place::Place;
 pub use seat::Seat;
-pub use settings::{MapRecord, QueueRecord, SettingsRecord, tcrx_channel_new_at};
+pub use settings::{SettingsRecord, tcrx_channel_new_at};
 pub use status::Status;
 pub use takes::{tcrx_channel_take_at, tcrx_channel_take_unit_at};

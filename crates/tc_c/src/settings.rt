@@ -1,18 +1,19 @@
 //! The settings of a channel as records.
 
-ghost use Rattle.std.specs.Prelude.{◌≡◌, ◌<◌, IfOk, IfErr, IfSome, IfNone, Ok, Some, None, [], map};
+ghost use Rattle.std.specs.Prelude.{◌≡◌, ◌<◌, IfOk, IfErr, IfSome, IfNone, Ok, Some, None, []};
 ghost use Rattle.tc_channel.specs.declared.settings.Settings.{Settings as ChannelSettings};
 ghost use Rattle.tc_c.specs.declared.status.Status.{Status as StatusName};
 ghost use Rattle.tc_c.specs.Status.{code_of};
-ghost use Rattle.tc_c.specs.Channel.{queue_of, map_of, settings_of, IsRefusedBy};
+ghost use Rattle.tc_channel.specs.Settings.{settings_of as owned_of, IsAllowed};
+ghost use Rattle.tc_c.specs.Channel.{settings_of, IsUnfit, IsRefusedBy};
 
 use crate::farm::flag;
 use crate::seat::Seat;
 use crate::status::{Status, code, settings_fault};
-use std::alloc::{AllocError, Global};
-use tc_channel::{FlightChannel, Items, MapSetting, QueueSetting, Settings};
+use std::alloc::Global;
+use tc_channel::{FlightChannel, LentSettings, MapSetting, QueueSetting};
 
-/// What a channel is made by, apart from its queues.
+/// What a channel is made by, apart from its queues. Those come as lists of `QueueSetting` and `MapSetting`.
 #[repr(C)]
 #[derive(Clone, Copy)]
 pub struct SettingsRecord {
@@ -28,96 +29,48 @@ pub struct SettingsRecord {
     pub segmented: u8,
 }
 
-/// One packet queue.
-#[repr(C)]
-#[derive(Clone, Copy)]
-pub struct QueueRecord {
-    /// The application process identifier of its packets, at most 2,046.
-    pub apid: u16,
-    /// How many packets it holds, 1 to 256.
-    pub capacity: u16,
-}
-
-/// One chosen MAP, whose units are delivered whole to one queue.
-#[repr(C)]
-#[derive(Clone, Copy)]
-pub struct MapRecord {
-    /// The multiplexer access point, at most 63.
-    pub map: u8,
-    /// How many units its queue holds, 1 to 256.
-    pub capacity: u16,
-}
-
-fn queues_of(alloc: Global, queues: &[QueueRecord]) -> Result<Vec<QueueSetting>, AllocError>
-    ensures { IfOk result (λ made. made.items ≡ map queue_of queues.now) }
-{
-    let mut made = Vec::new(alloc);
-    for queue in queues {
-        made.push(QueueSetting {
-            apid: queue.apid,
-            capacity: queue.capacity,
-        })?;
-    }
-    Ok(made)
-}
-
-fn maps_of(alloc: Global, maps: &[MapRecord]) -> Result<Vec<MapSetting>, AllocError>
-    ensures { IfOk result (λ made. made.items ≡ map map_of maps.now) }
-{
-    let mut made = Vec::new(alloc);
-    for chosen in maps {
-        made.push(MapSetting {
-            map: chosen.map,
-            capacity: chosen.capacity,
-        })?;
-    }
-    Ok(made)
-}
-
-/// The settings that the records stand for.
-pub(crate) fn settings(
-    alloc: Global,
+/// The settings that the records stand for, with the lists lent, where a channel can be made by them.
+pub(crate) fn checked<'a>(
     given: SettingsRecord,
-    queues: &[QueueRecord],
-    maps: &[MapRecord],
-) -> Result<Settings, Status>
-    ensures settings { IfOk result (λ s. settings_of given queues.now maps.now ≡ Ok s) }
-    ensures fault { IfErr result (λ fault. IsRefusedBy (settings_of given queues.now maps.now) fault) }
+    queues: &'a [QueueSetting],
+    maps: &'a [MapSetting],
+) -> Result<LentSettings<'a>, Status>
+    ensures settings { IfOk result (λ lent. settings_of given queues.now maps.now ≡ Ok (owned_of lent)) }
+    ensures allowed { IfOk result (λ lent. IsAllowed (owned_of lent)) }
+    ensures fault { IfErr result (λ fault. IsUnfit (settings_of given queues.now maps.now) fault) }
     ensures refusal { IfErr result (λ fault. 0 < code_of fault) }
 {
     let segmented = flag(given.segmented)?;
-    let Ok(queues) = queues_of(alloc, queues) else {
-        return Err(Status::NoMemory);
-    };
-    let Ok(maps) = maps_of(alloc, maps) else {
-        return Err(Status::NoMemory);
-    };
-    Ok(Settings {
+    let lent = LentSettings {
         vcid: given.vcid,
         width: given.width,
         buffer: given.buffer,
         first: given.first,
         segmented,
-        queues: Items::from(queues),
-        maps: Items::from(maps),
-    })
+        queues,
+        maps,
+    };
+    match lent.check() {
+        Ok(()) => Ok(lent),
+        Err(fault) => Err(settings_fault(fault)),
+    }
 }
 
 /// A channel of the settings that the records stand for.
 pub(crate) fn channel(
     alloc: Global,
     given: SettingsRecord,
-    queues: &[QueueRecord],
-    maps: &[MapRecord],
+    queues: &[QueueSetting],
+    maps: &[MapSetting],
 ) -> Result<Box<FlightChannel>, Status>
-    ensures made { IfOk result (λ held. (s : ChannelSettings) × (settings_of given queues.now maps.now ≡ Ok s) × (held.value ≡ record { settings = s; journal = [] })) }
+    ensures made { IfOk result (λ held. (s : ChannelSettings) × (settings_of given queues.now maps.now ≡ Ok s) × IsAllowed s × (held.value ≡ record { settings = s; journal = [] })) }
     ensures fault { IfErr result (λ fault. IsRefusedBy (settings_of given queues.now maps.now) fault) }
     ensures refusal { IfErr result (λ fault. 0 < code_of fault) }
 {
-    let settings = settings(alloc, given, queues, maps)?;
-    if let Err(fault) = settings.check() {
-        return Err(settings_fault(fault));
-    }
+    let lent = checked(given, queues, maps)?;
+    let Ok(settings) = lent.copied(alloc) else {
+        return Err(Status::NoMemory);
+    };
     let Ok(channel) = FlightChannel::new(alloc, settings) else {
         return Err(Status::NoMemory);
     };
@@ -130,16 +83,16 @@ pub(crate) fn channel(
 /// Makes a channel of these settings in a seat that holds none, in which it then lies until it is freed.
 ///
 /// Refused are a seat with a channel by InUse, a flag that is neither 0 nor 1 by BadFlag, the first fault of the settings by its
-/// status, and want of memory by NoMemory; then the seat stays as it was.
+/// status, and want of memory by NoMemory, where the settings have no fault; then the seat stays as it was.
 #[unsafe(no_mangle)]
 pub extern "C" fn tcrx_channel_new_at(
     alloc: Global,
     seat: &mut Seat,
     given: SettingsRecord,
-    queues: &[QueueRecord],
-    maps: &[MapRecord],
+    queues: &[QueueSetting],
+    maps: &[MapSetting],
 ) -> u32
-    ensures made { IfNone seat.old.place.channel (result ≡ 0 → (s : ChannelSettings) × (settings_of given queues.now maps.now ≡ Ok s) × (seat.new.place.channel ≡ Some (record { settings = s; journal = [] }))) }
+    ensures made { IfNone seat.old.place.channel (result ≡ 0 → (s : ChannelSettings) × (settings_of given queues.now maps.now ≡ Ok s) × IsAllowed s × (seat.new.place.channel ≡ Some (record { settings = s; journal = [] }))) }
     ensures fault { IfNone seat.old.place.channel (0 < result → (fault : StatusName) × IsRefusedBy (settings_of given queues.now maps.now) fault × (result ≡ code_of fault)) }
     ensures in_use { IfSome seat.old.place.channel (λ _. result ≡ code_of Status.InUse) }
     ensures refused { 0 < result → seat.new.place.channel ≡ seat.old.place.channel }

@@ -11,7 +11,7 @@ use crate::buffer::WrittenRecord;
 use crate::seat::Seat;
 use crate::status::{Status, code};
 use std::alloc::Global;
-use tc_channel::FlightChannel;
+use tc_channel::{FlightChannel, TakeFault, TakeUnitFault};
 
 fn not_written(fault: Status) -> WrittenRecord
     ensures { result ≡ no_octets fault }
@@ -61,7 +61,7 @@ fn no_packet(channel: &FlightChannel, apid: u16) -> Status
 fn take_packet(channel: &mut FlightChannel, apid: u16, to: &mut [u8]) -> WrittenRecord
     ensures taken { IfSome (take_reply channel.old.settings channel.old.journal apid) (λ packet. result.status ≡ 0 → (result.length ≡ length packet) × (length packet ≤ length to.old) × IsCopied packet to.old to.new × (channel.new ≡ with_event channel.old (Event.Take apid))) }
     ensures no_room { IfSome (take_reply channel.old.settings channel.old.journal apid) (λ packet. length to.old < length packet → result ≡ too_short packet) }
-    ensures memory { IfSome (take_reply channel.old.settings channel.old.journal apid) (λ packet. 0 < result.status → length packet ≤ length to.old → result ≡ no_octets Status.NoMemory) }
+    ensures answered { IfSome (take_reply channel.old.settings channel.old.journal apid) (λ packet. length packet ≤ length to.old → result.status ≡ 0) }
     ensures no_queue { waiting_packets channel.old.settings channel.old.journal apid ≡ None → result ≡ no_octets Status.NoQueue }
     ensures empty { waiting_packets channel.old.settings channel.old.journal apid ≡ Some [] → result ≡ no_octets Status.Empty }
     ensures refused { 0 < result.status → (to.new ≡ to.old) × (channel.new ≡ channel.old) }
@@ -77,15 +77,17 @@ fn take_packet(channel: &mut FlightChannel, apid: u16, to: &mut [u8]) -> Written
     }
     match channel.take(apid) {
         Ok(packet) => copy(&packet, to),
-        Err(_) => not_written(Status::NoMemory),
+        // A packet waits there, and a take in flight needs no memory.
+        Err(TakeFault::NoQueue) => unreachable!(),
+        Err(TakeFault::Empty) => unreachable!(),
+        Err(TakeFault::NoMemory) => unreachable!(),
     }
 }
 
 /// Takes the oldest packet of the queue with this APID into the front of a buffer.
 ///
-/// Refused are a seat with no channel by NoChannel, an APID with no queue by NoQueue, an empty queue by Empty, a buffer that is
-/// too short by NoRoom with the length that is needed, and want of memory by NoMemory; then the buffer and the channel stay as
-/// they were.
+/// Refused are a seat with no channel by NoChannel, an APID with no queue by NoQueue, an empty queue by Empty, and a buffer that
+/// is too short by NoRoom with the length that is needed; then the buffer and the channel stay as they were. It takes no memory.
 #[unsafe(no_mangle)]
 pub extern "C" fn tcrx_channel_take_at(
     alloc: Global,
@@ -95,7 +97,7 @@ pub extern "C" fn tcrx_channel_take_at(
 ) -> WrittenRecord
     ensures taken { IfSome seat.old.place.channel (λ h. IfSome (take_reply h.settings h.journal apid) (λ packet. result.status ≡ 0 → (result.length ≡ length packet) × (length packet ≤ length buffer.old) × IsCopied packet buffer.old buffer.new × (seat.new.place.channel ≡ Some (with_event h (Event.Take apid))))) }
     ensures no_room { IfSome seat.old.place.channel (λ h. IfSome (take_reply h.settings h.journal apid) (λ packet. length buffer.old < length packet → result ≡ too_short packet)) }
-    ensures memory { IfSome seat.old.place.channel (λ h. IfSome (take_reply h.settings h.journal apid) (λ packet. 0 < result.status → length packet ≤ length buffer.old → result ≡ no_octets Status.NoMemory)) }
+    ensures answered { IfSome seat.old.place.channel (λ h. IfSome (take_reply h.settings h.journal apid) (λ packet. length packet ≤ length buffer.old → result.status ≡ 0)) }
     ensures no_queue { IfSome seat.old.place.channel (λ h. waiting_packets h.settings h.journal apid ≡ None → result ≡ no_octets Status.NoQueue) }
     ensures empty { IfSome seat.old.place.channel (λ h. waiting_packets h.settings h.journal apid ≡ Some [] → result ≡ no_octets Status.Empty) }
     ensures refused { 0 < result.status → (buffer.new ≡ buffer.old) × (seat.new.place.channel ≡ seat.old.place.channel) }
@@ -136,7 +138,7 @@ fn no_unit(channel: &FlightChannel, map: u8) -> Status
 fn take_unit(channel: &mut FlightChannel, map: u8, to: &mut [u8]) -> WrittenRecord
     ensures taken { IfSome (unit_reply channel.old.settings channel.old.journal map) (λ unit. result.status ≡ 0 → (result.length ≡ length unit) × (length unit ≤ length to.old) × IsCopied unit to.old to.new × (channel.new ≡ with_event channel.old (Event.TakeUnit map))) }
     ensures no_room { IfSome (unit_reply channel.old.settings channel.old.journal map) (λ unit. length to.old < length unit → result ≡ too_short unit) }
-    ensures memory { IfSome (unit_reply channel.old.settings channel.old.journal map) (λ unit. 0 < result.status → length unit ≤ length to.old → result ≡ no_octets Status.NoMemory) }
+    ensures answered { IfSome (unit_reply channel.old.settings channel.old.journal map) (λ unit. length unit ≤ length to.old → result.status ≡ 0) }
     ensures no_map { waiting_units channel.old.settings channel.old.journal map ≡ None → result ≡ no_octets Status.NoMap }
     ensures empty { waiting_units channel.old.settings channel.old.journal map ≡ Some [] → result ≡ no_octets Status.Empty }
     ensures refused { 0 < result.status → (to.new ≡ to.old) × (channel.new ≡ channel.old) }
@@ -152,15 +154,17 @@ fn take_unit(channel: &mut FlightChannel, map: u8, to: &mut [u8]) -> WrittenReco
     }
     match channel.take_unit(map) {
         Ok(unit) => copy(&unit, to),
-        Err(_) => not_written(Status::NoMemory),
+        // A unit waits there, and a take in flight needs no memory.
+        Err(TakeUnitFault::NoMap) => unreachable!(),
+        Err(TakeUnitFault::Empty) => unreachable!(),
+        Err(TakeUnitFault::NoMemory) => unreachable!(),
     }
 }
 
 /// Takes the oldest unit of the queue of this chosen MAP into the front of a buffer.
 ///
-/// Refused are a seat with no channel by NoChannel, a MAP that isn't chosen by NoMap, an empty queue by Empty, a buffer that is
-/// too short by NoRoom with the length that is needed, and want of memory by NoMemory; then the buffer and the channel stay as
-/// they were.
+/// Refused are a seat with no channel by NoChannel, a MAP that isn't chosen by NoMap, an empty queue by Empty, and a buffer that
+/// is too short by NoRoom with the length that is needed; then the buffer and the channel stay as they were. It takes no memory.
 #[unsafe(no_mangle)]
 pub extern "C" fn tcrx_channel_take_unit_at(
     alloc: Global,
@@ -170,7 +174,7 @@ pub extern "C" fn tcrx_channel_take_unit_at(
 ) -> WrittenRecord
     ensures taken { IfSome seat.old.place.channel (λ h. IfSome (unit_reply h.settings h.journal map) (λ unit. result.status ≡ 0 → (result.length ≡ length unit) × (length unit ≤ length buffer.old) × IsCopied unit buffer.old buffer.new × (seat.new.place.channel ≡ Some (with_event h (Event.TakeUnit map))))) }
     ensures no_room { IfSome seat.old.place.channel (λ h. IfSome (unit_reply h.settings h.journal map) (λ unit. length buffer.old < length unit → result ≡ too_short unit)) }
-    ensures memory { IfSome seat.old.place.channel (λ h. IfSome (unit_reply h.settings h.journal map) (λ unit. 0 < result.status → length unit ≤ length buffer.old → result ≡ no_octets Status.NoMemory)) }
+    ensures answered { IfSome seat.old.place.channel (λ h. IfSome (unit_reply h.settings h.journal map) (λ unit. length unit ≤ length buffer.old → result.status ≡ 0)) }
     ensures no_map { IfSome seat.old.place.channel (λ h. waiting_units h.settings h.journal map ≡ None → result ≡ no_octets Status.NoMap) }
     ensures empty { IfSome seat.old.place.channel (λ h. waiting_units h.settings h.journal map ≡ Some [] → result ≡ no_octets Status.Empty) }
     ensures refused { 0 < result.status → (buffer.new ≡ buffer.old) × (seat.new.place.channel ≡ seat.old.place.channel) }

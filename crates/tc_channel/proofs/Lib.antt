@@ -25,3 +25,4 @@ pub mod Given
 pub mod Apart
 pub mod Words
 pub mod Examples
+pub mod Bound

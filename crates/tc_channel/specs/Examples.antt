@@ -1,5 +1,5 @@
 -- Short journals whose answers are worked out by hand, to be read with the definitions: their settings and their frames, octet by octet.
-use Rattle.std.specs.Prelude.{ℕ, true, false, List, [], ◌∷◌}
+use Rattle.std.specs.Prelude.{ℕ, Bool, true, false, List, [], ◌∷◌, replicate}
 use Rattle.tc_link.specs.declared.Link.{Link}
 use Rattle.tc_channel.specs.declared.settings.Settings.{Settings}
 use Rattle.tc_channel.specs.declared.event.Event.{Event}
@@ -23,12 +23,37 @@ link_up = record { no_rf = false; no_bit_lock = false }
 -- frames of Type-AD for spacecraft 42 and channel 1, with N(S) 0 where none is named; MAP 0 where none is named
 
 -- N(S), an unsegmented packet of application 5 with the one octet aa
+abbrev pub packet_octets : ℕ → List ℕ
+packet_octets ns = 0x00 ∷ 0x2a ∷ 0x04 ∷ 0x0c ∷ ns ∷ 0xc0 ∷ 0x10 ∷ 0x05 ∷ 0xc0 ∷ 0x00 ∷ 0x00 ∷ 0x00 ∷ 0xaa ∷ []
+
 abbrev pub one_packet : ℕ → Event
-one_packet ns = Frame (0x00 ∷ 0x2a ∷ 0x04 ∷ 0x0c ∷ ns ∷ 0xc0 ∷ 0x10 ∷ 0x05 ∷ 0xc0 ∷ 0x00 ∷ 0x00 ∷ 0x00 ∷ 0xaa ∷ [])
+one_packet ns = Frame (packet_octets ns)
+
+-- the same packet of application 6
+abbrev pub packet_of_another : Event
+packet_of_another = Frame (0x00 ∷ 0x2a ∷ 0x04 ∷ 0x0c ∷ 0x00 ∷ 0xc0 ∷ 0x10 ∷ 0x06 ∷ 0xc0 ∷ 0x00 ∷ 0x00 ∷ 0x00 ∷ 0xaa ∷ [])
+
+-- the packet of application 5 by Type-BD
+abbrev pub bypass_packet : List ℕ
+bypass_packet = 0x20 ∷ 0x2a ∷ 0x04 ∷ 0x0c ∷ 0x00 ∷ 0xc0 ∷ 0x10 ∷ 0x05 ∷ 0xc0 ∷ 0x00 ∷ 0x00 ∷ 0x00 ∷ 0xaa ∷ []
+
+-- Unlock, Set V(R) to 9, and a frame of Type-AC, which is reserved
+abbrev pub unlock : List ℕ
+unlock = 0x30 ∷ 0x2a ∷ 0x04 ∷ 0x05 ∷ 0x00 ∷ 0x00 ∷ []
+
+abbrev pub set_v_r_to_9 : List ℕ
+set_v_r_to_9 = 0x30 ∷ 0x2a ∷ 0x04 ∷ 0x07 ∷ 0x00 ∷ 0x82 ∷ 0x00 ∷ 0x09 ∷ []
+
+abbrev pub reserved : List ℕ
+reserved = 0x10 ∷ 0x2a ∷ 0x04 ∷ 0x05 ∷ 0x00 ∷ 0x00 ∷ []
 
 -- two packets of application 5 in one unit
 abbrev pub two_packets : Event
 two_packets = Frame (0x00 ∷ 0x2a ∷ 0x04 ∷ 0x13 ∷ 0x00 ∷ 0xc0 ∷ 0x10 ∷ 0x05 ∷ 0xc0 ∷ 0x00 ∷ 0x00 ∷ 0x00 ∷ 0xaa ∷ 0x10 ∷ 0x05 ∷ 0xc0 ∷ 0x01 ∷ 0x00 ∷ 0x00 ∷ 0xbb ∷ [])
+
+-- a packet of application 5 and one of application 6 in one unit
+abbrev pub two_applications : Event
+two_applications = Frame (0x00 ∷ 0x2a ∷ 0x04 ∷ 0x13 ∷ 0x00 ∷ 0xc0 ∷ 0x10 ∷ 0x05 ∷ 0xc0 ∷ 0x00 ∷ 0x00 ∷ 0x00 ∷ 0xaa ∷ 0x10 ∷ 0x06 ∷ 0xc0 ∷ 0x00 ∷ 0x00 ∷ 0x00 ∷ 0xbb ∷ [])
 
 -- a packet and one octet more
 abbrev pub packet_and_rest : Event
@@ -67,3 +92,11 @@ bypass_map_3_octets = 0x20 ∷ 0x2a ∷ 0x04 ∷ 0x07 ∷ 0x00 ∷ 0xc3 ∷ 0xaa
 
 abbrev pub bypass_map_3_empty : Event
 bypass_map_3_empty = Frame (0x20 ∷ 0x2a ∷ 0x04 ∷ 0x05 ∷ 0x00 ∷ 0xc3 ∷ [])
+
+-- settings for memory: a buffer of 4 and two queues of 4 packets, with segment headers or without
+abbrev pub two_queues : Bool → Settings
+two_queues segmented = record { vcid = 1; width = 10; buffer = 4; first = 0; segmented = segmented; queues = record { apid = 5; capacity = 4 } ∷ record { apid = 6; capacity = 4 } ∷ []; maps = [] }
+
+-- a buffer of 1, 70 queues of 256 packets, and a chosen MAP of 3 units
+abbrev pub many_queues : Settings
+many_queues = record { vcid = 1; width = 10; buffer = 1; first = 0; segmented = true; queues = replicate 70 (record { apid = 5; capacity = 256 }); maps = record { map = 3; capacity = 3 } ∷ [] }

@@ -4,7 +4,7 @@ use Rattle.tc_packet.specs.Reassembly.{largest_unit, stream_count}
 use Rattle.tc_channel.specs.declared.settings.QueueSetting.{QueueSetting}
 use Rattle.tc_channel.specs.declared.settings.MapSetting.{MapSetting}
 use Rattle.tc_channel.specs.declared.settings.Settings.{Settings}
-use Rattle.tc_channel.specs.ChannelState.{Queue, waiting}
+use Rattle.tc_channel.specs.ChannelState.{ChannelState, Queue, buffer, waiting}
 
 -- a list's own words: where its items lie, how many there are and for how many there is room
 abbrev pub list_words : ℕ
@@ -90,3 +90,9 @@ octets_in items = sum_by (λ (i : List ℕ). length i) items
 -- how many octets wait in the queues, all together
 abbrev pub octets_waiting : List Queue → ℕ
 octets_waiting queues = sum_by (λ (q : Queue). octets_in (waiting q)) queues
+
+-- what waits in a channel: the octets of its items and of its data fields, and the words of each item and of each queue
+abbrev pub memory_waiting : Settings → ChannelState → ℕ
+memory_waiting s state =
+    (length s.queues + length s.maps) * queue_words + (waiting_in_all state.queues * list_words + octets_waiting state.queues)
+    + (waiting_in_all state.units * list_words + octets_waiting state.units) + octets_in (buffer state)

@@ -1,8 +1,11 @@
 -- What a channel answers after a journal.
-use Rattle.std.specs.Prelude.{ℕ, ◌-◌, Bool, true, false, List, length, nat_lt, Option, Some, None, option_map, slice_get}
+use Rattle.std.specs.Prelude.{◌≡◌, ℕ, ◌-◌, Bool, true, false, List, length, nat_lt, Option, Some, None, option_map, slice_get}
 use Rattle.std.specs.Option.{option_and_then}
 use Rattle.tc_link.specs.declared.Act.{Act}
 use Rattle.tc_link.specs.declared.Link.{Link}
+use Rattle.tc_link.specs.declared.Kind.TheVariants as kinds
+use Rattle.tc_link.specs.Frame.{BeginsWith, header_of}
+use Rattle.tc_link.specs.Command.{kind_of}
 use Rattle.tc_link.specs.Clcw.{word_of}
 use Rattle.tc_link.specs.Farm.{Row, E6, number_of, accepts}
 use Rattle.tc_packet.specs.declared.Service.TheVariants.{Ad, Bd}
@@ -18,6 +21,14 @@ use Rattle.tc_channel.specs.declared.event.Event.{Event}
 use Rattle.tc_channel.specs.ChannelState.{ChannelState, buffer, queue_of, waiting}
 use Rattle.tc_channel.specs.Admission.{is_chosen, count_queued}
 use Rattle.tc_channel.specs.Run.{field_of, row_of, unit_of, first_of, run}
+
+-- the frame is of Type-BD: the only one for which a channel whose journal isn't kept may run out of memory
+abbrev pub IsBypassData : List ℕ → Type 0
+IsBypassData octets = kind_of (header_of octets) (field_of octets) ≡ kinds.Bd
+
+-- the octets begin with such a frame
+abbrev pub BeginsWithBypassData : List ℕ → Type 0
+BeginsWithBypassData octets = (frame : List ℕ) × BeginsWith octets frame × IsBypassData frame
 
 -- no unit was ended
 abbrev pub nothing : Delivery

@@ -4,6 +4,7 @@ use Rattle.tc_link.specs.Window.{IsWidth}
 use Rattle.tc_channel.specs.declared.settings.QueueSetting.{QueueSetting}
 use Rattle.tc_channel.specs.declared.settings.MapSetting.{MapSetting}
 use Rattle.tc_channel.specs.declared.settings.Settings.{Settings}
+use Rattle.tc_channel.specs.declared.settings.LentSettings.{LentSettings}
 use Rattle.tc_channel.specs.declared.settings.SettingsFault.{SettingsFault}
 use Rattle.tc_channel.specs.declared.settings.SettingsFault.TheVariants.{BadVcid, BadWindow, BadBuffer, BadApid, DoubleApid, BadCapacity, BadMap, DoubleMap, BadUnits, PlainMap, NoMemory}
 
@@ -38,6 +39,18 @@ HaveUnitCapacities maps = All (λ m. (1 ≤ m.capacity) × (m.capacity ≤ 256))
 -- a plain channel, which has no segment headers, has no MAPs
 abbrev pub HasMapsByHeaders : Settings → Type 0
 HasMapsByHeaders s = s.segmented ≡ false → s.maps ≡ []
+
+-- the settings whose lists are lent
+abbrev pub settings_of : LentSettings → Settings
+settings_of lent = record {
+  vcid = lent.vcid;
+  width = lent.width;
+  buffer = lent.buffer;
+  first = lent.first;
+  segmented = lent.segmented;
+  queues = lent.queues.now;
+  maps = lent.maps.now;
+}
 
 -- a channel can have these settings
 pub record IsAllowed (s : Settings) : Type 0 where

@@ -1,8 +1,10 @@
 //! What the definitions answer after short journals.
 
-ghost use Rattle.std.specs.Prelude.{◌≡◌, true, false, [], ◌∷◌, Some};
-ghost use Rattle.tc_channel.specs.declared.event.Event.TheVariants.{Release};
-ghost use Rattle.tc_channel.specs.Reply.{frame_reply, release_reply, take_reply, unit_reply, clcw};
+ghost use Rattle.std.specs.Prelude.{◌≡◌, true, false, [], ◌∷◌, Some, None};
+ghost use Rattle.tc_channel.specs.declared.event.Event.TheVariants.{Frame, Release, Take, TakeUnit};
+ghost use Rattle.tc_channel.specs.Reply.{frame_reply, release_reply, take_reply, unit_reply, waiting_packets, waiting_units, buffered_fields, clcw};
+ghost use Rattle.tc_channel.specs.Run.{IsLawful};
+ghost use Rattle.tc_channel.specs.Memory.{memory_bound};
 ghost use Rattle.tc_channel.specs.Examples as example;
 
 /// The definitions give the answers that were worked out by hand from the standard. Each clause is one journal, and what the next
@@ -22,4 +24,49 @@ pub fn short_journals_are_answered_so()
     ensures unit_dropped { frame_reply example.map_3_chosen (example.map_3_octets ∷ Release ∷ []) example.bypass_map_3_octets ≡ record { act = record { event = 6; accepted = true }; delivery = record { queued = 0; dropped = 1; rest = false } } }
     ensures empty_unit { unit_reply example.map_3_chosen (example.bypass_map_3_empty ∷ []) 3 ≡ Some [] }
     ensures wait { clcw (example.buffer_of 1) (example.one_packet 0 ∷ example.one_packet 1 ∷ []) example.link_up ≡ 0x01041801 }
+{}
+
+/// The same of each row of FARM-1's table that a frame can come by, of CLCWs, of the buffer and of queues.
+pub fn further_journals_are_answered_so()
+    ensures expected { frame_reply (example.buffer_of 1) [] (example.packet_octets 0) ≡ record { act = record { event = 1; accepted = true }; delivery = record { queued = 0; dropped = 0; rest = false } } }
+    ensures no_room { frame_reply (example.buffer_of 1) (example.one_packet 0 ∷ []) (example.packet_octets 1) ≡ record { act = record { event = 2; accepted = false }; delivery = record { queued = 0; dropped = 0; rest = false } } }
+    ensures ahead { frame_reply (example.buffer_of 1) [] (example.packet_octets 4) ≡ record { act = record { event = 3; accepted = false }; delivery = record { queued = 0; dropped = 0; rest = false } } }
+    ensures behind { frame_reply (example.buffer_of 1) [] (example.packet_octets 251) ≡ record { act = record { event = 4; accepted = false }; delivery = record { queued = 0; dropped = 0; rest = false } } }
+    ensures outside { frame_reply (example.buffer_of 1) [] (example.packet_octets 5) ≡ record { act = record { event = 5; accepted = false }; delivery = record { queued = 0; dropped = 0; rest = false } } }
+    ensures bypassed { frame_reply (example.buffer_of 1) [] example.bypass_packet ≡ record { act = record { event = 6; accepted = true }; delivery = record { queued = 1; dropped = 0; rest = false } } }
+    ensures unlocked { frame_reply (example.buffer_of 1) [] example.unlock ≡ record { act = record { event = 7; accepted = false }; delivery = record { queued = 0; dropped = 0; rest = false } } }
+    ensures set_v_r { frame_reply (example.buffer_of 1) [] example.set_v_r_to_9 ≡ record { act = record { event = 8; accepted = false }; delivery = record { queued = 0; dropped = 0; rest = false } } }
+    ensures reserved_type { frame_reply (example.buffer_of 1) [] example.reserved ≡ record { act = record { event = 9; accepted = false }; delivery = record { queued = 0; dropped = 0; rest = false } } }
+    ensures unlock_counted { clcw (example.buffer_of 1) (Frame example.unlock ∷ []) example.link_up ≡ 0x01040200 }
+    ensures number_set { clcw (example.buffer_of 1) (Frame example.set_v_r_to_9 ∷ []) example.link_up ≡ 0x01040209 }
+    ensures retransmit { clcw (example.buffer_of 1) (example.one_packet 4 ∷ []) example.link_up ≡ 0x01040800 }
+    ensures lockout { clcw (example.buffer_of 1) (example.one_packet 5 ∷ []) example.link_up ≡ 0x01042000 }
+    ensures room_again { clcw (example.buffer_of 1) (example.one_packet 0 ∷ example.one_packet 1 ∷ Release ∷ []) example.link_up ≡ 0x01040801 }
+    ensures buffered { buffered_fields (example.buffer_of 1) (example.first_segment ∷ []) ≡ (0x40 ∷ 0x10 ∷ 0x05 ∷ 0xc0 ∷ []) ∷ [] }
+    ensures discarded { buffered_fields (example.buffer_of 1) (example.one_packet 1 ∷ []) ≡ [] }
+    ensures released { buffered_fields (example.buffer_of 1) (example.first_segment ∷ Release ∷ []) ≡ [] }
+    ensures none_waits { waiting_packets (example.buffer_of 1) [] 5 ≡ Some [] }
+    ensures no_queue { waiting_packets (example.buffer_of 1) [] 6 ≡ None }
+    ensures taken_once { waiting_packets (example.buffer_of 1) (example.one_packet 0 ∷ Release ∷ Take 5 ∷ []) 5 ≡ Some [] }
+    ensures unit_taken_once { waiting_units example.map_3_chosen (example.map_3_octets ∷ Release ∷ TakeUnit 3 ∷ []) 3 ≡ Some [] }
+    ensures not_chosen { waiting_units example.map_3_chosen [] 4 ≡ None }
+    ensures queue_is_full { release_reply (example.buffer_of 1) (example.one_packet 0 ∷ Release ∷ example.one_packet 1 ∷ []) ≡ record { queued = 0; dropped = 1; rest = false } }
+    ensures queue_has_room_again { release_reply (example.buffer_of 1) (example.one_packet 0 ∷ Release ∷ Take 5 ∷ example.one_packet 1 ∷ []) ≡ record { queued = 1; dropped = 0; rest = false } }
+    ensures other_application { release_reply (example.buffer_of 1) (example.packet_of_another ∷ []) ≡ record { queued = 0; dropped = 1; rest = false } }
+    ensures expected_in_lockout { frame_reply (example.buffer_of 1) (example.one_packet 5 ∷ []) (example.packet_octets 0) ≡ record { act = record { event = 1; accepted = false }; delivery = record { queued = 0; dropped = 0; rest = false } } }
+    ensures bypassed_in_lockout { frame_reply (example.buffer_of 1) (example.one_packet 5 ∷ []) example.bypass_packet ≡ record { act = record { event = 6; accepted = true }; delivery = record { queued = 1; dropped = 0; rest = false } } }
+    ensures expected_after_unlock { frame_reply (example.buffer_of 1) (example.one_packet 5 ∷ Frame example.unlock ∷ []) (example.packet_octets 0) ≡ record { act = record { event = 1; accepted = true }; delivery = record { queued = 0; dropped = 0; rest = false } } }
+    ensures not_buffered_in_lockout { buffered_fields (example.buffer_of 1) (example.one_packet 5 ∷ example.one_packet 0 ∷ []) ≡ [] }
+    ensures oldest_leaves_first { buffered_fields (example.buffer_of 2) (example.first_segment ∷ example.last_segment ∷ Release ∷ []) ≡ (0x80 ∷ 0x01 ∷ 0x00 ∷ 0x01 ∷ 0xaa ∷ 0xbb ∷ []) ∷ [] }
+    ensures two_applications { release_reply (example.two_queues true) (example.two_applications ∷ []) ≡ record { queued = 2; dropped = 0; rest = false } }
+    ensures second_application { waiting_packets (example.two_queues true) (example.two_applications ∷ Release ∷ []) 6 ≡ Some ((0x10 ∷ 0x06 ∷ 0xc0 ∷ 0x00 ∷ 0x00 ∷ 0x00 ∷ 0xbb ∷ []) ∷ []) }
+    ensures nothing_to_release { IsLawful (example.buffer_of 1) (Release ∷ []) → ⊥ }
+    ensures map_that_is_cut { release_reply example.map_3_chosen (example.one_packet 0 ∷ []) ≡ record { queued = 1; dropped = 0; rest = false } }
+{}
+
+/// The memory that is worked out by hand for three settings.
+pub fn memory_is_counted_so()
+    ensures plain { memory_bound (example.two_queues false) ≡ 17396 }
+    ensures segmented { memory_bound (example.two_queues true) ≡ 17376338 }
+    ensures many { memory_bound example.many_queues ≡ 1192606931 }
 {}

@@ -1,11 +1,11 @@
 //! A channel and its journal.
 
-ghost use Rattle.std.specs.Prelude.{List, ℕ, ◌≡◌, [], ◌<◌, ◌≤◌, ◌↔◌, ◌∷◌, ◌++◌, length, min, ◌^◌, ◌-◌, slice_get, IfOk, OnOk, OnErr, IsErrOf, MatchResult, IsSome, IsTrue, Some, None, Option, option_map};
+ghost use Rattle.std.specs.Prelude.{List, ℕ, ◌≡◌, false, [], ◌<◌, ◌≤◌, ◌↔◌, ◌∷◌, ◌++◌, length, min, ◌^◌, ◌-◌, slice_get, IfOk, OnOk, OnErr, IsErrOf, MatchResult, IsSome, IsTrue, Some, None, Option, option_map};
 ghost use Rattle.std.specs.Option.{option_and_then};
 ghost use Rattle.tc_channel.specs.Settings.{IsAllowed, IsRefusal};
 ghost use Rattle.tc_channel.specs.Journal.{with_event, event_of};
 ghost use Rattle.tc_channel.specs.Run.{run, IsLawful};
-ghost use Rattle.tc_channel.specs.Reply.{frame_reply, release_reply, take_reply, unit_reply, waiting_packets, waiting_units, buffered_fields, clcw as clcw_of};
+ghost use Rattle.tc_channel.specs.Reply.{IsBypassData, frame_reply, release_reply, take_reply, unit_reply, waiting_packets, waiting_units, buffered_fields, clcw as clcw_of};
 ghost use Rattle.tc_channel.specs.Era.{CountsUpInItsEra};
 ghost use Rattle.tc_channel.specs.Channel.{Follows, FollowsKind, EndsAtOnce, buffered_of, with_field};
 ghost use Rattle.tc_channel.specs.Admission.{map_of};
@@ -85,12 +85,14 @@ impl<J: Journal> ChannelWith<J> {
     /// Takes a frame in, of whatever virtual channel. An accepted AD data field is buffered; of an accepted BD data field
     /// the unit that it ends is queued at once: whole where its MAP is chosen, else its packets. It copies the octets for a
     /// journal that is kept, an accepted AD data field for the buffer, and each packet that is queued; a whole unit is moved.
+    /// With a journal that isn't kept, only a frame of Type-BD may be refused.
     pub fn frame(&mut self, frame: &Frame) -> Result<FrameReply, NoMemory>
         ensures allowed { IsAllowed self.old.settings }
         ensures lawful { IsLawful self.old.settings self.old.journal }
         ensures reply { IfOk result (λ reply. reply ≡ frame_reply self.old.settings self.old.journal frame.now) }
         ensures done { OnOk result (self.new ≡ with_event self.old (Event.Frame frame.now)) }
         ensures refused { OnErr result (self.new ≡ self.old) }
+        ensures answered { J.grows ≡ false → OnErr result (IsBypassData frame.now) }
     {
         let kind = kind(frame);
         let room = self.fields.len() < self.fields.capacity();
@@ -155,7 +157,7 @@ impl<J: Journal> ChannelWith<J> {
     }
 
     /// Takes the oldest packet out of the queue with this APID. The packet is moved, not copied; a journal that is kept may grow,
-    /// and nothing else does.
+    /// and nothing else does. So with a journal that isn't kept it never runs out of memory.
     pub fn take(&mut self, apid: u16) -> Result<Vec<u8>, TakeFault>
         ensures allowed { IsAllowed self.old.settings }
         ensures lawful { IsLawful self.old.settings self.old.journal }
@@ -164,6 +166,7 @@ impl<J: Journal> ChannelWith<J> {
         ensures reply { IfOk result (λ packet. take_reply self.old.settings self.old.journal apid ≡ Some packet.items) }
         ensures done { OnOk result (self.new ≡ with_event self.old (Event.Take apid)) }
         ensures refused { OnErr result (self.new ≡ self.old) }
+        ensures answered { J.grows ≡ false → IsErrOf result TakeFault.NoMemory → ⊥ }
     {
         let event = LentEvent::Take(apid);
         let packet = take_oldest(
@@ -177,7 +180,7 @@ impl<J: Journal> ChannelWith<J> {
     }
 
     /// Takes the oldest unit out of the queue of this chosen MAP. The unit is moved, not copied; a journal that is kept may grow,
-    /// and nothing else does.
+    /// and nothing else does. So with a journal that isn't kept it never runs out of memory.
     pub fn take_unit(&mut self, map: u8) -> Result<Vec<u8>, TakeUnitFault>
         ensures allowed { IsAllowed self.old.settings }
         ensures lawful { IsLawful self.old.settings self.old.journal }
@@ -186,6 +189,7 @@ impl<J: Journal> ChannelWith<J> {
         ensures reply { IfOk result (λ unit. unit_reply self.old.settings self.old.journal map ≡ Some unit.items) }
         ensures done { OnOk result (self.new ≡ with_event self.old (Event.TakeUnit map)) }
         ensures refused { OnErr result (self.new ≡ self.old) }
+        ensures answered { J.grows ≡ false → IsErrOf result TakeUnitFault.NoMemory → ⊥ }
     {
         let (key, event) = (map as u16, LentEvent::TakeUnit(map));
         let unit = take_oldest(self.alloc, &mut self.units, &mut self.journal, key, &event)?;
@@ -346,6 +350,7 @@ fn take_oldest<J: Journal>(
     ensures queues { OnOk result (queues.new.items ≡ popped key queues.old.items) }
     ensures journal { OnOk result (J.events journal.new ≡ J.events journal.old ++ event_of event.now ∷ []) }
     ensures refused { OnErr result ((queues.new ≡ queues.old) × (J.events journal.new ≡ J.events journal.old)) }
+    ensures answered { J.grows ≡ false → IsErrOf result TakeFault.NoMemory → ⊥ }
 {
     let waiting = find(queues, key).ok_or(TakeFault::NoQueue)?;
     if waiting.ring.is_empty() {
@@ -385,6 +390,7 @@ fn pass_bypass(reassembler: &mut Reassembler, kind: Kind, field: &[u8]) -> Resul
     requires { 0 < length field.now }
     ensures ok { OnOk result (FollowsKind kind reassembler.old reassembler.new field.now) }
     ensures err { OnErr result (reassembler.new ≡ reassembler.old) }
+    ensures answered { OnErr result (kind ≡ Kind.Bd) }
 {
     match kind {
         Kind::Bd => pass(reassembler, Service::Bd, field),
@@ -407,7 +413,8 @@ fn plan_bypass(
     requires field { 0 < length field.now }
     requires distinct { AreDistinct (keys_of queues.now) }
     requires units_distinct { AreDistinct (keys_of units.now) }
-    ensures { IfOk result (λ p. (unit : Option (List ℕ)) × EndsAtOnce kind reassembler.now field.now unit × IsPlanned (map_of field.now) unit queues.now units.now sheet.new.copies.items p) }
+    ensures planned { IfOk result (λ p. (unit : Option (List ℕ)) × EndsAtOnce kind reassembler.now field.now unit × IsPlanned (map_of field.now) unit queues.now units.now sheet.new.copies.items p) }
+    ensures answered { OnErr result (kind ≡ Kind.Bd) }
 {
     match kind {
         Kind::Bd => plan(alloc, reassembler, queues, units, Service::Bd, field, sheet),

@@ -1,6 +1,6 @@
 //! What a channel does with the events that it answers.
 
-ghost use Rattle.std.specs.Prelude.{◌≡◌, List, ◌∷◌, [], ◌++◌, ℕ, length, min, ◌^◌, ◌-◌, IfOk};
+ghost use Rattle.std.specs.Prelude.{◌≡◌, Bool, false, List, ◌∷◌, [], ◌++◌, ℕ, length, min, ◌^◌, ◌-◌, IfOk, IsOk};
 ghost use Rattle.tc_channel.specs.declared.event.Event.{Event};
 ghost use Rattle.tc_channel.specs.declared.lent.LentEvent.{LentEvent};
 ghost use Rattle.tc_channel.specs.Journal.{event_of};
@@ -21,6 +21,9 @@ pub trait Journal: Drop {
     // this entry is this event's, and there is room for it
     ghost is_ready: { Self → Self.Entry → Event → Type 0 };
 
+    // whether entries take memory; where they take none, no entry is refused
+    ghost grows: { Bool };
+
     /// The journal of no event. It allocates nothing.
     fn start(alloc: Global) -> Self
         ensures events { events result ≡ [] };
@@ -28,7 +31,8 @@ pub trait Journal: Drop {
     /// Makes the entry of an event, and room for it; the events stay the same.
     fn prepare(&mut self, alloc: Global, event: &LentEvent<'_>) -> Result<Self::Entry, AllocError>
         ensures same { events self.new ≡ events self.old }
-        ensures ready { IfOk result (λ entry. is_ready self.new entry (event_of event.now)) };
+        ensures ready { IfOk result (λ entry. is_ready self.new entry (event_of event.now)) }
+        ensures answered { grows ≡ false → IsOk result };
 
     /// Appends an event whose entry was made. It allocates nothing.
     fn append(&mut self, event: &LentEvent<'_>, entry: Self::Entry)

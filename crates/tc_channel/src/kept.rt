@@ -16,7 +16,11 @@ pub struct Kept {
 }
 
 impl Journal for Kept {
+    ghost use Rattle.std.specs.Prelude.{true};
+
     type Entry = Event;
+
+    ghost grows = { true };
 
     ghost events = { λ k. k.events.items };
 

@@ -6,9 +6,10 @@
 //! [`allowed_settings_have_no_fault`], [`wait_means_no_room`], [`each_frame_has_a_step`],
 //! [`each_journal_has_an_era`], [`accepted_frames_count_up`], [`what_was_sent_is_accepted_once_and_in_order`],
 //! [`queues_are_those_of_the_settings`], [`queues_keep_to_their_capacity`], [`short_journals_are_answered_so`],
+//! [`further_journals_are_answered_so`], [`memory_is_counted_so`],
 //! [`chosen_maps_stay`], [`a_unit_is_delivered_whole_or_by_packets`], [`a_unit_is_kept_where_its_queue_has_room`],
 //! [`buffer_keeps_to_its_size`], [`each_packet_is_queued_or_dropped`],
-//! [`no_more_items_wait_than_memory_counts`], [`each_clcw_fits_its_word`], [`a_longer_run_goes_on`], [`what_was_accepted_is_passed_on_in_order`],
+//! [`no_more_items_wait_than_memory_counts`], [`what_waits_is_within_the_bound_of_memory`], [`each_clcw_fits_its_word`], [`a_longer_run_goes_on`], [`what_was_accepted_is_passed_on_in_order`],
 //! [`what_was_admitted_is_given_in_order`] and [`a_plain_channel_takes_each_field_as_a_unit`].
 #![tactic(auto)]
 
@@ -30,7 +31,9 @@ mod reply;
 mod settings;
 mod unkept;
 
-pub use answered::short_journals_are_answered_so;
+pub use answered::{
+    further_journals_are_answered_so, memory_is_counted_so, short_journals_are_answered_so,
+};
 pub use channel::{Channel, ChannelWith, FlightChannel};
 pub use event::Event;
 pub use flow::{what_was_accepted_is_passed_on_in_order, what_was_admitted_is_given_in_order};
@@ -46,8 +49,8 @@ pub use laws::{
     queues_keep_to_their_capacity, wait_means_no_room, what_was_sent_is_accepted_once_and_in_order,
 };
 pub use lent::LentEvent;
-pub use memory::no_more_items_wait_than_memory_counts;
+pub use memory::{no_more_items_wait_than_memory_counts, what_waits_is_within_the_bound_of_memory};
 pub use past::Past;
 pub use reply::{Delivery, FrameReply, NoMemory, ReleaseFault, TakeFault, TakeUnitFault};
-pub use settings::{MapSetting, QueueSetting, Settings, SettingsFault};
+pub use settings::{LentSettings, MapSetting, QueueSetting, Settings, SettingsFault};
 pub use unkept::{EventsSeen, Unkept};

@@ -1,6 +1,6 @@
 //! How much memory a channel can come to hold.
 
-ghost use Rattle.std.specs.Prelude.{List, ◌≡◌, ◌≤◌, ◌^◌, ◌-◌, ◌<◌, ◌*◌, min, sum_by};
+ghost use Rattle.std.specs.Prelude.{List, true, ◌≡◌, ◌≤◌, ◌^◌, ◌-◌, ◌<◌, ◌*◌, min, sum_by};
 ghost use Rattle.tc_channel.specs.declared.settings.QueueSetting.{QueueSetting};
 ghost use Rattle.tc_channel.specs.declared.settings.MapSetting.{MapSetting};
 ghost use Rattle.tc_channel.specs.declared.settings.Settings.{Settings};
@@ -8,11 +8,12 @@ ghost use Rattle.tc_channel.specs.declared.event.Event.{Event};
 ghost use Rattle.tc_packet.specs.Reassembly.{largest_unit};
 ghost use Rattle.tc_channel.specs.ChannelState.{buffer};
 ghost use Rattle.tc_channel.specs.Run.{IsLawful, run};
-ghost use Rattle.tc_channel.specs.Memory.{buffer_memory, doubled, largest_field, largest_item, memory_bound, octets_in, octets_waiting, packets_held, queues_memory, runs_memory, units_held, waiting_in_all, work_memory};
+ghost use Rattle.tc_channel.specs.Settings.{settings_of};
+ghost use Rattle.tc_channel.specs.Memory.{buffer_memory, doubled, largest_field, largest_item, memory_bound, memory_waiting, octets_in, octets_waiting, packets_held, queues_memory, runs_memory, units_held, waiting_in_all, work_memory};
 
 use crate::copying::{APIDS, QUEUES_FOR_A_TABLE};
 use crate::fields::LARGEST_FIELD;
-use crate::settings::{MapSetting, QueueSetting, Settings};
+use crate::settings::{LentSettings, MapSetting, QueueSetting, Settings};
 use tc_packet::LARGEST_UNIT;
 
 // The octets of the own words of a list, of a run and of a queue.
@@ -42,9 +43,18 @@ impl Settings {
     /// back, at whatever moment from the start of `new` on, on a machine of 64 bits; 2^64 - 1 where it is more. What an allocator
     /// adds to a block is not counted, nor is the room of the lists of these settings themselves, which whoever made them chose.
     /// It takes a step a queue and a MAP, and no memory.
-    #[tactic(auto, unfolding(crate::specs::Memory::memory_bound))]
     pub fn memory_bound(&self) -> u64
         ensures { result ≡ min (memory_bound self.now) (2 ^ 64 - 1) }
+    {
+        self.lent().memory_bound()
+    }
+}
+
+impl LentSettings<'_> {
+    /// The same of settings whose lists are lent.
+    #[tactic(auto, unfolding(crate::specs::Memory::memory_bound))]
+    pub fn memory_bound(self) -> u64
+        ensures { result ≡ min (memory_bound (settings_of self.entry)) (2 ^ 64 - 1) }
     {
         let all = buffer_octets(self) + run_octets(self) + queue_octets(self) + work_octets(self);
         match u64::try_from(all) {
@@ -90,16 +100,16 @@ fn unit_octets(segmented: bool) -> u128
 }
 
 // The places of the buffer.
-fn buffer_octets(settings: &Settings) -> u128
-    ensures value { result ≡ buffer_memory settings.now }
+fn buffer_octets(settings: LentSettings<'_>) -> u128
+    ensures value { result ≡ buffer_memory (settings_of settings.entry) }
     ensures within { result < 2 ^ 100 }
 {
     u128::from(settings.buffer) * (PLACE_WORDS + LARGEST_FIELD as u128)
 }
 
 // The open runs, each of the largest unit.
-fn run_octets(settings: &Settings) -> u128
-    ensures value { result ≡ runs_memory settings.now }
+fn run_octets(settings: LentSettings<'_>) -> u128
+    ensures value { result ≡ runs_memory (settings_of settings.entry) }
     ensures within { result < 2 ^ 100 }
 {
     let room = if settings.segmented { RUN_ROOM } else { 0 };
@@ -107,13 +117,13 @@ fn run_octets(settings: &Settings) -> u128
 }
 
 // The queues, full of the largest packets and units.
-fn queue_octets(settings: &Settings) -> u128
-    ensures value { result ≡ queues_memory settings.now }
+fn queue_octets(settings: LentSettings<'_>) -> u128
+    ensures value { result ≡ queues_memory (settings_of settings.entry) }
     ensures within { result < 2 ^ 110 }
 {
     let queues = settings.queues.len() as u128 + settings.maps.len() as u128;
-    let packets = held_packets(&settings.queues);
-    let units = held_units(&settings.maps);
+    let packets = held_packets(settings.queues);
+    let units = held_units(settings.maps);
     queues * QUEUE_WORDS
         + packets * (LIST_WORDS + unit_octets(settings.segmented))
         + units * (LIST_WORDS + LARGEST_UNIT as u128)
@@ -128,8 +138,8 @@ fn doubled_room(count: u128) -> u128
 }
 
 // What a call works with: its unit, its list of packets, the room in each queue, and the table of places.
-fn work_octets(settings: &Settings) -> u128
-    ensures value { result ≡ work_memory settings.now }
+fn work_octets(settings: LentSettings<'_>) -> u128
+    ensures value { result ≡ work_memory (settings_of settings.entry) }
     ensures within { result < 2 ^ 100 }
 {
     let queues = settings.queues.len();
@@ -139,7 +149,7 @@ fn work_octets(settings: &Settings) -> u128
         0
     };
     let cut = unit_octets(settings.segmented) / SMALLEST_PACKET;
-    let copies = held_packets(&settings.queues).min(cut);
+    let copies = held_packets(settings.queues).min(cut);
     let table = if queues < QUEUES_FOR_A_TABLE {
         0
     } else {
@@ -158,4 +168,10 @@ pub fn no_more_items_wait_than_memory_counts()
     ensures packet_octets { (s : Settings) (journal : List Event) → octets_waiting (run s journal).queues ≤ packets_held s * largest_unit }
     ensures unit_octets { (s : Settings) (journal : List Event) → octets_waiting (run s journal).units ≤ units_held s * largest_unit }
     ensures field_octets { (s : Settings) (journal : List Event) → IsLawful s journal → octets_in (buffer (run s journal)) ≤ s.buffer * largest_field }
+{}
+
+/// After each lawful journal, what waits in a channel with segment headers is within the bound of its memory: the octets of packets,
+/// units and data fields, and the words of each item and of each queue.
+pub fn what_waits_is_within_the_bound_of_memory()
+    ensures { (s : Settings) (journal : List Event) → s.segmented ≡ true → IsLawful s journal → memory_waiting s (run s journal) ≤ memory_bound s }
 {}

@@ -1,13 +1,15 @@
 //! The settings of a channel.
 
-ghost use Rattle.std.specs.Prelude.{◌≡◌, ◌↔◌, Any, IsTrue, MatchResult};
-ghost use Rattle.tc_channel.specs.Settings.{IsVcid, HaveApids, AreApart, HaveCapacities, AreMaps, AreMapsApart, HaveUnitCapacities, HasMapsByHeaders};
+ghost use Rattle.std.specs.Prelude.{◌≡◌, ◌↔◌, Any, IsTrue, IfOk, MatchResult};
+ghost use Rattle.tc_channel.specs.Settings.{settings_of, IsVcid, HaveApids, AreApart, HaveCapacities, AreMaps, AreMapsApart, HaveUnitCapacities, HasMapsByHeaders};
 
 use crate::items::Items;
+use std::alloc::{AllocError, Global};
 use tc_link::Window;
 use thiserror::Error;
 
 /// One packet queue.
+#[repr(C)]
 #[derive(Clone, Copy, Debug, PartialEq, Eq)]
 pub struct QueueSetting {
     /// The application process identifier of its packets, at most 2,046.
@@ -17,6 +19,7 @@ pub struct QueueSetting {
 }
 
 /// One chosen MAP: units of both services are delivered whole to one queue (the MAP Access Service of CCSDS 232.0-B).
+#[repr(C)]
 #[derive(Clone, Copy, Debug, PartialEq, Eq)]
 pub struct MapSetting {
     /// The multiplexer access point, at most 63.
@@ -42,6 +45,18 @@ pub struct Settings {
     pub queues: Items<QueueSetting>,
     /// The chosen MAPs, no two the same, and none on a plain channel.
     pub maps: Items<MapSetting>,
+}
+
+/// What a channel is made by, with both lists lent, so that it can be looked at without memory.
+#[derive(Clone, Copy, Debug)]
+pub struct LentSettings<'a> {
+    pub vcid: u8,
+    pub width: u8,
+    pub buffer: u8,
+    pub first: u8,
+    pub segmented: bool,
+    pub queues: &'a [QueueSetting],
+    pub maps: &'a [MapSetting],
 }
 
 /// Why settings make no channel: the first fault that they have, in this order.
@@ -74,10 +89,53 @@ pub enum SettingsFault {
 impl Settings {
     ghost use Rattle.tc_channel.specs.Settings.{IsAllowed, IsFault};
 
+    /// The same settings, with both lists lent.
+    pub fn lent(&self) -> LentSettings<'_>
+        ensures { settings_of result ≡ self.now }
+    {
+        LentSettings {
+            vcid: self.vcid,
+            width: self.width,
+            buffer: self.buffer,
+            first: self.first,
+            segmented: self.segmented,
+            queues: &self.queues,
+            maps: &self.maps,
+        }
+    }
+
     /// Whether a channel can be made by these settings. It never answers `NoMemory`.
-    #[tactic(auto, unfolding(crate::specs::Settings::IsFault))]
     pub fn check(&self) -> Result<(), SettingsFault>
         ensures { MatchResult result (λ _. IsAllowed self.now) (IsFault self.now) }
+    {
+        self.lent().check()
+    }
+}
+
+impl LentSettings<'_> {
+    ghost use Rattle.tc_channel.specs.Settings.{IsAllowed, IsFault};
+
+    /// The same settings, with a copy of each list: two allocations.
+    pub fn copied(self, alloc: Global) -> Result<Settings, AllocError>
+        ensures { IfOk result (λ settings. settings ≡ settings_of self.entry) }
+    {
+        let queues = Vec::from_slice(alloc, self.queues)?;
+        let maps = Vec::from_slice(alloc, self.maps)?;
+        Ok(Settings {
+            vcid: self.vcid,
+            width: self.width,
+            buffer: self.buffer,
+            first: self.first,
+            segmented: self.segmented,
+            queues: Items::from(queues),
+            maps: Items::from(maps),
+        })
+    }
+
+    /// Whether a channel can be made by these settings. It never answers `NoMemory`, and takes no memory.
+    #[tactic(auto, unfolding(crate::specs::Settings::IsFault))]
+    pub fn check(self) -> Result<(), SettingsFault>
+        ensures { MatchResult result (λ _. IsAllowed (settings_of self.entry)) (IsFault (settings_of self.entry)) }
     {
         // Read, so that it is known to be an octet.
         let _first = self.first;
@@ -90,22 +148,22 @@ impl Settings {
         if self.buffer < 1 || self.buffer > 64 {
             return Err(SettingsFault::BadBuffer);
         }
-        if !have_apids(&self.queues) {
+        if !have_apids(self.queues) {
             return Err(SettingsFault::BadApid);
         }
-        if !are_apart(&self.queues) {
+        if !are_apart(self.queues) {
             return Err(SettingsFault::DoubleApid);
         }
-        if !have_capacities(&self.queues) {
+        if !have_capacities(self.queues) {
             return Err(SettingsFault::BadCapacity);
         }
-        if !are_maps(&self.maps) {
+        if !are_maps(self.maps) {
             return Err(SettingsFault::BadMap);
         }
-        if !are_maps_apart(&self.maps) {
+        if !are_maps_apart(self.maps) {
             return Err(SettingsFault::DoubleMap);
         }
-        if !have_unit_capacities(&self.maps) {
+        if !have_unit_capacities(self.maps) {
             return Err(SettingsFault::BadUnits);
         }
         if !self.has_maps_by_headers() {
@@ -115,8 +173,8 @@ impl Settings {
     }
 
     // Whether there is no MAP where there are no segment headers.
-    fn has_maps_by_headers(&self) -> bool
-        ensures { IsTrue result ↔ HasMapsByHeaders self.now }
+    fn has_maps_by_headers(self) -> bool
+        ensures { IsTrue result ↔ HasMapsByHeaders (settings_of self.entry) }
     {
         self.segmented || self.maps.is_empty()
     }

@@ -61,9 +61,11 @@ pub struct Unkept {
 }
 
 impl Journal for Unkept {
-    ghost use Rattle.std.specs.Prelude.{⊤};
+    ghost use Rattle.std.specs.Prelude.{⊤, false};
 
     type Entry = ();
+
+    ghost grows = { false };
 
     ghost events = { λ u. u.seen.events };
 

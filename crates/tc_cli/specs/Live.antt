@@ -1,6 +1,5 @@
 -- A receiver whose lines come one by one: its session, and the flags of the link for each virtual channel id.
-use Rattle.std.specs.Prelude.{◌≡◌, ◌⊎◌, ℕ, ◌+◌, ◌*◌, Bool, true, false, List, Contains, Option, Some, None, option_map, replicate, slice_index_or, slice_set, bit_or, []}
-use Rattle.tc_link.specs.Bits.{bit}
+use Rattle.std.specs.Prelude.{◌≡◌, ◌⊎◌, ℕ, Bool, true, false, List, Contains, Option, Some, None, replicate, slice_set, []}
 use Rattle.tc_link.specs.declared.clcw.Link.{Link}
 use Rattle.tc_status.specs.Board.{no_flag}
 use Rattle.tc_station.specs.Holding.{IsHolding}
@@ -9,7 +8,6 @@ use Rattle.tc_station.specs.declared.holding.Holding.{Holding}
 use Rattle.tc_cli.specs.Manned.{Manned}
 use Rattle.tc_cli.specs.Session.{Session, manned_for, IsAnswered}
 use Rattle.tc_cli.specs.declared.answer.Answer.{Answer}
-use Rattle.tc_cli.specs.declared.answer.Answer.TheVariants as answers
 use Rattle.tc_cli.specs.declared.instruction.Instruction.{Instruction}
 use Rattle.tc_cli.specs.declared.stage.Stage.TheVariants.{SettingUp, Operating}
 use Rattle.tc_text.specs.declared.fault.Reason.{Reason}
@@ -44,24 +42,10 @@ linked false vcid link live = live_after live
 abbrev pub IsLiveLeft : Reason → Live → Live → Type 0
 IsLiveLeft reason old new = (new ≡ old) ⊎ ((reason ≡ NoMemory) × (new ≡ live_after old))
 
--- the flags of a link in the bits of a CLCW: No RF Available is bit 15, No Bit Lock bit 14 (CCSDS 232.0-B, 4.2)
-abbrev pub flags_of : Link → ℕ
-flags_of link = bit link.no_rf * 32768 + bit link.no_bit_lock * 16384
-
--- a CLCW with the flags of its channel's link
-abbrev pub flagged : List Link → Answer → Answer
-flagged links (answers.Clcw vcid word) = answers.Clcw vcid (bit_or word (flags_of (slice_index_or links vcid no_flag)))
-flagged links (answers.Frame vcid reply) = answers.Frame vcid reply
-flagged links (answers.Release vcid delivery) = answers.Release vcid delivery
-flagged links (answers.Take vcid apid packet) = answers.Take vcid apid packet
-flagged links (answers.Unit vcid map_id unit) = answers.Unit vcid map_id unit
-flagged links (answers.Refused refusal) = answers.Refused refusal
-
--- a line of a script is answered as in a script, a CLCW with the flags of its channel's link, and all else stays
+-- a line of a script is answered as in a script, with the flags of the links, and all else stays
 abbrev pub IsLiveAnswered : Live → Instruction → Live → Option Answer → Type 0
 IsLiveAnswered old instruction new answer =
-    (plain : Option Answer) × IsAnswered old.scid old.session instruction new.session plain
-    × (answer ≡ option_map (flagged old.links) plain) × (new ≡ record old { session = new.session })
+    IsAnswered old.scid old.links old.session instruction new.session answer × (new ≡ record old { session = new.session })
 
 -- what the channel with this id has come to at some moment, if there is one
 abbrev pub IsReported : Roster → ℕ → Option Holding → Type 0

@@ -4,7 +4,7 @@ use Rattle.std.specs.Prelude.{◌≡◌, ℕ, List, Contains}
 use Rattle.tc_station.specs.Roster.{Roster}
 use Rattle.tc_station.specs.Location.{IsLocateFault}
 use Rattle.tc_channel.specs.Reply.{clcw}
-use Rattle.tc_status.specs.Board.{no_flag}
+use Rattle.tc_link.specs.declared.clcw.Link.{Link}
 use Rattle.tc_station.specs.Moments.{AtSomeMomentOf, IsBrought, IsReleased, IsTaken, IsUnitTaken}
 use Rattle.tc_station.specs.Faults.{IsReleaseRefused, IsTakeRefused, IsTakeUnitRefused}
 use Rattle.tc_station.specs.declared.faults.ReleaseRefused.TheVariants as release_refusals
@@ -75,9 +75,9 @@ IsUnitAnswer station vcid map_id (Release v delivery) = ⊥
 IsUnitAnswer station vcid map_id (Take v apid packet) = ⊥
 IsUnitAnswer station vcid map_id (Clcw v word) = ⊥
 
--- the CLCW of a moment of the channel with this id, with both link flags 0
-abbrev pub IsStatusOf : ℕ → ℕ → Type 0
-IsStatusOf vcid word = AtSomeMomentOf vcid (λ s journal. word ≡ clcw s journal no_flag)
+-- the CLCW of a moment of the channel with this id, with these link flags
+abbrev pub IsStatusOf : ℕ → Link → ℕ → Type 0
+IsStatusOf vcid link word = AtSomeMomentOf vcid (λ s journal. word ≡ clcw s journal link)
 
 abbrev pub IsClcwRefusal : Roster → ℕ → Refusal → Type 0
 IsClcwRefusal station vcid (Unlocated fault) = ⊥
@@ -86,10 +86,10 @@ IsClcwRefusal station vcid NoQueue = ⊥
 IsClcwRefusal station vcid NoMap = ⊥
 IsClcwRefusal station vcid Empty = ⊥
 
-abbrev pub IsClcwAnswer : Roster → ℕ → Answer → Type 0
-IsClcwAnswer station vcid (Clcw v word) = (v ≡ vcid) × Contains station.vcids vcid × IsStatusOf vcid word
-IsClcwAnswer station vcid (Refused refusal) = IsClcwRefusal station vcid refusal
-IsClcwAnswer station vcid (Frame v reply) = ⊥
-IsClcwAnswer station vcid (Release v delivery) = ⊥
-IsClcwAnswer station vcid (Take v apid packet) = ⊥
-IsClcwAnswer station vcid (TakeUnit v map_id unit) = ⊥
+abbrev pub IsClcwAnswer : Roster → ℕ → Link → Answer → Type 0
+IsClcwAnswer station vcid link (Clcw v word) = (v ≡ vcid) × Contains station.vcids vcid × IsStatusOf vcid link word
+IsClcwAnswer station vcid link (Refused refusal) = IsClcwRefusal station vcid refusal
+IsClcwAnswer station vcid link (Frame v reply) = ⊥
+IsClcwAnswer station vcid link (Release v delivery) = ⊥
+IsClcwAnswer station vcid link (Take v apid packet) = ⊥
+IsClcwAnswer station vcid link (TakeUnit v map_id unit) = ⊥

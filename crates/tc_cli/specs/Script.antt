@@ -10,6 +10,8 @@ use Rattle.tc_text.specs.declared.fault.Reason.{Reason}
 use Rattle.tc_text.specs.declared.fault.Reason.TheVariants.{NoMemory}
 use Rattle.tc_text.specs.declared.fault.ScriptFault.{ScriptFault}
 use Rattle.tc_text.specs.declared.fault.ScriptFault.TheVariants.{Line, Read, TooLong, Write, Unbalanced}
+use Rattle.tc_station.specs.declared.faults.FlightCloseFault.{FlightCloseFault}
+use Rattle.tc_station.specs.declared.faults.FlightCloseFault.TheVariants as flight
 
 -- the line is good, and leads from the one phase to the other
 abbrev pub IsDone : Phase → List ℕ → Phase → Type 0
@@ -45,6 +47,12 @@ IsGood script = (count : ℕ) × (phase : Phase) × Leads script count phase []
 -- why the station of a script of so many lines isn't closed in balance
 abbrev pub IsCloseFault : ℕ → ScriptFault → Type 0
 IsCloseFault lines fault = (fault ≡ Unbalanced) ⊎ (fault ≡ Line lines NoMemory)
+
+-- what it is for a script of so many lines that its station isn't closed; operators that are missing leave it out of balance
+abbrev pub close_fault : ℕ → FlightCloseFault → ScriptFault
+close_fault lines (flight.Missing station operators) = Unbalanced
+close_fault lines (flight.Unbalanced channels operators) = Unbalanced
+close_fault lines (flight.NoMemory station operators) = Line lines NoMemory
 
 -- why a script of so many good lines gets no report, or not the whole of it
 abbrev pub IsReportFault : ℕ → ScriptFault → Type 0

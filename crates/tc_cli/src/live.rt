@@ -1,8 +1,8 @@
 //! A session whose lines come one by one, as long as somebody sends them.
 
-ghost use Rattle.std.specs.Prelude.{◌≡◌, ◌⊎◌, ◌↔◌, Contains, IfOk, IfErr, IsTrue, OnOk, option_map};
+ghost use Rattle.std.specs.Prelude.{◌≡◌, ◌⊎◌, ◌↔◌, Contains, IfOk, IfErr, IsTrue, OnOk};
 ghost use Rattle.tc_cli.specs.Instruction.{instruction_of};
-ghost use Rattle.tc_cli.specs.Live.{IsLiveAnswered, IsLiveLeft, IsReported, flagged, flags_of, live_after, manned_at, linked, new_live};
+ghost use Rattle.tc_cli.specs.Live.{IsLiveAnswered, IsLiveLeft, IsReported, live_after, manned_at, linked, new_live};
 ghost use Rattle.tc_cli.specs.Phase.{Does, IsBad, IsBadOperation, Operates};
 ghost use Rattle.tc_cli.specs.Stage.{phase_of};
 ghost use Rattle.tc_cli.specs.Script.{IsReportFault};
@@ -13,7 +13,7 @@ use crate::instruction::Instruction;
 use crate::script::report;
 use crate::session::Session;
 use crate::stage::Stage;
-use crate::watchers::NO_FLAGS;
+use crate::watchers::{IDS, NO_FLAGS};
 use std::alloc::Global;
 use std::io::Write;
 use std::marker::Model;
@@ -21,9 +21,6 @@ use std::sync::Wait;
 use tc_link::Link;
 use tc_station::Holding;
 use tc_text::{Line, Reason, ScriptFault, SpacecraftId};
-
-/// How many virtual channel ids a line can name.
-const IDS: usize = 256;
 
 /// A receiver that does lines one by one. A line that is refused leaves it as it is; where memory is wanting for the first operation,
 /// the station may have been made.
@@ -69,11 +66,9 @@ impl LiveSession {
         ensures reason { IfErr result (λ reason. (reason ≡ Reason.NoMemory) ⊎ IsBad (phase_of self.old.session) (instruction_of line) reason) }
         ensures refused { IfErr result (λ reason. IsLiveLeft reason self.old self.new) }
     {
-        let instruction = Instruction::of(alloc, line);
-        let answer = self
-            .session
-            .perform(rt, alloc, self.spacecraft.number, instruction)?;
-        Ok(flag(&self.links, answer))
+        let scid = self.spacecraft.number;
+        self.session
+            .perform(rt, alloc, scid, &self.links, Instruction::of(alloc, line))
     }
 
     /// The flags of the link that the CLCWs of a channel tell from now on, and whether there is such a channel. It is an
@@ -141,24 +136,4 @@ impl LiveSession {
         } = self;
         report(rt, alloc, spacecraft.number, session, 0, writer)
     }
-}
-
-// The answer, with the flags of the channel's link where it is a CLCW.
-fn flag(links: &[Link; IDS], answer: Option<Answer>) -> Option<Answer>
-    ensures { result ≡ option_map (flagged links.now) answer }
-{
-    match answer {
-        Some(Answer::Clcw { vcid, word }) => {
-            let word = word | flags(links[usize::from(vcid)]);
-            Some(Answer::Clcw { vcid, word })
-        }
-        other => other,
-    }
-}
-
-// No RF Available is bit 15 of a CLCW, and No Bit Lock bit 14 (CCSDS 232.0-B, 4.2).
-fn flags(link: Link) -> u32
-    ensures { result ≡ flags_of link }
-{
-    u32::from(link.no_rf) * (1 << 15) + u32::from(link.no_bit_lock) * (1 << 14)
 }

@@ -12,6 +12,7 @@ use std::alloc::Global;
 use std::marker::Model;
 use std::sync::Wait;
 use tc_channel::Octets;
+use tc_link::Link;
 use tc_station::{
     BringFault, FlightStation, Holding, HoldingFault, Operator, OperatorsFault, ReleaseRefused,
     TakeRefused, TakeUnitRefused,
@@ -147,12 +148,12 @@ impl MannedStation {
         }
     }
 
-    /// Reports a channel's CLCW, by its watcher.
-    pub(crate) fn clcw(&mut self, vcid: u8) -> Answer
-        ensures answer { IsClcwAnswer self.old.station vcid result }
+    /// Reports a channel's CLCW, by its watcher, with these flags of its link.
+    pub(crate) fn clcw(&mut self, vcid: u8, link: Link) -> Answer
+        ensures answer { IsClcwAnswer self.old.station vcid link result }
         ensures counted { self.new ≡ after_answer result self.old }
     {
-        match self.watchers.watch(&self.station, vcid) {
+        match self.watchers.watch(&self.station, vcid, link) {
             Some(word) => Answer::Clcw { vcid, word },
             None => Answer::Refused(Refusal::UnknownChannel),
         }

@@ -2,7 +2,7 @@
 
 ghost use Rattle.std.specs.Prelude.{◌≡◌, ◌≤◌, All, vec_len, IfOk, IfErr};
 ghost use Rattle.tc_cli.specs.Report.{AreRising, AreBalanced};
-ghost use Rattle.tc_cli.specs.Script.{IsCloseFault};
+ghost use Rattle.tc_cli.specs.Script.{IsCloseFault, close_fault};
 ghost use Rattle.tc_station.specs.Balance.{IsNumberTold};
 
 use crate::watchers::NO_FLAGS;
@@ -31,12 +31,22 @@ pub(crate) fn close(
             channels.sort_unstable_by_key(|channel| channel.settings().vcid);
             Ok(channels)
         }
-        Err(FlightCloseFault::Unbalanced(_, _)) => Err(ScriptFault::Unbalanced),
-        Err(FlightCloseFault::NoMemory(_, _)) => Err(ScriptFault::Line {
+        Err(fault) => Err(fault_of(&fault, lines)),
+    }
+}
+
+// What it is for a script of so many lines that its station isn't closed.
+fn fault_of(fault: &FlightCloseFault, lines: u32) -> ScriptFault
+    ensures told { result ≡ close_fault lines fault.now }
+    ensures fault { IsCloseFault lines result }
+{
+    match fault {
+        FlightCloseFault::Missing(_, _) => ScriptFault::Unbalanced,
+        FlightCloseFault::Unbalanced(_, _) => ScriptFault::Unbalanced,
+        FlightCloseFault::NoMemory(_, _) => ScriptFault::Line {
             line: lines,
             reason: Reason::NoMemory,
-        }),
-        Err(FlightCloseFault::Missing(_, _)) => unreachable!(),
+        },
     }
 }
 

@@ -12,9 +12,11 @@ use crate::instruction::Instruction;
 use crate::report::{close, write_report};
 use crate::session::Session;
 use crate::stage::Stage;
+use crate::watchers::{IDS, NO_FLAGS};
 use std::alloc::Global;
 use std::io::{Read, Write};
 use std::sync::Wait;
+use tc_link::Link;
 use tc_text::{Reason, ScriptFault, next_line, parse_line, read_whole};
 
 /// Reads a script, does its lines in order and writes their answers, and then the final report.
@@ -54,11 +56,13 @@ fn run_lines<W: Write>(
     ensures fault { IfErr result (IsFault script.now) }
 {
     let mut session = Stage::SettingUp(Configuration::new(alloc));
+    // The program has no radio.
+    let links = [NO_FLAGS; IDS];
     let mut rest = script;
     let mut line = 0u32;
     while let Some((octets, after)) = next_line(rest) {
         line += 1;
-        let answer = match perform_line(rt, alloc, scid, &mut session, octets) {
+        let answer = match perform_line(rt, alloc, scid, &links, &mut session, octets) {
             Ok(answer) => answer,
             Err(reason) => return Err(ScriptFault::Line { line, reason }),
         };
@@ -72,6 +76,7 @@ fn perform_line(
     rt: &impl Wait,
     alloc: Global,
     scid: u16,
+    links: &[Link; IDS],
     session: &mut Session,
     octets: &[u8],
 ) -> Result<Option<Answer>, Reason>
@@ -81,7 +86,7 @@ fn perform_line(
     ensures refused { IfErr result (λ reason. IsLeft scid reason session.old session.new) }
 {
     let said = parse_line(alloc, octets)?;
-    session.perform(rt, alloc, scid, Instruction::of(alloc, said))
+    session.perform(rt, alloc, scid, links, Instruction::of(alloc, said))
 }
 
 fn write_answer<W: Write>(answer: Option<Answer>, writer: &mut W) -> Result<(), ScriptFault>

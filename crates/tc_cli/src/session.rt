@@ -10,27 +10,30 @@ use crate::answer::Answer;
 use crate::instruction::Instruction;
 use crate::manned::MannedStation;
 use crate::stage::Stage;
+use crate::watchers::IDS;
 use std::alloc::Global;
 use std::sync::Wait;
 use tc_channel::Octets;
+use tc_link::Link;
 use tc_text::Reason;
 
 /// How far a script has come whose operations are done one after the other.
 pub(crate) type Session = Stage<MannedStation>;
 
 impl Stage<MannedStation> {
-    /// Does what a line asks for; an operation has an answer. A line that is refused leaves all as it is; where
-    /// memory is wanting for the first operation, the station may have been made.
+    /// Does what a line asks for; an operation has an answer, a CLCW with the flags of its channel's link. A line that is refused
+    /// leaves all as it is; where memory is wanting for the first operation, the station may have been made.
     pub(crate) fn perform(
         &mut self,
         rt: &impl Wait,
         alloc: Global,
         scid: u16,
+        links: &[Link; IDS],
         instruction: Instruction,
     ) -> Result<Option<Answer>, Reason>
         requires { scid ≤ 1023 }
         ensures done { OnOk result (Does (phase_of self.old) instruction (phase_of self.new)) }
-        ensures answer { IfOk result (λ answer. IsAnswered scid self.old instruction self.new answer) }
+        ensures answer { IfOk result (λ answer. IsAnswered scid links.now self.old instruction self.new answer) }
         ensures reason { IfErr result (λ reason. (reason ≡ Reason.NoMemory) ⊎ IsBad (phase_of self.old) instruction reason) }
         ensures refused { IfErr result (λ reason. IsLeft scid reason self.old self.new) }
     {
@@ -48,7 +51,7 @@ impl Stage<MannedStation> {
             Instruction::Release(vcid) => self.release(rt, alloc, scid, vcid),
             Instruction::Take(vcid, apid) => self.take(rt, alloc, scid, vcid, apid),
             Instruction::Unit(vcid, map) => self.unit(rt, alloc, scid, vcid, map),
-            Instruction::Clcw(vcid) => self.clcw(rt, alloc, scid, vcid),
+            Instruction::Clcw(vcid) => self.clcw(rt, alloc, scid, vcid, links[usize::from(vcid)]),
         }
     }
 
@@ -140,16 +143,17 @@ impl Stage<MannedStation> {
         alloc: Global,
         scid: u16,
         vcid: u8,
+        link: Link,
     ) -> Result<Option<Answer>, Reason>
         requires { scid ≤ 1023 }
         ensures done { OnOk result (Operates (phase_of self.old) (phase_of self.new)) }
-        ensures answer { IfOk result (IsOperated scid (λ station. IsClcwAnswer station vcid) self.old self.new) }
+        ensures answer { IfOk result (IsOperated scid (λ station. IsClcwAnswer station vcid link) self.old self.new) }
         ensures reason { IfErr result (λ reason. (reason ≡ Reason.NoMemory) ⊎ IsBadOperation (phase_of self.old) reason) }
         ensures refused { IfErr result (λ reason. IsLeft scid reason self.old self.new) }
     {
         self.begin(rt, alloc, scid)?;
         match self {
-            Stage::Operating(manned) => Ok(Some(manned.clcw(vcid))),
+            Stage::Operating(manned) => Ok(Some(manned.clcw(vcid, link))),
             Stage::SettingUp(_) => unreachable!(),
         }
     }

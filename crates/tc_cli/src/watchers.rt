@@ -17,6 +17,9 @@ pub(crate) const NO_FLAGS: Link = Link {
     no_bit_lock: false,
 };
 
+/// How many virtual channel ids a line can name.
+pub(crate) const IDS: usize = 256;
+
 /// Virtual channel ids, each with a watcher. A contract sees the ids.
 #[derive(Drop)]
 pub(crate) struct Watchers {
@@ -50,13 +53,13 @@ impl Watchers {
         Ok(Watchers { vcids, watchers })
     }
 
-    /// The CLCW of a channel with one of the ids, with both link flags 0.
-    pub(crate) fn watch(&mut self, station: &FlightStation, vcid: u8) -> Option<u32>
+    /// The CLCW of a channel with one of the ids, with these flags of its link.
+    pub(crate) fn watch(&mut self, station: &FlightStation, vcid: u8, link: Link) -> Option<u32>
         ensures ids { self.new ≡ self.old }
-        ensures word { MatchOption result (¬ Contains self.old vcid) (λ word. Contains self.old vcid × IsStatusOf vcid word) }
+        ensures word { MatchOption result (¬ Contains self.old vcid) (λ word. Contains self.old vcid × IsStatusOf vcid link word) }
     {
         let place = place_of(&self.vcids, vcid)?;
-        Some(station.watch(&mut self.watchers[place], NO_FLAGS))
+        Some(station.watch(&mut self.watchers[place], link))
     }
 
     /// Whether there is a channel with this id.

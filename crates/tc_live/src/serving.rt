@@ -1,5 +1,8 @@
 //! Lines in, lines out.
 
+ghost use Rattle.std.specs.Prelude.{◌≡◌};
+ghost use Rattle.tc_live.specs.Serving.{serving_fault};
+
 use crate::receiver::Receiver;
 use std::alloc::Global;
 use std::io::{BufRead, Read, Write};
@@ -106,7 +109,9 @@ fn close<W: Write>(
 }
 
 // What a fault of the final report is here, where lines have no numbers.
-fn fault_of(fault: ScriptFault) -> ServingFault {
+fn fault_of(fault: ScriptFault) -> ServingFault
+    ensures { result ≡ serving_fault fault }
+{
     match fault {
         ScriptFault::Line { line: _, reason: _ } => ServingFault::NoMemory,
         ScriptFault::Read => ServingFault::Read,

@@ -1,10 +1,10 @@
 //! What lies under the lock of a channel.
 
-ghost use Rattle.std.specs.Prelude.{◌≡◌, ◌↔◌, [], IfOk, OnOk, OnErr, IsErrOf, MatchResult, Some, None};
+ghost use Rattle.std.specs.Prelude.{◌≡◌, ◌↔◌, false, [], IfOk, OnOk, OnErr, IsErrOf, MatchResult, Some, None};
 ghost use Rattle.tc_channel.specs.Settings.{IsAllowed, IsRefusal};
 ghost use Rattle.tc_channel.specs.Journal.{with_event};
 ghost use Rattle.tc_channel.specs.Run.{IsLawful};
-ghost use Rattle.tc_channel.specs.Reply.{frame_reply, release_reply, take_reply, unit_reply, waiting_packets, waiting_units, buffered_fields};
+ghost use Rattle.tc_channel.specs.Reply.{IsBypassData, frame_reply, release_reply, take_reply, unit_reply, waiting_packets, waiting_units, buffered_fields};
 ghost use Rattle.tc_status.specs.Board.{IsBeginning};
 
 use std::alloc::Global;
@@ -69,6 +69,7 @@ impl<J: Journal> DeskOf<J> {
         ensures reply { IfOk result (λ reply. reply ≡ frame_reply self.old.channel.settings self.old.channel.journal frame.now) }
         ensures done { OnOk result (self.new.channel ≡ with_event self.old.channel (Event.Frame frame.now)) }
         ensures refused { OnErr result (self.new ≡ self.old) }
+        ensures answered { J.grows ≡ false → OnErr result (IsBypassData frame.now) }
         ensures board { self.new.board ≡ self.old.board }
     {
         let reply = self.channel.frame(frame)?;
@@ -100,6 +101,7 @@ impl<J: Journal> DeskOf<J> {
         ensures reply { IfOk result (λ packet. take_reply self.old.channel.settings self.old.channel.journal apid ≡ Some packet.items) }
         ensures done { OnOk result (self.new.channel ≡ with_event self.old.channel (Event.Take apid)) }
         ensures refused { OnErr result (self.new ≡ self.old) }
+        ensures answered { J.grows ≡ false → IsErrOf result TakeFault.NoMemory → ⊥ }
         ensures board { self.new.board ≡ self.old.board }
     {
         let packet = self.channel.take(apid)?;
@@ -116,6 +118,7 @@ impl<J: Journal> DeskOf<J> {
         ensures reply { IfOk result (λ unit. unit_reply self.old.channel.settings self.old.channel.journal map ≡ Some unit.items) }
         ensures done { OnOk result (self.new.channel ≡ with_event self.old.channel (Event.TakeUnit map)) }
         ensures refused { OnErr result (self.new ≡ self.old) }
+        ensures answered { J.grows ≡ false → IsErrOf result TakeUnitFault.NoMemory → ⊥ }
         ensures board { self.new.board ≡ self.old.board }
     {
         let unit = self.channel.take_unit(map)?;

@@ -1,12 +1,12 @@
 //! The station: a lock for each channel.
 
-ghost use Rattle.std.specs.Prelude.{◌≡◌, ◌≤◌, ◌<◌, ◌+◌, ◌↔◌, All, Any, IsTrue, length, map, replicate, vec_len, vec_capacity, IfOk, IfErr, IsErrOf, OnOk, OnErr, MatchOption, MatchResult};
+ghost use Rattle.std.specs.Prelude.{◌≡◌, ◌≤◌, ◌<◌, ◌+◌, ◌↔◌, false, All, Any, IsTrue, length, map, replicate, vec_len, vec_capacity, IfOk, IfErr, IsErrOf, OnOk, OnErr, MatchOption, MatchResult};
 ghost use Rattle.std.specs.Sync.Mutex.{mutex_guard_value};
 ghost use Rattle.tc_link.specs.Frame.{BeginsWith};
 ghost use Rattle.tc_channel.specs.Settings.{IsAllowed};
 ghost use Rattle.tc_channel.specs.Journal.{with_event};
 ghost use Rattle.tc_channel.specs.Run.{IsLawful};
-ghost use Rattle.tc_channel.specs.Reply.{frame_reply, clcw};
+ghost use Rattle.tc_channel.specs.Reply.{BeginsWithBypassData, frame_reply, clcw};
 ghost use Rattle.tc_status.specs.Board.{IsBeginning};
 ghost use Rattle.tc_station.specs.Tally.{counted, fresh};
 ghost use Rattle.tc_station.specs.Balance.{AreInBalance, IsNumberTold};
@@ -27,10 +27,10 @@ use std::marker::Model;
 use std::sync::{Mutex, MutexGuard, Wait};
 use tc_channel::{
     Channel, ChannelWith, Delivery, Event, FlightChannel, FrameReply, Journal, Kept, NoMemory,
-    Settings, SettingsFault, Unkept,
+    Settings, SettingsFault, Unkept, each_clcw_fits_its_word,
 };
 use tc_link::{Frame, Link, read_frame};
-use tc_status::Watcher;
+use tc_status::{Watcher, the_flags_of_the_link_have_their_own_bits};
 
 /// A frame for a channel of the station.
 #[derive(Debug, Drop)]
@@ -138,7 +138,8 @@ impl<J: Journal> StationOf<J> {
     }
 
     /// Brings the frame at the front of the octets to its channel, under the channel's lock. What the channel's own call takes
-    /// is all that is allocated, here and in the next three calls.
+    /// is all that is allocated, here and in the next three calls. So a station in flight runs out of memory here only for a
+    /// frame of Type-BD, and never for a take.
     pub fn bring(
         &self,
         rt: &impl Wait,
@@ -149,6 +150,7 @@ impl<J: Journal> StationOf<J> {
         ensures answer { MatchResult result (λ brought. IsBrought self.now octets.now brought.vcid brought.reply) (IsBringFault self.now octets.now) }
         ensures counted { IfOk result (λ brought. operator.new ≡ counted brought.vcid operator.old) }
         ensures refused { OnErr result (operator.new ≡ operator.old) }
+        ensures answered { J.grows ≡ false → IsErrOf result BringFault.NoMemory → BeginsWithBypassData octets.now }
     {
         let (place, Located { vcid, frame }) = self
             .place_frame(octets)
@@ -192,6 +194,7 @@ impl<J: Journal> StationOf<J> {
         ensures answer { MatchResult result (λ packet. IsTaken self.now vcid apid packet.items) (IsTakeRefused self.now vcid apid) }
         ensures counted { OnOk result (operator.new ≡ counted vcid operator.old) }
         ensures refused { OnErr result (operator.new ≡ operator.old) }
+        ensures answered { J.grows ≡ false → IsErrOf result TakeRefused.NoMemory → ⊥ }
     {
         let Some(place) = place_of(&self.vcids, vcid) else {
             return Err(TakeRefused::UnknownChannel);
@@ -213,6 +216,7 @@ impl<J: Journal> StationOf<J> {
         ensures answer { MatchResult result (λ unit. IsUnitTaken self.now vcid map unit.items) (IsTakeUnitRefused self.now vcid map) }
         ensures counted { OnOk result (operator.new ≡ counted vcid operator.old) }
         ensures refused { OnErr result (operator.new ≡ operator.old) }
+        ensures answered { J.grows ≡ false → IsErrOf result TakeUnitRefused.NoMemory → ⊥ }
     {
         let Some(place) = place_of(&self.vcids, vcid) else {
             return Err(TakeUnitRefused::UnknownChannel);
@@ -245,6 +249,8 @@ impl<J: Journal> StationOf<J> {
         ensures allowed { IsAllowed watcher.new.seen.settings }
         ensures lawful { IsLawful watcher.new.seen.settings watcher.new.seen.journal }
     {
+        each_clcw_fits_its_word();
+        the_flags_of_the_link_have_their_own_bits();
         watcher.read() + u32::from(link.no_rf) * (1 << 15) + u32::from(link.no_bit_lock) * (1 << 14)
     }
 

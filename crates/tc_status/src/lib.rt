@@ -2,7 +2,8 @@
 //!
 //! Each channel has a board: one word, which is the CLCW of the journal that was published last, with both link flags 0.
 //! The [`Publisher`] stores it, and each [`Watcher`] loads it. A contract sees either as its board and a journal. The law
-//! [`each_seat_is_behind_the_publisher`] says what holds of a board at every moment.
+//! [`each_seat_is_behind_the_publisher`] says what holds of a board at every moment, and
+//! [`the_flags_of_the_link_have_their_own_bits`] how a CLCW with other link flags is made of its word.
 #![tactic(auto)]
 
 mod board;
@@ -10,6 +11,6 @@ mod laws;
 mod publisher;
 mod watcher;
 
-pub use laws::each_seat_is_behind_the_publisher;
+pub use laws::{each_seat_is_behind_the_publisher, the_flags_of_the_link_have_their_own_bits};
 pub use publisher::Publisher;
 pub use watcher::{Watcher, meet};

@@ -10,6 +10,7 @@ use crate::publisher::Publisher;
 use std::marker::Model;
 use std::mem;
 use std::sync::Arc;
+use tc_channel::each_clcw_fits_its_word;
 
 /// Reads the status of one channel, from any thread.
 #[derive(Drop)]
@@ -40,6 +41,7 @@ impl Watcher {
         ensures allowed { IsAllowed self.new.seen.settings }
         ensures lawful { IsLawful self.new.seen.settings self.new.seen.journal }
     {
+        each_clcw_fits_its_word();
         self.board.table.shared.load::<Reads>(&mut self.seat, 0) as u32
     }
 }

@@ -1,12 +1,10 @@
 //! The command line.
 
+use crate::help::{LINES, VERSION};
 use clap::{Arg, ArgAction, Command, Error};
 use std::alloc::Global;
 use std::convert::AsStr;
 use tc_make::Ending;
-
-/// The version, which is that of CHANGELOG.md's newest heading; `checks/launcher` compares each place that says it.
-const VERSION: &str = "0.1.0";
 
 /// How the frames end that the words ask for, the program's name first. An error is what to print: help, the version, or why
 /// the words are refused.
@@ -30,6 +28,7 @@ fn command<'a>(alloc: Global) -> Result<Command<'a>, Error> {
             "Makes telecommand frames and packets, and explains frames and CLCWs: answers the lines of standard input",
         )
         .version(VERSION)
+        .after_help(LINES)
         .arg(fecf)?;
     Ok(command)
 }

@@ -3,6 +3,7 @@
 
 mod arguments;
 mod command_line;
+mod help;
 
 use arguments::words;
 use clap::Error;

@@ -4,10 +4,12 @@
 mod arguments;
 mod command_line;
 mod help;
+mod noticing;
 
 use arguments::words;
 use clap::Error;
 use command_line::{Action, judge};
+use noticing::Noticing;
 use std::io;
 use std::io::BufWriter;
 use std::process::ExitCode;
@@ -74,35 +76,44 @@ const NO_WRITER: ScriptFault = ScriptFault::Line {
     reason: Reason::NoMemory,
 };
 
-fn run<R: AllocGlobal + Input + Print + Wait>(
-    rt: &R,
-    spacecraft: SpacecraftId,
-) -> Result<(), ScriptFault> {
-    let Ok(mut writer) = BufWriter::new(rt.alloc(), io::writer(rt)) else {
-        return Err(NO_WRITER);
-    };
-    run_script(
-        rt,
-        rt.alloc(),
-        spacecraft.number,
-        &mut rt.reader(),
-        &mut writer,
-    )
+// Says on standard error, if so, that each frame of a script that was done ends with its field. No answer depends on it.
+fn hint<R: Eprint>(rt: &R, has_fields: bool) {
+    if has_fields {
+        let _ = eprintln!(rt;
+            "tcrx: each frame ends with its frame error control field, which is data here; tclive --fecf checks it and takes it off"
+        );
+    }
 }
 
-fn parallel<R: AllocGlobal + Input + Print + Threads + Wait + Sync>(
+fn run<R: AllocGlobal + Input + Print + Eprint + Wait>(
     rt: &R,
     spacecraft: SpacecraftId,
 ) -> Result<(), ScriptFault> {
     let Ok(mut writer) = BufWriter::new(rt.alloc(), io::writer(rt)) else {
         return Err(NO_WRITER);
     };
+    let mut reader = Noticing::new(rt.alloc(), rt.reader());
+    run_script(rt, rt.alloc(), spacecraft.number, &mut reader, &mut writer)?;
+    hint(rt, reader.has_fields());
+    Ok(())
+}
+
+fn parallel<R: AllocGlobal + Input + Print + Eprint + Threads + Wait + Sync>(
+    rt: &R,
+    spacecraft: SpacecraftId,
+) -> Result<(), ScriptFault> {
+    let Ok(mut writer) = BufWriter::new(rt.alloc(), io::writer(rt)) else {
+        return Err(NO_WRITER);
+    };
+    let mut reader = Noticing::new(rt.alloc(), rt.reader());
     parallel_script(
         rt,
         rt.alloc(),
         &FreeGate,
         spacecraft.number,
-        &mut rt.reader(),
+        &mut reader,
         &mut writer,
-    )
+    )?;
+    hint(rt, reader.has_fields());
+    Ok(())
 }

@@ -136,13 +136,19 @@ impl Counting {
     }
 }
 
+// The worker of a list without jobs, too.
 #[test]
 fn each_worker_passes_the_gate_once(rt: HostRuntime) {
     let alloc = rt.alloc();
-    let lists = three_lists(&rt, alloc);
+    let lists = [
+        first_list(&rt, alloc),
+        second_list(&rt, alloc),
+        third_list(&rt, alloc),
+        list_for(2, Vec::new(alloc)),
+    ];
     let mut station = new_station(&rt, alloc, settings_of(&rt, alloc, &[1, 2]));
-    let mut operators = new_operators(&rt, &mut station, 3);
+    let mut operators = new_operators(&rt, &mut station, 4);
     let gate = Counting::new();
     do_lists(&rt, &gate, &station, &mut operators, &lists);
-    assert_eq!(rt; gate.counts(), [1, 1, 1, 0]);
+    assert_eq!(rt; gate.counts(), [1, 2, 1, 0]);
 }

@@ -32,6 +32,19 @@ fn growth_of_a_new_channel(rt: HostRuntime) {
     Run::growing(&rt, rt.alloc(), &GROWING);
 }
 
+#[test]
+fn growth_of_settings_that_are_copied(rt: HostRuntime) {
+    let own = settings(&rt, rt.alloc(), &GROWING);
+    let copy = match own.lent().copied(rt.alloc()) {
+        Ok(copy) => copy,
+        Err(_) => {
+            let _ = println!(rt; "refused: LentSettings::copied");
+            own.lent().copied(rt.alloc()).expect(&rt, "a copy")
+        }
+    };
+    assert_eq!(rt; copy, own);
+}
+
 static EACH_CALL: [Step<'static>; 9] = [
     Ad(0, ACCEPTED),
     Clcw(0x01040001),

@@ -28,18 +28,18 @@ plan_bypass-requires-clause-units_distinct g c =
     rw c.deref-2.ensures.value (units-distinct c.self.invariant)
 
 pub put_copies-requires : goal.put_copies-requires
-put_copies-requires g c = rw c.deref.ensures.value at c.in_ok-planned.ensures.2.copies.places
+put_copies-requires g c = rw c.deref.ensures.value at c.in_ok-planned.ensures.planned.2.copies.places
 
 pub put_unit-requires : goal.put_unit-requires
-put_unit-requires g c = rw (c.in_ok-planned.ensures.2.whole, c.deref-2.ensures.value) (have-places (is_of_map (map_of c.field-field.result.now)) _ c.self.inside.units.items)
+put_unit-requires g c = rw (c.in_ok-planned.ensures.planned.2.whole, c.deref-2.ensures.value) (have-places (is_of_map (map_of c.field-field.result.now)) _ c.self.inside.units.items)
 
 pub invariant_of-self-2 : goal.invariant_of-self-2
 invariant_of-self-2 g c =
     let f = c.self.inside in
     let e : g.J.Journal.events c.append.new.self ≡ (g.J.Journal.events f.journal) ++ Frame c.args.frame.now ∷ [] = grind (arith, common_steps) steps 500000 in
-    rw e (frame-keeps _ c.plan_bypass.new.sheet.copies.items c.in_ok-planned.planned c.in_ok-planned.ensures.0 c.kind-kind.result c.args.frame.now
+    rw e (frame-keeps _ c.plan_bypass.new.sheet.copies.items c.in_ok-planned.planned c.in_ok-planned.ensures.planned.0 c.kind-kind.result c.args.frame.now
     (frame_row f.farm.width f.farm.report.vr c.kind-kind.result (nat_lt c.len.result c.capacity.result)) c.step-act.result
-    c.self.invariant c.kind-kind.ensures (rw c.field-field.ensures at c.in_ok-pass_bypass.ensures.ok) (rw c.field-field.ensures at c.in_ok-planned.ensures.1) (rw (c.deref.ensures.value, c.deref-2.ensures.value, c.field-field.ensures) at c.in_ok-planned.ensures.2) c.put_copies.ensures c.put_unit.ensures c.octets.ensures.whole
+    c.self.invariant c.kind-kind.ensures (rw c.field-field.ensures at c.in_ok-pass_bypass.ensures.ok) (rw c.field-field.ensures at c.in_ok-planned.ensures.planned.1) (rw (c.deref.ensures.value, c.deref-2.ensures.value, c.field-field.ensures) at c.in_ok-planned.ensures.planned.2) c.put_copies.ensures c.put_unit.ensures c.octets.ensures.whole
     (row-is c.args.frame.now c.kind-kind.result c.len.result c.capacity.result c.self.invariant c.kind-kind.ensures c.len.ensures.len c.capacity.ensures.capacity)
     c.step-act.ensures.event c.step-act.ensures.accepted c.step-act.ensures.width c.step-act.ensures.report
     (c.put_field.ensures.items ∙ ap (λ field. with_field f.fields.items (buffered_of c.step-act.result field)) c.field-field.ensures) c.put_field.ensures.capacity)
@@ -49,8 +49,8 @@ unfolding frame_reply
 returns-clause-reply g c =
     let f = c.self.inside in
     let is = row-is c.args.frame.now c.kind-kind.result c.len.result c.capacity.result c.self.invariant c.kind-kind.ensures c.len.ensures.len c.capacity.ensures.capacity in
-    let d = frame-delivery f.settings (run f.settings (g.J.Journal.events f.journal)) c.args.frame.now f.reassembler c.in_ok-planned.ensures.0 f.queues.items f.units.items c.plan_bypass.new.sheet.copies.items c.in_ok-planned.planned c.self.invariant.runs (c.self.invariant.queues, c.self.invariant.units)
-    (rw (← c.kind-kind.ensures, ← c.field-field.ensures) c.in_ok-planned.ensures.1) (rw (c.deref.ensures.value, c.deref-2.ensures.value, c.field-field.ensures) at c.in_ok-planned.ensures.2) in
+    let d = frame-delivery f.settings (run f.settings (g.J.Journal.events f.journal)) c.args.frame.now f.reassembler c.in_ok-planned.ensures.planned.0 f.queues.items f.units.items c.plan_bypass.new.sheet.copies.items c.in_ok-planned.planned c.self.invariant.runs (c.self.invariant.queues, c.self.invariant.units)
+    (rw (← c.kind-kind.ensures, ← c.field-field.ensures) c.in_ok-planned.ensures.planned.1) (rw (c.deref.ensures.value, c.deref-2.ensures.value, c.field-field.ensures) at c.in_ok-planned.ensures.planned.2) in
     let event : c.step-act.result.event ≡ number_of (row_of f.settings (run f.settings (g.J.Journal.events f.journal)) c.args.frame.now) = c.step-act.ensures.event ∙ ap number_of is in
     let accepted : c.step-act.result.accepted ≡ accepts (row_of f.settings (run f.settings (g.J.Journal.events f.journal)) c.args.frame.now) (run f.settings (g.J.Journal.events f.journal)).report = c.step-act.ensures.accepted ∙ rw (is, c.self.invariant.report) refl in
     rw (← c.self.view_is, d, ← event, ← accepted) refl

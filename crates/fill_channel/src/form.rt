@@ -1,0 +1,95 @@
+//! The forms of a channel: by where it keeps its journal, and by when it asks for memory.
+
+use anyhow::{Result, anyhow};
+use std::alloc::Global;
+use tc_channel::{ChannelWith, Delivery, FrameReply, Journal, Settings};
+use tc_fixed::FixedChannel;
+use tc_link::{Frame, Link};
+
+const NO_FLAG: Link = Link {
+    no_rf: false,
+    no_bit_lock: false,
+};
+
+// The most octets of a packet or a unit that is taken here.
+const TAKEN: usize = 1_024;
+
+/// What is done to a channel of whatever form.
+pub(crate) trait Form: Drop {
+    /// The channel of these settings.
+    fn made(alloc: Global, settings: Settings) -> Result<Self>;
+
+    /// Takes a frame in.
+    fn bring(&mut self, frame: &Frame) -> Result<FrameReply>;
+
+    /// Lets the oldest data field out of the buffer.
+    fn let_out(&mut self) -> Result<Delivery>;
+
+    /// Takes the oldest packet of an application.
+    fn take_packet(&mut self, apid: u16) -> Result<()>;
+
+    /// Takes the oldest unit of a MAP.
+    fn take_whole(&mut self, map: u8) -> Result<()>;
+
+    /// The CLCW.
+    fn word(&self) -> u32;
+}
+
+impl<J: Journal> Form for ChannelWith<J> {
+    fn made(alloc: Global, settings: Settings) -> Result<ChannelWith<J>> {
+        Ok(ChannelWith::new(alloc, settings)?)
+    }
+
+    fn bring(&mut self, frame: &Frame) -> Result<FrameReply> {
+        Ok(self.frame(frame)?)
+    }
+
+    fn let_out(&mut self) -> Result<Delivery> {
+        Ok(self.release()?)
+    }
+
+    fn take_packet(&mut self, apid: u16) -> Result<()> {
+        drop(self.take(apid)?);
+        Ok(())
+    }
+
+    fn take_whole(&mut self, map: u8) -> Result<()> {
+        drop(self.take_unit(map)?);
+        Ok(())
+    }
+
+    fn word(&self) -> u32 {
+        self.clcw(NO_FLAG)
+    }
+}
+
+impl Form for FixedChannel {
+    fn made(alloc: Global, settings: Settings) -> Result<FixedChannel> {
+        Ok(FixedChannel::new(alloc, settings)?)
+    }
+
+    fn bring(&mut self, frame: &Frame) -> Result<FrameReply> {
+        Ok(self.frame(frame))
+    }
+
+    fn let_out(&mut self) -> Result<Delivery> {
+        Ok(self.release()?)
+    }
+
+    fn take_packet(&mut self, apid: u16) -> Result<()> {
+        let mut octets = [0; TAKEN];
+        self.take(apid, &mut octets)?;
+        Ok(())
+    }
+
+    fn take_whole(&mut self, map: u8) -> Result<()> {
+        if self.drop_oldest_unit(map) {
+            return Ok(());
+        }
+        Err(anyhow!("no unit"))
+    }
+
+    fn word(&self) -> u32 {
+        self.clcw(NO_FLAG)
+    }
+}

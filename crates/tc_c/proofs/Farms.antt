@@ -1,0 +1,61 @@
+-- What starts is a FARM-1, and a channel has one after each lawful journal.
+use Rattle.std.proofs.Common.{◌≡◌, ℕ, ◌<◌, Bool, true, false, List, [], ◌∷◌, Result, Ok, Err, refl, if◌then◌else◌, arith}
+use Rattle.std.specs.Prelude.{IsSome}
+use Rattle.tc_link.specs.declared.farm.Arrival.{Arrival}
+use Rattle.tc_link.specs.declared.farm.Arrival.TheVariants as arrivals
+use Rattle.tc_link.specs.declared.farm.Report.{Report}
+use Rattle.tc_link.specs.declared.farm.State.{State}
+use Rattle.tc_link.specs.declared.farm.State.TheVariants.{S1, S2, S3}
+use Rattle.tc_link.specs.Frame.{header_of}
+use Rattle.tc_link.specs.Command.{kind_of}
+use Rattle.tc_link.specs.Farm.{Machine, E10, row_of, entry_at, entry, first_report}
+use Rattle.tc_channel.specs.declared.settings.Settings.{Settings}
+use Rattle.tc_channel.specs.declared.event.Event.{Event}
+use Rattle.tc_channel.specs.declared.event.Event.TheVariants.{Frame, Release, Take, TakeUnit}
+use Rattle.tc_channel.specs.ChannelState.{ChannelState, first_state, has_room}
+use Rattle.tc_channel.specs.Settings.{IsAllowed}
+use Rattle.tc_channel.specs.Run.{field_of, HasStep, AreSteps, IsLawful, step, passed_on, kept, row_of as row_at, run_from, run}
+use Rattle.tc_c.specs.declared.status.Status.{Status}
+use Rattle.tc_c.specs.declared.status.Status.TheVariants.{BadWidth}
+use Rattle.tc_c.specs.Farm.{IsFarm, is_width, first_farm, left}
+use Rattle.tc_c.proofs.Records.{wide}
+
+-- what a law of this crate says of steps
+abbrev pub StepsLeaveFarms : Type 0
+StepsLeaveFarms = (farm : Machine) (arrival : Arrival) → IsFarm farm → IsSome (entry (row_of farm.width farm.report.vr arrival) farm.report)
+    → IsFarm (left farm arrival)
+
+abbrev farm_at : Settings → ChannelState → Machine
+farm_at s state = record { width = s.width; report = state.report }
+
+released : (st : State) (r : Report) → IsSome (entry_at E10 st r)
+released S1 r = refl
+released S2 r = refl
+released S3 r = refl
+
+step-farm : StepsLeaveFarms → (s : Settings) (state : ChannelState) (e : Event) → IsFarm (farm_at s state) → HasStep s state e → IsFarm (farm_at s (step s state e))
+unfolding passed_on
+step-farm steps s state (Frame octets) farm has = steps (farm_at s state) (arrivals.Frame (kind_of (header_of octets) (field_of octets)) (has_room s state)) farm has.1
+step-farm steps s state Release farm has = steps (farm_at s state) arrivals.Release farm (released state.report.state state.report)
+step-farm steps s state (Take apid) farm has = farm
+step-farm steps s state (TakeUnit map_id) farm has = farm
+
+run_from-farm : StepsLeaveFarms → (s : Settings) (state : ChannelState) (es : List Event) → IsFarm (farm_at s state) → AreSteps s state es → IsFarm (farm_at s (run_from s state es))
+run_from-farm steps s state [] farm are = farm
+run_from-farm steps s state (e ∷ es) farm are = run_from-farm steps s (step s state e) es (step-farm steps s state e farm are.0) are.1
+
+pub run-farm : StepsLeaveFarms → (s : Settings) (journal : List Event) → IsAllowed s → IsLawful s journal → IsFarm (farm_at s (run s journal))
+unfolding run IsLawful
+run-farm steps s journal allowed lawful = run_from-farm steps s (first_state s) journal (record { width = allowed.width; farm_b = omega arith; flags = refl }) lawful
+
+abbrev started : ℕ → ℕ → Machine
+started width first = record { width = width; report = first_report first }
+
+begun : (w : Bool) (width first : ℕ) (farm : Machine) → (if w then Ok (started width first) else Err BadWidth) ≡ Ok farm → (w ≡ true) × (farm ≡ started width first)
+begun false width first farm e = absurd cc
+begun true width first farm e = (refl, cc)
+
+pub starts-farm : (width first : ℕ) (farm : Machine) → first_farm width first ≡ Ok farm → IsFarm farm
+starts-farm width first farm e =
+    let b = begun (is_width width) width first farm e in
+    rw b.1 (record { width = wide width b.0; farm_b = omega arith; flags = refl })

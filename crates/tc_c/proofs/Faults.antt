@@ -1,0 +1,81 @@
+-- Each fault has a status of its own: from its status the fault is found again.
+use Rattle.std.proofs.Common.{◌≡◌, Option, Some, None, refl, sym, ap, ◌∙◌}
+use Rattle.tc_c.specs.declared.status.Status.{Status}
+use Rattle.tc_c.specs.declared.status.Status.TheVariants as st
+use Rattle.tc_c.specs.Status.{frame_status, write_status, settings_status}
+use Rattle.tc_link.specs.declared.frame.FrameFault.{FrameFault}
+use Rattle.tc_link.specs.declared.frame.FrameFault.TheVariants as frames
+use Rattle.tc_link.specs.declared.writing.WriteFault.{WriteFault}
+use Rattle.tc_link.specs.declared.writing.WriteFault.TheVariants as writing
+use Rattle.tc_channel.specs.declared.settings.SettingsFault.{SettingsFault}
+use Rattle.tc_channel.specs.declared.settings.SettingsFault.TheVariants as settings
+
+abbrev frame_of : Status → Option FrameFault
+frame_of st.Short = Some frames.Short
+frame_of st.Version = Some frames.Version
+frame_of st.Spare = Some frames.Spare
+frame_of st.LengthSmall = Some frames.LengthSmall
+frame_of st.Truncated = Some frames.Truncated
+frame_of _ = None
+
+frame-found : (fault : FrameFault) → frame_of (frame_status fault) ≡ Some fault
+frame-found frames.Short = refl
+frame-found frames.Version = refl
+frame-found frames.Spare = refl
+frame-found frames.LengthSmall = refl
+frame-found frames.Truncated = refl
+
+pub frame-apart : (one other : FrameFault) → frame_status one ≡ frame_status other → one ≡ other
+frame-apart one other e =
+    let same : Some one ≡ Some other = sym (frame-found one) ∙ (ap frame_of e ∙ frame-found other) in
+    cc
+
+abbrev write_of : Status → Option WriteFault
+write_of st.BadField = Some writing.BadField
+write_of st.EmptyData = Some writing.EmptyData
+write_of st.TooLong = Some writing.TooLong
+write_of st.NoMemory = Some writing.NoMemory
+write_of _ = None
+
+write-found : (fault : WriteFault) → write_of (write_status fault) ≡ Some fault
+write-found writing.BadField = refl
+write-found writing.EmptyData = refl
+write-found writing.TooLong = refl
+write-found writing.NoMemory = refl
+
+pub write-apart : (one other : WriteFault) → write_status one ≡ write_status other → one ≡ other
+write-apart one other e =
+    let same : Some one ≡ Some other = sym (write-found one) ∙ (ap write_of e ∙ write-found other) in
+    cc
+
+abbrev settings_of : Status → Option SettingsFault
+settings_of st.BadVcid = Some settings.BadVcid
+settings_of st.BadWidth = Some settings.BadWindow
+settings_of st.BadBuffer = Some settings.BadBuffer
+settings_of st.BadApid = Some settings.BadApid
+settings_of st.DoubleApid = Some settings.DoubleApid
+settings_of st.BadCapacity = Some settings.BadCapacity
+settings_of st.BadMap = Some settings.BadMap
+settings_of st.DoubleMap = Some settings.DoubleMap
+settings_of st.BadUnits = Some settings.BadUnits
+settings_of st.PlainMap = Some settings.PlainMap
+settings_of st.NoMemory = Some settings.NoMemory
+settings_of _ = None
+
+settings-found : (fault : SettingsFault) → settings_of (settings_status fault) ≡ Some fault
+settings-found settings.BadVcid = refl
+settings-found settings.BadWindow = refl
+settings-found settings.BadBuffer = refl
+settings-found settings.BadApid = refl
+settings-found settings.DoubleApid = refl
+settings-found settings.BadCapacity = refl
+settings-found settings.BadMap = refl
+settings-found settings.DoubleMap = refl
+settings-found settings.BadUnits = refl
+settings-found settings.PlainMap = refl
+settings-found settings.NoMemory = refl
+
+pub settings-apart : (one other : SettingsFault) → settings_status one ≡ settings_status other → one ≡ other
+settings-apart one other e =
+    let same : Some one ≡ Some other = sym (settings-found one) ∙ (ap settings_of e ∙ settings-found other) in
+    cc

@@ -1,0 +1,11 @@
+use Rattle.tc_c.proofs.Faults.{frame-apart, write-apart, settings-apart}
+use Rattle.tc_c.proofs.laws.each_fault_has_a_status_of_its_own.Goals as goal
+
+pub returns-clause-frames : goal.returns-clause-frames
+returns-clause-frames c = frame-apart
+
+pub returns-clause-writing : goal.returns-clause-writing
+returns-clause-writing c = write-apart
+
+pub returns-clause-settings : goal.returns-clause-settings
+returns-clause-settings c = settings-apart
