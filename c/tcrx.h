@@ -4,8 +4,9 @@
  *
  * FARM-1, the frame acceptance and reporting mechanism (CCSDS 232.1-B); the CLCW, the communications link control word, and
  * transfer frames (CCSDS 232.0-B); the primary header of space packets (CCSDS 133.0-B); and a whole virtual channel of a
- * receiver, with its buffer, its reassembly and its queues. The library is libtc_c.a. Its functions are proved. Apart from them
- * it needs memmove, memset, and the three functions of tcrx_memory.c or tcrx_pool.c.
+ * receiver, with its buffer, its reassembly and its queues. The library is libtcrx.a, or libtcrx.so with the memory of
+ * tcrx_memory.c. Its functions are proved. Apart from them the static one needs memmove, memset, and the three functions of
+ * tcrx_memory.c or tcrx_pool.c.
  *
  * @par Answers
  * Each call answers with a record whose first field is a status: #TCRX_DONE, or the first reason why the call is refused, in
@@ -18,10 +19,10 @@
  * the call is given. Where a pointer is null the status is #TCRX_NULL, and every other number of the answer is 0.
  *
  * @par Threads
- * The library keeps nothing of its own between calls, and only the calls with a channel, or with the settings of one, allocate
- * memory. The other calls may be made from any number of threads, interrupt handlers and signal handlers at the same time, as
- * long as none of them writes octets that another one reads or writes. The calls of a channel may be made from any thread, but
- * not from an interrupt or signal handler. A channel is given to one call at a time: threads that share one need a lock.
+ * The library keeps nothing of its own between calls, and only the calls with a channel allocate memory. The other calls may be
+ * made from any number of threads, interrupt handlers and signal handlers at the same time, as long as none of them writes octets
+ * that another one reads or writes. The calls of a channel may be made from any thread, but not from an interrupt or signal
+ * handler. A channel is given to one call at a time: threads that share one need a lock.
  *
  * @par Memory
  * A channel takes its memory by rattle_alloc, rattle_realloc and rattle_dealloc. tcrx_memory.c defines them over malloc, realloc
@@ -34,6 +35,11 @@
  * Type-BD frame opened keeps its memory until a first, an unsegmented or a last segment comes for the same MAP. Once open runs
  * have taken all memory each release is answered #TCRX_NO_MEMORY, after an Unlock as well. An unsegmented Type-BD frame with one
  * octet of data on each MAP ends it: it needs no memory and drops the open run.
+ *
+ * @par The library as portable C
+ * Where TCRX_MODULE is defined this header is that of the portable C that tools/portable writes for other processors. There the
+ * calls without a channel share one memory. They may not be made at the same time, nor from interrupt and signal handlers, unless
+ * a lock is given as its README says. tcrx_read_packet() and tcrx_memory_bound() can be refused by #TCRX_NO_MEMORY there.
  *
  * @par Names that end in _at
  * These are the functions that the library exports, for callers in other languages. Each is the call without _at, but must
@@ -90,7 +96,7 @@ enum {
     TCRX_BAD_FIELD = 10,  /**< No frame is written: the spacecraft id is over 1,023 or the virtual channel id over 63. */
     TCRX_EMPTY_DATA = 11, /**< No frame is written: the data field is empty. */
     TCRX_TOO_LONG = 12,   /**< No frame is written: the data field has more than 1,019 octets. */
-    TCRX_NO_MEMORY = 13,  /**< Out of memory: only calls with a channel, or with the settings of one, ask for any. */
+    TCRX_NO_MEMORY = 13,  /**< Out of memory: only calls with a channel ask for any. */
 
     TCRX_BAD_WIDTH = 20,      /**< The width of the window isn't even and 2 to 254. */
     TCRX_BAD_STATE = 21,      /**< The state isn't 1 to 3. */
@@ -549,8 +555,8 @@ static inline tcrx_packet tcrx_read_packet(const uint8_t *octets, size_t count) 
  * @param queue_count how many there are
  * @param maps        the chosen MAPs; null where there are none
  * @param map_count   how many there are
- * @return the count. Refused as by tcrx_channel_new(), by #TCRX_NO_MEMORY as well, since the call copies the lists while it looks
- * at them; but never by #TCRX_IN_USE.
+ * @return the count. Refused by #TCRX_NULL, then as by tcrx_channel_new() by #TCRX_BAD_FLAG and the first fault of the settings. It
+ * asks for no memory.
  */
 static inline tcrx_count tcrx_memory_bound(tcrx_settings settings, const tcrx_queue *queues, size_t queue_count,
                                            const tcrx_map *maps, size_t map_count) {
@@ -575,8 +581,7 @@ static inline tcrx_count tcrx_memory_bound(tcrx_settings settings, const tcrx_qu
  * @param map_count   how many there are
  * @return #TCRX_DONE. Refused by #TCRX_NULL, #TCRX_IN_USE, #TCRX_BAD_FLAG of `segmented`; then by the first fault of the settings
  * in this order: #TCRX_BAD_VCID, #TCRX_BAD_WIDTH, #TCRX_BAD_BUFFER, #TCRX_BAD_APID, #TCRX_DOUBLE_APID, #TCRX_BAD_CAPACITY,
- * #TCRX_BAD_MAP, #TCRX_DOUBLE_MAP, #TCRX_BAD_UNITS, #TCRX_PLAIN_MAP. Refused by #TCRX_NO_MEMORY where memory runs out, which may
- * come before a fault of the settings is found.
+ * #TCRX_BAD_MAP, #TCRX_DOUBLE_MAP, #TCRX_BAD_UNITS, #TCRX_PLAIN_MAP; and last by #TCRX_NO_MEMORY.
  */
 static inline tcrx_status tcrx_channel_new(tcrx_channel *channel, tcrx_settings settings, const tcrx_queue *queues,
                                            size_t queue_count, const tcrx_map *maps, size_t map_count) {
@@ -599,8 +604,8 @@ static inline tcrx_status tcrx_channel_new(tcrx_channel *channel, tcrx_settings 
  * @param channel the channel
  * @param octets  the octets
  * @param count   how many there are
- * @return the event, and what became of the unit. Refused by #TCRX_NULL, #TCRX_NO_CHANNEL, #TCRX_SHORT to #TCRX_TRUNCATED,
- * #TCRX_NO_MEMORY.
+ * @return the event, and what became of the unit. Refused by #TCRX_NULL, #TCRX_NO_CHANNEL, #TCRX_SHORT to #TCRX_TRUNCATED; a
+ * Type-BD frame also by #TCRX_NO_MEMORY, and no other one.
  */
 static inline tcrx_reply tcrx_channel_frame(tcrx_channel *channel, const uint8_t *octets, size_t count) {
     if (channel == NULL || octets == NULL) {
@@ -633,8 +638,8 @@ static inline tcrx_delivery tcrx_channel_release(tcrx_channel *channel) {
  * @param apid    the APID of the queue
  * @param octets  the buffer
  * @param room    the octets of the buffer
- * @return the length of the packet. Refused by #TCRX_NULL, #TCRX_NO_CHANNEL, #TCRX_NO_QUEUE, #TCRX_EMPTY, #TCRX_NO_ROOM,
- * #TCRX_NO_MEMORY.
+ * @return the length of the packet. Refused by #TCRX_NULL, #TCRX_NO_CHANNEL, #TCRX_NO_QUEUE, #TCRX_EMPTY, #TCRX_NO_ROOM, and by
+ * nothing else: it asks for no memory.
  */
 static inline tcrx_written tcrx_channel_take(tcrx_channel *channel, uint16_t apid, uint8_t *octets, size_t room) {
     if (channel == NULL || octets == NULL) {
@@ -651,8 +656,8 @@ static inline tcrx_written tcrx_channel_take(tcrx_channel *channel, uint16_t api
  * @param map     the MAP
  * @param octets  the buffer
  * @param room    the octets of the buffer
- * @return the length of the unit. Refused by #TCRX_NULL, #TCRX_NO_CHANNEL, #TCRX_NO_MAP, #TCRX_EMPTY, #TCRX_NO_ROOM,
- * #TCRX_NO_MEMORY.
+ * @return the length of the unit. Refused by #TCRX_NULL, #TCRX_NO_CHANNEL, #TCRX_NO_MAP, #TCRX_EMPTY, #TCRX_NO_ROOM, and by
+ * nothing else: it asks for no memory.
  */
 static inline tcrx_written tcrx_channel_take_unit(tcrx_channel *channel, uint8_t map, uint8_t *octets, size_t room) {
     if (channel == NULL || octets == NULL) {

@@ -1,5 +1,5 @@
 /*
- * The memory of channels in a static array, for programs without malloc: link it with libtc_c.a in place of tcrx_memory.c. Each
+ * The memory of channels in a static array, for programs without malloc: link it with libtcrx.a in place of tcrx_memory.c. Each
  * call takes a bounded number of steps, apart from the octets that rattle_realloc copies.
  *
  * The array is cut into slots of the sizes that a channel asks for, as they are asked for, and a slot that is given back is used

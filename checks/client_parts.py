@@ -1,62 +1,72 @@
 """What the checks of the client in Python share: comparisons and their count, octets by the standard's layout, and programs that are
 started beside the test."""
+from __future__ import annotations
+
 import signal
 import subprocess
 import sys
+from collections import Counter
+from collections.abc import Sequence
 from pathlib import Path
+from typing import Any, Callable, NoReturn
 
 sys.dont_write_bytecode = True
 TOP = Path(__file__).resolve().parent.parent
 CLIENT = TOP / "clients/python/tcrx.py"
 sys.path.insert(0, str(CLIENT.parent))
+# pylint: disable-next=wrong-import-position  # it is found by the path above
 from tcrx import Clcw, Delivery  # noqa: E402
 
 # Seconds after which something that doesn't end counts as failed: one wait, and one check as a whole.
 PATIENCE, LONGEST = 60, 900
 NOTHING = Delivery(0, 0, False)
-passed = failed = 0
-begun = []
+counted: Counter[bool] = Counter()
+begun: list[subprocess.Popen[Any]] = []
+# Starts a receiver, whose answers are compared as they are, of whatever type.
+Start = Callable[..., Any]
 
 
-def tell(good, what):
+def tell(good: object, what: str) -> None:
     """Counts a comparison, and names it where it failed."""
-    global passed, failed
-    passed, failed = passed + bool(good), failed + (not good)
+    counted[bool(good)] += 1
     if not good:
         print(f"client: {what}")
 
 
-def same(answer, wanted, what):
+def same(answer: object, wanted: object, what: str) -> None:
+    """Compares an answer and its type with what is wanted."""
     tell(answer == wanted and type(answer) is type(wanted), f"{what}: {answer!r}, and not {wanted!r}")
 
 
-def raises(kind, call, what):
+def raises(kind: type[BaseException], call: Callable[..., object], what: str) -> Any:
     """The exception of a call, which must be of this kind and no other."""
     try:
         answer = call()
-    except Exception as fault:
+    except Exception as fault:  # pylint: disable=broad-exception-caught  # whichever comes is compared
+        # pylint: disable-next=unidiomatic-typecheck  # a kind below it is another word
         tell(type(fault) is kind, f"{what}: {fault!r}, and not {kind.__name__}")
         return fault
     tell(False, f"{what}: {answer!r}, and no {kind.__name__}")
     return None
 
 
-def begin(words, **streams):
+def begin(words: Sequence[str | Path], **streams: Any) -> subprocess.Popen[Any]:
     """A program beside the test, which is killed where its check leaves it behind."""
-    begun.append(subprocess.Popen(words, **streams))
+    begun.append(subprocess.Popen(words, **streams))  # pylint: disable=consider-using-with  # it ends in attempt()
     return begun[-1]
 
 
 # --- Octets by the standard's layout (docs/reference/formats.md) ---
 
-def frame(number, data, channel=1, bypass=0, command=0, scid=42, fecf=False):
+# pylint: disable-next=too-many-arguments  # the fields of a frame
+def frame(number: int, data: bytes, channel: int = 1, bypass: int = 0, command: int = 0, scid: int = 42, fecf: bool = False) -> bytes:
     """A frame: flags and spacecraft, channel and length, number, data field, and the field of its sum, bit by bit."""
     length = 5 + len(data) + 2 * fecf - 1
     octets = (bypass << 13 | command << 12 | scid).to_bytes(2, "big") + (channel << 10 | length).to_bytes(2, "big") + bytes([number]) + data
     return octets + sum_of(octets) if fecf else octets
 
 
-def sum_of(octets):
+def sum_of(octets: bytes) -> bytes:
     """The frame error control field (CCSDS 232.0-B, 4.1.4)."""
     register = 0xFFFF
     for octet in octets:
@@ -66,11 +76,12 @@ def sum_of(octets):
     return register.to_bytes(2, "big")
 
 
-def packet(apid, *data):
+def packet(apid: int, *data: int) -> bytes:
+    """A telecommand packet of an application with these octets of data."""
     return (0x1000 | apid).to_bytes(2, "big") + b"\xc0\x00" + (len(data) - 1).to_bytes(2, "big") + bytes(data)
 
 
-def whole(map_id, data):
+def whole(map_id: int, data: bytes) -> bytes:
     """An unsegmented data field."""
     return bytes([0xC0 | map_id]) + data
 
@@ -79,7 +90,7 @@ UNLOCK, SET_VR_9 = frame(0, b"\x00", bypass=1, command=1), frame(0, b"\x82\x00\x
 ONE = packet(5, 0xAA)
 
 
-def word(channel, flags, farm_b, report):
+def word(channel: int, flags: int, farm_b: int, report: int) -> Clcw:
     """A CLCW: COP-1, channel, flags (No RF 16, No Bit Lock 8, Lockout 4, Wait 2, Retransmit 1), FARM-B and V(R)."""
     return Clcw(0x01000000 | channel << 18 | flags << 11 | farm_b << 9 | report)
 
@@ -90,16 +101,17 @@ class Stuck(BaseException):
     """A check doesn't end. It is no `Exception`, so that nothing else takes it for an answer."""
 
 
-def give_up(*_):
+def give_up(*_: object) -> None:
+    """Ends a check that lasts too long."""
     raise Stuck
 
 
-def attempt(check, *given):
+def attempt(check: Callable[..., None], *given: object) -> None:
     """Does a check, and counts as failed what ends it early."""
     signal.setitimer(signal.ITIMER_REAL, LONGEST, PATIENCE)
     try:
         check(*given)
-    except (Exception, Stuck) as fault:
+    except (Exception, Stuck) as fault:  # pylint: disable=broad-exception-caught  # whichever it is, it counts
         tell(False, f"{check.__name__} ended with {fault!r}")
     finally:
         signal.setitimer(signal.ITIMER_REAL, 0)
@@ -110,7 +122,7 @@ def attempt(check, *given):
         begun.clear()
 
 
-def close(told=""):
+def close(told: str = "") -> NoReturn:
     """Prints the closing line, and ends with the status."""
-    print(f"{passed} comparisons of the client passed, {failed} failed{told}")
-    sys.exit(1 if failed or not passed else 0)
+    print(f"{counted[True]} comparisons of the client passed, {counted[False]} failed{told}")
+    sys.exit(1 if counted[False] or not counted[True] else 0)

@@ -8,7 +8,7 @@ import subprocess
 def said(*words: str) -> str:
     """What a command prints, and nothing where it isn't there or fails."""
     try:
-        ran = subprocess.run(words, capture_output=True, text=True, stdin=subprocess.DEVNULL)
+        ran = subprocess.run(words, capture_output=True, text=True, stdin=subprocess.DEVNULL, check=False)
     except OSError:
         return ""
     return ran.stdout.strip() if ran.returncode == 0 else ""

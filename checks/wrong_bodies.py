@@ -96,8 +96,9 @@ class Function:
             return "/".join(["proofs", *self.modules[0], name])
         found = OF_ANY_TYPE.match(self.block)
         given = set(re.findall(r"\w+", found[1] or "")) if found else set()
-        is_any = found and set(re.findall(r"\w+", found[3] or "")) <= given
-        return "/".join(["proofs", *self.modules[-1], found[2], name]) if is_any else None
+        if found and set(re.findall(r"\w+", found[3] or "")) <= given:
+            return "/".join(["proofs", *self.modules[-1], found[2], name])
+        return None
 
     def is_answered_in(self, folder: str) -> bool:
         """Whether what stands in this folder of proofs are answers of the function."""
@@ -124,6 +125,12 @@ class Edit:
     function: Function | None = None
     turned: str = ""
     kind: str = "wrong"
+
+    @property
+    def changed(self) -> Function:
+        """The function whose body is all that it changes. To be asked of such an edit."""
+        assert self.function, f"{self.name} changes more than a body"
+        return self.function
 
     def right(self) -> "Edit":
         """What leaves each text as it is."""
@@ -269,7 +276,8 @@ class Crate:
             calls[it.name] |= {one or other for one, other in CALL.findall("\n".join(lines))} & names
         reached = {}
         for name in names:
-            found, left = set(), [name]
+            found: set[str] = set()
+            left = [name]
             while left:
                 more = calls[left.pop()] - found
                 found |= more
@@ -374,7 +382,7 @@ class Crate:
     def lets_call_itself(self, edit: Edit) -> bool:
         """Whether the edit lets its function call itself. That wants a measure, and a check of it beside others may end before it
         has judged these."""
-        right = edit.function
+        right = edit.changed
         own = rf"\b(?:self\.|Self::){right.name}\(" if right.block else rf"(?<![\w.:]){right.name}\("
         texts = self.texts[right.file], self.edited([edit], {})[right.file]
         right_body, wrong_body = ("\n".join(it.split("\n")[right.body : right.last]) for it in texts)
@@ -388,28 +396,29 @@ class Crate:
 
     def beside(self, edits: list[Edit]) -> Trial:
         """The body that each edit makes beside the right one, with the right one's contract and answers."""
-        trial, added = self.given([]), {}
+        trial = self.given([])
+        added: dict[str, list[tuple[int, str, Edit, str]]] = {}
         for number, edit in enumerate(edits):
-            right = edit.function
+            right = edit.changed
             name = f"{right.name}_{edit.kind}_{number}"
             wrong = self.edited([edit], {})[right.file].split("\n")[right.first : right.last + 1]
             wrong[: right.body - right.first] = self.head_of(edit)
-            wrong = re.sub(rf"\bfn {right.name}\b", f"fn {name}", "\n".join(wrong), count=1)
-            added.setdefault(right.file, []).append((right.last, wrong, edit, name))
+            text = re.sub(rf"\bfn {right.name}\b", f"fn {name}", "\n".join(wrong), count=1)
+            added.setdefault(right.file, []).append((right.last, text, edit, name))
             trial.files |= self.answers_of(edit, name)
         for file, wrongs in added.items():
             lines = trial.files.get(file, self.texts[file]).split("\n")
-            for last, wrong, _, _ in sorted(wrongs, key=lambda it: it[0], reverse=True):
-                lines[last + 1 : last + 1] = ["", *wrong.split("\n")]
+            for last, text, _, _ in sorted(wrongs, key=lambda it: it[0], reverse=True):
+                lines[last + 1 : last + 1] = ["", *text.split("\n")]
             trial.files[file] = "\n".join(lines)
             found = {it.name: it for it in functions_of(file, trial.files[file])}
-            trial.functions += [(edit, replace(found[name], home=edit.function.home)) for _, _, edit, name in wrongs]
+            trial.functions += [(edit, replace(found[name], home=edit.changed.home)) for _, _, edit, name in wrongs]
         return trial
 
     def tries_one_clause(self, edit: Edit) -> bool:
         """Whether the clause that the edit turns is tried without the others: they are no facts on which a goal of the function
         rests, since it doesn't call itself, its loops have invariants of their own, and no answer is for several clauses."""
-        right = edit.function
+        right = edit.changed
         lines = self.edited([edit], {})[right.file].split("\n")[right.first : right.last]
         at = right.body - right.first
         is_one_of_more = sum(it.strip().startswith("ensures") for it in lines[:at]) > 1
@@ -424,15 +433,17 @@ class Crate:
     def answers_of(self, edit: Edit, name: str) -> dict[str, str]:
         """The right function's files of answers for the wrong one, by their paths. One to a goal that no function has comes with
         them: where an answer isn't right, the check doesn't try each goal again in order to print what is left to show."""
-        right, made = edit.function, {}
+        right = edit.changed
+        made: dict[str, str] = {}
         for path, text in self.texts.items():
             if (place := right.answers.match(path)) and not place[2]:
                 module = f"Rattle.{self.name}.{place[1].replace('/', '.')}"
                 text = text.replace(f"{module}{right.name}.", f"{module}{name}.")
                 made[f"{place[1]}{name}{path[place.end() - 1 :]}"] = text
-        folders = {path.rpartition("/")[0] for path in made} or {right.folder_of(name)} - {None}
-        if len(folders) == 1:
-            path = f"{folders.pop()}/Answers.antt"
+        folders = {path.rpartition("/")[0] for path in made}
+        own = None if folders else right.folder_of(name)
+        if len(folders) == 1 or own:
+            path = f"{own or folders.pop()}/Answers.antt"
             text = made.get(path, "")
             made[path] = (of_one_clause(text, edit.turned) if self.tries_one_clause(edit) else text) + NO_GOAL_TEXT
         return made
@@ -440,7 +451,7 @@ class Crate:
     def head_of(self, edit: Edit) -> list[str]:
         """The lines of the edited function before its body; of what it ensures just the clause that the edit turns, where that
         is tried without the others."""
-        right = edit.function
+        right = edit.changed
         lines = self.edited([edit], {})[right.file].split("\n")[right.first : right.body]
         if not self.tries_one_clause(edit):
             return lines

@@ -1,9 +1,12 @@
 """Sends packets over a bad link until each has come, by what CLCWs say. Usage: python3 examples/bench.py SEED [--fecf]"""
-import random, subprocess, sys
+import random
+import subprocess
+import sys
 from pathlib import Path
-from typing import Iterator, List, Optional
+from typing import Any, Callable, ContextManager, Iterator, List, Optional
 TOP = Path(__file__).resolve().parent.parent
 sys.path.insert(0, str(TOP / "clients/python"))
+# pylint: disable-next=wrong-import-position  # it is found by the path above
 from tcrx import Receiver
 
 def link(dice: random.Random, past: List[bytes], turning: bool) -> Iterator[bytes]:
@@ -12,7 +15,17 @@ def link(dice: random.Random, past: List[bytes], turning: bool) -> Iterator[byte
         turned = dice.randrange(1, 1 << 16) << dice.randrange(8 * len(octets) - 15) if turning and dice.random() < 0.2 else 0
         yield (int.from_bytes(octets, "big") ^ turned).to_bytes(len(octets), "big")
 
-def run(seed: int, fecf: bool, count: int = 300, tclive: Optional[Path] = None, tcmake: Path = TOP / "tcmake") -> str:
+def start(fecf: bool, tclive: Optional[Path]) -> Receiver:
+    """A receiver with a small buffer."""
+    receiver = Receiver(42, fecf=fecf, program=tclive)
+    receiver.channel(1, width=20, buffer=4, first=0)
+    receiver.queue(1, apid=5, capacity=4)
+    return receiver
+
+def run(seed: int, fecf: bool, count: int = 300, tclive: Optional[Path] = None, tcmake: Path = TOP / "tcmake",
+        begin: Callable[[bool, Optional[Path]], ContextManager[Any]] = start) -> str:
+    """Sends so many packets over what `begin` begins, and says how many frames it took."""
+    # pylint: disable=too-many-locals  # one loop, from the CLCW to the packets
     dice, acknowledged, sent = random.Random(seed), 0, 0
     past: List[bytes] = []
     came: List[str] = []
@@ -20,9 +33,7 @@ def run(seed: int, fecf: bool, count: int = 300, tclive: Optional[Path] = None, 
     lines = "".join(f"ad 42 1 {place % 256} 0 {packet}\n" for place, packet in enumerate(packets)) + "unlock 42 1\n"
     made = subprocess.run([tcmake] + ["--fecf"] * fecf, input=lines, stdout=subprocess.PIPE, text=True, check=True).stdout
     *frames, unlock = [bytes.fromhex(digits) for digits in made.split()[1::2]]
-    with Receiver(42, fecf=fecf, program=tclive) as receiver:
-        receiver.channel(1, width=20, buffer=4, first=0)
-        receiver.queue(1, apid=5, capacity=4)
+    with begin(fecf, tclive) as receiver:
         while len(came) < count:
             clcw = receiver.clcw(1)
             assert clcw  # channel 1 is there

@@ -9,7 +9,11 @@
             ...
     print(receiver.final[1].events)
 
-What the lines and answers mean is in docs/reference/scripts.md, how a receiver is put on a link in docs/howto/bench.md.
+What the lines and answers mean is in docs/reference/scripts.md, how a receiver is put on a link in docs/howto/bench.md. `Channel`
+is a virtual channel in this process, without a program; it is in tcrx_channel.py, which this file is whole without.
+
+What of the proofs reaches a caller: what is proved of `tclive` (README.md says what), whose answers are read here. Nothing of this
+file is proved.
 
 - What a receiver refuses is an answer, `Refused`, with the reason. It is false, and each other answer is true.
 - What leaves a call without an answer is an exception, a `Fault`. After a `BadLine` or `NotSetUp` the receiver goes on as it
@@ -40,13 +44,25 @@ from functools import partial
 from operator import index
 from pathlib import Path
 from types import TracebackType
-from typing import Callable, Dict, FrozenSet, Iterator, List, Literal, Match, NoReturn, Optional, Tuple, Type, TypeVar, Union
+from typing import (TYPE_CHECKING, Callable, Dict, FrozenSet, Iterator, List, Literal, Match, NoReturn, Optional, Tuple, Type, TypeVar,
+                    Union)
+
+if TYPE_CHECKING:
+    from tcrx_channel import Channel as Channel  # pylint: disable=useless-import-alias  # it is handed on
 
 # That of the programs, and of the newest heading of CHANGELOG.md.
 __version__ = "0.1.0"
 
 __all__ = ["BadLine", "Brought", "Clcw", "Delivery", "Ended", "Event", "Fault", "Final", "NotSetUp", "NotStarted", "Outcome", "Packet",
            "Receiver", "Refusal", "Refused", "Released", "Report", "State", "TimedOut", "Unexpected", "Unit"]
+
+if not TYPE_CHECKING:
+    def __getattr__(name: str) -> object:
+        """`Channel`, which is read from its own file where it is asked for."""
+        if name == "Channel":
+            from tcrx_channel import Channel  # pylint: disable=import-outside-toplevel  # this file is whole without it
+            return Channel
+        raise AttributeError(f"module {__name__!r} has no attribute {name!r}")
 
 PROBE, PROBE_ANSWER = "?", "bad unknown command"
 # Octets after which an answer, a final report and the end of standard error aren't read on. The longest answer is a unit of 65,542
@@ -132,7 +148,7 @@ class Refused:
         return False
 
 
-class Answered:
+class Answered:  # pylint: disable=too-few-public-methods  # it gives its truth to what has more
     """An answer that is no refusal. It is true where a truth is asked for."""
 
     def __bool__(self) -> Literal[True]:
@@ -415,6 +431,7 @@ class Process(Link):
                 self.errors = opened.enter_context(tempfile.TemporaryFile())
                 (writer, its_input), (reader, its_output) = socket_pair(opened), socket_pair(opened)
                 # In a session of its own, so that Ctrl-C ends this program alone.
+                # pylint: disable-next=consider-using-with  # it is ended in `end`
                 self.child = subprocess.Popen(words, stdin=its_input.fileno(), stdout=its_output.fileno(), stderr=self.errors,
                                               start_new_session=True)
             except (OSError, ValueError) as error:
@@ -515,6 +532,9 @@ def check_timeout(timeout: Optional[float]) -> None:
 class Receiver:
     """A receiver of one spacecraft."""
 
+    # pylint: disable=attribute-defined-outside-init  # both ways to a receiver begin by `_begin`, which has them all
+    # pylint: disable=redefined-builtin  # MAP is the standard's word
+
     def __init__(self, scid: int, *, fecf: bool = False, program: Union[str, "os.PathLike[str]", None] = None,
                  timeout: Optional[float] = None) -> None:
         """Starts `tclive` for the spacecraft with the id `scid` (0 to 1,023). With `fecf` each frame must carry the frame error
@@ -544,8 +564,8 @@ class Receiver:
         self._over: Optional[Callable[[], Fault]] = None
         self._channels: List[int] = []
         self._until: Optional[float] = None
+        # How many seconds each call has, or `None` for no limit. It may be changed between calls.
         self.timeout = timeout
-        """How many seconds each call has, or `None` for no limit. It may be changed between calls."""
         self._ask(PROBE, [PROBE_ANSWER].index)
 
     # --- Lines and answers ---
