@@ -12,6 +12,8 @@ import time
 from pathlib import Path
 from typing import Any, Dict, List, Optional
 
+import packages
+
 # Seconds for an answer of the browser, and for its start.
 PATIENCE = 60
 
@@ -22,12 +24,7 @@ class NoBrowser(Exception):
 
 def find() -> Optional[str]:
     """The command of Chromium; it is installed from Debian's package first, where that may be done."""
-    if not shutil.which("chromium") and os.geteuid() == 0 and shutil.which("apt-get"):
-        environment = {**os.environ, "DEBIAN_FRONTEND": "noninteractive"}
-        for words in (["update"], ["install", "-y", "--no-install-recommends", "chromium", "fonts-dejavu-core"]):
-            subprocess.run(["apt-get", "-q", *words], stdin=subprocess.DEVNULL, stdout=subprocess.DEVNULL, stderr=subprocess.DEVNULL, env=environment,
-                           check=False)
-    return shutil.which("chromium")
+    return shutil.which("chromium") if packages.has("chromium", "chromium", "fonts-dejavu-core") else None
 
 
 class Browser:
