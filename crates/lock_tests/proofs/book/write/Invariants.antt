@@ -1,0 +1,5 @@
+use Rattle.lock_tests.proofs.book.write.Given as goal
+
+-- the number that is written is the one of the call
+abbrev pub ghosts-write_with : goal.ghosts-write_with
+ghosts-write_with g a = record { number = a.number }

@@ -1,0 +1,24 @@
+-- A book of numbers, as its lock sees it.
+use Rattle.std.specs.Prelude.{◌≡◌, ⊤, ℕ}
+use Rattle.atomic_table.specs.Seated.{TableId}
+use Rattle.atomic_table.specs.declared.shared.Seat.{Seat}
+use Rattle.logged_lock.specs.declared.views.Log.{Log}
+use Rattle.logged_lock.specs.declared.views.View.{View}
+use Rattle.logged_lock.specs.Rule.{IsIdle}
+use Rattle.lock_tests.specs.declared.book.Title.{Title}
+use Rattle.lock_tests.specs.declared.book.Book.{Book}
+
+-- a title that is put where none is meant
+abbrev pub untitled : Title
+untitled = record { number = 0 }
+
+-- its title, and the numbers so far
+abbrev pub log_of : Book → Log Title ℕ
+log_of b = record { head = record { number = b.title }; entries = b.numbers.items }
+
+abbrev pub IsAny : Book → Type 0
+IsAny b = ⊤
+
+-- a seat at this lock, which doesn't have it
+abbrev pub IsAtRest : TableId → Seat Book (View Title ℕ) → Type 0
+IsAtRest lock seat = (seat.table_id ≡ lock) × IsIdle seat.me

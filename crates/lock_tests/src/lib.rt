@@ -1,0 +1,8 @@
+//! Tests of the lock that remembers, over a book of numbers that several threads write.
+#![tactic(auto)]
+
+mod book;
+#[cfg(test)]
+mod tests;
+
+pub use book::{Book, BookLock, BookSeat, Number, Title, Writes, write};

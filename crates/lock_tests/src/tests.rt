@@ -1,0 +1,30 @@
+mod alone;
+mod growth;
+mod six_threads;
+mod waiting;
+
+ghost use Rattle.std.specs.Prelude.{◌≡◌, IfOk};
+ghost use Rattle.lock_tests.specs.Book.{IsAtRest};
+
+use super::*;
+use std::alloc::{AllocError, Global};
+use std::process::Abort;
+
+// A lock over a book in which nothing is written yet, and its first seat.
+fn try_new(alloc: Global) -> Result<(BookLock, BookSeat), AllocError>
+    ensures rest { IfOk result (λ made. IsAtRest made.0 made.1) }
+    ensures first { IfOk result (λ made. made.1.id ≡ 0) }
+{
+    let book = Book {
+        title: 7,
+        numbers: Vec::new(alloc),
+    };
+    BookLock::new(alloc, book, &Title { number: 7 })
+}
+
+fn new_lock(rt: &impl Abort, alloc: Global) -> (BookLock, BookSeat)
+    ensures rest { IsAtRest result.0 result.1 }
+    ensures first { result.1.id ≡ 0 }
+{
+    try_new(alloc).expect(rt, "a lock")
+}

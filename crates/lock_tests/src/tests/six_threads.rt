@@ -1,0 +1,206 @@
+//! Six threads write 10,000 numbers each into one book.
+//!
+//! All of them end, and the book has each number once, and each thread's numbers in their order.
+
+ghost use Rattle.std.specs.Prelude.{◌≡◌, true};
+ghost use Rattle.std.specs.Thread.{IsSync};
+ghost use Rattle.lock_tests.specs.Book.{IsAtRest};
+
+use super::*;
+use std::sync::Wait;
+use std::thread::{Threads, join_mut};
+
+const TURNS: u32 = 10_000;
+
+// Who writes the numbers from its first one on.
+#[derive(Drop)]
+struct Writer {
+    seat: BookSeat,
+    first: u32,
+}
+
+impl Writer {
+    fn new(lock: &BookLock, first: &mut BookSeat, number: u32) -> Writer
+        requires { IsAtRest lock.now first.old }
+        ensures first { IsAtRest lock.now first.new × (first.new.id ≡ first.old.id) }
+        ensures rest { IsAtRest lock.now result.seat }
+    {
+        Writer {
+            seat: lock.issue(first),
+            first: number,
+        }
+    }
+
+    // Writes its numbers in rising order, one a turn. Says whether none was refused.
+    fn work<R: Wait>(&mut self, rt: &R, lock: &BookLock) -> bool
+        requires { IsAtRest lock.now self.old.seat }
+        ensures { IsAtRest lock.now self.new.seat }
+    {
+        let mut done = true;
+        for turn in 0..TURNS {
+            let number = self.first.saturating_add(turn);
+            done = write(rt, lock, &mut self.seat, number) && done;
+        }
+        done
+    }
+}
+
+#[derive(Drop)]
+struct Pair {
+    one: Writer,
+    two: Writer,
+}
+
+impl Pair {
+    // Two writers, who write the numbers from this one on.
+    fn new(lock: &BookLock, first: &mut BookSeat, number: u32) -> Pair
+        requires { IsAtRest lock.now first.old }
+        ensures first { IsAtRest lock.now first.new × (first.new.id ≡ first.old.id) }
+        ensures one { IsAtRest lock.now result.one.seat }
+        ensures two { IsAtRest lock.now result.two.seat }
+    {
+        let one = Writer::new(lock, first, number);
+        let two = Writer::new(lock, first, number.saturating_add(TURNS));
+        Pair { one, two }
+    }
+
+    // Both write, each in a thread of its own.
+    fn work<R: Threads + Wait + Sync>(&mut self, rt: &R, lock: &BookLock) -> bool
+        requires one { IsAtRest lock.now self.old.one.seat }
+        requires two { IsAtRest lock.now self.old.two.seat }
+        ensures one { IsAtRest lock.now self.new.one.seat }
+        ensures two { IsAtRest lock.now self.new.two.seat }
+    {
+        let one = &mut self.one;
+        let two = &mut self.two;
+        let mut first = || -> bool
+            requires { IsAtRest lock.now one.now.seat }
+            ensures { IsAtRest lock.entry.now one.exit.now.seat }
+        { one.work(rt, lock) };
+        let mut second = || -> bool
+            requires { IsAtRest lock.now two.now.seat }
+            ensures { IsAtRest lock.entry.now two.exit.now.seat }
+        { two.work(rt, lock) };
+        let (a, b) = join_mut(rt, &mut first, &mut second);
+        a && b
+    }
+}
+
+#[derive(Drop)]
+struct Six {
+    one: Pair,
+    two: Pair,
+    three: Pair,
+}
+
+impl Six {
+    // All six write, each in a thread of its own.
+    fn work<R: Threads + Wait + Sync>(&mut self, rt: &R, lock: &BookLock) -> bool
+        requires one { IsAtRest lock.now self.old.one.one.seat × IsAtRest lock.now self.old.one.two.seat }
+        requires two { IsAtRest lock.now self.old.two.one.seat × IsAtRest lock.now self.old.two.two.seat }
+        requires three { IsAtRest lock.now self.old.three.one.seat × IsAtRest lock.now self.old.three.two.seat }
+        ensures one { IsAtRest lock.now self.new.one.one.seat × IsAtRest lock.now self.new.one.two.seat }
+        ensures two { IsAtRest lock.now self.new.two.one.seat × IsAtRest lock.now self.new.two.two.seat }
+        ensures three { IsAtRest lock.now self.new.three.one.seat × IsAtRest lock.now self.new.three.two.seat }
+    {
+        let one = &mut self.one;
+        let two = &mut self.two;
+        let three = &mut self.three;
+        let mut first = || -> bool
+            requires { IsSync R.row × IsAtRest lock.now one.now.one.seat × IsAtRest lock.now one.now.two.seat }
+            ensures { IsAtRest lock.entry.now one.exit.now.one.seat × IsAtRest lock.entry.now one.exit.now.two.seat }
+        { one.work(rt, lock) };
+        let mut rest = || -> bool
+            requires { IsSync R.row × IsAtRest lock.now two.now.one.seat × IsAtRest lock.now two.now.two.seat × IsAtRest lock.now three.now.one.seat × IsAtRest lock.now three.now.two.seat }
+            ensures { IsAtRest lock.entry.now two.exit.now.one.seat × IsAtRest lock.entry.now two.exit.now.two.seat × IsAtRest lock.entry.now three.exit.now.one.seat × IsAtRest lock.entry.now three.exit.now.two.seat }
+        { work_by_four(rt, lock, two, three) };
+        let (a, b) = join_mut(rt, &mut first, &mut rest);
+        a && b
+    }
+}
+
+// Two pairs write.
+fn work_by_four<R: Threads + Wait + Sync>(
+    rt: &R,
+    lock: &BookLock,
+    one: &mut Pair,
+    two: &mut Pair,
+) -> bool
+    requires one { IsAtRest lock.now one.old.one.seat × IsAtRest lock.now one.old.two.seat }
+    requires two { IsAtRest lock.now two.old.one.seat × IsAtRest lock.now two.old.two.seat }
+    ensures one { IsAtRest lock.now one.new.one.seat × IsAtRest lock.now one.new.two.seat }
+    ensures two { IsAtRest lock.now two.new.one.seat × IsAtRest lock.now two.new.two.seat }
+{
+    let mut first = || -> bool
+        requires { IsSync R.row × IsAtRest lock.now one.now.one.seat × IsAtRest lock.now one.now.two.seat }
+        ensures { IsAtRest lock.entry.now one.exit.now.one.seat × IsAtRest lock.entry.now one.exit.now.two.seat }
+    { one.work(rt, lock) };
+    let mut second = || -> bool
+        requires { IsSync R.row × IsAtRest lock.now two.now.one.seat × IsAtRest lock.now two.now.two.seat }
+        ensures { IsAtRest lock.entry.now two.exit.now.one.seat × IsAtRest lock.entry.now two.exit.now.two.seat }
+    { two.work(rt, lock) };
+    let (a, b) = join_mut(rt, &mut first, &mut second);
+    a && b
+}
+
+// The first seat learns what both have seen and made.
+fn tell_of_both(lock: &BookLock, first: &mut BookSeat, pair: Pair)
+    requires first { (first.old.table_id ≡ lock.now) × (first.old.id ≡ 0) × (first.old.me.0.live ≡ true) }
+    requires one { IsAtRest lock.now pair.one.seat }
+    requires two { IsAtRest lock.now pair.two.seat }
+    ensures first { (first.new.table_id ≡ lock.now) × (first.new.id ≡ 0) × (first.new.me.0.live ≡ true) }
+    ensures same { (first.new.me.0.locks ≡ first.old.me.0.locks) × (first.new.me.1 ≡ first.old.me.1) }
+{
+    let Pair { one, two } = pair;
+    lock.tell(first, one.seat);
+    lock.tell(first, two.seat);
+}
+
+// The book of a lock that nobody else has: the first seat takes it, once it knows what the six have seen and made.
+fn close<R: Wait>(rt: &R, alloc: Global, lock: &BookLock, mut first: BookSeat, six: Six) -> Book
+    requires first { IsAtRest lock.now first × (first.id ≡ 0) }
+    requires one { IsAtRest lock.now six.one.one.seat × IsAtRest lock.now six.one.two.seat }
+    requires two { IsAtRest lock.now six.two.one.seat × IsAtRest lock.now six.two.two.seat }
+    requires three { IsAtRest lock.now six.three.one.seat × IsAtRest lock.now six.three.two.seat }
+{
+    lock.lock(rt, &mut first);
+    let Six { one, two, three } = six;
+    tell_of_both(lock, &mut first, one);
+    tell_of_both(lock, &mut first, two);
+    tell_of_both(lock, &mut first, three);
+    lock.settle(&mut first);
+    let blank = Book {
+        title: 0,
+        numbers: Vec::new(alloc),
+    };
+    lock.replace(&mut first, blank)
+}
+
+// Among all numbers those of the writer whose numbers begin with this one are all that it wrote, in their order.
+fn check_in_order(rt: &impl Abort, numbers: &[u32], first: u32) {
+    let end = first.saturating_add(TURNS);
+    let mut wanted = first..end;
+    for number in numbers {
+        if first <= *number && *number < end {
+            assert_eq!(rt; wanted.next(), Some(*number));
+        }
+    }
+    assert_eq!(rt; wanted.next(), None);
+}
+
+#[test]
+fn six_threads_write_their_numbers_in_order(rt: HostRuntime) {
+    let (lock, mut first) = new_lock(&rt, rt.alloc());
+    let mut six = Six {
+        one: Pair::new(&lock, &mut first, 0),
+        two: Pair::new(&lock, &mut first, 20_000),
+        three: Pair::new(&lock, &mut first, 40_000),
+    };
+    assert!(rt; six.work(&rt, &lock));
+    let book = close(&rt, rt.alloc(), &lock, first, six);
+    assert_eq!(rt; book.title, 7);
+    assert_eq!(rt; book.numbers.len(), 60_000);
+    for writer in 0..6u32 {
+        check_in_order(&rt, &book.numbers, writer * TURNS);
+    }
+}

@@ -1,0 +1,136 @@
+-- Where those that were told have made as many events as the journal has, it is a merge of what they made.
+use Rattle.std.proofs.Common.{◌≡◌, ◌≢◌, ℕ, zero, suc, ◌+◌, ◌/◌, ◌<◌, ◌≤◌, ◌==◌, cond, Bool, true, false, List, [], ◌∷◌, ◌++◌, length, map, refl, sym, ap, ◌∙◌, subst, arith, eq-eqb, ne_eqb}
+use Rattle.std.proofs.lemmas.List.{length-map}
+use mathlib.Core.Logic.{dite}
+use native.Mathlib.Decide.{ℕ_discrete}
+use Rattle.logged_lock.specs.declared.views.Log.{Log}
+use Rattle.logged_lock.specs.declared.views.Account.{Account}
+use Rattle.logged_lock.specs.Log.{owned, made_by, total_made, IsMergeOf}
+use Rattle.logged_lock.specs.Rule.{told_tag, AreTold}
+use Rattle.logged_lock.proofs.Owned.{owned-own, owned-other}
+
+-- the first n of a row of numbers, added up
+sum_to : (ℕ → ℕ) → ℕ → ℕ
+sum_to f zero = 0
+sum_to f (suc n) = sum_to f n + f n
+
+sum_to-same : (f g : ℕ → ℕ) → ((k : ℕ) → f k ≡ g k) → (n : ℕ) → sum_to f n ≡ sum_to g n
+unfolding sum_to
+sum_to-same f g same zero = refl
+sum_to-same f g same (suc n) = λ i. sum_to-same f g same n i + same n i
+
+sum_to-add : (f g : ℕ → ℕ) (n : ℕ) → sum_to (λ k. f k + g k) n ≡ sum_to f n + sum_to g n
+unfolding sum_to
+sum_to-add f g zero = refl
+sum_to-add f g (suc n) = omega (arith, sum_to-add f g n)
+
+sum_to-zero : (f : ℕ → ℕ) → ((k : ℕ) → f k ≡ 0) → (n : ℕ) → sum_to f n ≡ 0
+unfolding sum_to
+sum_to-zero f none zero = refl
+sum_to-zero f none (suc n) = omega (arith, sum_to-zero f none n, none n)
+
+sum_to-front : (f : ℕ → ℕ) (n : ℕ) → sum_to f (suc n) ≡ f 0 + sum_to (λ k. f (suc k)) n
+unfolding sum_to
+sum_to-front f zero = omega arith
+sum_to-front f (suc n) = omega (arith, sum_to-front f n)
+
+total-sum : {D E : Type 0} (row : List (Account D E)) → total_made row ≡ sum_to (λ k. length (made_by row k)) (length row)
+unfolding sum_to
+total-sum [] = refl
+total-sum (a ∷ more) = ap (λ (m : ℕ). length a.made + m) (total-sum more) ∙ sym (sum_to-front (λ k. length (made_by (a ∷ more) k)) (length more))
+
+-- 1 of the owner t, and else 0
+is : ℕ → ℕ → ℕ
+is o t = cond (o == t) 1 0
+
+is-same : (o t : ℕ) → o ≡ t → is o t ≡ 1
+unfolding is
+is-same o t same = ap (λ (b : Bool). cond b 1 0) (eq-eqb o t same)
+
+is-else : (o t : ℕ) → o ≢ t → is o t ≡ 0
+unfolding is
+is-else o t apart = ap (λ (b : Bool). cond b 1 0) (ne_eqb o t apart)
+
+-- how many places are an owner's
+count : ℕ → List ℕ → ℕ
+count t [] = 0
+count t (o ∷ os) = is o t + count t os
+
+count-owned : {E : Type 0} (t at : ℕ) (os : List ℕ) (es : List E) → length os ≡ length es → length (owned t at os es) ≡ count t os
+unfolding count
+count-owned t at [] es len = refl
+count-owned t at (o ∷ os) [] len = absurd (omega arith)
+count-owned t at (o ∷ os) (e ∷ es) len =
+    let more = count-owned t (suc at) os es (omega arith) in
+    dite (ℕ_discrete o t)
+    (λ same. ap (λ l. length l) (owned-own t at o os e es same) ∙ omega (arith, more, is-same o t same))
+    (λ apart. ap (λ l. length l) (owned-other t at o os e es apart) ∙ omega (arith, more, is-else o t apart))
+
+-- how many of the first n have this tag: one at most
+tagged : ℕ → ℕ → ℕ
+tagged n o = sum_to (λ k. is o (told_tag k)) n
+
+all_tagged : ℕ → List ℕ → ℕ
+all_tagged n [] = 0
+all_tagged n (o ∷ os) = tagged n o + all_tagged n os
+
+count-tagged : (n : ℕ) (os : List ℕ) → sum_to (λ k. count (told_tag k) os) n ≡ all_tagged n os
+unfolding count all_tagged tagged
+count-tagged n [] = sum_to-zero (λ k. 0) (λ k. refl) n
+count-tagged n (o ∷ os) = sum_to-add (λ k. is o (told_tag k)) (λ k. count (told_tag k) os) n ∙ ap (λ (m : ℕ). sum_to (λ k. is o (told_tag k)) n + m) (count-tagged n os)
+
+tag-apart : (k m : ℕ) → k < m → told_tag m ≢ told_tag k
+tag-apart k m lt = λ e. absurd (omega arith)
+
+tagged-none : (n m : ℕ) → n ≤ m → tagged n (told_tag m) ≡ 0
+unfolding tagged sum_to
+tagged-none zero m le = refl
+tagged-none (suc n) m le = omega (arith, tagged-none n m (omega arith), is-else (told_tag m) (told_tag n) (tag-apart n m (omega arith)))
+
+tagged-one : (n o : ℕ) → tagged n o ≤ 1
+unfolding tagged sum_to
+tagged-one zero o = omega arith
+tagged-one (suc n) o = dite (ℕ_discrete o (told_tag n))
+    (λ same. omega (arith, is-same o (told_tag n) same, subst (λ (x : ℕ). tagged n x ≡ 0) (sym same) (tagged-none n n (omega arith))))
+    (λ apart. omega (arith, is-else o (told_tag n) apart, tagged-one n o))
+
+tagged-there : (n o : ℕ) → tagged n o ≡ 1 → (k : ℕ) × (o ≡ told_tag k)
+unfolding tagged sum_to
+tagged-there zero o one = absurd (omega arith)
+tagged-there (suc n) o one = dite (ℕ_discrete o (told_tag n)) (λ same. (n, same)) (λ apart. tagged-there n o (omega (arith, is-else o (told_tag n) apart, one)))
+
+all-at-most : (n : ℕ) (os : List ℕ) → all_tagged n os ≤ length os
+unfolding all_tagged
+all-at-most n [] = omega arith
+all-at-most n (o ∷ os) = omega (arith, tagged-one n o, all-at-most n os)
+
+-- each owner's number in place of its tag
+abbrev number_of : ℕ → ℕ
+number_of o = o / 2
+
+number-of-tag : (k : ℕ) → number_of (told_tag k) ≡ k
+number-of-tag k = omega arith
+
+owned-numbered : {E : Type 0} (n k at : ℕ) (os : List ℕ) (es : List E) → all_tagged n os ≡ length os → owned k at (map number_of os) es ≡ owned (told_tag k) at os es
+unfolding all_tagged
+owned-numbered n k at [] es all = refl
+owned-numbered n k at (o ∷ os) [] all = refl
+owned-numbered n k at (o ∷ os) (e ∷ es) all =
+    let one : tagged n o ≡ 1 = omega (arith, tagged-one n o, all-at-most n os, all) in
+    let more = owned-numbered n k (suc at) os es (omega (arith, tagged-one n o, all-at-most n os, all)) in
+    let j = tagged-there n o one in
+    let number : number_of o ≡ j.0 = ap number_of j.1 ∙ number-of-tag j.0 in
+    dite (ℕ_discrete j.0 k)
+    (λ same. owned-own k at (number_of o) (map number_of os) e es (number ∙ same) ∙ (ap (λ l. (at, e) ∷ l) more ∙ sym (owned-own (told_tag k) at o os e es (j.1 ∙ ap told_tag same))))
+    (λ apart. owned-other k at (number_of o) (map number_of os) e es (λ h. apart (sym number ∙ h))
+    ∙ (more ∙ sym (owned-other (told_tag k) at o os e es (λ h. apart (sym (number-of-tag j.0) ∙ (ap number_of (sym j.1 ∙ h) ∙ number-of-tag k))))))
+
+pub merges : {D E : Type 0} (now : Log D E) (owners : List ℕ) (told : List (Account D E)) → length owners ≡ length now.entries → AreTold now owners told → total_made told ≡ length now.entries → IsMergeOf now.entries told
+merges now owners told long are all =
+    let n = length told in
+    let each = sum_to-same (λ k. length (made_by told k)) (λ k. count (told_tag k) owners) (λ k. ap (λ l. length l) (sym (are.0 k)) ∙ count-owned (told_tag k) 0 owners now.entries long) n in
+    let whole : all_tagged n owners ≡ length owners = sym (count-tagged n owners) ∙ (sym each ∙ (sym (total-sum told) ∙ (all ∙ sym long))) in record {
+      owners = map number_of owners;
+      long = length-map owners number_of ∙ long;
+      parts = λ k. owned-numbered n k 0 owners now.entries whole ∙ are.0 k;
+    }

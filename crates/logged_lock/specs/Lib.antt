@@ -1,0 +1,4 @@
+pub mod Log
+pub mod Rule
+-- a lock's identity, for the crates above
+pub use Rattle.atomic_table.specs.Seated.{TableId}

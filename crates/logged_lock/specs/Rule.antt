@@ -1,0 +1,115 @@
+-- The rule of a lock: one log of what lies under it, each entry of which belongs to the seat that made it.
+use Rattle.std.specs.Prelude.{◌≡◌, ℕ, suc, ◌+◌, ◌<◌, ◌≤◌, Bool, true, false, List, [], ◌∷◌, ◌++◌, length, ◌⊎◌}
+use mathlib.Core.Option.{Option, some, none}
+use lib.ListN.{get_elem?}
+use Rattle.atomic_table.specs.Table.{Me}
+use Rattle.logged_lock.specs.declared.views.Log.{Log}
+use Rattle.logged_lock.specs.declared.views.Account.{Account}
+use Rattle.logged_lock.specs.declared.views.View.{View}
+use Rattle.logged_lock.specs.Log.{with_entry, IsBeginning, owned, made_by, AreBehind}
+
+-- the words of a lock whose word is this number: those around it are never used
+abbrev pub words_of : ℕ → List ℕ
+words_of n = 0 ∷ 0 ∷ 0 ∷ 0 ∷ 0 ∷ 0 ∷ 0 ∷ 0 ∷ 0 ∷ 0 ∷ 0 ∷ 0 ∷ 0 ∷ 0 ∷ 0 ∷ 0 ∷ n ∷ 0 ∷ 0 ∷ 0 ∷ 0 ∷ 0 ∷ 0 ∷ 0 ∷ 0 ∷ 0 ∷ 0 ∷ 0 ∷ 0 ∷ 0 ∷ 0 ∷ 0 ∷ 0 ∷ []
+
+-- the owner of what was made from a seat, and of what the k-th seat that was joined to the first had made
+abbrev pub seat_tag : ℕ → ℕ
+seat_tag id = id + id
+
+abbrev pub told_tag : ℕ → ℕ
+told_tag k = suc (k + k)
+
+-- a seat that has seen this log, and has made nothing of it
+abbrev pub newcomer : {D E : Type 0} → Log D E → View D E
+newcomer l = record { live = true; locks = false; own = record { seen = l; made = [] }; told = [] }
+
+-- what a seat leaves that was joined to the first
+abbrev pub gone : {D E : Type 0} → D → View D E
+gone d = record { live = false; locks = false; own = record { seen = record { head = d; entries = [] }; made = [] }; told = [] }
+
+-- the first seat has learned what another had seen and made
+abbrev pub told_of : {D E : Type 0} → View D E → View D E → View D E
+told_of v w = record { live = v.live; locks = v.locks; own = v.own; told = v.told ++ w.own ∷ [] }
+
+-- the seat has the lock, and has seen this log
+abbrev pub locked : {D E : Type 0} → Log D E → View D E → View D E
+locked l v = record { live = true; locks = true; own = record { seen = l; made = v.own.made }; told = v.told }
+
+-- the seat has given the lock back, and made nothing
+abbrev pub unlocked : {D E : Type 0} → View D E → View D E
+unlocked v = record { live = true; locks = false; own = v.own; told = v.told }
+
+-- the seat has given the lock back, and this entry is its own, at the place after all that it had seen
+abbrev pub unlocked_with : {D E : Type 0} → E → View D E → View D E
+unlocked_with e v = record {
+  live = true;
+  locks = false;
+  own = record { seen = with_entry v.own.seen e; made = v.own.made ++ (length v.own.seen.entries, e) ∷ [] };
+  told = v.told;
+}
+
+-- what is so of a seat: what it has made is its own in the log, which begins with what it has seen; who has the lock has seen all
+pub record IsSeat {D E : Type 0} (now : Log D E) (owners : List ℕ) (holder : Option ℕ) (id : ℕ) (v : View D E) : Type 0 where
+  pub mine : owned (seat_tag id) 0 owners now.entries ≡ v.own.made
+  pub behind : v.live ≡ true → IsBeginning v.own.seen now
+  pub locks : v.locks ≡ true → (holder ≡ some id) × (v.own.seen ≡ now)
+
+-- what was joined to the first seat is its own in the log
+abbrev pub AreTold : {D E : Type 0} → Log D E → List ℕ → List (Account D E) → Type 0
+AreTold now owners told = ((k : ℕ) → owned (told_tag k) 0 owners now.entries ≡ made_by told k) × AreBehind told now
+
+-- the lock is free: what lies under it is at home, and its log is the one log
+pub record IsFree {S D E : Type 0} (log : S → Log D E) (fits : S → Type 0) (words : List ℕ) (homes : List (Option S)) (now : Log D E) (holder : Option ℕ) : Type 0 where
+  pub kept : S
+  pub mark : ℕ
+  pub small : mark < 2
+  pub word : words ≡ words_of mark
+  pub home : homes ≡ some kept ∷ []
+  pub fitting : fits kept
+  pub same : log kept ≡ now
+  pub nobody : holder ≡ none
+
+-- the lock is taken, and what lies under it is with the seat that has it
+pub record IsTakenOut {S : Type 0} (words : List ℕ) (homes : List (Option S)) : Type 0 where
+  pub mark : ℕ
+  pub word : words ≡ words_of (suc (suc mark))
+  pub away : homes ≡ none ∷ []
+
+-- what holds of a lock at every moment
+pub record IsLock {S D E : Type 0} (log : S → Log D E) (fits : S → Type 0) (words : List ℕ) (homes : List (Option S)) (views : List (View D E)) : Type 0 where
+  pub now : Log D E
+  pub owners : List ℕ
+  pub long : length owners ≡ length now.entries
+  pub holder : Option ℕ
+  pub seats : (id : ℕ) (v : View D E) → get_elem? views id ≡ some v → IsSeat now owners holder id v
+  pub others : (id : ℕ) → length views ≤ id → owned (seat_tag id) 0 owners now.entries ≡ []
+  pub first : View D E
+  pub at_first : get_elem? views 0 ≡ some first
+  pub told : AreTold now owners first.told
+  pub lock : IsFree log fits words homes now holder ⊎ IsTakenOut words homes
+
+-- a seat that doesn't have the lock
+pub record IsIdle {S D E : Type 0} (me : Me S (View D E)) : Type 0 where
+  pub live : me.0.live ≡ true
+  pub locks : me.0.locks ≡ false
+  pub hands : me.1 ≡ []
+
+-- a seat that has the lock, and with it what lies under it, of which this is the log
+pub record HasLock {S D E : Type 0} (log : S → Log D E) (fits : S → Type 0) (me : Me S (View D E)) (l : Log D E) : Type 0 where
+  pub kept : S
+  pub live : me.0.live ≡ true
+  pub locks : me.0.locks ≡ true
+  pub hands : me.1 ≡ (0, kept) ∷ []
+  pub fitting : fits kept
+  pub same : log kept ≡ l
+
+-- the lock was taken, and with it what lies under it, whose log goes on from what the seat had seen
+pub record IsTaken {S D E : Type 0} (log : S → Log D E) (fits : S → Type 0) (before after : Me S (View D E)) : Type 0 where
+  pub kept : S
+  pub me : after ≡ (locked (log kept) before.0, (0, kept) ∷ [])
+  pub fitting : fits kept
+  pub later : IsBeginning before.0.own.seen (log kept)
+
+-- the log that was seen is made of what was joined to the first seat, and of what other seats made
+abbrev pub IsSettled : {D E : Type 0} → View D E → Type 0
+IsSettled v = (owners : List ℕ) × (length owners ≡ length v.own.seen.entries) × AreTold v.own.seen owners v.told

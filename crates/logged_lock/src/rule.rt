@@ -1,0 +1,108 @@
+//! The rule of a lock, and the steps that may be taken at it.
+
+use crate::views::{Head, Logged, View};
+use atomic_table::{Join, Play, Seat, Split, TableRule};
+use std::marker::PhantomData;
+
+/// The rule that every step keeps.
+pub struct LockRule;
+
+impl<D, E, S: Logged<D, E>> TableRule<S, View<D, E>, D> for LockRule {
+    ghost use Rattle.logged_lock.specs.Log.{start_of};
+    ghost use Rattle.logged_lock.specs.Rule.{IsLock, newcomer};
+
+    ghost holds = { λ _ s. IsLock S.log S.fits s.words s.homes s.views };
+
+    ghost first = { λ d. newcomer (start_of d) };
+}
+
+/// The entry with which the lock is given back. Each call picks it.
+pub trait NextEntry<E> {
+    ghost entry: { E };
+}
+
+/// The lock is taken if its word is the free one that was expected.
+pub struct Takes;
+
+impl<D, E, S: Logged<D, E>> Play<S, View<D, E>> for Takes {
+    ghost use Rattle.std.specs.Prelude.{◌≡◌, ◌==◌, MatchBool};
+    ghost use Rattle.logged_lock.specs.Rule.{IsTaken};
+
+    ghost then = { λ s before found after. MatchBool (found == s.first) (IsTaken S.log S.fits before after) (after ≡ before) };
+}
+
+/// Whoever has the lock learns that another waits.
+pub struct Marks;
+
+impl<S, D, E> Play<S, View<D, E>> for Marks {
+    ghost use Rattle.std.specs.Prelude.{◌≡◌};
+
+    ghost then = { λ _ before _ after. after ≡ before };
+}
+
+/// The lock is given back with no entry.
+pub struct Leaves;
+
+impl<S, D, E> Play<S, View<D, E>> for Leaves {
+    ghost use Rattle.std.specs.Prelude.{◌≡◌, []};
+    ghost use Rattle.logged_lock.specs.Rule.{unlocked};
+
+    ghost then = { λ _ before _ after. after ≡ (unlocked before.0, []) };
+}
+
+/// The lock is given back with an entry.
+pub struct LeavesWith<P> {
+    marker: PhantomData<P>,
+}
+
+impl<S, D, E, P: NextEntry<E>> Play<S, View<D, E>> for LeavesWith<P> {
+    ghost use Rattle.std.specs.Prelude.{◌≡◌, []};
+    ghost use Rattle.logged_lock.specs.Rule.{unlocked_with};
+
+    ghost then = { λ _ before _ after. after ≡ (unlocked_with P.entry before.0, []) };
+}
+
+/// A new seat, from which nothing was made.
+pub struct Sits;
+
+impl<S, D, E> Play<S, View<D, E>> for Sits {
+    ghost use Rattle.std.specs.Prelude.{◌≡◌, []};
+    ghost use Rattle.logged_lock.specs.Rule.{newcomer};
+
+    ghost then = { λ _ _ _ after. after ≡ (newcomer after.0.own.seen, []) };
+}
+
+/// The first seat learns what the log is made of.
+pub struct Settles;
+
+impl<S, D, E> Play<S, View<D, E>> for Settles {
+    ghost use Rattle.std.specs.Prelude.{◌≡◌};
+    ghost use Rattle.logged_lock.specs.Rule.{IsSettled};
+
+    ghost then = { λ _ before _ after. (after ≡ before) × IsSettled before.0 };
+}
+
+/// A new seat, which has seen what this one has seen.
+pub struct Issues;
+
+impl<D, E> Split<View<D, E>> for Issues {
+    ghost use Rattle.logged_lock.specs.Rule.{newcomer};
+
+    ghost left = { λ v. v };
+
+    ghost right = { λ v. newcomer v.own.seen };
+}
+
+/// The first seat learns what another has seen and made, which is spent.
+pub struct Tells;
+
+impl<D: Head, E> Join<View<D, E>> for Tells {
+    ghost use Rattle.logged_lock.specs.Rule.{told_of, gone};
+
+    ghost both = { told_of };
+
+    ghost spent = { gone D.blank };
+}
+
+/// A seat at a lock, which has no octets.
+pub type LockSeat<S, D, E> = Seat<S, View<D, E>>;
