@@ -20,6 +20,9 @@ has_it before after t = record {
   same = sym (ap (λ (m : Me Book (View Title ℕ)). m.0.own.seen) t.me);
 }
 
+pub taken_out : (before after : Me Book (View Title ℕ)) → IsTaken log_of IsAny before after → (x : Book) × (after.1 ≡ (0, x) ∷ [])
+taken_out before after t = (t.kept, ap (λ (m : Me Book (View Title ℕ)). m.1) t.me)
+
 pub in_hands : (l : List (ℕ × Book)) (b : Book) → l ≡ (0, b) ∷ [] → l ≡ (0, b) ∷ rest l
 in_hands l b h = h ∙ ap (λ (r : List (ℕ × Book)). (0, b) ∷ r) (sym (ap rest h))
 

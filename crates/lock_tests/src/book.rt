@@ -91,3 +91,34 @@ pub fn write<R: Wait>(rt: &R, lock: &BookLock, seat: &mut BookSeat, number: u32)
     lock.lock(rt, seat);
     write_with::<Brand>(lock, seat, number)
 }
+
+/// Takes the lock once it is free, and gives it back.
+pub fn turn<R: Wait>(rt: &R, lock: &BookLock, seat: &mut BookSeat)
+    requires { IsAtRest lock.now seat.old }
+    ensures rest { IsAtRest lock.now seat.new }
+    ensures same { seat.new.id ≡ seat.old.id }
+{
+    lock.lock(rt, seat);
+    lock.unlock(seat);
+}
+
+/// Takes the lock if it is free, and then gives it back. Says whether it was free.
+pub fn try_turn(lock: &BookLock, seat: &mut BookSeat) -> bool
+    requires { IsAtRest lock.now seat.old }
+    ensures rest { IsAtRest lock.now seat.new }
+    ensures same { seat.new.id ≡ seat.old.id }
+{
+    let taken = lock.try_lock(seat);
+    if taken {
+        lock.unlock(seat);
+    }
+    taken
+}
+
+/// Takes the lock for good, and gives out the book under it for this one.
+pub fn take_out<R: Wait>(rt: &R, lock: &BookLock, seat: &mut BookSeat, blank: Book) -> Book
+    requires { IsAtRest lock.now seat.old }
+{
+    lock.lock(rt, seat);
+    lock.replace(seat, blank)
+}

@@ -1,5 +1,5 @@
 -- Each kind of step at a lock keeps its rule.
-use Rattle.std.proofs.Common.{◌≡◌, ◌≢◌, ◌⊎◌, inl, inr, ⊎_elim, ℕ, zero, suc, ◌+◌, ◌-◌, ◌<◌, ◌≤◌, ◌==◌, List, [], ◌∷◌, ◌++◌, length, map, set, Bool, true, false, true≢false, refl, sym, ap, ◌∙◌, subst, arith, length-append, length-set, append-nil, append_assoc, eq-eqb, ne_eqb}
+use Rattle.std.proofs.Common.{◌≡◌, ◌≢◌, ◌⊎◌, inl, inr, ⊎_elim, ℕ, zero, suc, ◌+◌, ◌<◌, ◌≤◌, ◌==◌, List, [], ◌∷◌, ◌++◌, length, map, set, Bool, true, false, true≢false, refl, sym, ap, ◌∙◌, subst, arith, length-append, length-set, append-nil, append_assoc, eq-eqb, ne_eqb}
 use Rattle.std.specs.Prelude.{slice_index, MatchBool}
 use Rattle.std.proofs.lemmas.List.{length-map}
 use mathlib.Core.Logic.{dite}
@@ -13,7 +13,7 @@ use mathlib.Core.List.{IsPrefix}
 use Rattle.logged_lock.specs.declared.views.Log.{Log}
 use Rattle.logged_lock.specs.declared.views.Account.{Account}
 use Rattle.logged_lock.specs.declared.views.View.{View}
-use Rattle.logged_lock.specs.Log.{with_entry, IsBeginning, start_of, owned, made_by, AreBehind}
+use Rattle.logged_lock.specs.Log.{with_entry, IsBeginning, start_of, owned, made_by}
 use Rattle.logged_lock.specs.Rule.{words_of, seat_tag, told_tag, newcomer, gone, told_of, locked, unlocked, unlocked_with, IsSeat, AreTold, IsFree, IsTakenOut, IsLock, IsIdle, HasLock, IsTaken, IsSettled}
 use Rattle.logged_lock.proofs.Owned.{owned-here, owned-else, renamed, owned-renamed, owned-renamed-old, owned-renamed-new, made_by-last, made_by-end, made_by-else}
 

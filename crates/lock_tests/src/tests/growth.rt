@@ -11,6 +11,5 @@ fn growth_of_a_lock(rt: HostRuntime) {
             new_lock(&rt, rt.alloc())
         }
     };
-    assert!(rt; lock.try_lock(&mut seat));
-    lock.unlock(&mut seat);
+    turn(&rt, &lock, &mut seat);
 }

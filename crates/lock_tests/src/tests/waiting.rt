@@ -10,6 +10,17 @@ use std::sync::atomic::{AtomicBool, Ordering};
 use std::thread::{Threads, join_mut, sleep, yield_now};
 use std::time::Duration;
 
+// How many numbers the book has, which nobody can take afterwards.
+fn numbers<R: Wait>(rt: &R, alloc: Global, lock: &BookLock, seat: &mut BookSeat) -> usize
+    requires { IsAtRest lock.now seat.old }
+{
+    let blank = Book {
+        title: 8,
+        numbers: Vec::new(alloc),
+    };
+    take_out(rt, lock, seat, blank).numbers.len()
+}
+
 // Waits until the flag is set, for so many turns at most, and says whether it is.
 fn comes_true(flag: &AtomicBool, turns: u32) -> bool {
     for turn in 0..turns {
@@ -77,8 +88,7 @@ fn who_sleeps_is_woken(rt: HostRuntime) {
             "round {round}"
         );
     }
-    lock.lock(&rt, &mut first);
-    assert_eq!(rt; first.slot_mut(lock.table(), 0).numbers.len(), 50);
+    assert_eq!(rt; numbers(&rt, rt.alloc(), &lock, &mut first), 50);
 }
 
 // Takes the lock and gives it back over and over until the flag is set, and says whether it was.
@@ -95,8 +105,7 @@ fn have_it_all_the_time<R: Wait>(
         if done.load(Ordering::SeqCst) {
             return true;
         }
-        lock.lock(rt, seat);
-        lock.unlock(seat);
+        turn(rt, lock, seat);
     }
     false
 }
@@ -122,6 +131,5 @@ fn who_has_it_all_the_time_keeps_nobody_away(rt: HostRuntime) {
     let mut patient = || write_now_and_then(&rt, &lock, &mut other, &done);
     let (ended, ()) = join_mut(&rt, &mut greedy, &mut patient);
     assert!(rt; ended);
-    lock.lock(&rt, &mut other);
-    assert_eq!(rt; other.slot_mut(lock.table(), 0).numbers.len(), 1_000);
+    assert_eq!(rt; numbers(&rt, rt.alloc(), &lock, &mut other), 1_000);
 }
