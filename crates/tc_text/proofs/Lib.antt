@@ -1,3 +1,4 @@
+pub mod Encoded
 mod Lines
 mod Numbers
 mod Words

@@ -4,3 +4,4 @@ pub mod Line
 pub mod LiveLine
 pub mod Reason
 pub mod Reading
+pub mod Printed

@@ -6,6 +6,7 @@
 mod fault;
 mod line;
 mod live;
+mod printed;
 mod reading;
 mod spacecraft;
 mod word;
@@ -13,5 +14,6 @@ mod word;
 pub use fault::{Reason, ScriptFault};
 pub use line::{Line, parse_line};
 pub use live::{LiveLine, parse_live_line};
+pub use printed::{Delivered, Digits, UnitDigits, WordDigits};
 pub use reading::{MAX_OCTETS, next_line, read_whole};
 pub use spacecraft::SpacecraftId;

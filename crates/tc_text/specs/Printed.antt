@@ -1,0 +1,61 @@
+-- What answers, reasons and faults are printed as: docs/reference/scripts.md shows them, under "Answers" and "Faults".
+use Rattle.std.specs.Prelude.{ℕ, Bool, ◌==◌, if◌then◌else◌, List, ◌++◌, length, codes, decimal}
+use Rattle.std.specs.Int.{from_bool, to_be_bytes, w32}
+use Rattle.hex.specs.Hex.{encode_lower}
+use Rattle.tc_channel.specs.declared.reply.Delivery.{Delivery}
+use Rattle.tc_text.specs.declared.fault.Reason.{Reason}
+use Rattle.tc_text.specs.declared.fault.Reason.TheVariants.{UnknownCommand, WordCount, BadNumber, BadHex, TooLate, NoChannel, DoubleChannel, UnknownChannel, BadVcid, BadWindow, BadBuffer, BadApid, DoubleApid, BadCapacity, NoMemory, BadOption, BadMap, DoubleMap, BadUnits, PlainMap}
+use Rattle.tc_text.specs.declared.fault.ScriptFault.{ScriptFault}
+use Rattle.tc_text.specs.declared.fault.ScriptFault.TheVariants as faults
+
+-- octets: two hexadecimal digits for each, in lower case
+abbrev pub octets_text : List ℕ → List ℕ
+octets_text octets = encode_lower octets
+
+-- a unit: its octets, or a mark of its own where it has none
+abbrev pub unit_text : List ℕ → List ℕ
+unit_text octets = if length octets == 0 then codes "-" else octets_text octets
+
+-- a control word: its four octets, the most significant first
+abbrev pub word_text : ℕ → List ℕ
+word_text word = octets_text (to_be_bytes w32 word)
+
+-- a flag: 1 where it is set, and 0 where it isn't
+abbrev pub flag_text : Bool → List ℕ
+flag_text flag = decimal (from_bool flag)
+
+-- what became of a unit: `queued Q dropped D rest R`
+abbrev pub delivery_text : Delivery → List ℕ
+delivery_text delivery =
+    codes "queued " ++ decimal delivery.queued ++ codes " dropped " ++ decimal delivery.dropped ++ codes " rest " ++ flag_text delivery.rest
+
+-- why a line is bad
+abbrev pub reason_text : Reason → List ℕ
+reason_text UnknownCommand = codes "unknown command"
+reason_text WordCount = codes "wrong number of words"
+reason_text BadNumber = codes "bad number"
+reason_text BadHex = codes "bad hex"
+reason_text TooLate = codes "too late"
+reason_text NoChannel = codes "no channel"
+reason_text DoubleChannel = codes "double channel"
+reason_text UnknownChannel = codes "unknown channel"
+reason_text BadVcid = codes "bad channel"
+reason_text BadWindow = codes "bad window"
+reason_text BadBuffer = codes "bad buffer"
+reason_text BadApid = codes "bad application"
+reason_text DoubleApid = codes "double application"
+reason_text BadCapacity = codes "bad capacity"
+reason_text NoMemory = codes "no memory"
+reason_text BadOption = codes "bad option"
+reason_text BadMap = codes "bad map"
+reason_text DoubleMap = codes "double map"
+reason_text BadUnits = codes "bad units"
+reason_text PlainMap = codes "map on plain channel"
+
+-- why a script ended early: `line N: ` and the reason, where the whole script has the number 0
+abbrev pub fault_text : ScriptFault → List ℕ
+fault_text (faults.Line number reason) = codes "line " ++ decimal number ++ codes ": " ++ reason_text reason
+fault_text faults.Read = codes "line 0: cannot read"
+fault_text faults.TooLong = codes "line 0: too long"
+fault_text faults.Write = codes "line 0: cannot write"
+fault_text faults.Unbalanced = codes "line 0: unbalanced"
