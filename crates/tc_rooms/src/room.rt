@@ -56,7 +56,7 @@ impl Room {
         ensures len { result ≡ length self.now.octets }
         ensures within { result ≤ self.now.size }
     {
-        self.len
+        self.as_slice().len()
     }
 
     /// Copies octets here, in place of those in use.
