@@ -5,7 +5,7 @@ ghost use Rattle.std.specs.Prelude.{◌≤◌};
 use crate::form::Form;
 use anyhow::{Result, anyhow};
 use std::alloc::Global;
-use tc_channel::Settings;
+use tc_channel::{FrameReply, Settings};
 use tc_link::read_frame;
 
 /// The sequence flags of a segment header (CCSDS 232.0-B, 4.1.3.2.2), its two highest bits.
@@ -23,7 +23,7 @@ pub(crate) const LARGEST_FIELD: u16 = 1_019;
 // The flags of a frame (CCSDS 232.0-B, 4.1.2.3), with the high bits of the spacecraft's id, which are 0.
 const TYPE_AD: u8 = 0x00;
 
-const TYPE_BD: u8 = 0x20;
+pub(crate) const TYPE_BD: u8 = 0x20;
 
 const TYPE_BC: u8 = 0x30;
 
@@ -85,7 +85,20 @@ impl<F: Form> Filler<F> {
         Ok(Filler { channel, ns: 0 })
     }
 
-    /// Brings a frame with these flags and this N(S), which must be this event of FARM-1's table.
+    /// Brings a frame with these flags and this N(S), and says what it is answered.
+    pub(crate) fn answer(
+        &mut self,
+        flags: u8,
+        ns: u8,
+        length: u16,
+        front: &Front,
+    ) -> Result<FrameReply> {
+        let octets = frame_octets(flags, ns, length.min(LARGEST_FIELD), front);
+        let frame = read_frame(&octets)?;
+        self.channel.bring(&frame)
+    }
+
+    /// The same, which must be this event of FARM-1's table.
     pub(crate) fn bring(
         &mut self,
         flags: u8,
@@ -94,9 +107,7 @@ impl<F: Form> Filler<F> {
         front: &Front,
         event: u8,
     ) -> Result<()> {
-        let octets = frame_octets(flags, ns, length.min(LARGEST_FIELD), front);
-        let frame = read_frame(&octets)?;
-        let act = self.channel.bring(&frame)?.act;
+        let act = self.answer(flags, ns, length, front)?.act;
         if act.event != event {
             return Err(anyhow!("event {}", act.event));
         }

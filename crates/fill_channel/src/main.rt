@@ -3,14 +3,17 @@
 //! With `plain`, `one` or `many` it makes a channel of that plan, tells the bound, and fills the channel. With `calls` it makes each
 //! kind of call once, and again, and prints a line after each, with `kept` likewise on a channel whose journal is kept. With
 //! `fixed_plain`, `fixed_one`, `fixed_many` and `fixed_calls` it does so with the channel in rooms. Nothing that it keeps beside the
-//! channel grows between two lines.
+//! channel grows between two lines. With `fixed_hostile` it brings to that the frames of a sender who means harm. With `fixed_worst`
+//! it makes one call of it, once, behind what makes that cost most.
 #![tactic(auto)]
 
 mod calls;
 mod fill;
 mod filler;
 mod form;
+mod hostile;
 mod plan;
+mod worst;
 
 use anyhow::Result;
 use plan::{MANY, ONE, PLAIN};
@@ -39,9 +42,10 @@ fn words<R: Env + AllocGlobal>(rt: &R) -> Result<Vec<String>> {
 }
 
 fn obey<R: AllocGlobal + Print + Eprint>(rt: &R, words: &[String]) -> ExitCode {
-    let word = match words {
-        [_, word] => word.as_str(),
-        _ => "",
+    let (word, call, queues) = match words {
+        [_, word] => (word.as_str(), "", ""),
+        [_, word, call, queues] => (word.as_str(), call.as_str(), queues.as_str()),
+        _ => ("", "", ""),
     };
     let done = match word {
         "plain" => fill::print(rt, &PLAIN),
@@ -53,9 +57,11 @@ fn obey<R: AllocGlobal + Print + Eprint>(rt: &R, words: &[String]) -> ExitCode {
         "fixed_one" => fill::print_fixed(rt, &ONE),
         "fixed_many" => fill::print_fixed(rt, &MANY),
         "fixed_calls" => calls::print::<FixedChannel, R>(rt),
+        "fixed_hostile" => hostile::print(rt),
+        "fixed_worst" => worst::print(rt, call, queues),
         _ => {
             let _ = eprintln!(rt;
-                "usage: fill_channel [fixed_](plain | one | many | calls) | kept"
+                "usage: fill_channel [fixed_](plain | one | many | calls) | kept | fixed_hostile | fixed_worst CALL QUEUES"
             );
             return ExitCode::from(BAD_COMMAND_LINE);
         }
