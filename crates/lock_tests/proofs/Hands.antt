@@ -1,5 +1,5 @@
 -- What a seat that has the lock of a book has in its hands.
-use Rattle.std.proofs.Common.{◌≡◌, ℕ, List, [], ◌∷◌, ◌++◌, refl, sym, ap, ◌∙◌, get_or}
+use Rattle.std.proofs.Common.{◌≡◌, ℕ, List, [], ◌∷◌, ◌++◌, sym, ap, ◌∙◌, get_or}
 use Rattle.atomic_table.specs.Table.{Me, rest}
 use Rattle.logged_lock.specs.declared.views.Log.{Log}
 use Rattle.logged_lock.specs.declared.views.View.{View}
