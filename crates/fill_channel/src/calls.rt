@@ -1,182 +1,268 @@
 //! Each kind of call, one after the other.
 
-use crate::filler::{
-    By, CONTINUING, FIRST, Filler, Front, LARGEST_FIELD, LAST, UNSEGMENTED, plain_packet, segment,
+use crate::calls::Call::{Clcw, Frame, Release, Take, TakeUnit};
+use crate::field::Kind::{Again, Bypassing, Next};
+use crate::field::{
+    CONTINUING, Content, FIRST, Field, Kind, LARGEST_FIELD, LAST, PACKETS, UNSEGMENTED,
 };
+use crate::filler::{Filler, Items, NOTHING, ONE};
 use crate::form::Form;
 use crate::plan::{CALLED, PLAIN};
-use anyhow::{Result, anyhow};
-use tc_channel::Delivery;
+use anyhow::Result;
 
-// The MAP of the packets, which isn't chosen, and the chosen one.
-const PACKETS: u8 = 63;
-
+// The chosen MAP, which is 0, and the application of the packets.
 const CHOSEN: u8 = 0;
 
-// The application of the packets.
-const APID: u8 = 1;
+const APID: u16 = 1;
 
 // One packet of seven octets, unsegmented, and two.
-const ONE_PACKET: Front = [0xff, 0x10, 1, 0xc0, 0, 0, 0, 0xaa, 0, 0, 0, 0, 0, 0, 0];
+const ONE_PACKET: Field = Field {
+    header: Some(UNSEGMENTED | PACKETS),
+    content: Content::Smallest,
+    apid: APID,
+    from: 0,
+    length: 8,
+};
 
-const TWO_PACKETS: Front = [
-    0xff, 0x10, 1, 0xc0, 0, 0, 0, 0xaa, 0x10, 1, 0xc0, 0, 0, 0, 0xbb,
-];
+const TWO_PACKETS: Field = Field {
+    length: 15,
+    ..ONE_PACKET
+};
+
+// Segments, the last of which ends a unit that is one packet of 26 octets: by 14, 2, 2 and 2 after the first six, or by 14 and 6.
+const BEGUN: Field = Field {
+    header: Some(FIRST | PACKETS),
+    content: Content::Packet(19),
+    length: 7,
+    ..ONE_PACKET
+};
+
+const FOURTEEN: Field = Field {
+    header: Some(CONTINUING | PACKETS),
+    length: 15,
+    ..BEGUN
+};
+
+const TWO: Field = Field {
+    length: 3,
+    ..FOURTEEN
+};
+
+const LAST_TWO: Field = Field {
+    header: Some(LAST | PACKETS),
+    ..TWO
+};
+
+const LAST_SIX: Field = Field {
+    header: Some(LAST | PACKETS),
+    ..BEGUN
+};
+
+// Units of the chosen MAP.
+const UNIT: Field = Field {
+    header: Some(UNSEGMENTED | CHOSEN),
+    ..ONE_PACKET
+};
+
+const UNIT_BEGUN: Field = Field {
+    header: Some(FIRST | CHOSEN),
+    ..BEGUN
+};
+
+const UNIT_ENDED: Field = Field {
+    header: Some(LAST | CHOSEN),
+    ..TWO
+};
+
+// A field of a plain channel, which is one packet.
+const PLAIN_FIELD: Field = Field {
+    header: None,
+    content: Content::Packet(1_012),
+    apid: APID,
+    from: 0,
+    length: LARGEST_FIELD,
+};
 
 // How many frames come to each channel before each of the two times that each kind of call is made, which is 35 events on the first
 // channel and five on the plain one. So the second time the first has more than 64 events and fewer than 128, the plain one more than
 // 32 and fewer than 64, and the list of a kept journal's events, whose room is doubled, grows in none of the calls.
 const BEFORE: u8 = 20;
 
+// What is done to a channel.
+#[derive(Clone, Copy)]
+enum Call {
+    // A frame of this kind, of whose unit so many items are queued and dropped.
+    Frame(Kind, Field, Items),
+    // A release, likewise.
+    Release(Items),
+    // So many packets are taken, or units of the chosen MAP.
+    Take(u16),
+    TakeUnit(u16),
+    Clcw,
+}
+
+// The frame that carries the control command Unlock.
+const UNLOCK: Call = Call::Frame(
+    Kind::Unlock,
+    Field {
+        header: Some(0),
+        length: 1,
+        ..ONE_PACKET
+    },
+    NOTHING,
+);
+
+// Each call on the first channel, with its line.
+static FIRST_CALLS: [(Call, &str); 30] = [
+    // What ends no unit.
+    (UNLOCK, "frame, Unlock"),
+    (Frame(Again, ONE_PACKET, NOTHING), "frame, discarded"),
+    (Clcw, "clcw"),
+    // An unsegmented unit, which is cut into packets.
+    (Frame(Next, ONE_PACKET, NOTHING), "frame, Type-AD, accepted"),
+    (Release(ONE), "release, one packet queued"),
+    (Take(1), "take"),
+    (
+        Frame(Bypassing, ONE_PACKET, ONE),
+        "frame, Type-BD, one packet queued",
+    ),
+    (
+        Frame(Bypassing, TWO_PACKETS, (2, 0)),
+        "frame, Type-BD, two packets queued",
+    ),
+    (
+        Frame(Bypassing, ONE_PACKET, ONE),
+        "frame, Type-BD, one packet queued",
+    ),
+    (
+        Frame(Bypassing, ONE_PACKET, (0, 1)),
+        "frame, Type-BD, one packet dropped",
+    ),
+    (Take(4), "take"),
+    // Segments, the last of which ends a unit that is one packet: a run is doubled as it grows from 6 to 20 and 22 octets, and has
+    // room then.
+    (
+        Frame(Bypassing, BEGUN, NOTHING),
+        "frame, Type-BD, first segment",
+    ),
+    (
+        Frame(Bypassing, FOURTEEN, NOTHING),
+        "frame, Type-BD, next segment, run grows",
+    ),
+    (
+        Frame(Bypassing, TWO, NOTHING),
+        "frame, Type-BD, next segment, run grows",
+    ),
+    (
+        Frame(Bypassing, TWO, NOTHING),
+        "frame, Type-BD, next segment, run has room",
+    ),
+    (
+        Frame(Bypassing, LAST_TWO, ONE),
+        "frame, Type-BD, last segment, one packet queued",
+    ),
+    (Take(1), "take"),
+    // The same by the buffer.
+    (Frame(Next, BEGUN, NOTHING), "frame, Type-AD, accepted"),
+    (Frame(Next, FOURTEEN, NOTHING), "frame, Type-AD, accepted"),
+    (Frame(Next, LAST_SIX, NOTHING), "frame, Type-AD, accepted"),
+    (Release(NOTHING), "release, first segment"),
+    (Release(NOTHING), "release, next segment, run grows"),
+    (Release(ONE), "release, last segment, one packet queued"),
+    (Take(1), "take"),
+    // Units of the chosen MAP.
+    (
+        Frame(Bypassing, UNIT, ONE),
+        "frame, Type-BD, whole unit queued",
+    ),
+    (Frame(Next, UNIT, NOTHING), "frame, Type-AD, accepted"),
+    (Release(ONE), "release, whole unit queued"),
+    (
+        Frame(Bypassing, UNIT_BEGUN, NOTHING),
+        "frame, Type-BD, first segment",
+    ),
+    (
+        Frame(Bypassing, UNIT_ENDED, ONE),
+        "frame, Type-BD, whole unit queued",
+    ),
+    (TakeUnit(3), "take_unit"),
+];
+
+// Fields of a plain channel.
+static PLAIN_CALLS: [(Call, &str); 4] = [
+    (
+        Frame(Bypassing, PLAIN_FIELD, ONE),
+        "frame, Type-BD on a plain channel, one packet queued",
+    ),
+    (
+        Frame(Next, PLAIN_FIELD, NOTHING),
+        "frame, Type-AD, accepted",
+    ),
+    (
+        Release(ONE),
+        "release on a plain channel, one packet queued",
+    ),
+    (Take(2), "take"),
+];
+
 /// Makes each kind of call, and again, and prints a line after each.
 pub(crate) fn print<F: Form, R: AllocGlobal + Print>(rt: &R) -> Result<()> {
-    let mut filler: Filler<F> = Filler::new(rt.alloc(), CALLED.settings(rt.alloc())?)?;
+    let mut first: Filler<F> = Filler::new(rt.alloc(), CALLED.settings(rt.alloc())?)?;
     let mut plain: Filler<F> = Filler::new(rt.alloc(), PLAIN.settings(rt.alloc())?)?;
-    print_once(rt, &mut filler, &mut plain)?;
-    print_once(rt, &mut filler, &mut plain)
+    print_once(rt, &mut first, &mut plain)?;
+    print_once(rt, &mut first, &mut plain)
 }
 
 fn print_once<F: Form, R: Print>(
     rt: &R,
-    filler: &mut Filler<F>,
+    first: &mut Filler<F>,
     plain: &mut Filler<F>,
 ) -> Result<()> {
     for _ in 0..BEFORE {
-        filler.unlock()?;
-        plain.unlock()?;
+        make(first, &UNLOCK)?;
+        make(plain, &UNLOCK)?;
     }
     println!(rt; "begun")?;
-    print_without_a_unit(rt, filler)?;
-    print_of_packets(rt, filler)?;
-    print_of_runs(rt, filler)?;
-    print_of_released_runs(rt, filler)?;
-    print_of_units(rt, filler)?;
-    print_of_plain_fields(rt, plain)
+    print_each(rt, first, &FIRST_CALLS)?;
+    print_each(rt, plain, &PLAIN_CALLS)
 }
 
-// What ends no unit.
-fn print_without_a_unit<F: Form, R: Print>(rt: &R, filler: &mut Filler<F>) -> Result<()> {
-    filler.unlock()?;
-    println!(rt; "frame, Unlock")?;
-    filler.bring_again(8, &ONE_PACKET)?;
-    println!(rt; "frame, discarded")?;
-    let _ = filler.channel.word();
-    println!(rt; "clcw")?;
-    Ok(())
-}
-
-// Fails where another number of items was queued.
-fn want(delivery: Delivery, queued: u32) -> Result<()> {
-    if delivery.queued == queued {
-        Ok(())
-    } else {
-        Err(anyhow!("queued {}", delivery.queued))
-    }
-}
-
-// What ends an unsegmented unit, which is cut into packets.
-fn print_of_packets<F: Form, R: Print>(rt: &R, filler: &mut Filler<F>) -> Result<()> {
-    filler.buffer(8, &ONE_PACKET)?;
-    println!(rt; "frame, Type-AD, accepted")?;
-    want(filler.channel.let_out()?, 1)?;
-    println!(rt; "release, one packet queued")?;
-    empty(filler, 1)?;
-    println!(rt; "take")?;
-    filler.pass(By::Bd, 8, &ONE_PACKET)?;
-    println!(rt; "frame, Type-BD, one packet queued")?;
-    filler.pass(By::Bd, 15, &TWO_PACKETS)?;
-    println!(rt; "frame, Type-BD, two packets queued")?;
-    filler.pass(By::Bd, 8, &ONE_PACKET)?;
-    println!(rt; "frame, Type-BD, one packet queued")?;
-    filler.pass(By::Bd, 8, &ONE_PACKET)?;
-    println!(rt; "frame, Type-BD, one packet dropped")?;
-    empty(filler, CALLED.packets)?;
-    println!(rt; "take")?;
-    Ok(())
-}
-
-// Takes so many packets.
-fn empty<F: Form>(filler: &mut Filler<F>, packets: u16) -> Result<()> {
-    for _ in 0..packets {
-        filler.channel.take_packet(u16::from(APID))?;
+fn print_each<F: Form, R: Print>(
+    rt: &R,
+    filler: &mut Filler<F>,
+    calls: &[(Call, &str)],
+) -> Result<()> {
+    for (call, line) in calls {
+        make(filler, call)?;
+        println!(rt; "{line}")?;
     }
     Ok(())
 }
 
-// Segments, the last of which ends a unit that is one packet: a run is doubled as it grows from 6 to 20 and 22 octets, and has room
-// then.
-fn print_of_runs<F: Form, R: Print>(rt: &R, filler: &mut Filler<F>) -> Result<()> {
-    let next = segment(CONTINUING, PACKETS, APID);
-    filler.pass(By::Bd, 7, &first_of_26(PACKETS))?;
-    println!(rt; "frame, Type-BD, first segment")?;
-    filler.pass(By::Bd, 15, &next)?;
-    println!(rt; "frame, Type-BD, next segment, run grows")?;
-    filler.pass(By::Bd, 3, &next)?;
-    println!(rt; "frame, Type-BD, next segment, run grows")?;
-    filler.pass(By::Bd, 3, &next)?;
-    println!(rt; "frame, Type-BD, next segment, run has room")?;
-    filler.pass(By::Bd, 3, &segment(LAST, PACKETS, APID))?;
-    println!(rt; "frame, Type-BD, last segment, one packet queued")?;
-    empty(filler, 1)?;
-    println!(rt; "take")?;
+fn make<F: Form>(filler: &mut Filler<F>, call: &Call) -> Result<()> {
+    match call {
+        Call::Frame(kind, field, items) => filler.bring(*kind, field, *items),
+        Call::Release(items) => filler.release(*items),
+        Call::Take(count) => take(filler, *count),
+        Call::TakeUnit(count) => take_units(filler, *count),
+        Call::Clcw => {
+            let _ = filler.channel.word();
+            Ok(())
+        }
+    }
+}
+
+// Takes so many packets, or so many units.
+fn take<F: Form>(filler: &mut Filler<F>, count: u16) -> Result<()> {
+    for _ in 0..count {
+        filler.channel.take_packet(APID)?;
+    }
     Ok(())
 }
 
-// The same by the buffer.
-fn print_of_released_runs<F: Form, R: Print>(rt: &R, filler: &mut Filler<F>) -> Result<()> {
-    filler.buffer(7, &first_of_26(PACKETS))?;
-    println!(rt; "frame, Type-AD, accepted")?;
-    filler.buffer(15, &segment(CONTINUING, PACKETS, APID))?;
-    println!(rt; "frame, Type-AD, accepted")?;
-    filler.buffer(7, &segment(LAST, PACKETS, APID))?;
-    println!(rt; "frame, Type-AD, accepted")?;
-    want(filler.channel.let_out()?, 0)?;
-    println!(rt; "release, first segment")?;
-    want(filler.channel.let_out()?, 0)?;
-    println!(rt; "release, next segment, run grows")?;
-    want(filler.channel.let_out()?, 1)?;
-    println!(rt; "release, last segment, one packet queued")?;
-    empty(filler, 1)?;
-    println!(rt; "take")?;
-    Ok(())
-}
-
-// Units of a chosen MAP.
-fn print_of_units<F: Form, R: Print>(rt: &R, filler: &mut Filler<F>) -> Result<()> {
-    filler.pass(By::Bd, 8, &segment(UNSEGMENTED, CHOSEN, APID))?;
-    println!(rt; "frame, Type-BD, whole unit queued")?;
-    filler.buffer(8, &segment(UNSEGMENTED, CHOSEN, APID))?;
-    println!(rt; "frame, Type-AD, accepted")?;
-    want(filler.channel.let_out()?, 1)?;
-    println!(rt; "release, whole unit queued")?;
-    filler.pass(By::Bd, 7, &first_of_26(CHOSEN))?;
-    println!(rt; "frame, Type-BD, first segment")?;
-    filler.pass(By::Bd, 3, &segment(LAST, CHOSEN, APID))?;
-    println!(rt; "frame, Type-BD, whole unit queued")?;
-    for _ in 0..3 {
+fn take_units<F: Form>(filler: &mut Filler<F>, count: u16) -> Result<()> {
+    for _ in 0..count {
         filler.channel.take_whole(CHOSEN)?;
     }
-    println!(rt; "take_unit")?;
     Ok(())
-}
-
-// Fields of a plain channel, each of which is one packet.
-fn print_of_plain_fields<F: Form, R: Print>(rt: &R, plain: &mut Filler<F>) -> Result<()> {
-    plain.pass(By::Bd, LARGEST_FIELD, &plain_packet(APID))?;
-    println!(rt; "frame, Type-BD on a plain channel, one packet queued")?;
-    plain.buffer(LARGEST_FIELD, &plain_packet(APID))?;
-    println!(rt; "frame, Type-AD, accepted")?;
-    want(plain.channel.let_out()?, 1)?;
-    println!(rt; "release on a plain channel, one packet queued")?;
-    empty(plain, 2)?;
-    println!(rt; "take")?;
-    Ok(())
-}
-
-// The first segment of a packet of 26 octets.
-fn first_of_26(map: u8) -> Front {
-    let mut front = segment(FIRST, map, APID);
-    front[5] = 0;
-    front[6] = 19;
-    front
 }

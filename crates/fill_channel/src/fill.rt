@@ -1,14 +1,13 @@
 //! Filling a channel.
 
-use crate::filler::{By, FIRST, Filler, LARGEST_FIELD, plain_packet, segment};
+use crate::field::{FIRST, LARGEST_FIELD, LAST, PACKETS};
+use crate::filler::{Filler, NOTHING, ONE, Way};
 use crate::form::Form;
 use crate::plan::Plan;
+use crate::rows::{Piece, Row, play};
 use anyhow::Result;
 use tc_channel::{FlightChannel, Settings};
 use tc_fixed::{FixedChannel, storage};
-
-/// The MAP on which packets go: no plan chooses it.
-const PACKETS: u8 = 63;
 
 /// Makes the channel in flight of a plan, tells the bound of its memory, and fills it, with a line before and after each.
 pub(crate) fn print<R: AllocGlobal + Print>(rt: &R, plan: &Plan) -> Result<()> {
@@ -30,61 +29,52 @@ fn print_full<F: Form, R: AllocGlobal + Print>(
     plan: &Plan,
     settings: Settings,
 ) -> Result<()> {
+    if plan.segmented {
+        print_rows::<F, R>(rt, settings, &segmented_rows(plan))
+    } else {
+        print_rows::<F, R>(rt, settings, &plain_rows(plan))
+    }
+}
+
+/// Makes a channel and brings it these rows, with a line after each.
+pub(crate) fn print_rows<F: Form, R: AllocGlobal + Print>(
+    rt: &R,
+    settings: Settings,
+    rows: &[Row],
+) -> Result<()> {
     let mut filler: Filler<F> = Filler::new(rt.alloc(), settings)?;
     println!(rt; "made")?;
-    fill(&mut filler, plan)?;
+    play(&mut filler, rows)?;
     println!(rt; "full")?;
     Ok(())
 }
 
-fn fill<F: Form>(filler: &mut Filler<F>, plan: &Plan) -> Result<()> {
-    if plan.segmented {
-        fill_by_segments(filler, plan)
-    } else {
-        fill_plain(filler, plan)
-    }
+// What fills the queues and the buffer of a plain channel.
+fn plain_rows(plan: &Plan) -> [Row; 2] {
+    let packets = plan.queues.saturating_mul(plan.packets);
+    let buffer = u16::from(plan.buffer);
+    [
+        (Piece::Plain(Way::Bypassing), (0, plan.queues), packets, ONE),
+        (Piece::Plain(Way::Buffered), (0, 1), buffer, NOTHING),
+    ]
 }
 
-// Fills the queues and the buffer of a plain channel.
-fn fill_plain<F: Form>(filler: &mut Filler<F>, plan: &Plan) -> Result<()> {
-    for apid in 0..plan.queues {
-        for _ in 0..plan.packets {
-            filler.pass(By::Bd, LARGEST_FIELD, &plain_packet(apid))?;
-        }
-    }
-    for _ in 0..plan.buffer {
-        filler.buffer(LARGEST_FIELD, &plain_packet(0))?;
-    }
-    Ok(())
-}
-
-// Fills the queues, opens a run on each MAP of each service, fills the buffer, and makes units that find no room.
-fn fill_by_segments<F: Form>(filler: &mut Filler<F>, plan: &Plan) -> Result<()> {
-    fill_queues(filler, plan)?;
-    for map in 0..64 {
-        filler.open(By::Ad, map, 0)?;
-        filler.open(By::Bd, map, 0)?;
-    }
-    for _ in 0..plan.buffer {
-        filler.buffer(LARGEST_FIELD, &segment(FIRST, PACKETS, 0))?;
-    }
-    filler.end(By::Bd, 0)?;
-    filler.end(By::Bd, PACKETS)
-}
-
-// Fills the packet queues with largest packets, and the unit queues with largest units.
-fn fill_queues<F: Form>(filler: &mut Filler<F>, plan: &Plan) -> Result<()> {
-    for apid in 0..plan.queues {
-        for _ in 0..plan.packets {
-            filler.open(By::Bd, PACKETS, apid)?;
-            filler.end(By::Bd, PACKETS)?;
-        }
-    }
-    for map in 0..plan.maps {
-        for _ in 0..plan.units {
-            filler.open(By::Bd, map, 0)?;
-            filler.end(By::Bd, map)?;
-        }
-    }
-    Ok(())
+// What fills the queues with largest packets and units, opens a run on each MAP of each service, fills the buffer, and makes units that
+// find no room.
+fn segmented_rows(plan: &Plan) -> [Row; 7] {
+    let packets = plan.queues.saturating_mul(plan.packets);
+    let maps = u16::from(plan.maps);
+    let units = maps.saturating_mul(plan.units);
+    let first = Piece::Segment(Way::Buffered, FIRST, LARGEST_FIELD);
+    let last = Piece::Segment(Way::Bypassing, LAST, 1);
+    let map = u16::from(PACKETS);
+    [
+        (Piece::LargestPacket, (0, plan.queues), packets, ONE),
+        (Piece::LargestUnit, (0, maps), units, ONE),
+        (Piece::Run(Way::Released), (0, 64), 64, NOTHING),
+        (Piece::Run(Way::Bypassing), (0, 64), 64, NOTHING),
+        (first, (map, 1), u16::from(plan.buffer), NOTHING),
+        (last, (0, 1), 1, (0, 1)),
+        (last, (map, 1), 1, (0, 1)),
+    ]
 }

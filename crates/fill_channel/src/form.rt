@@ -1,5 +1,6 @@
 //! The forms of a channel: by where it keeps its journal, and by when it asks for memory.
 
+use crate::seen::{call_clcw, call_drop_oldest_unit, call_new, call_take};
 use anyhow::{Result, anyhow};
 use std::alloc::Global;
 use tc_channel::{ChannelWith, Delivery, FrameReply, Journal, Settings};
@@ -63,9 +64,11 @@ impl<J: Journal> Form for ChannelWith<J> {
     }
 }
 
+// What `worst` makes once, for another program to see, is made here by the same functions, but for frames and releases: those come
+// before it, too.
 impl Form for FixedChannel {
     fn made(alloc: Global, settings: Settings) -> Result<FixedChannel> {
-        Ok(FixedChannel::new(alloc, settings)?)
+        Ok(call_new(alloc, settings)?)
     }
 
     fn bring(&mut self, frame: &Frame) -> Result<FrameReply> {
@@ -78,18 +81,18 @@ impl Form for FixedChannel {
 
     fn take_packet(&mut self, apid: u16) -> Result<()> {
         let mut octets = [0; TAKEN];
-        self.take(apid, &mut octets)?;
+        call_take(self, apid, &mut octets)?;
         Ok(())
     }
 
     fn take_whole(&mut self, map: u8) -> Result<()> {
-        if self.drop_oldest_unit(map) {
+        if call_drop_oldest_unit(self, map) {
             return Ok(());
         }
         Err(anyhow!("no unit"))
     }
 
     fn word(&self) -> u32 {
-        self.clcw(NO_FLAG)
+        call_clcw(self)
     }
 }

@@ -8,11 +8,14 @@
 #![tactic(auto)]
 
 mod calls;
+mod field;
 mod fill;
 mod filler;
 mod form;
 mod hostile;
 mod plan;
+mod rows;
+mod seen;
 mod worst;
 
 use anyhow::Result;

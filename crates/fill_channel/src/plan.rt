@@ -1,16 +1,18 @@
-//! The channels that are filled.
+//! The channels that are filled, and on which calls are made.
 
 use anyhow::Result;
 use std::alloc::{AllocError, Global};
 use tc_channel::{Items, MapSetting, QueueSetting, Settings};
 
-/// A channel: how many data fields its buffer holds, how many queues it has with so many packets each, how many chosen MAPs with so
-/// many units each, and whether its data fields have segment headers. The queues are for the first APIDs, the MAPs are the first.
-#[derive(Clone, Copy, Debug, PartialEq, Eq)]
+/// A channel: how many data fields its buffer holds, how many queues it has with so many packets each, the last one with more if so
+/// told, how many chosen MAPs with so many units each, and whether its data fields have segment headers. The queues are for the first
+/// APIDs, the MAPs are the first.
+#[derive(Clone, Copy)]
 pub(crate) struct Plan {
     pub(crate) buffer: u8,
-    pub(crate) queues: u8,
+    pub(crate) queues: u16,
     pub(crate) packets: u16,
+    pub(crate) last_packets: u16,
     pub(crate) maps: u8,
     pub(crate) units: u16,
     pub(crate) segmented: bool,
@@ -21,6 +23,7 @@ pub(crate) const PLAIN: Plan = Plan {
     buffer: 4,
     queues: 2,
     packets: 4,
+    last_packets: 4,
     maps: 0,
     units: 0,
     segmented: false,
@@ -31,6 +34,7 @@ pub(crate) const ONE: Plan = Plan {
     buffer: 1,
     queues: 1,
     packets: 1,
+    last_packets: 1,
     maps: 0,
     units: 0,
     segmented: true,
@@ -41,6 +45,7 @@ pub(crate) const MANY: Plan = Plan {
     buffer: 64,
     queues: 70,
     packets: 2,
+    last_packets: 2,
     maps: 3,
     units: 3,
     segmented: true,
@@ -51,6 +56,7 @@ pub(crate) const CALLED: Plan = Plan {
     buffer: 4,
     queues: 2,
     packets: 4,
+    last_packets: 4,
     maps: 1,
     units: 4,
     segmented: true,
@@ -73,12 +79,15 @@ impl Plan {
     }
 
     fn queue_settings(&self, alloc: Global) -> Result<Vec<QueueSetting>, AllocError> {
+        let last = self.queues.saturating_sub(1);
         let mut queues = Vec::with_capacity(alloc, usize::from(self.queues))?;
         for apid in 0..self.queues {
-            queues.push(QueueSetting {
-                apid: u16::from(apid),
-                capacity: self.packets,
-            })?;
+            let capacity = if apid == last {
+                self.last_packets
+            } else {
+                self.packets
+            };
+            queues.push(QueueSetting { apid, capacity })?;
         }
         Ok(queues)
     }
