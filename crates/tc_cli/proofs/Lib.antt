@@ -1,3 +1,3 @@
-pub mod Configurations
 pub mod Parts
 pub mod Scripts
+pub mod Stations

@@ -1,7 +1,7 @@
 -- A script, line by line.
 use Rattle.std.proofs.Common.{◌≡◌, ◌≤◌, ℕ, ◌+◌, List, [], ◌⊎◌, Result, Ok, Err, inl, inr, length, refl}
 use Rattle.std.specs.Prelude.{OnOk}
-use Rattle.tc_cli.specs.Phase.{Phase}
+use Rattle.tc_setup.specs.Phase.{Phase}
 use Rattle.tc_cli.specs.Script.{Leads, IsBadLine, IsFirstBad, IsGood}
 use Rattle.tc_text.specs.Reading.{IsFirstLine, limit}
 use Rattle.tc_text.specs.declared.fault.Reason.{Reason}

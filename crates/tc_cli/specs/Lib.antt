@@ -1,6 +1,6 @@
-pub mod Configuration
-pub mod Instruction
-pub mod Phase
+pub use Rattle.tc_setup.specs.Configuration
+pub use Rattle.tc_setup.specs.Instruction
+pub use Rattle.tc_setup.specs.Phase
 pub mod Stage
 pub mod Script
 pub mod Manned

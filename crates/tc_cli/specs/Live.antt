@@ -8,7 +8,7 @@ use Rattle.tc_station.specs.declared.holding.Holding.{Holding}
 use Rattle.tc_cli.specs.Manned.{Manned}
 use Rattle.tc_cli.specs.Session.{Session, manned_for, IsAnswered}
 use Rattle.tc_cli.specs.declared.answer.Answer.{Answer}
-use Rattle.tc_cli.specs.declared.instruction.Instruction.{Instruction}
+use Rattle.tc_setup.specs.declared.instruction.Instruction.{Instruction}
 use Rattle.tc_cli.specs.declared.stage.Stage.TheVariants.{SettingUp, Operating}
 use Rattle.tc_text.specs.declared.fault.Reason.{Reason}
 use Rattle.tc_text.specs.declared.fault.Reason.TheVariants.{NoMemory}

@@ -10,6 +10,8 @@ use Rattle.tc_station.specs.Faults.{IsReleaseRefused, IsTakeRefused, IsTakeUnitR
 use Rattle.tc_station.specs.declared.faults.ReleaseRefused.TheVariants as release_refusals
 use Rattle.tc_station.specs.declared.faults.TakeRefused.TheVariants as take_refusals
 use Rattle.tc_station.specs.declared.faults.TakeUnitRefused.TheVariants as take_unit_refusals
+use Rattle.tc_cli.specs.declared.manned.Operation.{Operation}
+use Rattle.tc_cli.specs.declared.manned.Operation.TheVariants as operations
 use Rattle.tc_cli.specs.declared.answer.Refusal.{Refusal}
 use Rattle.tc_cli.specs.declared.answer.Refusal.TheVariants.{Unlocated, UnknownChannel, NoQueue, NoMap, Empty}
 use Rattle.tc_cli.specs.declared.answer.Answer.{Answer}
@@ -93,3 +95,11 @@ IsClcwAnswer station vcid link (Frame v reply) = ⊥
 IsClcwAnswer station vcid link (Release v delivery) = ⊥
 IsClcwAnswer station vcid link (Take v apid packet) = ⊥
 IsClcwAnswer station vcid link (TakeUnit v map_id unit) = ⊥
+
+-- what an operation may be answered
+abbrev pub IsAnswerTo : Operation → Roster → Answer → Type 0
+IsAnswerTo (operations.Frame octets) station answer = IsFrameAnswer station octets answer
+IsAnswerTo (operations.Release vcid) station answer = IsReleaseAnswer station vcid answer
+IsAnswerTo (operations.Take vcid apid) station answer = IsTakeAnswer station vcid apid answer
+IsAnswerTo (operations.Unit vcid map_id) station answer = IsUnitAnswer station vcid map_id answer
+IsAnswerTo (operations.Clcw vcid link) station answer = IsClcwAnswer station vcid link answer

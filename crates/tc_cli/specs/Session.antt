@@ -7,8 +7,8 @@ use Rattle.tc_station.specs.StationSettings.{vcids_of}
 use Rattle.tc_cli.specs.Manned.{Manned, newly_manned, after_answer}
 use Rattle.tc_cli.specs.Operation.{IsFrameAnswer, IsReleaseAnswer, IsTakeAnswer, IsUnitAnswer, IsClcwAnswer}
 use Rattle.tc_cli.specs.declared.answer.Answer.{Answer}
-use Rattle.tc_cli.specs.declared.instruction.Instruction.{Instruction}
-use Rattle.tc_cli.specs.declared.instruction.Instruction.TheVariants.{Nothing, Channel, Add, Frame, Release, Take, Unit as TakeUnit, Clcw}
+use Rattle.tc_setup.specs.declared.instruction.Instruction.{Instruction}
+use Rattle.tc_setup.specs.declared.instruction.Instruction.TheVariants.{Nothing, Channel, Add, Frame, Release, Take, Unit as TakeUnit, Clcw}
 use Rattle.tc_text.specs.declared.fault.Reason.{Reason}
 use Rattle.tc_text.specs.declared.fault.Reason.TheVariants.{NoMemory}
 use Rattle.tc_cli.specs.declared.stage.Stage.{Stage}

@@ -1,6 +1,6 @@
 -- How far a script has come, as a phase, and what a refused line leaves.
 use Rattle.std.specs.Prelude.{◌≡◌, ◌≢◌, ◌⊎◌}
-use Rattle.tc_cli.specs.Phase.{Phase, Setup, Operation}
+use Rattle.tc_setup.specs.Phase.{Phase, Setup, Operation}
 use Rattle.tc_cli.specs.declared.stage.Stage.{Stage}
 use Rattle.tc_cli.specs.declared.stage.Stage.TheVariants.{SettingUp, Operating}
 use Rattle.tc_text.specs.declared.fault.Reason.{Reason}

@@ -7,10 +7,7 @@
 #![tactic(auto)]
 
 mod answer;
-mod configuration;
-mod copying;
-mod growing;
-mod instruction;
+mod founding;
 mod live;
 mod manned;
 mod parallel;

@@ -1,15 +1,13 @@
 //! A session whose lines come one by one, as long as somebody sends them.
 
 ghost use Rattle.std.specs.Prelude.{◌≡◌, ◌⊎◌, ◌↔◌, Contains, IfOk, IfErr, IsTrue, OnOk};
-ghost use Rattle.tc_cli.specs.Instruction.{instruction_of};
+ghost use Rattle.tc_setup.specs.Instruction.{instruction_of};
 ghost use Rattle.tc_cli.specs.Live.{IsLiveAnswered, IsLiveLeft, IsReported, live_after, manned_at, linked, new_live};
-ghost use Rattle.tc_cli.specs.Phase.{Does, IsBad, IsBadOperation, Operates};
+ghost use Rattle.tc_setup.specs.Phase.{Does, IsBad, IsBadOperation, Operates};
 ghost use Rattle.tc_cli.specs.Stage.{phase_of};
 ghost use Rattle.tc_cli.specs.Script.{IsReportFault};
 
 use crate::answer::Answer;
-use crate::configuration::Configuration;
-use crate::instruction::Instruction;
 use crate::script::report;
 use crate::session::Session;
 use crate::stage::Stage;
@@ -19,6 +17,7 @@ use std::io::Write;
 use std::marker::Model;
 use std::sync::Wait;
 use tc_link::Link;
+use tc_setup::{Configuration, Instruction};
 use tc_station::Holding;
 use tc_text::{Line, Reason, ScriptFault, SpacecraftId};
 

@@ -4,7 +4,7 @@ ghost use Rattle.std.specs.Prelude.{◌≡◌, ◌↔◌, Contains, IsTrue, IfOk
 ghost use Rattle.tc_cli.specs.Live.{IsReported};
 ghost use Rattle.tc_cli.specs.Manned.{newly_manned, after_answer};
 ghost use Rattle.tc_station.specs.Tally.{fresh};
-ghost use Rattle.tc_cli.specs.Operation.{IsFrameAnswer, IsReleaseAnswer, IsTakeAnswer, IsUnitAnswer, IsClcwAnswer};
+ghost use Rattle.tc_cli.specs.Operation.{IsAnswerTo, IsFrameAnswer, IsReleaseAnswer, IsTakeAnswer, IsUnitAnswer, IsClcwAnswer};
 
 use crate::answer::{Answer, Refusal};
 use crate::watchers::Watchers;
@@ -18,6 +18,21 @@ use tc_station::{
     TakeRefused, TakeUnitRefused,
 };
 use tc_text::Reason;
+
+/// What a line has a station do.
+#[derive(Drop)]
+pub(crate) enum Operation {
+    /// To bring octets.
+    Frame(Octets),
+    /// To let the oldest data field out of the buffer of a channel.
+    Release(u8),
+    /// To take the oldest packet of a channel with an APID.
+    Take(u8, u16),
+    /// To take the oldest unit of a channel with a MAP.
+    Unit(u8, u8),
+    /// To report the CLCW of a channel, with these flags of its link.
+    Clcw(u8, Link),
+}
 
 /// A station with the one operator that it has issued, and a watcher for each channel.
 #[derive(Drop)]
@@ -76,8 +91,24 @@ impl MannedStation {
         (station, operator)
     }
 
-    /// Brings octets to the channel that their frame names.
-    pub(crate) fn bring(&mut self, rt: &impl Wait, octets: &[u8]) -> Result<Answer, Reason>
+    /// Does an operation.
+    pub(crate) fn operate(&mut self, rt: &impl Wait, operation: Operation) -> Result<Answer, Reason>
+        ensures answer { IfOk result (IsAnswerTo operation self.old.station) }
+        ensures counted { IfOk result (λ answer. self.new ≡ after_answer answer self.old) }
+        ensures reason { IfErr result (λ reason. reason ≡ Reason.NoMemory) }
+        ensures refused { OnErr result (self.new ≡ self.old) }
+    {
+        match operation {
+            Operation::Frame(octets) => self.bring(rt, octets.as_slice()),
+            Operation::Release(vcid) => self.release(rt, vcid),
+            Operation::Take(vcid, apid) => self.take(rt, vcid, apid),
+            Operation::Unit(vcid, map) => self.unit(rt, vcid, map),
+            Operation::Clcw(vcid, link) => Ok(self.clcw(vcid, link)),
+        }
+    }
+
+    // Brings octets to the channel that their frame names.
+    fn bring(&mut self, rt: &impl Wait, octets: &[u8]) -> Result<Answer, Reason>
         ensures answer { IfOk result (IsFrameAnswer self.old.station octets.now) }
         ensures counted { IfOk result (λ answer. self.new ≡ after_answer answer self.old) }
         ensures reason { IfErr result (λ reason. reason ≡ Reason.NoMemory) }
@@ -93,8 +124,8 @@ impl MannedStation {
         }
     }
 
-    /// Releases the oldest data field of a channel's buffer.
-    pub(crate) fn release(&mut self, rt: &impl Wait, vcid: u8) -> Result<Answer, Reason>
+    // Releases the oldest data field of a channel's buffer.
+    fn release(&mut self, rt: &impl Wait, vcid: u8) -> Result<Answer, Reason>
         ensures answer { IfOk result (IsReleaseAnswer self.old.station vcid) }
         ensures counted { IfOk result (λ answer. self.new ≡ after_answer answer self.old) }
         ensures reason { IfErr result (λ reason. reason ≡ Reason.NoMemory) }
@@ -108,8 +139,8 @@ impl MannedStation {
         }
     }
 
-    /// Takes the oldest packet of a channel's queue.
-    pub(crate) fn take(&mut self, rt: &impl Wait, vcid: u8, apid: u16) -> Result<Answer, Reason>
+    // Takes the oldest packet of a channel's queue.
+    fn take(&mut self, rt: &impl Wait, vcid: u8, apid: u16) -> Result<Answer, Reason>
         ensures answer { IfOk result (IsTakeAnswer self.old.station vcid apid) }
         ensures counted { IfOk result (λ answer. self.new ≡ after_answer answer self.old) }
         ensures reason { IfErr result (λ reason. reason ≡ Reason.NoMemory) }
@@ -128,8 +159,8 @@ impl MannedStation {
         }
     }
 
-    /// Takes the oldest unit of a channel's chosen MAP.
-    pub(crate) fn unit(&mut self, rt: &impl Wait, vcid: u8, map: u8) -> Result<Answer, Reason>
+    // Takes the oldest unit of a channel's chosen MAP.
+    fn unit(&mut self, rt: &impl Wait, vcid: u8, map: u8) -> Result<Answer, Reason>
         ensures answer { IfOk result (IsUnitAnswer self.old.station vcid map) }
         ensures counted { IfOk result (λ answer. self.new ≡ after_answer answer self.old) }
         ensures reason { IfErr result (λ reason. reason ≡ Reason.NoMemory) }
@@ -148,8 +179,8 @@ impl MannedStation {
         }
     }
 
-    /// Reports a channel's CLCW, by its watcher, with these flags of its link.
-    pub(crate) fn clcw(&mut self, vcid: u8, link: Link) -> Answer
+    // Reports a channel's CLCW, by its watcher, with these flags of its link.
+    fn clcw(&mut self, vcid: u8, link: Link) -> Answer
         ensures answer { IsClcwAnswer self.old.station vcid link result }
         ensures counted { self.new ≡ after_answer result self.old }
     {

@@ -3,15 +3,13 @@
 ghost use Rattle.std.specs.Prelude.{◌≡◌, ◌≢◌, ◌⊎◌, ◌≤◌, [], All, length, IfOk, IfErr, OnOk, IfSome};
 ghost use Rattle.tc_cli.specs.Parallel.{parted_for, IsParted, Parts};
 ghost use Rattle.tc_cli.specs.Parting.{IsGiven, IsFrameGiven};
-ghost use Rattle.tc_cli.specs.Phase.{Does, IsBad, Setup};
+ghost use Rattle.tc_setup.specs.Phase.{Does, IsBad, Setup};
 ghost use Rattle.tc_cli.specs.Report.{AreRising};
 ghost use Rattle.tc_cli.specs.Script.{IsFault, IsGood, IsDone, IsBadLine};
 ghost use Rattle.tc_cli.specs.Stage.{phase_of, IsKept};
 ghost use Rattle.tc_station.specs.Balance.{IsNumberTold};
 ghost use Rattle.tc_text.specs.Reading.{limit};
 
-use crate::configuration::Configuration;
-use crate::instruction::Instruction;
 use crate::parting::Parted;
 use crate::report::write_report;
 use crate::stage::Stage;
@@ -21,6 +19,7 @@ use std::mem;
 use std::sync::Wait;
 use std::thread::Threads;
 use tc_channel::{FlightChannel, Octets};
+use tc_setup::{Configuration, Instruction};
 use tc_station::{Gate, Job, Order};
 use tc_text::{Reason, ScriptFault, next_line, parse_line, read_whole};
 

@@ -6,14 +6,14 @@ ghost use Rattle.tc_cli.specs.Report.{AreRising};
 ghost use Rattle.tc_cli.specs.Script.{IsWorkFault};
 ghost use Rattle.tc_station.specs.Balance.{IsNumberTold};
 
-use crate::configuration::Configuration;
-use crate::growing::append;
+use crate::founding::{found, lists_for};
 use crate::report::close;
 use std::alloc::Global;
 use std::marker::Model;
 use std::sync::Wait;
 use std::thread::Threads;
 use tc_channel::{FlightChannel, Octets};
+use tc_setup::{Configuration, append};
 use tc_station::{FlightStation, Gate, Job, OperatorsFault, Order, WorkFault, WorkList};
 use tc_text::{Reason, ScriptFault};
 
@@ -47,8 +47,8 @@ impl Parted {
         ensures some { OnOk result (configuration ≢ []) }
         ensures reason { IfErr result (λ reason. (reason ≡ Reason.NoMemory) ⊎ ((reason ≡ Reason.NoChannel) × (configuration ≡ []))) }
     {
-        let lists = configuration.lists(alloc)?;
-        let station = configuration.station(alloc, scid)?;
+        let lists = lists_for(alloc, &configuration)?;
+        let station = found(alloc, scid, configuration)?;
         Ok(Parted { station, lists })
     }
 

@@ -7,8 +7,6 @@ ghost use Rattle.tc_cli.specs.Session.{IsLeft};
 ghost use Rattle.tc_cli.specs.Stage.{phase_of};
 
 use crate::answer::Answer;
-use crate::configuration::Configuration;
-use crate::instruction::Instruction;
 use crate::report::{close, write_report};
 use crate::session::Session;
 use crate::stage::Stage;
@@ -17,6 +15,7 @@ use std::alloc::Global;
 use std::io::{Read, Write};
 use std::sync::Wait;
 use tc_link::Link;
+use tc_setup::{Configuration, Instruction};
 use tc_text::{Reason, ScriptFault, next_line, parse_line, read_whole};
 
 /// Reads a script, does its lines in order and writes their answers, and then the final report.

@@ -1,20 +1,20 @@
 //! A script whose lines are done in order: at the first operation its station is made.
 
 ghost use Rattle.std.specs.Prelude.{◌≡◌, ◌≢◌, ◌≤◌, ◌⊎◌, [], IfOk, IfErr, OnErr, OnOk};
-ghost use Rattle.tc_cli.specs.Operation.{IsFrameAnswer, IsReleaseAnswer, IsTakeAnswer, IsUnitAnswer, IsClcwAnswer};
-ghost use Rattle.tc_cli.specs.Phase.{Does, IsBad, IsBadOperation, Operates, Setup};
+ghost use Rattle.tc_cli.specs.Operation.{IsAnswerTo};
+ghost use Rattle.tc_setup.specs.Phase.{Does, IsBad, IsBadOperation, Operates, Setup};
 ghost use Rattle.tc_cli.specs.Session.{manned_for, IsAnswered, IsLeft, IsOperated};
 ghost use Rattle.tc_cli.specs.Stage.{phase_of};
 
 use crate::answer::Answer;
-use crate::instruction::Instruction;
-use crate::manned::MannedStation;
+use crate::founding::found;
+use crate::manned::{MannedStation, Operation};
 use crate::stage::Stage;
 use crate::watchers::IDS;
 use std::alloc::Global;
 use std::sync::Wait;
-use tc_channel::Octets;
 use tc_link::Link;
+use tc_setup::Instruction;
 use tc_text::Reason;
 
 /// How far a script has come whose operations are done one after the other.
@@ -47,113 +47,40 @@ impl Stage<MannedStation> {
                 self.add_to_channel(alloc, vcid, addition)?;
                 Ok(None)
             }
-            Instruction::Frame(octets) => self.bring(rt, alloc, scid, octets),
-            Instruction::Release(vcid) => self.release(rt, alloc, scid, vcid),
-            Instruction::Take(vcid, apid) => self.take(rt, alloc, scid, vcid, apid),
-            Instruction::Unit(vcid, map) => self.unit(rt, alloc, scid, vcid, map),
-            Instruction::Clcw(vcid) => self.clcw(rt, alloc, scid, vcid, links[usize::from(vcid)]),
+            Instruction::Frame(octets) => self.operate(rt, alloc, scid, Operation::Frame(octets)),
+            Instruction::Release(vcid) => self.operate(rt, alloc, scid, Operation::Release(vcid)),
+            Instruction::Take(vcid, apid) => {
+                let take = Operation::Take(vcid, apid);
+                self.operate(rt, alloc, scid, take)
+            }
+            Instruction::Unit(vcid, map) => {
+                let unit = Operation::Unit(vcid, map);
+                self.operate(rt, alloc, scid, unit)
+            }
+            Instruction::Clcw(vcid) => {
+                let clcw = Operation::Clcw(vcid, links[usize::from(vcid)]);
+                self.operate(rt, alloc, scid, clcw)
+            }
         }
     }
 
-    fn bring(
+    // Does an operation on the station, which is made where no operation came before.
+    fn operate(
         &mut self,
         rt: &impl Wait,
         alloc: Global,
         scid: u16,
-        octets: Octets,
+        operation: Operation,
     ) -> Result<Option<Answer>, Reason>
         requires { scid ≤ 1023 }
         ensures done { OnOk result (Operates (phase_of self.old) (phase_of self.new)) }
-        ensures answer { IfOk result (IsOperated scid (λ station. IsFrameAnswer station octets) self.old self.new) }
+        ensures answer { IfOk result (IsOperated scid (IsAnswerTo operation) self.old self.new) }
         ensures reason { IfErr result (λ reason. (reason ≡ Reason.NoMemory) ⊎ IsBadOperation (phase_of self.old) reason) }
         ensures refused { IfErr result (λ reason. IsLeft scid reason self.old self.new) }
     {
         self.begin(rt, alloc, scid)?;
         match self {
-            Stage::Operating(manned) => Ok(Some(manned.bring(rt, octets.as_slice())?)),
-            Stage::SettingUp(_) => unreachable!(),
-        }
-    }
-
-    fn release(
-        &mut self,
-        rt: &impl Wait,
-        alloc: Global,
-        scid: u16,
-        vcid: u8,
-    ) -> Result<Option<Answer>, Reason>
-        requires { scid ≤ 1023 }
-        ensures done { OnOk result (Operates (phase_of self.old) (phase_of self.new)) }
-        ensures answer { IfOk result (IsOperated scid (λ station. IsReleaseAnswer station vcid) self.old self.new) }
-        ensures reason { IfErr result (λ reason. (reason ≡ Reason.NoMemory) ⊎ IsBadOperation (phase_of self.old) reason) }
-        ensures refused { IfErr result (λ reason. IsLeft scid reason self.old self.new) }
-    {
-        self.begin(rt, alloc, scid)?;
-        match self {
-            Stage::Operating(manned) => Ok(Some(manned.release(rt, vcid)?)),
-            Stage::SettingUp(_) => unreachable!(),
-        }
-    }
-
-    fn take(
-        &mut self,
-        rt: &impl Wait,
-        alloc: Global,
-        scid: u16,
-        vcid: u8,
-        apid: u16,
-    ) -> Result<Option<Answer>, Reason>
-        requires { scid ≤ 1023 }
-        ensures done { OnOk result (Operates (phase_of self.old) (phase_of self.new)) }
-        ensures answer { IfOk result (IsOperated scid (λ station. IsTakeAnswer station vcid apid) self.old self.new) }
-        ensures reason { IfErr result (λ reason. (reason ≡ Reason.NoMemory) ⊎ IsBadOperation (phase_of self.old) reason) }
-        ensures refused { IfErr result (λ reason. IsLeft scid reason self.old self.new) }
-    {
-        self.begin(rt, alloc, scid)?;
-        match self {
-            Stage::Operating(manned) => Ok(Some(manned.take(rt, vcid, apid)?)),
-            Stage::SettingUp(_) => unreachable!(),
-        }
-    }
-
-    fn unit(
-        &mut self,
-        rt: &impl Wait,
-        alloc: Global,
-        scid: u16,
-        vcid: u8,
-        map: u8,
-    ) -> Result<Option<Answer>, Reason>
-        requires { scid ≤ 1023 }
-        ensures done { OnOk result (Operates (phase_of self.old) (phase_of self.new)) }
-        ensures answer { IfOk result (IsOperated scid (λ station. IsUnitAnswer station vcid map) self.old self.new) }
-        ensures reason { IfErr result (λ reason. (reason ≡ Reason.NoMemory) ⊎ IsBadOperation (phase_of self.old) reason) }
-        ensures refused { IfErr result (λ reason. IsLeft scid reason self.old self.new) }
-    {
-        self.begin(rt, alloc, scid)?;
-        match self {
-            Stage::Operating(manned) => Ok(Some(manned.unit(rt, vcid, map)?)),
-            Stage::SettingUp(_) => unreachable!(),
-        }
-    }
-
-    fn clcw(
-        &mut self,
-        rt: &impl Wait,
-        alloc: Global,
-        scid: u16,
-        vcid: u8,
-        link: Link,
-    ) -> Result<Option<Answer>, Reason>
-        requires { scid ≤ 1023 }
-        ensures done { OnOk result (Operates (phase_of self.old) (phase_of self.new)) }
-        ensures answer { IfOk result (IsOperated scid (λ station. IsClcwAnswer station vcid link) self.old self.new) }
-        ensures reason { IfErr result (λ reason. (reason ≡ Reason.NoMemory) ⊎ IsBadOperation (phase_of self.old) reason) }
-        ensures refused { IfErr result (λ reason. IsLeft scid reason self.old self.new) }
-    {
-        self.begin(rt, alloc, scid)?;
-        match self {
-            Stage::Operating(manned) => Ok(Some(manned.clcw(vcid, link))),
+            Stage::Operating(manned) => Ok(Some(manned.operate(rt, operation)?)),
             Stage::SettingUp(_) => unreachable!(),
         }
     }
@@ -194,7 +121,7 @@ impl Stage<MannedStation> {
             Stage::Operating(manned) => Ok(manned),
             Stage::SettingUp(list) => {
                 let vcids = list.vcids(alloc)?;
-                MannedStation::new(rt, alloc, list.station(alloc, scid)?, vcids)
+                MannedStation::new(rt, alloc, found(alloc, scid, list)?, vcids)
             }
         }
     }

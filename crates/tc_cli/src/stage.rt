@@ -1,13 +1,12 @@
 //! How far a script has come: first its channels are set up, then it operates.
 
 ghost use Rattle.std.specs.Prelude.{◌≡◌, ◌⊎◌, IfErr, OnOk, OnErr};
-ghost use Rattle.tc_cli.specs.Phase.{Does, IsBad};
+ghost use Rattle.tc_setup.specs.Phase.{Does, IsBad};
 ghost use Rattle.tc_cli.specs.Stage.{phase_of};
 
-use crate::configuration::Configuration;
-use crate::instruction::{Addition, Instruction};
 use std::alloc::Global;
 use tc_channel::Settings;
+use tc_setup::{Addition, Configuration, Instruction};
 use tc_text::Reason;
 
 /// How far a script has come. What operates is made at the first operation, with the channels that are

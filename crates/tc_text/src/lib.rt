@@ -1,11 +1,13 @@
 //! Scripts as text: their octets are read and taken apart into lines, and a line into its words, which say what is to be done.
 //!
-//! `read_whole` reads a script, `next_line` takes its first line off, and `parse_line` says what a line says.
+//! `read_whole` reads a script, `next_line` takes its first line off, and `parse_line` says what a line says. A [`Noticing`] reader
+//! says of the frames of a script whether each ends with its frame error control field.
 #![tactic(auto)]
 
 mod fault;
 mod line;
 mod live;
+mod noticing;
 mod printed;
 mod reading;
 mod spacecraft;
@@ -14,6 +16,7 @@ mod word;
 pub use fault::{Reason, ScriptFault};
 pub use line::{Line, parse_line};
 pub use live::{LiveLine, parse_live_line};
+pub use noticing::Noticing;
 pub use printed::{Delivered, Digits, UnitDigits, WordDigits};
 pub use reading::{MAX_OCTETS, next_line, read_whole};
 pub use spacecraft::SpacecraftId;

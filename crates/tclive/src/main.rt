@@ -1,53 +1,21 @@
 //! `tclive`: a telecommand receiver that answers line by line.
 #![tactic(auto)]
 
-mod arguments;
-mod command_line;
-mod help;
+ghost use Rattle.std.specs.Prelude.{◌≤◌};
 
-use arguments::words;
-use clap::Error;
-use command_line::{Action, judge};
+use command_line::{Reception, asked_of_tclive};
+use std::alloc::Global;
 use std::io;
 use std::io::{BufReader, BufWriter};
 use std::process::ExitCode;
 use std::sync::Wait;
-use tc_live::{Receiver, ServingFault, answer_lines};
-
-/// The exit status of a bad command line.
-const BAD_COMMAND_LINE: u8 = 2;
+use tc_live::{FrameCheck, Receiver, ServingFault, answer_lines};
+use tc_text::SpacecraftId;
 
 fn main(rt: HostRuntime) -> ExitCode {
-    match words(&rt) {
-        Ok(words) => obey(&rt, words.as_slice()),
-        Err(fault) => {
-            let _ = eprintln!(rt; "tclive: {fault}");
-            ExitCode::from(BAD_COMMAND_LINE)
-        }
-    }
-}
-
-// Judges the words before anything is read, and does what they ask for.
-fn obey<R: AllocGlobal + Input + Print + Eprint + Wait>(rt: &R, words: &[String]) -> ExitCode {
-    match judge(rt.alloc(), words) {
-        Ok(action) => tell(rt, serve(rt, action)),
-        Err(answer) => print(rt, &answer),
-    }
-}
-
-// Prints help, the version, or why the command line is refused, and gives the exit status. What can't be written to standard
-// output is told on standard error.
-fn print<R: Print + Eprint>(rt: &R, answer: &Error) -> ExitCode {
-    let printed = answer.print(rt);
-    if answer.use_stderr() {
-        return ExitCode::from(BAD_COMMAND_LINE);
-    }
-    match printed {
-        Ok(()) => ExitCode::SUCCESS,
-        Err(_) => {
-            let _ = eprintln!(rt; "tclive: cannot write");
-            ExitCode::FAILURE
-        }
+    match asked_of_tclive(&rt) {
+        Ok(asked) => tell(&rt, serve(&rt, asked)),
+        Err(status) => status,
     }
 }
 
@@ -64,14 +32,31 @@ fn tell<R: Eprint>(rt: &R, served: Result<(), ServingFault>) -> ExitCode {
 
 fn serve<R: AllocGlobal + Input + Print + Wait>(
     rt: &R,
-    action: Action,
-) -> Result<(), ServingFault> {
+    asked: Reception,
+) -> Result<(), ServingFault>
+    requires { asked.scid ≤ 1023 }
+{
     let Ok(mut reader) = BufReader::new(rt.alloc(), rt.reader()) else {
         return Err(ServingFault::NoMemory);
     };
     let Ok(mut writer) = BufWriter::new(rt.alloc(), io::writer(rt)) else {
         return Err(ServingFault::NoMemory);
     };
-    let receiver = Receiver::new(rt.alloc(), action.spacecraft, action.check);
+    let receiver = receiver_for(rt.alloc(), asked);
     answer_lines(rt, rt.alloc(), receiver, &mut reader, &mut writer)
+}
+
+fn receiver_for(alloc: Global, asked: Reception) -> Receiver
+    requires { asked.scid ≤ 1023 }
+{
+    let spacecraft = match SpacecraftId::new(asked.scid) {
+        Some(spacecraft) => spacecraft,
+        None => unreachable!(),
+    };
+    let check = if asked.fecf {
+        FrameCheck::ErrorControl
+    } else {
+        FrameCheck::Nothing
+    };
+    Receiver::new(alloc, spacecraft, check)
 }

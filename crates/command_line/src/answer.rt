@@ -1,0 +1,46 @@
+//! What is printed in place of what a program does, and the exit status.
+
+ghost use Rattle.std.specs.Prelude.{◌≡◌, ◌≤◌, IfErr};
+ghost use Rattle.std.specs.Process.{exit_status};
+
+use crate::words::read_words;
+use clap::Error;
+use std::env::Env;
+use std::process::ExitCode;
+
+// The exit status of a bad command line.
+const BAD_COMMAND_LINE: u8 = 2;
+
+/// The words that a program was started with, its name first. Where they are of no use, standard error says why.
+pub(crate) fn words_of<R: Env + AllocGlobal + Eprint>(
+    rt: &R,
+    program: &str,
+) -> Result<Vec<String>, ExitCode>
+    ensures { IfErr result (λ status. exit_status status ≡ BAD_COMMAND_LINE) }
+{
+    match read_words(rt) {
+        Ok(words) => Ok(words),
+        Err(fault) => {
+            let _ = eprintln!(rt; "{program}: {fault}");
+            Err(ExitCode::from(BAD_COMMAND_LINE))
+        }
+    }
+}
+
+/// Prints help, the version, or why the words are refused, and gives the exit status. What can't be written to standard output is
+/// told on standard error.
+pub(crate) fn print<R: Print + Eprint>(rt: &R, program: &str, answer: &Error) -> ExitCode
+    ensures { exit_status result ≤ 2 }
+{
+    let printed = answer.print(rt);
+    if answer.use_stderr() {
+        return ExitCode::from(BAD_COMMAND_LINE);
+    }
+    match printed {
+        Ok(()) => ExitCode::SUCCESS,
+        Err(_) => {
+            let _ = eprintln!(rt; "{program}: cannot write");
+            ExitCode::FAILURE
+        }
+    }
+}

@@ -1,0 +1,74 @@
+//! What help tells beside the commands and options.
+
+/// The version of each program, which is that of CHANGELOG.md's newest heading; `checks/launcher` compares each place that says it.
+pub(crate) const VERSION: &str = "0.1.0";
+
+/// Of `tcrx`: the lines of a script with their limits, the statuses, and an example.
+pub(crate) const SCRIPTS: &str = "Lines of a script, those that set up first:
+  channel VC WIDTH BUFFER VR [plain]  sets up a virtual channel: its id (0 to 63), the width of its window (even, 2 to 254),
+                                      how many data fields its buffer holds (1 to 64), its first V(R) (0 to 255);
+                                      plain: data fields have no segment headers
+  queue VC APID CAPACITY              gives it a queue for an application (0 to 2046) with room for 1 to 256 packets
+  map VC MAP CAPACITY                 gives it a queue for the whole units of a MAP (0 to 63) with room for 1 to 256 units
+  frame HEX                           brings octets that arrive; the frame says for which channel
+  release VC                          lets the oldest data field out of the buffer, to reassembly
+  take VC APID                        takes the oldest packet out of a queue
+  unit VC MAP                         takes the oldest unit out of the queue of a MAP
+  clcw VC                             tells the CLCW
+  # WORDS                             is a comment
+A script has at most 1048576 octets, and is read to its end before the first answer.
+
+Exit status:
+  0   the script was done to its end
+  1   it ended early: standard error has the line and the reason
+  2   a bad command line
+
+Example:
+  printf 'channel 1 10 1 0\\nframe 002a040c00c01005c0000000aa\\n' | tcrx run --scid 42
+";
+
+/// Where the lines of a script are told.
+pub(crate) const POINTER: &str = "tcrx --help lists the lines of a script.";
+
+/// Of `tclive`: the lines with their limits, the statuses, and an example.
+pub(crate) const LIVE_LINES: &str =
+    "Each line is answered before the next is read. Lines are those of a script of tcrx, which tcrx --help lists, and two more:
+  link VC RF BL  No RF Available and No Bit Lock, 0 or 1 each, that the CLCWs of a channel tell from now on
+  report VC      tells what a channel has come to: its state, V(R), flags, FARM-B, buffer, queues and MAPs
+Lines that set up, blank lines and comments have no answer. A bad line is answered bad and why, and changes nothing.
+A line has at most 8192 octets. At the end of the lines the final report is written.
+
+Exit status:
+  0   the lines were answered to their end
+  1   they were not: standard error has the reason
+  2   a bad command line
+
+Example:
+  printf 'channel 1 10 1 0\\nframe 002a040c00c01005c0000000aa\\n' | tclive --scid 42
+";
+
+/// Of `tcmake`: the lines with their limits, the statuses, and an example.
+pub(crate) const MAKER_LINES: &str = "Lines, each of which is answered before the next is read:
+  packet APID COUNT HEX                makes a packet of an application (0 to 2047): its sequence count (0 to 16383) and its
+                                       packet data field (1 to 65536 octets)
+  ad SCID VC NS MAP HEX                makes a Type-AD frame: spacecraft id (0 to 1023), virtual channel (0 to 63),
+                                       N(S) (0 to 255), MAP (0 to 63), and what it carries (1 to 1018 octets)
+  bd SCID VC MAP HEX                   makes a Type-BD frame
+  unlock SCID VC                       makes the Type-BC frame with the control command Unlock
+  setvr SCID VC X                      makes the Type-BC frame with the control command Set V(R) to X (0 to 255)
+  segments SCID VC NS MAP SIZE HEX     makes a Type-AD frame of each segment of a unit (1 to 65542 octets), SIZE octets each
+                                       (1 to 1018)
+  explain HEX                          tells what octets say as a frame
+  clcw HEX                             tells what four octets say as a CLCW
+  # WORDS                              is a comment
+The word plain in the place of a MAP of ad and bd leaves the segment header out. A bad line is answered bad and why. A line
+has at most 262143 octets.
+
+Exit status:
+  0   the lines were answered to their end
+  1   they were not: standard error has the reason
+  2   a bad command line
+
+Example:
+  echo 'ad 42 1 0 0 1005c0000000aa' | tcmake
+";

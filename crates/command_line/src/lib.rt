@@ -1,0 +1,17 @@
+//! The command lines of the programs: the words that they are started with, and what these ask for.
+//!
+//! A program calls the function with its name. Where its words ask for help or the version, or are refused, that is printed, and
+//! nothing is left to the program but to end with the exit status that it gets.
+#![tactic(auto)]
+
+mod answer;
+mod help;
+mod spacecraft;
+mod tclive;
+mod tcmake;
+mod tcrx;
+mod words;
+
+pub use tclive::{Reception, asked_of_tclive};
+pub use tcmake::asked_of_tcmake;
+pub use tcrx::{ScriptRun, Way, asked_of_tcrx};

@@ -1,0 +1,62 @@
+//! A station of the channels that a script has set up.
+
+ghost use Rattle.std.specs.Prelude.{◌≡◌, ◌≢◌, ◌≤◌, ◌⊎◌, [], length, map, IfOk, IfErr, OnOk};
+ghost use Rattle.tc_cli.specs.Parting.{empty_list};
+ghost use Rattle.tc_station.specs.StationSettings.{vcids_of};
+
+use std::alloc::Global;
+use tc_channel::{Items, allowed_settings_have_no_fault};
+use tc_setup::Configuration;
+use tc_station::{FlightStation, StationFault, WorkList};
+use tc_text::Reason;
+
+/// A station with these channels.
+pub(crate) fn found(
+    alloc: Global,
+    scid: u16,
+    configuration: Configuration,
+) -> Result<FlightStation, Reason>
+    requires { scid ≤ 1023 }
+    ensures station { IfOk result (λ station. station ≡ record { scid = scid; vcids = vcids_of configuration; issued = 0 }) }
+    ensures some { OnOk result (configuration ≢ []) }
+    ensures reason { IfErr result (λ reason. (reason ≡ Reason.NoMemory) ⊎ ((reason ≡ Reason.NoChannel) × (configuration ≡ []))) }
+{
+    allowed_settings_have_no_fault();
+    match FlightStation::new(alloc, scid, configuration.into_channels()) {
+        Ok(station) => Ok(station),
+        Err(StationFault::NoChannel) => Err(Reason::NoChannel),
+        Err(StationFault::NoMemory) => Err(Reason::NoMemory),
+        // A configuration has none of the other faults.
+        Err(StationFault::BadScid) => unreachable!(),
+        Err(StationFault::DoubleVcid(_)) => unreachable!(),
+        Err(StationFault::Settings(_, _)) => unreachable!(),
+    }
+}
+
+/// An empty list of jobs for each channel.
+pub(crate) fn lists_for(
+    alloc: Global,
+    configuration: &Configuration,
+) -> Result<Vec<WorkList>, Reason>
+    ensures lists { IfOk result (λ lists. lists.items ≡ map empty_list configuration.now) }
+    ensures few { length configuration.now ≤ 64 }
+    ensures reason { IfErr result (λ reason. reason ≡ Reason.NoMemory) }
+{
+    let lists = configuration
+        .channels()
+        .iter()
+        .map(|settings| without_jobs(alloc, settings.vcid));
+    match lists.collect(alloc) {
+        Ok(lists) => Ok(lists),
+        Err(_) => Err(Reason::NoMemory),
+    }
+}
+
+fn without_jobs(alloc: Global, vcid: u8) -> WorkList
+    ensures { result ≡ record { vcid = vcid; jobs = [] } }
+{
+    WorkList {
+        vcid,
+        jobs: Items::from(Vec::new(alloc)),
+    }
+}

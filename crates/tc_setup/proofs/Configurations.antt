@@ -1,0 +1,70 @@
+-- Looking for a channel of a configuration, and setting one up besides.
+use Rattle.std.proofs.Common.{◌≡◌, ◌≢◌, ℕ, ◌<◌, ◌≤◌, Bool, true, false, eqb, Option, Some, None, List, [], ◌∷◌, ◌++◌, length, map, get_or, sym, ◌∙◌, subst, arith}
+use Rattle.std.proofs.lemmas.Bool.{eqb-true}
+use Rattle.std.proofs.lemmas.Bool.Decides.{Decides-eqb}
+use Rattle.std.proofs.lemmas.List.{get_or-map, get_or_default, length-map}
+use Rattle.std.proofs.lemmas.List.Elements.{All-push}
+use Rattle.std.proofs.lemmas.List.Folds.{Any-from_list_any}
+use Rattle.std.proofs.lemmas.List.Quantifiers.{all_pairs_push}
+use Rattle.std.proofs.lemmas.Map.Made.{IsDistinct-from_AllPairs}
+use Rattle.std.proofs.lemmas.Map.Steps.{length-le_from_distinct_below}
+use Rattle.std.proofs.lemmas.Option.{get_or_from_slice_get, slice_get_within}
+use Rattle.std.specs.Bool.{if◌then◌else◌}
+use Rattle.std.specs.List.{list_any}
+use Rattle.std.specs.Prelude.{All, AllPairs, is_some, MatchOption}
+use Rattle.tc_channel.specs.declared.settings.Settings.{Settings}
+use Rattle.tc_channel.specs.Settings.{IsAllowed}
+use Rattle.tc_setup.specs.Configuration.{IsThere, IsAt, IsConfiguration}
+
+-- ids have 6 bits, and no two are the same
+pub few : (list : List Settings) → IsConfiguration list → length list ≤ 64
+few [] c = omega arith
+few (none ∷ rest) c =
+    let of : Settings → ℕ = λ s. s.vcid in
+    let list : List Settings = none ∷ rest in
+    let apart : AllPairs (λ x y. x ≢ y) (map of list) =
+    λ i j d ij jl. λ same.
+    let jm : j < length list = omega (arith, length-map list of) in
+    let im : i < length list = omega arith in
+    c.distinct i j none ij jm (sym (get_or-map of list i none d im) ∙ (same ∙ get_or-map of list j none d jm))
+    in
+    let small : (q : ℕ) → list_any (eqb q) (map of list) ≡ true → q < 64 =
+    λ q h.
+    let w = Any-from_list_any (eqb q) (map of list) h in
+    let kl : w.0 < length list = omega (arith, length-map list of, w.2) in
+    let a : IsAllowed (get_or list w.0 none) = c.allowed w.0 none kl in
+    let e : q ≡ (get_or list w.0 none).vcid = eqb-true q w.1 w.4 ∙ (sym w.3 ∙ get_or-map of list w.0 none w.1 kl) in
+    let v : (get_or list w.0 none).vcid ≤ 63 = a.vcid in
+    omega (arith, e, v)
+    in
+    rw (← length-map list of) (length-le_from_distinct_below (map of list) 64 (IsDistinct-from_AllPairs Decides-eqb (map of list) apart) small)
+
+-- the settings that stand at the place that was found
+pub found : (list : List Settings) (vcid place : ℕ) (x : Settings) → (s : Settings) × IsAt list vcid place s → x ≡ get_or list place x → IsAt list vcid place x
+found list vcid place x (s, (at, v)) is = subst (IsAt list vcid place) (sym (is ∙ get_or_from_slice_get list place s x at)) (at, v)
+
+-- what a search by id says of the channels, by whether it found one
+abbrev pub IsSearched : List Settings → ℕ → Option ℕ → Type 0
+IsSearched list vcid place = MatchOption place (¬ IsThere list vcid) (λ place. (s : Settings) × IsAt list vcid place s)
+
+pub there-already : (list : List Settings) (vcid : ℕ) (place : Option ℕ) → is_some place ≡ true → IsSearched list vcid place → IsThere list vcid
+there-already list vcid None e h = absurd cc
+there-already list vcid (Some place) e (s, (at, v)) = (place, s, slice_get_within list place s at, get_or_from_slice_get list place s s at, v)
+
+pub not-there : (list : List Settings) (vcid : ℕ) (place : Option ℕ) → is_some place ≡ false → IsSearched list vcid place → ¬ IsThere list vcid
+not-there list vcid None e h = h
+not-there list vcid (Some place) e h = absurd cc
+
+-- one channel more, with the id of no other
+pub one-more : (list : List Settings) (s : Settings) → IsConfiguration list → ¬ IsThere list s.vcid → IsAllowed s → IsConfiguration (list ++ s ∷ [])
+one-more list s c new allowed = record {
+  distinct = all_pairs_push (λ (p q : Settings). p.vcid ≢ q.vcid) list s c.distinct
+      (λ k d l. λ same. new (k, get_or list k d, l, get_or_default list k (get_or list k d) d l, same));
+  allowed = All-push IsAllowed list s c.allowed allowed;
+}
+
+-- as before where the memory for one channel more is refused
+pub one-more-if : (more : Bool) (list : List Settings) (s : Settings) → IsConfiguration list → ¬ IsThere list s.vcid → IsAllowed s
+    → IsConfiguration (if more then list ++ s ∷ [] else list)
+one-more-if true list s c new allowed = one-more list s c new allowed
+one-more-if false list s c new allowed = c

@@ -1,0 +1,37 @@
+-- The settings of the channels that a script has set up, in the order of their lines.
+use Rattle.std.specs.Prelude.{◌≡◌, ◌≢◌, ℕ, List, [], ◌∷◌, ◌++◌, All, AllPairs, Any, map, slice_get, slice_set, Some}
+use Rattle.tc_channel.specs.declared.settings.Settings.{Settings}
+use Rattle.tc_channel.specs.Settings.{IsAllowed}
+use Rattle.tc_setup.specs.declared.instruction.Addition.{Addition}
+use Rattle.tc_setup.specs.declared.instruction.Addition.TheVariants.{Queue, Map}
+
+-- a station can have these settings, as soon as there are some
+pub record IsConfiguration (list : List Settings) : Type 0 where
+  pub distinct : AllPairs (λ (p q : Settings). p.vcid ≢ q.vcid) list
+  pub allowed : All IsAllowed list
+
+-- the ids of the channels, in their order
+abbrev pub vcids_of : List Settings → List ℕ
+vcids_of list = map (λ (s : Settings). s.vcid) list
+
+-- there is a channel with this id
+abbrev pub IsThere : List Settings → ℕ → Type 0
+IsThere list vcid = Any (λ (s : Settings). s.vcid ≡ vcid) list
+
+-- the settings with this id, at their place
+abbrev pub IsAt : List Settings → ℕ → ℕ → Settings → Type 0
+IsAt list vcid place s = (slice_get list place ≡ Some s) × (s.vcid ≡ vcid)
+
+-- the settings after a queue line or a map line
+abbrev pub with_addition : Settings → Addition → Settings
+with_addition s (Queue queue) = record s { queues = s.queues ++ queue ∷ [] }
+with_addition s (Map chosen) = record s { maps = s.maps ++ chosen ∷ [] }
+
+-- a channel is set up besides, with the id of no other
+abbrev pub AddsChannel : List Settings → Settings → List Settings → Type 0
+AddsChannel list s new = ¬ IsThere list s.vcid × IsAllowed s × (new ≡ list ++ s ∷ [])
+
+-- the channel with this id gets a queue or a chosen MAP besides, and the others stay
+abbrev pub AddsToChannel : List Settings → ℕ → Addition → List Settings → Type 0
+AddsToChannel list vcid addition new =
+    (place : ℕ) × (s : Settings) × IsAt list vcid place s × IsAllowed (with_addition s addition) × (new ≡ slice_set list place (with_addition s addition))

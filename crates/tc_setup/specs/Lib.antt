@@ -1,0 +1,3 @@
+pub mod Configuration
+pub mod Instruction
+pub mod Phase

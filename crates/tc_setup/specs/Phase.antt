@@ -1,0 +1,71 @@
+-- What the lines of a script do to what is set up, and why a line is bad.
+use Rattle.std.specs.Prelude.{◌≡◌, ◌≢◌, ℕ, List, [], ◌⊎◌}
+use Rattle.tc_channel.specs.declared.settings.Settings.{Settings}
+use Rattle.tc_channel.specs.declared.settings.SettingsFault.{SettingsFault}
+use Rattle.tc_channel.specs.Settings.{IsFault}
+use Rattle.tc_setup.specs.Configuration.{IsThere, IsAt, AddsChannel, AddsToChannel, with_addition}
+use Rattle.tc_text.specs.declared.fault.Reason.{Reason}
+use Rattle.tc_text.specs.declared.fault.Reason.TheVariants.{TooLate, NoChannel, DoubleChannel, UnknownChannel}
+use Rattle.tc_text.specs.Reason.{reason_of}
+use Rattle.tc_setup.specs.declared.instruction.Addition.{Addition}
+use Rattle.tc_setup.specs.declared.instruction.Instruction.{Instruction}
+use Rattle.tc_setup.specs.declared.instruction.Instruction.TheVariants.{Nothing, Channel, Add, Frame, Release, Take, Unit as TakeUnit, Clcw}
+
+-- before the first operation the settings of the channels so far; from then on nothing is set up any more
+pub data Phase : Type 0 where
+  Setup : List Settings → Phase
+  Operation : Phase
+
+-- an operation needs a channel
+abbrev pub Operates : Phase → Phase → Type 0
+Operates phase new = (phase ≢ Setup []) × (new ≡ Operation)
+
+-- what a line that isn't bad does, by what it asks for
+abbrev pub Does : Phase → Instruction → Phase → Type 0
+Does phase Nothing new = new ≡ phase
+Does phase (Channel settings) new =
+    (old : List Settings) × (list : List Settings) × (phase ≡ Setup old) × AddsChannel old settings list × (new ≡ Setup list)
+Does phase (Add vcid addition) new =
+    (old : List Settings) × (list : List Settings) × (phase ≡ Setup old) × AddsToChannel old vcid addition list × (new ≡ Setup list)
+Does phase (Frame octets) new = Operates phase new
+Does phase (Release vcid) new = Operates phase new
+Does phase (Take vcid apid) new = Operates phase new
+Does phase (TakeUnit vcid map_id) new = Operates phase new
+Does phase (Clcw vcid) new = Operates phase new
+
+-- no channel can have the settings, and this is why
+abbrev pub IsSettingsReason : Settings → Reason → Type 0
+IsSettingsReason s reason = (fault : SettingsFault) × (reason ≡ reason_of fault) × IsFault s fault
+
+-- why a channel can't be set up besides these
+abbrev pub IsChannelRefused : List Settings → Settings → Reason → Type 0
+IsChannelRefused list s reason =
+    (IsThere list s.vcid × (reason ≡ DoubleChannel)) ⊎ (¬ IsThere list s.vcid × IsSettingsReason s reason)
+
+-- why none of these channels gets a queue or a chosen MAP
+abbrev pub IsAdditionRefused : List Settings → ℕ → Addition → Reason → Type 0
+IsAdditionRefused list vcid addition reason =
+    (¬ IsThere list vcid × (reason ≡ UnknownChannel))
+    ⊎ ((place : ℕ) × (s : Settings) × IsAt list vcid place s × IsSettingsReason (with_addition s addition) reason)
+
+abbrev pub IsBadChannel : Phase → Settings → Reason → Type 0
+IsBadChannel Operation s reason = reason ≡ TooLate
+IsBadChannel (Setup list) s reason = IsChannelRefused list s reason
+
+abbrev pub IsBadAddition : Phase → ℕ → Addition → Reason → Type 0
+IsBadAddition Operation vcid addition reason = reason ≡ TooLate
+IsBadAddition (Setup list) vcid addition reason = IsAdditionRefused list vcid addition reason
+
+abbrev pub IsBadOperation : Phase → Reason → Type 0
+IsBadOperation phase reason = (phase ≡ Setup []) × (reason ≡ NoChannel)
+
+-- why a line is bad, by what it asks for, memory aside
+abbrev pub IsBad : Phase → Instruction → Reason → Type 0
+IsBad phase Nothing reason = ⊥
+IsBad phase (Channel settings) reason = IsBadChannel phase settings reason
+IsBad phase (Add vcid addition) reason = IsBadAddition phase vcid addition reason
+IsBad phase (Frame octets) reason = IsBadOperation phase reason
+IsBad phase (Release vcid) reason = IsBadOperation phase reason
+IsBad phase (Take vcid apid) reason = IsBadOperation phase reason
+IsBad phase (TakeUnit vcid map_id) reason = IsBadOperation phase reason
+IsBad phase (Clcw vcid) reason = IsBadOperation phase reason

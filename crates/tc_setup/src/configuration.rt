@@ -1,0 +1,172 @@
+//! The channels that a script sets up.
+
+ghost use Rattle.std.specs.Prelude.{◌≡◌, ◌≤◌, ◌⊎◌, [], length, IfOk, IfErr, OnOk, OnErr, MatchOption, MatchResult};
+ghost use Rattle.tc_channel.specs.Settings.{IsAllowed};
+ghost use Rattle.tc_channel.specs.declared.settings.Settings.{Settings};
+ghost use Rattle.tc_setup.specs.Configuration.{AddsChannel, AddsToChannel, IsConfiguration, IsThere, IsAt, vcids_of, with_addition};
+ghost use Rattle.tc_setup.specs.Phase.{IsChannelRefused, IsAdditionRefused, IsSettingsReason};
+
+use crate::copying::copy_each;
+use crate::growing::{append, let_go_of_last};
+use crate::instruction::Addition;
+use std::alloc::Global;
+use std::marker::Model;
+use tc_channel::Settings;
+use tc_text::Reason;
+
+/// The settings of the channels so far, in the order of their lines. A station can have them, as
+/// soon as there are some.
+#[derive(Drop)]
+pub struct Configuration {
+    channels: Vec<Settings>,
+}
+
+impl Model for Configuration {
+    ghost use Rattle.std.specs.Prelude.{List};
+    ghost use Rattle.tc_channel.specs.declared.settings.Settings.{Settings};
+    ghost use Rattle.tc_setup.specs.Configuration.{IsConfiguration};
+
+    ghost Value = { List Settings };
+
+    ghost view = { λ o. o.channels.items };
+
+    ghost invariant = { λ o. IsConfiguration o.channels.items };
+}
+
+impl Configuration {
+    /// No channel.
+    pub fn new(alloc: Global) -> Configuration
+        ensures { result ≡ [] }
+    {
+        Configuration {
+            channels: Vec::new(alloc),
+        }
+    }
+
+    /// Sets up the channel of a channel line besides.
+    pub fn add_channel(&mut self, settings: Settings) -> Result<(), Reason>
+        ensures done { OnOk result (AddsChannel self.old settings self.new) }
+        ensures reason { IfErr result (λ reason. (reason ≡ Reason.NoMemory) ⊎ IsChannelRefused self.old settings reason) }
+        ensures refused { OnErr result (self.new ≡ self.old) }
+    {
+        if place_of(&self.channels, settings.vcid).is_some() {
+            return Err(Reason::DoubleChannel);
+        }
+        check(&settings)?;
+        match self.channels.push(settings) {
+            Ok(()) => Ok(()),
+            Err(_) => Err(Reason::NoMemory),
+        }
+    }
+
+    /// Gives a channel the queue of a queue line or the chosen MAP of a map line besides.
+    pub fn add_to_channel(
+        &mut self,
+        alloc: Global,
+        vcid: u8,
+        addition: Addition,
+    ) -> Result<(), Reason>
+        ensures done { OnOk result (AddsToChannel self.old vcid addition self.new) }
+        ensures reason { IfErr result (λ reason. (reason ≡ Reason.NoMemory) ⊎ IsAdditionRefused self.old vcid addition reason) }
+        ensures refused { OnErr result (self.new ≡ self.old) }
+    {
+        let Some(place) = place_of(&self.channels, vcid) else {
+            return Err(Reason::UnknownChannel);
+        };
+        add_checked(alloc, &mut self.channels[place], addition)?;
+        Ok(())
+    }
+
+    /// The ids of the channels, in their order.
+    pub fn vcids(&self, alloc: Global) -> Result<Vec<u8>, Reason>
+        ensures vcids { IfOk result (λ vcids. vcids.items ≡ vcids_of self.now) }
+        ensures reason { IfErr result (λ reason. reason ≡ Reason.NoMemory) }
+    {
+        let Ok(mut vcids) = Vec::with_capacity(alloc, self.channels.len()) else {
+            return Err(Reason::NoMemory);
+        };
+        for settings in &self.channels {
+            vcids.push_reserved(settings.vcid);
+        }
+        Ok(vcids)
+    }
+
+    /// The same settings once more.
+    pub fn copy(&self, alloc: Global) -> Result<Configuration, Reason>
+        ensures copy { IfOk result (λ copy. copy ≡ self.now) }
+        ensures reason { IfErr result (λ reason. reason ≡ Reason.NoMemory) }
+    {
+        let channels = copy_each(alloc, &self.channels)?;
+        Ok(Configuration { channels })
+    }
+
+    /// The settings of the channels, at most one for each id of six bits.
+    pub fn channels(&self) -> &[Settings]
+        ensures channels { result.now ≡ self.now }
+        ensures few { length self.now ≤ 64 }
+    {
+        self.channels.as_slice()
+    }
+
+    /// The settings of the channels, moved.
+    pub fn into_channels(self) -> Vec<Settings>
+        ensures channels { result.items ≡ self }
+        ensures configuration { IsConfiguration result.items }
+    {
+        let Configuration { channels } = self;
+        channels
+    }
+}
+
+// The place of the settings with this id.
+fn place_of(list: &[Settings], vcid: u8) -> Option<usize>
+    ensures { MatchOption result (¬ IsThere list.now vcid) (λ place. (s : Settings) × IsAt list.now vcid place s) }
+{
+    list.iter().position(|settings| settings.vcid == vcid)
+}
+
+// Whether a channel can have these settings.
+fn check(settings: &Settings) -> Result<(), Reason>
+    ensures { MatchResult result (λ _. IsAllowed settings.now) (IsSettingsReason settings.now) }
+{
+    settings.check()?;
+    Ok(())
+}
+
+// One queue or one chosen MAP more, where a channel can have it.
+fn add_checked(alloc: Global, settings: &mut Settings, addition: Addition) -> Result<(), Reason>
+    ensures done { OnOk result (settings.new ≡ with_addition settings.old addition) }
+    ensures allowed { OnOk result (IsAllowed settings.new) }
+    ensures vcid { settings.new.vcid ≡ settings.old.vcid }
+    ensures reason { IfErr result (λ reason. (reason ≡ Reason.NoMemory) ⊎ IsSettingsReason (with_addition settings.old addition) reason) }
+    ensures refused { OnErr result (settings.new ≡ settings.old) }
+{
+    add(alloc, settings, addition)?;
+    let checked = check(settings);
+    if checked.is_err() {
+        take_back(alloc, settings, addition);
+    }
+    checked
+}
+
+// One queue or one chosen MAP more.
+fn add(alloc: Global, settings: &mut Settings, addition: Addition) -> Result<(), Reason>
+    ensures done { OnOk result (settings.new ≡ with_addition settings.old addition) }
+    ensures reason { IfErr result (λ reason. reason ≡ Reason.NoMemory) }
+    ensures refused { OnErr result (settings.new ≡ settings.old) }
+{
+    match addition {
+        Addition::Queue(queue) => append(alloc, &mut settings.queues, queue),
+        Addition::Map(map) => append(alloc, &mut settings.maps, map),
+    }
+}
+
+// Without the queue or the chosen MAP that was added last.
+fn take_back(alloc: Global, settings: &mut Settings, addition: Addition)
+    ensures { (before : Settings) → settings.old ≡ with_addition before addition → settings.new ≡ before }
+{
+    match addition {
+        Addition::Queue(_) => let_go_of_last(alloc, &mut settings.queues),
+        Addition::Map(_) => let_go_of_last(alloc, &mut settings.maps),
+    }
+}

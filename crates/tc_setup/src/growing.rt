@@ -1,0 +1,34 @@
+//! Lists that lines make longer.
+
+ghost use Rattle.std.specs.Prelude.{◌≡◌, List, [], ◌∷◌, ◌++◌, IfErr, OnOk, OnErr};
+
+use std::alloc::Global;
+use std::mem;
+use tc_channel::Items;
+use tc_text::Reason;
+
+/// One item more, at the end. Where memory is refused, the items stay as they are.
+pub fn append<T: Drop>(alloc: Global, items: &mut Items<T>, item: T) -> Result<(), Reason>
+    ensures done { OnOk result (items.new ≡ items.old ++ item ∷ []) }
+    ensures reason { IfErr result (λ reason. reason ≡ Reason.NoMemory) }
+    ensures refused { OnErr result (items.new ≡ items.old) }
+{
+    let there = mem::replace(items, Items::from(Vec::new(alloc)));
+    let mut more = there.into_vec();
+    let pushed = more.push(item);
+    *items = Items::from(more);
+    match pushed {
+        Ok(()) => Ok(()),
+        Err(_) => Err(Reason::NoMemory),
+    }
+}
+
+/// Without the last item, which is let go.
+pub(crate) fn let_go_of_last<T: Drop>(alloc: Global, items: &mut Items<T>)
+    ensures { (before : List T) (item : T) → items.old ≡ before ++ item ∷ [] → items.new ≡ before }
+{
+    let there = mem::replace(items, Items::from(Vec::new(alloc)));
+    let mut fewer = there.into_vec();
+    let _ = fewer.pop();
+    *items = Items::from(fewer);
+}
