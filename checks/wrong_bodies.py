@@ -23,8 +23,10 @@ CALL = re.compile(r"\b([a-z_]\w*)(?:::<[^>]*>)?\(|::([a-z_]\w*)\b")
 KEEPS_ITS_BODY = re.compile(r"\bconst fn\b|#\[(?:cycle|measure)\b|-> [^{]*\bimpl\b")
 # The folders of a crate with edits: those that `rt ci` tries one by one, and those that are tried many at once.
 MUST_FAIL, WRONG = "must-fail", "wrong"
-# The line of an edit that names the clause of its function that it turns.
+# The line of an edit that names the clause of its function that it turns, and what it names where it turns none: the invariant of a
+# type or of a loop, or what a call requires. Then the wrong body is tried without any clause.
 TURNS = "# turns: "
+NO_CLAUSE = ("invariant", "requires")
 # The line below a 'new:' line that has the same exits and the right value.
 ALIKE = "# alike: "
 # What makes a path of its own through a body: a `?`, a branch, an arm of a match, a jump.
@@ -321,7 +323,16 @@ class Crate:
         if not edit.changes:
             raise Fault(f"{path.name}: it changes nothing")
         edit.function = self.edited_function(edit)
+        clauses = self.clauses_of(edit.function) if edit.function else []
+        if edit.turned and clauses and edit.turned not in (*clauses, *NO_CLAUSE):
+            raise Fault(f"{path.name}: its function has no clause '{edit.turned}'")
         return edit
+
+    def clauses_of(self, function: Function) -> list[str]:
+        """The names of the clauses that a function ensures, as far as they stand with its body."""
+        head = self.texts[function.file].split("\n")[function.first : function.body]
+        found = [CLAUSE.match(line) for line in head if line.strip().startswith("ensures")]
+        return [clause[1] for clause in found if clause and clause[1]]
 
     def edited_function(self, edit: Edit) -> Function | None:
         """The function whose body is all that the edit changes, if there is one."""
@@ -449,7 +460,7 @@ class Crate:
         return made
 
     def head_of(self, edit: Edit) -> list[str]:
-        """The lines of the edited function before its body; of what it ensures just the clause that the edit turns, where that
+        """The lines of the edited function before its body; of what it ensures just the clause that the edit turns, if any, where that
         is tried without the others."""
         right = edit.changed
         lines = self.edited([edit], {})[right.file].split("\n")[right.first : right.body]
