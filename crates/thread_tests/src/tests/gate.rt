@@ -1,12 +1,11 @@
 //! Two workers meet at a gate while each holds the lock of its list's channel.
 
-ghost use Rattle.std.specs.Prelude.{◌≡◌, replicate};
+ghost use Rattle.std.specs.Prelude.{◌≡◌, All, length, map, replicate};
 ghost use Rattle.tc_station.specs.Tally.{fresh};
 
 use super::*;
-use std::process::Abort;
 use std::sync::atomic::{AtomicBool, Ordering};
-use std::thread::{join_mut, yield_now};
+use std::thread::{Threads, join, yield_now};
 use tc_channel::Octets;
 use tc_station::{Gate, Job, Order, WorkList};
 use tc_status::Watcher;
@@ -43,21 +42,9 @@ impl Meeting {
         self.ran_out.load(Ordering::SeqCst)
     }
 
-    fn waits_in_vain_for(&self, other: &AtomicBool) -> bool {
-        for turn in 0..self.turns {
-            if other.load(Ordering::SeqCst) {
-                return false;
-            }
-            if turn % 1024 == 1023 {
-                yield_now();
-            }
-        }
-        true
-    }
-
     fn meet(&self, own: &AtomicBool, other: &AtomicBool) {
         own.store(true, Ordering::SeqCst);
-        if self.waits_in_vain_for(other) {
+        if !comes_true(other, self.turns) {
             self.ran_out.store(true, Ordering::SeqCst);
         }
     }
@@ -73,47 +60,74 @@ impl Gate for Meeting {
     }
 }
 
+// Whether the flag is set within so many turns.
+fn comes_true(flag: &AtomicBool, turns: u32) -> bool {
+    for turn in 0..turns {
+        if flag.load(Ordering::SeqCst) {
+            return true;
+        }
+        if turn % 1024 == 1023 {
+            yield_now();
+        }
+    }
+    false
+}
+
 // One job: to bring this frame.
-fn list_of_one(alloc: Global, vcid: u8, line: u32, octets: &[u8]) -> Result<WorkList, AllocError> {
-    let octets = Octets::copied(alloc, octets)?;
-    let mut jobs = Vec::new(alloc);
-    jobs.push(Job {
-        line,
+fn list_of_one(rt: &impl Abort, alloc: Global, vcid: u8, octets: &[u8]) -> WorkList {
+    let octets = Octets::copied(alloc, octets).expect(rt, "octets");
+    let job = Job {
+        line: u32::from(vcid),
         order: Order::Bring(octets),
-    })?;
-    Ok(WorkList {
+    };
+    WorkList {
         vcid,
-        jobs: Items::from(jobs),
-    })
+        jobs: Items::from(vec![in alloc; job].expect(rt, "jobs")),
+    }
+}
+
+// An Unlock for each channel.
+fn two_unlocks(rt: &impl Abort, alloc: Global) -> [WorkList; 2] {
+    [
+        list_of_one(rt, alloc, 1, &[0x30, 0x2a, 0x04, 0x05, 0x00, 0x00]),
+        list_of_one(rt, alloc, 2, &[0x30, 0x2a, 0x08, 0x05, 0x00, 0x00]),
+    ]
 }
 
 // A station with channels 1 and 2, and two operators.
 fn new_crew(rt: &impl Abort, alloc: Global) -> (Station, Vec<Operator>)
     ensures { result.1.items ≡ replicate 2 (fresh result.0.vcids) }
 {
-    let list = two_channels(alloc, 1).expect(rt, "a list");
-    let mut station = Station::new(alloc, 42, list).expect(rt, "a station");
+    let mut station = station_of_two(rt, alloc, 1);
     let operators = station.operators(2).expect(rt, "operators");
     (station, operators)
 }
 
-// An Unlock for each channel.
-fn two_unlocks(alloc: Global) -> Result<[WorkList; 2], AllocError> {
-    Ok([
-        list_of_one(alloc, 1, 1, &[0x30, 0x2a, 0x04, 0x05, 0x00, 0x00])?,
-        list_of_one(alloc, 2, 2, &[0x30, 0x2a, 0x08, 0x05, 0x00, 0x00])?,
-    ])
+// Does the lists to their end.
+fn do_lists<R: Threads + Wait + Sync + Abort, G: Gate + Sync>(
+    rt: &R,
+    gate: &G,
+    station: &Station,
+    operators: &mut Vec<Operator>,
+    lists: &[WorkList],
+)
+    requires as_many { length operators.old.items ≡ length lists.now }
+    requires ours { All (λ o. o.vcids ≡ station.now.vcids) operators.old.items }
+    ensures { map (λ o. o.vcids) operators.new.items ≡ map (λ o. o.vcids) operators.old.items }
+{
+    let done = station.work(rt, gate, operators, lists);
+    assert!(rt; done == Ok(()));
 }
 
 #[test]
 fn workers_of_two_channels_meet(rt: HostRuntime) {
-    let lists = two_unlocks(rt.alloc()).expect(&rt, "an answer");
+    let lists = two_unlocks(&rt, rt.alloc());
     let (station, mut operators) = new_crew(&rt, rt.alloc());
     let gate = Meeting::new(100_000_000);
-    assert_eq!(rt; station.work(&rt, &gate, &mut operators, &lists), Ok(()));
-    assert_eq!(rt; gate.came(), (true, true));
+    do_lists(&rt, &gate, &station, &mut operators, &lists);
+    assert!(rt; gate.came() == (true, true));
     assert!(rt; !gate.has_run_out());
-    let channels = station.close(operators).expect(&rt, "an answer");
+    let channels = closed(&rt, station, operators);
     assert_eq!(rt; channels.len(), 2);
     assert_eq!(rt; channels[0].journal().len(), 1);
     assert_eq!(rt; channels[1].journal().len(), 1);
@@ -123,7 +137,7 @@ fn workers_of_two_channels_meet(rt: HostRuntime) {
 fn who_passes_alone_says_so(rt: HostRuntime) {
     let gate = Meeting::new(1_000);
     gate.pass(1);
-    assert_eq!(rt; gate.came(), (true, false));
+    assert!(rt; gate.came() == (true, false));
     assert!(rt; gate.has_run_out());
 }
 
@@ -146,19 +160,14 @@ impl Inside {
             was_told: AtomicBool::new(false),
         }
     }
-}
 
-// Whether the flag is set within so many turns.
-fn comes_true(flag: &AtomicBool, turns: u32) -> bool {
-    for turn in 0..turns {
-        if flag.load(Ordering::SeqCst) {
-            return true;
-        }
-        if turn % 1024 == 1023 {
-            yield_now();
-        }
+    fn tell(&self) {
+        self.told.store(true, Ordering::SeqCst);
     }
-    false
+
+    fn was_told(&self) -> bool {
+        self.was_told.load(Ordering::SeqCst)
+    }
 }
 
 impl Gate for Inside {
@@ -178,7 +187,7 @@ impl Gate for Inside {
 fn tell_of_the_second(station: &Station, watcher: &mut Watcher, gate: &Inside) {
     for turn in 0..100_000_000u32 {
         if station.watch(watcher, NO_FLAG) == 0x01080200 {
-            gate.told.store(true, Ordering::SeqCst);
+            gate.tell();
             return;
         }
         if turn % 1024 == 1023 {
@@ -189,30 +198,35 @@ fn tell_of_the_second(station: &Station, watcher: &mut Watcher, gate: &Inside) {
 
 #[test]
 fn a_channel_is_worked_while_the_lock_of_another_is_held(rt: HostRuntime) {
-    let lists = two_unlocks(rt.alloc()).expect(&rt, "lists");
+    let lists = two_unlocks(&rt, rt.alloc());
     let (station, mut operators) = new_crew(&rt, rt.alloc());
     let mut watcher = station.watcher(&rt, 2).expect(&rt, "a watcher");
     let gate = Inside::new(100_000_000);
-    let mut work = || station.work(&rt, &gate, &mut operators, &lists);
-    let mut tell = || tell_of_the_second(&station, &mut watcher, &gate);
-    let (done, _) = join_mut(&rt, &mut work, &mut tell);
-    assert_eq!(rt; done, Ok(()));
-    assert!(rt; gate.was_told.load(Ordering::SeqCst));
+    join(
+        &rt,
+        || do_lists(&rt, &gate, &station, &mut operators, &lists),
+        || tell_of_the_second(&station, &mut watcher, &gate),
+    );
+    assert!(rt; gate.was_told());
+}
+
+// Tells the gate when a watcher of channel 1 was made while someone is inside.
+fn tell_of_a_watcher(rt: &impl Wait, station: &Station, gate: &Inside) {
+    if comes_true(&gate.inside, 100_000_000) && station.watcher(rt, 1).is_ok() {
+        gate.tell();
+    }
 }
 
 #[test]
 fn who_passes_holds_the_lock(rt: HostRuntime) {
-    let lists = two_unlocks(rt.alloc()).expect(&rt, "lists");
+    let lists = two_unlocks(&rt, rt.alloc());
     let (station, mut operators) = new_crew(&rt, rt.alloc());
     let gate = Inside::new(20_000_000);
-    let mut work = || station.work(&rt, &gate, &mut operators, &lists);
-    let mut intrude = || {
-        if comes_true(&gate.inside, 100_000_000) && station.watcher(&rt, 1).is_ok() {
-            gate.told.store(true, Ordering::SeqCst);
-        }
-    };
-    let (done, _) = join_mut(&rt, &mut work, &mut intrude);
-    assert_eq!(rt; done, Ok(()));
+    join(
+        &rt,
+        || do_lists(&rt, &gate, &station, &mut operators, &lists),
+        || tell_of_a_watcher(&rt, &station, &gate),
+    );
     assert!(rt; gate.told.load(Ordering::SeqCst));
-    assert!(rt; !gate.was_told.load(Ordering::SeqCst));
+    assert!(rt; !gate.was_told());
 }

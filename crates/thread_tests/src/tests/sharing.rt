@@ -1,18 +1,10 @@
 //! Two threads, each with an operator of its own, make operations on one station.
 
-ghost use Rattle.std.specs.Prelude.{◌≡◌};
+ghost use Rattle.std.specs.Prelude.{◌≡◌, ◌∷◌, []};
 
 use super::*;
-use std::process::Abort;
-use std::thread::{Threads, join_mut};
-use tc_channel::Channel;
-use tc_station::{CloseFault, ReleaseRefused};
-
-// Channels 1 and 2 with the window 10, room for 64 fields and V(R) 0 first.
-fn new_station(rt: &impl Abort, alloc: Global) -> Station {
-    let list = two_channels(alloc, 64).expect(rt, "a list");
-    Station::new(alloc, 42, list).expect(rt, "a station")
-}
+use std::thread::{Threads, join};
+use tc_station::ReleaseRefused;
 
 // The third octet of the frames for virtual channels 1 and 2.
 pub(super) const TO_CHANNEL_1: u8 = 0x04;
@@ -26,96 +18,123 @@ pub(super) fn ad_frame(third: u8, ns: u8) -> [u8; 13] {
     ]
 }
 
-// Brings a frame and releases its channel, whose buffer the other thread may have emptied by then. Says whether nothing
-// else was refused.
-fn bring_and_release(
-    rt: &impl Wait,
-    station: &Station,
-    operator: &mut Operator,
-    vcid: u8,
-    frame: &[u8],
-) -> bool
-    requires { operator.old.vcids ≡ station.now.vcids }
-    ensures { operator.new.vcids ≡ operator.old.vcids }
-{
-    if station.bring(rt, operator, frame).is_err() {
-        return false;
+// A station with virtual channels 1 and 2.
+#[derive(Drop)]
+struct TwoChannels {
+    station: Station,
+    ghost two: { station.vcids ≡ 1 ∷ 2 ∷ [] },
+}
+
+// An operator of such a station.
+#[derive(Drop)]
+struct Hand {
+    operator: Operator,
+    ghost ours: { operator.vcids ≡ 1 ∷ 2 ∷ [] },
+}
+
+impl Hand {
+    // Whether the frame was not refused.
+    fn bring(&mut self, rt: &impl Wait, shared: &TwoChannels, frame: &[u8]) -> bool {
+        shared.station.bring(rt, &mut self.operator, frame).is_ok()
     }
-    match station.release(rt, operator, vcid) {
-        Ok(_) => true,
-        Err(refused) => refused == ReleaseRefused::Empty,
+
+    // Whether nothing was refused but for an empty buffer: the other thread may have emptied it.
+    fn release(&mut self, rt: &impl Wait, shared: &TwoChannels, vcid: u8) -> bool {
+        match shared.station.release(rt, &mut self.operator, vcid) {
+            Ok(_) => true,
+            Err(refused) => refused == ReleaseRefused::Empty,
+        }
+    }
+
+    // Brings the frame with this third octet and this N(S), and releases its channel.
+    fn turn(
+        &mut self,
+        rt: &impl Wait,
+        shared: &TwoChannels,
+        (third, vcid): (u8, u8),
+        ns: u8,
+    ) -> bool {
+        self.bring(rt, shared, &ad_frame(third, ns)) && self.release(rt, shared, vcid)
+    }
+
+    // 300 turns on channel 1 and then on channel 2, with rising numbers. Says whether nothing else was refused.
+    fn take_turns(&mut self, rt: &impl Wait, shared: &TwoChannels) -> bool {
+        let mut done = true;
+        for turn in 0..300u16 {
+            let ns = (turn % 256) as u8;
+            let first = self.turn(rt, shared, (TO_CHANNEL_1, 1), ns);
+            let second = self.turn(rt, shared, (TO_CHANNEL_2, 2), ns);
+            done = done && first && second;
+        }
+        done
     }
 }
 
-// 300 turns on channel 1 and then on channel 2, with rising numbers. Says whether nothing else was refused.
-fn take_turns(rt: &impl Wait, station: &Station, operator: &mut Operator) -> bool
-    requires { operator.old.vcids ≡ station.now.vcids }
-    ensures { operator.new.vcids ≡ operator.old.vcids }
-{
-    let mut done = true;
-    for turn in 0..300u16 {
-        let ns = (turn % 256) as u8;
-        let first = bring_and_release(rt, station, operator, 1, &ad_frame(TO_CHANNEL_1, ns));
-        let second = bring_and_release(rt, station, operator, 2, &ad_frame(TO_CHANNEL_2, ns));
-        done = done && first && second;
+// A station, and its two operators.
+#[derive(Drop)]
+struct Crew {
+    shared: TwoChannels,
+    one: Hand,
+    two: Hand,
+}
+
+impl Crew {
+    // The channels have room for 64 fields.
+    fn new(rt: &impl Abort, alloc: Global) -> Crew {
+        let mut station = station_of_two(rt, alloc, 64);
+        let mut operators = station.operators(2).expect(rt, "operators");
+        let two = operators.pop().expect(rt, "a second operator");
+        let one = operators.pop().expect(rt, "a first operator");
+        Crew {
+            shared: TwoChannels { station },
+            one: Hand { operator: one },
+            two: Hand { operator: two },
+        }
     }
-    done
-}
 
-// Both operators take their turns, each in a thread of its own.
-fn share<R: Threads + Wait + Sync>(
-    rt: &R,
-    station: &Station,
-    one: &mut Operator,
-    two: &mut Operator,
-) -> bool
-    requires one { one.old.vcids ≡ station.now.vcids }
-    requires two { two.old.vcids ≡ station.now.vcids }
-    ensures one { one.new.vcids ≡ one.old.vcids }
-    ensures two { two.new.vcids ≡ two.old.vcids }
-{
-    let mut first = || -> bool
-        requires { one.now.vcids ≡ station.now.vcids }
-        ensures { one.exit.now.vcids ≡ one.entry.now.vcids }
-    { take_turns(rt, station, one) };
-    let mut second = || -> bool
-        requires { two.now.vcids ≡ station.now.vcids }
-        ensures { two.exit.now.vcids ≡ two.entry.now.vcids }
-    { take_turns(rt, station, two) };
-    let (a, b) = join_mut(rt, &mut first, &mut second);
-    a && b
-}
+    // Both operators take their turns, each in a thread of its own.
+    fn share<R: Threads + Wait + Sync>(&mut self, rt: &R) -> bool {
+        let shared = &self.shared;
+        let one = &mut self.one;
+        let two = &mut self.two;
+        let (a, b) = join(
+            rt,
+            || one.take_turns(rt, shared),
+            || two.take_turns(rt, shared),
+        );
+        a && b
+    }
 
-fn counted_by_both(one: &Operator, two: &Operator, vcid: u8) -> Option<u64> {
-    one.count(vcid)?.checked_add(two.count(vcid)?)
+    fn counted_by_both(&self, vcid: u8) -> Option<u64> {
+        let one = self.one.operator.count(vcid)?;
+        one.checked_add(self.two.operator.count(vcid)?)
+    }
+
+    fn close(self, rt: &impl Abort, alloc: Global) -> Vec<Channel> {
+        let Crew { shared, one, two } = self;
+        let TwoChannels { station } = shared;
+        let Hand { operator: one } = one;
+        let Hand { operator: two } = two;
+        let others = vec![in alloc; one].expect(rt, "a list");
+        close(rt, station, others, two)
+    }
 }
 
 // The channel has as many events as were counted of it: each of the 600 frames, and what was released.
 fn check_journal(rt: &impl Abort, channel: &Channel, vcid: u8, counted: Option<u64>) {
     assert_eq!(rt; channel.settings().vcid, vcid);
     let events = channel.journal().len() as u64;
-    assert_eq!(rt; Some(events), counted);
+    assert!(rt; Some(events) == counted, "{events} events");
     assert!(rt; events >= 600);
 }
 
 #[test]
 fn two_operators_on_one_station(rt: HostRuntime) {
-    let alloc = rt.alloc();
-    let mut station = new_station(&rt, alloc);
-    let mut operators = station.operators(2).expect(&rt, "an answer");
-    let mut two = operators.pop().expect(&rt, "a second operator");
-    let mut one = operators.pop().expect(&rt, "a first operator");
-    assert!(rt; share(&rt, &station, &mut one, &mut two));
-    let first = counted_by_both(&one, &two, 1);
-    let second = counted_by_both(&one, &two, 2);
-    operators.push(one).expect(&rt, "an answer");
-    let (station, mut operators) = match station.close(operators) {
-        Err(CloseFault::Missing(station, operators)) => (station, operators),
-        _ => panic!(rt; "closed without the second operator"),
-    };
-    assert_eq!(rt; operators.len(), 1);
-    operators.push(two).expect(&rt, "an answer");
-    let channels = station.close(operators).expect(&rt, "an answer");
+    let mut crew = Crew::new(&rt, rt.alloc());
+    assert!(rt; crew.share(&rt));
+    let first = crew.counted_by_both(1);
+    let second = crew.counted_by_both(2);
+    let channels = crew.close(&rt, rt.alloc());
     assert_eq!(rt; channels.len(), 2);
     check_journal(&rt, &channels[0], 1, first);
     check_journal(&rt, &channels[1], 2, second);
