@@ -2,57 +2,41 @@ mod alone;
 mod longest;
 mod replay;
 mod rows;
+mod texts;
 
-ghost use Rattle.std.specs.Prelude.{◌≡◌, ◌∷◌, [], IfOk};
-ghost use Rattle.tc_station.specs.StationSettings.{vcids_of};
-
-use std::alloc::{AllocError, Global};
+use std::alloc::Global;
+use std::process::Abort;
 use std::sync::Wait;
 use tc_channel::{Items, Journal, QueueSetting, Settings};
 use tc_link::Link;
-use tc_station::{Operator, Station, StationOf};
+use tc_station::{Operator, StationOf};
 
 const NO_FLAG: Link = Link {
     no_rf: false,
     no_bit_lock: false,
 };
 
-// One queue, of capacity 1 for APID 5, and no chosen MAP.
+// One queue, of capacity 1 for APID 5, and no chosen MAP. The shape is the window's width, the buffer and the first V(R).
 fn settings(
+    rt: &impl Abort,
     alloc: Global,
     vcid: u8,
-    width: u8,
-    buffer: u8,
-    first: u8,
-) -> Result<Settings, AllocError>
-    ensures { IfOk result (λ s. s.vcid ≡ vcid) }
-{
+    (width, buffer, first): (u8, u8, u8),
+) -> Settings {
     let queue = QueueSetting {
         apid: 5,
         capacity: 1,
     };
-    Ok(Settings {
+    let queues = Vec::from_slice(alloc, &[queue]).expect(rt, "queues");
+    Settings {
         vcid,
         width,
         buffer,
         first,
         segmented: true,
-        queues: Items::from(Vec::from_slice(alloc, &[queue])?),
+        queues: Items::from(queues),
         maps: Items::from(Vec::new(alloc)),
-    })
-}
-
-fn list_of_two(
-    alloc: Global,
-    first: Settings,
-    second: Settings,
-) -> Result<Vec<Settings>, AllocError>
-    ensures { IfOk result (λ list. vcids_of list.items ≡ first.vcid ∷ second.vcid ∷ []) }
-{
-    let mut list = Vec::with_capacity(alloc, 2)?;
-    list.push(first)?;
-    list.push(second)?;
-    Ok(list)
+    }
 }
 
 // A channel's CLCW with both link flags 0, as a new watcher reads it, if the station has that channel.

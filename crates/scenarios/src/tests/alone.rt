@@ -1,12 +1,109 @@
-//! A channel that stands alone, with its journal in memory and without.
+//! What operations are answered, and a channel that stands alone, with its journal in memory and without.
 
-use super::NO_FLAG;
-use std::alloc::Global;
-use std::process::Abort;
-use tc_channel::{
-    Channel, Delivery, FlightChannel, FrameReply, ReleaseFault, Settings, TakeFault, TakeUnitFault,
-};
-use tc_link::Frame;
+use super::*;
+use tc_channel::{Channel, ChannelWith, Delivery, FlightChannel, FrameReply};
+use tc_link::{Frame, Report, read_frame};
+use tc_station::{BringFault, Brought, LocateFault, ReleaseRefused, TakeRefused, TakeUnitRefused};
+use tc_text::Line;
+
+// What a station answers to the operation of a line. That of a frame has the CLCW that follows it, and that of a take its APID or
+// MAP.
+#[derive(Drop, PartialEq)]
+pub(super) enum Answer {
+    Frame(Result<(Brought, Option<u32>), BringFault>),
+    Release(Result<Delivery, ReleaseRefused>),
+    Take(u16, Result<Vec<u8>, TakeRefused>),
+    TakeUnit(u8, Result<Vec<u8>, TakeUnitRefused>),
+    Clcw(Option<u32>),
+}
+
+// What a channel tells of itself. The packets are those of APID 5, and the units those of MAP 3.
+#[derive(Clone, Copy, PartialEq)]
+struct Told {
+    events: u64,
+    report: Report,
+    buffered: usize,
+    queued: Option<usize>,
+    units: Option<usize>,
+}
+
+fn tell<J: Journal>(channel: &ChannelWith<J>) -> Told {
+    Told {
+        events: channel.events(),
+        report: channel.report(),
+        buffered: channel.buffered(),
+        queued: channel.queued(5),
+        units: channel.units(3),
+    }
+}
+
+fn settings_of<J: Journal>(channel: &ChannelWith<J>) -> &Settings {
+    channel.settings()
+}
+
+// Both channels tell the same of themselves.
+fn check_same<J: Journal, K: Journal>(
+    rt: &impl Abort,
+    one: &ChannelWith<J>,
+    other: &ChannelWith<K>,
+) {
+    assert!(rt; tell(one) == tell(other));
+    assert!(rt; settings_of(one) == settings_of(other));
+}
+
+fn made<J: Journal>(rt: &impl Abort, alloc: Global, settings: Settings) -> ChannelWith<J> {
+    ChannelWith::new(alloc, settings).expect(rt, "a channel")
+}
+
+fn word_of<J: Journal>(channel: &ChannelWith<J>) -> u32 {
+    channel.clcw(NO_FLAG)
+}
+
+fn take_in<J: Journal>(rt: &impl Abort, channel: &mut ChannelWith<J>, frame: &Frame) -> FrameReply {
+    channel.frame(frame).expect(rt, "an answer")
+}
+
+// Octets that arrive are answered by a channel as a station with it answers them.
+fn bring<J: Journal>(
+    rt: &impl Abort,
+    channel: &mut ChannelWith<J>,
+    octets: &[u8],
+) -> Result<(Brought, Option<u32>), BringFault> {
+    match read_frame(octets) {
+        Ok(frame) => {
+            let vcid = settings_of(channel).vcid;
+            let reply = take_in(rt, channel, &frame);
+            Ok((Brought { vcid, reply }, Some(word_of(channel))))
+        }
+        Err(fault) => Err(BringFault::Locate(LocateFault::Frame(fault))),
+    }
+}
+
+fn release<J: Journal>(channel: &mut ChannelWith<J>) -> Result<Delivery, ReleaseRefused> {
+    Ok(channel.release()?)
+}
+
+fn take<J: Journal>(channel: &mut ChannelWith<J>, apid: u16) -> Result<Vec<u8>, TakeRefused> {
+    Ok(channel.take(apid)?)
+}
+
+fn take_unit<J: Journal>(
+    channel: &mut ChannelWith<J>,
+    map: u8,
+) -> Result<Vec<u8>, TakeUnitRefused> {
+    Ok(channel.take_unit(map)?)
+}
+
+fn ask<J: Journal>(rt: &impl Abort, channel: &mut ChannelWith<J>, line: &Line) -> Answer {
+    match line {
+        Line::Frame(octets) => Answer::Frame(bring(rt, channel, octets.as_slice())),
+        Line::Release(_) => Answer::Release(release(channel)),
+        Line::Take(_, apid) => Answer::Take(*apid, take(channel, *apid)),
+        Line::Unit(_, map) => Answer::TakeUnit(*map, take_unit(channel, *map)),
+        Line::Clcw(_) => Answer::Clcw(Some(word_of(channel))),
+        _ => panic!(rt; "a line that is no operation"),
+    }
+}
 
 // Both answer alike, and the one without a journal counts the events that the other keeps.
 #[derive(Drop)]
@@ -19,55 +116,40 @@ impl Alone {
     // The same settings twice.
     pub(super) fn new(rt: &impl Abort, alloc: Global, one: Settings, again: Settings) -> Alone {
         Alone {
-            kept: Channel::new(alloc, one).expect(rt, "a channel"),
-            flight: FlightChannel::new(alloc, again).expect(rt, "a channel"),
+            kept: made(rt, alloc, one),
+            flight: made(rt, alloc, again),
         }
     }
 
-    // Each tells what the other tells.
-    pub(super) fn check(&self, rt: &impl Abort) {
-        assert_eq!(rt; self.flight.events(), self.kept.journal().len() as u64);
-        assert_eq!(rt; self.kept.events(), self.flight.events());
-        assert_eq!(rt; self.flight.settings(), self.kept.settings());
-        assert_eq!(rt; self.flight.report(), self.kept.report());
-        assert_eq!(rt; self.flight.buffered(), self.kept.buffered());
-        assert_eq!(rt; self.flight.queued(5), self.kept.queued(5));
-        assert_eq!(rt; self.flight.units(3), self.kept.units(3));
+    pub(super) fn vcid(&self) -> u8 {
+        settings_of(&self.kept).vcid
+    }
+
+    // What the operation of a line is answered.
+    pub(super) fn ask(&mut self, rt: &impl Abort, line: &Line) -> Answer {
+        let answer = ask(rt, &mut self.kept, line);
+        let again = ask(rt, &mut self.flight, line);
+        assert!(rt; again == answer, "the channels that stand alone differ");
+        answer
     }
 
     pub(super) fn clcw(&self, rt: &impl Abort) -> u32 {
-        let word = self.kept.clcw(NO_FLAG);
-        assert_eq!(rt; self.flight.clcw(NO_FLAG), word);
+        let word = word_of(&self.kept);
+        assert_eq!(rt; word_of(&self.flight), word);
         word
     }
 
-    pub(super) fn frame(&mut self, rt: &impl Abort, frame: &Frame) -> FrameReply {
-        let reply = self.kept.frame(frame).expect(rt, "an answer");
-        assert_eq!(rt; self.flight.frame(frame), Ok(reply));
-        reply
+    // Each tells what the other tells, and so does a channel that left the station.
+    pub(super) fn check<J: Journal>(&self, rt: &impl Abort, closed: &ChannelWith<J>) {
+        let events = self.kept.journal().len() as u64;
+        assert_eq!(rt; self.kept.events(), events);
+        check_same(rt, &self.flight, &self.kept);
+        check_same(rt, closed, &self.kept);
     }
 
-    pub(super) fn release(&mut self, rt: &impl Abort) -> Result<Delivery, ReleaseFault> {
-        let delivery = self.kept.release();
-        assert_eq!(rt; self.flight.release(), delivery);
-        delivery
-    }
-
-    pub(super) fn take(&mut self, rt: &impl Abort, apid: u16) -> Result<Vec<u8>, TakeFault> {
-        let packet = self.kept.take(apid);
-        let again = self.flight.take(apid);
-        let alike = again.as_deref().ok() == packet.as_deref().ok();
-        assert!(rt; alike, "the packets differ");
-        assert_eq!(rt; again.err(), packet.as_ref().err().copied());
-        packet
-    }
-
-    pub(super) fn take_unit(&mut self, rt: &impl Abort, map: u8) -> Result<Vec<u8>, TakeUnitFault> {
-        let unit = self.kept.take_unit(map);
-        let again = self.flight.take_unit(map);
-        let alike = again.as_deref().ok() == unit.as_deref().ok();
-        assert!(rt; alike, "the units differ");
-        assert_eq!(rt; again.err(), unit.as_ref().err().copied());
-        unit
+    // The same journal, which may be too long to be shown.
+    pub(super) fn check_journal(&self, rt: &impl Abort, closed: &Channel) {
+        let alike = closed.journal() == self.kept.journal();
+        assert!(rt; alike, "the journals differ");
     }
 }

@@ -2,15 +2,13 @@
 
 ghost use Rattle.std.specs.Prelude.{◌≡◌, All};
 
-use super::alone::Alone;
+use super::alone::{Alone, Answer};
+use super::texts::text_of;
 use super::*;
-use std::process::Abort;
 use tc_channel::{
-    Channel, ChannelWith, Delivery, Event, FlightChannel, FrameReply, Journal, Kept, MapSetting,
-    Octets, ReleaseFault, TakeFault, TakeUnitFault, Unkept,
+    Channel, ChannelWith, Delivery, Event, FlightChannel, Kept, MapSetting, Octets, Unkept,
 };
-use tc_link::{FrameFault, read_frame};
-use tc_station::{BringFault, Brought, LocateFault, ReleaseRefused, TakeRefused, TakeUnitRefused};
+use tc_station::{BringFault, Brought, ReleaseRefused, TakeRefused, TakeUnitRefused};
 use tc_text::{Line, parse_line};
 
 // What is done on virtual channel 1 of stations and of channels with this width, buffer and first V(R): lines of a script, and what
@@ -24,7 +22,7 @@ pub(super) struct Row<'a> {
 }
 
 // How frames are brought to the station.
-#[derive(Clone, Copy, PartialEq, Eq)]
+#[derive(Clone, Copy)]
 enum Bringing {
     Plain,
     // With a watcher of each frame's channel.
@@ -32,7 +30,7 @@ enum Bringing {
 }
 
 // How units reach the channels.
-#[derive(Clone, Copy, PartialEq, Eq)]
+#[derive(Clone, Copy)]
 enum Form {
     // By segments, and their packets are queued.
     Segmented,
@@ -42,29 +40,38 @@ enum Form {
     Chosen,
 }
 
-// Settings in this form.
-fn settings_in(
-    alloc: Global,
-    form: Form,
-    vcid: u8,
-    (width, buffer, first): (u8, u8, u8),
-) -> Result<Settings, AllocError> {
-    let segmented = settings(alloc, vcid, width, buffer, first)?;
+// A queue for one unit of MAP 3.
+fn chosen(rt: &impl Abort, alloc: Global) -> Items<MapSetting> {
     let map = MapSetting {
         map: 3,
         capacity: 1,
     };
-    Ok(match form {
-        Form::Segmented => segmented,
-        Form::Plain => Settings {
-            segmented: false,
-            ..segmented
-        },
-        Form::Chosen => Settings {
-            maps: Items::from(Vec::from_slice(alloc, &[map])?),
-            ..segmented
-        },
-    })
+    Items::from(Vec::from_slice(alloc, &[map]).expect(rt, "maps"))
+}
+
+// Settings of channel 1 in this form.
+fn first_settings(rt: &impl Abort, alloc: Global, form: Form, shape: (u8, u8, u8)) -> Settings {
+    let mut settings = settings(rt, alloc, 1, shape);
+    match form {
+        Form::Segmented => {}
+        Form::Plain => settings.segmented = false,
+        Form::Chosen => settings.maps = chosen(rt, alloc),
+    }
+    settings
+}
+
+// Settings of channel 2: its first V(R) is 100, and its data fields always have segment headers.
+fn second_settings(
+    rt: &impl Abort,
+    alloc: Global,
+    form: Form,
+    (width, buffer, _): (u8, u8, u8),
+) -> Settings {
+    let mut settings = settings(rt, alloc, 2, (width, buffer, 100));
+    if let Form::Chosen = form {
+        settings.maps = chosen(rt, alloc);
+    }
+    settings
 }
 
 // A station for spacecraft 42 with virtual channels 2 and 1, in this order, and one operator.
@@ -77,14 +84,7 @@ struct Crew<J: Journal> {
 }
 
 impl<J: Journal> Crew<J> {
-    fn new(
-        rt: &impl Abort,
-        alloc: Global,
-        bringing: Bringing,
-        first: Settings,
-        second: Settings,
-    ) -> Crew<J> {
-        let list = list_of_two(alloc, second, first).expect(rt, "a list");
+    fn new(rt: &impl Abort, alloc: Global, bringing: Bringing, list: Vec<Settings>) -> Crew<J> {
         let mut station = StationOf::new(alloc, 42, list).expect(rt, "a station");
         let mut operators = station.operators(1).expect(rt, "operators");
         let operator = operators.pop().expect(rt, "an operator");
@@ -95,24 +95,36 @@ impl<J: Journal> Crew<J> {
         }
     }
 
-    // Brings octets. Where the frame is watched, it also tells what its watcher reads at once.
+    // Brings octets. With the CLCW of the frame's channel after it.
     fn bring(
         &mut self,
         rt: &impl Wait,
         octets: &[u8],
     ) -> Result<(Brought, Option<u32>), BringFault> {
         match self.bringing {
-            Bringing::Plain => {
-                let brought = self.station.bring(rt, &mut self.operator, octets)?;
-                Ok((brought, None))
-            }
-            Bringing::Watched => {
-                let (brought, mut watcher) = self
-                    .station
-                    .bring_watched(rt, &mut self.operator, octets)?;
-                Ok((brought, Some(self.station.watch(&mut watcher, NO_FLAG))))
-            }
+            Bringing::Plain => self.bring_plain(rt, octets),
+            Bringing::Watched => self.bring_watched(rt, octets),
         }
+    }
+
+    // A watcher that is made afterwards reads the CLCW.
+    fn bring_plain(
+        &mut self,
+        rt: &impl Wait,
+        octets: &[u8],
+    ) -> Result<(Brought, Option<u32>), BringFault> {
+        let brought = self.station.bring(rt, &mut self.operator, octets)?;
+        Ok((brought, status_of(&self.station, rt, brought.vcid)))
+    }
+
+    // The watcher that is made with the frame reads it at once.
+    fn bring_watched(
+        &mut self,
+        rt: &impl Wait,
+        octets: &[u8],
+    ) -> Result<(Brought, Option<u32>), BringFault> {
+        let (brought, mut watcher) = self.station.bring_watched(rt, &mut self.operator, octets)?;
+        Ok((brought, Some(self.station.watch(&mut watcher, NO_FLAG))))
     }
 
     fn release(&mut self, rt: &impl Wait, vcid: u8) -> Result<Delivery, ReleaseRefused> {
@@ -125,6 +137,18 @@ impl<J: Journal> Crew<J> {
 
     fn take_unit(&mut self, rt: &impl Wait, vcid: u8, map: u8) -> Result<Vec<u8>, TakeUnitRefused> {
         self.station.take_unit(rt, &mut self.operator, vcid, map)
+    }
+
+    // What the operation of a line is answered on a channel.
+    fn ask(&mut self, rt: &(impl Wait + Abort), vcid: u8, line: &Line) -> Answer {
+        match line {
+            Line::Frame(octets) => Answer::Frame(self.bring(rt, octets.as_slice())),
+            Line::Release(_) => Answer::Release(self.release(rt, vcid)),
+            Line::Take(_, apid) => Answer::Take(*apid, self.take(rt, vcid, *apid)),
+            Line::Unit(_, map) => Answer::TakeUnit(*map, self.take_unit(rt, vcid, *map)),
+            Line::Clcw(_) => Answer::Clcw(status_of(&self.station, rt, vcid)),
+            _ => panic!(rt; "a line that is no operation"),
+        }
     }
 
     // The station, and a list of its one operator.
@@ -156,197 +180,23 @@ impl Crew<Unkept> {
     }
 }
 
-// Brings octets to a channel of the station and to one that stands alone, which answer alike. A watcher of the frame at
-// once reads what the one that stands alone tells.
-fn bring_to_both<J: Journal>(
+// Asks for the operation of a line on a channel of the station and on one that stands alone, which answer alike.
+fn ask_both<J: Journal>(
     rt: &(impl Wait + Abort),
     crew: &mut Crew<J>,
     alone: &mut Alone,
-    octets: &[u8],
-) -> Result<FrameReply, FrameFault> {
-    let brought = crew.bring(rt, octets);
-    match read_frame(octets) {
-        Ok(frame) => {
-            let reply = alone.frame(rt, &frame);
-            let vcid = alone.kept.settings().vcid;
-            let word = match crew.bringing {
-                Bringing::Plain => None,
-                Bringing::Watched => Some(alone.clcw(rt)),
-            };
-            assert_eq!(rt; brought, Ok((Brought { vcid, reply }, word)));
-            Ok(reply)
-        }
-        Err(fault) => {
-            let refused = BringFault::Locate(LocateFault::Frame(fault));
-            assert_eq!(rt; brought, Err(refused));
-            Err(fault)
-        }
-    }
+    line: &Line,
+) -> Answer {
+    let answer = alone.ask(rt, line);
+    let told = crew.ask(rt, alone.vcid(), line);
+    assert!(rt; told == answer, "the station answers otherwise");
+    answer
 }
 
-fn release_refused(fault: ReleaseFault) -> ReleaseRefused {
-    match fault {
-        ReleaseFault::Empty => ReleaseRefused::Empty,
-        ReleaseFault::NoMemory => ReleaseRefused::NoMemory,
-    }
-}
-
-// Releases a channel of the station and one that stands alone, which answer alike.
-fn release_both<J: Journal>(
-    rt: &(impl Wait + Abort),
-    crew: &mut Crew<J>,
-    alone: &mut Alone,
-) -> Result<Delivery, ReleaseFault> {
-    let vcid = alone.kept.settings().vcid;
-    let delivery = alone.release(rt);
-    assert_eq!(rt; crew.release(rt, vcid), delivery.map_err(release_refused));
-    delivery
-}
-
-fn take_refused(fault: TakeFault) -> TakeRefused {
-    match fault {
-        TakeFault::NoQueue => TakeRefused::NoQueue,
-        TakeFault::Empty => TakeRefused::Empty,
-        TakeFault::NoMemory => TakeRefused::NoMemory,
-    }
-}
-
-fn take_unit_refused(fault: TakeUnitFault) -> TakeUnitRefused {
-    match fault {
-        TakeUnitFault::NoMap => TakeUnitRefused::NoMap,
-        TakeUnitFault::Empty => TakeUnitRefused::Empty,
-        TakeUnitFault::NoMemory => TakeUnitRefused::NoMemory,
-    }
-}
-
-// Takes a packet from a channel of the station and from one that stands alone, which answer alike.
-fn take_from_both<J: Journal>(
-    rt: &(impl Wait + Abort),
-    crew: &mut Crew<J>,
-    alone: &mut Alone,
-    apid: u16,
-) -> Result<Vec<u8>, TakeFault> {
-    let vcid = alone.kept.settings().vcid;
-    let packet = alone.take(rt, apid);
-    let taken = crew.take(rt, vcid, apid);
-    let alike = taken.as_deref().ok() == packet.as_deref().ok();
-    assert!(rt; alike, "the packets of channel {vcid} differ");
-    let refused = packet.as_ref().err().copied().map(take_refused);
-    assert_eq!(rt; taken.err(), refused);
-    packet
-}
-
-// Takes a unit from a channel of the station and from one that stands alone, which answer alike.
-fn take_unit_from_both<J: Journal>(
-    rt: &(impl Wait + Abort),
-    crew: &mut Crew<J>,
-    alone: &mut Alone,
-    map: u8,
-) -> Result<Vec<u8>, TakeUnitFault> {
-    let vcid = alone.kept.settings().vcid;
-    let unit = alone.take_unit(rt, map);
-    let taken = crew.take_unit(rt, vcid, map);
-    let alike = taken.as_deref().ok() == unit.as_deref().ok();
-    assert!(rt; alike, "the units of channel {vcid} differ");
-    let refused = unit.as_ref().err().copied().map(take_unit_refused);
-    assert_eq!(rt; taken.err(), refused);
-    unit
-}
-
-// What a script prints of these answers.
-fn text_of_frame(
-    alloc: Global,
-    answer: Result<FrameReply, FrameFault>,
-) -> Result<String, AllocError> {
-    let reply = match answer {
-        Ok(reply) => reply,
-        Err(fault) => {
-            let why = match fault {
-                FrameFault::Short => "short",
-                FrameFault::Version => "version",
-                FrameFault::Spare => "spare",
-                FrameFault::LengthSmall => "length",
-                FrameFault::Truncated => "truncated",
-            };
-            return format!(in alloc; "refused {why}");
-        }
-    };
-    let event = reply.act.event;
-    let accepted = u8::from(reply.act.accepted);
-    let delivery = text_of_delivery(alloc, reply.delivery)?;
-    format!(in alloc; "frame 1 E{event} accepted {accepted} {delivery}")
-}
-
-fn text_of_delivery(alloc: Global, delivery: Delivery) -> Result<String, AllocError> {
-    let queued = delivery.queued;
-    let dropped = delivery.dropped;
-    let rest = u8::from(delivery.rest);
-    format!(in alloc; "queued {queued} dropped {dropped} rest {rest}")
-}
-
-fn text_of_release(
-    alloc: Global,
-    answer: Result<Delivery, ReleaseFault>,
-) -> Result<String, AllocError> {
-    match answer {
-        Ok(delivery) => {
-            let delivery = text_of_delivery(alloc, delivery)?;
-            format!(in alloc; "release 1 {delivery}")
-        }
-        Err(ReleaseFault::Empty) => "refused empty".to_string(alloc),
-        Err(ReleaseFault::NoMemory) => "no memory".to_string(alloc),
-    }
-}
-
-fn text_of_take(
-    alloc: Global,
-    apid: u16,
-    answer: Result<Vec<u8>, TakeFault>,
-) -> Result<String, AllocError> {
-    match answer {
-        Ok(packet) => {
-            let digits = hex::encode(alloc, packet.as_slice())?;
-            format!(in alloc; "take 1 {apid} {digits}")
-        }
-        Err(TakeFault::NoQueue) => "refused no queue".to_string(alloc),
-        Err(TakeFault::Empty) => "refused empty".to_string(alloc),
-        Err(TakeFault::NoMemory) => "no memory".to_string(alloc),
-    }
-}
-
-fn text_of_unit(
-    alloc: Global,
-    map: u8,
-    answer: Result<Vec<u8>, TakeUnitFault>,
-) -> Result<String, AllocError> {
-    match answer {
-        Ok(unit) if unit.is_empty() => format!(in alloc; "unit 1 {map} -"),
-        Ok(unit) => {
-            let digits = hex::encode(alloc, unit.as_slice())?;
-            format!(in alloc; "unit 1 {map} {digits}")
-        }
-        Err(TakeUnitFault::NoMap) => "refused no map".to_string(alloc),
-        Err(TakeUnitFault::Empty) => "refused empty".to_string(alloc),
-        Err(TakeUnitFault::NoMemory) => "no memory".to_string(alloc),
-    }
-}
-
-// A channel that left the station is as the one that stood alone.
-fn check_alike<J: Journal>(rt: &impl Abort, closed: &ChannelWith<J>, alone: &Alone) {
-    alone.check(rt);
-    let alone = &alone.kept;
-    assert_eq!(rt; closed.settings(), alone.settings());
-    assert_eq!(rt; closed.events(), alone.journal().len() as u64);
-    assert_eq!(rt; closed.report(), alone.report());
-    assert_eq!(rt; closed.buffered(), alone.buffered());
-    assert_eq!(rt; closed.queued(5), alone.queued(5));
-    assert_eq!(rt; closed.units(3), alone.units(3));
-}
-
-// The same journal, which may be too long to be shown.
-fn check_journal(rt: &impl Abort, closed: &Channel, alone: &Alone) {
-    let alike = closed.journal() == alone.kept.journal();
-    assert!(rt; alike, "the journals differ");
+// The station tells of a channel what the one that stands alone tells.
+fn check_word<J: Journal>(rt: &(impl Wait + Abort), crew: &Crew<J>, alone: &Alone) {
+    let word = alone.clcw(rt);
+    assert!(rt; status_of(&crew.station, rt, alone.vcid()) == Some(word));
 }
 
 // As many of these octets as their header tells a frame has, one more than the number in its ten bits of length.
@@ -357,14 +207,17 @@ fn without_fill(octets: &[u8]) -> Option<&[u8]> {
     octets.get(..length)
 }
 
-// The event that a journal has of an operation that is not refused. Nothing is noted of a CLCW, nor of octets without a frame.
+// The event that a journal has of a frame that came with these octets. Nothing is noted of octets without a frame.
+fn event_of_frame(rt: &impl Abort, alloc: Global, octets: &[u8]) -> Option<Event> {
+    let frame = without_fill(octets)?;
+    let octets = Octets::copied(alloc, frame).expect(rt, "the octets");
+    Some(Event::Frame(octets))
+}
+
+// The event that a journal has of an operation that is not refused. Nothing is noted of a CLCW.
 fn event_of(rt: &impl Abort, alloc: Global, line: &Line) -> Option<Event> {
     match line {
-        Line::Frame(octets) => {
-            let frame = without_fill(octets.as_slice())?;
-            let frame = Vec::from_slice(alloc, frame).expect(rt, "the octets");
-            Some(Event::Frame(Octets::from(frame)))
-        }
+        Line::Frame(octets) => event_of_frame(rt, alloc, octets.as_slice()),
         Line::Release(_) => Some(Event::Release),
         Line::Take(_, apid) => Some(Event::Take(*apid)),
         Line::Unit(_, map) => Some(Event::TakeUnit(*map)),
@@ -372,13 +225,27 @@ fn event_of(rt: &impl Abort, alloc: Global, line: &Line) -> Option<Event> {
     }
 }
 
+fn note(rt: &impl Abort, journal: &mut Vec<Event>, event: Option<Event>) {
+    if let Some(event) = event {
+        journal.push(event).expect(rt, "a journal");
+    }
+}
+
 // The same frame for virtual channel 2 in place of 1.
-fn for_channel_2(octets: Octets) -> Vec<u8> {
+fn frame_for_channel_2(octets: Octets) -> Octets {
     let mut octets = octets.into_vec();
     if let Some(third) = octets.get_mut(2) {
         *third = third.wrapping_add(4);
     }
-    octets
+    Octets::from(octets)
+}
+
+// The same line with such a frame.
+fn for_channel_2(line: Line) -> Line {
+    match line {
+        Line::Frame(octets) => Line::Frame(frame_for_channel_2(octets)),
+        line => line,
+    }
 }
 
 // Channels 1 and 2 of a station, and beside them a channel with the settings of each that stands alone.
@@ -391,8 +258,7 @@ struct Replay<J: Journal> {
 }
 
 impl<J: Journal> Replay<J> {
-    // Channel 1 has this shape. Channel 2 has the same, but its first V(R) is 100, and its data fields always have segment
-    // headers.
+    // Channel 1 has this shape. Channel 2 has the same, but for its first V(R).
     fn new(
         rt: &impl Abort,
         alloc: Global,
@@ -400,18 +266,12 @@ impl<J: Journal> Replay<J> {
         form: Form,
         shape: (u8, u8, u8),
     ) -> Replay<J> {
-        let (width, buffer, _) = shape;
-        let by_headers = match form {
-            Form::Plain => Form::Segmented,
-            form => form,
-        };
-        let one = || settings_in(alloc, form, 1, shape).expect(rt, "settings");
-        let other = || {
-            settings_in(alloc, by_headers, 2, (width, buffer, 100)).expect(rt, "settings")
-        };
+        let one = || first_settings(rt, alloc, form, shape);
+        let other = || second_settings(rt, alloc, form, shape);
+        let list = vec![in alloc; other(), one()].expect(rt, "a list");
         Replay {
             alloc,
-            crew: Crew::new(rt, alloc, bringing, one(), other()),
+            crew: Crew::new(rt, alloc, bringing, list),
             first: Alone::new(rt, alloc, one(), one()),
             second: Alone::new(rt, alloc, other(), other()),
         }
@@ -419,91 +279,63 @@ impl<J: Journal> Replay<J> {
 
     // The station tells of each channel what the one that stands alone tells.
     fn check_words(&self, rt: &(impl Wait + Abort)) {
-        let station = &self.crew.station;
-        let first = self.first.clcw(rt);
-        assert_eq!(rt; status_of(station, rt, 1), Some(first));
-        let second = self.second.clcw(rt);
-        assert_eq!(rt; status_of(station, rt, 2), Some(second));
+        check_word(rt, &self.crew, &self.first);
+        check_word(rt, &self.crew, &self.second);
     }
 
-    // Octets arrive, on channel 1 and then on channel 2. What channel 1 answers.
-    fn frame(
+    // Asks for the operation of a line on channel 1 and then on channel 2. What channel 1 answers.
+    fn ask(&mut self, rt: &(impl Wait + Abort), line: Line) -> Answer {
+        let answer = ask_both(rt, &mut self.crew, &mut self.first, &line);
+        self.check_words(rt);
+        let line = for_channel_2(line);
+        ask_both(rt, &mut self.crew, &mut self.second, &line);
+        self.check_words(rt);
+        answer
+    }
+
+    // Asks for the operation of a line, which is answered by this text; channel 1 then has its event, too, unless it was refused.
+    fn step(
         &mut self,
         rt: &(impl Wait + Abort),
-        octets: Octets,
-    ) -> Result<FrameReply, FrameFault> {
-        let reply = bring_to_both(rt, &mut self.crew, &mut self.first, octets.as_slice());
-        self.check_words(rt);
-        let octets = for_channel_2(octets);
-        let _ = bring_to_both(rt, &mut self.crew, &mut self.second, &octets);
-        self.check_words(rt);
-        reply
+        journal: &mut Vec<Event>,
+        name: &str,
+        (line, expected): (&str, &str),
+    ) {
+        let line = parse_line(self.alloc, line.as_bytes()).expect(rt, "a line");
+        let event = event_of(rt, self.alloc, &line);
+        let answer = self.ask(rt, line);
+        let told = text_of(self.alloc, &answer).expect(rt, "a text");
+        assert_eq!(rt; told.as_str(), expected, "{name}");
+        if !expected.starts_with("refused ") {
+            note(rt, journal, event);
+        }
+        let alike = self.first.kept.journal() == journal.as_slice();
+        assert!(rt; alike, "{name}: the journal differs after {expected}");
     }
 
-    fn release(&mut self, rt: &(impl Wait + Abort)) -> Result<Delivery, ReleaseFault> {
-        let delivery = release_both(rt, &mut self.crew, &mut self.first);
-        self.check_words(rt);
-        let _ = release_both(rt, &mut self.crew, &mut self.second);
-        self.check_words(rt);
-        delivery
-    }
-
-    // Takes a packet from channel 1 and then from channel 2. What channel 1 answers.
-    fn take(&mut self, rt: &(impl Wait + Abort), apid: u16) -> Result<Vec<u8>, TakeFault> {
-        let packet = take_from_both(rt, &mut self.crew, &mut self.first, apid);
-        self.check_words(rt);
-        let _ = take_from_both(rt, &mut self.crew, &mut self.second, apid);
-        self.check_words(rt);
-        packet
-    }
-
-    // Takes a unit from channel 1 and then from channel 2. What channel 1 answers.
-    fn take_unit(&mut self, rt: &(impl Wait + Abort), map: u8) -> Result<Vec<u8>, TakeUnitFault> {
-        let unit = take_unit_from_both(rt, &mut self.crew, &mut self.first, map);
-        self.check_words(rt);
-        let _ = take_unit_from_both(rt, &mut self.crew, &mut self.second, map);
-        self.check_words(rt);
-        unit
-    }
-
-    // The text of the CLCW that the station tells of channel 1.
-    fn clcw(&self, rt: &(impl Wait + Abort)) -> Result<String, AllocError> {
-        let word = status_of(&self.crew.station, rt, 1).expect(rt, "a status");
-        format!(in self.alloc; "clcw 1 {word:08x}")
-    }
-
-    // Does an operation, and tells what it is answered.
-    fn operate(&mut self, rt: &(impl Wait + Abort), line: Line) -> String {
-        let told = match line {
-            Line::Frame(octets) => text_of_frame(self.alloc, self.frame(rt, octets)),
-            Line::Release(_) => text_of_release(self.alloc, self.release(rt)),
-            Line::Take(_, apid) => text_of_take(self.alloc, apid, self.take(rt, apid)),
-            Line::Unit(_, map) => text_of_unit(self.alloc, map, self.take_unit(rt, map)),
-            Line::Clcw(_) => self.clcw(rt),
-            _ => panic!(rt; "a line that is no operation"),
-        };
-        told.expect(rt, "a text")
-    }
-
-    // Each line in turn, which is answered as expected; channel 1 has the event of each operation that was answered.
+    // Each line in turn.
     fn play(&mut self, rt: &(impl Wait + Abort), row: &Row) {
         self.check_words(rt);
         let mut answers = row.answers.lines();
         let mut journal = Vec::new(self.alloc);
         for line in row.script.lines() {
-            let line = parse_line(self.alloc, line.as_bytes()).expect(rt, "a line");
             let expected = answers.next().expect(rt, "an answer");
-            let event = event_of(rt, self.alloc, &line);
-            let told = self.operate(rt, line);
-            assert_eq!(rt; told.as_str(), expected, "{}", row.name);
-            if let Some(event) = event.filter(|_| !expected.starts_with("refused ")) {
-                journal.push(event).expect(rt, "a journal");
-            }
-            let alike = self.first.kept.journal() == journal.as_slice();
-            assert!(rt; alike, "{}: the journal differs after {told}", row.name);
+            self.step(rt, &mut journal, row.name, (line, expected));
         }
-        assert_eq!(rt; answers.next(), None, "{}", row.name);
+        assert!(rt; answers.next().is_none(), "{}", row.name);
     }
+}
+
+// The closed channels of a station are as those that stand alone.
+fn check_closed<J: Journal>(
+    rt: &impl Abort,
+    channels: &[ChannelWith<J>],
+    first: &Alone,
+    second: &Alone,
+) {
+    assert_eq!(rt; channels.len(), 2);
+    second.check(rt, &channels[0]);
+    first.check(rt, &channels[1]);
 }
 
 impl Replay<Kept> {
@@ -516,11 +348,10 @@ impl Replay<Kept> {
             second,
         } = self;
         let channels = crew.close(rt, alloc);
+        check_closed(rt, &channels, &first, &second);
         assert_eq!(rt; channels.len(), 2);
-        check_alike(rt, &channels[0], &second);
-        check_alike(rt, &channels[1], &first);
-        check_journal(rt, &channels[0], &second);
-        check_journal(rt, &channels[1], &first);
+        second.check_journal(rt, &channels[0]);
+        first.check_journal(rt, &channels[1]);
     }
 }
 
@@ -534,9 +365,7 @@ impl Replay<Unkept> {
             second,
         } = self;
         let channels = crew.close(rt, alloc);
-        assert_eq!(rt; channels.len(), 2);
-        check_alike(rt, &channels[0], &second);
-        check_alike(rt, &channels[1], &first);
+        check_closed(rt, &channels, &first, &second);
     }
 }
 
@@ -553,16 +382,19 @@ fn play_on<J: Journal>(
     replay
 }
 
-// Plays each row, with frames that are brought in each manner, on a station whose channels keep their journals and on one in
-// flight, and closes the stations.
+// Plays a row on a station whose channels keep their journals and on one in flight, and closes the stations.
+fn play_row(rt: &(impl Wait + Abort), alloc: Global, form: Form, bringing: Bringing, row: &Row) {
+    let kept: Replay<Kept> = play_on(rt, alloc, form, bringing, row);
+    kept.close(rt);
+    let flight: Replay<Unkept> = play_on(rt, alloc, form, bringing, row);
+    flight.close(rt)
+}
+
+// Plays each row, with frames that are brought in each manner.
 fn play_in(rt: &(impl Wait + Abort), alloc: Global, form: Form, rows: &[Row]) {
     for row in rows {
-        for bringing in [Bringing::Plain, Bringing::Watched] {
-            let kept: Replay<Kept> = play_on(rt, alloc, form, bringing, row);
-            kept.close(rt);
-            let flight: Replay<Unkept> = play_on(rt, alloc, form, bringing, row);
-            flight.close(rt)
-        }
+        play_row(rt, alloc, form, Bringing::Plain, row);
+        play_row(rt, alloc, form, Bringing::Watched, row);
     }
 }
 
