@@ -5,7 +5,7 @@ use bench_parts::{median, picoseconds_of_each};
 use std::time::{Clock, CpuClock, Duration, Instant};
 
 /// What one of many took, in picoseconds.
-#[derive(Clone, Copy, Debug)]
+#[derive(Clone, Copy)]
 pub(crate) struct Cost {
     /// By the clock.
     pub(crate) time: u128,
@@ -39,15 +39,8 @@ impl Start {
 }
 
 /// The medians of five measurements.
-pub(crate) fn median_of<F: FnMut() -> Result<Cost>>(mut measure: F) -> Result<Cost>
-    requires { F.IsAlwaysCallable measure }
-{
-    let a = measure()?;
-    let b = measure()?;
-    let c = measure()?;
-    let d = measure()?;
-    let e = measure()?;
-    Ok(Cost {
+pub(crate) fn median_of([a, b, c, d, e]: [Cost; 5]) -> Cost {
+    Cost {
         time: median([a.time, b.time, c.time, d.time, e.time]),
         processor: median([
             a.processor,
@@ -56,5 +49,5 @@ pub(crate) fn median_of<F: FnMut() -> Result<Cost>>(mut measure: F) -> Result<Co
             d.processor,
             e.processor,
         ]),
-    })
+    }
 }

@@ -2,8 +2,9 @@
 
 use crate::crew::Crew;
 use crate::measure::{Cost, Start, median_of};
+use crate::round::make_sequenced;
 use anyhow::{Result, anyhow};
-use bench_parts::{Score, Sender, Sent};
+use bench_parts::{Score, Sender};
 use std::alloc::Global;
 use std::sync::atomic::{AtomicU64, Ordering};
 use std::sync::{Mutex, Wait};
@@ -22,33 +23,72 @@ const EVENTS: u32 = 100_000;
 /// The frame that is copied: as many octets as the round's frames have.
 const FRAME: [u8; 13] = [7; 13];
 
+/// What is timed.
+#[derive(Clone, Copy)]
+enum Part {
+    Round,
+    Lock,
+    Store,
+    Block,
+    Event,
+    Copied,
+}
+
+/// The parts of a round, how often it has each, and how each is called.
+static PARTS_OF_A_ROUND: [(Part, u32, &str); 5] = [
+    (Part::Lock, 3, "a lock taken and let go"),
+    (Part::Store, 3, "a status word stored"),
+    (Part::Block, 2, "a block made and let go"),
+    (Part::Event, 3, "an event pushed"),
+    (Part::Copied, 3, "13 octets copied"),
+];
+
 /// Prints what a round costs, what each of its parts costs alone and how often the round has it, and the ratio of the
 /// round to the sum of its parts.
 pub(crate) fn print<R: Wait + Clock + CpuClock + AllocGlobal + Print>(rt: &R) -> Result<()> {
-    let round = median_of(|| rounds(rt))?;
-    print_line(
-        rt,
-        "a frame brought, released and its packet taken",
-        1,
-        round,
-    )?;
+    let what = "a frame brought, released and its packet taken";
+    let round = print_part(rt, (Part::Round, 1, what))?;
     let mut sum: u128 = 0;
-    for (what, count, cost) in [
-        ("a lock taken and let go", 3, median_of(|| locks(rt))?),
-        ("a status word stored", 3, median_of(|| stores(rt))?),
-        ("a block made and let go", 2, median_of(|| blocks(rt))?),
-        ("an event pushed", 3, median_of(|| events(rt))?),
-        ("13 octets copied", 3, median_of(|| copies(rt))?),
-    ] {
-        print_line(rt, what, count, cost)?;
-        sum = sum.saturating_add(cost.time.saturating_mul(count));
+    for part in &PARTS_OF_A_ROUND {
+        sum = sum.saturating_add(print_part(rt, *part)?);
     }
-    let percent = round.time.saturating_mul(100) / sum.max(1);
+    let percent = round.saturating_mul(100) / sum.max(1);
     println!(rt; "the round takes {percent} per cent of what its parts take alone")?;
     Ok(())
 }
 
-fn print_line(rt: &impl Print, what: &str, count: u128, cost: Cost) -> Result<()> {
+// What so many of a part take together, by the clock.
+fn print_part<R: Wait + Clock + CpuClock + AllocGlobal + Print>(
+    rt: &R,
+    (part, count, what): (Part, u32, &str),
+) -> Result<u128> {
+    let cost = typical(rt, part)?;
+    print_line(rt, what, count, cost)?;
+    Ok(cost.time.saturating_mul(u128::from(count)))
+}
+
+fn typical<R: Wait + Clock + CpuClock + AllocGlobal>(rt: &R, part: Part) -> Result<Cost> {
+    Ok(median_of([
+        measured(rt, part)?,
+        measured(rt, part)?,
+        measured(rt, part)?,
+        measured(rt, part)?,
+        measured(rt, part)?,
+    ]))
+}
+
+fn measured<R: Wait + Clock + CpuClock + AllocGlobal>(rt: &R, part: Part) -> Result<Cost> {
+    match part {
+        Part::Round => rounds(rt),
+        Part::Lock => locks(rt),
+        Part::Store => stores(rt),
+        Part::Block => blocks(rt),
+        Part::Event => events(rt),
+        Part::Copied => copies(rt),
+    }
+}
+
+fn print_line(rt: &impl Print, what: &str, count: u32, cost: Cost) -> Result<()> {
     let time = cost.time / 100;
     println!(rt; "{count} times {what}: {}.{} ns each", time / 10, time % 10)?;
     Ok(())
@@ -58,20 +98,22 @@ fn print_line(rt: &impl Print, what: &str, count: u128, cost: Cost) -> Result<()
 fn rounds<R: Wait + Clock + CpuClock + AllocGlobal>(rt: &R) -> Result<Cost> {
     let sender = Sender::new(rt.alloc(), 1)?;
     let mut crew = Crew::new(rt.alloc(), &[1])?;
+    let cost = timed_rounds(rt, &sender, &mut crew)?;
+    crew.close(rt.alloc())?;
+    Ok(cost)
+}
+
+fn timed_rounds<R: Wait + Clock + CpuClock>(
+    rt: &R,
+    sender: &Sender,
+    crew: &mut Crew,
+) -> Result<Cost> {
     let mut score = Score::new();
     let start = Start::now(rt)?;
     for number in 0..ROUNDS {
-        crew.bring(
-            rt,
-            sender.octets(Sent::Sequenced((number % 256) as u8)),
-            &mut score,
-        )?;
-        crew.release(rt, 1, &mut score)?;
-        crew.take(rt, 1, &mut score)?;
+        make_sequenced(rt, crew, sender, (number % 256) as u8, &mut score)?;
     }
-    let cost = start.cost_of_each(rt, u64::from(ROUNDS))?;
-    crew.close(rt.alloc())?;
-    Ok(cost)
+    start.cost_of_each(rt, u64::from(ROUNDS))
 }
 
 fn locks<R: Wait + Clock + CpuClock>(rt: &R) -> Result<Cost> {
@@ -93,16 +135,21 @@ fn stores<R: Clock + CpuClock>(rt: &R) -> Result<Cost> {
     start.cost_of_each(rt, u64::from(PARTS))
 }
 
-// A block takes the place of the one before it, which is let go.
 fn blocks<R: Clock + CpuClock + AllocGlobal>(rt: &R) -> Result<Cost> {
-    let mut block = Vec::from_slice(rt.alloc(), &FRAME)?;
     let start = Start::now(rt)?;
-    for _ in 0..PARTS {
-        block = Vec::from_slice(rt.alloc(), block.as_slice())?;
-    }
+    let length = length_of_blocks(rt.alloc())?;
     let cost = start.cost_of_each(rt, u64::from(PARTS))?;
-    check(block.len() == FRAME.len())?;
+    check(length == FRAME.len())?;
     Ok(cost)
+}
+
+// A block takes the place of the one before it, which is let go.
+fn length_of_blocks(alloc: Global) -> Result<usize> {
+    let mut block = Vec::from_slice(alloc, &FRAME)?;
+    for _ in 0..PARTS {
+        block = Vec::from_slice(alloc, block.as_slice())?;
+    }
+    Ok(block.len())
 }
 
 fn events<R: Clock + CpuClock + AllocGlobal>(rt: &R) -> Result<Cost> {
@@ -123,17 +170,23 @@ fn journal_of(alloc: Global, count: u32) -> Result<Vec<Event>> {
 }
 
 fn copies<R: Clock + CpuClock + AllocGlobal>(rt: &R) -> Result<Cost> {
-    let mut place = Vec::with_capacity(rt.alloc(), FRAME.len())?;
-    let mut last: u8 = 0;
     let start = Start::now(rt)?;
+    let sum = sum_of_copies(rt.alloc())?;
+    let cost = start.cost_of_each(rt, u64::from(PARTS))?;
+    check(sum == ((PARTS % 256) as u8).wrapping_mul(FRAME[0]))?;
+    Ok(cost)
+}
+
+// What the first octets add up to. All copies are made in one place.
+fn sum_of_copies(alloc: Global) -> Result<u8> {
+    let mut place = Vec::with_capacity(alloc, FRAME.len())?;
+    let mut sum: u8 = 0;
     for _ in 0..PARTS {
         place.clear();
         place.extend_from_slice(&FRAME)?;
-        last = last.wrapping_add(place[0]);
+        sum = sum.wrapping_add(place[0]);
     }
-    let cost = start.cost_of_each(rt, u64::from(PARTS))?;
-    check(last == ((PARTS % 256) as u8).wrapping_mul(FRAME[0]))?;
-    Ok(cost)
+    Ok(sum)
 }
 
 fn check(right: bool) -> Result<()> {

@@ -1,7 +1,7 @@
 //! The scores of the load.
 
 use crate::crew::{Crew, NO_FLAG};
-use crate::round::{make_round, senders};
+use crate::round::{make_rounds, senders};
 use crate::station::APID;
 use crate::workers::work;
 use anyhow::{Result, anyhow};
@@ -32,9 +32,7 @@ fn in_turn(rt: &impl Wait, alloc: Global, vcids: &[u8], rounds: u32) -> Result<u
     let mut crew = Crew::new(alloc, vcids)?;
     let mut score = Score::new();
     for number in 0..rounds {
-        for sender in &senders {
-            make_round(rt, &mut crew, sender, (number % 256) as u8, &mut score)?;
-        }
+        make_rounds(rt, &mut crew, &senders, (number % 256) as u8, &mut score)?;
     }
     add_channels(&mut score, &crew.close(alloc)?)?;
     Ok(score.value())

@@ -15,26 +15,62 @@ const READS: u64 = 50_000_000;
 /// How many loads are timed together: enough for the other thread to get a processor of its own meanwhile.
 const LOADS: u64 = 500_000_000;
 
+/// What is timed.
+#[derive(Clone, Copy)]
+enum Timed {
+    Load,
+    Read,
+    LoadBeside,
+    ReadBeside,
+}
+
+/// Each with what it is called.
+static LINES: [(Timed, &str); 4] = [
+    (Timed::Load, "a load of a word"),
+    (Timed::Read, "a read of a status"),
+    (
+        Timed::LoadBeside,
+        "a load of a word that another thread stores",
+    ),
+    (
+        Timed::ReadBeside,
+        "a read of a status that another thread publishes",
+    ),
+];
+
 /// Prints what a read costs alone, and while another thread writes the word.
 pub(crate) fn print<R: Threads + Clock + CpuClock + Sync + AllocGlobal + Print>(
     rt: &R,
 ) -> Result<()> {
-    let load = median_of(|| loads_alone(rt))?;
-    let read = median_of(|| reads_alone(rt))?;
-    let load_beside = median_of(|| loads_beside_stores(rt))?;
-    let read_beside = median_of(|| reads_beside_publications(rt))?;
-    print_line(rt, "a load of a word", load)?;
-    print_line(rt, "a read of a status", read)?;
-    print_line(
-        rt,
-        "a load of a word that another thread stores",
-        load_beside,
-    )?;
-    print_line(
-        rt,
-        "a read of a status that another thread publishes",
-        read_beside,
-    )
+    for (timed, what) in &LINES {
+        print_line(rt, what, typical(rt, *timed)?)?;
+    }
+    Ok(())
+}
+
+fn typical<R: Threads + Clock + CpuClock + Sync + AllocGlobal>(
+    rt: &R,
+    timed: Timed,
+) -> Result<Cost> {
+    Ok(median_of([
+        measured(rt, timed)?,
+        measured(rt, timed)?,
+        measured(rt, timed)?,
+        measured(rt, timed)?,
+        measured(rt, timed)?,
+    ]))
+}
+
+fn measured<R: Threads + Clock + CpuClock + Sync + AllocGlobal>(
+    rt: &R,
+    timed: Timed,
+) -> Result<Cost> {
+    match timed {
+        Timed::Load => loads_alone(rt),
+        Timed::Read => reads_alone(rt),
+        Timed::LoadBeside => loads_beside_stores(rt),
+        Timed::ReadBeside => reads_beside_publications(rt),
+    }
 }
 
 // Beside the time stands the processor time, of both threads where there are two.

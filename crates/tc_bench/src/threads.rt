@@ -9,16 +9,16 @@ use anyhow::{Result, anyhow};
 use bench_parts::{Sender, Sent, per_second};
 use std::alloc::Global;
 use std::sync::Wait;
+use std::thread;
 use std::thread::Threads;
 use std::time::{Clock, CpuClock};
-use std::{fmt, thread};
 use tc_station::{Operator, Station};
 
 /// How many frames each thread brings.
 const FRAMES: u32 = 200_000;
 
 /// What each thread does on its channel, again and again.
-#[derive(Clone, Copy, Debug, PartialEq, Eq)]
+#[derive(Clone, Copy)]
 enum Load {
     /// Brings the next Type-AD frame, releases its data field, and takes its packet.
     Sequenced,
@@ -26,12 +26,22 @@ enum Load {
     Bypassing,
 }
 
-impl fmt::Display for Load {
-    fn fmt<W: fmt::Write>(&self, f: &mut fmt::Formatter<W>) -> fmt::Result {
-        f.write_str(match self {
-            Load::Sequenced => "AD frames, released and taken",
-            Load::Bypassing => "BD frames, taken",
-        })
+/// The loads, and the channels of their threads.
+static LINES: [(Load, &[u8]); 8] = [
+    (Load::Sequenced, &[1]),
+    (Load::Sequenced, &[1, 2]),
+    (Load::Sequenced, &[1, 2, 3, 4]),
+    (Load::Bypassing, &[1]),
+    (Load::Bypassing, &[1, 2]),
+    (Load::Bypassing, &[1, 2, 3, 4]),
+    (Load::Bypassing, &[1, 1]),
+    (Load::Bypassing, &[1, 1, 1, 1]),
+];
+
+fn name_of(load: Load) -> &'static str {
+    match load {
+        Load::Sequenced => "AD frames, released and taken",
+        Load::Bypassing => "BD frames, taken",
     }
 }
 
@@ -39,14 +49,10 @@ impl fmt::Display for Load {
 pub(crate) fn print<R: Threads + Wait + Clock + CpuClock + Sync + AllocGlobal + Print>(
     rt: &R,
 ) -> Result<()> {
-    print_line(rt, Load::Sequenced, &[1])?;
-    print_line(rt, Load::Sequenced, &[1, 2])?;
-    print_line(rt, Load::Sequenced, &[1, 2, 3, 4])?;
-    print_line(rt, Load::Bypassing, &[1])?;
-    print_line(rt, Load::Bypassing, &[1, 2])?;
-    print_line(rt, Load::Bypassing, &[1, 2, 3, 4])?;
-    print_line(rt, Load::Bypassing, &[1, 1])?;
-    print_line(rt, Load::Bypassing, &[1, 1, 1, 1])
+    for (load, vcids) in &LINES {
+        print_line(rt, *load, vcids)?;
+    }
+    Ok(())
 }
 
 // A thread for each of the virtual channels.
@@ -55,12 +61,28 @@ fn print_line<R: Threads + Wait + Clock + CpuClock + Sync + AllocGlobal + Print>
     load: Load,
     vcids: &[u8],
 ) -> Result<()> {
-    let Cost { time, processor } = median_of(|| cost_of_each(rt, rt.alloc(), load, vcids))?;
+    let Cost { time, processor } = typical(rt, rt.alloc(), load, vcids)?;
     let (rate, nanoseconds) = (per_second(time), processor / 1000);
+    let load = name_of(load);
     println!(rt;
         "{load}, by threads on channels {vcids:?}: {rate} a second, {nanoseconds} ns of processor each"
     )?;
     Ok(())
+}
+
+fn typical<R: Threads + Wait + Clock + CpuClock + Sync>(
+    rt: &R,
+    alloc: Global,
+    load: Load,
+    vcids: &[u8],
+) -> Result<Cost> {
+    Ok(median_of([
+        cost_of_each(rt, alloc, load, vcids)?,
+        cost_of_each(rt, alloc, load, vcids)?,
+        cost_of_each(rt, alloc, load, vcids)?,
+        cost_of_each(rt, alloc, load, vcids)?,
+        cost_of_each(rt, alloc, load, vcids)?,
+    ]))
 }
 
 // What each frame takes, of those of all threads.
@@ -73,10 +95,23 @@ fn cost_of_each<R: Threads + Wait + Clock + CpuClock + Sync>(
     let senders = senders(alloc, vcids)?;
     let mut station = new_station(alloc, &[1, 2, 3, 4])?;
     let mut operators = station.operators(u16::try_from(senders.len())?)?;
+    timed(rt, &station, load, &senders, operators.as_mut_slice())
+}
+
+fn timed<R: Threads + Wait + Clock + CpuClock + Sync>(
+    rt: &R,
+    station: &Station,
+    load: Load,
+    senders: &[Sender],
+    operators: &mut [Operator],
+) -> Result<Cost>
+    requires as_many { length operators.old ≡ length senders.now }
+    requires ours { All (λ o. o.vcids ≡ station.now.vcids) operators.old }
+{
     let start = Start::now(rt)?;
-    run_all(rt, &station, load, &senders, operators.as_mut_slice());
+    run_all(rt, station, load, senders, operators);
     let cost = start.cost_of_each(rt, u64::from(FRAMES).saturating_mul(senders.len() as u64))?;
-    check_counts(load, &senders, &operators)?;
+    check_counts(load, senders, operators)?;
     Ok(cost)
 }
 

@@ -1,6 +1,6 @@
 //! The load by workers, a list of jobs for each channel.
 
-ghost use Rattle.std.specs.Prelude.{length, IfOk};
+ghost use Rattle.std.specs.Prelude.{◌≡◌, All, length, map};
 
 use crate::station::{APID, new_station};
 use anyhow::Result;
@@ -9,7 +9,7 @@ use std::alloc::{AllocError, Global};
 use std::sync::Wait;
 use std::thread::Threads;
 use tc_channel::{Channel, Items, Octets};
-use tc_station::{FreeGate, Job, Order, WorkList};
+use tc_station::{FreeGate, Job, Operator, Order, Station, WorkList};
 
 /// Makes rounds on each channel, by a worker of its own, and closes the station.
 pub(crate) fn work<R: Threads + Wait + Sync>(
@@ -22,8 +22,22 @@ pub(crate) fn work<R: Threads + Wait + Sync>(
     let lists = work_lists(alloc, senders, rounds)?;
     let mut station = new_station(alloc, vcids)?;
     let mut operators = station.operators(u16::try_from(lists.len())?)?;
-    station.work(rt, &FreeGate, &mut operators, &lists)?;
+    do_lists(rt, &station, &mut operators, &lists)?;
     Ok(station.close(operators)?)
+}
+
+// Each list by the operator of its place. The operators keep their channels.
+fn do_lists<R: Threads + Wait + Sync>(
+    rt: &R,
+    station: &Station,
+    operators: &mut Vec<Operator>,
+    lists: &[WorkList],
+) -> Result<()>
+    requires as_many { length operators.old.items ≡ length lists.now }
+    requires ours { All (λ o. o.vcids ≡ station.now.vcids) operators.old.items }
+    ensures { map (λ o. o.vcids) operators.new.items ≡ map (λ o. o.vcids) operators.old.items }
+{
+    Ok(station.work(rt, &FreeGate, operators, lists)?)
 }
 
 fn work_lists(alloc: Global, senders: &[Sender], rounds: u32) -> Result<Vec<WorkList>, AllocError> {

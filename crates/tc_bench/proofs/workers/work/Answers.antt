@@ -6,6 +6,6 @@ use Rattle.tc_bench.proofs.workers.work.Goals as goal
 pub close-requires : goal.close-requires
 close-requires g c = record {
   ours = λ k d inside.
-      still-ours _ _ _ _ c.in_ok-operators.ensures.fresh c.work.ensures.kept k d inside
+      still-ours _ _ _ _ c.in_ok-operators.ensures.fresh c.do_lists.ensures k d inside
       ∙ sym (ap (λ (s : Roster). s.vcids) c.in_ok-operators.ensures.issued);
 }
