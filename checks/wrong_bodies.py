@@ -13,7 +13,7 @@ TOP = Path(__file__).resolve().parent.parent
 SOURCES = ("src", "specs", "proofs")
 FUNCTION = re.compile(r"^( *)(?:pub(?:\([a-z]+\))? )?(?:const |unsafe )*(?:extern \"C\" )?fn (\w+)")
 BLOCK = re.compile(r"^(?:impl|(?:pub )?trait)\b")
-OF_A_TRAIT = re.compile(r"impl(?:<.*?>)? (?:\w+::)*(\w+)(?:<.*>)? for (?:\w+::)*(\w+)")
+OF_A_TRAIT = re.compile(r"impl(?:<.*?>)? (?:\w+::)*(\w+)(?:<(\w+)>|<.*>)? for (?:\w+::)*(\w+)")
 OF_A_TYPE = re.compile(r"impl(?:<.*?>)? (\w+)")
 OF_ANY_TYPE = re.compile(r"impl(?:<(.*?)>)? (\w+)(?:<([^>]*)>)? (?:where|\{)")
 TYPE = re.compile(r"^(?:pub(?:\([a-z]+\))? )?(?:struct|enum) (\w+)", re.M)
@@ -82,9 +82,10 @@ class Function:
 
     @property
     def owner(self) -> str:
-        """How the prover's name for the impl of a trait in which the function stands begins: with the type and the trait."""
+        """How the prover's name for the impl of a trait in which the function stands begins: with the type and the trait, and with
+        what the trait is of where that is one word."""
         found = OF_A_TRAIT.match(self.block)
-        return found[2] + found[1] if found else ""
+        return found[3] + found[1] + (found[2] or "") if found else ""
 
     @property
     def answers(self) -> re.Pattern[str]:
@@ -175,7 +176,7 @@ class Edit:
         if not self.function:
             return self.changes[0][0]
         of_a_trait, of_a_type = (it.match(self.function.block) for it in (OF_A_TRAIT, OF_A_TYPE))
-        owner = of_a_trait[2] if of_a_trait else of_a_type[1] if of_a_type else ""
+        owner = of_a_trait[3] if of_a_trait else of_a_type[1] if of_a_type else ""
         return f"{self.function.file} {owner + '::' if owner else ''}{self.function.name}"
 
 
