@@ -225,10 +225,14 @@ fn event_of(rt: &impl Abort, alloc: Global, line: &Line) -> Option<Event> {
     }
 }
 
-fn note(rt: &impl Abort, journal: &mut Vec<Event>, event: Option<Event>) {
-    if let Some(event) = event {
-        journal.push(event).expect(rt, "a journal");
-    }
+fn line_of(rt: &impl Abort, alloc: Global, line: &str) -> Line {
+    parse_line(alloc, line.as_bytes()).expect(rt, "a line")
+}
+
+// The answer has this text.
+fn check_text(rt: &impl Abort, alloc: Global, name: &str, answer: &Answer, expected: &str) {
+    let told = text_of(alloc, answer).expect(rt, "a text");
+    assert_eq!(rt; told.as_str(), expected, "{name}");
 }
 
 // The same frame for virtual channel 2 in place of 1.
@@ -248,153 +252,150 @@ fn for_channel_2(line: Line) -> Line {
     }
 }
 
-// Channels 1 and 2 of a station, and beside them a channel with the settings of each that stands alone.
+// Beside channels 1 and 2 of a station a channel with the settings of each that stands alone, and the journal that channel 1 must
+// have.
 #[derive(Drop)]
-struct Replay<J: Journal> {
+struct Replay {
     alloc: Global,
-    crew: Crew<J>,
     first: Alone,
     second: Alone,
+    journal: Vec<Event>,
 }
 
-impl<J: Journal> Replay<J> {
+impl Replay {
     // Channel 1 has this shape. Channel 2 has the same, but for its first V(R).
-    fn new(
-        rt: &impl Abort,
-        alloc: Global,
-        bringing: Bringing,
-        form: Form,
-        shape: (u8, u8, u8),
-    ) -> Replay<J> {
-        let one = || first_settings(rt, alloc, form, shape);
-        let other = || second_settings(rt, alloc, form, shape);
-        let list = vec![in alloc; other(), one()].expect(rt, "a list");
+    fn new(rt: &impl Abort, alloc: Global, form: Form, shape: (u8, u8, u8)) -> Replay {
+        let first = first_settings(rt, alloc, form, shape);
+        let again = first_settings(rt, alloc, form, shape);
+        let first = Alone::new(rt, alloc, first, again);
+        let second = second_settings(rt, alloc, form, shape);
+        let again = second_settings(rt, alloc, form, shape);
         Replay {
             alloc,
-            crew: Crew::new(rt, alloc, bringing, list),
-            first: Alone::new(rt, alloc, one(), one()),
-            second: Alone::new(rt, alloc, other(), other()),
+            first,
+            second: Alone::new(rt, alloc, second, again),
+            journal: Vec::new(alloc),
         }
     }
 
     // The station tells of each channel what the one that stands alone tells.
-    fn check_words(&self, rt: &(impl Wait + Abort)) {
-        check_word(rt, &self.crew, &self.first);
-        check_word(rt, &self.crew, &self.second);
+    fn check_words<J: Journal>(&self, rt: &(impl Wait + Abort), crew: &Crew<J>) {
+        check_word(rt, crew, &self.first);
+        check_word(rt, crew, &self.second);
     }
 
     // Asks for the operation of a line on channel 1 and then on channel 2. What channel 1 answers.
-    fn ask(&mut self, rt: &(impl Wait + Abort), line: Line) -> Answer {
-        let answer = ask_both(rt, &mut self.crew, &mut self.first, &line);
-        self.check_words(rt);
+    fn ask<J: Journal>(
+        &mut self,
+        rt: &(impl Wait + Abort),
+        crew: &mut Crew<J>,
+        line: Line,
+    ) -> Answer {
+        let answer = ask_both(rt, crew, &mut self.first, &line);
+        self.check_words(rt, crew);
         let line = for_channel_2(line);
-        ask_both(rt, &mut self.crew, &mut self.second, &line);
-        self.check_words(rt);
+        ask_both(rt, crew, &mut self.second, &line);
+        self.check_words(rt, crew);
         answer
     }
 
-    // Asks for the operation of a line, which is answered by this text; channel 1 then has its event, too, unless it was refused.
-    fn step(
+    // The journal is to have the event of an operation that was answered so, unless it was refused.
+    fn note(&mut self, rt: &impl Abort, event: Option<Event>, answered: &str) {
+        if answered.starts_with("refused ") {
+            return;
+        }
+        if let Some(event) = event {
+            self.journal.push(event).expect(rt, "a journal");
+        }
+    }
+
+    fn check_journal(&self, rt: &impl Abort, name: &str) {
+        let alike = self.first.kept.journal() == self.journal.as_slice();
+        assert!(rt; alike, "{name}: the journal differs");
+    }
+
+    // Asks for the operation of a line, which is answered by this text; channel 1 then has its event, too.
+    fn step<J: Journal>(
         &mut self,
         rt: &(impl Wait + Abort),
-        journal: &mut Vec<Event>,
+        crew: &mut Crew<J>,
         name: &str,
         (line, expected): (&str, &str),
     ) {
-        let line = parse_line(self.alloc, line.as_bytes()).expect(rt, "a line");
+        let line = line_of(rt, self.alloc, line);
         let event = event_of(rt, self.alloc, &line);
-        let answer = self.ask(rt, line);
-        let told = text_of(self.alloc, &answer).expect(rt, "a text");
-        assert_eq!(rt; told.as_str(), expected, "{name}");
-        if !expected.starts_with("refused ") {
-            note(rt, journal, event);
-        }
-        let alike = self.first.kept.journal() == journal.as_slice();
-        assert!(rt; alike, "{name}: the journal differs after {expected}");
+        let answer = self.ask(rt, crew, line);
+        check_text(rt, self.alloc, name, &answer, expected);
+        self.note(rt, event, expected);
+        self.check_journal(rt, name);
     }
 
     // Each line in turn.
-    fn play(&mut self, rt: &(impl Wait + Abort), row: &Row) {
-        self.check_words(rt);
+    fn play<J: Journal>(&mut self, rt: &(impl Wait + Abort), crew: &mut Crew<J>, row: &Row) {
+        self.check_words(rt, crew);
         let mut answers = row.answers.lines();
-        let mut journal = Vec::new(self.alloc);
         for line in row.script.lines() {
             let expected = answers.next().expect(rt, "an answer");
-            self.step(rt, &mut journal, row.name, (line, expected));
+            self.step(rt, crew, row.name, (line, expected));
         }
         assert!(rt; answers.next().is_none(), "{}", row.name);
     }
-}
 
-// The closed channels of a station are as those that stand alone.
-fn check_closed<J: Journal>(
-    rt: &impl Abort,
-    channels: &[ChannelWith<J>],
-    first: &Alone,
-    second: &Alone,
-) {
-    assert_eq!(rt; channels.len(), 2);
-    second.check(rt, &channels[0]);
-    first.check(rt, &channels[1]);
-}
-
-impl Replay<Kept> {
-    // Closes the station: its channels and their journals are as those that stand alone.
-    fn close(self, rt: &impl Abort) {
-        let Replay {
-            alloc,
-            crew,
-            first,
-            second,
-        } = self;
-        let channels = crew.close(rt, alloc);
-        check_closed(rt, &channels, &first, &second);
+    // The closed channels of a station are as those that stand alone.
+    fn check_closed<J: Journal>(&self, rt: &impl Abort, channels: &[ChannelWith<J>]) {
         assert_eq!(rt; channels.len(), 2);
-        second.check_journal(rt, &channels[0]);
-        first.check_journal(rt, &channels[1]);
+        self.second.check(rt, &channels[0]);
+        self.first.check(rt, &channels[1]);
+    }
+
+    // And so are their journals.
+    fn check_journals(&self, rt: &impl Abort, channels: &[Channel]) {
+        assert_eq!(rt; channels.len(), 2);
+        self.second.check_journal(rt, &channels[0]);
+        self.first.check_journal(rt, &channels[1]);
     }
 }
 
-impl Replay<Unkept> {
-    // Closes the station: its channels are as those that stand alone.
-    fn close(self, rt: &impl Abort) {
-        let Replay {
-            alloc,
-            crew,
-            first,
-            second,
-        } = self;
-        let channels = crew.close(rt, alloc);
-        check_closed(rt, &channels, &first, &second);
-    }
-}
-
-// Plays a row on a station, which is left open.
-fn play_on<J: Journal>(
-    rt: &(impl Wait + Abort),
+// A station of channels 2 and 1, in this order.
+fn new_crew<J: Journal>(
+    rt: &impl Abort,
     alloc: Global,
     form: Form,
     bringing: Bringing,
-    row: &Row,
-) -> Replay<J> {
-    let mut replay = Replay::new(rt, alloc, bringing, form, row.shape);
-    replay.play(rt, row);
-    replay
+    shape: (u8, u8, u8),
+) -> Crew<J> {
+    let first = first_settings(rt, alloc, form, shape);
+    let second = second_settings(rt, alloc, form, shape);
+    let list = vec![in alloc; second, first].expect(rt, "a list");
+    Crew::new(rt, alloc, bringing, list)
 }
 
-// Plays a row on a station whose channels keep their journals and on one in flight, and closes the stations.
-fn play_row(rt: &(impl Wait + Abort), alloc: Global, form: Form, bringing: Bringing, row: &Row) {
-    let kept: Replay<Kept> = play_on(rt, alloc, form, bringing, row);
-    kept.close(rt);
-    let flight: Replay<Unkept> = play_on(rt, alloc, form, bringing, row);
-    flight.close(rt)
+// Plays a row on a station whose channels keep their journals, and closes it.
+fn play_kept(rt: &(impl Wait + Abort), alloc: Global, form: Form, bringing: Bringing, row: &Row) {
+    let mut crew: Crew<Kept> = new_crew(rt, alloc, form, bringing, row.shape);
+    let mut replay = Replay::new(rt, alloc, form, row.shape);
+    replay.play(rt, &mut crew, row);
+    let channels = crew.close(rt, alloc);
+    replay.check_closed(rt, &channels);
+    replay.check_journals(rt, &channels);
+}
+
+// The same on a station in flight.
+fn play_flight(rt: &(impl Wait + Abort), alloc: Global, form: Form, bringing: Bringing, row: &Row) {
+    let mut crew: Crew<Unkept> = new_crew(rt, alloc, form, bringing, row.shape);
+    let mut replay = Replay::new(rt, alloc, form, row.shape);
+    replay.play(rt, &mut crew, row);
+    let channels = crew.close(rt, alloc);
+    replay.check_closed(rt, &channels);
 }
 
 // Plays each row, with frames that are brought in each manner.
 fn play_in(rt: &(impl Wait + Abort), alloc: Global, form: Form, rows: &[Row]) {
     for row in rows {
-        play_row(rt, alloc, form, Bringing::Plain, row);
-        play_row(rt, alloc, form, Bringing::Watched, row);
+        for bringing in [Bringing::Plain, Bringing::Watched] {
+            play_kept(rt, alloc, form, bringing, row);
+            play_flight(rt, alloc, form, bringing, row);
+        }
     }
 }
 
