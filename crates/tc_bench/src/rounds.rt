@@ -4,8 +4,8 @@ use crate::station::{APID, settings};
 use anyhow::{Result, anyhow};
 use bench_parts::{Form, Score, Sender, Sent};
 use std::alloc::Global;
-use tc_channel::{ChannelWith, Journal, Kept, Unkept};
-use tc_link::{Frame, read_frame};
+use tc_channel::{ChannelWith, FrameReply, Journal, Kept, Unkept};
+use tc_link::read_frame;
 
 /// Makes so many rounds on a channel of this form, and prints their score.
 pub(crate) fn print<R: AllocGlobal + Print>(rt: &R, form: Form, count: u32) -> Result<()> {
@@ -19,19 +19,31 @@ pub(crate) fn print<R: AllocGlobal + Print>(rt: &R, form: Form, count: u32) -> R
 
 fn play<J: Journal>(alloc: Global, count: u32) -> Result<u64> {
     let sender = Sender::new(alloc, 1)?;
-    let mut channel: ChannelWith<J> = ChannelWith::new(alloc, settings(alloc, 1)?)?;
+    let mut channel: ChannelWith<J> = new_channel(alloc)?;
+    play_on(&mut channel, &sender, count)
+}
+
+fn new_channel<J: Journal>(alloc: Global) -> Result<ChannelWith<J>> {
+    Ok(ChannelWith::new(alloc, settings(alloc, 1)?)?)
+}
+
+fn play_on<J: Journal>(channel: &mut ChannelWith<J>, sender: &Sender, count: u32) -> Result<u64> {
     let mut score = Score::new();
     for number in 0..count {
-        let frame = read_frame(sender.octets(Sent::Sequenced((number % 256) as u8)))?;
-        round(&mut channel, &frame, &mut score)?;
+        round(channel, sender, (number % 256) as u8, &mut score)?;
     }
     score.add(channel.events());
     Ok(score.value())
 }
 
 // A frame is taken in, its data field released, and its packet taken.
-fn round<J: Journal>(channel: &mut ChannelWith<J>, frame: &Frame, score: &mut Score) -> Result<()> {
-    let reply = channel.frame(frame)?;
+fn round<J: Journal>(
+    channel: &mut ChannelWith<J>,
+    sender: &Sender,
+    number: u8,
+    score: &mut Score,
+) -> Result<()> {
+    let reply = take_in(channel, sender.octets(Sent::Sequenced(number)))?;
     if !reply.act.accepted {
         return Err(anyhow!("a frame was discarded"));
     }
@@ -39,4 +51,8 @@ fn round<J: Journal>(channel: &mut ChannelWith<J>, frame: &Frame, score: &mut Sc
     score.add_delivery(channel.release()?);
     score.add_packet(&channel.take(APID)?);
     Ok(())
+}
+
+fn take_in<J: Journal>(channel: &mut ChannelWith<J>, octets: &[u8]) -> Result<FrameReply> {
+    Ok(channel.frame(&read_frame(octets)?)?)
 }

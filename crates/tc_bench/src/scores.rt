@@ -5,7 +5,7 @@ use crate::round::{make_rounds, senders};
 use crate::station::APID;
 use crate::workers::work;
 use anyhow::{Result, anyhow};
-use bench_parts::Score;
+use bench_parts::{Score, Sender};
 use std::alloc::Global;
 use std::sync::Wait;
 use std::thread::Threads;
@@ -18,21 +18,34 @@ const FOUR: [u8; 4] = [1, 2, 3, 63];
 /// Does the load on one channel, on four channels in turn, and on four channels by workers, and prints a score for each.
 pub(crate) fn print<R: Threads + Wait + Sync + AllocGlobal + Print>(rt: &R) -> Result<()> {
     let one = in_turn(rt, rt.alloc(), &ONE, 20_000)?;
-    println!(rt; "one channel {one:016x}")?;
+    print_score(rt, "one channel", one)?;
     let four = in_turn(rt, rt.alloc(), &FOUR, 5_000)?;
-    println!(rt; "four channels {four:016x}")?;
+    print_score(rt, "four channels", four)?;
     let workers = by_workers(rt, rt.alloc(), &FOUR, 5_000)?;
-    println!(rt; "four workers {workers:016x}")?;
+    print_score(rt, "four workers", workers)
+}
+
+fn print_score(rt: &impl Print, what: &str, score: u64) -> Result<()> {
+    println!(rt; "{what} {score:016x}")?;
     Ok(())
 }
 
 // One thread makes a round on each channel in turn, so many times. Each answer is added.
 fn in_turn(rt: &impl Wait, alloc: Global, vcids: &[u8], rounds: u32) -> Result<u64> {
     let senders = senders(alloc, vcids)?;
-    let mut crew = Crew::new(alloc, vcids)?;
+    score_of(rt, alloc, Crew::new(alloc, vcids)?, &senders, rounds)
+}
+
+fn score_of(
+    rt: &impl Wait,
+    alloc: Global,
+    mut crew: Crew,
+    senders: &[Sender],
+    rounds: u32,
+) -> Result<u64> {
     let mut score = Score::new();
     for number in 0..rounds {
-        make_rounds(rt, &mut crew, &senders, (number % 256) as u8, &mut score)?;
+        make_rounds(rt, &mut crew, senders, (number % 256) as u8, &mut score)?;
     }
     add_channels(&mut score, &crew.close(alloc)?)?;
     Ok(score.value())

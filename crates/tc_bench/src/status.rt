@@ -4,6 +4,7 @@ use crate::measure::{Cost, Start, median_of};
 use crate::source::{STATUS, Signals, Source, store_until_stopped};
 use anyhow::{Result, anyhow};
 use crossbeam_utils::CachePadded;
+use std::alloc::Global;
 use std::sync::atomic::{AtomicU64, Ordering};
 use std::thread::{Threads, join};
 use std::time::{Clock, CpuClock};
@@ -123,8 +124,15 @@ fn loads_alone<R: Clock + CpuClock>(rt: &R) -> Result<Cost> {
 }
 
 fn reads_alone<R: Clock + CpuClock + AllocGlobal>(rt: &R) -> Result<Cost> {
-    let mut watcher = Source::new(rt.alloc())?.watcher()?;
+    let (_source, mut watcher) = watched(rt.alloc())?;
     reads(rt, &mut watcher)
+}
+
+// A source and a watcher of it.
+fn watched(alloc: Global) -> Result<(Source, Watcher)> {
+    let mut source = Source::new(alloc)?;
+    let watcher = source.watcher()?;
+    Ok((source, watcher))
 }
 
 fn loads_beside_stores<R: Threads + Clock + CpuClock>(rt: &R) -> Result<Cost> {
@@ -140,13 +148,11 @@ fn loads_beside_stores<R: Threads + Clock + CpuClock>(rt: &R) -> Result<Cost> {
             cost
         },
     );
-    check_beside(stores)?;
-    cost
+    cost_beside(stores, cost)
 }
 
 fn reads_beside_publications<R: Threads + Clock + CpuClock + AllocGlobal>(rt: &R) -> Result<Cost> {
-    let mut source = Source::new(rt.alloc())?;
-    let mut watcher = source.watcher()?;
+    let (mut source, mut watcher) = watched(rt.alloc())?;
     let signals = CachePadded::new(Signals::new());
     let (publications, cost) = join(
         rt,
@@ -158,14 +164,13 @@ fn reads_beside_publications<R: Threads + Clock + CpuClock + AllocGlobal>(rt: &R
             cost
         },
     );
-    check_beside(publications)?;
-    cost
+    cost_beside(publications, cost)
 }
 
-// The other thread wrote, too.
-fn check_beside(writes: u64) -> Result<()> {
+// The cost, where the other thread wrote, too.
+fn cost_beside(writes: u64, cost: Result<Cost>) -> Result<Cost> {
     if writes == 0 {
         return Err(anyhow!("no thread wrote beside the reads"));
     }
-    Ok(())
+    cost
 }

@@ -20,9 +20,16 @@ pub(crate) fn work<R: Threads + Wait + Sync>(
     rounds: u32,
 ) -> Result<Vec<Channel>> {
     let lists = work_lists(alloc, senders, rounds)?;
-    let mut station = new_station(alloc, vcids)?;
+    work_on(rt, new_station(alloc, vcids)?, &lists)
+}
+
+fn work_on<R: Threads + Wait + Sync>(
+    rt: &R,
+    mut station: Station,
+    lists: &[WorkList],
+) -> Result<Vec<Channel>> {
     let mut operators = station.operators(u16::try_from(lists.len())?)?;
-    do_lists(rt, &station, &mut operators, &lists)?;
+    do_lists(rt, &station, &mut operators, lists)?;
     Ok(station.close(operators)?)
 }
 

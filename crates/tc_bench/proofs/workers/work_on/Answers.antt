@@ -1,7 +1,7 @@
 use Rattle.std.proofs.Common.{ap, sym, ◌∙◌}
 use Rattle.tc_station.specs.Roster.{Roster}
 use Rattle.tc_bench.proofs.Ours.{still-ours}
-use Rattle.tc_bench.proofs.workers.work.Goals as goal
+use Rattle.tc_bench.proofs.workers.work_on.Goals as goal
 
 pub close-requires : goal.close-requires
 close-requires g c = record {
