@@ -5,4 +5,4 @@ mod book;
 #[cfg(test)]
 mod tests;
 
-pub use book::{Book, BookLock, BookSeat, Number, Title, Writes, take_out, try_turn, turn, write};
+pub use book::{Book, BookLock, BookSeat, Number, Title, Writes};

@@ -1,6 +1,8 @@
 mod alone;
 mod growth;
+mod roles;
 mod six_threads;
+mod turns;
 mod waiting;
 
 ghost use Rattle.std.specs.Prelude.{◌≡◌, IfOk};
@@ -9,6 +11,7 @@ ghost use Rattle.lock_tests.specs.Book.{IsAtRest};
 use super::*;
 use std::alloc::{AllocError, Global};
 use std::process::Abort;
+use turns::{take_out, try_turn, turn, write};
 
 // A lock over a book in which nothing is written yet, and its first seat.
 fn try_new(alloc: Global) -> Result<(BookLock, BookSeat), AllocError>
@@ -22,9 +25,16 @@ fn try_new(alloc: Global) -> Result<(BookLock, BookSeat), AllocError>
     BookLock::new(alloc, book, &Title { number: 7 })
 }
 
-fn new_lock(rt: &impl Abort, alloc: Global) -> (BookLock, BookSeat)
+// The same. One growth may be refused.
+fn new_lock(rt: &(impl Abort + Print), alloc: Global) -> (BookLock, BookSeat)
     ensures rest { IsAtRest result.0 result.1 }
     ensures first { result.1.id ≡ 0 }
 {
-    try_new(alloc).expect(rt, "a lock")
+    match try_new(alloc) {
+        Ok(made) => made,
+        Err(AllocError) => {
+            let _ = println!(rt; "refused: LoggedLock::new");
+            try_new(alloc).expect(rt, "a lock")
+        }
+    }
 }

@@ -6,11 +6,11 @@ ghost use Rattle.std.specs.Prelude.{◌≡◌, true};
 ghost use Rattle.std.specs.Thread.{IsSync};
 ghost use Rattle.lock_tests.specs.Book.{IsAtRest};
 
+use super::roles::{Role, TURNS, side_by_side};
 use super::*;
+use std::rt::Clock;
 use std::sync::Wait;
 use std::thread::{Threads, join_mut};
-
-const TURNS: u32 = 10_000;
 
 // Who writes the numbers from its first one on.
 #[derive(Drop)]
@@ -29,19 +29,6 @@ impl Writer {
             seat: lock.issue(first),
             first: number,
         }
-    }
-
-    // Writes its numbers in rising order, one a turn. Says whether none was refused.
-    fn work<R: Wait>(&mut self, rt: &R, lock: &BookLock) -> bool
-        requires { IsAtRest lock.now self.old.seat }
-        ensures { IsAtRest lock.now self.new.seat }
-    {
-        let mut done = true;
-        for turn in 0..TURNS {
-            let number = self.first.saturating_add(turn);
-            done = write(rt, lock, &mut self.seat, number) && done;
-        }
-        done
     }
 }
 
@@ -65,24 +52,14 @@ impl Pair {
     }
 
     // Both write, each in a thread of its own.
-    fn work<R: Threads + Wait + Sync>(&mut self, rt: &R, lock: &BookLock) -> bool
+    fn work<R: Threads + Wait + Clock + Sync>(&mut self, rt: &R, lock: &BookLock) -> bool
         requires one { IsAtRest lock.now self.old.one.seat }
         requires two { IsAtRest lock.now self.old.two.seat }
         ensures one { IsAtRest lock.now self.new.one.seat }
         ensures two { IsAtRest lock.now self.new.two.seat }
     {
-        let one = &mut self.one;
-        let two = &mut self.two;
-        let mut first = || -> bool
-            requires { IsAtRest lock.now one.now.seat }
-            ensures { IsAtRest lock.entry.now one.exit.now.seat }
-        { one.work(rt, lock) };
-        let mut second = || -> bool
-            requires { IsAtRest lock.now two.now.seat }
-            ensures { IsAtRest lock.entry.now two.exit.now.seat }
-        { two.work(rt, lock) };
-        let (a, b) = join_mut(rt, &mut first, &mut second);
-        a && b
+        let roles = (Role::Write(self.one.first), Role::Write(self.two.first));
+        side_by_side(rt, lock, &mut self.one.seat, &mut self.two.seat, roles)
     }
 }
 
@@ -95,7 +72,7 @@ struct Six {
 
 impl Six {
     // All six write, each in a thread of its own.
-    fn work<R: Threads + Wait + Sync>(&mut self, rt: &R, lock: &BookLock) -> bool
+    fn work<R: Threads + Wait + Clock + Sync>(&mut self, rt: &R, lock: &BookLock) -> bool
         requires one { IsAtRest lock.now self.old.one.one.seat × IsAtRest lock.now self.old.one.two.seat }
         requires two { IsAtRest lock.now self.old.two.one.seat × IsAtRest lock.now self.old.two.two.seat }
         requires three { IsAtRest lock.now self.old.three.one.seat × IsAtRest lock.now self.old.three.two.seat }
@@ -120,7 +97,7 @@ impl Six {
 }
 
 // Two pairs write.
-fn work_by_four<R: Threads + Wait + Sync>(
+fn work_by_four<R: Threads + Wait + Clock + Sync>(
     rt: &R,
     lock: &BookLock,
     one: &mut Pair,

@@ -1,5 +1,5 @@
 use Rattle.lock_tests.proofs.Hands.{has_it}
-use Rattle.lock_tests.proofs.book.turn.Goals as goal
+use Rattle.lock_tests.proofs.tests.turns.turn.Goals as goal
 
 pub unlock-requires-clause-unchanged : goal.unlock-requires-clause-unchanged
 unlock-requires-clause-unchanged g c = has_it _ _ c.lock.ensures.taken

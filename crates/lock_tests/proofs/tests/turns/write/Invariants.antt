@@ -1,4 +1,4 @@
-use Rattle.lock_tests.proofs.book.write.Given as goal
+use Rattle.lock_tests.proofs.tests.turns.write.Given as goal
 
 -- the number that is written is the one of the call
 abbrev pub ghosts-write_with : goal.ghosts-write_with

@@ -1,6 +1,6 @@
 use Rattle.std.proofs.Common.{rules, refl}
 use Rattle.lock_tests.proofs.Hands.{in_hands, keeps, writes}
-use Rattle.lock_tests.proofs.book.write_with.Goals as goal
+use Rattle.lock_tests.proofs.tests.turns.write_with.Goals as goal
 
 pub slot_mut-book-requires : goal.slot_mut-book-requires
 slot_mut-book-requires g c = (search rules, (c.requires.unchanged.kept, in_hands _ _ c.requires.unchanged.hands))
