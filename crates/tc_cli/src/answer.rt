@@ -4,6 +4,7 @@ use std::fmt;
 use tc_channel::{Delivery, FrameReply, Octets};
 use tc_link::FrameFault;
 use tc_station::LocateFault;
+use tc_text::{Delivered, Digits, UnitDigits, WordDigits};
 
 /// What an operation answers.
 #[derive(Debug, Drop)]
@@ -30,61 +31,59 @@ pub enum Refusal {
 impl fmt::Display for Answer {
     fn fmt<W: fmt::Write>(&self, f: &mut fmt::Formatter<W>) -> fmt::Result {
         match self {
-            Answer::Frame { vcid, reply } => {
-                let event = reply.act.event;
-                let accepted = u8::from(reply.act.accepted);
-                write!(f, "frame {vcid} E{event} accepted {accepted}")?;
-                write_delivery(f, &reply.delivery)
-            }
-            Answer::Release { vcid, delivery } => {
-                write!(f, "release {vcid}")?;
-                write_delivery(f, delivery)
-            }
-            Answer::Take { vcid, apid, packet } => {
-                write!(f, "take {vcid} {apid} ")?;
-                write_octets(f, packet.as_slice())
-            }
-            Answer::Unit { vcid, map, unit } => {
-                write!(f, "unit {vcid} {map} ")?;
-                write_unit(f, unit.as_slice())
-            }
-            Answer::Clcw { vcid, word } => {
-                write!(f, "clcw {vcid} ")?;
-                write_octets(f, &word.to_be_bytes())
-            }
+            Answer::Frame { vcid, reply } => write_frame(f, *vcid, reply),
+            Answer::Release { vcid, delivery } => write_release(f, *vcid, *delivery),
+            Answer::Take { vcid, apid, packet } => write_take(f, *vcid, *apid, packet.as_slice()),
+            Answer::Unit { vcid, map, unit } => write_unit(f, *vcid, *map, unit.as_slice()),
+            Answer::Clcw { vcid, word } => write_clcw(f, *vcid, *word),
             Answer::Refused(refusal) => write!(f, "refused {refusal}"),
         }
     }
 }
 
-fn write_delivery<W: fmt::Write>(f: &mut fmt::Formatter<W>, delivery: &Delivery) -> fmt::Result {
-    let queued = delivery.queued;
-    let dropped = delivery.dropped;
-    let rest = u8::from(delivery.rest);
-    write!(f, " queued {queued} dropped {dropped} rest {rest}")
+fn write_frame<W: fmt::Write>(
+    f: &mut fmt::Formatter<W>,
+    vcid: u8,
+    reply: &FrameReply,
+) -> fmt::Result {
+    let event = reply.act.event;
+    let accepted = u8::from(reply.act.accepted);
+    write!(f, "frame {vcid} E{event} accepted {accepted} ")?;
+    fmt::Display::fmt(&Delivered(reply.delivery), f)
 }
 
-// A unit of no octets has a mark of its own, since it has no digits.
-fn write_unit<W: fmt::Write>(f: &mut fmt::Formatter<W>, unit: &[u8]) -> fmt::Result {
-    if unit.is_empty() {
-        f.write_str("-")
-    } else {
-        write_octets(f, unit)
-    }
+fn write_release<W: fmt::Write>(
+    f: &mut fmt::Formatter<W>,
+    vcid: u8,
+    delivery: Delivery,
+) -> fmt::Result {
+    write!(f, "release {vcid} ")?;
+    fmt::Display::fmt(&Delivered(delivery), f)
 }
 
-// So many octets are made into digits at a time.
-const AT_ONCE: usize = 64;
+fn write_take<W: fmt::Write>(
+    f: &mut fmt::Formatter<W>,
+    vcid: u8,
+    apid: u16,
+    packet: &[u8],
+) -> fmt::Result {
+    write!(f, "take {vcid} {apid} ")?;
+    fmt::Display::fmt(&Digits(packet), f)
+}
 
-// Two digits for each octet. A packet or a unit may have 65,542, so that digits for all of it at once would be a growth.
-fn write_octets<W: fmt::Write>(f: &mut fmt::Formatter<W>, octets: &[u8]) -> fmt::Result {
-    let mut room = [0u8; 2 * AT_ONCE];
-    for some in octets.chunks(AT_ONCE) {
-        let digits = &mut room[..2 * some.len()];
-        hex::encode_to_slice(some, digits).map_err(|_| fmt::Error)?;
-        f.write_str(str::from_utf8(digits).map_err(|_| fmt::Error)?)?;
-    }
-    Ok(())
+fn write_unit<W: fmt::Write>(
+    f: &mut fmt::Formatter<W>,
+    vcid: u8,
+    map: u8,
+    unit: &[u8],
+) -> fmt::Result {
+    write!(f, "unit {vcid} {map} ")?;
+    fmt::Display::fmt(&UnitDigits(unit), f)
+}
+
+fn write_clcw<W: fmt::Write>(f: &mut fmt::Formatter<W>, vcid: u8, word: u32) -> fmt::Result {
+    write!(f, "clcw {vcid} ")?;
+    fmt::Display::fmt(&WordDigits(word), f)
 }
 
 impl fmt::Display for Refusal {
