@@ -1,5 +1,5 @@
 -- The era of a journal: what came since V(R) was last set by a Set V(R) that was obeyed.
-use Rattle.std.specs.Prelude.{◌≡◌, ℕ, ◌+◌, ◌%◌, ◌-◌, ◌<◌, false, List, [], ◌∷◌, ◌++◌, length, take, drop, ◌⊎◌, slice_get, Option, Some, None}
+use Rattle.std.specs.Prelude.{◌≡◌, ℕ, ◌+◌, ◌%◌, ◌<◌, false, List, [], ◌∷◌, ◌++◌, length, take, drop, ◌⊎◌, slice_get, Option, Some, None}
 use Rattle.tc_link.specs.Frame.{header_of}
 use Rattle.tc_link.specs.Farm.{Row, E8}
 use Rattle.tc_link.specs.declared.State.{State}

@@ -7,7 +7,7 @@ ghost use Rattle.tc_channel.specs.Journal.{with_event, event_of};
 ghost use Rattle.tc_channel.specs.Run.{run, IsLawful};
 ghost use Rattle.tc_channel.specs.Reply.{IsBypassData, frame_reply, release_reply, take_reply, unit_reply, waiting_packets, waiting_units, buffered_fields, clcw as clcw_of};
 ghost use Rattle.tc_channel.specs.Era.{CountsUpInItsEra};
-ghost use Rattle.tc_channel.specs.Channel.{Follows, FollowsKind, EndsAtOnce, buffered_of, with_field};
+ghost use Rattle.tc_channel.specs.Channel.{Ends, Follows, FollowsKind, EndsAtOnce, buffered_of, with_field};
 ghost use Rattle.tc_channel.specs.Admission.{map_of};
 ghost use Rattle.tc_channel.specs.HeldQueues.{AreDistinct, keys_of, IsPlanned, items_for, popped};
 
@@ -101,16 +101,15 @@ impl<J: Journal> ChannelWith<J> {
         let field = frame.field();
         let event = LentEvent::Frame(frame.octets());
         let entry = self.journal.prepare(self.alloc, &event)?;
-        let planned = plan_bypass(
+        let planned = deliver_bypass(
             self.alloc,
-            &self.reassembler,
+            &mut self.reassembler,
             &self.queues,
             &self.units,
             kind,
             field,
             &mut self.sheet,
         )?;
-        pass_bypass(&mut self.reassembler, kind, field)?;
         self.farm = farm;
         put_field(&mut self.fields, &act, field);
         put_copies(self.alloc, &mut self.queues, &mut self.sheet.copies);
@@ -138,16 +137,15 @@ impl<J: Journal> ChannelWith<J> {
         }
         let entry = self.journal.prepare(self.alloc, &LentEvent::Release)?;
         let field = self.fields.front();
-        let planned = plan(
+        let planned = deliver(
             self.alloc,
-            &self.reassembler,
+            &mut self.reassembler,
             &self.queues,
             &self.units,
             Service::Ad,
             field,
             &mut self.sheet,
         )?;
-        pass(&mut self.reassembler, Service::Ad, field)?;
         self.fields.pop_front();
         put_copies(self.alloc, &mut self.queues, &mut self.sheet.copies);
         put_unit(&mut self.units, planned.unit);
@@ -374,36 +372,34 @@ fn put_field(fields: &mut FieldBuffer, act: &Act, field: &[u8])
     }
 }
 
-// Passes a data field to reassembly. Nothing grows after it in a call, and nothing has changed before it.
+// Plans what becomes of the unit that a data field ends, and passes the field to reassembly. Nothing grows after it in a call, and
+// where it is refused nothing has changed.
 #[inline(always)]
-fn pass(reassembler: &mut Reassembler, service: Service, field: &[u8]) -> Result<(), NoMemory>
-    requires { 0 < length field.now }
-    ensures ok { OnOk result (Follows reassembler.old reassembler.new service field.now) }
-    ensures err { OnErr result (reassembler.new ≡ reassembler.old) }
-{
-    reassembler.advance(service, field)?;
-    Ok(())
-}
-
-// Passes the field of a BD frame on at once, and no other.
-fn pass_bypass(reassembler: &mut Reassembler, kind: Kind, field: &[u8]) -> Result<(), NoMemory>
-    requires { 0 < length field.now }
-    ensures ok { OnOk result (FollowsKind kind reassembler.old reassembler.new field.now) }
-    ensures err { OnErr result (reassembler.new ≡ reassembler.old) }
-    ensures answered { OnErr result (kind ≡ Kind.Bd) }
-{
-    match kind {
-        Kind::Bd => pass(reassembler, Service::Bd, field),
-        Kind::Ad(_) => Ok(()),
-        Kind::Bc(_) => Ok(()),
-        Kind::Invalid => Ok(()),
-    }
-}
-
-// What becomes of the packets of the unit that a BD field would end.
-fn plan_bypass(
+fn deliver(
     alloc: Global,
-    reassembler: &Reassembler,
+    reassembler: &mut Reassembler,
+    queues: &[HeldQueue],
+    units: &[HeldQueue],
+    service: Service,
+    field: &[u8],
+    sheet: &mut Worksheet,
+) -> Result<Planned, NoMemory>
+    requires field { 0 < length field.now }
+    requires distinct { AreDistinct (keys_of queues.now) }
+    requires units_distinct { AreDistinct (keys_of units.now) }
+    ensures planned { IfOk result (λ p. (unit : Option (List ℕ)) × Ends reassembler.old service field.now unit × IsPlanned (map_of field.now) unit queues.now units.now sheet.new.copies.items p) }
+    ensures passed { OnOk result (Follows reassembler.old reassembler.new service field.now) }
+    ensures refused { OnErr result (reassembler.new ≡ reassembler.old) }
+{
+    let planned = plan(alloc, reassembler, queues, units, service, field, sheet)?;
+    reassembler.advance(service, field)?;
+    Ok(planned)
+}
+
+// The same of the field of a BD frame, and of no other: only that is passed on at once.
+fn deliver_bypass(
+    alloc: Global,
+    reassembler: &mut Reassembler,
     queues: &[HeldQueue],
     units: &[HeldQueue],
     kind: Kind,
@@ -413,11 +409,13 @@ fn plan_bypass(
     requires field { 0 < length field.now }
     requires distinct { AreDistinct (keys_of queues.now) }
     requires units_distinct { AreDistinct (keys_of units.now) }
-    ensures planned { IfOk result (λ p. (unit : Option (List ℕ)) × EndsAtOnce kind reassembler.now field.now unit × IsPlanned (map_of field.now) unit queues.now units.now sheet.new.copies.items p) }
+    ensures planned { IfOk result (λ p. (unit : Option (List ℕ)) × EndsAtOnce kind reassembler.old field.now unit × IsPlanned (map_of field.now) unit queues.now units.now sheet.new.copies.items p) }
+    ensures passed { OnOk result (FollowsKind kind reassembler.old reassembler.new field.now) }
+    ensures refused { OnErr result (reassembler.new ≡ reassembler.old) }
     ensures answered { OnErr result (kind ≡ Kind.Bd) }
 {
     match kind {
-        Kind::Bd => plan(alloc, reassembler, queues, units, Service::Bd, field, sheet),
+        Kind::Bd => deliver(alloc, reassembler, queues, units, Service::Bd, field, sheet),
         Kind::Ad(_) => Ok(plan_nothing(sheet)),
         Kind::Bc(_) => Ok(plan_nothing(sheet)),
         Kind::Invalid => Ok(plan_nothing(sheet)),

@@ -17,13 +17,13 @@ step-act-requires g c =
     can-enter c.args.frame.now _ c.self.invariant
     (row-is c.args.frame.now c.kind-kind.result c.len.result c.capacity.result c.self.invariant c.kind-kind.ensures c.len.ensures.len c.capacity.ensures.capacity)
 
-pub plan_bypass-requires-clause-distinct : goal.plan_bypass-requires-clause-distinct
-plan_bypass-requires-clause-distinct g c =
+pub deliver_bypass-requires-clause-distinct : goal.deliver_bypass-requires-clause-distinct
+deliver_bypass-requires-clause-distinct g c =
     let f = c.self.inside in
     rw c.deref.ensures.value (queues-distinct c.self.invariant)
 
-pub plan_bypass-requires-clause-units_distinct : goal.plan_bypass-requires-clause-units_distinct
-plan_bypass-requires-clause-units_distinct g c =
+pub deliver_bypass-requires-clause-units_distinct : goal.deliver_bypass-requires-clause-units_distinct
+deliver_bypass-requires-clause-units_distinct g c =
     let f = c.self.inside in
     rw c.deref-2.ensures.value (units-distinct c.self.invariant)
 
@@ -37,9 +37,9 @@ pub invariant_of-self-2 : goal.invariant_of-self-2
 invariant_of-self-2 g c =
     let f = c.self.inside in
     let e : g.J.Journal.events c.append.new.self ≡ (g.J.Journal.events f.journal) ++ Frame c.args.frame.now ∷ [] = grind (arith, common_steps) steps 500000 in
-    rw e (frame-keeps _ c.plan_bypass.new.sheet.copies.items c.in_ok-planned.planned c.in_ok-planned.ensures.planned.0 c.kind-kind.result c.args.frame.now
+    rw e (frame-keeps _ c.deliver_bypass.new.sheet.copies.items c.in_ok-planned.planned c.in_ok-planned.ensures.planned.0 c.kind-kind.result c.args.frame.now
     (frame_row f.farm.width f.farm.report.vr c.kind-kind.result (nat_lt c.len.result c.capacity.result)) c.step-act.result
-    c.self.invariant c.kind-kind.ensures (rw c.field-field.ensures at c.in_ok-pass_bypass.ensures.ok) (rw c.field-field.ensures at c.in_ok-planned.ensures.planned.1) (rw (c.deref.ensures.value, c.deref-2.ensures.value, c.field-field.ensures) at c.in_ok-planned.ensures.planned.2) c.put_copies.ensures c.put_unit.ensures c.octets.ensures.whole
+    c.self.invariant c.kind-kind.ensures (rw c.field-field.ensures at c.in_ok-planned.ensures.passed) (rw c.field-field.ensures at c.in_ok-planned.ensures.planned.1) (rw (c.deref.ensures.value, c.deref-2.ensures.value, c.field-field.ensures) at c.in_ok-planned.ensures.planned.2) c.put_copies.ensures c.put_unit.ensures c.octets.ensures.whole
     (row-is c.args.frame.now c.kind-kind.result c.len.result c.capacity.result c.self.invariant c.kind-kind.ensures c.len.ensures.len c.capacity.ensures.capacity)
     c.step-act.ensures.event c.step-act.ensures.accepted c.step-act.ensures.width c.step-act.ensures.report
     (c.put_field.ensures.items ∙ ap (λ field. with_field f.fields.items (buffered_of c.step-act.result field)) c.field-field.ensures) c.put_field.ensures.capacity)
@@ -49,14 +49,14 @@ unfolding frame_reply
 returns-clause-reply g c =
     let f = c.self.inside in
     let is = row-is c.args.frame.now c.kind-kind.result c.len.result c.capacity.result c.self.invariant c.kind-kind.ensures c.len.ensures.len c.capacity.ensures.capacity in
-    let d = frame-delivery f.settings (run f.settings (g.J.Journal.events f.journal)) c.args.frame.now f.reassembler c.in_ok-planned.ensures.planned.0 f.queues.items f.units.items c.plan_bypass.new.sheet.copies.items c.in_ok-planned.planned c.self.invariant.runs (c.self.invariant.queues, c.self.invariant.units)
+    let d = frame-delivery f.settings (run f.settings (g.J.Journal.events f.journal)) c.args.frame.now f.reassembler c.in_ok-planned.ensures.planned.0 f.queues.items f.units.items c.deliver_bypass.new.sheet.copies.items c.in_ok-planned.planned c.self.invariant.runs (c.self.invariant.queues, c.self.invariant.units)
     (rw (← c.kind-kind.ensures, ← c.field-field.ensures) c.in_ok-planned.ensures.planned.1) (rw (c.deref.ensures.value, c.deref-2.ensures.value, c.field-field.ensures) at c.in_ok-planned.ensures.planned.2) in
     let event : c.step-act.result.event ≡ number_of (row_of f.settings (run f.settings (g.J.Journal.events f.journal)) c.args.frame.now) = c.step-act.ensures.event ∙ ap number_of is in
     let accepted : c.step-act.result.accepted ≡ accepts (row_of f.settings (run f.settings (g.J.Journal.events f.journal)) c.args.frame.now) (run f.settings (g.J.Journal.events f.journal)).report = c.step-act.ensures.accepted ∙ rw (is, c.self.invariant.report) refl in
     rw (← c.self.view_is, d, ← event, ← accepted) refl
 
-pub invariant_of-self-in_err-pass_bypass : goal.invariant_of-self-in_err-pass_bypass
-invariant_of-self-in_err-pass_bypass g c = search rules
+pub invariant_of-self-in_err-planned : goal.invariant_of-self-in_err-planned
+invariant_of-self-in_err-planned g c = search rules
 
-pub returns-in_err-pass_bypass-clause-refused : goal.returns-in_err-pass_bypass-clause-refused
-returns-in_err-pass_bypass-clause-refused g c = search rules
+pub returns-in_err-planned-clause-refused : goal.returns-in_err-planned-clause-refused
+returns-in_err-planned-clause-refused g c = search rules
