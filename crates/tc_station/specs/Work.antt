@@ -1,5 +1,5 @@
 -- What workers do: the jobs of each list, and the counts of its operator before and after.
-use Rattle.std.specs.Prelude.{◌≡◌, ℕ, ◌+◌, ◌≤◌, ◌==◌, ◌&&◌, ◌⊎◌, Bool, false, Contains, min, max, List, [], ◌∷◌, length, map, take, slice_get, slice_index, position, Option, Some, None, is_none, count_by}
+use Rattle.std.specs.Prelude.{◌≡◌, ℕ, ◌+◌, ◌≤◌, ◌==◌, ◌&&◌, ◌⊎◌, Bool, false, All, Contains, min, max, List, [], ◌∷◌, length, map, take, slice_get, slice_index, position, Option, Some, None, is_none, count_by}
 use Rattle.std.specs.List.{AllByRecursion}
 use Rattle.tc_link.specs.Frame.{header_of, fault_of}
 use Rattle.tc_station.specs.Roster.{Roster}
@@ -65,6 +65,11 @@ pub record IsShift (station : Roster) (s : Shift) : Type 0 where
 abbrev pub lowest : List Shift → Option ℕ
 lowest [] = None
 lowest (s ∷ ss) = lower s.refused (lowest ss)
+
+-- each list has an operator of the station
+pub record AreManned (station : Roster) (lists : List WorkList) (operators : List Tally) : Type 0 where
+  pub as_many : length operators ≡ length lists
+  pub ours : All (λ (o : Tally). o.vcids ≡ station.vcids) operators
 
 -- each list was worked by the operator of its place, and this is the lowest line that was refused
 abbrev pub AreWorked : Roster → List WorkList → Option ℕ → List Tally → List Tally → Type 0

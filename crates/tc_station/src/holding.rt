@@ -1,6 +1,6 @@
 //! What a channel has come to.
 
-ghost use Rattle.std.specs.Prelude.{◌≡◌, IfOk};
+ghost use Rattle.std.specs.Prelude.{◌≡◌, ◌<◌, ◌≤◌, ◌+◌, ◌++◌, ◌∷◌, [], vec_len, vec_capacity, IfOk};
 ghost use Rattle.std.specs.List.{filter_map};
 ghost use Rattle.tc_channel.specs.Settings.{IsAllowed};
 ghost use Rattle.tc_channel.specs.Run.{IsLawful, run};
@@ -75,11 +75,28 @@ fn packets_in<J: Journal>(
 ) -> Result<Vec<QueueHolding>, NoMemory>
     ensures { IfOk result (λ told. told.items ≡ filter_map (queue_holding channel.now.settings channel.now.journal) queues.now) }
 {
-    let told = queues
-        .iter()
-        .filter_map(|queue| packets_of(channel, queue))
-        .collect(alloc)?;
+    let mut told = Vec::with_capacity(alloc, queues.len())?;
+    for queue in queues {
+        add_packets(channel, queue, &mut told);
+    }
     Ok(told)
+}
+
+// Adds what waits in a queue, where there is one.
+fn add_packets<J: Journal>(
+    channel: &ChannelWith<J>,
+    queue: &QueueSetting,
+    told: &mut Vec<QueueHolding>,
+)
+    requires { vec_len told.old < vec_capacity told.old }
+    ensures items { told.new.items ≡ told.old.items ++ filter_map (queue_holding channel.now.settings channel.now.journal) (queue.now ∷ []) }
+    ensures len { vec_len told.new ≤ vec_len told.old + 1 }
+    ensures capacity { vec_capacity told.new ≡ vec_capacity told.old }
+{
+    match packets_of(channel, queue) {
+        Some(holding) => told.push_reserved(holding),
+        None => {}
+    }
 }
 
 fn packets_of<J: Journal>(channel: &ChannelWith<J>, queue: &QueueSetting) -> Option<QueueHolding>
@@ -97,11 +114,24 @@ fn units_in<J: Journal>(
 ) -> Result<Vec<MapHolding>, NoMemory>
     ensures { IfOk result (λ told. told.items ≡ filter_map (map_holding channel.now.settings channel.now.journal) maps.now) }
 {
-    let told = maps
-        .iter()
-        .filter_map(|chosen| units_of(channel, chosen))
-        .collect(alloc)?;
+    let mut told = Vec::with_capacity(alloc, maps.len())?;
+    for chosen in maps {
+        add_units(channel, chosen, &mut told);
+    }
     Ok(told)
+}
+
+// Adds what waits in the queue of a chosen MAP, where there is one.
+fn add_units<J: Journal>(channel: &ChannelWith<J>, chosen: &MapSetting, told: &mut Vec<MapHolding>)
+    requires { vec_len told.old < vec_capacity told.old }
+    ensures items { told.new.items ≡ told.old.items ++ filter_map (map_holding channel.now.settings channel.now.journal) (chosen.now ∷ []) }
+    ensures len { vec_len told.new ≤ vec_len told.old + 1 }
+    ensures capacity { vec_capacity told.new ≡ vec_capacity told.old }
+{
+    match units_of(channel, chosen) {
+        Some(holding) => told.push_reserved(holding),
+        None => {}
+    }
 }
 
 fn units_of<J: Journal>(channel: &ChannelWith<J>, chosen: &MapSetting) -> Option<MapHolding>

@@ -1,10 +1,10 @@
 //! Operators: who makes operations on the channels of a station.
 
-ghost use Rattle.std.specs.Prelude.{◌≡◌, ◌==◌, ◌<◌, length, position, slice_index, Some, IfOk, MatchOption, Contains};
+ghost use Rattle.std.specs.Prelude.{◌≡◌, ◌==◌, ◌<◌, length, replicate, position, slice_index, Some, IfOk, MatchOption, Contains};
 ghost use Rattle.tc_station.specs.Tally.{raised, counted, count_in, fresh};
 
 use crossbeam_utils::CachePadded;
-use std::alloc::Global;
+use std::alloc::{AllocError, Global};
 use std::marker::Model;
 use tc_channel::NoMemory;
 
@@ -74,17 +74,26 @@ pub(crate) fn place_of(vcids: &[u8], vcid: u8) -> Option<usize>
     vcids.iter().position(|v| *v == vcid)
 }
 
+// A count for each of so many channels, of which nothing was counted.
+fn no_counts(alloc: Global, channels: usize) -> Result<Vec<Count>, AllocError>
+    ensures { IfOk result (λ counts. counts.items ≡ replicate channels 0) }
+{
+    let mut counts = Vec::with_capacity(alloc, channels)?;
+    for _ in 0..channels {
+        counts.push_reserved(Count::zero());
+    }
+    Ok(counts)
+}
+
 impl Operator {
     /// An operator that has counted nothing.
     pub(crate) fn new(alloc: Global, vcids: &[u8]) -> Result<Operator, NoMemory>
         ensures { IfOk result (λ operator. operator ≡ fresh vcids.now) }
     {
-        let own = Vec::from_slice(alloc, vcids)?;
-        let mut counts = Vec::with_capacity(alloc, vcids.len())?;
-        for _ in vcids {
-            counts.push_reserved(Count::zero());
-        }
-        Ok(Operator { vcids: own, counts })
+        Ok(Operator {
+            vcids: Vec::from_slice(alloc, vcids)?,
+            counts: no_counts(alloc, vcids.len())?,
+        })
     }
 
     /// How many of its operations on this channel were answered; 2^64 - 1 stands for as many or more. None: no such channel.
