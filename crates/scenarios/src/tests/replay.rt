@@ -341,14 +341,14 @@ impl Replay {
         assert!(rt; answers.next().is_none(), "{}", row.name);
     }
 
-    // The closed channels of a station are as those that stand alone.
-    fn check_closed<J: Journal>(&self, rt: &impl Abort, channels: &[ChannelWith<J>]) {
+    // The closed channels of a station are as those that stand alone. Both are let go here, where the form of the journal is open.
+    fn check_closed<J: Journal>(self, rt: &impl Abort, channels: Vec<ChannelWith<J>>) {
         assert_eq!(rt; channels.len(), 2);
         self.second.check(rt, &channels[0]);
         self.first.check(rt, &channels[1]);
     }
 
-    // And so are their journals.
+    // Their journals are, too.
     fn check_journals(&self, rt: &impl Abort, channels: &[Channel]) {
         assert_eq!(rt; channels.len(), 2);
         self.second.check_journal(rt, &channels[0]);
@@ -376,8 +376,8 @@ fn play_kept(rt: &(impl Wait + Abort), alloc: Global, form: Form, bringing: Brin
     let mut replay = Replay::new(rt, alloc, form, row.shape);
     replay.play(rt, &mut crew, row);
     let channels = crew.close(rt, alloc);
-    replay.check_closed(rt, &channels);
     replay.check_journals(rt, &channels);
+    replay.check_closed(rt, channels);
 }
 
 // The same on a station in flight.
@@ -386,7 +386,7 @@ fn play_flight(rt: &(impl Wait + Abort), alloc: Global, form: Form, bringing: Br
     let mut replay = Replay::new(rt, alloc, form, row.shape);
     replay.play(rt, &mut crew, row);
     let channels = crew.close(rt, alloc);
-    replay.check_closed(rt, &channels);
+    replay.check_closed(rt, channels);
 }
 
 // Plays each row, with frames that are brought in each manner.
