@@ -2,6 +2,7 @@ pub use Rattle.tc_setup.specs.Configuration
 pub use Rattle.tc_setup.specs.Instruction
 pub use Rattle.tc_setup.specs.Phase
 pub mod Stage
+pub mod Printed
 pub mod Script
 pub mod Manned
 pub mod Operation

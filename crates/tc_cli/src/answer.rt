@@ -1,5 +1,9 @@
 //! What a script is answered.
 
+ghost use Rattle.std.specs.Prelude.{◌≡◌, Some};
+ghost use Rattle.std.specs.Fmt.{WritesOnOk};
+ghost use Rattle.tc_cli.specs.Printed.{answer_text, refusal_text, frame_fault_text};
+
 use std::fmt;
 use tc_channel::{Delivery, FrameReply, Octets};
 use tc_link::FrameFault;
@@ -29,6 +33,8 @@ pub enum Refusal {
 }
 
 impl fmt::Display for Answer {
+    ghost output = { λ answer. Some (answer_text answer) };
+
     fn fmt<W: fmt::Write>(&self, f: &mut fmt::Formatter<W>) -> fmt::Result {
         match self {
             Answer::Frame { vcid, reply } => write_frame(f, *vcid, reply),
@@ -45,20 +51,24 @@ fn write_frame<W: fmt::Write>(
     f: &mut fmt::Formatter<W>,
     vcid: u8,
     reply: &FrameReply,
-) -> fmt::Result {
+) -> fmt::Result
+    ensures { WritesOnOk W.write_str_gives f.old result (answer_text (Answer.Frame vcid reply.now)) f.new }
+{
     let event = reply.act.event;
     let accepted = u8::from(reply.act.accepted);
-    write!(f, "frame {vcid} E{event} accepted {accepted} ")?;
-    fmt::Display::fmt(&Delivered(reply.delivery), f)
+    let delivery = Delivered(reply.delivery);
+    write!(f, "frame {vcid} E{event} accepted {accepted} {delivery}")
 }
 
 fn write_release<W: fmt::Write>(
     f: &mut fmt::Formatter<W>,
     vcid: u8,
     delivery: Delivery,
-) -> fmt::Result {
-    write!(f, "release {vcid} ")?;
-    fmt::Display::fmt(&Delivered(delivery), f)
+) -> fmt::Result
+    ensures { WritesOnOk W.write_str_gives f.old result (answer_text (Answer.Release vcid delivery)) f.new }
+{
+    let delivery = Delivered(delivery);
+    write!(f, "release {vcid} {delivery}")
 }
 
 fn write_take<W: fmt::Write>(
@@ -66,9 +76,11 @@ fn write_take<W: fmt::Write>(
     vcid: u8,
     apid: u16,
     packet: &[u8],
-) -> fmt::Result {
-    write!(f, "take {vcid} {apid} ")?;
-    fmt::Display::fmt(&Digits(packet), f)
+) -> fmt::Result
+    ensures { WritesOnOk W.write_str_gives f.old result (answer_text (Answer.Take vcid apid packet.now)) f.new }
+{
+    let digits = Digits(packet);
+    write!(f, "take {vcid} {apid} {digits}")
 }
 
 fn write_unit<W: fmt::Write>(
@@ -76,30 +88,53 @@ fn write_unit<W: fmt::Write>(
     vcid: u8,
     map: u8,
     unit: &[u8],
-) -> fmt::Result {
-    write!(f, "unit {vcid} {map} ")?;
-    fmt::Display::fmt(&UnitDigits(unit), f)
+) -> fmt::Result
+    ensures { WritesOnOk W.write_str_gives f.old result (answer_text (Answer.Unit vcid map unit.now)) f.new }
+{
+    let digits = UnitDigits(unit);
+    write!(f, "unit {vcid} {map} {digits}")
 }
 
-fn write_clcw<W: fmt::Write>(f: &mut fmt::Formatter<W>, vcid: u8, word: u32) -> fmt::Result {
-    write!(f, "clcw {vcid} ")?;
-    fmt::Display::fmt(&WordDigits(word), f)
+fn write_clcw<W: fmt::Write>(f: &mut fmt::Formatter<W>, vcid: u8, word: u32) -> fmt::Result
+    ensures { WritesOnOk W.write_str_gives f.old result (answer_text (Answer.Clcw vcid word)) f.new }
+{
+    let digits = WordDigits(word);
+    write!(f, "clcw {vcid} {digits}")
 }
 
-impl fmt::Display for Refusal {
-    fn fmt<W: fmt::Write>(&self, f: &mut fmt::Formatter<W>) -> fmt::Result {
-        f.write_str(match self {
-            Refusal::Unlocated(LocateFault::Frame(FrameFault::Short)) => "short",
-            Refusal::Unlocated(LocateFault::Frame(FrameFault::Version)) => "version",
-            Refusal::Unlocated(LocateFault::Frame(FrameFault::Spare)) => "spare",
-            Refusal::Unlocated(LocateFault::Frame(FrameFault::LengthSmall)) => "length",
-            Refusal::Unlocated(LocateFault::Frame(FrameFault::Truncated)) => "truncated",
+impl Refusal {
+    // The words after `refused`.
+    fn words(&self) -> &'static str
+        ensures { result.now ≡ refusal_text self.now }
+    {
+        match self {
+            Refusal::Unlocated(LocateFault::Frame(fault)) => words_of(fault),
             Refusal::Unlocated(LocateFault::OtherSpacecraft) => "spacecraft",
             Refusal::Unlocated(LocateFault::UnknownChannel) => "channel",
             Refusal::UnknownChannel => "channel",
             Refusal::NoQueue => "no queue",
             Refusal::NoMap => "no map",
             Refusal::Empty => "empty",
-        })
+        }
+    }
+}
+
+fn words_of(fault: &FrameFault) -> &'static str
+    ensures { result.now ≡ frame_fault_text fault.now }
+{
+    match fault {
+        FrameFault::Short => "short",
+        FrameFault::Version => "version",
+        FrameFault::Spare => "spare",
+        FrameFault::LengthSmall => "length",
+        FrameFault::Truncated => "truncated",
+    }
+}
+
+impl fmt::Display for Refusal {
+    ghost output = { λ refusal. Some (refusal_text refusal) };
+
+    fn fmt<W: fmt::Write>(&self, f: &mut fmt::Formatter<W>) -> fmt::Result {
+        f.write_str(self.words())
     }
 }

@@ -5,6 +5,8 @@ ghost use Rattle.tc_cli.specs.Script.{IsFault, IsGood, IsDone, IsBadLine, IsRepo
 ghost use Rattle.tc_text.specs.Reading.{limit};
 ghost use Rattle.tc_cli.specs.Session.{IsLeft};
 ghost use Rattle.tc_cli.specs.Stage.{phase_of};
+ghost use Rattle.std.specs.Io.KnownBytes.{Appends};
+ghost use Rattle.tc_cli.specs.Printed.{answer_line};
 
 use crate::answer::Answer;
 use crate::report::{close, write_report};
@@ -89,6 +91,7 @@ fn perform_line(
 }
 
 fn write_answer<W: Write>(answer: Option<Answer>, writer: &mut W) -> Result<(), ScriptFault>
+    ensures written { OnOk result (Appends (W.contents writer.old) (W.contents writer.new) (answer_line answer)) }
     ensures fault { IfErr result (λ fault. fault ≡ ScriptFault.Write) }
 {
     match answer {
