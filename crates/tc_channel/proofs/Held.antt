@@ -28,7 +28,7 @@ use Rattle.tc_channel.proofs.Streams.{frame-runs, release-runs}
 use Rattle.tc_channel.proofs.StateQueues.{kept-either, queues-kept, units-kept}
 use Rattle.tc_channel.proofs.Filled.{filled-drop, first-filled, state-filled}
 use Rattle.tc_channel.proofs.Runs.{run-push, lawful-push}
-use Rattle.tc_channel.proofs.Sound.{state-sound, frame-enters, room-at_E1}
+use Rattle.tc_channel.proofs.Sound.{HaveEntries, state-sound, frame-enters, room-at_E1}
 use Rattle.std.proofs.lemmas.Bool.Decides.{nat_tests}
 
 abbrev IsCounted : ChannelState → Type 0
@@ -90,17 +90,17 @@ row-is {c} {j} {i} octets kind len capacity k kind_is len_is capacity_is =
     rw (k.width, k.report, kind_is, len_is, capacity_is, k.capacity, fields) refl
 
 pub can-enter : {c : Settings} {j : List Event} {i : Inside} (octets : List ℕ) (row : Row)
-    → Holds c j i → row ≡ row_of c (run c j) octets → IsSome (entry row i.farm.report)
-can-enter {c} {j} octets row k row_is = rw (row_is, k.report) (frame-enters c (run c j) (state-sound c j) octets)
+    → HaveEntries → Holds c j i → row ≡ row_of c (run c j) octets → IsSome (entry row i.farm.report)
+can-enter {c} {j} octets row entries k row_is = rw (row_is, k.report) (frame-enters entries c (run c j) (state-sound c j) octets)
 
 pub frame-keeps : {c : Settings} {j : List Event} {i : Inside} (later : Inside) (made : List Placed) (p : Planned) (unit : Option (List ℕ)) (kind : Kind) (octets : List ℕ) (row : Row) (act : Act)
-    → Holds c j i → kind ≡ kind_of (header_of octets) (drop 5 octets) → FollowsKind kind i.open_runs later.open_runs (drop 5 octets) → EndsAtOnce kind i.open_runs (drop 5 octets) unit
+    → HaveEntries → Holds c j i → kind ≡ kind_of (header_of octets) (drop 5 octets) → FollowsKind kind i.open_runs later.open_runs (drop 5 octets) → EndsAtOnce kind i.open_runs (drop 5 octets) unit
     → IsPlanned (map_of (drop 5 octets)) unit i.rings i.unit_rings made p → later.rings ≡ put_all i.rings made → later.unit_rings ≡ put_all i.unit_rings (placed p.unit)
     → IsWhole octets → row ≡ row_of c (run c j) octets → act.event ≡ number_of row → act.accepted ≡ accepts row i.farm.report
     → later.farm.width ≡ i.farm.width → later.farm.report ≡ after row i.farm.report
     → later.ring.items ≡ with_field i.ring.items (buffered_of act (drop 5 octets)) → later.ring.capacity ≡ i.ring.capacity
     → Holds c (j ++ Frame octets ∷ []) later
-frame-keeps {c} {j} {i} later made p unit kind octets row act k kind_is follows ends planned rings_are units_are whole row_is event_is accepted_is width report items capacity =
+frame-keeps {c} {j} {i} later made p unit kind octets row act entries k kind_is follows ends planned rings_are units_are whole row_is event_is accepted_is width report items capacity =
     let b = run c j in
     let pushed = run-push c j (Frame octets) in
     let accepts_is : act.accepted ≡ accepts (row_of c b octets) b.report = rw (accepted_is, row_is, k.report) refl in
@@ -111,7 +111,7 @@ frame-keeps {c} {j} {i} later made p unit kind octets row act k kind_is follows 
     let queues = frame-queues c b octets i.open_runs unit later.rings later.unit_rings k.runs (rw (← kind_is) ends) offered in
     record {
       allowed = k.allowed;
-      lawful = lawful-push c j (Frame octets) k.lawful (whole, frame-enters c b (state-sound c j) octets);
+      lawful = lawful-push c j (Frame octets) k.lawful (whole, frame-enters entries c b (state-sound c j) octets);
       width = width ∙ k.width;
       report = report ∙ rw (row_is, k.report, pushed) refl;
       capacity = capacity ∙ k.capacity;

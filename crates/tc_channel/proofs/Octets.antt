@@ -1,19 +1,19 @@
 -- How many octets wait in the queues and in the buffer.
-use Rattle.std.proofs.Common.{ℕ, zero, suc, ◌+◌, ◌*◌, ◌≤◌, Bool, true, false, cond, eqb, ◌&&◌, List, [], ◌∷◌, ◌++◌, length, take, map, drop, filter, Option, Some, None, arith}
-use Rattle.std.specs.Prelude.{nat_lt}
+use Rattle.std.proofs.Common.{◌≡◌, ℕ, refl, zero, suc, ◌+◌, ◌*◌, ◌≤◌, Bool, true, false, cond, eqb, ◌&&◌, List, [], ◌∷◌, ◌++◌, length, take, map, drop, filter, Option, Some, None, arith}
+use Rattle.std.specs.Prelude.{nat_lt, nat_le}
 use Rattle.std.specs.List.{AllByRecursion}
 use Rattle.std.proofs.lemmas.List.{length-drop, length-map, length-take}
 use Rattle.std.proofs.lemmas.List.Sums.{sum_by-cons}
+use Rattle.std.proofs.lemmas.Bool.Decides.{nat_tests}
 use Rattle.tc_link.specs.Frame.{IsWhole, header_of as frame_header}
 use Rattle.tc_link.specs.Farm.{Row, accepts}
 use Rattle.tc_packet.specs.declared.segment.Part.{Part}
 use Rattle.tc_packet.specs.declared.segment.Part.TheVariants.{First, Continuing, Last, Unsegmented}
 use Rattle.tc_packet.specs.declared.Service.{Service}
 use Rattle.tc_packet.specs.declared.Service.TheVariants.{Ad, Bd}
-use Rattle.tc_packet.specs.Reassembly.{IsWithinLimit, ended_by, unit_ended, largest_unit, open_run, stream}
+use Rattle.tc_packet.specs.Reassembly.{IsWithinLimit, bounded, ended_by, unit_ended, largest_unit, open_run, stream}
 use Rattle.tc_packet.specs.Segment.{header_of, body_of}
 use Rattle.tc_packet.specs.SpacePacket.{begins, named_length, packets_within}
-use Rattle.tc_packet.proofs.KeptRuns.{bounded-within}
 use Rattle.tc_channel.specs.declared.settings.QueueSetting.{QueueSetting}
 use Rattle.tc_channel.specs.declared.settings.MapSetting.{MapSetting}
 use Rattle.tc_channel.specs.declared.settings.Settings.{Settings}
@@ -28,6 +28,12 @@ use Rattle.tc_channel.proofs.StateQueues.{kept-either}
 use Rattle.tc_channel.proofs.Room.{packets-within, units-within}
 
 -- a unit is within the limit
+
+bounded-within : (octets : List ℕ) → IsWithinLimit (bounded octets)
+bounded-within octets = by (nat_le (length octets) largest_unit) refl where
+  by : (t : Bool) → nat_le (length octets) largest_unit ≡ t → IsWithinLimit (bounded octets)
+  by true fits = rw fits (grind (arith, nat_tests))
+  by false over = rw over tt
 
 within-ended : (part : Part) (run : Option (List ℕ)) (body : List ℕ) → IsWithinLimit (ended_by part run body)
 within-ended Unsegmented run body = bounded-within body

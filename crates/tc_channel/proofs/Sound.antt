@@ -12,7 +12,6 @@ use Rattle.tc_link.specs.declared.Place.TheVariants.{Expected, Ahead, Behind, Ou
 use Rattle.tc_link.specs.Window.{place_of}
 use Rattle.tc_link.specs.Frame.{header_of}
 use Rattle.tc_link.specs.Command.{kind_of}
-use Rattle.tc_link.proofs.Entries.{room-from_E1, enters}
 use Rattle.tc_link.specs.Farm.{Row, E1, E2, E3, E4, E5, E6, E7, E8, E9, E10, row_at, frame_row, entry_at, entry, after}
 use Rattle.tc_channel.specs.declared.settings.Settings.{Settings}
 use Rattle.tc_channel.specs.declared.event.Event.{Event}
@@ -30,25 +29,25 @@ SoundAt S3 wait lockout room = (lockout ≡ true) × (wait ≡ true → room ≡
 abbrev pub Sound : Bool → Report → Type 0
 Sound room r = SoundAt r.state r.wait r.lockout room
 
--- E2 is met without room alone
-pub full-from_E2 : (width vr : ℕ) (kind : Kind) (room : Bool) → frame_row width vr kind room ≡ E2 → room ≡ false
-full-from_E2 width vr (Ad ns) room e = at (place_of width vr ns) room e where
-  at : (place : Place) (room : Bool) → row_at place room ≡ E2 → room ≡ false
-  at Expected true e = absurd cc
-  at Expected false e = refl
-  at Ahead room e = absurd cc
-  at Behind room e = absurd cc
-  at Outside room e = absurd cc
-full-from_E2 width vr Bd room e = absurd cc
-full-from_E2 width vr (Bc Unlock) room e = absurd cc
-full-from_E2 width vr (Bc (SetVr x)) room e = absurd cc
-full-from_E2 width vr Invalid room e = absurd cc
+-- E1 is met with room alone, and E2 without
+room-of : (width vr : ℕ) (kind : Kind) (room : Bool) → (frame_row width vr kind room ≡ E1 → room ≡ true) × (frame_row width vr kind room ≡ E2 → room ≡ false)
+room-of width vr (Ad ns) room = at (place_of width vr ns) room where
+  at : (place : Place) (room : Bool) → (row_at place room ≡ E1 → room ≡ true) × (row_at place room ≡ E2 → room ≡ false)
+  at Expected true = (λ e. refl, λ e. absurd cc)
+  at Expected false = (λ e. absurd cc, λ e. refl)
+  at Ahead room = (λ e. absurd cc, λ e. absurd cc)
+  at Behind room = (λ e. absurd cc, λ e. absurd cc)
+  at Outside room = (λ e. absurd cc, λ e. absurd cc)
+room-of width vr Bd room = (λ e. absurd cc, λ e. absurd cc)
+room-of width vr (Bc Unlock) room = (λ e. absurd cc, λ e. absurd cc)
+room-of width vr (Bc (SetVr x)) room = (λ e. absurd cc, λ e. absurd cc)
+room-of width vr Invalid room = (λ e. absurd cc, λ e. absurd cc)
 
 pub room-at_E1 : (c : Settings) (b : ChannelState) (octets : List ℕ) → row_of c b octets ≡ E1 → has_room c b ≡ true
-room-at_E1 c b octets e = room-from_E1 c.width b.report.vr (kind_of (header_of octets) (drop 5 octets)) (has_room c b) e
+room-at_E1 c b octets e = (room-of c.width b.report.vr (kind_of (header_of octets) (drop 5 octets)) (has_room c b)).0 e
 
 full-at_E2 : (c : Settings) (b : ChannelState) (octets : List ℕ) → row_of c b octets ≡ E2 → has_room c b ≡ false
-full-at_E2 c b octets e = full-from_E2 c.width b.report.vr (kind_of (header_of octets) (drop 5 octets)) (has_room c b) e
+full-at_E2 c b octets e = (room-of c.width b.report.vr (kind_of (header_of octets) (drop 5 octets)) (has_room c b)).1 e
 
 -- an entry keeps it, where room stays or E1 is met in S1
 abbrev pub Left : Row → State → Report → Report
@@ -134,9 +133,11 @@ state-sound c journal =
     let h = in-S2 (has_room c (run c journal)) (run c journal).report.state (run c journal).report (run-sound c journal) in
     record { waits = h.0; full = h.1; never_open = h.2; locked = h.3; lockout = h.4 }
 
+-- tc_link's law on arrivals: the table has an entry for each frame, except for one that is expected in S2 and finds room
+abbrev pub HaveEntries : Type 0
+HaveEntries = (width : ℕ) (r : Report) (kind : Kind) (room : Bool) → ((ns : ℕ) → kind ≡ Ad ns → r.state ≡ S2 → room ≡ false)
+    → IsSome (entry (frame_row width r.vr kind room) r)
+
 -- so a frame has an entry at each such book
-pub frame-enters : (c : Settings) (b : ChannelState) → IsSound c b → (octets : List ℕ) → IsSome (entry (row_of c b octets) b.report)
-frame-enters c b sound octets = enters (row_of c b octets) b.report.state b.report (λ s e.
-    let full = sound.full (sound.waits s) in
-    let room = room-at_E1 c b octets e in
-    cc (full, room))
+pub frame-enters : HaveEntries → (c : Settings) (b : ChannelState) → IsSound c b → (octets : List ℕ) → IsSome (entry (row_of c b octets) b.report)
+frame-enters entries c b sound octets = entries c.width b.report (kind_of (header_of octets) (drop 5 octets)) (has_room c b) (λ ns k s. sound.full (sound.waits s))

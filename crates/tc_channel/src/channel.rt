@@ -29,7 +29,10 @@ use crate::unkept::Unkept;
 use std::alloc::Global;
 use std::marker::Model;
 use std::snapshot::Snapshot;
-use tc_link::{Act, Arrival, Farm, Frame, Kind, Link, Report, Window, clcw_word, kind};
+use tc_link::{
+    Act, Arrival, Farm, Frame, Kind, Link, Report, Window, clcw_word, each_arrival_has_an_entry,
+    kind,
+};
 use tc_packet::{Reassembler, Service};
 
 /// One virtual channel: FARM-1, the buffer of accepted data fields, reassembly, the packet queues, the unit queues of chosen
@@ -94,6 +97,7 @@ impl<J: Journal> ChannelWith<J> {
         ensures refused { OnErr result (self.new ≡ self.old) }
         ensures answered { J.grows ≡ false → OnErr result (IsBypassData frame.now) }
     {
+        each_arrival_has_an_entry();
         let kind = kind(frame);
         let room = self.fields.len() < self.fields.capacity();
         let mut farm = self.farm;

@@ -19,6 +19,7 @@ ghost use Rattle.tc_channel.specs.Era.{IsEra, CountsUpInItsEra, ComesFrom, accep
 ghost use Rattle.tc_channel.specs.declared.settings.QueueSetting.{QueueSetting};
 ghost use Rattle.tc_channel.specs.declared.settings.MapSetting.{MapSetting};
 
+use tc_link::each_arrival_has_an_entry;
 use tc_packet::a_plain_field_is_a_unit_by_itself;
 
 /// Allowed settings have no fault.
@@ -34,7 +35,9 @@ pub fn wait_means_no_room()
 /// Whatever came before, each frame has its step: a frame that is expected and finds room never comes in S2.
 pub fn each_frame_has_a_step()
     ensures { (s : Settings) (journal : List Event) (octets : List ℕ) → IsWhole octets → HasStep s (run s journal) (Event.Frame octets) }
-{}
+{
+    each_arrival_has_an_entry();
+}
 
 /// A journal can be parted into its era and what came before.
 pub fn each_journal_has_an_era()

@@ -2,7 +2,6 @@
 use Rattle.std.proofs.Common.{◌≡◌, ℕ, zero, suc, ◌+◌, ◌-◌, ◌*◌, ◌/◌, ◌%◌, ◌^◌, ◌<◌, ◌≤◌, List, [], ◌∷◌, ◌++◌, length, get_or, drop, take, refl, ap, sym, ◌∙◌, subst, arith, length-append, length-take-le}
 use Rattle.std.proofs.lemmas.Grind.{common_steps}
 use Rattle.tc_link.specs.Frame.{IsOctets, IsWhole, IsFrame, header_of}
-use Rattle.tc_link.proofs.Frames.{octets-append}
 use Rattle.tc_fecf.specs.Checksum.{checksum_of}
 use Rattle.tc_fecf.specs.FrameWithField.{spelled, octets_before_field, frame_with_field}
 use Rattle.tc_fecf.proofs.Closing.{sum-fits, closing, closed}
@@ -78,6 +77,10 @@ plain-right (a ∷ b ∷ c ∷ []) p w least none is = absurd (omega arith)
 octets-cons : (x : ℕ) (xs : List ℕ) → x < 256 → IsOctets xs → IsOctets (x ∷ xs)
 octets-cons x xs fits each zero = fits
 octets-cons x xs fits each (suc i) = each i
+
+octets-append : (xs ys : List ℕ) → IsOctets xs → IsOctets ys → IsOctets (xs ++ ys)
+octets-append [] ys each more = more
+octets-append (x ∷ xs) ys each more = octets-cons x (xs ++ ys) (each 0) (octets-append xs ys (λ i. each (suc i)) more)
 
 octets-take : (m : ℕ) (xs : List ℕ) → IsOctets xs → IsOctets (take m xs)
 octets-take zero xs each zero = omega arith

@@ -27,7 +27,10 @@ use std::alloc::{AllocError, Global};
 use std::marker::Model;
 use std::snapshot::Snapshot;
 use tc_channel::{Delivery, FrameReply, LentEvent, Settings, SettingsFault, Unkept};
-use tc_link::{Act, Arrival, Farm, Frame, Kind, Link, Report, Window, clcw_word, kind};
+use tc_link::{
+    Act, Arrival, Farm, Frame, Kind, Link, Report, Window, clcw_word, each_arrival_has_an_entry,
+    kind,
+};
 use tc_packet::{LARGEST_UNIT, Service, read_segment};
 use tc_rooms::{Ended, FixedReassembler, Slots};
 
@@ -86,6 +89,7 @@ impl<N: Noted> FixedChannelWith<N> {
         ensures reply { result ≡ frame_reply self.old.settings self.old.journal frame.now }
         ensures done { self.new ≡ with_event self.old (Event.Frame frame.now) }
     {
+        each_arrival_has_an_entry();
         let kind = kind(frame);
         let room = self.fields.len() < self.fields.capacity();
         let act = self.farm.step(Arrival::Frame { kind, room });

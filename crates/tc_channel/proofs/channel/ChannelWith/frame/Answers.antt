@@ -14,7 +14,7 @@ use Rattle.tc_channel.proofs.channel.ChannelWith.frame.Goals as goal
 pub step-act-requires : goal.step-act-requires
 step-act-requires g c =
     let f = c.self.inside in
-    can-enter c.args.frame.now _ c.self.invariant
+    can-enter c.args.frame.now _ c.each_arrival_has_an_entry.ensures.frame c.self.invariant
     (row-is c.args.frame.now c.kind-kind.result c.len.result c.capacity.result c.self.invariant c.kind-kind.ensures c.len.ensures.len c.capacity.ensures.capacity)
 
 pub deliver_bypass-requires-clause-distinct : goal.deliver_bypass-requires-clause-distinct
@@ -39,7 +39,7 @@ invariant_of-self-2 g c =
     let e : g.J.Journal.events c.append.new.self ≡ (g.J.Journal.events f.journal) ++ Frame c.args.frame.now ∷ [] = grind (arith, common_steps) steps 500000 in
     rw e (frame-keeps _ c.deliver_bypass.new.sheet.copies.items c.in_ok-planned.planned c.in_ok-planned.ensures.planned.0 c.kind-kind.result c.args.frame.now
     (frame_row f.farm.width f.farm.report.vr c.kind-kind.result (nat_lt c.len.result c.capacity.result)) c.step-act.result
-    c.self.invariant c.kind-kind.ensures (rw c.field-field.ensures at c.in_ok-planned.ensures.passed) (rw c.field-field.ensures at c.in_ok-planned.ensures.planned.1) (rw (c.deref.ensures.value, c.deref-2.ensures.value, c.field-field.ensures) at c.in_ok-planned.ensures.planned.2) c.put_copies.ensures c.put_unit.ensures c.octets.ensures.whole
+    c.each_arrival_has_an_entry.ensures.frame c.self.invariant c.kind-kind.ensures (rw c.field-field.ensures at c.in_ok-planned.ensures.passed) (rw c.field-field.ensures at c.in_ok-planned.ensures.planned.1) (rw (c.deref.ensures.value, c.deref-2.ensures.value, c.field-field.ensures) at c.in_ok-planned.ensures.planned.2) c.put_copies.ensures c.put_unit.ensures c.octets.ensures.whole
     (row-is c.args.frame.now c.kind-kind.result c.len.result c.capacity.result c.self.invariant c.kind-kind.ensures c.len.ensures.len c.capacity.ensures.capacity)
     c.step-act.ensures.event c.step-act.ensures.accepted c.step-act.ensures.width c.step-act.ensures.report
     (c.put_field.ensures.items ∙ ap (λ field. with_field f.fields.items (buffered_of c.step-act.result field)) c.field-field.ensures) c.put_field.ensures.capacity)

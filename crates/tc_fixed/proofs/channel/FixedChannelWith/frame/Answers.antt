@@ -16,7 +16,7 @@ use Rattle.tc_fixed.proofs.channel.FixedChannelWith.frame.Goals as goal
 
 pub step-act-requires : goal.step-act-requires
 step-act-requires g c =
-    can-enter c.args.frame.now _ c.self.invariant.holds
+    can-enter c.args.frame.now _ c.each_arrival_has_an_entry.ensures.frame c.self.invariant.holds
     (row-is c.args.frame.now c.kind-kind.result c.len.result c.capacity.result c.self.invariant.holds c.kind-kind.ensures c.len.ensures.len c.capacity.ensures.capacity)
 
 pub pass_bypass-delivery-requires-clause-distinct : goal.pass_bypass-delivery-requires-clause-distinct
@@ -39,7 +39,7 @@ invariant_of-self g c =
     rw e (record {
       holds = frame-keeps _ q.made (record { unit = q.whole; delivery = c.pass_bypass-delivery.result }) d.0 c.kind-kind.result c.args.frame.now
           (frame_row f.farm.width f.farm.report.vr c.kind-kind.result (nat_lt c.len.result c.capacity.result)) c.step-act.result
-          c.self.invariant.holds c.kind-kind.ensures (rw c.field-field.ensures at c.pass_bypass-delivery.ensures.follows) (rw c.field-field.ensures at d.1)
+          c.each_arrival_has_an_entry.ensures.frame c.self.invariant.holds c.kind-kind.ensures (rw c.field-field.ensures at c.pass_bypass-delivery.ensures.follows) (rw c.field-field.ensures at d.1)
           (record { copies = q.shares; whole = q.whole_is; delivery = q.delivery_is }) q.queues_are q.units_are c.octets.ensures.whole
           (row-is c.args.frame.now c.kind-kind.result c.len.result c.capacity.result c.self.invariant.holds c.kind-kind.ensures c.len.ensures.len c.capacity.ensures.capacity)
           c.step-act.ensures.event c.step-act.ensures.accepted c.step-act.ensures.width c.step-act.ensures.report
