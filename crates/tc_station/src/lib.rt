@@ -12,14 +12,12 @@
 #![tactic(auto)]
 
 mod closing;
-mod desk;
 mod faults;
 mod holding;
 mod operator;
 mod station;
 mod work;
 
-pub use desk::{Desk, DeskOf, FlightDesk};
 pub use faults::{
     BringFault, CloseFault, FlightCloseFault, LocateFault, OperatorsFault, ReleaseRefused,
     StationFault, TakeRefused, TakeUnitRefused, WatcherFault, WorkFault,
@@ -27,4 +25,5 @@ pub use faults::{
 pub use holding::{Holding, HoldingFault, MapHolding, QueueHolding};
 pub use operator::Operator;
 pub use station::{Brought, FlightStation, Located, Station, StationOf};
+pub use tc_desk::{Desk, DeskOf, FlightDesk};
 pub use work::{FreeGate, Gate, Job, Order, WorkList};

@@ -13,7 +13,6 @@ ghost use Rattle.tc_station.specs.Balance.{AreInBalance, IsNumberTold};
 ghost use Rattle.tc_station.specs.StationSettings.{vcids_of, HaveDistinctVcids, IsFirstDouble, IsFirstRefused, AreStationSettings, IsStationFault};
 
 use crate::closing::{are_in_balance, are_in_told_balance};
-use crate::desk::DeskOf;
 use crate::faults::{
     BringFault, CloseFault, FlightCloseFault, LocateFault, OperatorsFault, ReleaseRefused,
     StationFault, TakeRefused, TakeUnitRefused, WatcherFault,
@@ -29,6 +28,7 @@ use tc_channel::{
     Channel, ChannelWith, Delivery, Event, FlightChannel, FrameReply, Journal, Kept, NoMemory,
     Settings, SettingsFault, Unkept, each_clcw_fits_its_word,
 };
+use tc_desk::DeskOf;
 use tc_link::{Frame, Link, read_frame};
 use tc_status::{Watcher, the_flags_of_the_link_have_their_own_bits};
 

@@ -1,0 +1,6 @@
+pub mod Desk
+pub mod Log
+pub mod Call
+pub mod Closing
+-- a lock's identity, for the crates above
+pub use Rattle.atomic_table.specs.Seated.{TableId}
