@@ -1,4 +1,10 @@
 //! The desk of a channel, and its lock.
+//!
+//! A contract sees a [`Desk`] as its channel and the board of its status word, and each call of a desk has the contract of the
+//! channel's call. Several threads share a [`LockedDesk`], each with a [`DeskOperator`] of its own, which the desk's
+//! [`DeskKeeper`] makes. Contracts see which lock that is, and what each operator has seen of the channel's journal and made of
+//! it: so each call is answered by this very channel's journal, and [`LockedDesk::close`] gives out a channel whose journal is a
+//! merge of what its operators made. Each call takes the lock once, and waits while another has it.
 #![tactic(auto)]
 
 mod closing;

@@ -35,7 +35,7 @@ impl<P: Occasion> NextEntry<Event> for Makes<P> {
 }
 
 /// An operation on a desk: an event where it is answered.
-pub(crate) trait Operation<J: Journal> {
+pub trait Operation<J: Journal> {
     ghost use Rattle.tc_channel.specs.declared.event.Event.{Event};
     ghost use Rattle.tc_desk.specs.Log.{Moment};
 
@@ -57,7 +57,7 @@ pub(crate) trait Operation<J: Journal> {
 }
 
 /// A question to a desk, which leaves it as it is.
-pub(crate) trait Question<J: Journal> {
+pub trait Question<J: Journal> {
     ghost use Rattle.tc_desk.specs.Log.{Moment};
 
     type Answer;
