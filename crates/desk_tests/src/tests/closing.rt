@@ -14,7 +14,8 @@ fn bring_and_release(rt: &(impl Abort + Wait), manned: &mut Manned, other: &mut 
     ensures other { other.new.lock ≡ other.old.lock }
 {
     assert!(rt; manned.frame(rt, &FRAME) == Ok(BUFFERED));
-    assert!(rt; manned.desk.release(rt, other) == Ok(ONE));
+    let released = manned.desk.release(rt, other);
+    assert!(rt; released == Ok(ONE));
 }
 
 // Without the operator that brought the frame the desk isn't closed, and all is given back; with both it is.

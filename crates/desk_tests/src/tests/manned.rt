@@ -41,7 +41,9 @@ impl Manned {
         &mut self,
         rt: &(impl Abort + Wait),
         octets: &[u8],
-    ) -> Result<FrameReply, NoMemory> {
+    ) -> Result<FrameReply, NoMemory>
+        ensures { self.new.desk ≡ self.old.desk }
+    {
         let frame = read_frame(octets).expect(rt, "a frame");
         self.desk.frame(rt, &mut self.operator, &frame)
     }

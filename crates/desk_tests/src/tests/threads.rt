@@ -19,6 +19,15 @@ fn turn_frame(who: u8, turn: u8) -> [u8; 8] {
     [0x20, 0x2a, 0x04, 0x07, 0x00, 0xc3, who, turn]
 }
 
+// Brings this frame. Says whether it was answered.
+fn bring<R: Abort + Wait>(rt: &R, desk: &Locked, operator: &mut DeskOperator, octets: &[u8]) -> bool
+    requires { operator.old.lock ≡ desk.now }
+    ensures { operator.new.lock ≡ desk.now }
+{
+    let frame = read_frame(octets).expect(rt, "a frame");
+    desk.frame(rt, operator, &frame).is_ok()
+}
+
 // Brings the frames of all turns, one after the other. Says whether each was answered.
 fn bring_all<R: Abort + Wait>(rt: &R, desk: &Locked, operator: &mut DeskOperator, who: u8) -> bool
     requires { operator.old.lock ≡ desk.now }
@@ -26,9 +35,7 @@ fn bring_all<R: Abort + Wait>(rt: &R, desk: &Locked, operator: &mut DeskOperator
 {
     let mut done = true;
     for turn in 0..TURNS {
-        let octets = turn_frame(who, turn);
-        let frame = read_frame(&octets).expect(rt, "a frame");
-        done = desk.frame(rt, operator, &frame).is_ok() && done;
+        done = bring(rt, desk, operator, &turn_frame(who, turn)) && done;
     }
     done
 }
@@ -55,6 +62,18 @@ fn side_by_side<R: Threads + Abort + Wait + Sync>(
     { bring_all(rt, desk, two, 2) };
     let (a, b) = join_mut(rt, &mut first, &mut second);
     a && b
+}
+
+// The desk's own operator and this one bring their frames. Says whether each was answered.
+fn work<R: Threads + Abort + Wait + Sync>(
+    rt: &R,
+    manned: &mut Manned,
+    other: &mut DeskOperator,
+) -> bool
+    requires { other.old.lock ≡ manned.old.desk }
+    ensures { other.new.lock ≡ manned.new.desk }
+{
+    side_by_side(rt, &manned.desk, &mut manned.operator, other)
 }
 
 // Of the frames of the journal those of one thread are all that it brought, in their order.
@@ -89,7 +108,7 @@ fn close_both(rt: &impl Abort, alloc: Global, manned: Manned, other: DeskOperato
 fn the_journal_is_a_merge_of_what_two_threads_brought(rt: HostRuntime) {
     let mut manned = Manned::new(&rt, rt.alloc());
     let mut other = manned.other();
-    assert!(rt; side_by_side(&rt, &manned.desk, &mut manned.operator, &mut other));
+    assert!(rt; work(&rt, &mut manned, &mut other));
     assert_eq!(rt; manned.operator.count(), u64::from(TURNS));
     assert_eq!(rt; other.count(), u64::from(TURNS));
     let channel = close_both(&rt, rt.alloc(), manned, other);
