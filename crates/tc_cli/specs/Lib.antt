@@ -11,3 +11,4 @@ pub mod Live
 pub mod Report
 pub mod Parting
 pub mod Parallel
+pub mod Written
