@@ -51,7 +51,7 @@ fn fault_of(fault: &FlightCloseFault, lines: u32) -> ScriptFault
 }
 
 /// Writes the report of each channel.
-pub(crate) fn write_report<W: Write>(channels: &[FlightChannel], writer: &mut W) -> io::Result<()>
+pub fn write_report<W: Write>(channels: &[FlightChannel], writer: &mut W) -> io::Result<()>
     requires rising { AreRising channels.now }
     requires told { All IsNumberTold channels.now }
 {

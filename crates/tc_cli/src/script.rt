@@ -100,8 +100,8 @@ fn write_answer<W: Write>(answer: Option<Answer>, writer: &mut W) -> Result<(), 
     }
 }
 
-/// The report at the end of a script with so many lines. Where no channel was set up there is none.
-pub(crate) fn report<W: Write>(
+// The report at the end of a script with so many lines. Where no channel was set up there is none.
+fn report<W: Write>(
     rt: &impl Wait,
     alloc: Global,
     scid: u16,

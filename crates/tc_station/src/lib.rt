@@ -24,7 +24,7 @@ pub use faults::{
     BringFault, CloseFault, FlightCloseFault, LocateFault, OperatorsFault, ReleaseRefused,
     StationFault, TakeRefused, TakeUnitRefused, WatcherFault, WorkFault,
 };
-pub use holding::{Holding, HoldingFault, MapHolding, QueueHolding};
+pub use holding::{Holding, HoldingFault, MapHolding, QueueHolding, holding_in};
 pub use operator::Operator;
 pub use station::{Brought, FlightStation, Located, Station, StationOf};
 pub use work::{FreeGate, Gate, Job, Order, WorkList};
