@@ -3,15 +3,17 @@
 //!
 //! The file `index` has a line for each case, in the order of their names: the name, the spacecraft
 //! id, and the text of the fault with which the script ends, if it does. `NAME.script` is the script,
-//! `NAME.out` what it is answered line by line, and `NAME.parallel.out` what is reported of it where each
-//! channel has a worker. Scripts at the limit of their size are made here. The file `clcws` has words that another
-//! program built, each with what it says; each is a case, too.
+//! `NAME.out` what it is answered line by line, by a station and by channels in rooms alike, and `NAME.parallel.out`
+//! what is reported of it where each channel has a worker. Scripts at the limit of their size are made here. The file
+//! `clcws` has words that another program built, each with what it says; each is a case, too.
 #![tactic(auto)]
 
 ghost use Rattle.std.specs.Prelude.{◌≤◌};
 
 mod clcws;
 mod outcome;
+mod replay;
+mod rooms;
 
 use anyhow::{Context, Result, anyhow};
 use cases::{Case, compare, large_cases, parse_case};
@@ -33,11 +35,12 @@ fn main(rt: HostRuntime) -> ExitCode {
     }
 }
 
-/// How many cases were done, and how many of them agree.
+/// How many cases were done, how many of them agree, and how many were done on channels in rooms as well.
 #[derive(Clone, Copy, Debug)]
 struct Tally {
     cases: u32,
     agreeing: u32,
+    in_rooms: u32,
 }
 
 impl Tally {
@@ -47,6 +50,12 @@ impl Tally {
             self.agreeing = self.agreeing.saturating_add(1);
         }
     }
+
+    // A case that is a script is done each way.
+    fn count_script(&mut self, agrees: bool) {
+        self.count(agrees);
+        self.in_rooms = self.in_rooms.saturating_add(1);
+    }
 }
 
 // Prints how many cases agree, and each that doesn't. Answers whether all do.
@@ -54,12 +63,18 @@ fn check_all<R: Files + AllocGlobal + Print + Threads + Wait + Sync>(rt: &R) -> 
     let mut tally = Tally {
         cases: 0,
         agreeing: 0,
+        in_rooms: 0,
     };
     check_index(rt, &mut tally)?;
     check_large(rt, &mut tally)?;
     check_clcws(rt, &mut tally)?;
-    let Tally { cases, agreeing } = tally;
+    let Tally {
+        cases,
+        agreeing,
+        in_rooms,
+    } = tally;
     println!(rt; "{agreeing} of {cases} cases agree")?;
+    println!(rt; "{in_rooms} of them are scripts, each done on channels in rooms as well")?;
     Ok(agreeing == cases)
 }
 
@@ -80,21 +95,14 @@ fn check_index<R: Files + AllocGlobal + Print + Threads + Wait + Sync>(
         let script = read(rt, format!(in rt.alloc(); "{}.script", case.name)?)?;
         let answers = read(rt, format!(in rt.alloc(); "{}.out", case.name)?)?;
         let report = read(rt, format!(in rt.alloc(); "{}.parallel.out", case.name)?)?;
-        let runs = agrees(
+        let agrees = agrees_each_way(
             rt,
             &case,
-            Command::Run,
             script.as_slice(),
             answers.as_slice(),
-        )?;
-        let works = agrees(
-            rt,
-            &case,
-            Command::Parallel,
-            script.as_slice(),
             report.as_slice(),
         )?;
-        tally.count(runs && works);
+        tally.count_script(agrees);
     }
     Ok(())
 }
@@ -116,9 +124,8 @@ fn check_large<R: AllocGlobal + Print + Threads + Wait + Sync>(
             scid: 42,
             fault: large.fault,
         };
-        let runs = agrees(rt, &case, Command::Run, large.script.as_slice(), b"")?;
-        let works = agrees(rt, &case, Command::Parallel, large.script.as_slice(), b"")?;
-        tally.count(runs && works);
+        let agrees = agrees_each_way(rt, &case, large.script.as_slice(), b"", b"")?;
+        tally.count_script(agrees);
     }
     Ok(())
 }
@@ -133,6 +140,23 @@ fn check_clcws<R: Files + AllocGlobal + Print>(rt: &R, tally: &mut Tally) -> Res
         tally.count(agrees);
     }
     Ok(())
+}
+
+// Whether a script leads to these answers where it is done line by line, on a station and on channels in rooms, and to this report
+// where each channel has a worker.
+fn agrees_each_way<R: AllocGlobal + Print + Threads + Wait + Sync>(
+    rt: &R,
+    case: &Case,
+    script: &[u8],
+    answers: &[u8],
+    report: &[u8],
+) -> Result<bool>
+    requires { case.now.scid ≤ 1023 }
+{
+    let runs = agrees(rt, case, Command::Run, script, answers)?;
+    let works = agrees(rt, case, Command::Parallel, script, report)?;
+    let in_rooms = agrees(rt, case, Command::Rooms, script, answers)?;
+    Ok(runs && works && in_rooms)
 }
 
 // Whether a script leads to what it is to lead to. Where it doesn't, it is told.

@@ -2,6 +2,7 @@
 
 ghost use Rattle.std.specs.Prelude.{◌≤◌};
 
+use crate::replay::replay_in_rooms;
 use std::alloc::{AllocError, Global};
 use std::fmt;
 use std::sync::Wait;
@@ -23,6 +24,8 @@ pub(crate) enum Command {
     Run,
     /// With a worker for each channel, and the final report alone.
     Parallel,
+    /// As `Run`, on channels in rooms in place of a station.
+    Rooms,
 }
 
 impl fmt::Display for Command {
@@ -30,6 +33,7 @@ impl fmt::Display for Command {
         f.write_str(match self {
             Command::Run => "run",
             Command::Parallel => "parallel",
+            Command::Rooms => "rooms",
         })
     }
 }
@@ -51,6 +55,7 @@ pub(crate) fn perform<T: Threads + Wait + Sync>(
         Command::Parallel => {
             parallel_script(rt, alloc, &FreeGate, scid, &mut reader, &mut answers)
         }
+        Command::Rooms => replay_in_rooms(alloc, scid, &mut reader, &mut answers),
     };
     let fault = match done {
         Ok(()) => String::new(alloc),

@@ -5,7 +5,6 @@ mod streams;
 
 use std::alloc::Global;
 use std::process::Abort;
-use std::sync::Wait;
 use tc_live::{FrameCheck, Receiver, answer_lines};
 use tc_text::SpacecraftId;
 
@@ -16,17 +15,11 @@ fn receiver(rt: &impl Abort, alloc: Global, check: FrameCheck) -> Receiver {
 }
 
 /// These lines are answered so, to their end.
-fn check_answers(
-    rt: &(impl Abort + Wait),
-    alloc: Global,
-    check: FrameCheck,
-    lines: &str,
-    answers: &str,
-) {
+fn check_answers(rt: &impl Abort, alloc: Global, check: FrameCheck, lines: &str, answers: &str) {
     let mut reader = lines.as_bytes();
     let mut written = Vec::new(alloc);
     let receiver = receiver(rt, alloc, check);
-    let served = answer_lines(rt, alloc, receiver, &mut reader, &mut written);
+    let served = answer_lines(alloc, receiver, &mut reader, &mut written);
     assert_eq!(rt; served, Ok(()));
     let text = str::from_utf8(&written).unwrap_or("no text");
     assert!(rt; text == answers, "{text}");

@@ -1,4 +1,5 @@
 mod alone;
+mod in_rooms;
 mod longest;
 mod replay;
 mod rows;

@@ -1,8 +1,10 @@
 -- A script, line by line.
-use Rattle.std.proofs.Common.{◌≡◌, ◌≤◌, ℕ, ◌+◌, List, [], ◌⊎◌, Result, Ok, Err, inl, inr, length, refl}
-use Rattle.std.specs.Prelude.{OnOk}
+use Rattle.std.proofs.Common.{◌≡◌, ◌≤◌, ℕ, ◌+◌, List, [], ◌⊎◌, Result, Ok, Err, inl, inr, length, refl, subst, sym}
+use Rattle.std.specs.Prelude.{OnOk, IfErr}
 use Rattle.tc_setup.specs.Phase.{Phase}
-use Rattle.tc_cli.specs.Script.{Leads, IsBadLine, IsFirstBad, IsGood}
+use Rattle.tc_cli.specs.Parallel.{Plan, AreParted, none_parted, one_parted}
+use Rattle.tc_cli.specs.Script.{Leads, starts, goes_on, IsBadLine, IsFault, IsFirstBad, IsGood, IsReportFault}
+use Rattle.tc_cli.specs.Stage.{phase_of}
 use Rattle.tc_text.specs.Reading.{IsFirstLine, limit}
 use Rattle.tc_text.specs.declared.fault.Reason.{Reason}
 use Rattle.tc_text.specs.declared.fault.Reason.TheVariants.{NoMemory}
@@ -33,3 +35,18 @@ pub good-end : (reported : Result (Unit {0}) ScriptFault) (script rest : List �
     → OnOk reported (IsGood script)
 good-end (Ok done) script rest count phase leads end = (count, phase, rw end at leads)
 good-end (Err fault) script rest count phase leads end = tt
+
+-- where nothing is left, and no report comes of it, this is why
+pub end-fault : (reported : Result (Unit {0}) ScriptFault) (script rest : List ℕ) (count : ℕ) (phase : Phase) → Leads script count phase rest → rest ≡ [] → length script ≤ limit
+    → IfErr reported (IsReportFault count) → IfErr reported (IsFault script)
+end-fault (Ok done) script rest count phase leads end within why = tt
+end-fault (Err fault) script rest count phase leads end within (inl write) = subst (IsFault script) (sym write) within
+end-fault (Err fault) script rest count phase leads end within (inr (inl unbalanced)) =
+    subst (IsFault script) (sym unbalanced) (within, (count, phase, rw end at leads))
+end-fault (Err fault) script rest count phase leads end within (inr (inr memory)) = subst (IsFault script) (sym memory) (inl refl)
+
+-- lines that give their jobs are good
+pub parted-leads : (scid : ℕ) (script : List ℕ) (count : ℕ) (plan : Plan) (rest : List ℕ) → AreParted scid script count plan rest → Leads script count (phase_of plan) rest
+parted-leads scid script count plan rest none_parted = starts
+parted-leads scid script count plan rest (one_parted {count = before} {plan = old} leads next parted) =
+    goes_on (parted-leads scid script before old _ leads) next (parted.0, parted.1, parted.2)

@@ -7,7 +7,7 @@ pub mod Script
 pub mod Manned
 pub mod Operation
 pub mod Session
-pub mod Live
 pub mod Report
 pub mod Parting
 pub mod Parallel
+pub mod Written

@@ -1,9 +1,17 @@
 -- A script whose operations are parted by their channels: the jobs so far, and what a line gives to them.
-use Rattle.std.specs.Prelude.{◌≡◌, ℕ}
+use Rattle.std.specs.Prelude.{◌≡◌, ◌⊎◌, ℕ, ◌+◌, List, [], Ok}
+use Rattle.tc_channel.specs.Journal.{History}
 use Rattle.tc_station.specs.declared.work.Order.TheVariants as orders
-use Rattle.tc_cli.specs.Parting.{Parted, newly_parted, IsGiven, IsFrameGiven}
+use Rattle.tc_text.specs.Reading.{IsFirstLine}
+use Rattle.tc_text.specs.Word.{words}
+use Rattle.tc_text.specs.Line.{line_of}
+use Rattle.tc_text.specs.declared.line.Line.{Line as Said}
+use Rattle.tc_cli.specs.Parting.{Parted, newly_parted, IsGiven, IsFrameGiven, IsWorkedOut}
+use Rattle.tc_setup.specs.Instruction.{instruction_of}
+use Rattle.tc_setup.specs.Phase.{Setup, Does}
 use Rattle.tc_setup.specs.declared.instruction.Instruction.{Instruction}
 use Rattle.tc_setup.specs.declared.instruction.Instruction.TheVariants.{Nothing, Channel, Add, Frame, Release, Take, Unit as TakeUnit, Clcw}
+use Rattle.tc_cli.specs.Stage.{phase_of}
 use Rattle.tc_cli.specs.declared.stage.Stage.{Stage}
 use Rattle.tc_cli.specs.declared.stage.Stage.TheVariants.{SettingUp, Operating}
 
@@ -28,3 +36,22 @@ IsParted scid line old (Release vcid) new = Parts scid (IsGiven vcid (record { l
 IsParted scid line old (Take vcid apid) new = Parts scid (IsGiven vcid (record { line = line; order = orders.Take apid })) old new
 IsParted scid line old (TakeUnit vcid map_id) new = Parts scid (IsGiven vcid (record { line = line; order = orders.TakeUnit map_id })) old new
 IsParted scid line old (Clcw vcid) new = Parts scid (λ before after. after ≡ before) old new
+
+-- the line with this number is good, leads from the one plan to the other, and its job is given to its channel
+abbrev pub IsLineParted : ℕ → ℕ → Plan → List ℕ → Plan → Type 0
+IsLineParted scid number plan line new =
+    (said : Said) × (line_of (words line) ≡ Ok said) × Does (phase_of plan) (instruction_of said) (phase_of new)
+    × IsParted scid number plan (instruction_of said) new
+
+-- the first lines of a script are good, and so many of them, each with its number, give their jobs: they lead to this plan, and leave these octets
+pub data AreParted (scid : ℕ) (script : List ℕ) : ℕ → Plan → List ℕ → Type 0 where
+  none_parted : AreParted scid script 0 (SettingUp []) script
+  one_parted : {count : ℕ} {plan new : Plan} {rest line after : List ℕ}
+      → AreParted scid script count plan rest → IsFirstLine rest line after → IsLineParted scid (count + 1) plan line new
+      → AreParted scid script (count + 1) new after
+
+-- what the workers of the whole script have made of its channels: there are none where none was set up
+abbrev pub AreWorkedChannels : ℕ → List ℕ → List History → Type 0
+AreWorkedChannels scid script channels =
+    (count : ℕ) × (plan : Plan) × AreParted scid script count plan []
+    × (((phase_of plan ≡ Setup []) × (channels ≡ [])) ⊎ IsWorkedOut (parted_for scid plan) channels)

@@ -2,13 +2,11 @@
 //!
 //! `run_script` reads a script from a reader, does its lines in order, and writes an answer for each
 //! operation and then a report. `parallel_script` does the operations of each channel by a worker of its
-//! own, and writes the report alone. `parse_line` reads one line. A [`LiveSession`] does lines one by one, as
-//! they come.
+//! own, and writes the report alone. `parse_line` reads one line. A [`Stage`] has what is set up, and then what operates on it.
 #![tactic(auto)]
 
 mod answer;
 mod founding;
-mod live;
 mod manned;
 mod parallel;
 mod parting;
@@ -19,7 +17,8 @@ mod stage;
 mod watchers;
 
 pub use answer::{Answer, Refusal};
-pub use live::LiveSession;
 pub use parallel::parallel_script;
+pub use report::write_report;
 pub use script::run_script;
+pub use stage::Stage;
 pub use tc_text::{Line, Reason, ScriptFault, parse_line};

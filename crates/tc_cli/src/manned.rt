@@ -1,7 +1,6 @@
 //! A station with its operator, and what the operations of a script are answered.
 
-ghost use Rattle.std.specs.Prelude.{◌≡◌, ◌↔◌, Contains, IsTrue, IfOk, IfErr, OnOk, OnErr};
-ghost use Rattle.tc_cli.specs.Live.{IsReported};
+ghost use Rattle.std.specs.Prelude.{◌≡◌, IfOk, IfErr, OnOk, OnErr};
 ghost use Rattle.tc_cli.specs.Manned.{newly_manned, after_answer};
 ghost use Rattle.tc_station.specs.Tally.{fresh};
 ghost use Rattle.tc_cli.specs.Operation.{IsAnswerTo, IsFrameAnswer, IsReleaseAnswer, IsTakeAnswer, IsUnitAnswer, IsClcwAnswer};
@@ -14,8 +13,8 @@ use std::sync::Wait;
 use tc_channel::Octets;
 use tc_link::Link;
 use tc_station::{
-    BringFault, FlightStation, Holding, HoldingFault, Operator, OperatorsFault, ReleaseRefused,
-    TakeRefused, TakeUnitRefused,
+    BringFault, FlightStation, Operator, OperatorsFault, ReleaseRefused, TakeRefused,
+    TakeUnitRefused,
 };
 use tc_text::Reason;
 
@@ -187,25 +186,6 @@ impl MannedStation {
         match self.watchers.watch(&self.station, vcid, link) {
             Some(word) => Answer::Clcw { vcid, word },
             None => Answer::Refused(Refusal::UnknownChannel),
-        }
-    }
-
-    /// Whether there is a channel with this id.
-    pub(crate) fn has(&self, vcid: u8) -> bool
-        ensures { IsTrue result ↔ Contains self.now.station.vcids vcid }
-    {
-        self.watchers.has(vcid)
-    }
-
-    /// What a channel has come to, if there is one with this id.
-    pub(crate) fn holding(&self, rt: &impl Wait, vcid: u8) -> Result<Option<Holding>, Reason>
-        ensures holding { IfOk result (IsReported self.now.station vcid) }
-        ensures reason { IfErr result (λ reason. reason ≡ Reason.NoMemory) }
-    {
-        match self.station.holding(rt, vcid) {
-            Ok(holding) => Ok(Some(holding)),
-            Err(HoldingFault::UnknownChannel) => Ok(None),
-            Err(HoldingFault::NoMemory) => Err(Reason::NoMemory),
         }
     }
 }

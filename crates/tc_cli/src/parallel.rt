@@ -1,12 +1,13 @@
 //! Scripts whose channels are worked side by side.
 
 ghost use Rattle.std.specs.Prelude.{◌≡◌, ◌≢◌, ◌⊎◌, ◌≤◌, [], All, length, IfOk, IfErr, OnOk, IfSome};
-ghost use Rattle.tc_cli.specs.Parallel.{parted_for, IsParted, Parts};
+ghost use Rattle.tc_cli.specs.Parallel.{parted_for, AreParted, AreWorkedChannels, IsLineParted, IsParted, Parts};
 ghost use Rattle.tc_cli.specs.Parting.{IsGiven, IsFrameGiven};
 ghost use Rattle.tc_setup.specs.Phase.{Does, IsBad, Setup};
 ghost use Rattle.tc_cli.specs.Report.{AreRising};
 ghost use Rattle.tc_cli.specs.Script.{IsFault, IsGood, IsDone, IsBadLine};
 ghost use Rattle.tc_cli.specs.Stage.{phase_of, IsKept};
+ghost use Rattle.tc_cli.specs.Written.{IsWrittenInParallel};
 ghost use Rattle.tc_station.specs.Balance.{IsNumberTold};
 ghost use Rattle.tc_text.specs.Reading.{limit};
 
@@ -40,11 +41,14 @@ pub fn parallel_script<T: Threads + Wait + Sync, G: Gate + Sync, R: Read, W: Wri
     requires { scid ≤ 1023 }
     ensures good { OnOk result (IfSome (R.remaining reader.old) (λ script. (length script ≤ limit) × IsGood script)) }
     ensures fault { IfErr result (λ fault. IfSome (R.remaining reader.old) (λ script. IsFault script fault)) }
+    ensures written { OnOk result (IfSome (R.remaining reader.old) (λ script. IsWrittenInParallel scid script (W.contents writer.old) (W.contents writer.new))) }
 {
     let script = read_whole(alloc, reader)?;
     let channels = work_lines(rt, alloc, gate, scid, script.as_slice())?;
-    let written = write_report(&channels, writer).and_then(|_| writer.flush());
-    written.map_err(|_| ScriptFault::Write)
+    match write_report(&channels, writer) {
+        Ok(()) => writer.flush().map_err(|_| ScriptFault::Write),
+        Err(_) => Err(ScriptFault::Write),
+    }
 }
 
 // The channels of a script that is done.
@@ -59,6 +63,7 @@ fn work_lines<T: Threads + Wait + Sync, G: Gate + Sync>(
     requires within { length script.now ≤ limit }
     ensures rising { IfOk result (λ channels. AreRising channels.items) }
     ensures told { IfOk result (λ channels. All IsNumberTold channels.items) }
+    ensures worked { IfOk result (λ channels. AreWorkedChannels scid script.now channels.items) }
     ensures good { OnOk result (IsGood script.now) }
     ensures fault { IfErr result (IsFault script.now) }
 {
@@ -80,6 +85,7 @@ type Plan = Stage<Parted>;
 fn part_lines(alloc: Global, scid: u16, script: &[u8]) -> Result<(Plan, u32), ScriptFault>
     requires spacecraft { scid ≤ 1023 }
     requires within { length script.now ≤ limit }
+    ensures parted { IfOk result (λ parts. AreParted scid script.now parts.1 parts.0 []) }
     ensures good { OnOk result (IsGood script.now) }
     ensures fault { IfErr result (IsFault script.now) }
 {
@@ -106,6 +112,7 @@ fn part_line(
 ) -> Result<(), Reason>
     requires { scid ≤ 1023 }
     ensures done { OnOk result (IsDone (phase_of plan.old) octets.now (phase_of plan.new)) }
+    ensures parted { OnOk result (IsLineParted scid line plan.old octets.now plan.new) }
     ensures reason { IfErr result (λ reason. (reason ≡ Reason.NoMemory) ⊎ IsBadLine (phase_of plan.old) octets.now reason) }
     ensures refused { IfErr result (λ reason. IsKept reason plan.old plan.new) }
 {

@@ -1,16 +1,18 @@
 //! The final report.
 
-ghost use Rattle.std.specs.Prelude.{◌≡◌, ◌≤◌, All, vec_len, IfOk, IfErr};
-ghost use Rattle.tc_cli.specs.Report.{AreRising, AreBalanced};
+ghost use Rattle.std.specs.Prelude.{◌≡◌, ◌≤◌, All, vec_len, IfOk, IfErr, OnOk};
+ghost use Rattle.std.specs.Io.KnownBytes.{Appends};
+ghost use Rattle.std.specs.List.{flat_map};
+ghost use Rattle.tc_cli.specs.Report.{AreRising, AreBalanced, IsLawfulHistory, report_text, channel_text, final_line, queue_line, map_line};
 ghost use Rattle.tc_cli.specs.Script.{IsCloseFault, close_fault};
 ghost use Rattle.tc_station.specs.Balance.{IsNumberTold};
 
 use crate::watchers::NO_FLAGS;
 use std::io;
 use std::io::Write;
-use tc_channel::FlightChannel;
+use tc_channel::{FlightChannel, MapSetting, QueueSetting};
 use tc_station::{FlightCloseFault, FlightStation, Operator};
-use tc_text::{Reason, ScriptFault};
+use tc_text::{Reason, ScriptFault, WordDigits};
 
 /// Closes the station of a script with so many lines. The channels stand in rising virtual channel
 /// id, each in balance with the counts of the operators, and each tells the number of its events as it is.
@@ -51,9 +53,11 @@ fn fault_of(fault: &FlightCloseFault, lines: u32) -> ScriptFault
 }
 
 /// Writes the report of each channel.
-pub(crate) fn write_report<W: Write>(channels: &[FlightChannel], writer: &mut W) -> io::Result<()>
+pub fn write_report<W: Write>(channels: &[FlightChannel], writer: &mut W) -> io::Result<()>
     requires rising { AreRising channels.now }
     requires told { All IsNumberTold channels.now }
+    ensures written { OnOk result (Appends (W.contents writer.old) (W.contents writer.new) (report_text channels.now)) }
+    ensures lawful { OnOk result (All IsLawfulHistory channels.now) }
 {
     for channel in channels {
         write_channel(channel, writer)?;
@@ -63,27 +67,83 @@ pub(crate) fn write_report<W: Write>(channels: &[FlightChannel], writer: &mut W)
 
 // Writes what a channel has come to, then how many packets wait in each of its queues and how many units on each of its
 // chosen MAPs.
-fn write_channel<W: Write>(channel: &FlightChannel, writer: &mut W) -> io::Result<()> {
+fn write_channel<W: Write>(channel: &FlightChannel, writer: &mut W) -> io::Result<()>
+    requires { IsNumberTold channel.now }
+    ensures written { OnOk result (Appends (W.contents writer.old) (W.contents writer.new) (channel_text channel.now)) }
+    ensures lawful { IsLawfulHistory channel.now }
+{
     let settings = channel.settings();
-    let vcid = settings.vcid;
-    let word = channel.clcw(NO_FLAGS);
+    write_final(channel, writer)?;
+    write_queues(channel, settings.queues.as_slice(), writer)?;
+    write_maps(channel, settings.maps.as_slice(), writer)
+}
+
+fn write_final<W: Write>(channel: &FlightChannel, writer: &mut W) -> io::Result<()>
+    requires { IsNumberTold channel.now }
+    ensures { OnOk result (Appends (W.contents writer.old) (W.contents writer.new) (final_line channel.now)) }
+{
+    let vcid = channel.settings().vcid;
+    let word = WordDigits(channel.clcw(NO_FLAGS));
     let events = channel.events();
     let buffered = channel.buffered();
     writeln!(
         writer,
-        "final {vcid} {word:08x} events {events} buffered {buffered}"
-    )?;
-    for queue in settings.queues.as_slice() {
-        if let Some(queued) = channel.queued(queue.apid) {
-            let apid = queue.apid;
-            writeln!(writer, "queue {vcid} {apid} {queued}")?;
-        }
-    }
-    for chosen in settings.maps.as_slice() {
-        if let Some(units) = channel.units(chosen.map) {
-            let map = chosen.map;
-            writeln!(writer, "map {vcid} {map} {units}")?;
-        }
+        "final {vcid} {word} events {events} buffered {buffered}"
+    )
+}
+
+fn write_queues<W: Write>(
+    channel: &FlightChannel,
+    queues: &[QueueSetting],
+    writer: &mut W,
+) -> io::Result<()>
+    ensures { OnOk result (Appends (W.contents writer.old) (W.contents writer.new) (flat_map (queue_line channel.now) queues.now)) }
+{
+    for queue in queues {
+        write_queue(channel, queue, writer)?;
     }
     Ok(())
+}
+
+fn write_queue<W: Write>(
+    channel: &FlightChannel,
+    queue: &QueueSetting,
+    writer: &mut W,
+) -> io::Result<()>
+    ensures { OnOk result (Appends (W.contents writer.old) (W.contents writer.new) (queue_line channel.now queue.now)) }
+{
+    let vcid = channel.settings().vcid;
+    let apid = queue.apid;
+    match channel.queued(apid) {
+        Some(queued) => writeln!(writer, "queue {vcid} {apid} {queued}"),
+        None => Ok(()),
+    }
+}
+
+fn write_maps<W: Write>(
+    channel: &FlightChannel,
+    maps: &[MapSetting],
+    writer: &mut W,
+) -> io::Result<()>
+    ensures { OnOk result (Appends (W.contents writer.old) (W.contents writer.new) (flat_map (map_line channel.now) maps.now)) }
+{
+    for chosen in maps {
+        write_map(channel, chosen, writer)?;
+    }
+    Ok(())
+}
+
+fn write_map<W: Write>(
+    channel: &FlightChannel,
+    chosen: &MapSetting,
+    writer: &mut W,
+) -> io::Result<()>
+    ensures { OnOk result (Appends (W.contents writer.old) (W.contents writer.new) (map_line channel.now chosen.now)) }
+{
+    let vcid = channel.settings().vcid;
+    let map = chosen.map;
+    match channel.units(map) {
+        Some(units) => writeln!(writer, "map {vcid} {map} {units}"),
+        None => Ok(()),
+    }
 }

@@ -1,12 +1,13 @@
 //! A script from its octets to its answers.
 
-ghost use Rattle.std.specs.Prelude.{◌≡◌, ◌⊎◌, ◌≤◌, length, IfErr, OnOk, IfSome};
+ghost use Rattle.std.specs.Prelude.{◌≡◌, ◌⊎◌, ◌≤◌, length, IfOk, IfErr, OnOk, IfSome};
 ghost use Rattle.tc_cli.specs.Script.{IsFault, IsGood, IsDone, IsBadLine, IsReportFault};
 ghost use Rattle.tc_text.specs.Reading.{limit};
 ghost use Rattle.tc_cli.specs.Session.{IsLeft};
 ghost use Rattle.tc_cli.specs.Stage.{phase_of};
 ghost use Rattle.std.specs.Io.KnownBytes.{Appends};
 ghost use Rattle.tc_cli.specs.Printed.{answer_line};
+ghost use Rattle.tc_cli.specs.Written.{IsCutShort, IsLineAnswered, IsReportWritten, IsWritten};
 
 use crate::answer::Answer;
 use crate::report::{close, write_report};
@@ -24,7 +25,7 @@ use tc_text::{Reason, ScriptFault, next_line, parse_line, read_whole};
 ///
 /// The script, of 1,048,576 octets at most, is read whole and kept before the first line is done.
 /// Where the octets of the reader are known, a script is done to its end only if each line is good,
-/// and a bad line that ends it is the first one.
+/// and a bad line that ends it is the first one. Then the answers of the lines before it are written.
 pub fn run_script<T: Wait, R: Read, W: Write>(
     rt: &T,
     alloc: Global,
@@ -35,6 +36,8 @@ pub fn run_script<T: Wait, R: Read, W: Write>(
     requires { scid ≤ 1023 }
     ensures good { OnOk result (IfSome (R.remaining reader.old) (λ script. (length script ≤ limit) × IsGood script)) }
     ensures fault { IfErr result (λ fault. IfSome (R.remaining reader.old) (λ script. IsFault script fault)) }
+    ensures written { OnOk result (IfSome (R.remaining reader.old) (λ script. IsWritten scid script (W.contents writer.old) (W.contents writer.new))) }
+    ensures cut_short { IfErr result (λ fault. IfSome (R.remaining reader.old) (λ script. IsCutShort scid script (W.contents writer.old) (W.contents writer.new) fault)) }
 {
     let script = read_whole(alloc, reader)?;
     let done = run_lines(rt, alloc, scid, script.as_slice(), writer);
@@ -55,6 +58,8 @@ fn run_lines<W: Write>(
     requires within { length script.now ≤ limit }
     ensures good { OnOk result (IsGood script.now) }
     ensures fault { IfErr result (IsFault script.now) }
+    ensures written { OnOk result (IsWritten scid script.now (W.contents writer.old) (W.contents writer.new)) }
+    ensures cut_short { IfErr result (IsCutShort scid script.now (W.contents writer.old) (W.contents writer.new)) }
 {
     let mut session = Stage::SettingUp(Configuration::new(alloc));
     // The program has no radio.
@@ -83,6 +88,7 @@ fn perform_line(
 ) -> Result<Option<Answer>, Reason>
     requires { scid ≤ 1023 }
     ensures done { OnOk result (IsDone (phase_of session.old) octets.now (phase_of session.new)) }
+    ensures answer { IfOk result (IsLineAnswered scid links.now session.old octets.now session.new) }
     ensures reason { IfErr result (λ reason. (reason ≡ Reason.NoMemory) ⊎ IsBadLine (phase_of session.old) octets.now reason) }
     ensures refused { IfErr result (λ reason. IsLeft scid reason session.old session.new) }
 {
@@ -100,8 +106,8 @@ fn write_answer<W: Write>(answer: Option<Answer>, writer: &mut W) -> Result<(), 
     }
 }
 
-/// The report at the end of a script with so many lines. Where no channel was set up there is none.
-pub(crate) fn report<W: Write>(
+// The report at the end of a script with so many lines. Where no channel was set up there is none.
+fn report<W: Write>(
     rt: &impl Wait,
     alloc: Global,
     scid: u16,
@@ -110,6 +116,7 @@ pub(crate) fn report<W: Write>(
     writer: &mut W,
 ) -> Result<(), ScriptFault>
     requires { scid ≤ 1023 }
+    ensures written { OnOk result (IsReportWritten scid session (W.contents writer.old) (W.contents writer.new)) }
     ensures fault { IfErr result (IsReportFault lines) }
 {
     let manned = match session.start(rt, alloc, scid) {

@@ -85,9 +85,9 @@ impl Stage<MannedStation> {
         }
     }
 
-    /// Makes the station with its operator, where no operation came before: by a copy of what was set up, which stays where memory
-    /// is refused.
-    pub(crate) fn begin(&mut self, rt: &impl Wait, alloc: Global, scid: u16) -> Result<(), Reason>
+    // Makes the station with its operator, where no operation came before: by a copy of what was set up, which stays where memory
+    // is refused.
+    fn begin(&mut self, rt: &impl Wait, alloc: Global, scid: u16) -> Result<(), Reason>
         requires { scid ≤ 1023 }
         ensures manned { OnOk result (self.new ≡ Stage.Operating (manned_for scid self.old)) }
         ensures some { OnOk result (phase_of self.old ≢ Setup []) }

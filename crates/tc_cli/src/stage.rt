@@ -12,14 +12,16 @@ use tc_text::Reason;
 /// How far a script has come. What operates is made at the first operation, with the channels that are
 /// set up by then.
 #[derive(Drop)]
-pub(crate) enum Stage<O> {
+pub enum Stage<O> {
+    /// These channels are set up so far.
     SettingUp(Configuration),
+    /// An operation came.
     Operating(O),
 }
 
 impl<O: Drop> Stage<O> {
     /// Sets up the channel of a channel line.
-    pub(crate) fn add_channel(&mut self, settings: Settings) -> Result<(), Reason>
+    pub fn add_channel(&mut self, settings: Settings) -> Result<(), Reason>
         ensures done { OnOk result (Does (phase_of self.old) (Instruction.Channel settings) (phase_of self.new)) }
         ensures reason { IfErr result (λ reason. (reason ≡ Reason.NoMemory) ⊎ IsBad (phase_of self.old) (Instruction.Channel settings) reason) }
         ensures refused { OnErr result (self.new ≡ self.old) }
@@ -31,7 +33,7 @@ impl<O: Drop> Stage<O> {
     }
 
     /// Gives a channel the queue of a queue line or the chosen MAP of a map line.
-    pub(crate) fn add_to_channel(
+    pub fn add_to_channel(
         &mut self,
         alloc: Global,
         vcid: u8,

@@ -1,6 +1,6 @@
 //! A watcher for each channel of a station.
 
-ghost use Rattle.std.specs.Prelude.{◌≡◌, ◌<◌, ◌↔◌, IsTrue, All, Contains, length, map, slice_index, IfOk, IfErr, MatchOption};
+ghost use Rattle.std.specs.Prelude.{◌≡◌, ◌<◌, All, Contains, length, map, slice_index, IfOk, IfErr, MatchOption};
 ghost use Rattle.tc_cli.specs.Operation.{IsStatusOf};
 
 use std::alloc::Global;
@@ -60,13 +60,6 @@ impl Watchers {
     {
         let place = place_of(&self.vcids, vcid)?;
         Some(station.watch(&mut self.watchers[place], link))
-    }
-
-    /// Whether there is a channel with this id.
-    pub(crate) fn has(&self, vcid: u8) -> bool
-        ensures { IsTrue result ↔ Contains self.now vcid }
-    {
-        place_of(&self.vcids, vcid).is_some()
     }
 }
 

@@ -1,5 +1,5 @@
 -- A receiver that does lines: what a line does to it and is answered, and why a line is bad.
-use Rattle.std.specs.Prelude.{◌≡◌, ◌⊎◌, ◌↔◌, Bool, true, false, IsTrue, ℕ, List, Contains, Option, Some, None, Ok, Err}
+use Rattle.std.specs.Prelude.{◌≡◌, ◌⊎◌, Bool, true, false, ℕ, List, [], Option, Some, None, Ok, Err}
 use Rattle.tc_link.specs.declared.clcw.Link.{Link}
 use Rattle.tc_text.specs.Word.{words}
 use Rattle.tc_text.specs.LiveLine.{live_line_of}
@@ -9,35 +9,73 @@ use Rattle.tc_text.specs.declared.line.Line.{Line}
 use Rattle.tc_text.specs.declared.live.LiveLine.{LiveLine}
 use Rattle.tc_text.specs.declared.live.LiveLine.TheVariants.{Script, Link as LinkOf, Report}
 use Rattle.tc_station.specs.declared.holding.Holding.{Holding}
-use Rattle.tc_cli.specs.Instruction.{instruction_of}
-use Rattle.tc_cli.specs.Live.{Live, new_live, manned_at, live_after, linked, IsLiveAnswered, IsReported}
-use Rattle.tc_cli.specs.Phase.{Does, IsBad, IsBadOperation, Operates}
+use Rattle.tc_setup.specs.Instruction.{instruction_of}
+use Rattle.tc_setup.specs.Phase.{Does, IsBad, IsBadOperation, Operates}
+use Rattle.tc_setup.specs.declared.instruction.Instruction.{Instruction}
+use Rattle.tc_setup.specs.declared.instruction.Instruction.TheVariants as instructions
 use Rattle.tc_cli.specs.Stage.{phase_of}
 use Rattle.tc_cli.specs.declared.answer.Answer.{Answer}
+use Rattle.tc_cli.specs.declared.stage.Stage.{Stage}
+use Rattle.tc_cli.specs.declared.stage.Stage.TheVariants.{SettingUp, Operating}
+use Rattle.tc_rack.specs.Rack.{Racked, new_rack, IsLinkSet, IsReported}
+use Rattle.tc_rack.specs.Operation.{IsAnswerOf}
+use Rattle.tc_rack.specs.declared.operation.Operation.{Operation}
+use Rattle.tc_rack.specs.declared.operation.Operation.TheVariants as operations
 use Rattle.tc_live.specs.Check.{IsPassed, FailsCheck}
 use Rattle.tc_live.specs.declared.answer.LiveAnswer.{LiveAnswer}
 use Rattle.tc_live.specs.declared.answer.LiveAnswer.TheVariants as told
 use Rattle.tc_live.specs.declared.check.FrameCheck.{FrameCheck}
 
+-- what octets must pass, the spacecraft's id, and the channels: set up so far, or in operation
 pub record Receiving : Type 0 where
   pub check : FrameCheck
-  pub session : Live
+  pub scid : ℕ
+  pub stage : Stage Racked
 
--- another session, and the same check
-abbrev pub now_at : Live → Receiving → Receiving
-now_at session receiver = record receiver { session = session }
+-- one for which nothing is set up
+abbrev pub new_receiver : FrameCheck → ℕ → Receiving
+new_receiver check scid = record { check = check; scid = scid; stage = SettingUp [] }
 
--- what the session answers is told: nothing where it answers nothing
-abbrev pub told_of : Option Answer → LiveAnswer
-told_of None = told.Nothing
-told_of (Some answer) = told.Operation answer
+-- the channels that operations find: new ones where no operation came before
+abbrev pub rack_for : ℕ → Stage Racked → Racked
+rack_for scid (SettingUp list) = new_rack scid list
+rack_for scid (Operating rack) = rack
 
--- the session does what a line of a script says that passed
+abbrev pub rack_at : Receiving → Racked
+rack_at receiver = rack_for receiver.scid receiver.stage
+
+-- the channels are these from now on, and all else is as before
+abbrev pub with_rack : Racked → Receiving → Receiving
+with_rack rack receiver = record receiver { stage = Operating rack }
+
+-- after an operation that changes no channel
+abbrev pub begun : Receiving → Receiving
+begun receiver = with_rack (rack_at receiver) receiver
+
+-- an operation is answered, and its answer is told
+abbrev pub IsOperated : Operation → Receiving → Receiving → LiveAnswer → Type 0
+IsOperated operation old new answer =
+    (a : Answer) × (rack : Racked) × IsAnswerOf operation (rack_at old) a rack × (answer ≡ told.Operation a) × (new ≡ with_rack rack old)
+
+-- a line that sets up has no answer; what it sets up is told by its phase, and all else is as before
+abbrev pub IsSetUp : Receiving → Receiving → LiveAnswer → Type 0
+IsSetUp old new answer = (answer ≡ told.Nothing) × (new ≡ record old { stage = new.stage })
+
+-- what a line of a script is answered, by what it asks for
+abbrev pub IsInstructed : Receiving → Instruction → Receiving → LiveAnswer → Type 0
+IsInstructed old instructions.Nothing new answer = (answer ≡ told.Nothing) × (new ≡ old)
+IsInstructed old (instructions.Channel settings) new answer = IsSetUp old new answer
+IsInstructed old (instructions.Add vcid addition) new answer = IsSetUp old new answer
+IsInstructed old (instructions.Frame octets) new answer = IsOperated (operations.Frame octets) old new answer
+IsInstructed old (instructions.Release vcid) new answer = IsOperated (operations.Release vcid) old new answer
+IsInstructed old (instructions.Take vcid apid) new answer = IsOperated (operations.Take vcid apid) old new answer
+IsInstructed old (instructions.Unit vcid map_id) new answer = IsOperated (operations.Unit vcid map_id) old new answer
+IsInstructed old (instructions.Clcw vcid) new answer = IsOperated (operations.Clcw vcid) old new answer
+
+-- the receiver does what a line of a script says that passed
 abbrev pub IsPerformed : Receiving → Line → Receiving → LiveAnswer → Type 0
 IsPerformed old passed new answer =
-    (a : Option Answer) × IsLiveAnswered old.session (instruction_of passed) new.session a
-    × Does (phase_of old.session.session) (instruction_of passed) (phase_of new.session.session)
-    × (answer ≡ told_of a) × (new ≡ now_at new.session old)
+    IsInstructed old (instruction_of passed) new answer × Does (phase_of old.stage) (instruction_of passed) (phase_of new.stage)
 
 -- a line that passes is done; one that doesn't changes nothing
 abbrev pub IsScriptDone : Receiving → Line → Receiving → LiveAnswer → Type 0
@@ -45,9 +83,9 @@ IsScriptDone old line new answer =
     ((passed : Line) × IsPassed old.check line passed × IsPerformed old passed new answer)
     ⊎ (FailsCheck old.check line × (answer ≡ told.Unchecked) × (new ≡ old))
 
--- what a refused line leaves: all as it was, or where memory was wanting the station made for it
+-- what a refused line leaves: all as it was, or where memory was wanting the channels made for it
 abbrev pub IsReceiverLeft : Reason → Receiving → Receiving → Type 0
-IsReceiverLeft reason old new = (new ≡ old) ⊎ ((reason ≡ NoMemory) × (new ≡ now_at (live_after old.session) old))
+IsReceiverLeft reason old new = (new ≡ old) ⊎ ((reason ≡ NoMemory) × (new ≡ begun old))
 
 abbrev pub link_told : Bool → ℕ → Link → LiveAnswer
 link_told true vcid link = told.Link vcid link
@@ -56,8 +94,8 @@ link_told false vcid link = told.UnknownChannel
 -- the flags of a channel's link are others from now on, if there is such a channel
 abbrev pub IsLinked : Receiving → ℕ → Link → Receiving → LiveAnswer → Type 0
 IsLinked old vcid link new answer =
-    (known : Bool) × (IsTrue known ↔ Contains (manned_at old.session).station.vcids vcid)
-    × (answer ≡ link_told known vcid link) × (new ≡ now_at (linked known vcid link old.session) old)
+    (known : Bool) × (rack : Racked) × IsLinkSet (rack_at old) vcid link known rack
+    × (answer ≡ link_told known vcid link) × (new ≡ with_rack rack old)
 
 abbrev pub report_told : ℕ → Option Holding → LiveAnswer
 report_told vcid None = told.UnknownChannel
@@ -66,14 +104,13 @@ report_told vcid (Some holding) = told.Report vcid holding
 -- what a channel has come to is told, if there is such a channel
 abbrev pub IsReportDone : Receiving → ℕ → Receiving → LiveAnswer → Type 0
 IsReportDone old vcid new answer =
-    (found : Option Holding) × IsReported (manned_at old.session).station vcid found
-    × (answer ≡ report_told vcid found) × (new ≡ now_at (live_after old.session) old)
+    (found : Option Holding) × IsReported (rack_at old) vcid found × (answer ≡ report_told vcid found) × (new ≡ begun old)
 
 -- what a good line does, and is answered
 abbrev pub IsLineDone : Receiving → LiveLine → Receiving → LiveAnswer → Type 0
 IsLineDone old (Script line) new answer = IsScriptDone old line new answer
-IsLineDone old (LinkOf vcid link) new answer = IsLinked old vcid link new answer
-IsLineDone old (Report vcid) new answer = IsReportDone old vcid new answer
+IsLineDone old (LinkOf vcid link) new answer = IsLinked old vcid link new answer × Operates (phase_of old.stage) (phase_of new.stage)
+IsLineDone old (Report vcid) new answer = IsReportDone old vcid new answer × Operates (phase_of old.stage) (phase_of new.stage)
 
 -- what a line is answered that says something
 abbrev pub IsLineAnswered : Receiving → List ℕ → Receiving → LiveAnswer → Type 0
@@ -81,13 +118,13 @@ IsLineAnswered old octets new answer = (said : LiveLine) × (live_line_of (words
 
 -- why a line of a script is bad that passed
 abbrev pub IsBadScript : Receiving → Line → Reason → Type 0
-IsBadScript old line reason = (passed : Line) × IsPassed old.check line passed × IsBad (phase_of old.session.session) (instruction_of passed) reason
+IsBadScript old line reason = (passed : Line) × IsPassed old.check line passed × IsBad (phase_of old.stage) (instruction_of passed) reason
 
 -- why a line is bad, by what it says, memory aside
 abbrev pub IsBadSaying : Receiving → LiveLine → Reason → Type 0
 IsBadSaying old (Script line) reason = IsBadScript old line reason
-IsBadSaying old (LinkOf vcid link) reason = IsBadOperation (phase_of old.session.session) reason
-IsBadSaying old (Report vcid) reason = IsBadOperation (phase_of old.session.session) reason
+IsBadSaying old (LinkOf vcid link) reason = IsBadOperation (phase_of old.stage) reason
+IsBadSaying old (Report vcid) reason = IsBadOperation (phase_of old.stage) reason
 
 abbrev pub IsBadLiveLine : Receiving → List ℕ → Reason → Type 0
 IsBadLiveLine old octets reason =

@@ -1,7 +1,7 @@
 //! What a line is answered.
 
 ghost use Rattle.std.specs.Prelude.{◌≡◌};
-ghost use Rattle.tc_live.specs.Receiver.{told_of, link_told, report_told};
+ghost use Rattle.tc_live.specs.Receiver.{link_told, report_told};
 
 use std::fmt;
 use tc_cli::Answer;
@@ -26,16 +26,6 @@ pub enum LiveAnswer {
 }
 
 impl LiveAnswer {
-    /// What a session answers to a line of a script.
-    pub(crate) fn of_operation(answer: Option<Answer>) -> LiveAnswer
-        ensures { result ≡ told_of answer }
-    {
-        match answer {
-            Some(answer) => LiveAnswer::Operation(answer),
-            None => LiveAnswer::Nothing,
-        }
-    }
-
     /// The flags of the link of a channel, which is known or not.
     pub(crate) fn of_link(known: bool, vcid: u8, link: Link) -> LiveAnswer
         ensures { result ≡ link_told known vcid link }

@@ -1,30 +1,37 @@
 //! A receiver that does lines.
 
-ghost use Rattle.std.specs.Prelude.{◌≡◌, ◌⊎◌, IfOk, IfErr};
-ghost use Rattle.tc_cli.specs.Live.{new_live};
-ghost use Rattle.tc_cli.specs.Instruction.{instruction_of};
-ghost use Rattle.tc_cli.specs.Phase.{IsBad, IsBadOperation};
-ghost use Rattle.tc_cli.specs.Script.{IsReportFault};
+ghost use Rattle.std.specs.Prelude.{◌≡◌, ◌≢◌, ◌⊎◌, true, [], All, IsPermutation, map, IfOk, IfErr, OnOk, OnErr};
+ghost use Rattle.tc_cli.specs.Report.{AreRising};
 ghost use Rattle.tc_cli.specs.Stage.{phase_of};
-ghost use Rattle.tc_live.specs.Receiver.{IsScriptDone, IsPerformed, IsLinked, IsReportDone, IsLineAnswered, IsBadLiveLine, IsBadScript, IsReceiverLeft};
+ghost use Rattle.tc_live.specs.Receiver.{new_receiver, begun, rack_at, IsInstructed, IsOperated, IsScriptDone, IsPerformed, IsLinked, IsReportDone, IsLineAnswered, IsBadLiveLine, IsBadScript, IsReceiverLeft};
+ghost use Rattle.tc_live.specs.Serving.{IsClosingFault};
+ghost use Rattle.tc_rack.specs.Linked.{Linked};
+ghost use Rattle.tc_rack.specs.Rack.{new_rack};
+ghost use Rattle.tc_setup.specs.Instruction.{instruction_of};
+ghost use Rattle.tc_setup.specs.Phase.{Does, IsBad, IsBadOperation, Operates, Setup};
+ghost use Rattle.tc_station.specs.Balance.{IsNumberTold};
 
 use crate::answer::LiveAnswer;
 use crate::check::FrameCheck;
+use crate::serving::ServingFault;
 use std::alloc::Global;
 use std::io::Write;
 use std::marker::Model;
-use std::sync::Wait;
-use tc_cli::LiveSession;
+use tc_channel::FlightChannel;
+use tc_cli::{Stage, write_report};
 use tc_link::Link;
-use tc_text::{Line, LiveLine, Reason, ScriptFault, SpacecraftId, parse_live_line};
+use tc_rack::{Operation, Rack};
+use tc_setup::{Configuration, Instruction};
+use tc_text::{Line, LiveLine, Reason, SpacecraftId, parse_live_line};
 
-/// A session, and what octets must pass before they are brought to it.
+/// The channels of a spacecraft, set up so far or in operation, and what octets must pass before they are brought to one.
 ///
-/// A contract sees both.
+/// A contract sees all of it, each channel with its journal and the flags of its link.
 #[derive(Drop)]
 pub struct Receiver {
     check: FrameCheck,
-    session: LiveSession,
+    scid: u16,
+    stage: Stage<Rack>,
 }
 
 impl Model for Receiver {
@@ -32,99 +39,210 @@ impl Model for Receiver {
 
     ghost Value = { Receiving };
 
-    ghost view = { λ o. record { check = o.check; session = o.session } };
+    ghost view = { λ o. record { check = o.check; scid = o.scid; stage = o.stage } };
 }
 
 impl Receiver {
     /// A receiver for which nothing is set up.
     pub fn new(alloc: Global, spacecraft: SpacecraftId, check: FrameCheck) -> Receiver
-        ensures { result ≡ record { check = check; session = new_live spacecraft.number } }
+        ensures { result ≡ new_receiver check spacecraft.number }
     {
         Receiver {
             check,
-            session: LiveSession::new(alloc, spacecraft),
+            scid: spacecraft.number,
+            stage: Stage::SettingUp(Configuration::new(alloc)),
         }
     }
 
     /// Does a line, which is given without its line feed, and says what it is answered. A bad line leaves the receiver as it is. Where
-    /// memory is wanting, the line can be done again; at the first operation the station may have been made.
-    pub fn do_line(
-        &mut self,
-        rt: &impl Wait,
-        alloc: Global,
-        octets: &[u8],
-    ) -> Result<LiveAnswer, Reason>
+    /// memory is wanting, the line can be done again; at the first operation the channels may have been made.
+    pub fn do_line(&mut self, alloc: Global, octets: &[u8]) -> Result<LiveAnswer, Reason>
         ensures answer { IfOk result (IsLineAnswered self.old octets.now self.new) }
         ensures reason { IfErr result (λ reason. (reason ≡ Reason.NoMemory) ⊎ IsBadLiveLine self.old octets.now reason) }
         ensures refused { IfErr result (λ reason. IsReceiverLeft reason self.old self.new) }
     {
         match parse_live_line(alloc, octets)? {
-            LiveLine::Script(line) => self.perform(rt, alloc, line),
-            LiveLine::Link { vcid, link } => self.link(rt, alloc, vcid, link),
-            LiveLine::Report(vcid) => self.report(rt, alloc, vcid),
+            LiveLine::Script(line) => self.perform(alloc, line),
+            LiveLine::Link { vcid, link } => self.link(alloc, vcid, link),
+            LiveLine::Report(vcid) => self.report(alloc, vcid),
         }
     }
 
-    fn perform(&mut self, rt: &impl Wait, alloc: Global, line: Line) -> Result<LiveAnswer, Reason>
+    fn perform(&mut self, alloc: Global, line: Line) -> Result<LiveAnswer, Reason>
         ensures answer { IfOk result (IsScriptDone self.old line self.new) }
         ensures reason { IfErr result (λ reason. (reason ≡ Reason.NoMemory) ⊎ IsBadScript self.old line reason) }
         ensures refused { IfErr result (λ reason. IsReceiverLeft reason self.old self.new) }
     {
         match self.check.pass(alloc, line)? {
-            Some(passed) => self.perform_passed(rt, alloc, passed),
+            Some(passed) => self.perform_passed(alloc, passed),
             None => Ok(LiveAnswer::Unchecked),
         }
     }
 
     // Does a line that passed the check.
-    fn perform_passed(
-        &mut self,
-        rt: &impl Wait,
-        alloc: Global,
-        passed: Line,
-    ) -> Result<LiveAnswer, Reason>
+    fn perform_passed(&mut self, alloc: Global, passed: Line) -> Result<LiveAnswer, Reason>
         ensures answer { IfOk result (IsPerformed self.old passed self.new) }
-        ensures reason { IfErr result (λ reason. (reason ≡ Reason.NoMemory) ⊎ IsBad (phase_of self.old.session.session) (instruction_of passed) reason) }
+        ensures reason { IfErr result (λ reason. (reason ≡ Reason.NoMemory) ⊎ IsBad (phase_of self.old.stage) (instruction_of passed) reason) }
         ensures refused { IfErr result (λ reason. IsReceiverLeft reason self.old self.new) }
     {
-        let answer = self.session.perform(rt, alloc, passed)?;
-        Ok(LiveAnswer::of_operation(answer))
+        self.instruct(alloc, Instruction::of(alloc, passed))
     }
 
-    fn link(
-        &mut self,
-        rt: &impl Wait,
-        alloc: Global,
-        vcid: u8,
-        link: Link,
-    ) -> Result<LiveAnswer, Reason>
+    // Does what a line asks for.
+    fn instruct(&mut self, alloc: Global, instruction: Instruction) -> Result<LiveAnswer, Reason>
+        ensures done { OnOk result (Does (phase_of self.old.stage) instruction (phase_of self.new.stage)) }
+        ensures answer { IfOk result (IsInstructed self.old instruction self.new) }
+        ensures reason { IfErr result (λ reason. (reason ≡ Reason.NoMemory) ⊎ IsBad (phase_of self.old.stage) instruction reason) }
+        ensures refused { IfErr result (λ reason. IsReceiverLeft reason self.old self.new) }
+    {
+        match instruction {
+            Instruction::Nothing => Ok(LiveAnswer::Nothing),
+            Instruction::Channel(settings) => {
+                self.stage.add_channel(settings)?;
+                Ok(LiveAnswer::Nothing)
+            }
+            Instruction::Add(vcid, addition) => {
+                self.stage.add_to_channel(alloc, vcid, addition)?;
+                Ok(LiveAnswer::Nothing)
+            }
+            Instruction::Frame(octets) => self.operate(alloc, Operation::Frame(octets)),
+            Instruction::Release(vcid) => self.operate(alloc, Operation::Release(vcid)),
+            Instruction::Take(vcid, apid) => self.operate(alloc, Operation::Take(vcid, apid)),
+            Instruction::Unit(vcid, map) => self.operate(alloc, Operation::Unit(vcid, map)),
+            Instruction::Clcw(vcid) => self.operate(alloc, Operation::Clcw(vcid)),
+        }
+    }
+
+    // Does an operation on the channels, which are made where none came before.
+    fn operate(&mut self, alloc: Global, operation: Operation) -> Result<LiveAnswer, Reason>
+        ensures done { OnOk result (Operates (phase_of self.old.stage) (phase_of self.new.stage)) }
+        ensures answer { IfOk result (IsOperated operation self.old self.new) }
+        ensures reason { IfErr result (λ reason. (reason ≡ Reason.NoMemory) ⊎ IsBadOperation (phase_of self.old.stage) reason) }
+        ensures refused { IfErr result (λ reason. IsReceiverLeft reason self.old self.new) }
+    {
+        self.begin(alloc)?;
+        match &mut self.stage {
+            Stage::Operating(rack) => match rack.operate(operation) {
+                Ok(answer) => Ok(LiveAnswer::Operation(answer)),
+                Err(_) => Err(Reason::NoMemory),
+            },
+            Stage::SettingUp(_) => unreachable!(),
+        }
+    }
+
+    fn link(&mut self, alloc: Global, vcid: u8, link: Link) -> Result<LiveAnswer, Reason>
+        ensures done { OnOk result (Operates (phase_of self.old.stage) (phase_of self.new.stage)) }
         ensures answer { IfOk result (IsLinked self.old vcid link self.new) }
-        ensures reason { IfErr result (λ reason. (reason ≡ Reason.NoMemory) ⊎ IsBadOperation (phase_of self.old.session.session) reason) }
+        ensures reason { IfErr result (λ reason. (reason ≡ Reason.NoMemory) ⊎ IsBadOperation (phase_of self.old.stage) reason) }
         ensures refused { IfErr result (λ reason. IsReceiverLeft reason self.old self.new) }
     {
-        let known = self.session.link(rt, alloc, vcid, link)?;
-        Ok(LiveAnswer::of_link(known, vcid, link))
+        self.begin(alloc)?;
+        match &mut self.stage {
+            Stage::Operating(rack) => {
+                let known = rack.link(vcid, link);
+                Ok(LiveAnswer::of_link(known, vcid, link))
+            }
+            Stage::SettingUp(_) => unreachable!(),
+        }
     }
 
-    fn report(&mut self, rt: &impl Wait, alloc: Global, vcid: u8) -> Result<LiveAnswer, Reason>
+    fn report(&mut self, alloc: Global, vcid: u8) -> Result<LiveAnswer, Reason>
+        ensures done { OnOk result (Operates (phase_of self.old.stage) (phase_of self.new.stage)) }
         ensures answer { IfOk result (IsReportDone self.old vcid self.new) }
-        ensures reason { IfErr result (λ reason. (reason ≡ Reason.NoMemory) ⊎ IsBadOperation (phase_of self.old.session.session) reason) }
+        ensures reason { IfErr result (λ reason. (reason ≡ Reason.NoMemory) ⊎ IsBadOperation (phase_of self.old.stage) reason) }
         ensures refused { IfErr result (λ reason. IsReceiverLeft reason self.old self.new) }
     {
-        let found = self.session.report(rt, alloc, vcid)?;
-        Ok(LiveAnswer::of_report(vcid, found))
+        self.begin(alloc)?;
+        match &self.stage {
+            Stage::Operating(rack) => match rack.report(alloc, vcid) {
+                Ok(found) => Ok(LiveAnswer::of_report(vcid, found)),
+                Err(_) => Err(Reason::NoMemory),
+            },
+            Stage::SettingUp(_) => unreachable!(),
+        }
     }
 
-    /// Ends the session, and writes the final report.
-    pub fn close<W: Write>(
-        self,
-        rt: &impl Wait,
-        alloc: Global,
-        writer: &mut W,
-    ) -> Result<(), ScriptFault>
-        ensures fault { IfErr result (IsReportFault 0) }
+    // Makes the channels, where no operation came before: by a copy of what was set up, which stays where memory is refused.
+    fn begin(&mut self, alloc: Global) -> Result<(), Reason>
+        ensures begun { OnOk result (self.new ≡ begun self.old) }
+        ensures some { OnOk result (phase_of self.old.stage ≢ Setup []) }
+        ensures reason { IfErr result (λ reason. (reason ≡ Reason.NoMemory) ⊎ IsBadOperation (phase_of self.old.stage) reason) }
+        ensures refused { OnErr result (self.new ≡ self.old) }
     {
-        let Receiver { check: _, session } = self;
-        session.close(rt, alloc, writer)
+        match &self.stage {
+            Stage::Operating(_) => Ok(()),
+            Stage::SettingUp(list) => {
+                let rack = begin_with(alloc, self.scid, list)?;
+                self.stage = Stage::Operating(rack);
+                Ok(())
+            }
+        }
     }
+
+    /// Ends the reception, and writes the final report of the channels, with both link flags 0.
+    pub fn close<W: Write>(self, alloc: Global, writer: &mut W) -> Result<(), ServingFault>
+        ensures fault { IfErr result IsClosingFault }
+    {
+        let channels = self.into_channels(alloc)?;
+        write_report(&channels, writer).map_err(|_| ServingFault::Write)
+    }
+
+    // The channels in rising order of their ids, as an operation would find them.
+    fn into_channels(self, alloc: Global) -> Result<Vec<FlightChannel>, ServingFault>
+        ensures channels { IfOk result (λ channels. IsPermutation (map (λ (channel : Linked). channel.history) (rack_at self).channels) channels.items) }
+        ensures rising { IfOk result (λ channels. AreRising channels.items) }
+        ensures told { IfOk result (λ channels. All IsNumberTold channels.items) }
+        ensures fault { IfErr result IsClosingFault }
+    {
+        let rack = self.into_rack(alloc)?;
+        let Ok(mut channels) = rack.into_channels(alloc) else {
+            return Err(ServingFault::NoMemory);
+        };
+        channels.sort_unstable_by_key(|channel| channel.settings().vcid);
+        if are_told(&channels) {
+            Ok(channels)
+        } else {
+            Err(ServingFault::Unbalanced)
+        }
+    }
+
+    fn into_rack(self, alloc: Global) -> Result<Rack, ServingFault>
+        ensures rack { IfOk result (λ rack. rack ≡ rack_at self) }
+        ensures fault { IfErr result (λ fault. fault ≡ ServingFault.NoMemory) }
+    {
+        let Receiver {
+            check: _,
+            scid,
+            stage,
+        } = self;
+        match stage {
+            Stage::Operating(rack) => Ok(rack),
+            Stage::SettingUp(list) => match Rack::new(alloc, scid, list) {
+                Ok(rack) => Ok(rack),
+                Err(_) => Err(ServingFault::NoMemory),
+            },
+        }
+    }
+}
+
+// New channels by a copy of what was set up.
+fn begin_with(alloc: Global, scid: u16, list: &Configuration) -> Result<Rack, Reason>
+    ensures rack { IfOk result (λ rack. rack ≡ new_rack scid list.now) }
+    ensures some { OnOk result (list.now ≢ []) }
+    ensures reason { IfErr result (λ reason. (reason ≡ Reason.NoMemory) ⊎ ((reason ≡ Reason.NoChannel) × (list.now ≡ []))) }
+{
+    if list.channels().is_empty() {
+        return Err(Reason::NoChannel);
+    }
+    match Rack::new(alloc, scid, list.copy(alloc)?) {
+        Ok(rack) => Ok(rack),
+        Err(_) => Err(Reason::NoMemory),
+    }
+}
+
+// Whether each channel tells the number of its events as it is.
+fn are_told(channels: &[FlightChannel]) -> bool
+    ensures { result ≡ true → All IsNumberTold channels.now }
+{
+    channels.iter().all(|channel| channel.events() < u64::MAX)
 }

@@ -1,13 +1,8 @@
 //! Lines in, lines out.
 
-ghost use Rattle.std.specs.Prelude.{◌≡◌};
-ghost use Rattle.tc_live.specs.Serving.{serving_fault};
-
 use crate::receiver::Receiver;
 use std::alloc::Global;
 use std::io::{BufRead, Read, Write};
-use std::sync::Wait;
-use tc_text::ScriptFault;
 use thiserror::Error;
 
 /// How many octets a line may have, without its line feed. A frame of 1,024 octets fits three times over.
@@ -28,7 +23,7 @@ pub enum ServingFault {
     /// Memory was wanting before the first line, or for the final report.
     #[error("no memory")]
     NoMemory,
-    /// The channels' journals and the operator's counts differ at the end.
+    /// A channel has had 2^64 - 1 events or more, a number that the final report can't give.
     #[error("unbalanced")]
     Unbalanced,
 }
@@ -38,7 +33,6 @@ pub enum ServingFault {
 /// A bad line is answered `bad` and why. A line that is longer than a line may be is answered `bad too long`, and isn't kept. Octets
 /// after the last line feed are a line.
 pub fn answer_lines<R: BufRead, W: Write>(
-    rt: &impl Wait,
     alloc: Global,
     mut receiver: Receiver,
     reader: &mut R,
@@ -61,14 +55,14 @@ pub fn answer_lines<R: BufRead, W: Write>(
             over = false;
         } else if count > 0 {
             let octets = line.strip_suffix(b"\n").unwrap_or(&line);
-            answer_line(rt, alloc, &mut receiver, octets, writer)?;
+            answer_line(alloc, &mut receiver, octets, writer)?;
         }
         writer.flush().map_err(|_| ServingFault::Write)?;
         if !ended {
             break;
         }
     }
-    close(rt, alloc, receiver, writer)
+    close(alloc, receiver, writer)
 }
 
 // The octets up to a line feed, or as many as a line may have.
@@ -84,13 +78,12 @@ fn write_too_long<W: Write>(writer: &mut W) -> Result<(), ServingFault> {
 }
 
 fn answer_line<W: Write>(
-    rt: &impl Wait,
     alloc: Global,
     receiver: &mut Receiver,
     octets: &[u8],
     writer: &mut W,
 ) -> Result<(), ServingFault> {
-    let written = match receiver.do_line(rt, alloc, octets) {
+    let written = match receiver.do_line(alloc, octets) {
         Ok(answer) => write!(writer, "{answer}"),
         Err(reason) => writeln!(writer, "bad {reason}"),
     };
@@ -98,25 +91,7 @@ fn answer_line<W: Write>(
 }
 
 // The final report.
-fn close<W: Write>(
-    rt: &impl Wait,
-    alloc: Global,
-    receiver: Receiver,
-    writer: &mut W,
-) -> Result<(), ServingFault> {
-    receiver.close(rt, alloc, writer).map_err(fault_of)?;
+fn close<W: Write>(alloc: Global, receiver: Receiver, writer: &mut W) -> Result<(), ServingFault> {
+    receiver.close(alloc, writer)?;
     writer.flush().map_err(|_| ServingFault::Write)
-}
-
-// What a fault of the final report is here, where lines have no numbers.
-fn fault_of(fault: ScriptFault) -> ServingFault
-    ensures { result ≡ serving_fault fault }
-{
-    match fault {
-        ScriptFault::Line { line: _, reason: _ } => ServingFault::NoMemory,
-        ScriptFault::Read => ServingFault::Read,
-        ScriptFault::TooLong => ServingFault::Read,
-        ScriptFault::Write => ServingFault::Write,
-        ScriptFault::Unbalanced => ServingFault::Unbalanced,
-    }
 }

@@ -1,2 +1,4 @@
 mod Numbers
 mod Segments
+mod Encoded
+pub mod Written

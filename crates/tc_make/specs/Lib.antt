@@ -8,3 +8,5 @@ pub mod Parting
 pub mod Explanation
 pub mod Ending
 pub mod Segments
+pub mod Printed
+pub mod Answer

@@ -1,51 +1,75 @@
 //! Why a line is bad.
 
-use thiserror::Error;
+ghost use Rattle.std.specs.Prelude.{◌≡◌, Some};
+ghost use Rattle.tc_make.specs.Printed.{reason_text};
+
+use std::error::Error;
+use std::fmt;
 
 /// Why nothing is made of a line. Where several apply, the first of this list is told; but want of memory is told as soon
 /// as it is met, and a frame that has no room for its frame error control field is told last.
-#[derive(Clone, Copy, Debug, PartialEq, Eq, Error)]
+#[derive(Clone, Copy, Debug, PartialEq, Eq)]
 pub enum Reason {
     /// The first word is no command.
-    #[error("unknown command")]
     UnknownCommand,
     /// The command takes another number of words.
-    #[error("wrong number of words")]
     WordCount,
     /// A number isn't 1 to 5 decimal digits, or is over its type's bound.
-    #[error("bad number")]
     BadNumber,
     /// Octets aren't an even number of hexadecimal digits.
-    #[error("bad hex")]
     BadHex,
     /// The spacecraft id is over 1,023.
-    #[error("bad spacecraft")]
     BadScid,
     /// The virtual channel id is over 63.
-    #[error("bad channel")]
     BadVcid,
     /// The MAP id is over 63.
-    #[error("bad map")]
     BadMap,
     /// The APID is over 2,047.
-    #[error("bad application")]
     BadApid,
     /// The sequence count is over 16,383.
-    #[error("bad count")]
     BadCount,
     /// Segments aren't to carry 1 to 1,018 octets.
-    #[error("bad size")]
     BadSize,
     /// There are no octets to be carried.
-    #[error("no data")]
     NoData,
     /// There are more octets than a frame, a packet or a unit has room for.
-    #[error("too much data")]
     TooMuchData,
     /// A CLCW isn't of 4 octets.
-    #[error("bad clcw")]
     BadClcw,
     /// Memory was wanting for what the line needs.
-    #[error("no memory")]
     NoMemory,
 }
+
+impl Reason {
+    /// The words of the reason.
+    pub fn as_str(&self) -> &'static str
+        ensures { result.now ≡ reason_text self.now }
+    {
+        match self {
+            Reason::UnknownCommand => "unknown command",
+            Reason::WordCount => "wrong number of words",
+            Reason::BadNumber => "bad number",
+            Reason::BadHex => "bad hex",
+            Reason::BadScid => "bad spacecraft",
+            Reason::BadVcid => "bad channel",
+            Reason::BadMap => "bad map",
+            Reason::BadApid => "bad application",
+            Reason::BadCount => "bad count",
+            Reason::BadSize => "bad size",
+            Reason::NoData => "no data",
+            Reason::TooMuchData => "too much data",
+            Reason::BadClcw => "bad clcw",
+            Reason::NoMemory => "no memory",
+        }
+    }
+}
+
+impl fmt::Display for Reason {
+    ghost output = { λ reason. Some (reason_text reason) };
+
+    fn fmt<W: fmt::Write>(&self, f: &mut fmt::Formatter<W>) -> fmt::Result {
+        f.write_str(self.as_str())
+    }
+}
+
+impl Error for Reason {}

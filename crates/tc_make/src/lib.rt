@@ -9,6 +9,7 @@
 
 mod answer;
 mod ending;
+mod explained;
 mod explaining;
 mod fault;
 mod frames;
@@ -18,6 +19,7 @@ mod number;
 mod octets;
 mod packets;
 mod parting;
+mod printed;
 mod serving;
 
 pub use answer::answer_line;

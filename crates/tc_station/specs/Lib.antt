@@ -1,4 +1,3 @@
-pub mod Desk
 pub mod Roster
 pub mod Tally
 pub mod StationSettings

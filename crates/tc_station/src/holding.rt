@@ -49,10 +49,7 @@ pub enum HoldingFault {
 }
 
 /// What a channel has come to. The two lists are all that is allocated.
-pub(crate) fn holding_in<J: Journal>(
-    alloc: Global,
-    channel: &ChannelWith<J>,
-) -> Result<Holding, NoMemory>
+pub fn holding_in<J: Journal>(alloc: Global, channel: &ChannelWith<J>) -> Result<Holding, NoMemory>
     ensures holding { IfOk result (λ holding. holding ≡ holding_of channel.now.settings channel.now.journal) }
     ensures allowed { IsAllowed channel.now.settings }
     ensures lawful { IsLawful channel.now.settings channel.now.journal }

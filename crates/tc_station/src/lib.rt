@@ -12,19 +12,18 @@
 #![tactic(auto)]
 
 mod closing;
-mod desk;
 mod faults;
 mod holding;
 mod operator;
 mod station;
 mod work;
 
-pub use desk::{Desk, DeskOf, FlightDesk};
 pub use faults::{
     BringFault, CloseFault, FlightCloseFault, LocateFault, OperatorsFault, ReleaseRefused,
     StationFault, TakeRefused, TakeUnitRefused, WatcherFault, WorkFault,
 };
-pub use holding::{Holding, HoldingFault, MapHolding, QueueHolding};
+pub use holding::{Holding, HoldingFault, MapHolding, QueueHolding, holding_in};
 pub use operator::Operator;
 pub use station::{Brought, FlightStation, Located, Station, StationOf};
+pub use tc_status::{Desk, DeskOf, FlightDesk};
 pub use work::{FreeGate, Gate, Job, Order, WorkList};

@@ -13,7 +13,6 @@ ghost use Rattle.tc_station.specs.Balance.{AreInBalance, IsNumberTold};
 ghost use Rattle.tc_station.specs.StationSettings.{vcids_of, HaveDistinctVcids, IsFirstDouble, IsFirstRefused, AreStationSettings, IsStationFault};
 
 use crate::closing::{are_in_balance, are_in_told_balance};
-use crate::desk::DeskOf;
 use crate::faults::{
     BringFault, CloseFault, FlightCloseFault, LocateFault, OperatorsFault, ReleaseRefused,
     StationFault, TakeRefused, TakeUnitRefused, WatcherFault,
@@ -30,7 +29,7 @@ use tc_channel::{
     Settings, SettingsFault, Unkept, each_clcw_fits_its_word,
 };
 use tc_link::{Frame, Link, read_frame};
-use tc_status::{Watcher, the_flags_of_the_link_have_their_own_bits};
+use tc_status::{DeskOf, Watcher, the_flags_of_the_link_have_their_own_bits};
 
 /// A frame for a channel of the station.
 #[derive(Debug, Drop)]

@@ -1,16 +1,19 @@
 //! The status of a channel as one atomic word, which any thread reads without waiting.
 //!
 //! Each channel has a board: one word, which is the CLCW of the journal that was published last, with both link flags 0.
-//! The [`Publisher`] stores it, and each [`Watcher`] loads it. A contract sees either as its board and a journal. The law
+//! The [`Publisher`] stores it, and each [`Watcher`] loads it. A contract sees either as its board and a journal. A [`Desk`] is a
+//! channel with its publisher, which publishes the channel before each of its calls returns. The law
 //! [`each_seat_is_behind_the_publisher`] says what holds of a board at every moment, and
 //! [`the_flags_of_the_link_have_their_own_bits`] how a CLCW with other link flags is made of its word.
 #![tactic(auto)]
 
 mod board;
+mod desk;
 mod laws;
 mod publisher;
 mod watcher;
 
+pub use desk::{Desk, DeskOf, FlightDesk};
 pub use laws::{each_seat_is_behind_the_publisher, the_flags_of_the_link_have_their_own_bits};
 pub use publisher::Publisher;
 pub use watcher::{Watcher, meet};

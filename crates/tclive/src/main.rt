@@ -8,7 +8,6 @@ use std::alloc::Global;
 use std::io;
 use std::io::{BufReader, BufWriter};
 use std::process::ExitCode;
-use std::sync::Wait;
 use tc_live::{FrameCheck, Receiver, ServingFault, answer_lines};
 use tc_text::SpacecraftId;
 
@@ -30,10 +29,7 @@ fn tell<R: Eprint>(rt: &R, served: Result<(), ServingFault>) -> ExitCode {
     }
 }
 
-fn serve<R: AllocGlobal + Input + Print + Wait>(
-    rt: &R,
-    asked: Reception,
-) -> Result<(), ServingFault>
+fn serve<R: AllocGlobal + Input + Print>(rt: &R, asked: Reception) -> Result<(), ServingFault>
     requires { asked.scid ≤ 1023 }
 {
     let Ok(mut reader) = BufReader::new(rt.alloc(), rt.reader()) else {
@@ -43,7 +39,7 @@ fn serve<R: AllocGlobal + Input + Print + Wait>(
         return Err(ServingFault::NoMemory);
     };
     let receiver = receiver_for(rt.alloc(), asked);
-    answer_lines(rt, rt.alloc(), receiver, &mut reader, &mut writer)
+    answer_lines(rt.alloc(), receiver, &mut reader, &mut writer)
 }
 
 fn receiver_for(alloc: Global, asked: Reception) -> Receiver

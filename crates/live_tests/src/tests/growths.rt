@@ -5,37 +5,31 @@ use super::receiver;
 use std::alloc::Global;
 use std::io::Write;
 use std::process::Abort;
-use std::sync::Wait;
 use std::test::Fail;
 use tc_live::{FrameCheck, LiveAnswer, Receiver, ServingFault, answer_lines};
 use tc_text::Reason;
 
 // What a line is answered, at once or after a growth was refused.
 fn answer(
-    rt: &(impl Abort + Wait + Print),
+    rt: &(impl Abort + Print),
     alloc: Global,
     receiver: &mut Receiver,
     line: &str,
 ) -> LiveAnswer {
-    match receiver.do_line(rt, alloc, line.as_bytes()) {
+    match receiver.do_line(alloc, line.as_bytes()) {
         Ok(answer) => answer,
         Err(reason) => {
             assert_eq!(rt; reason, Reason::NoMemory);
             let _ = println!(rt; "refused: do_line, {line}");
             receiver
-                .do_line(rt, alloc, line.as_bytes())
+                .do_line(alloc, line.as_bytes())
                 .expect(rt, "an answer")
         }
     }
 }
 
 // The lines are answered so.
-fn check(
-    rt: &(impl Abort + Wait + Print),
-    alloc: Global,
-    check: FrameCheck,
-    lines: &[(&str, &str)],
-) {
+fn check(rt: &(impl Abort + Print), alloc: Global, check: FrameCheck, lines: &[(&str, &str)]) {
     let mut receiver = receiver(rt, alloc, check);
     for (line, expected) in lines {
         let answer = answer(rt, alloc, &mut receiver, line);
@@ -108,7 +102,7 @@ fn growth_of_a_stream(rt: HostRuntime) -> Result<(), Fail> {
     let mut writer = room.as_mut_slice();
     let mut reader = text.as_bytes();
     let first = receiver(&rt, rt.alloc(), FrameCheck::Nothing);
-    let served = answer_lines(&rt, rt.alloc(), first, &mut reader, &mut writer);
+    let served = answer_lines(rt.alloc(), first, &mut reader, &mut writer);
     let left = writer.len();
     let count = 200usize.saturating_sub(left).min(200);
     let written = str::from_utf8(&room[..count]).unwrap_or("no text");

@@ -69,7 +69,7 @@ fn lines_are_answered_and_flushed_one_by_one(rt: HostRuntime) -> Result<(), Fail
     let mut reader = b"no\nchannel 1 10 1 0\n\nclcw 1".as_slice();
     let mut writer = new_watched(rt.alloc(), 0, false);
     let receiver = receiver(&rt, rt.alloc(), FrameCheck::Nothing);
-    let served = answer_lines(&rt, rt.alloc(), receiver, &mut reader, &mut writer);
+    let served = answer_lines(rt.alloc(), receiver, &mut reader, &mut writer);
     assert_eq!(rt; served, Ok(()));
     let text =
         b"bad unknown command\nclcw 1 01040000\nfinal 1 01040000 events 0 buffered 0\n".as_slice();
@@ -86,7 +86,7 @@ fn a_read_fails_after_a_line(rt: HostRuntime) -> Result<(), Fail> {
     let mut reader = BufReader::new(rt.alloc(), failing)?;
     let mut writer = new_watched(rt.alloc(), 0, false);
     let receiver = receiver(&rt, rt.alloc(), FrameCheck::Nothing);
-    let served = answer_lines(&rt, rt.alloc(), receiver, &mut reader, &mut writer);
+    let served = answer_lines(rt.alloc(), receiver, &mut reader, &mut writer);
     assert_eq!(rt; served, Err(ServingFault::Read));
     assert!(rt; writer.kept.as_slice() == b"bad unknown command\n".as_slice());
     Ok(())
@@ -98,7 +98,7 @@ fn writes_and_flushes_fail(rt: HostRuntime) -> Result<(), Fail> {
         let mut reader = b"no\nchannel 1 10 1 0\nclcw 1\n".as_slice();
         let mut writer = new_watched(rt.alloc(), fails_at, fails_to_flush);
         let receiver = receiver(&rt, rt.alloc(), FrameCheck::Nothing);
-        let served = answer_lines(&rt, rt.alloc(), receiver, &mut reader, &mut writer);
+        let served = answer_lines(rt.alloc(), receiver, &mut reader, &mut writer);
         assert_eq!(rt; served, Err(ServingFault::Write));
     }
     Ok(())

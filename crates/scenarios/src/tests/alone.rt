@@ -1,5 +1,6 @@
-//! What operations are answered, and a channel that stands alone, with its journal in memory and without.
+//! What operations are answered, and a channel that stands alone, with its journal in memory and without, and in rooms.
 
+use super::in_rooms::InRooms;
 use super::*;
 use tc_channel::{Channel, ChannelWith, Delivery, FlightChannel, FrameReply};
 use tc_link::{Frame, Report, read_frame};
@@ -19,12 +20,12 @@ pub(super) enum Answer {
 
 // What a channel tells of itself. The packets are those of APID 5, and the units those of MAP 3.
 #[derive(Clone, Copy, PartialEq)]
-struct Told {
-    events: u64,
-    report: Report,
-    buffered: usize,
-    queued: Option<usize>,
-    units: Option<usize>,
+pub(super) struct Told {
+    pub(super) events: u64,
+    pub(super) report: Report,
+    pub(super) buffered: usize,
+    pub(super) queued: Option<usize>,
+    pub(super) units: Option<usize>,
 }
 
 fn tell<J: Journal>(channel: &ChannelWith<J>) -> Told {
@@ -105,19 +106,26 @@ fn ask<J: Journal>(rt: &impl Abort, channel: &mut ChannelWith<J>, line: &Line) -
     }
 }
 
-// Both answer alike, and the one without a journal counts the events that the other keeps.
+// All answer alike, and those without a journal count the events that the other keeps.
 #[derive(Drop)]
 pub(super) struct Alone {
     pub(super) kept: Channel,
     flight: FlightChannel,
+    rooms: InRooms,
 }
 
 impl Alone {
-    // The same settings twice.
-    pub(super) fn new(rt: &impl Abort, alloc: Global, one: Settings, again: Settings) -> Alone {
+    // The same settings three times.
+    pub(super) fn new(
+        rt: &impl Abort,
+        alloc: Global,
+        same: (Settings, Settings, Settings),
+    ) -> Alone {
+        let (one, again, more) = same;
         Alone {
             kept: made(rt, alloc, one),
             flight: made(rt, alloc, again),
+            rooms: InRooms::new(rt, alloc, more),
         }
     }
 
@@ -130,12 +138,18 @@ impl Alone {
         let answer = ask(rt, &mut self.kept, line);
         let again = ask(rt, &mut self.flight, line);
         assert!(rt; again == answer, "the channels that stand alone differ");
+        let in_rooms = self.rooms.ask(rt, line);
+        assert!(rt;
+            in_rooms == answer,
+            "the channel in rooms answers otherwise"
+        );
         answer
     }
 
     pub(super) fn clcw(&self, rt: &impl Abort) -> u32 {
         let word = word_of(&self.kept);
         assert_eq!(rt; word_of(&self.flight), word);
+        assert_eq!(rt; self.rooms.word(), word);
         word
     }
 
@@ -145,6 +159,8 @@ impl Alone {
         assert_eq!(rt; self.kept.events(), events);
         check_same(rt, &self.flight, &self.kept);
         check_same(rt, closed, &self.kept);
+        assert!(rt; self.rooms.tell() == tell(&self.kept));
+        assert!(rt; self.rooms.settings() == settings_of(&self.kept));
     }
 
     // The same journal, which may be too long to be shown.

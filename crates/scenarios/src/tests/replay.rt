@@ -265,15 +265,20 @@ struct Replay {
 impl Replay {
     // Channel 1 has this shape. Channel 2 has the same, but for its first V(R).
     fn new(rt: &impl Abort, alloc: Global, form: Form, shape: (u8, u8, u8)) -> Replay {
-        let first = first_settings(rt, alloc, form, shape);
-        let again = first_settings(rt, alloc, form, shape);
-        let first = Alone::new(rt, alloc, first, again);
-        let second = second_settings(rt, alloc, form, shape);
-        let again = second_settings(rt, alloc, form, shape);
+        let first = (
+            first_settings(rt, alloc, form, shape),
+            first_settings(rt, alloc, form, shape),
+            first_settings(rt, alloc, form, shape),
+        );
+        let second = (
+            second_settings(rt, alloc, form, shape),
+            second_settings(rt, alloc, form, shape),
+            second_settings(rt, alloc, form, shape),
+        );
         Replay {
             alloc,
-            first,
-            second: Alone::new(rt, alloc, second, again),
+            first: Alone::new(rt, alloc, first),
+            second: Alone::new(rt, alloc, second),
             journal: Vec::new(alloc),
         }
     }

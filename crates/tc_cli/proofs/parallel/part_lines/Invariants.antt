@@ -1,13 +1,12 @@
 use Rattle.std.proofs.Common.{◌≤◌, ◌+◌, length}
-use Rattle.tc_cli.specs.Script.{Leads}
-use Rattle.tc_cli.specs.Stage.{phase_of}
+use Rattle.tc_cli.specs.Parallel.{AreParted}
 use Rattle.tc_cli.proofs.parallel.part_lines.Given as goal
 
--- each line so far was good; it had at least one octet, its line feed or its only one
+-- each line so far was good, and its job is given; it had at least one octet, its line feed or its only one
 abbrev pub invariant-loop-octets : goal.invariant-loop-octets
 invariant-loop-octets l = record {
   counted : l.line + length l.rest ≤ length l.fn.script;
-  leads : Leads l.fn.script l.line (phase_of l.plan) l.rest;
+  parted : AreParted l.fn.scid l.fn.script l.line l.plan l.rest;
 }
 
 abbrev pub decreases-loop-octets : goal.decreases-loop-octets

@@ -1,0 +1,122 @@
+//! A desk, its keeper and an operator.
+
+ghost use Rattle.std.specs.Prelude.{◌≡◌, ◌∷◌, [], All, IfOk};
+
+use super::*;
+use std::sync::Wait;
+use tc_channel::{Channel, Kept, NoMemory, ReleaseFault, SettingsFault, TakeFault, TakeUnitFault};
+use tc_desk::{DeskKeeper, DeskOperator, LockedDesk, Unclosed};
+use tc_link::{Report, read_frame};
+use tc_status::Watcher;
+
+pub(super) type Locked = LockedDesk<Kept>;
+
+// A desk and who works at it.
+#[derive(Drop)]
+pub(super) struct Manned {
+    pub(super) desk: Locked,
+    pub(super) keeper: DeskKeeper,
+    pub(super) operator: DeskOperator,
+    ghost kept: { keeper.lock ≡ desk },
+    ghost ours: { operator.lock ≡ desk },
+}
+
+impl Manned {
+    pub(super) fn try_new(rt: &impl Abort, alloc: Global) -> Result<Manned, SettingsFault> {
+        let (desk, mut keeper) = Locked::new(alloc, settings(rt, alloc))?;
+        let operator = keeper.operator(&desk);
+        Ok(Manned {
+            desk,
+            keeper,
+            operator,
+        })
+    }
+
+    // It takes memory that isn't refused.
+    pub(super) fn new(rt: &impl Abort, alloc: Global) -> Manned {
+        Manned::try_new(rt, alloc).expect(rt, "a desk")
+    }
+
+    pub(super) fn frame(
+        &mut self,
+        rt: &(impl Abort + Wait),
+        octets: &[u8],
+    ) -> Result<FrameReply, NoMemory>
+        ensures { self.new.desk ≡ self.old.desk }
+    {
+        let frame = read_frame(octets).expect(rt, "a frame");
+        self.desk.frame(rt, &mut self.operator, &frame)
+    }
+
+    pub(super) fn frame_watched(
+        &mut self,
+        rt: &(impl Abort + Wait),
+        octets: &[u8],
+    ) -> Result<(FrameReply, Watcher), NoMemory> {
+        let frame = read_frame(octets).expect(rt, "a frame");
+        self.desk.frame_watched(rt, &mut self.operator, &frame)
+    }
+
+    pub(super) fn release(&mut self, rt: &impl Wait) -> Result<Delivery, ReleaseFault> {
+        self.desk.release(rt, &mut self.operator)
+    }
+
+    pub(super) fn take(&mut self, rt: &impl Wait, apid: u16) -> Result<Vec<u8>, TakeFault> {
+        self.desk.take(rt, &mut self.operator, apid)
+    }
+
+    pub(super) fn take_unit(&mut self, rt: &impl Wait, map: u8) -> Result<Vec<u8>, TakeUnitFault> {
+        self.desk.take_unit(rt, &mut self.operator, map)
+    }
+
+    pub(super) fn watcher(&mut self, rt: &impl Wait) -> Result<Watcher, NoMemory> {
+        self.desk.watcher(rt, &mut self.operator)
+    }
+
+    pub(super) fn report(&mut self, rt: &impl Wait) -> Report {
+        self.desk.report(rt, &mut self.operator)
+    }
+
+    pub(super) fn clcw(&mut self, rt: &impl Wait) -> u32 {
+        self.desk.clcw(rt, &mut self.operator, NO_FLAG)
+    }
+
+    // Another operator of the same desk.
+    pub(super) fn other(&mut self) -> DeskOperator
+        ensures other { result.lock ≡ self.new.desk }
+        ensures same { self.new.desk ≡ self.old.desk }
+    {
+        self.keeper.operator(&self.desk)
+    }
+}
+
+// A list of this operator alone. One growth may be refused.
+pub(super) fn list_of(rt: &impl Abort, alloc: Global, operator: DeskOperator) -> Vec<DeskOperator>
+    ensures { result.items ≡ operator ∷ [] }
+{
+    let mut list = match Vec::with_capacity(alloc, 1) {
+        Ok(list) => list,
+        Err(_) => Vec::with_capacity(alloc, 1).expect(rt, "a list"),
+    };
+    list.push(operator).expect(rt, "room");
+    list
+}
+
+// Closes the desk with its one operator.
+pub(super) fn close(rt: &impl Abort, alloc: Global, manned: Manned) -> Channel {
+    let Manned {
+        desk,
+        keeper,
+        operator,
+    } = manned;
+    let operators = list_of(rt, alloc, operator);
+    closed(rt, desk.close(keeper, operators))
+}
+
+// The channel of a desk that was closed.
+pub(super) fn closed(rt: &impl Abort, answer: Result<Channel, Unclosed<Kept>>) -> Channel {
+    match answer {
+        Ok(channel) => channel,
+        Err(_) => panic!(rt; "not closed"),
+    }
+}

@@ -1,0 +1,118 @@
+//! Two threads with an operator each.
+
+ghost use Rattle.std.specs.Prelude.{◌≡◌, ◌∷◌, [], All};
+ghost use Rattle.std.specs.Thread.{IsSync};
+
+use super::manned::{Locked, Manned, closed};
+use super::*;
+use std::sync::Wait;
+use std::thread::{Threads, join_mut};
+use tc_channel::Channel;
+use tc_desk::DeskOperator;
+use tc_link::read_frame;
+
+// How many frames each of them brings.
+const TURNS: u8 = 250;
+
+// The BD frame of this thread's turn. Its unit has two octets: who brought it, and in which turn.
+fn turn_frame(who: u8, turn: u8) -> [u8; 8] {
+    [0x20, 0x2a, 0x04, 0x07, 0x00, 0xc3, who, turn]
+}
+
+// Brings this frame. Says whether it was answered.
+fn bring<R: Abort + Wait>(rt: &R, desk: &Locked, operator: &mut DeskOperator, octets: &[u8]) -> bool
+    requires { operator.old.lock ≡ desk.now }
+    ensures { operator.new.lock ≡ desk.now }
+{
+    let frame = read_frame(octets).expect(rt, "a frame");
+    desk.frame(rt, operator, &frame).is_ok()
+}
+
+// Brings the frames of all turns, one after the other. Says whether each was answered.
+fn bring_all<R: Abort + Wait>(rt: &R, desk: &Locked, operator: &mut DeskOperator, who: u8) -> bool
+    requires { operator.old.lock ≡ desk.now }
+    ensures { operator.new.lock ≡ desk.now }
+{
+    let mut done = true;
+    for turn in 0..TURNS {
+        done = bring(rt, desk, operator, &turn_frame(who, turn)) && done;
+    }
+    done
+}
+
+// Both bring their frames, each in a thread of its own. Says whether each was answered.
+fn side_by_side<R: Threads + Abort + Wait + Sync>(
+    rt: &R,
+    desk: &Locked,
+    one: &mut DeskOperator,
+    two: &mut DeskOperator,
+) -> bool
+    requires one { one.old.lock ≡ desk.now }
+    requires two { two.old.lock ≡ desk.now }
+    ensures one { one.new.lock ≡ desk.now }
+    ensures two { two.new.lock ≡ desk.now }
+{
+    let mut first = || -> bool
+        requires { IsSync R.row × (one.now.lock ≡ desk.now) }
+        ensures { one.exit.now.lock ≡ desk.entry.now }
+    { bring_all(rt, desk, one, 1) };
+    let mut second = || -> bool
+        requires { IsSync R.row × (two.now.lock ≡ desk.now) }
+        ensures { two.exit.now.lock ≡ desk.entry.now }
+    { bring_all(rt, desk, two, 2) };
+    let (a, b) = join_mut(rt, &mut first, &mut second);
+    a && b
+}
+
+// The desk's own operator and this one bring their frames. Says whether each was answered.
+fn work<R: Threads + Abort + Wait + Sync>(
+    rt: &R,
+    manned: &mut Manned,
+    other: &mut DeskOperator,
+) -> bool
+    requires { other.old.lock ≡ manned.old.desk }
+    ensures { other.new.lock ≡ manned.new.desk }
+{
+    side_by_side(rt, &manned.desk, &mut manned.operator, other)
+}
+
+// Of the frames of the journal those of one thread are all that it brought, in their order.
+fn check_frames(rt: &impl Abort, journal: &[Event], who: u8) {
+    let mut turn = 0u8;
+    for event in journal {
+        if let Event::Frame(octets) = event {
+            let octets = octets.as_slice();
+            if octets.len() == 8 && octets[6] == who {
+                assert!(rt; octets == turn_frame(who, turn).as_slice());
+                turn = turn.saturating_add(1);
+            }
+        }
+    }
+    assert_eq!(rt; turn, TURNS);
+}
+
+// Closes the desk with both operators.
+fn close_both(rt: &impl Abort, alloc: Global, manned: Manned, other: DeskOperator) -> Channel
+    requires { other.lock ≡ manned.desk }
+{
+    let Manned {
+        desk,
+        keeper,
+        operator,
+    } = manned;
+    let operators = vec![in alloc; operator, other].expect(rt, "a list");
+    closed(rt, desk.close(keeper, operators))
+}
+
+#[test]
+fn the_journal_is_a_merge_of_what_two_threads_brought(rt: HostRuntime) {
+    let mut manned = Manned::new(&rt, rt.alloc());
+    let mut other = manned.other();
+    assert!(rt; work(&rt, &mut manned, &mut other));
+    assert_eq!(rt; manned.operator.count(), u64::from(TURNS));
+    assert_eq!(rt; other.count(), u64::from(TURNS));
+    let channel = close_both(&rt, rt.alloc(), manned, other);
+    assert_eq!(rt; channel.journal().len(), 500);
+    check_frames(&rt, channel.journal(), 1);
+    check_frames(&rt, channel.journal(), 2);
+}

@@ -1,0 +1,168 @@
+-- What a script writes, line by line.
+use Rattle.std.proofs.Common.{◌≡◌, ◌<◌, ℕ, ◌+◌, List, [], ◌∷◌, ◌++◌, ◌⊎◌, Option, None, Some, Result, Ok, Err, IfSome, All, inl, inr, length, take, get_or, refl, sym, ap, ◌∙◌, subst, arith}
+use Rattle.std.proofs.lemmas.Grind.{common_steps}
+use Rattle.std.proofs.lemmas.List.{flat_map_more, take_more}
+use Rattle.std.proofs.lemmas.List.Elements.{All-more}
+use Rattle.std.proofs.KnownBytes.{Appends-nil, Appends-trans, Appends-kept}
+use Rattle.std.specs.Prelude.{OnOk, IfErr, is_ok}
+use Rattle.std.specs.List.{flat_map}
+use Rattle.std.specs.Io.KnownBytes.{Appends, Keeps}
+use Rattle.tc_channel.specs.Journal.{History}
+use Rattle.tc_channel.specs.declared.settings.MapSetting.{MapSetting}
+use Rattle.tc_channel.specs.declared.settings.QueueSetting.{QueueSetting}
+use Rattle.tc_station.specs.Balance.{IsNumberTold}
+use Rattle.tc_station.specs.Roster.{Roster}
+use Rattle.tc_station.specs.Tally.{Tally}
+use Rattle.tc_setup.specs.Phase.{Setup}
+use Rattle.tc_text.specs.Reading.{IsFirstLine}
+use Rattle.tc_text.specs.declared.fault.Reason.{Reason}
+use Rattle.tc_text.specs.declared.fault.Reason.TheVariants.{NoMemory}
+use Rattle.tc_text.specs.declared.fault.ScriptFault.{ScriptFault}
+use Rattle.tc_text.specs.declared.fault.ScriptFault.TheVariants.{Line, Read, TooLong, Write, Unbalanced}
+use Rattle.tc_cli.specs.Manned.{Manned}
+use Rattle.tc_cli.specs.Printed.{answer_line}
+use Rattle.tc_cli.specs.Report.{AreBalanced, AreRising, channel_text, final_line, IsLawfulHistory, map_line, queue_line, report_text}
+use Rattle.tc_cli.specs.Script.{Leads, starts, goes_on, IsBadLine, IsReportFault}
+use Rattle.tc_cli.specs.Session.{Session, manned_for}
+use Rattle.tc_cli.specs.Stage.{phase_of}
+use Rattle.tc_cli.specs.Written.{AreAnswers, at_first, one_more, IsLineAnswered, IsReportWritten, IsWritten, IsCutShort, answers_text, no_flags}
+use Rattle.tc_cli.specs.declared.answer.Answer.{Answer}
+
+-- one element more is written
+pub one-more-written : {X : Type 0} (f : X → List ℕ) (xs : List X) (i : ℕ) (d : X) (a b c : Option (List ℕ)) → i < length xs
+    → Appends a b (flat_map f (take i xs)) → Appends b c (f (get_or xs i d)) → Appends a c (flat_map f (take (i + 1) xs))
+one-more-written f xs i d a b c lt before more =
+    let joined : flat_map f (take i xs) ++ f (get_or xs i d) ≡ flat_map f (take (i + 1) xs) =
+    flat_map_more f [] (take i xs) (get_or xs i d) ∙ ap (flat_map f) (sym (take_more xs i d lt)) in
+    subst (Appends a c) joined (Appends-trans a b c _ _ before more)
+
+-- the same, where the element is known by its place
+pub item-written : {X : Type 0} (f : X → List ℕ) (xs : List X) (i : ℕ) (x : X) (a b c : Option (List ℕ)) → i < length xs → x ≡ get_or xs i x
+    → Appends a b (flat_map f (take i xs)) → Appends b c (f x) → Appends a c (flat_map f (take (i + 1) xs))
+item-written f xs i x a b c lt is before more = one-more-written f xs i x a b c lt before (subst (λ y. Appends b c (f y)) is more)
+
+pub lawful-more : (xs : List History) (i : ℕ) (x : History) → i < length xs → x ≡ get_or xs i x → All IsLawfulHistory (take i xs) → IsLawfulHistory x → All IsLawfulHistory (take (i + 1) xs)
+lawful-more xs i x lt is before more = All-more IsLawfulHistory xs i x lt before (subst IsLawfulHistory is more)
+
+-- the lines of a channel
+pub channel-written : (channel : History) (queues : List QueueSetting) (maps : List MapSetting) (a b c d : Option (List ℕ)) → queues ≡ channel.settings.queues → maps ≡ channel.settings.maps
+    → Appends a b (final_line channel) → Appends b c (flat_map (queue_line channel) queues) → Appends c d (flat_map (map_line channel) maps)
+    → Appends a d (channel_text channel)
+channel-written channel queues maps a b c d is-queues is-maps final of-queues of-maps =
+    let two = subst (λ qs. Appends b c (flat_map (queue_line channel) qs)) is-queues of-queues in
+    let three = subst (λ ms. Appends c d (flat_map (map_line channel) ms)) is-maps of-maps in
+    Appends-trans a c d _ _ (Appends-trans a b c _ _ final two) three
+
+-- what holds where one result is Ok holds where another is that is Ok just then
+pub on-ok-same : {T U E F : Type 0} (r : Result T E) (s : Result U F) (A : Type 0) → is_ok s ≡ is_ok r → OnOk r A → OnOk s A
+on-ok-same (Ok x) (Ok y) A same holds = holds
+on-ok-same (Ok x) (Err f) A same holds = tt
+on-ok-same (Err e) (Ok y) A same holds = let no : ⊥ = cc in absurd no
+on-ok-same (Err e) (Err f) A same holds = tt
+
+-- two facts that hold where a result is Ok
+pub on-ok-both : {T E : Type 0} (r : Result T E) (A B C : Type 0) → (A → B → C) → OnOk r A → OnOk r B → OnOk r C
+on-ok-both (Ok x) A B C follows a b = follows a b
+on-ok-both (Err e) A B C follows a b = tt
+
+length-one-more : {X : Type 0} (xs : List X) (x : X) → length xs + 1 ≡ length (xs ++ x ∷ [])
+length-one-more xs x = grind (arith, common_steps)
+
+-- lines that are answered are good
+pub answered-leads : (scid : ℕ) (script : List ℕ) (answers : List (Option Answer)) (session : Session) (rest : List ℕ) → AreAnswers scid script answers session rest
+    → Leads script (length answers) (phase_of session) rest
+answered-leads scid script answers session rest at_first = starts
+answered-leads scid script answers session rest (one_more {answers = before} {session = old} {answer = answer} leads next answered) =
+    let good = answered-leads scid script before old _ leads in
+    subst (λ n. Leads script n (phase_of session) rest) (length-one-more before answer) (goes_on good next (answered.0, answered.1, answered.2))
+
+-- so many first lines were answered, and their answers written
+abbrev pub IsSoFar : ℕ → List ℕ → ℕ → Session → List ℕ → Option (List ℕ) → Option (List ℕ) → Type 0
+IsSoFar scid script count session rest old new =
+    (answers : List (Option Answer)) × AreAnswers scid script answers session rest × (count ≡ length answers) × Appends old new (answers_text answers)
+
+pub none-so-far : (scid : ℕ) (script : List ℕ) (session : Session) (a : Option (List ℕ)) → AreAnswers scid script [] session script
+    → IsSoFar scid script 0 session script a a
+none-so-far scid script session a leads = ([], leads, refl, Appends-nil a)
+
+pub so-far-good : (scid : ℕ) (script : List ℕ) (count : ℕ) (session : Session) (rest : List ℕ) (a b : Option (List ℕ)) → IsSoFar scid script count session rest a b
+    → Leads script count (phase_of session) rest
+so-far-good scid script count session rest a b (answers, leads, is, text) =
+    subst (λ n. Leads script n (phase_of session) rest) (sym is) (answered-leads scid script answers session rest leads)
+
+-- one line more
+pub one-more-so-far : (scid : ℕ) (script : List ℕ) (count : ℕ) (session new : Session) (rest line after : List ℕ) (answer : Option Answer) (a b c : Option (List ℕ))
+    → IsSoFar scid script count session rest a b → IsFirstLine rest line after → IsLineAnswered scid no_flags session line new answer → Appends b c (answer_line answer)
+    → IsSoFar scid script (count + 1) new after a c
+one-more-so-far scid script count session new rest line after answer a b c (answers, leads, is, text) next answered more = (
+  answers ++ answer ∷ [],
+  one_more leads next answered,
+  ap (λ n. n + 1) is ∙ length-one-more answers answer,
+  subst (Appends a c) (flat_map_more answer_line [] answers answer) (Appends-trans a b c _ _ text more),
+)
+
+-- a bad line ends it
+pub cut-short : (scid : ℕ) (script : List ℕ) (count : ℕ) (session : Session) (rest line after : List ℕ) (reason : Reason) (a b : Option (List ℕ))
+    → (reason ≡ NoMemory) ⊎ IsBadLine (phase_of session) line reason → IsSoFar scid script count session rest a b → IsFirstLine rest line after
+    → IsCutShort scid script a b (Line (count + 1) reason)
+cut-short scid script count session rest line after reason a b (inl memory) so-far next = inl memory
+cut-short scid script count session rest line after reason a b (inr bad) (answers, leads, is, text) next =
+    inr (answers, session, rest, line, after, leads, next, bad, ap (λ n. n + 1) is, text)
+
+-- the end of the script, and what comes of the report
+pub end-written : (reported : Result (Unit {0}) ScriptFault) (scid : ℕ) (script : List ℕ) (count : ℕ) (session : Session) (rest : List ℕ) (a b c : Option (List ℕ))
+    → IsSoFar scid script count session rest a b → rest ≡ [] → OnOk reported (IsReportWritten scid session b c) → OnOk reported (IsWritten scid script a c)
+end-written (Err fault) scid script count session rest a b c so-far end written = tt
+end-written (Ok done) scid script count session rest a b c (answers, leads, is, text) end (report, of, more) =
+    (answers, session, report, rw end at leads, of, Appends-trans a b c _ _ text more)
+
+pub end-cut-short : (reported : Result (Unit {0}) ScriptFault) (scid : ℕ) (script : List ℕ) (lines : ℕ) (a b : Option (List ℕ)) → IfErr reported (IsReportFault lines)
+    → IfErr reported (IsCutShort scid script a b)
+end-cut-short (Ok done) scid script lines a b why = tt
+end-cut-short (Err fault) scid script lines a b (inl write) = subst (IsCutShort scid script a b) (sym write) tt
+end-cut-short (Err fault) scid script lines a b (inr (inl unbalanced)) = subst (IsCutShort scid script a b) (sym unbalanced) tt
+end-cut-short (Err fault) scid script lines a b (inr (inr memory)) = subst (IsCutShort scid script a b) (sym memory) (inl refl)
+
+-- the report of the station of a session
+pub reported : (scid : ℕ) (session : Session) (manned : Manned) (station : Roster) (operator : Tally) (operators : List Tally) (channels shown : List History) (a b : Option (List ℕ))
+    → shown ≡ channels → manned ≡ manned_for scid session → station ≡ manned.station → operator ≡ manned.operator → operators ≡ operator ∷ []
+    → AreBalanced station.vcids operators channels → AreRising channels → All IsNumberTold channels → All IsLawfulHistory shown → Appends a b (report_text shown)
+    → IsReportWritten scid session a b
+reported scid session manned station operator operators channels shown a b lent is place hand all balanced rising told lawful text =
+    let one = subst (λ (s : Roster). AreBalanced s.vcids operators channels) place balanced in
+    let two = subst (λ ts. AreBalanced manned.station.vcids ts channels) (all ∙ ap (λ t. t ∷ []) hand) one in
+    let three = subst (λ (m : Manned). AreBalanced m.station.vcids (m.operator ∷ []) channels) is two in
+    (report_text shown, inr (channels, three, rising, told, subst (All IsLawfulHistory) lent lawful, ap report_text lent), text)
+
+-- no channel was set up
+pub not-reported : (scid : ℕ) (session : Session) (a : Option (List ℕ)) → phase_of session ≡ Setup [] → IsReportWritten scid session a a
+not-reported scid session a none = ([], inl (none, refl), Appends-nil a)
+
+-- what was written stays
+written-kept : (scid : ℕ) (script : List ℕ) (a b c : Option (List ℕ)) → IsWritten scid script a b → Keeps b c → IsWritten scid script a c
+written-kept scid script a b c (answers, session, report, leads, of, text) kept = (answers, session, report, leads, of, Appends-kept a b c _ text kept)
+
+cut-short-kept : (scid : ℕ) (script : List ℕ) (a b c : Option (List ℕ)) (fault : ScriptFault) → IsCutShort scid script a b fault → Keeps b c → IsCutShort scid script a c fault
+cut-short-kept scid script a b c Read short kept = tt
+cut-short-kept scid script a b c TooLong short kept = tt
+cut-short-kept scid script a b c Write short kept = tt
+cut-short-kept scid script a b c Unbalanced short kept = tt
+cut-short-kept scid script a b c (Line number reason) (inl memory) kept = inl memory
+cut-short-kept scid script a b c (Line number reason) (inr (answers, session, rest, line, after, leads, next, bad, is, text)) kept =
+    inr (answers, session, rest, line, after, leads, next, bad, is, Appends-kept a b c _ text kept)
+
+-- what was read is the script, where the octets of the reader are known
+pub whole-written : (done : Result (Unit {0}) ScriptFault) (known : Option (List ℕ)) (scid : ℕ) (script read : List ℕ) (a b c : Option (List ℕ))
+    → script ≡ read → IfSome known (λ octets. read ≡ octets) → OnOk done (IsWritten scid script a b) → Keeps b c → OnOk done (IfSome known (λ octets. IsWritten scid octets a c))
+whole-written (Err fault) known scid script read a b c whole is written kept = tt
+whole-written (Ok done) None scid script read a b c whole is written kept = tt
+whole-written (Ok done) (Some octets) scid script read a b c whole is written kept =
+    subst (λ s. IsWritten scid s a c) (whole ∙ is) (written-kept scid script a b c written kept)
+
+pub whole-cut-short : (done : Result (Unit {0}) ScriptFault) (known : Option (List ℕ)) (scid : ℕ) (script read : List ℕ) (a b c : Option (List ℕ))
+    → script ≡ read → IfSome known (λ octets. read ≡ octets) → IfErr done (IsCutShort scid script a b) → Keeps b c
+    → IfErr done (λ fault. IfSome known (λ octets. IsCutShort scid octets a c fault))
+whole-cut-short (Ok done) known scid script read a b c whole is short kept = tt
+whole-cut-short (Err fault) None scid script read a b c whole is short kept = tt
+whole-cut-short (Err fault) (Some octets) scid script read a b c whole is short kept =
+    subst (λ s. IsCutShort scid s a c fault) (whole ∙ is) (cut-short-kept scid script a b c fault short kept)

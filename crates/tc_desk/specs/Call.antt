@@ -1,0 +1,118 @@
+-- What a call by an operator promises.
+use Rattle.std.specs.Prelude.{◌≡◌, ◌≢◌, ◌-◌, ◌^◌, min, ⊤, ℕ, Bool, false, List, [], ◌∷◌, ◌++◌, length, Some, None, Result, MatchResult}
+use Rattle.tc_link.specs.declared.Link.{Link}
+use Rattle.tc_link.specs.declared.Report.{Report}
+use Rattle.tc_channel.specs.declared.event.Event.{Event}
+use Rattle.tc_channel.specs.declared.event.Event.TheVariants.{Frame}
+use Rattle.tc_channel.specs.declared.reply.Delivery.{Delivery}
+use Rattle.tc_channel.specs.declared.reply.FrameReply.{FrameReply}
+use Rattle.tc_channel.specs.declared.reply.NoMemory.{NoMemory}
+use Rattle.tc_channel.specs.declared.reply.ReleaseFault.{ReleaseFault}
+use Rattle.tc_channel.specs.declared.reply.ReleaseFault.TheVariants as release_faults
+use Rattle.tc_channel.specs.declared.reply.TakeFault.{TakeFault}
+use Rattle.tc_channel.specs.declared.reply.TakeFault.TheVariants as take_faults
+use Rattle.tc_channel.specs.declared.reply.TakeUnitFault.{TakeUnitFault}
+use Rattle.tc_channel.specs.declared.reply.TakeUnitFault.TheVariants as unit_faults
+use Rattle.tc_channel.specs.Journal.{History, with_event}
+use Rattle.tc_channel.specs.Settings.{IsAllowed}
+use Rattle.tc_channel.specs.Run.{IsLawful, run}
+use Rattle.tc_channel.specs.Reply.{IsBypassData, frame_reply, release_reply, take_reply, unit_reply, waiting_packets, waiting_units, buffered_fields, clcw}
+use Rattle.tc_status.specs.Board.{Watching}
+use Rattle.logged_lock.specs.Log.{IsBeginning, with_entry}
+use Rattle.tc_desk.specs.Log.{Moment, Own, AtLock, history_of}
+
+-- the settings are allowed, and the journal is lawful
+abbrev pub IsMoment : Moment → Type 0
+IsMoment m = IsAllowed m.head.settings × IsLawful m.head.settings m.entries
+
+-- an operation on a desk: what it answers where it is an event, and where it is refused and nothing happens
+pub record IsStep {R F : Type 0} (e : Event) (ok : Moment → R → Type 0) (err : Moment → F → Type 0) (before : Moment) (result : Result R F) (after : Moment) : Type 0 where
+  pub moment : IsMoment before
+  pub answer : MatchResult result (λ r. ok before r × (after ≡ with_entry before e)) (λ f. err before f × (after ≡ before))
+
+-- a question to a desk, which leaves it as it is
+pub record IsAsked {R : Type 0} (ok : Moment → R → Type 0) (before : Moment) (result : R) (after : Moment) : Type 0 where
+  pub moment : IsMoment before
+  pub answer : ok before result
+  pub same : after ≡ before
+
+-- the operator has seen this moment, and made nothing
+abbrev pub looked : Moment → Own → Own
+looked now own = record { seen = now; made = own.made }
+
+-- This event was made at this moment: it is the last that the operator has seen, at its place in the journal, and the operator's own.
+abbrev pub made : Event → Moment → Own → Own
+made e now own = record { seen = with_entry now e; made = own.made ++ (length now.entries, e) ∷ [] }
+
+-- At a moment of the desk, which goes on from all that the operator had seen, this was answered. Where it is an event, it is the
+-- next of the journal, and of the operator's own.
+pub record IsCall {R F : Type 0} (e : Event) (ok : Moment → R → Type 0) (err : Moment → F → Type 0) (before : AtLock) (result : Result R F) (after : AtLock) : Type 0 where
+  pub now : Moment
+  pub later : IsBeginning before.own.seen now
+  pub moment : IsMoment now
+  pub lock : after.lock ≡ before.lock
+  pub answer : MatchResult result (λ r. ok now r × (after.own ≡ made e now before.own)) (λ f. err now f × (after.own ≡ looked now before.own))
+
+-- At a moment of the desk, which goes on from all that the operator had seen, this was read.
+pub record IsLook {R : Type 0} (ok : Moment → R → Type 0) (before : AtLock) (result : R) (after : AtLock) : Type 0 where
+  pub now : Moment
+  pub later : IsBeginning before.own.seen now
+  pub moment : IsMoment now
+  pub lock : after.lock ≡ before.lock
+  pub answer : ok now result
+  pub looked : after.own ≡ looked now before.own
+
+-- the reply to this frame
+abbrev pub IsFramed : List ℕ → Moment → FrameReply → Type 0
+IsFramed frame m reply = reply ≡ frame_reply m.head.settings m.entries frame
+
+-- the watcher is of the desk's board, and has seen this history
+abbrev pub HasSeen : Moment → History → Watching → Type 0
+HasSeen m seen watcher = (watcher.board ≡ m.head.board) × (watcher.seen ≡ seen)
+
+-- the reply to this frame, and a watcher of the desk's board that has seen the journal with the frame at its end
+abbrev pub IsFramedWatched : List ℕ → Moment → FrameReply × Watching → Type 0
+IsFramedWatched frame m answer = IsFramed frame m answer.0 × HasSeen m (with_event (history_of m) (Frame frame)) answer.1
+
+-- out of memory; where the journal takes none, only a Type-BD frame can be refused so
+abbrev pub IsFrameFault : Bool → List ℕ → Moment → NoMemory → Type 0
+IsFrameFault grows frame m fault = grows ≡ false → IsBypassData frame
+
+-- a data field waited, and this became of it
+abbrev pub IsReleased : Moment → Delivery → Type 0
+IsReleased m delivery = (buffered_fields m.head.settings m.entries ≢ []) × (delivery ≡ release_reply m.head.settings m.entries)
+
+abbrev pub IsReleaseFault : Moment → ReleaseFault → Type 0
+IsReleaseFault m release_faults.Empty = buffered_fields m.head.settings m.entries ≡ []
+IsReleaseFault m release_faults.NoMemory = ⊤
+
+-- the packet is the oldest that waited in the queue with this APID
+abbrev pub IsTaken : ℕ → Moment → List ℕ → Type 0
+IsTaken apid m packet = take_reply m.head.settings m.entries apid ≡ Some packet
+
+-- where the journal takes no memory, a take doesn't run out of it
+abbrev pub IsTakeFault : Bool → ℕ → Moment → TakeFault → Type 0
+IsTakeFault grows apid m take_faults.NoQueue = waiting_packets m.head.settings m.entries apid ≡ None
+IsTakeFault grows apid m take_faults.Empty = waiting_packets m.head.settings m.entries apid ≡ Some []
+IsTakeFault grows apid m take_faults.NoMemory = grows ≡ false → ⊥
+
+-- the unit is the oldest that waited on this MAP
+abbrev pub IsUnitTaken : ℕ → Moment → List ℕ → Type 0
+IsUnitTaken map_id m unit = unit_reply m.head.settings m.entries map_id ≡ Some unit
+
+abbrev pub IsTakeUnitFault : Bool → ℕ → Moment → TakeUnitFault → Type 0
+IsTakeUnitFault grows map_id m unit_faults.NoMap = waiting_units m.head.settings m.entries map_id ≡ None
+IsTakeUnitFault grows map_id m unit_faults.Empty = waiting_units m.head.settings m.entries map_id ≡ Some []
+IsTakeUnitFault grows map_id m unit_faults.NoMemory = grows ≡ false → ⊥
+
+-- FARM-1's components
+abbrev pub IsReport : Moment → Report → Type 0
+IsReport m report = report ≡ (run m.head.settings m.entries).report
+
+-- the CLCW (CCSDS 232.0-B, 4.2) with these flags of the link
+abbrev pub IsClcw : Link → Moment → ℕ → Type 0
+IsClcw link m word = word ≡ clcw m.head.settings m.entries link
+
+-- how many events there are in the journal; where they are more than 2^64 - 1, that number
+abbrev pub IsCount : Moment → ℕ → Type 0
+IsCount m count = count ≡ min (length m.entries) (2 ^ 64 - 1)

@@ -1,0 +1,24 @@
+-- When a desk is taken out of its lock, and what its channel is to those who worked at it.
+use Rattle.std.specs.Prelude.{◌≡◌, ◌<◌, ◌-◌, ◌^◌, List, length}
+use Rattle.tc_channel.specs.declared.event.Event.{Event}
+use Rattle.tc_channel.specs.Journal.{History}
+use Rattle.logged_lock.specs.Log.{total_made, IsBeginning, IsMergeOf, AreBehind}
+use Rattle.tc_desk.specs.Log.{Moment, Own, AtLock, accounts_of}
+use Rattle.tc_desk.specs.declared.closing.Obstacle.{Obstacle}
+use Rattle.tc_desk.specs.declared.closing.Obstacle.TheVariants.{Held, Unbalanced}
+
+-- they have made as many events as the journal has, and these are fewer than a count of 64 bits shows
+abbrev pub IsBalanced : List Own → List Event → Type 0
+IsBalanced makers journal = (total_made makers ≡ length journal) × (length journal < 2 ^ 64 - 1)
+
+-- The journal of the closed channel is a merge of what these operators made, and what each of them had seen is a beginning of it,
+-- with the settings of the desk and its board.
+pub record IsClosed (keeper : AtLock) (operators : List AtLock) (closed : History) : Type 0 where
+  pub settings : closed.settings ≡ keeper.own.seen.head.settings
+  pub merge : IsMergeOf closed.journal (accounts_of operators)
+  pub seen : AreBehind (accounts_of operators) (record { head = keeper.own.seen.head; entries = closed.journal })
+
+-- a moment of the desk at which these operators hadn't made as many events as its journal had, or these were too many for a count
+abbrev pub IsObstacle : AtLock → List AtLock → Obstacle → Type 0
+IsObstacle keeper operators Held = Unit {0}
+IsObstacle keeper operators Unbalanced = (now : Moment) × IsBeginning keeper.own.seen now × ¬ IsBalanced (accounts_of operators) now.entries

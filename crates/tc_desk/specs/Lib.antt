@@ -1,0 +1,5 @@
+pub mod Log
+pub mod Call
+pub mod Closing
+-- a lock's identity, for the crates above
+pub use Rattle.atomic_table.specs.Seated.{TableId}

@@ -1,0 +1,16 @@
+//! The desk of a channel, behind a lock that remembers.
+//!
+//! Several threads share a [`LockedDesk`], each with a [`DeskOperator`] of its own, which the desk's
+//! [`DeskKeeper`] makes. Contracts see which lock that is, and what each operator has seen of the channel's journal and made of
+//! it: so each call is answered by this very channel's journal, and [`LockedDesk::close`] gives out a channel whose journal is a
+//! merge of what its operators made. Each call takes the lock once, and waits while another has it.
+#![tactic(auto)]
+
+mod closing;
+mod kept;
+mod locked;
+mod operation;
+
+pub use closing::{Obstacle, Unclosed};
+pub use kept::{DeskHead, KeptDesk};
+pub use locked::{DeskKeeper, DeskOperator, LockedDesk};

@@ -1,0 +1,396 @@
+//! The lock of a desk, and its operators.
+
+ghost use Rattle.std.specs.Prelude.{◌≡◌, [], ◌∷◌, ⊤, true, IfOk, MatchResult, IsSome};
+ghost use Rattle.logged_lock.specs.Log.{start_of};
+ghost use Rattle.logged_lock.specs.Rule.{HasLock, unlocked, unlocked_with};
+ghost use Rattle.tc_channel.specs.Settings.{IsAllowed, IsRefusal};
+ghost use Rattle.tc_desk.specs.Log.{Moment, IsResting, log_of, at_lock, view_in, count_of, history_of};
+ghost use Rattle.tc_desk.specs.Call.{IsMoment, IsStep, IsAsked, IsCall, IsLook, IsFramed, IsFrameFault, IsFramedWatched, IsReleased, IsReleaseFault, IsTaken, IsTakeFault, IsUnitTaken, IsTakeUnitFault, HasSeen, IsReport, IsClcw};
+
+use crate::kept::{DeskHead, KeptDesk};
+use crate::operation::{
+    Framing, Makes, Occasion, Operation, Question, Release, Reporting, Taking, UnitTaking,
+    WatchedFraming, Watching, WordMaking,
+};
+use atomic_table::Badge;
+use logged_lock::{LockSeat, LoggedLock, View};
+use std::alloc::Global;
+use std::marker::{Brand, Model};
+use std::mem;
+use std::sync::Wait;
+use tc_channel::{
+    Delivery, Event, FrameReply, Journal, NoMemory, ReleaseFault, Settings, SettingsFault,
+    TakeFault, TakeUnitFault,
+};
+use tc_link::{Frame, Link, Report};
+use tc_status::{DeskOf, Watcher};
+
+pub(crate) type DeskLock<J> = LoggedLock<KeptDesk<J>, DeskHead, Event>;
+
+pub(crate) type DeskSeat<J> = LockSeat<KeptDesk<J>, DeskHead, Event>;
+
+pub(crate) type DeskBadge = Badge<View<DeskHead, Event>>;
+
+/// A desk behind a lock, which threads share. A contract sees which lock it is.
+#[derive(Drop)]
+pub struct LockedDesk<J: Journal> {
+    pub(crate) lock: DeskLock<J>,
+}
+
+impl<J: Journal> Model for LockedDesk<J> {
+    ghost use Rattle.atomic_table.specs.Seated.{TableId};
+
+    ghost Value = { TableId };
+
+    ghost view = { λ d. d.lock };
+}
+
+/// Who makes operations on a desk behind its lock.
+#[derive(Drop)]
+pub struct DeskOperator {
+    badge: DeskBadge,
+    count: u64,
+}
+
+impl Model for DeskOperator {
+    ghost use Rattle.std.specs.Prelude.{◌≡◌};
+    ghost use Rattle.tc_desk.specs.Log.{AtLock, at_lock, view_in, count_of, IsResting};
+
+    ghost Value = { AtLock };
+
+    ghost view = { λ o. at_lock o.badge.table_id o.badge.views };
+
+    ghost invariant = { λ o. IsResting o.badge.views × (o.count ≡ count_of (view_in o.badge.views).own) };
+}
+
+/// Who makes operators for a lock, and takes the channel out of it. It has no octets.
+#[derive(Drop)]
+pub struct DeskKeeper {
+    badge: DeskBadge,
+}
+
+impl Model for DeskKeeper {
+    ghost use Rattle.std.specs.Prelude.{◌≡◌, []};
+    ghost use Rattle.tc_desk.specs.Log.{AtLock, at_lock, view_in, IsResting};
+
+    ghost Value = { AtLock };
+
+    ghost view = { λ k. at_lock k.badge.table_id k.badge.views };
+
+    ghost invariant = { λ k. IsResting k.badge.views × ((view_in k.badge.views).told ≡ []) × (k.badge.id ≡ 0) };
+}
+
+// The desk does what the operation asks for, by the seat that has the lock.
+fn operate_at<J: Journal, O: Operation<J>>(
+    lock: &DeskLock<J>,
+    seat: &mut DeskSeat<J>,
+    operation: &O,
+) -> Result<O::Answer, O::Fault>
+    requires own { seat.old.table_id ≡ lock.now }
+    requires locks { HasLock (λ k. log_of k.desk) (λ k. IsSome k.desk) seat.old.me seat.old.me.0.own.seen }
+    ensures same { (seat.new.table_id ≡ seat.old.table_id) × (seat.new.id ≡ seat.old.id) × (seat.new.me.0 ≡ seat.old.me.0) }
+    ensures step { (after : Moment) × HasLock (λ k. log_of k.desk) (λ k. IsSome k.desk) seat.new.me after
+        × IsStep (O.event operation.now) (O.answers operation.now) (O.refuses operation.now) seat.old.me.0.own.seen result after }
+{
+    let kept = seat.slot_mut(lock.table(), 0);
+    kept.operate(operation)
+}
+
+// Does what the operation asks for by the seat that has the lock, and gives the lock back: with the event where it is answered.
+fn operate_with<P: Occasion, J: Journal, O: Operation<J>>(
+    lock: &DeskLock<J>,
+    seat: &mut DeskSeat<J>,
+    operation: &O,
+) -> Result<O::Answer, O::Fault>
+    requires event { P.event ≡ O.event operation.now }
+    requires own { seat.old.table_id ≡ lock.now }
+    requires locks { HasLock (λ k. log_of k.desk) (λ k. IsSome k.desk) seat.old.me seat.old.me.0.own.seen }
+    ensures same { (seat.new.table_id ≡ seat.old.table_id) × (seat.new.id ≡ seat.old.id) }
+    ensures hands { seat.new.me.1 ≡ [] }
+    ensures moment { IsMoment seat.old.me.0.own.seen }
+    ensures done { MatchResult result
+        (λ answer. O.answers operation.now seat.old.me.0.own.seen answer × (seat.new.me.0 ≡ unlocked_with (O.event operation.now) seat.old.me.0))
+        (λ fault. O.refuses operation.now seat.old.me.0.own.seen fault × (seat.new.me.0 ≡ unlocked seat.old.me.0)) }
+{
+    match operate_at(lock, seat, operation) {
+        Ok(answer) => {
+            lock.unlock_with::<Makes<P>>(seat);
+            Ok(answer)
+        }
+        Err(fault) => {
+            lock.unlock(seat);
+            Err(fault)
+        }
+    }
+}
+
+// Takes the lock, does what the operation asks for, and gives the lock back.
+fn operate_by<J: Journal, O: Operation<J>, R: Wait>(
+    lock: &DeskLock<J>,
+    rt: &R,
+    badge: DeskBadge,
+    operation: &O,
+) -> (DeskBadge, Result<O::Answer, O::Fault>)
+    requires own { badge.table_id ≡ lock.now }
+    requires resting { IsResting badge.views }
+    ensures resting { IsResting result.0.views }
+    ensures call { IsCall (O.event operation.now) (O.answers operation.now) (O.refuses operation.now) (at_lock badge.table_id badge.views) result.1 (at_lock result.0.table_id result.0.views) }
+{
+    let mut seat: DeskSeat<J> = badge.into_seat();
+    lock.lock(rt, &mut seat);
+    let answer = operate_with::<Brand, J, O>(lock, &mut seat, operation);
+    (seat.into_badge(), answer)
+}
+
+// The desk answers the question, by the seat that has the lock.
+pub(crate) fn answer_at<J: Journal, Q: Question<J>>(
+    lock: &DeskLock<J>,
+    seat: &mut DeskSeat<J>,
+    question: &Q,
+) -> Q::Answer
+    requires own { seat.old.table_id ≡ lock.now }
+    requires locks { HasLock (λ k. log_of k.desk) (λ k. IsSome k.desk) seat.old.me seat.old.me.0.own.seen }
+    ensures same { (seat.new.table_id ≡ seat.old.table_id) × (seat.new.id ≡ seat.old.id) × (seat.new.me.0 ≡ seat.old.me.0) }
+    ensures asked { (after : Moment) × HasLock (λ k. log_of k.desk) (λ k. IsSome k.desk) seat.new.me after
+        × IsAsked (Q.answers question.now) seat.old.me.0.own.seen result after }
+{
+    let kept = seat.slot_mut(lock.table(), 0);
+    kept.answer(question)
+}
+
+// Takes the lock, asks the desk, and gives the lock back.
+fn ask_by<J: Journal, Q: Question<J>, R: Wait>(
+    lock: &DeskLock<J>,
+    rt: &R,
+    badge: DeskBadge,
+    question: &Q,
+) -> (DeskBadge, Q::Answer)
+    requires own { badge.table_id ≡ lock.now }
+    requires resting { IsResting badge.views }
+    ensures resting { IsResting result.0.views }
+    ensures made { (view_in result.0.views).own.made ≡ (view_in badge.views).own.made }
+    ensures look { IsLook (Q.answers question.now) (at_lock badge.table_id badge.views) result.1 (at_lock result.0.table_id result.0.views) }
+{
+    let mut seat: DeskSeat<J> = badge.into_seat();
+    lock.lock(rt, &mut seat);
+    let answer = answer_at(lock, &mut seat, question);
+    lock.unlock(&mut seat);
+    (seat.into_badge(), answer)
+}
+
+// A new seat, from the first one.
+fn issue_from<J: Journal>(lock: &DeskLock<J>, keeper: DeskBadge) -> (DeskBadge, DeskBadge)
+    requires own { keeper.table_id ≡ lock.now }
+    requires resting { IsResting keeper.views }
+    ensures keeper { (result.0.table_id ≡ keeper.table_id) × (result.0.id ≡ keeper.id) × (result.0.views ≡ keeper.views) }
+    ensures own { result.1.table_id ≡ keeper.table_id }
+    ensures resting { IsResting result.1.views }
+    ensures seen { (view_in result.1.views).own.seen ≡ (view_in keeper.views).own.seen }
+    ensures new { (view_in result.1.views).own.made ≡ [] }
+{
+    let mut first: DeskSeat<J> = keeper.into_seat();
+    let other = lock.issue(&mut first);
+    (first.into_badge(), other.into_badge())
+}
+
+impl DeskKeeper {
+    /// A new operator, which has made nothing, and has seen what the keeper has seen.
+    pub fn operator<J: Journal>(&mut self, desk: &LockedDesk<J>) -> DeskOperator
+        requires ours { self.old.lock ≡ desk.now }
+        ensures same { self.new ≡ self.old }
+        ensures lock { result.lock ≡ self.old.lock }
+        ensures seen { result.own.seen ≡ self.old.own.seen }
+        ensures new { result.own.made ≡ [] }
+    {
+        let keeper = mem::replace(&mut self.badge, Badge::blank());
+        let (keeper, badge) = issue_from(&desk.lock, keeper);
+        self.badge = keeper;
+        DeskOperator { badge, count: 0 }
+    }
+
+    // A keeper of this first seat, to which nothing was told.
+    pub(crate) fn of(badge: DeskBadge) -> DeskKeeper
+        requires first { badge.id ≡ 0 }
+        requires resting { IsResting badge.views }
+        requires told { (view_in badge.views).told ≡ [] }
+        ensures { result ≡ at_lock badge.table_id badge.views }
+    {
+        DeskKeeper { badge }
+    }
+
+    // The first seat.
+    pub(crate) fn into_badge(self) -> DeskBadge
+        ensures first { result.id ≡ 0 }
+        ensures resting { IsResting result.views }
+        ensures told { (view_in result.views).told ≡ [] }
+        ensures own { at_lock result.table_id result.views ≡ self }
+    {
+        let DeskKeeper { badge } = self;
+        badge
+    }
+}
+
+impl DeskOperator {
+    /// How many events the operator has made; where they are more than 2^64 - 1, that number.
+    pub fn count(&self) -> u64
+        ensures { result ≡ count_of self.now.own }
+    {
+        self.count
+    }
+
+    // The seat, once the operator has made all its events.
+    pub(crate) fn into_badge(self) -> DeskBadge
+        ensures resting { IsResting result.views }
+        ensures own { at_lock result.table_id result.views ≡ self }
+    {
+        let DeskOperator { badge, count: _ } = self;
+        badge
+    }
+
+    // The operation on the desk, by this operator.
+    fn operate<J: Journal, O: Operation<J>, R: Wait>(
+        &mut self,
+        desk: &LockedDesk<J>,
+        rt: &R,
+        operation: &O,
+    ) -> Result<O::Answer, O::Fault>
+        requires ours { self.old.lock ≡ desk.now }
+        ensures call { IsCall (O.event operation.now) (O.answers operation.now) (O.refuses operation.now) self.old result self.new }
+    {
+        let badge = mem::replace(&mut self.badge, Badge::blank());
+        let (badge, answer) = operate_by(&desk.lock, rt, badge, operation);
+        self.badge = badge;
+        if answer.is_ok() {
+            let count = &mut self.count;
+            *count = count.saturating_add(1);
+        }
+        answer
+    }
+
+    // The desk's answer to the question, by this operator.
+    fn ask<J: Journal, Q: Question<J>, R: Wait>(
+        &mut self,
+        desk: &LockedDesk<J>,
+        rt: &R,
+        question: &Q,
+    ) -> Q::Answer
+        requires ours { self.old.lock ≡ desk.now }
+        ensures look { IsLook (Q.answers question.now) self.old result self.new }
+    {
+        let badge = mem::replace(&mut self.badge, Badge::blank());
+        let (badge, answer) = ask_by(&desk.lock, rt, badge, question);
+        self.badge = badge;
+        answer
+    }
+}
+
+impl<J: Journal> LockedDesk<J> {
+    /// A desk with a new channel behind a lock that is free, and its keeper. It takes the memory of the desk, and of the lock.
+    pub fn new(
+        alloc: Global,
+        settings: Settings,
+    ) -> Result<(LockedDesk<J>, DeskKeeper), SettingsFault>
+        ensures keeper { IfOk result (λ made. made.1.lock ≡ made.0) }
+        ensures settings { IfOk result (λ made. made.1.own.seen.head.settings ≡ settings) }
+        ensures journal { IfOk result (λ made. made.1.own.seen.entries ≡ []) }
+        ensures new { IfOk result (λ made. made.1.own.made ≡ []) }
+        ensures fault { MatchResult result (λ _. IsAllowed settings) (IsRefusal settings) }
+    {
+        let desk = DeskOf::new(alloc, settings)?;
+        let head = DeskHead::of(&desk);
+        let kept = KeptDesk { desk: Some(desk) };
+        let Ok((lock, first)) = DeskLock::new(alloc, kept, &head) else {
+            return Err(SettingsFault::NoMemory);
+        };
+        Ok((LockedDesk { lock }, DeskKeeper::of(first.into_badge())))
+    }
+
+    /// The channel lets the oldest data field out of its buffer, under the lock.
+    pub fn release<R: Wait>(
+        &self,
+        rt: &R,
+        operator: &mut DeskOperator,
+    ) -> Result<Delivery, ReleaseFault>
+        requires ours { operator.old.lock ≡ self.now }
+        ensures call { IsCall Event.Release IsReleased IsReleaseFault operator.old result operator.new }
+    {
+        operator.operate(self, rt, &Release)
+    }
+
+    /// The channel takes a frame in, under the lock. No more is allocated than by the channel, here and in the next four calls.
+    pub fn frame<R: Wait>(
+        &self,
+        rt: &R,
+        operator: &mut DeskOperator,
+        frame: &Frame,
+    ) -> Result<FrameReply, NoMemory>
+        requires ours { operator.old.lock ≡ self.now }
+        ensures call { IsCall (Event.Frame frame.now) (IsFramed frame.now) (IsFrameFault J.grows frame.now) operator.old result operator.new }
+    {
+        operator.operate(self, rt, &Framing { frame })
+    }
+
+    /// The same, and a watcher of this desk's board, which has seen the channel take the frame. So all that it reads is of that
+    /// moment or later ones.
+    pub fn frame_watched<R: Wait>(
+        &self,
+        rt: &R,
+        operator: &mut DeskOperator,
+        frame: &Frame,
+    ) -> Result<(FrameReply, Watcher), NoMemory>
+        requires ours { operator.old.lock ≡ self.now }
+        ensures call { IsCall (Event.Frame frame.now) (IsFramedWatched frame.now) (λ _ _. ⊤) operator.old result operator.new }
+    {
+        operator.operate(self, rt, &WatchedFraming { frame })
+    }
+
+    /// The channel gives the oldest packet of the queue with this APID, under the lock.
+    pub fn take<R: Wait>(
+        &self,
+        rt: &R,
+        operator: &mut DeskOperator,
+        apid: u16,
+    ) -> Result<Vec<u8>, TakeFault>
+        requires ours { operator.old.lock ≡ self.now }
+        ensures call { IsCall (Event.Take apid) (λ m packet. IsTaken apid m packet.items) (IsTakeFault J.grows apid) operator.old result operator.new }
+    {
+        operator.operate(self, rt, &Taking { apid })
+    }
+
+    /// The channel gives the oldest unit of this chosen MAP, under the lock.
+    pub fn take_unit<R: Wait>(
+        &self,
+        rt: &R,
+        operator: &mut DeskOperator,
+        map: u8,
+    ) -> Result<Vec<u8>, TakeUnitFault>
+        requires ours { operator.old.lock ≡ self.now }
+        ensures call { IsCall (Event.TakeUnit map) (λ m unit. IsUnitTaken map m unit.items) (IsTakeUnitFault J.grows map) operator.old result operator.new }
+    {
+        operator.operate(self, rt, &UnitTaking { map })
+    }
+
+    /// A watcher of this desk's board, which has seen the channel as it is at a moment under the lock.
+    pub fn watcher<R: Wait>(&self, rt: &R, operator: &mut DeskOperator) -> Result<Watcher, NoMemory>
+        requires ours { operator.old.lock ≡ self.now }
+        ensures look { IsLook (λ m answer. IfOk answer (HasSeen m (history_of m))) operator.old result operator.new }
+    {
+        operator.ask(self, rt, &Watching)
+    }
+
+    /// FARM-1's components at a moment under the lock.
+    pub fn report<R: Wait>(&self, rt: &R, operator: &mut DeskOperator) -> Report
+        requires ours { operator.old.lock ≡ self.now }
+        ensures look { IsLook IsReport operator.old result operator.new }
+    {
+        operator.ask(self, rt, &Reporting)
+    }
+
+    /// The CLCW with these flags of the link, at a moment under the lock.
+    pub fn clcw<R: Wait>(&self, rt: &R, operator: &mut DeskOperator, link: Link) -> u32
+        requires ours { operator.old.lock ≡ self.now }
+        ensures look { IsLook (IsClcw link) operator.old result operator.new }
+    {
+        operator.ask(self, rt, &WordMaking { link })
+    }
+}

@@ -1,0 +1,264 @@
+//! What operators ask a desk for.
+
+ghost use Rattle.tc_desk.specs.Log.{moment_of};
+ghost use Rattle.tc_desk.specs.Call.{IsStep, IsAsked};
+
+use logged_lock::NextEntry;
+use std::marker::{Brand, PhantomData};
+use tc_channel::{
+    Delivery, Event, FrameReply, Journal, NoMemory, ReleaseFault, TakeFault, TakeUnitFault,
+};
+use tc_link::{Frame, Link, Report};
+use tc_status::{DeskOf, Watcher};
+
+/// The event that a call makes. Each call picks it.
+pub trait Occasion {
+    ghost use Rattle.tc_channel.specs.declared.event.Event.{Event};
+
+    ghost event: { Event };
+}
+
+impl Occasion for Brand {
+    ghost use Rattle.tc_channel.specs.declared.event.Event.TheVariants.{Release};
+
+    ghost event = { Release };
+}
+
+/// The event of the call is made.
+pub(crate) struct Makes<P> {
+    marker: PhantomData<P>,
+}
+
+impl<P: Occasion> NextEntry<Event> for Makes<P> {
+    ghost entry = { P.event };
+}
+
+/// An operation on a desk: an event where it is answered.
+pub trait Operation<J: Journal> {
+    ghost use Rattle.tc_channel.specs.declared.event.Event.{Event};
+    ghost use Rattle.tc_desk.specs.Log.{Moment};
+
+    type Answer;
+
+    type Fault;
+
+    // the event that it is where it is answered
+    ghost event: { Self → Event };
+
+    // what it answers at a moment
+    ghost answers: { Self → Moment → Self.Answer → Type 0 };
+
+    // where it is refused
+    ghost refuses: { Self → Moment → Self.Fault → Type 0 };
+
+    fn run(&self, desk: &mut DeskOf<J>) -> Result<Self::Answer, Self::Fault>
+        ensures step { IsStep (event self.now) (answers self.now) (refuses self.now) (moment_of desk.old) result (moment_of desk.new) };
+}
+
+/// A question to a desk, which leaves it as it is.
+pub trait Question<J: Journal> {
+    ghost use Rattle.tc_desk.specs.Log.{Moment};
+
+    type Answer;
+
+    // what it answers at a moment
+    ghost answers: { Self → Moment → Self.Answer → Type 0 };
+
+    fn ask(&self, desk: &mut DeskOf<J>) -> Self::Answer
+        ensures asked { IsAsked (answers self.now) (moment_of desk.old) result (moment_of desk.new) };
+}
+
+/// A release of the oldest data field.
+#[derive(Drop)]
+pub(crate) struct Release;
+
+impl<J: Journal> Operation<J> for Release {
+    ghost use Rattle.tc_channel.specs.declared.event.Event.TheVariants.{Release};
+    ghost use Rattle.tc_desk.specs.Call.{IsReleased, IsReleaseFault};
+
+    type Answer = Delivery;
+
+    type Fault = ReleaseFault;
+
+    ghost event = { λ _. Release };
+
+    ghost answers = { λ _. IsReleased };
+
+    ghost refuses = { λ _. IsReleaseFault };
+
+    fn run(&self, desk: &mut DeskOf<J>) -> Result<Delivery, ReleaseFault> {
+        desk.release()
+    }
+}
+
+/// A frame that comes in.
+#[derive(Drop)]
+pub(crate) struct Framing<'a> {
+    pub(crate) frame: &'a Frame<'a>,
+}
+
+impl<J: Journal> Operation<J> for Framing<'_> {
+    ghost use Rattle.tc_channel.specs.declared.event.Event.TheVariants.{Frame};
+    ghost use Rattle.tc_desk.specs.Call.{IsFramed, IsFrameFault};
+
+    type Answer = FrameReply;
+
+    type Fault = NoMemory;
+
+    ghost event = { λ o. Frame o.frame.now };
+
+    ghost answers = { λ o. IsFramed o.frame.now };
+
+    ghost refuses = { λ o. IsFrameFault J.grows o.frame.now };
+
+    fn run(&self, desk: &mut DeskOf<J>) -> Result<FrameReply, NoMemory> {
+        desk.frame(self.frame)
+    }
+}
+
+/// The same, and a watcher of the desk's board sees it.
+#[derive(Drop)]
+pub(crate) struct WatchedFraming<'a> {
+    pub(crate) frame: &'a Frame<'a>,
+}
+
+impl<J: Journal> Operation<J> for WatchedFraming<'_> {
+    ghost use Rattle.std.specs.Prelude.{⊤};
+    ghost use Rattle.tc_channel.specs.declared.event.Event.TheVariants.{Frame};
+    ghost use Rattle.tc_desk.specs.Call.{IsFramedWatched};
+
+    type Answer = (FrameReply, Watcher);
+
+    type Fault = NoMemory;
+
+    ghost event = { λ o. Frame o.frame.now };
+
+    ghost answers = { λ o. IsFramedWatched o.frame.now };
+
+    ghost refuses = { λ _ _ _. ⊤ };
+
+    fn run(&self, desk: &mut DeskOf<J>) -> Result<(FrameReply, Watcher), NoMemory> {
+        let mut watcher = desk.watcher()?;
+        let reply = desk.frame(self.frame)?;
+        desk.meet(&mut watcher);
+        Ok((reply, watcher))
+    }
+}
+
+/// The take of the oldest packet of a queue.
+#[derive(Drop)]
+pub(crate) struct Taking {
+    pub(crate) apid: u16,
+}
+
+impl<J: Journal> Operation<J> for Taking {
+    ghost use Rattle.tc_channel.specs.declared.event.Event.TheVariants.{Take};
+    ghost use Rattle.tc_desk.specs.Call.{IsTaken, IsTakeFault};
+
+    type Answer = Vec<u8>;
+
+    type Fault = TakeFault;
+
+    ghost event = { λ o. Take o.apid };
+
+    ghost answers = { λ o m packet. IsTaken o.apid m packet.items };
+
+    ghost refuses = { λ o. IsTakeFault J.grows o.apid };
+
+    fn run(&self, desk: &mut DeskOf<J>) -> Result<Vec<u8>, TakeFault> {
+        desk.take(self.apid)
+    }
+}
+
+/// The take of the oldest unit of a chosen MAP.
+#[derive(Drop)]
+pub(crate) struct UnitTaking {
+    pub(crate) map: u8,
+}
+
+impl<J: Journal> Operation<J> for UnitTaking {
+    ghost use Rattle.tc_channel.specs.declared.event.Event.TheVariants.{TakeUnit};
+    ghost use Rattle.tc_desk.specs.Call.{IsUnitTaken, IsTakeUnitFault};
+
+    type Answer = Vec<u8>;
+
+    type Fault = TakeUnitFault;
+
+    ghost event = { λ o. TakeUnit o.map };
+
+    ghost answers = { λ o m unit. IsUnitTaken o.map m unit.items };
+
+    ghost refuses = { λ o. IsTakeUnitFault J.grows o.map };
+
+    fn run(&self, desk: &mut DeskOf<J>) -> Result<Vec<u8>, TakeUnitFault> {
+        desk.take_unit(self.map)
+    }
+}
+
+/// A watcher of the desk's board.
+#[derive(Drop)]
+pub(crate) struct Watching;
+
+impl<J: Journal> Question<J> for Watching {
+    ghost use Rattle.std.specs.Prelude.{IfOk};
+    ghost use Rattle.tc_desk.specs.Log.{history_of};
+    ghost use Rattle.tc_desk.specs.Call.{HasSeen};
+
+    type Answer = Result<Watcher, NoMemory>;
+
+    ghost answers = { λ _ m answer. IfOk answer (HasSeen m (history_of m)) };
+
+    fn ask(&self, desk: &mut DeskOf<J>) -> Result<Watcher, NoMemory> {
+        desk.watcher()
+    }
+}
+
+/// FARM-1's components.
+#[derive(Drop)]
+pub(crate) struct Reporting;
+
+impl<J: Journal> Question<J> for Reporting {
+    ghost use Rattle.tc_desk.specs.Call.{IsReport};
+
+    type Answer = Report;
+
+    ghost answers = { λ _. IsReport };
+
+    fn ask(&self, desk: &mut DeskOf<J>) -> Report {
+        desk.channel().report()
+    }
+}
+
+/// The CLCW with these flags of the link.
+#[derive(Drop)]
+pub(crate) struct WordMaking {
+    pub(crate) link: Link,
+}
+
+impl<J: Journal> Question<J> for WordMaking {
+    ghost use Rattle.tc_desk.specs.Call.{IsClcw};
+
+    type Answer = u32;
+
+    ghost answers = { λ q. IsClcw q.link };
+
+    fn ask(&self, desk: &mut DeskOf<J>) -> u32 {
+        desk.channel().clcw(self.link)
+    }
+}
+
+/// How many events there are in the journal; where they are more than 2^64 - 1, that number.
+#[derive(Drop)]
+pub(crate) struct Counting;
+
+impl<J: Journal> Question<J> for Counting {
+    ghost use Rattle.tc_desk.specs.Call.{IsCount};
+
+    type Answer = u64;
+
+    ghost answers = { λ _. IsCount };
+
+    fn ask(&self, desk: &mut DeskOf<J>) -> u64 {
+        desk.channel().events()
+    }
+}

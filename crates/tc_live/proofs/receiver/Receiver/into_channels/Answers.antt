@@ -1,0 +1,8 @@
+use Rattle.std.proofs.Common.{rules}
+use Rattle.std.proofs.lemmas.List.Sorted.{IsNonDecreasingBy-from_sort_by_key}
+use Rattle.tc_cli.specs.Report.{vcid_of}
+use Rattle.tc_live.proofs.receiver.Receiver.into_channels.Goals as goal
+
+pub returns-then-are_told-clause-rising : goal.returns-then-are_told-clause-rising
+returns-then-are_told-clause-rising c =
+    IsNonDecreasingBy-from_sort_by_key vcid_of _ c.sort_unstable_by_key.ensures.sorted (λ a r q k. search rules)

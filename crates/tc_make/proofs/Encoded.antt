@@ -1,0 +1,14 @@
+-- The digits of octets that come one part after the other.
+use Rattle.std.proofs.Common.{◌≡◌, ℕ, ◌/◌, ◌%◌, List, [], ◌∷◌, ◌++◌, refl, ap}
+use Rattle.std.specs.Prelude.{slice_index}
+use Rattle.hex.specs.Hex.{encode_with}
+
+pub encode_with-nil : (t : List ℕ) → encode_with t [] ≡ []
+unfolding encode_with
+encode_with-nil t = refl
+
+pub encode_with-append : (t xs ys : List ℕ) → encode_with t (xs ++ ys) ≡ encode_with t xs ++ encode_with t ys
+unfolding encode_with
+encode_with-append t [] ys = refl
+encode_with-append t (x ∷ xs) ys =
+    ap (λ (l : List ℕ). slice_index t (x / 16) ∷ slice_index t (x % 16) ∷ l) (encode_with-append t xs ys)

@@ -1,0 +1,154 @@
+-- What was written, one text after the other.
+use Rattle.std.proofs.Common.{◌≡◌, Bool, ◌⊎◌, inl, inr, ℕ, suc, ◌+◌, ◌<◌, List, [], ◌∷◌, ◌++◌, length, Option, Some, None, refl, sym, ap, subst, ◌∙◌, append_assoc, append-nil, arith, length-append, Result, Ok, Err}
+use Rattle.std.specs.Prelude.{unwrap_or, codes}
+use Rattle.std.specs.Io.KnownBytes.{Appends}
+use Rattle.std.specs.List.{flat_map}
+use Rattle.std.proofs.KnownBytes.{Appends-trans, Appends-nil}
+use Rattle.std.proofs.lemmas.Grind.{flat_map-append}
+use Rattle.tc_packet.specs.PacketFields.{HasFields}
+use Rattle.tc_packet.specs.Bits.{word_at, bits}
+use Rattle.tc_packet.specs.SpacePacket.{apid_of, is_telecommand, packets_of, rest_of}
+use Rattle.tc_packet.specs.declared.packet.Packet.{Packet}
+use Rattle.tc_fecf.specs.FrameWithField.{frame_with_field, taking_fault_of}
+use Rattle.tc_fecf.specs.declared.frames.FieldFault.{FieldFault}
+use Rattle.tc_fecf.specs.declared.frames.FieldFault.TheVariants as fields
+use Rattle.tc_make.specs.Answer.{Writes, OrNoMemory, Unless, IsSentAt, IsStopAt, AreSent, IsPart, IsFramesSaid, IsPartingOf, IsUnitSaid, IsFrameSaid, IsExplained, IsSaid, IsAnswer, frames_text, parts_of, field_fault_text}
+use Rattle.tc_make.specs.Printed.{bad_text, named_text, some_text, unit_text, packet_text, held_text, holds_text, whole_text}
+use Rattle.tc_make.specs.declared.ending.Ending.{Ending}
+use Rattle.tc_make.specs.declared.ending.Ending.TheVariants.{ErrorControl}
+use Rattle.tc_make.specs.declared.fault.Reason.{Reason}
+use Rattle.tc_make.specs.declared.fault.Reason.TheVariants.{NoMemory}
+use Rattle.tc_make.specs.declared.parting.Parting.{Parting}
+use Rattle.tc_make.specs.Parting.{parting_reason_of}
+use Rattle.tc_make.specs.declared.line.Line.{Line}
+use Rattle.tc_make.specs.declared.line.Line.TheVariants.{Blank}
+use Rattle.tc_make.specs.declared.line.Sizing.{Sizing}
+use Rattle.tc_make.specs.declared.line.Stream.{Stream}
+use Rattle.std.specs.Prelude.{true, false}
+
+pub joined : (a b c : Option (List ℕ)) (xs ys : List ℕ) → Appends a b xs → Appends b c ys → Appends a c (xs ++ ys)
+joined a b c xs ys p q = Appends-trans a b c xs ys p q
+
+-- what was made, and then what became of it
+pub made-on : (a b : Option (List ℕ)) (o : Option Reason) (Is : List ℕ → Type 0) (Then : List ℕ → List ℕ → Type 0) (made : List ℕ)
+    → o ≡ None → Is made → Writes a b (OrNoMemory (Then made)) → Writes a b (OrNoMemory (Unless o (λ text. (x : List ℕ) × Is x × Then x text)))
+made-on a b o Is Then made none is (text, inl p, w) =
+    (text, inl (subst (λ v. Unless v (λ t. (x : List ℕ) × Is x × Then x t) text) (sym none) (made, is, p)), w)
+made-on a b o Is Then made none is (text, inr p, w) = (text, inr p, w)
+
+-- ---- the packets of a unit
+
+held-packet : (p : Packet) → HasFields p → held_text p ≡ packet_text p.octets.now
+held-packet p f =
+    let o = p.octets.now in
+    let t = is_telecommand o in
+    let a = apid_of o in
+    let n = bits (word_at o 2) 0 14 in
+    let g = bits (word_at o 2) 14 2 in
+    ap (λ (x : Bool). holds_text x p.apid p.count p.flags ++ whole_text p.secondary o) f.telecommand
+    ∙ ap (λ (x : ℕ). holds_text t x p.count p.flags ++ whole_text p.secondary o) f.apid
+    ∙ ap (λ (x : ℕ). holds_text t a x p.flags ++ whole_text p.secondary o) f.count
+    ∙ ap (λ (x : ℕ). holds_text t a n x ++ whole_text p.secondary o) f.flags
+    ∙ ap (λ (x : Bool). holds_text t a n g ++ whole_text x o) f.secondary
+
+unit-next : (unit packet after : List ℕ) → packets_of unit ≡ packet ∷ packets_of after → rest_of unit ≡ rest_of after
+    → unit_text unit ≡ packet_text packet ++ unit_text after
+unit-next unit packet after e f =
+    ap (λ ps. flat_map packet_text ps ++ some_text (codes "rest") (rest_of unit)) e
+    ∙ ap (λ r. (packet_text packet ++ flat_map packet_text (packets_of after)) ++ some_text (codes "rest") r) f
+    ∙ append_assoc (packet_text packet) (flat_map packet_text (packets_of after)) (some_text (codes "rest") (rest_of after))
+
+unit-end : (unit : List ℕ) → packets_of unit ≡ [] → rest_of unit ≡ unit → unit_text unit ≡ some_text (codes "rest") unit
+unit-end unit e f =
+    ap (λ ps. flat_map packet_text ps ++ some_text (codes "rest") (rest_of unit)) e ∙ ap (λ r. some_text (codes "rest") r) f
+
+-- one more packet was written
+pub packet-on : (a b c : Option (List ℕ)) (p : Packet) (unit rest after done : List ℕ) → HasFields p
+    → packets_of rest ≡ p.octets.now ∷ packets_of after → rest_of rest ≡ rest_of after
+    → Appends a b done → done ++ unit_text rest ≡ unit_text unit → Appends b c (held_text p)
+    → (more : List ℕ) × Appends a c more × (more ++ unit_text after ≡ unit_text unit)
+packet-on a b c p unit rest after done has e f was so_far now = (
+  done ++ packet_text p.octets.now,
+  joined a b c done (packet_text p.octets.now) was (subst (Appends b c) (held-packet p has) now),
+  append_assoc done (packet_text p.octets.now) (unit_text after)
+      ∙ ap (λ t. done ++ t) (sym (unit-next rest p.octets.now after e f))
+      ∙ so_far,
+)
+
+-- no packet is left
+pub packets-end : (a b c : Option (List ℕ)) (unit rest done : List ℕ) → packets_of rest ≡ [] → rest_of rest ≡ rest
+    → Appends a b done → done ++ unit_text rest ≡ unit_text unit → Appends b c (some_text (codes "rest") rest) → Appends a c (unit_text unit)
+packets-end a b c unit rest done e f was so_far now =
+    subst (Appends a c) (ap (λ t. done ++ t) (sym (unit-end rest e f)) ∙ so_far) (joined a b c done _ was now)
+
+-- ---- the frames of a unit
+
+sent-more : (ending : Ending) (p : Parting) (place next : ℕ) (frames : List (List ℕ)) (sent : List ℕ) → AreSent ending p place frames
+    → place + length frames ≡ next → IsSentAt ending p next sent → AreSent ending p place (frames ++ sent ∷ [])
+sent-more ending p place next [] sent all e is = (subst (λ n. IsSentAt ending p n sent) (sym e ∙ omega arith) is, tt)
+sent-more ending p place next (frame ∷ frames) sent all e is = (all.0, sent-more ending p (suc place) next frames sent all.1 (omega (arith, e)) is)
+
+frames-more : (frames : List (List ℕ)) (sent : List ℕ) → frames_text (frames ++ sent ∷ []) ≡ frames_text frames ++ named_text (codes "frame") sent
+frames-more frames sent =
+    flat_map-append (named_text (codes "frame")) frames (sent ∷ []) ∙ ap (λ t. frames_text frames ++ t) (append-nil (named_text (codes "frame") sent))
+
+-- what was written before the frame at a place: those before it
+abbrev pub Before : Ending → Parting → ℕ → Option (List ℕ) → Option (List ℕ) → Type 0
+Before ending p place a b = (frames : List (List ℕ)) × AreSent ending p 0 frames × (length frames ≡ place) × Appends a b (frames_text frames)
+
+pub none-before : (ending : Ending) (p : Parting) (a : Option (List ℕ)) → Before ending p 0 a a
+none-before ending p a = ([], tt, refl, Appends-nil a)
+
+-- the frame at a place was written
+frame-sent : (ending : Ending) (p : Parting) (place : ℕ) (a b c : Option (List ℕ)) → Before ending p place a b
+    → Writes b c (IsPart true ending p place) → Before ending p (place + 1) a c
+frame-sent ending p place a b c (frames, all, count, was) (text, (sent, is, spelled), now) = (
+  frames ++ sent ∷ [],
+  sent-more ending p 0 place frames sent all (omega (arith, count)) is,
+  length-append frames (sent ∷ []) ∙ ap (λ n. n + 1) count,
+  subst (Appends a c) (sym (frames-more frames sent)) (joined a b c (frames_text frames) _ was (subst (Appends b c) spelled now)),
+)
+
+-- the frame at a place isn't made
+frames-stopped : (ending : Ending) (p : Parting) (place : ℕ) (a b c : Option (List ℕ)) → place < parts_of p → Before ending p place a b
+    → Writes b c (IsPart false ending p place) → Writes a c (IsFramesSaid ending p)
+frames-stopped ending p place a b c below (frames, all, count, was) (text, (reason, stops, spelled), now) = (
+  frames_text frames ++ bad_text reason,
+  (frames, all, inr (omega (arith, count, below), (reason, subst (λ n. IsStopAt ending p n reason) (sym count) stops, refl))),
+  joined a b c (frames_text frames) (bad_text reason) was (subst (Appends b c) spelled now),
+)
+
+pub frame-on : (made : Bool) (ending : Ending) (p : Parting) (place : ℕ) (a b c : Option (List ℕ)) → made ≡ true → Before ending p place a b
+    → Writes b c (IsPart made ending p place) → Before ending p (place + 1) a c
+frame-on made ending p place a b c e before now = frame-sent ending p place a b c before (subst (λ m. Writes b c (IsPart m ending p place)) e now)
+
+pub frames-stop : (made : Bool) (ending : Ending) (p : Parting) (place : ℕ) (a b c : Option (List ℕ)) → made ≡ false → place < parts_of p
+    → Before ending p place a b → Writes b c (IsPart made ending p place) → Writes a c (IsFramesSaid ending p)
+frames-stop made ending p place a b c e below before now =
+    frames-stopped ending p place a b c below before (subst (λ m. Writes b c (IsPart m ending p place)) e now)
+
+-- a unit that is parted, and one that isn't
+pub unit-parted : (ending : Ending) (stream : Stream) (sizing : Sizing) (unit : List ℕ) (p : Parting) (a b : Option (List ℕ)) → IsPartingOf stream sizing unit p
+    → parting_reason_of p ≡ None → Writes a b (IsFramesSaid ending p) → Writes a b (OrNoMemory (IsUnitSaid ending stream sizing unit))
+unit-parted ending stream sizing unit p a b is none (text, said, w) =
+    (text, inl (p, is, subst (λ o. Unless o (IsFramesSaid ending p) text) (sym none) said), w)
+
+pub unit-refused : (ending : Ending) (stream : Stream) (sizing : Sizing) (unit : List ℕ) (p : Parting) (reason : Reason) (a b : Option (List ℕ))
+    → IsPartingOf stream sizing unit p → parting_reason_of p ≡ Some reason → Appends a b (bad_text reason)
+    → Writes a b (OrNoMemory (IsUnitSaid ending stream sizing unit))
+unit-refused ending stream sizing unit p reason a b is e w =
+    (bad_text reason, inl (p, is, subst (λ o. Unless o (IsFramesSaid ending p) (bad_text reason)) (sym e) refl), w)
+
+-- ---- what octets say
+
+field-fault : (o : Option FieldFault) (fault : FieldFault) → fault ≡ unwrap_or o fields.NoMemory → (o ≡ Some fault) ⊎ (fault ≡ fields.NoMemory)
+field-fault None fault e = inr e
+field-fault (Some f) fault e = inl (ap Some (sym e))
+
+pub field-refused : (octets : List ℕ) (fault : FieldFault) (a b : Option (List ℕ)) → fault ≡ unwrap_or (taking_fault_of octets) fields.NoMemory
+    → Appends a b (field_fault_text fault) → Writes a b (OrNoMemory (IsExplained ErrorControl octets))
+field-refused octets fault a b e w =
+    elim (field-fault (taking_fault_of octets) fault e) [
+      | inl told ↦ (field_fault_text fault, inl (inr (fault, told, refl)), w)
+      | inr none ↦ (field_fault_text fault, inr (ap field_fault_text none), w)
+    ]

@@ -1,0 +1,151 @@
+-- What a line is answered.
+use Rattle.std.specs.Prelude.{◌≡◌, ◌⊎◌, ℕ, zero, suc, ◌+◌, ◌<◌, ◌==◌, if◌then◌else◌, Bool, true, false, List, [], ◌∷◌, ◌++◌, length, codes, Option, Some, None, Result, Ok, Err}
+use Rattle.std.specs.Io.KnownBytes.{Appends}
+use Rattle.std.specs.Int.{from_be_bytes, w32}
+use Rattle.std.specs.List.{flat_map}
+use Rattle.tc_link.specs.Frame.{fault_of}
+use Rattle.tc_link.specs.Clcw.{IsClcw, fields_of}
+use Rattle.tc_link.specs.declared.command.Command.{Command}
+use Rattle.tc_link.specs.declared.frame.FrameFault.{FrameFault}
+use Rattle.tc_link.specs.declared.frame.Header.{Header}
+use Rattle.tc_packet.specs.declared.segment.Segment.{Segment}
+use Rattle.tc_fecf.specs.FrameWithField.{frame_with_field, taking_fault_of}
+use Rattle.tc_fecf.specs.declared.frames.FieldFault.{FieldFault}
+use Rattle.tc_fecf.specs.declared.frames.FieldFault.TheVariants as fields
+use Rattle.tc_make.specs.Ending.{ended, ending_reason_of}
+use Rattle.tc_make.specs.Explanation.{Explains}
+use Rattle.tc_make.specs.Frames.{IsMadeFrame, IsCommandFrame, frame_reason_of, command_reason_of}
+use Rattle.tc_make.specs.Packets.{IsMadePacket, packet_reason_of}
+use Rattle.tc_make.specs.Parting.{IsFrameAt, parting_reason_of}
+use Rattle.tc_make.specs.Parts.{count_of}
+use Rattle.tc_make.specs.Printed.{bad_text, named_text, refused_text, frame_fault_text, explanation_text, clcw_text}
+use Rattle.tc_make.specs.declared.ending.Ending.{Ending}
+use Rattle.tc_make.specs.declared.ending.Ending.TheVariants.{DataField, ErrorControl}
+use Rattle.tc_make.specs.declared.explaining.Explanation.{Explanation}
+use Rattle.tc_make.specs.declared.fault.Reason.{Reason}
+use Rattle.tc_make.specs.declared.fault.Reason.TheVariants.{NoMemory, BadClcw}
+use Rattle.tc_make.specs.declared.line.Line.{Line}
+use Rattle.tc_make.specs.declared.line.Line.TheVariants.{Blank, Packet, Frame, Command as CommandLine, Segments, Explain, Clcw}
+use Rattle.tc_make.specs.declared.line.Sizing.{Sizing}
+use Rattle.tc_make.specs.declared.line.Stream.{Stream}
+use Rattle.tc_make.specs.declared.parting.Parting.{Parting}
+
+-- what a writer holds grew by a text that is such
+abbrev pub Writes : Option (List ℕ) → Option (List ℕ) → (List ℕ → Type 0) → Type 0
+Writes old new Is = (text : List ℕ) × Is text × Appends old new text
+
+-- such a text, or that memory ran out
+abbrev pub OrNoMemory : (List ℕ → Type 0) → List ℕ → Type 0
+OrNoMemory Is text = Is text ⊎ (text ≡ bad_text NoMemory)
+
+-- why nothing is made, where there is a reason; such a text, where there is none
+abbrev pub Unless : Option Reason → (List ℕ → Type 0) → List ℕ → Type 0
+Unless (Some reason) Is text = text ≡ bad_text reason
+Unless None Is text = Is text
+
+abbrev pub IsMadePacketSaid : ℕ → ℕ → List ℕ → List ℕ → Type 0
+IsMadePacketSaid apid count octets =
+    Unless (packet_reason_of apid count octets) (λ text. (packet : List ℕ) × IsMadePacket packet apid count octets × (text ≡ named_text (codes "packet") packet))
+
+-- a frame as it ends
+abbrev pub IsEnded : Ending → List ℕ → List ℕ → Type 0
+IsEnded ending frame = Unless (ending_reason_of ending frame) (λ text. text ≡ named_text (codes "frame") (ended ending frame))
+
+abbrev pub IsMadeFrameSaid : Ending → Header → Option Segment → List ℕ → List ℕ → Type 0
+IsMadeFrameSaid ending header segment octets =
+    Unless (frame_reason_of header segment octets) (λ text. (frame : List ℕ) × IsMadeFrame frame header segment octets × IsEnded ending frame text)
+
+abbrev pub IsCommandSaid : Ending → ℕ → ℕ → Command → List ℕ → Type 0
+IsCommandSaid ending scid vcid command =
+    Unless (command_reason_of scid vcid) (λ text. (frame : List ℕ) × IsCommandFrame frame scid vcid command × IsEnded ending frame text)
+
+-- the frame at a place of a unit, as it ends
+abbrev pub IsSentAt : Ending → Parting → ℕ → List ℕ → Type 0
+IsSentAt ending p place sent = (frame : List ℕ) × IsFrameAt p place frame × (ending_reason_of ending frame ≡ None) × (sent ≡ ended ending frame)
+
+-- why the frame at a place isn't made
+abbrev pub IsStopAt : Ending → Parting → ℕ → Reason → Type 0
+IsStopAt ending p place reason = (reason ≡ NoMemory) ⊎ ((frame : List ℕ) × IsFrameAt p place frame × (ending_reason_of ending frame ≡ Some reason))
+
+-- the frames from a place on, each at the next place
+abbrev pub AreSent : Ending → Parting → ℕ → List (List ℕ) → Type 0
+AreSent ending p place [] = Unit {0}
+AreSent ending p place (sent ∷ later) = IsSentAt ending p place sent × AreSent ending p (suc place) later
+
+-- one frame, or why there is none
+abbrev pub IsPart : Bool → Ending → Parting → ℕ → List ℕ → Type 0
+IsPart true ending p place text = (sent : List ℕ) × IsSentAt ending p place sent × (text ≡ named_text (codes "frame") sent)
+IsPart false ending p place text = (reason : Reason) × IsStopAt ending p place reason × (text ≡ bad_text reason)
+
+abbrev pub frames_text : List (List ℕ) → List ℕ
+frames_text frames = flat_map (named_text (codes "frame")) frames
+
+abbrev pub parts_of : Parting → ℕ
+parts_of p = count_of p.size (length p.unit.now)
+
+-- all frames of a unit, or those before one that isn't made, and why it isn't
+abbrev pub IsFramesSaid : Ending → Parting → List ℕ → Type 0
+IsFramesSaid ending p text =
+    (frames : List (List ℕ)) × AreSent ending p 0 frames
+    × (((length frames ≡ parts_of p) × (text ≡ frames_text frames))
+    ⊎ ((length frames < parts_of p) × ((reason : Reason) × IsStopAt ending p (length frames) reason × (text ≡ frames_text frames ++ bad_text reason))))
+
+-- the unit of a line, as it is sent
+pub record IsPartingOf (stream : Stream) (sizing : Sizing) (unit : List ℕ) (p : Parting) : Type 0 where
+  pub scid : p.scid ≡ stream.scid
+  pub vcid : p.vcid ≡ stream.vcid
+  pub ns : p.ns ≡ stream.ns
+  pub map : p.map ≡ sizing.map
+  pub size : p.size ≡ sizing.size
+  pub octets : p.unit.now ≡ unit
+
+abbrev pub IsUnitSaid : Ending → Stream → Sizing → List ℕ → List ℕ → Type 0
+IsUnitSaid ending stream sizing unit text = (p : Parting) × IsPartingOf stream sizing unit p × Unless (parting_reason_of p) (IsFramesSaid ending p) text
+
+-- the frame with which octets begin, or why they begin with none
+abbrev pub IsFrameSaid : List ℕ → List ℕ → Type 0
+IsFrameSaid octets text =
+    ((e : Explanation) × Explains octets e × (fault_of octets ≡ None) × (text ≡ explanation_text e))
+    ⊎ ((fault : FrameFault) × (fault_of octets ≡ Some fault) × (text ≡ refused_text (frame_fault_text fault)))
+
+-- what is written where no frame error control field is taken off
+abbrev pub field_fault_text : FieldFault → List ℕ
+field_fault_text (fields.NoFrame fault) = refused_text (frame_fault_text fault)
+field_fault_text fields.Fill = refused_text (codes "fill")
+field_fault_text fields.TooLong = refused_text (codes "check")
+field_fault_text fields.TooShort = refused_text (codes "check")
+field_fault_text fields.WrongSum = refused_text (codes "check")
+field_fault_text fields.NoMemory = bad_text NoMemory
+
+-- octets as a frame: as they are, or without their frame error control field
+abbrev pub IsExplained : Ending → List ℕ → List ℕ → Type 0
+IsExplained DataField octets text = IsFrameSaid octets text
+IsExplained ErrorControl octets text =
+    ((plain : List ℕ) × (octets ≡ frame_with_field plain) × (taking_fault_of octets ≡ None) × IsFrameSaid plain text)
+    ⊎ ((fault : FieldFault) × (taking_fault_of octets ≡ Some fault) × (text ≡ field_fault_text fault))
+
+-- a word as a CLCW
+abbrev pub IsWordSaid : ℕ → List ℕ → Type 0
+IsWordSaid word text = (IsClcw word × (text ≡ clcw_text (fields_of word))) ⊎ ((IsClcw word → ⊥) × (text ≡ refused_text (codes "clcw")))
+
+-- four octets are a word, the most significant first
+abbrev pub IsClcwSaid : List ℕ → List ℕ → Type 0
+IsClcwSaid octets = Unless (if length octets == 4 then None else Some BadClcw) (IsWordSaid (from_be_bytes w32 octets))
+
+-- what a line that says this is answered
+abbrev pub IsSaid : Ending → Line → List ℕ → Type 0
+IsSaid ending Blank text = text ≡ []
+IsSaid ending (Packet apid count octets) text = IsMadePacketSaid apid count octets text
+IsSaid ending (Frame header segment octets) text = IsMadeFrameSaid ending header segment octets text
+IsSaid ending (CommandLine scid vcid command) text = IsCommandSaid ending scid vcid command text
+IsSaid ending (Segments stream sizing unit) text = IsUnitSaid ending stream sizing unit text
+IsSaid ending (Explain octets) text = IsExplained ending octets text
+IsSaid ending (Clcw octets) text = IsClcwSaid octets text
+
+-- what a line is answered: by what it says, or why it says nothing
+abbrev pub IsLineSaid : Ending → Result Line Reason → List ℕ → Type 0
+IsLineSaid ending (Ok line) text = IsSaid ending line text
+IsLineSaid ending (Err reason) text = text ≡ bad_text reason
+
+abbrev pub IsAnswer : Ending → Result Line Reason → List ℕ → Type 0
+IsAnswer ending said = OrNoMemory (IsLineSaid ending said)

@@ -1,0 +1,170 @@
+-- What lines are answered, as text: docs/reference/tcmake.md shows it.
+use Rattle.std.specs.Prelude.{ℕ, Bool, true, false, ◌==◌, if◌then◌else◌, List, [], ◌∷◌, ◌++◌, length, codes, decimal}
+use Rattle.std.specs.Int.{from_bool}
+use Rattle.std.specs.List.{flat_map}
+use Rattle.hex.specs.Hex.{encode_lower}
+use Rattle.tc_link.specs.declared.clcw.ClcwFields.{ClcwFields}
+use Rattle.tc_link.specs.declared.command.Command.TheVariants.{Unlock, SetVr}
+use Rattle.tc_link.specs.declared.command.Kind.{Kind}
+use Rattle.tc_link.specs.declared.command.Kind.TheVariants.{Ad, Bd, Bc, Invalid}
+use Rattle.tc_link.specs.declared.frame.FrameFault.{FrameFault}
+use Rattle.tc_link.specs.declared.frame.FrameFault.TheVariants.{Short, Version, Spare, LengthSmall, Truncated}
+use Rattle.tc_link.specs.declared.frame.Header.{Header}
+use Rattle.tc_packet.specs.Bits.{word_at, bits}
+use Rattle.tc_packet.specs.Segment.{segment_of}
+use Rattle.tc_packet.specs.SpacePacket.{apid_of, is_telecommand, packets_of, rest_of}
+use Rattle.tc_packet.specs.declared.packet.Packet.{Packet}
+use Rattle.tc_packet.specs.declared.segment.Part.{Part}
+use Rattle.tc_packet.specs.declared.segment.Part.TheVariants.{First, Continuing, Last, Unsegmented}
+use Rattle.tc_packet.specs.declared.segment.Segment.{Segment}
+use Rattle.tc_make.specs.declared.explaining.Explanation.{Explanation}
+use Rattle.tc_make.specs.declared.fault.Reason.{Reason}
+use Rattle.tc_make.specs.declared.fault.Reason.TheVariants.{UnknownCommand, WordCount, BadNumber, BadHex, BadScid, BadVcid, BadMap, BadApid, BadCount, BadSize, NoData, TooMuchData, BadClcw, NoMemory}
+
+-- octets: two hexadecimal digits for each, in lower case
+abbrev pub octets_text : List ℕ → List ℕ
+octets_text octets = encode_lower octets
+
+-- a flag: 1 where it is set, and 0 where it isn't
+abbrev pub flag_text : Bool → List ℕ
+flag_text flag = decimal (from_bool flag)
+
+-- why nothing is made of a line
+abbrev pub reason_text : Reason → List ℕ
+reason_text UnknownCommand = codes "unknown command"
+reason_text WordCount = codes "wrong number of words"
+reason_text BadNumber = codes "bad number"
+reason_text BadHex = codes "bad hex"
+reason_text BadScid = codes "bad spacecraft"
+reason_text BadVcid = codes "bad channel"
+reason_text BadMap = codes "bad map"
+reason_text BadApid = codes "bad application"
+reason_text BadCount = codes "bad count"
+reason_text BadSize = codes "bad size"
+reason_text NoData = codes "no data"
+reason_text TooMuchData = codes "too much data"
+reason_text BadClcw = codes "bad clcw"
+reason_text NoMemory = codes "no memory"
+
+-- the line `bad ..`
+abbrev pub bad_text : Reason → List ℕ
+bad_text reason = codes "bad " ++ reason_text reason ++ codes "\n"
+
+-- a line of a word and octets
+abbrev pub named_text : List ℕ → List ℕ → List ℕ
+named_text word octets = word ++ codes " " ++ octets_text octets ++ codes "\n"
+
+-- the same, or nothing where there are no octets
+abbrev pub some_text : List ℕ → List ℕ → List ℕ
+some_text word octets = if length octets == 0 then [] else named_text word octets
+
+-- the line `refused ..`
+abbrev pub refused_text : List ℕ → List ℕ
+refused_text why = codes "refused " ++ why ++ codes "\n"
+
+-- why octets are no frame
+abbrev pub frame_fault_text : FrameFault → List ℕ
+frame_fault_text Short = codes "short"
+frame_fault_text Version = codes "version"
+frame_fault_text Spare = codes "spare"
+frame_fault_text LengthSmall = codes "length"
+frame_fault_text Truncated = codes "truncated"
+
+-- the kind of a frame, by its bypass flag and its control command flag
+abbrev pub kind_text : Bool → Bool → List ℕ
+kind_text false false = codes "AD"
+kind_text true false = codes "BD"
+kind_text true true = codes "BC"
+kind_text false true = codes "AC"
+
+-- the front of the line `header ..`: what the header says
+abbrev pub fields_text : Header → List ℕ
+fields_text header =
+    codes "header " ++ kind_text header.bypass header.control ++ codes " scid " ++ decimal header.scid ++ codes " vc " ++ decimal header.vcid
+    ++ codes " ns " ++ decimal header.ns
+
+-- its end: how many octets the frame has, and how many follow it
+abbrev pub lengths_text : ℕ → ℕ → List ℕ
+lengths_text n fill = codes " octets " ++ decimal n ++ codes " fill " ++ decimal fill ++ codes "\n"
+
+abbrev pub header_text : Header → ℕ → ℕ → List ℕ
+header_text header n fill = fields_text header ++ lengths_text n fill
+
+abbrev pub part_text : Part → List ℕ
+part_text First = codes "first"
+part_text Continuing = codes "continuing"
+part_text Last = codes "last"
+part_text Unsegmented = codes "unsegmented"
+
+-- the line `segment ..`: a segment header, and how many octets follow it
+abbrev pub segment_text : Segment → ℕ → List ℕ
+segment_text segment n =
+    codes "segment " ++ part_text segment.part ++ codes " map " ++ decimal segment.map ++ codes " octets " ++ decimal n ++ codes "\n"
+
+abbrev pub type_text : Bool → List ℕ
+type_text true = codes "TC"
+type_text false = codes "TM"
+
+-- the front of the line `holds ..`: the packet type, the APID, the sequence count and the sequence flags
+abbrev pub holds_text : Bool → ℕ → ℕ → ℕ → List ℕ
+holds_text telecommand apid count flags =
+    codes "holds " ++ type_text telecommand ++ codes " apid " ++ decimal apid ++ codes " count " ++ decimal count ++ codes " flags " ++ decimal flags
+
+-- its end: the secondary header flag, and the whole packet
+abbrev pub whole_text : Bool → List ℕ → List ℕ
+whole_text secondary octets = codes " secondary " ++ flag_text secondary ++ codes " " ++ octets_text octets ++ codes "\n"
+
+-- the line of a packet that was read
+abbrev pub held_text : Packet → List ℕ
+held_text p = holds_text p.telecommand p.apid p.count p.flags ++ whole_text p.secondary p.octets.now
+
+-- the line of a packet, by its octets
+abbrev pub packet_text : List ℕ → List ℕ
+packet_text octets =
+    holds_text (is_telecommand octets) (apid_of octets) (bits (word_at octets 2) 0 14) (bits (word_at octets 2) 14 2)
+    ++ whole_text (bits (word_at octets 0) 11 1 == 1) octets
+
+-- the packets of a unit in their order, and then what is left of it
+abbrev pub unit_text : List ℕ → List ℕ
+unit_text unit = flat_map packet_text (packets_of unit) ++ some_text (codes "rest") (rest_of unit)
+
+-- what follows a segment header: a whole unit, or a part of one
+abbrev pub body_text : Part → List ℕ → List ℕ
+body_text First body = some_text (codes "body") body
+body_text Continuing body = some_text (codes "body") body
+body_text Last body = some_text (codes "body") body
+body_text Unsegmented body = unit_text body
+
+-- a data field that begins with a segment header
+abbrev pub carried_text : List ℕ → List ℕ
+carried_text [] = []
+carried_text (octet ∷ body) = segment_text (segment_of octet) (length body) ++ body_text (segment_of octet).part body
+
+-- a data field, by the kind of its frame
+abbrev pub field_text : Kind → List ℕ → List ℕ
+field_text (Ad ns) field = carried_text field
+field_text Bd field = carried_text field
+field_text (Bc Unlock) field = codes "command unlock\n"
+field_text (Bc (SetVr vr)) field = codes "command setvr " ++ decimal vr ++ codes "\n"
+field_text Invalid field = named_text (codes "invalid") field
+
+-- what octets say as a frame
+abbrev pub explanation_text : Explanation → List ℕ
+explanation_text e = header_text e.header e.length e.fill ++ field_text e.kind e.field.now
+
+-- the front of the line `clcw ..`: the channel, the status and the flags of the link
+abbrev pub link_text : ClcwFields → List ℕ
+link_text f =
+    codes "clcw vc " ++ decimal f.vcid ++ codes " status " ++ decimal f.status ++ codes " norf " ++ flag_text f.link.no_rf
+    ++ codes " nobitlock " ++ flag_text f.link.no_bit_lock
+
+-- the flags that FARM-1 reports
+abbrev pub flags_text : ClcwFields → List ℕ
+flags_text f = codes " lockout " ++ flag_text f.lockout ++ codes " wait " ++ flag_text f.wait ++ codes " retransmit " ++ flag_text f.retransmit
+
+-- the numbers that it reports
+abbrev pub numbers_text : ClcwFields → List ℕ
+numbers_text f = codes " farmb " ++ decimal f.farm_b ++ codes " vr " ++ decimal f.vr ++ codes "\n"
+
+abbrev pub clcw_text : ClcwFields → List ℕ
+clcw_text f = link_text f ++ (flags_text f ++ numbers_text f)

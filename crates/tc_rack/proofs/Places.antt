@@ -1,0 +1,19 @@
+-- The channel that was found at its place, and channels that are made with ids of their own.
+use Rattle.std.proofs.Common.{◌≡◌, ◌≢◌, ℕ, ◌<◌, List, [], ◌∷◌, length, map, get_or, sym, ap, ◌∙◌, subst, arith}
+use Rattle.std.proofs.lemmas.List.{get_or-map, length-map}
+use Rattle.std.proofs.lemmas.Option.{get_or_from_slice_get}
+use Rattle.std.specs.Prelude.{AllPairs}
+use Rattle.tc_channel.specs.declared.settings.Settings.{Settings}
+use Rattle.tc_rack.specs.Linked.{Linked, vcid_of, new_linked}
+use Rattle.tc_rack.specs.Rack.{IsAt, AreApart}
+
+pub found : (list : List Linked) (vcid place : ℕ) (x : Linked) → (s : Linked) × IsAt list vcid place s → x ≡ get_or list place x → IsAt list vcid place x
+found list vcid place x (s, (at, v)) is = subst (IsAt list vcid place) (sym (is ∙ get_or_from_slice_get list place s x at)) (at, v)
+
+pub made-apart : (list : List Settings) → AllPairs (λ (p q : Settings). p.vcid ≢ q.vcid) list → AreApart (map new_linked list)
+made-apart [] apart = λ i j d ij jl. λ same. omega arith
+made-apart (none ∷ rest) apart = λ i j d ij jl. λ same.
+    let list : List Settings = none ∷ rest in
+    let jm : j < length list = omega (arith, length-map list new_linked) in
+    let im : i < length list = omega arith in
+    apart i j none ij jm (ap vcid_of (sym (get_or-map new_linked list i none d im)) ∙ (same ∙ ap vcid_of (get_or-map new_linked list j none d jm)))

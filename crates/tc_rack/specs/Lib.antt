@@ -1,0 +1,3 @@
+pub mod Linked
+pub mod Rack
+pub mod Operation

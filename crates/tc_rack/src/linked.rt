@@ -1,0 +1,153 @@
+//! A channel with the flags of its link, and what it is answered.
+
+ghost use Rattle.std.specs.Prelude.{◌≡◌, ◌≢◌, ◌⊎◌, IfOk, OnErr};
+ghost use Rattle.tc_rack.specs.Linked.{new_linked, later, IsFrameAnswered, IsReleaseAnswered, IsTakeAnswered, IsUnitAnswered, told_word};
+ghost use Rattle.tc_station.specs.Holding.{holding_of};
+
+use std::alloc::Global;
+use std::marker::Model;
+use tc_channel::{
+    FlightChannel, NoMemory, Octets, ReleaseFault, Settings, TakeFault, TakeUnitFault,
+};
+use tc_cli::{Answer, Refusal};
+use tc_link::{Frame, Link};
+use tc_station::{Holding, holding_in};
+
+/// Neither flag of the link is set.
+const NO_FLAG: Link = Link {
+    no_rf: false,
+    no_bit_lock: false,
+};
+
+/// A channel with the flags of its link. A call that is refused leaves both as they were.
+#[derive(Drop)]
+pub(crate) struct LinkedChannel {
+    channel: FlightChannel,
+    link: Link,
+}
+
+impl Model for LinkedChannel {
+    ghost use Rattle.tc_rack.specs.Linked.{Linked};
+
+    ghost Value = { Linked };
+
+    ghost view = { λ o. record { history = o.channel; link = o.link } };
+}
+
+impl LinkedChannel {
+    /// A channel that starts, with no flag of its link. The settings are ones that a channel can have; else the answer is `NoMemory`
+    /// too.
+    pub(crate) fn new(alloc: Global, settings: Settings) -> Result<LinkedChannel, NoMemory>
+        ensures { IfOk result (λ channel. channel ≡ new_linked settings) }
+    {
+        match FlightChannel::new(alloc, settings) {
+            Ok(channel) => Ok(LinkedChannel {
+                channel,
+                link: NO_FLAG,
+            }),
+            Err(_) => Err(NoMemory),
+        }
+    }
+
+    /// The virtual channel id.
+    pub(crate) fn vcid(&self) -> u8
+        ensures { result ≡ self.now.history.settings.vcid }
+    {
+        self.channel.settings().vcid
+    }
+
+    /// Takes a frame in.
+    pub(crate) fn frame(&mut self, frame: &Frame) -> Result<Answer, NoMemory>
+        ensures answer { IfOk result (λ answer. IsFrameAnswered frame.now self.old answer self.new) }
+        ensures settings { self.new.history.settings ≡ self.old.history.settings }
+        ensures refused { OnErr result (self.new ≡ self.old) }
+    {
+        let vcid = self.vcid();
+        let reply = self.channel.frame(frame)?;
+        Ok(Answer::Frame { vcid, reply })
+    }
+
+    /// Lets the oldest data field out of the buffer.
+    pub(crate) fn release(&mut self) -> Result<Answer, NoMemory>
+        ensures answer { IfOk result (λ answer. IsReleaseAnswered self.old answer self.new) }
+        ensures settings { self.new.history.settings ≡ self.old.history.settings }
+        ensures refused { OnErr result (self.new ≡ self.old) }
+    {
+        let vcid = self.vcid();
+        match self.channel.release() {
+            Ok(delivery) => Ok(Answer::Release { vcid, delivery }),
+            Err(ReleaseFault::Empty) => Ok(Answer::Refused(Refusal::Empty)),
+            Err(ReleaseFault::NoMemory) => Err(NoMemory),
+        }
+    }
+
+    /// Takes the oldest packet with this APID.
+    pub(crate) fn take(&mut self, apid: u16) -> Result<Answer, NoMemory>
+        ensures answer { IfOk result (λ answer. IsTakeAnswered apid self.old answer self.new) }
+        ensures settings { self.new.history.settings ≡ self.old.history.settings }
+        ensures refused { OnErr result (self.new ≡ self.old) }
+    {
+        let vcid = self.vcid();
+        match self.channel.take(apid) {
+            Ok(packet) => Ok(Answer::Take {
+                vcid,
+                apid,
+                packet: Octets::from(packet),
+            }),
+            Err(TakeFault::NoQueue) => Ok(Answer::Refused(Refusal::NoQueue)),
+            Err(TakeFault::Empty) => Ok(Answer::Refused(Refusal::Empty)),
+            Err(TakeFault::NoMemory) => Err(NoMemory),
+        }
+    }
+
+    /// Takes the oldest unit of this chosen MAP.
+    pub(crate) fn unit(&mut self, map: u8) -> Result<Answer, NoMemory>
+        ensures answer { IfOk result (λ answer. IsUnitAnswered map self.old answer self.new) }
+        ensures settings { self.new.history.settings ≡ self.old.history.settings }
+        ensures refused { OnErr result (self.new ≡ self.old) }
+    {
+        let vcid = self.vcid();
+        match self.channel.take_unit(map) {
+            Ok(unit) => Ok(Answer::Unit {
+                vcid,
+                map,
+                unit: Octets::from(unit),
+            }),
+            Err(TakeUnitFault::NoMap) => Ok(Answer::Refused(Refusal::NoMap)),
+            Err(TakeUnitFault::Empty) => Ok(Answer::Refused(Refusal::Empty)),
+            Err(TakeUnitFault::NoMemory) => Err(NoMemory),
+        }
+    }
+
+    /// Reports the CLCW, with the flags of the link.
+    pub(crate) fn clcw(&self) -> Answer
+        ensures { result ≡ told_word self.now }
+    {
+        Answer::Clcw {
+            vcid: self.vcid(),
+            word: self.channel.clcw(self.link),
+        }
+    }
+
+    /// Sets the flags of the link.
+    pub(crate) fn set_link(&mut self, link: Link)
+        ensures { self.new ≡ record self.old { link = link } }
+    {
+        self.link = link;
+    }
+
+    /// What the channel has come to. The lists of its queues and MAPs are allocated.
+    pub(crate) fn holding(&self, alloc: Global) -> Result<Holding, NoMemory>
+        ensures { IfOk result (λ holding. holding ≡ holding_of self.now.history.settings self.now.history.journal) }
+    {
+        holding_in(alloc, &self.channel)
+    }
+
+    /// The channel, without the flags of its link.
+    pub(crate) fn into_channel(self) -> FlightChannel
+        ensures { result ≡ self.history }
+    {
+        let LinkedChannel { channel, link: _ } = self;
+        channel
+    }
+}

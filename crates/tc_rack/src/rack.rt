@@ -1,0 +1,196 @@
+//! The channels of one spacecraft.
+
+ghost use Rattle.std.specs.Prelude.{◌≡◌, ◌≢◌, ◌⊎◌, map, IfOk, OnErr, MatchOption, MatchResult};
+ghost use Rattle.tc_rack.specs.Linked.{Linked, new_linked, IsReleaseAnswered, IsTakeAnswered, IsUnitAnswered};
+ghost use Rattle.tc_rack.specs.Rack.{new_rack, AreApart, IsThere, IsAt, IsLocated, IsLocateFault, IsLinkSet, IsReported};
+ghost use Rattle.tc_rack.specs.Operation.{IsAnswerOf, IsChannelAnswer, IsFrameAnswer, IsClcwAnswer};
+
+use crate::linked::LinkedChannel;
+use crate::operation::Operation;
+use std::alloc::Global;
+use std::marker::Model;
+use tc_channel::{FlightChannel, NoMemory, Settings};
+use tc_cli::{Answer, Refusal};
+use tc_link::{Frame, Link, read_frame};
+use tc_setup::Configuration;
+use tc_station::{Holding, LocateFault};
+
+/// The channels of one spacecraft, in the order in which they were set up, each with the flags of its link. They belong to one
+/// thread. A call that is refused leaves all as it was.
+///
+/// A contract sees the settings, the journal and the flags of each channel.
+#[derive(Drop)]
+pub struct Rack {
+    scid: u16,
+    channels: Vec<LinkedChannel>,
+}
+
+impl Model for Rack {
+    ghost use Rattle.tc_rack.specs.Rack.{Racked, AreApart};
+
+    ghost Value = { Racked };
+
+    ghost view = { λ o. record { scid = o.scid; channels = o.channels.items } };
+
+    ghost invariant = { λ o. AreApart o.channels.items };
+}
+
+impl Rack {
+    /// A new channel for each of those that were set up, with no flag of its link. It takes a list, and what each channel takes.
+    pub fn new(alloc: Global, scid: u16, configuration: Configuration) -> Result<Rack, NoMemory>
+        ensures { IfOk result (λ rack. rack ≡ new_rack scid configuration) }
+    {
+        let channels = make(alloc, configuration.into_channels())?;
+        Ok(Rack { scid, channels })
+    }
+
+    /// Does an operation. No more is allocated than by the channel that it names.
+    pub fn operate(&mut self, operation: Operation) -> Result<Answer, NoMemory>
+        ensures apart { AreApart self.old.channels }
+        ensures answer { IfOk result (λ answer. IsAnswerOf operation self.old answer self.new) }
+        ensures refused { OnErr result (self.new ≡ self.old) }
+    {
+        // The type ensures that no two channels have one id.
+        let _ = &self.channels;
+        match operation {
+            Operation::Frame(octets) => self.bring(octets.as_slice()),
+            Operation::Release(vcid) => self.release(vcid),
+            Operation::Take(vcid, apid) => self.take(vcid, apid),
+            Operation::Unit(vcid, map) => self.unit(vcid, map),
+            Operation::Clcw(vcid) => Ok(self.clcw(vcid)),
+        }
+    }
+
+    // Brings octets to the channel that their frame names.
+    fn bring(&mut self, octets: &[u8]) -> Result<Answer, NoMemory>
+        ensures answer { IfOk result (λ answer. IsFrameAnswer octets.now self.old answer self.new) }
+        ensures refused { OnErr result (self.new ≡ self.old) }
+    {
+        match self.locate(octets) {
+            Ok((place, frame)) => {
+                let answer = self.channels[place].frame(&frame)?;
+                Ok(answer)
+            }
+            Err(fault) => Ok(Answer::Refused(Refusal::Unlocated(fault))),
+        }
+    }
+
+    // The frame at the front of the octets, and the place of the channel that it is for.
+    fn locate<'a>(&self, octets: &'a [u8]) -> Result<(usize, Frame<'a>), LocateFault>
+        ensures { MatchResult result (λ located. IsLocated self.now octets.now located.0 located.1) (IsLocateFault self.now octets.now) }
+    {
+        let frame = read_frame(octets).map_err(LocateFault::Frame)?;
+        let header = frame.header();
+        if header.scid != self.scid {
+            return Err(LocateFault::OtherSpacecraft);
+        }
+        let Some(place) = place_of(&self.channels, header.vcid) else {
+            return Err(LocateFault::UnknownChannel);
+        };
+        Ok((place, frame))
+    }
+
+    // Lets the oldest data field out of the buffer of a channel.
+    fn release(&mut self, vcid: u8) -> Result<Answer, NoMemory>
+        ensures answer { IfOk result (λ answer. IsChannelAnswer vcid IsReleaseAnswered self.old answer self.new) }
+        ensures refused { OnErr result (self.new ≡ self.old) }
+    {
+        let Some(place) = place_of(&self.channels, vcid) else {
+            return Ok(Answer::Refused(Refusal::UnknownChannel));
+        };
+        let answer = self.channels[place].release()?;
+        Ok(answer)
+    }
+
+    // Takes the oldest packet of a channel with this APID.
+    fn take(&mut self, vcid: u8, apid: u16) -> Result<Answer, NoMemory>
+        ensures answer { IfOk result (λ answer. IsChannelAnswer vcid (IsTakeAnswered apid) self.old answer self.new) }
+        ensures refused { OnErr result (self.new ≡ self.old) }
+    {
+        let Some(place) = place_of(&self.channels, vcid) else {
+            return Ok(Answer::Refused(Refusal::UnknownChannel));
+        };
+        let answer = self.channels[place].take(apid)?;
+        Ok(answer)
+    }
+
+    // Takes the oldest unit of a channel's chosen MAP.
+    fn unit(&mut self, vcid: u8, map: u8) -> Result<Answer, NoMemory>
+        ensures answer { IfOk result (λ answer. IsChannelAnswer vcid (IsUnitAnswered map) self.old answer self.new) }
+        ensures refused { OnErr result (self.new ≡ self.old) }
+    {
+        let Some(place) = place_of(&self.channels, vcid) else {
+            return Ok(Answer::Refused(Refusal::UnknownChannel));
+        };
+        let answer = self.channels[place].unit(map)?;
+        Ok(answer)
+    }
+
+    // Reports the CLCW of a channel, with the flags of its link.
+    fn clcw(&self, vcid: u8) -> Answer
+        ensures { IsClcwAnswer vcid self.now result }
+    {
+        match place_of(&self.channels, vcid) {
+            Some(place) => self.channels[place].clcw(),
+            None => Answer::Refused(Refusal::UnknownChannel),
+        }
+    }
+
+    /// Sets the flags of the link that the CLCWs of a channel report from now on, and answers whether there is such a channel.
+    pub fn link(&mut self, vcid: u8, link: Link) -> bool
+        ensures { IsLinkSet self.old vcid link result self.new }
+    {
+        let Some(place) = place_of(&self.channels, vcid) else {
+            return false;
+        };
+        self.channels[place].set_link(link);
+        true
+    }
+
+    /// What a channel has come to, if there is one with this id. The lists of its queues and MAPs are allocated.
+    pub fn report(&self, alloc: Global, vcid: u8) -> Result<Option<Holding>, NoMemory>
+        ensures { IfOk result (IsReported self.now vcid) }
+    {
+        match place_of(&self.channels, vcid) {
+            Some(place) => Ok(Some(self.channels[place].holding(alloc)?)),
+            None => Ok(None),
+        }
+    }
+
+    /// The channels, moved, in the order in which they were set up. A list is allocated.
+    pub fn into_channels(self, alloc: Global) -> Result<Vec<FlightChannel>, NoMemory>
+        ensures { IfOk result (λ channels. channels.items ≡ map (λ (channel : Linked). channel.history) self.channels) }
+    {
+        let Rack { scid: _, channels } = self;
+        bare(alloc, channels)
+    }
+}
+
+// The place of the channel with this id.
+fn place_of(channels: &[LinkedChannel], vcid: u8) -> Option<usize>
+    ensures { MatchOption result (¬ IsThere channels.now vcid) (λ place. (channel : Linked) × IsAt channels.now vcid place channel) }
+{
+    channels.iter().position(|channel| channel.vcid() == vcid)
+}
+
+// A new channel for each of the settings.
+fn make(alloc: Global, list: Vec<Settings>) -> Result<Vec<LinkedChannel>, NoMemory>
+    ensures { IfOk result (λ channels. channels.items ≡ map new_linked list.items) }
+{
+    let mut channels = Vec::with_capacity(alloc, list.len())?;
+    for settings in list {
+        channels.push_reserved(LinkedChannel::new(alloc, settings)?);
+    }
+    Ok(channels)
+}
+
+// The channels without the flags of their links.
+fn bare(alloc: Global, channels: Vec<LinkedChannel>) -> Result<Vec<FlightChannel>, NoMemory>
+    ensures { IfOk result (λ bare. bare.items ≡ map (λ (channel : Linked). channel.history) channels.items) }
+{
+    let mut bare = Vec::with_capacity(alloc, channels.len())?;
+    for channel in channels {
+        bare.push_reserved(channel.into_channel());
+    }
+    Ok(bare)
+}
