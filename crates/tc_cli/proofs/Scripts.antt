@@ -1,20 +1,21 @@
 -- A script, line by line.
-use Rattle.std.proofs.Common.{◌≡◌, ◌≤◌, ℕ, ◌+◌, List, [], ◌⊎◌, Result, Ok, Err, inl, inr, length, refl, subst, sym}
+use Rattle.std.proofs.Common.{◌≡◌, ◌≤◌, ℕ, ◌+◌, List, [], ◌⊎◌, Result, Ok, Err, Option, None, Some, IfSome, inl, inr, length, refl, subst, sym, arith}
 use Rattle.std.specs.Prelude.{OnOk, IfErr}
-use Rattle.tc_setup.specs.Phase.{Phase}
+use Rattle.tc_setup.specs.Phase.{Phase, Setup}
 use Rattle.tc_cli.specs.Parallel.{Plan, AreParted, none_parted, one_parted}
-use Rattle.tc_cli.specs.Script.{Leads, starts, goes_on, IsBadLine, IsFault, IsFirstBad, IsGood, IsReportFault}
+use Rattle.tc_cli.specs.Script.{Leads, starts, goes_on, AreGoodBefore, IsBadLine, IsFault, IsFirstBad, IsGood, IsReportFault, IsWorkFault}
 use Rattle.tc_cli.specs.Stage.{phase_of}
-use Rattle.tc_text.specs.Reading.{IsFirstLine, limit}
+use Rattle.tc_text.specs.Reading.{IsFirstLine, IsReadFault, limit}
 use Rattle.tc_text.specs.declared.fault.Reason.{Reason}
 use Rattle.tc_text.specs.declared.fault.Reason.TheVariants.{NoMemory}
 use Rattle.tc_text.specs.declared.fault.ScriptFault.{ScriptFault}
+use Rattle.tc_text.specs.declared.fault.ScriptFault.TheVariants.{Line, Read, TooLong, Write, Unbalanced}
 
--- a bad line after good ones is the first bad one
+-- a bad line after good ones is the first bad one; out of memory, the lines before are good
 pub first-bad : (script rest line after : List ℕ) (before : ℕ) (phase : Phase) (reason : Reason)
     → (reason ≡ NoMemory) ⊎ IsBadLine phase line reason → Leads script before phase rest → IsFirstLine rest line after → length script ≤ limit
-    → (reason ≡ NoMemory) ⊎ ((length script ≤ limit) × IsFirstBad script (before + 1) reason)
-first-bad script rest line after before phase reason (inl memory) leads next within = inl memory
+    → ((reason ≡ NoMemory) × AreGoodBefore script (before + 1)) ⊎ ((length script ≤ limit) × IsFirstBad script (before + 1) reason)
+first-bad script rest line after before phase reason (inl memory) leads next within = inl (memory, inr (before, phase, rest, leads, omega arith))
 first-bad script rest line after before phase reason (inr bad) leads next within = inr (
   within,
   record {
@@ -43,10 +44,25 @@ end-fault (Ok done) script rest count phase leads end within why = tt
 end-fault (Err fault) script rest count phase leads end within (inl write) = subst (IsFault script) (sym write) within
 end-fault (Err fault) script rest count phase leads end within (inr (inl unbalanced)) =
     subst (IsFault script) (sym unbalanced) (within, (count, phase, rw end at leads))
-end-fault (Err fault) script rest count phase leads end within (inr (inr memory)) = subst (IsFault script) (sym memory) (inl refl)
+end-fault (Err fault) script rest count phase leads end within (inr (inr memory)) =
+    subst (IsFault script) (sym memory) (inl (refl, inl (count, phase, rw end at leads)))
 
 -- lines that give their jobs are good
 pub parted-leads : (scid : ℕ) (script : List ℕ) (count : ℕ) (plan : Plan) (rest : List ℕ) → AreParted scid script count plan rest → Leads script count (phase_of plan) rest
 parted-leads scid script count plan rest none_parted = starts
 parted-leads scid script count plan rest (one_parted {count = before} {plan = old} leads next parted) =
     goes_on (parted-leads scid script before old _ leads) next (parted.0, parted.1, parted.2)
+
+-- why a script isn't read: no line comes before that
+pub read-fault : (known : Option (List ℕ)) (fault : ScriptFault) → IsReadFault known fault → IfSome known (λ script. IsFault script fault)
+read-fault None fault why = tt
+read-fault (Some script) Read why = tt
+read-fault (Some script) TooLong why = why
+read-fault (Some script) (Line number reason) why = inl (why.1, inr (0, Setup [], script, starts, omega (arith, why.0)))
+read-fault (Some script) Write why = absurd why
+read-fault (Some script) Unbalanced why = absurd why
+
+-- why the jobs of a good script aren't all done
+pub work-fault : (script : List ℕ) (fault : ScriptFault) → IsGood script → length script ≤ limit → IsWorkFault fault → IsFault script fault
+work-fault script fault good within (inl unbalanced) = subst (IsFault script) (sym unbalanced) (within, good)
+work-fault script fault good within (inr memory) = subst (IsFault script) (sym memory.1) (inl (refl, inl good))

@@ -44,6 +44,10 @@ pub record IsFirstBad (script : List ℕ) (number : ℕ) (reason : Reason) : Typ
 abbrev pub IsGood : List ℕ → Type 0
 IsGood script = (count : ℕ) × (phase : Phase) × Leads script count phase []
 
+-- the lines before the one with this number are good, or all are
+abbrev pub AreGoodBefore : List ℕ → ℕ → Type 0
+AreGoodBefore script number = IsGood script ⊎ ((before : ℕ) × (phase : Phase) × (rest : List ℕ) × Leads script before phase rest × (number ≤ before + 1))
+
 -- why the station of a script of so many lines isn't closed in balance
 abbrev pub IsCloseFault : ℕ → ScriptFault → Type 0
 IsCloseFault lines fault = (fault ≡ Unbalanced) ⊎ (fault ≡ Line lines NoMemory)
@@ -66,6 +70,6 @@ IsWorkFault fault = (fault ≡ Unbalanced) ⊎ ((line : ℕ) × (fault ≡ Line 
 abbrev pub IsFault : List ℕ → ScriptFault → Type 0
 IsFault script Read = Unit {0}
 IsFault script TooLong = limit < length script
-IsFault script (Line number reason) = (reason ≡ NoMemory) ⊎ ((length script ≤ limit) × IsFirstBad script number reason)
+IsFault script (Line number reason) = ((reason ≡ NoMemory) × AreGoodBefore script number) ⊎ ((length script ≤ limit) × IsFirstBad script number reason)
 IsFault script Write = length script ≤ limit
 IsFault script Unbalanced = (length script ≤ limit) × IsGood script

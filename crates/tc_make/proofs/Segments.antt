@@ -1,18 +1,16 @@
 -- The segments of a unit make the unit.
-use Rattle.std.proofs.Common.{◌≡◌, ◌≢◌, ℕ, zero, suc, ◌+◌, ◌-◌, ◌*◌, ◌/◌, ◌<◌, ◌≤◌, List, [], ◌∷◌, ◌++◌, length, take, drop, get_or, refl, ap, sym, ◌∙◌, subst, arith, inl, inr, cond}
-use Rattle.std.specs.List.{flat_map, AllByRecursion}
+use Rattle.std.proofs.Common.{◌≡◌, ◌≢◌, ℕ, zero, suc, ◌+◌, ◌-◌, ◌*◌, ◌/◌, ◌<◌, ◌≤◌, List, [], ◌∷◌, ◌++◌, length, take, drop, get_or, refl, ap, sym, ◌∙◌, arith, inl, inr}
+use Rattle.std.specs.List.{AllByRecursion}
 use Rattle.std.proofs.lemmas.Grind.{common_steps}
 use Rattle.std.proofs.lemmas.Bool.Decides.{nat_tests}
 use Rattle.std.proofs.lemmas.List.{length-append, take_all, drop-drop, append-nil}
 use Rattle.std.proofs.lemmas.List.Concat.{flat_map-append}
-use Rattle.std.proofs.lemmas.Bool.{cases_eq}
 use Rattle.std.proofs.Math.Nat.{lt-div-mul-add}
-use Rattle.tc_packet.specs.declared.segment.Part.{Part}
 use Rattle.tc_packet.specs.declared.segment.Part.TheVariants.{First, Continuing, Last, Unsegmented}
 use Rattle.tc_packet.specs.Segment.{header_of, body_of}
-use Rattle.tc_packet.specs.Reassembly.{IsUnit, IsPart, joined_bodies}
+use Rattle.tc_packet.specs.Reassembly.{IsPart, joined_bodies}
 use Rattle.tc_packet.specs.declared.segment.Segment.{Segment}
-use Rattle.tc_make.specs.Parts.{count_of, part_at, piece_at}
+use Rattle.tc_make.specs.Parts.{count_of, part_at}
 use Rattle.tc_make.specs.Segments.{AreSegments, MakeUnit}
 
 -- a list without its first place, and its places

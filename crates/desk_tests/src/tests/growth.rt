@@ -54,11 +54,11 @@ fn release(rt: &(impl Abort + Print + Wait), manned: &mut Manned) {
     }
 }
 
-fn take(rt: &(impl Abort + Print + Wait), manned: &mut Manned) {
+fn take(rt: &(impl Abort + Print + Wait), manned: &mut Manned, word: u32) {
     match manned.take(rt, 5) {
         Ok(packet) => assert_eq!(rt; packet.as_slice(), PACKET.as_slice()),
         Err(TakeFault::NoMemory) => {
-            note(rt, manned, "take", 0x01040001);
+            note(rt, manned, "take", word);
             assert!(rt; manned.take(rt, 5).is_ok());
         }
         Err(_) => panic!(rt; "another refusal"),
@@ -81,10 +81,22 @@ fn growth_of_a_locked_desk(rt: HostRuntime) {
     let mut manned = new_manned(&rt, rt.alloc());
     frame(&rt, &mut manned);
     release(&rt, &mut manned);
-    take(&rt, &mut manned);
+    take(&rt, &mut manned, 0x01040001);
     unit_frame(&rt, &mut manned);
     take_unit(&rt, &mut manned);
     assert_eq!(rt; manned.operator.count(), 5);
     let channel = close(&rt, rt.alloc(), manned);
     assert_eq!(rt; channel.journal().len(), 5);
+}
+
+// The take is the event for which the journal grows a second time.
+#[test]
+fn growth_of_a_take_from_a_locked_desk(rt: HostRuntime) {
+    let mut manned = new_manned(&rt, rt.alloc());
+    frame(&rt, &mut manned);
+    release(&rt, &mut manned);
+    unit_frame(&rt, &mut manned);
+    take_unit(&rt, &mut manned);
+    take(&rt, &mut manned, 0x01040201);
+    assert_eq!(rt; close(&rt, rt.alloc(), manned).journal().len(), 5);
 }
