@@ -1,3 +1,4 @@
 pub mod Check
 pub mod Receiver
 pub mod Serving
+pub mod Printed

@@ -1,12 +1,14 @@
 //! What a line is answered.
 
-ghost use Rattle.std.specs.Prelude.{◌≡◌};
+ghost use Rattle.std.specs.Prelude.{◌≡◌, Some};
+ghost use Rattle.std.specs.Fmt.{WritesOnOk};
+ghost use Rattle.tc_live.specs.Printed.{live_text, link_text, report_text, farm_text, rest_text, queues_text, queue_text, maps_text, map_text, state_text};
 ghost use Rattle.tc_live.specs.Receiver.{link_told, report_told};
 
 use std::fmt;
 use tc_cli::Answer;
 use tc_link::{Link, State};
-use tc_station::Holding;
+use tc_station::{Holding, MapHolding, QueueHolding};
 
 /// What a good line is answered.
 #[derive(Debug, Drop)]
@@ -49,64 +51,110 @@ impl LiveAnswer {
 }
 
 impl fmt::Display for LiveAnswer {
+    ghost output = { λ answer. Some (live_text answer) };
+
     fn fmt<W: fmt::Write>(&self, f: &mut fmt::Formatter<W>) -> fmt::Result {
         match self {
             LiveAnswer::Nothing => Ok(()),
             LiveAnswer::Operation(answer) => writeln!(f, "{answer}"),
             LiveAnswer::Unchecked => f.write_str("refused check\n"),
-            LiveAnswer::Link { vcid, link } => {
-                let no_rf = u8::from(link.no_rf);
-                let no_bit_lock = u8::from(link.no_bit_lock);
-                writeln!(f, "link {vcid} {no_rf} {no_bit_lock}")
-            }
+            LiveAnswer::Link { vcid, link } => write_link(f, *vcid, *link),
             LiveAnswer::Report { vcid, holding } => write_report(f, *vcid, holding),
             LiveAnswer::UnknownChannel => f.write_str("refused channel\n"),
         }
     }
 }
 
+fn write_link<W: fmt::Write>(f: &mut fmt::Formatter<W>, vcid: u8, link: Link) -> fmt::Result
+    ensures { WritesOnOk W.write_str_gives f.old result (link_text vcid link) f.new }
+{
+    let no_rf = u8::from(link.no_rf);
+    let no_bit_lock = u8::from(link.no_bit_lock);
+    writeln!(f, "link {vcid} {no_rf} {no_bit_lock}")
+}
+
+#[tactic(auto, unfolding(crate::specs::Printed::report_text))]
 fn write_report<W: fmt::Write>(
     f: &mut fmt::Formatter<W>,
     vcid: u8,
     holding: &Holding,
-) -> fmt::Result {
+) -> fmt::Result
+    ensures { WritesOnOk W.write_str_gives f.old result (report_text vcid holding.now) f.new }
+{
     write_farm(f, vcid, holding)?;
-    for queue in holding.queues.as_slice() {
-        let apid = queue.apid;
-        let packets = queue.packets;
-        write!(f, " queue {apid} {packets}")?;
-    }
-    for chosen in holding.maps.as_slice() {
-        let map = chosen.map;
-        let units = chosen.units;
-        write!(f, " map {map} {units}")?;
-    }
+    write_rest(f, holding)?;
+    write_queues(f, holding.queues.as_slice())?;
+    write_maps(f, holding.maps.as_slice())?;
     f.write_str("\n")
 }
 
-fn write_farm<W: fmt::Write>(
-    f: &mut fmt::Formatter<W>,
-    vcid: u8,
-    holding: &Holding,
-) -> fmt::Result {
-    let report = holding.report;
-    let state = match report.state {
-        State::S1 => "open",
-        State::S2 => "wait",
-        State::S3 => "lockout",
-    };
-    let vr = report.vr;
-    let lockout = u8::from(report.lockout);
-    let wait = u8::from(report.wait);
-    let retransmit = u8::from(report.retransmit);
-    let farm_b = report.farm_b;
-    let buffered = holding.buffered;
+#[tactic(auto, unfolding(crate::specs::Printed::farm_text))]
+fn write_farm<W: fmt::Write>(f: &mut fmt::Formatter<W>, vcid: u8, holding: &Holding) -> fmt::Result
+    ensures { WritesOnOk W.write_str_gives f.old result (farm_text vcid holding.now) f.new }
+{
+    let state = state_word(holding.report.state);
+    let vr = holding.report.vr;
+    let lockout = u8::from(holding.report.lockout);
+    let wait = u8::from(holding.report.wait);
     write!(
         f,
         "report {vcid} state {state} vr {vr} lockout {lockout} wait {wait}"
-    )?;
+    )
+}
+
+fn state_word(state: State) -> &'static str
+    ensures { result.now ≡ state_text state }
+{
+    match state {
+        State::S1 => "open",
+        State::S2 => "wait",
+        State::S3 => "lockout",
+    }
+}
+
+#[tactic(auto, unfolding(crate::specs::Printed::rest_text))]
+fn write_rest<W: fmt::Write>(f: &mut fmt::Formatter<W>, holding: &Holding) -> fmt::Result
+    ensures { WritesOnOk W.write_str_gives f.old result (rest_text holding.now) f.new }
+{
+    let retransmit = u8::from(holding.report.retransmit);
+    let farm_b = holding.report.farm_b;
+    let buffered = holding.buffered;
     write!(
         f,
         " retransmit {retransmit} farm-b {farm_b} buffered {buffered}"
     )
+}
+
+fn write_queues<W: fmt::Write>(f: &mut fmt::Formatter<W>, queues: &[QueueHolding]) -> fmt::Result
+    ensures { WritesOnOk W.write_str_gives f.old result (queues_text queues.now) f.new }
+{
+    for queue in queues {
+        write_queue(f, queue)?;
+    }
+    Ok(())
+}
+
+fn write_queue<W: fmt::Write>(f: &mut fmt::Formatter<W>, queue: &QueueHolding) -> fmt::Result
+    ensures { WritesOnOk W.write_str_gives f.old result (queue_text queue.now) f.new }
+{
+    let apid = queue.apid;
+    let packets = queue.packets;
+    write!(f, " queue {apid} {packets}")
+}
+
+fn write_maps<W: fmt::Write>(f: &mut fmt::Formatter<W>, maps: &[MapHolding]) -> fmt::Result
+    ensures { WritesOnOk W.write_str_gives f.old result (maps_text maps.now) f.new }
+{
+    for chosen in maps {
+        write_map(f, chosen)?;
+    }
+    Ok(())
+}
+
+fn write_map<W: fmt::Write>(f: &mut fmt::Formatter<W>, chosen: &MapHolding) -> fmt::Result
+    ensures { WritesOnOk W.write_str_gives f.old result (map_text chosen.now) f.new }
+{
+    let map = chosen.map;
+    let units = chosen.units;
+    write!(f, " map {map} {units}")
 }

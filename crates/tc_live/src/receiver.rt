@@ -4,7 +4,7 @@ ghost use Rattle.std.specs.Prelude.{◌≡◌, ◌≢◌, ◌⊎◌, true, [], A
 ghost use Rattle.tc_cli.specs.Report.{AreRising};
 ghost use Rattle.tc_cli.specs.Stage.{phase_of};
 ghost use Rattle.tc_live.specs.Receiver.{new_receiver, begun, rack_at, IsInstructed, IsOperated, IsScriptDone, IsPerformed, IsLinked, IsReportDone, IsLineAnswered, IsBadLiveLine, IsBadScript, IsReceiverLeft};
-ghost use Rattle.tc_live.specs.Serving.{IsClosingFault};
+ghost use Rattle.tc_live.specs.Serving.{IsClosingFault, IsReportWritten};
 ghost use Rattle.tc_rack.specs.Linked.{Linked};
 ghost use Rattle.tc_rack.specs.Rack.{new_rack};
 ghost use Rattle.tc_setup.specs.Instruction.{instruction_of};
@@ -181,10 +181,14 @@ impl Receiver {
 
     /// Ends the reception, and writes the final report of the channels, with both link flags 0.
     pub fn close<W: Write>(self, alloc: Global, writer: &mut W) -> Result<(), ServingFault>
+        ensures written { OnOk result (IsReportWritten self (W.contents writer.old) (W.contents writer.new)) }
         ensures fault { IfErr result IsClosingFault }
     {
         let channels = self.into_channels(alloc)?;
-        write_report(&channels, writer).map_err(|_| ServingFault::Write)
+        match write_report(&channels, writer) {
+            Ok(()) => Ok(()),
+            Err(_) => Err(ServingFault::Write),
+        }
     }
 
     // The channels in rising order of their ids, as an operation would find them.

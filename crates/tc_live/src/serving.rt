@@ -1,8 +1,15 @@
 //! Lines in, lines out.
 
+ghost use Rattle.std.specs.Io.KnownBytes.{Appends};
+ghost use Rattle.std.specs.Prelude.{◌≡◌, IfErr, OnOk};
+ghost use Rattle.tc_live.specs.Printed.{live_text, bad_text, too_long_text};
+ghost use Rattle.tc_live.specs.Serving.{IsLineWritten, IsReportWritten};
+
+use crate::answer::LiveAnswer;
 use crate::receiver::Receiver;
 use std::alloc::Global;
 use std::io::{BufRead, Read, Write};
+use tc_text::Reason;
 use thiserror::Error;
 
 /// How many octets a line may have, without its line feed. A frame of 1,024 octets fits three times over.
@@ -73,25 +80,47 @@ fn read_piece<R: BufRead>(reader: &mut R, line: &mut Vec<u8>) -> Result<usize, S
         .map_err(|_| ServingFault::Read)
 }
 
-fn write_too_long<W: Write>(writer: &mut W) -> Result<(), ServingFault> {
+fn write_too_long<W: Write>(writer: &mut W) -> Result<(), ServingFault>
+    ensures written { OnOk result (Appends (W.contents writer.old) (W.contents writer.new) too_long_text) }
+    ensures fault { IfErr result (λ fault. fault ≡ ServingFault.Write) }
+{
     writeln!(writer, "bad too long").map_err(|_| ServingFault::Write)
 }
 
+// Does a line, and writes just the text of its answer, or `bad` and why.
 fn answer_line<W: Write>(
     alloc: Global,
     receiver: &mut Receiver,
     octets: &[u8],
     writer: &mut W,
-) -> Result<(), ServingFault> {
-    let written = match receiver.do_line(alloc, octets) {
-        Ok(answer) => write!(writer, "{answer}"),
-        Err(reason) => writeln!(writer, "bad {reason}"),
-    };
-    written.map_err(|_| ServingFault::Write)
+) -> Result<(), ServingFault>
+    ensures written { OnOk result (IsLineWritten receiver.old octets.now receiver.new (W.contents writer.old) (W.contents writer.new)) }
+    ensures fault { IfErr result (λ fault. fault ≡ ServingFault.Write) }
+{
+    match receiver.do_line(alloc, octets) {
+        Ok(answer) => write_answer(&answer, writer),
+        Err(reason) => write_bad(reason, writer),
+    }
+}
+
+fn write_answer<W: Write>(answer: &LiveAnswer, writer: &mut W) -> Result<(), ServingFault>
+    ensures written { OnOk result (Appends (W.contents writer.old) (W.contents writer.new) (live_text answer.now)) }
+    ensures fault { IfErr result (λ fault. fault ≡ ServingFault.Write) }
+{
+    write!(writer, "{answer}").map_err(|_| ServingFault::Write)
+}
+
+fn write_bad<W: Write>(reason: Reason, writer: &mut W) -> Result<(), ServingFault>
+    ensures written { OnOk result (Appends (W.contents writer.old) (W.contents writer.new) (bad_text reason)) }
+    ensures fault { IfErr result (λ fault. fault ≡ ServingFault.Write) }
+{
+    writeln!(writer, "bad {reason}").map_err(|_| ServingFault::Write)
 }
 
 // The final report.
-fn close<W: Write>(alloc: Global, receiver: Receiver, writer: &mut W) -> Result<(), ServingFault> {
+fn close<W: Write>(alloc: Global, receiver: Receiver, writer: &mut W) -> Result<(), ServingFault>
+    ensures { OnOk result (IsReportWritten receiver (W.contents writer.old) (W.contents writer.new)) }
+{
     receiver.close(alloc, writer)?;
     writer.flush().map_err(|_| ServingFault::Write)
 }

@@ -1,0 +1,72 @@
+-- What lines are answered, as text: docs/reference/tclive.md shows it, under "Input" and "Output".
+use Rattle.std.specs.Prelude.{ℕ, List, [], ◌++◌, codes, decimal}
+use Rattle.std.specs.List.{flat_map}
+use Rattle.tc_link.specs.declared.clcw.Link.{Link}
+use Rattle.tc_link.specs.declared.State.{State}
+use Rattle.tc_link.specs.declared.State.TheVariants.{S1, S2, S3}
+use Rattle.tc_text.specs.Printed.{flag_text, reason_text}
+use Rattle.tc_text.specs.declared.fault.Reason.{Reason}
+use Rattle.tc_station.specs.declared.holding.Holding.{Holding}
+use Rattle.tc_station.specs.declared.holding.QueueHolding.{QueueHolding}
+use Rattle.tc_station.specs.declared.holding.MapHolding.{MapHolding}
+use Rattle.tc_cli.specs.Printed.{answer_text}
+use Rattle.tc_live.specs.declared.answer.LiveAnswer.{LiveAnswer}
+use Rattle.tc_live.specs.declared.answer.LiveAnswer.TheVariants.{Nothing, Operation, Unchecked, Link as LinkOf, Report, UnknownChannel}
+
+abbrev pub state_text : State → List ℕ
+state_text S1 = codes "open"
+state_text S2 = codes "wait"
+state_text S3 = codes "lockout"
+
+-- the flags of the link of a channel
+abbrev pub link_text : ℕ → Link → List ℕ
+link_text vcid link =
+    codes "link " ++ decimal vcid ++ codes " " ++ flag_text link.no_rf ++ codes " " ++ flag_text link.no_bit_lock ++ codes "\n"
+
+-- FARM-1 of a channel but for its FARM-B counter: state, V(R), Lockout and Wait
+unfoldable pub farm_text : ℕ → Holding → List ℕ
+farm_text vcid holding =
+    codes "report " ++ decimal vcid ++ codes " state " ++ state_text holding.report.state ++ codes " vr " ++ decimal holding.report.vr
+    ++ codes " lockout " ++ flag_text holding.report.lockout ++ codes " wait " ++ flag_text holding.report.wait
+
+-- Retransmit, the FARM-B counter, and how many data fields wait in the buffer
+unfoldable pub rest_text : Holding → List ℕ
+rest_text holding =
+    codes " retransmit " ++ flag_text holding.report.retransmit ++ codes " farm-b " ++ decimal holding.report.farm_b
+    ++ codes " buffered " ++ decimal holding.buffered
+
+abbrev pub queue_text : QueueHolding → List ℕ
+queue_text queue = codes " queue " ++ decimal queue.apid ++ codes " " ++ decimal queue.packets
+
+-- the packet queues, one after the other
+abbrev pub queues_text : List QueueHolding → List ℕ
+queues_text queues = flat_map queue_text queues
+
+abbrev pub map_text : MapHolding → List ℕ
+map_text chosen = codes " map " ++ decimal chosen.map ++ codes " " ++ decimal chosen.units
+
+-- the unit queues of the chosen MAPs, one after the other
+abbrev pub maps_text : List MapHolding → List ℕ
+maps_text maps = flat_map map_text maps
+
+-- what a channel has come to
+unfoldable pub report_text : ℕ → Holding → List ℕ
+report_text vcid holding =
+    farm_text vcid holding ++ rest_text holding ++ queues_text holding.queues ++ maps_text holding.maps ++ codes "\n"
+
+-- what a line is answered
+abbrev pub live_text : LiveAnswer → List ℕ
+live_text Nothing = []
+live_text (Operation answer) = answer_text answer ++ codes "\n"
+live_text Unchecked = codes "refused check\n"
+live_text (LinkOf vcid link) = link_text vcid link
+live_text (Report vcid holding) = report_text vcid holding
+live_text UnknownChannel = codes "refused channel\n"
+
+-- what a bad line is answered
+abbrev pub bad_text : Reason → List ℕ
+bad_text reason = codes "bad " ++ reason_text reason ++ codes "\n"
+
+-- what a line is answered that is longer than a line may be
+abbrev pub too_long_text : List ℕ
+too_long_text = codes "bad too long\n"
