@@ -1,7 +1,5 @@
 //! A script on channels in rooms, line by line, as `run` runs it on a station.
 
-ghost use Rattle.std.specs.Prelude.{◌≤◌};
-
 use crate::rooms::Rooms;
 use std::alloc::Global;
 use std::io::{Read, Write};

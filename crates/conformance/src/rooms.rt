@@ -1,6 +1,6 @@
 //! Channels in rooms, and what the operations of a script are answered by them.
 
-ghost use Rattle.std.specs.Prelude.{◌<◌, ◌≤◌, IfSome, length, vec_len};
+ghost use Rattle.std.specs.Prelude.{◌<◌, IfSome, length};
 
 use std::alloc::Global;
 use std::io;
