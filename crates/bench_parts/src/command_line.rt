@@ -2,13 +2,28 @@
 
 ghost use Rattle.std.specs.Prelude.{◌≡◌, ◌<◌, length};
 
-/// What becomes of a channel's journal.
+/// What becomes of a channel's journal, and when the channel asks for memory.
 #[derive(Clone, Copy, Debug, PartialEq, Eq)]
 pub enum Form {
-    /// It is kept in memory.
+    /// The journal is kept in memory.
     Kept,
-    /// It takes no memory.
+    /// The journal takes no memory.
     Flight,
+    /// The journal takes no memory, and all else has rooms, which are made with the channel.
+    Rooms,
+}
+
+/// What comes to a bare channel in each round, and is taken.
+#[derive(Clone, Copy, Debug, PartialEq, Eq)]
+pub enum Load {
+    /// A Type-AD frame of 13 octets, which is released, and its packet.
+    Sequenced,
+    /// A Type-BD frame of 13 octets, and its packet.
+    Bypassing,
+    /// A Type-BD frame with a hundred packets of seven octets, and each of them.
+    Packets,
+    /// Type-BD frames with the 65 segments of a packet of 65,542 octets, and that packet.
+    Segments,
 }
 
 /// What a command line asks for.
@@ -22,32 +37,47 @@ pub enum Action {
     Status,
     /// Print what a round on a station costs beside what its parts cost alone.
     Parts,
-    /// Make so many rounds on a channel of this form, and print what they add up to.
-    Rounds(Form, u32),
+    /// Make so many rounds of a load on a channel of this form, and print what they add up to.
+    Rounds(Form, Load, u32),
 }
 
 /// What the words ask for, the program's name first.
 pub fn judge(words: &[String]) -> Option<Action>
     ensures alone { length words.now < 2 → result ≡ Some Action.Scores }
     ensures two { length words.now ≡ 3 → result ≡ None }
-    ensures many { 4 < length words.now → result ≡ None }
+    ensures many { 5 < length words.now → result ≡ None }
 {
     match words {
         [] | [_] => Some(Action::Scores),
         [_, word] => named(word.as_str()),
-        [_, word, form, count] => rounds(word.as_str(), form.as_str(), count.as_str()),
+        [_, word, form, count] => rounds(word.as_str(), form.as_str(), "sequenced", count.as_str()),
+        [_, word, form, count, load] => {
+            rounds(word.as_str(), form.as_str(), load.as_str(), count.as_str())
+        }
         _ => None,
     }
 }
 
-// So many rounds on a channel of the form that a word names.
-fn rounds(word: &str, form: &str, count: &str) -> Option<Action> {
+// So many rounds of a load on a channel of the form that a word names.
+fn rounds(word: &str, form: &str, load: &str, count: &str) -> Option<Action> {
     let form = match (word, form) {
         ("rounds", "kept") => Form::Kept,
         ("rounds", "flight") => Form::Flight,
+        ("rounds", "rooms") => Form::Rooms,
         _ => return None,
     };
-    Some(Action::Rounds(form, count.parse().ok()?))
+    Some(Action::Rounds(form, load_named(load)?, count.parse().ok()?))
+}
+
+// The load that a word names.
+fn load_named(word: &str) -> Option<Load> {
+    match word {
+        "sequenced" => Some(Load::Sequenced),
+        "bypassing" => Some(Load::Bypassing),
+        "packets" => Some(Load::Packets),
+        "segments" => Some(Load::Segments),
+        _ => None,
+    }
 }
 
 // The one that a word names.

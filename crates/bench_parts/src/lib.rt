@@ -6,7 +6,7 @@ mod figures;
 mod score;
 mod sender;
 
-pub use command_line::{Action, Form, judge};
+pub use command_line::{Action, Form, Load, judge};
 pub use figures::{median, per_second, picoseconds_of_each};
 pub use score::Score;
 pub use sender::{SCID, Sender, Sent, second};

@@ -2,12 +2,14 @@
 //!
 //! With no argument it does the load and prints scores that each answer changes: a receiver that answers otherwise prints
 //! others. With `threads` it prints how many frames a second several threads get answered, with `status` what a read of a
-//! status costs, and with `parts` what a round on a station costs beside what its parts cost alone. With `rounds kept` or
-//! `rounds flight` and a number it makes so many rounds on a bare channel whose journal is kept in memory or not, and prints
-//! what their answers add up to, so that another program can read what they cost.
+//! status costs, and with `parts` what a round on a station costs beside what its parts cost alone. With `rounds kept`,
+//! `rounds flight` or `rounds rooms` and a number it makes so many rounds on a bare channel of that form, of Type-AD frames or of
+//! the load that another word names, and prints what their answers add up to, so that another program can read what they cost.
 #![tactic(auto)]
 
+mod bare;
 mod crew;
+mod loads;
 mod measure;
 mod parts;
 mod round;
@@ -52,7 +54,7 @@ fn obey<R: Threads + Wait + Clock + CpuClock + Sync + AllocGlobal + Print + Epri
 ) -> ExitCode {
     let Some(action) = judge(words) else {
         let _ = eprintln!(rt;
-            "usage: tc_bench [threads | status | parts | rounds (kept | flight) COUNT]"
+            "usage: tc_bench [threads | status | parts | rounds (kept | flight | rooms) COUNT [bypassing | packets | segments]]"
         );
         return ExitCode::from(BAD_COMMAND_LINE);
     };
@@ -74,6 +76,6 @@ fn perform<R: Threads + Wait + Clock + CpuClock + Sync + AllocGlobal + Print>(
         Action::Threads => threads::print(rt),
         Action::Status => status::print(rt),
         Action::Parts => parts::print(rt),
-        Action::Rounds(form, count) => rounds::print(rt, form, count),
+        Action::Rounds(form, load, count) => rounds::print(rt, form, load, count),
     }
 }

@@ -1,0 +1,76 @@
+//! What comes to a bare channel in each round.
+
+use crate::station::APID;
+use anyhow::Result;
+use bench_parts::SCID;
+use std::alloc::Global;
+use tc_channel::Octets;
+use tc_link::{Header, write_frame};
+
+/// How many packets a data field has that is full of small ones.
+pub(crate) const PACKETS: usize = 100;
+
+/// The most octets of a unit (CCSDS 133.0-B, 4.1.2: a primary header of 6, and up to 65,536 after it).
+pub(crate) const LARGEST: usize = 65_542;
+
+// The most octets of a segment's body.
+const BODY: usize = 1_018;
+
+/// The segment headers (CCSDS 232.0-B, 4.1.3.2.2) on MAP 0.
+const UNSEGMENTED: u8 = 0xc0;
+
+const FIRST: u8 = 0x40;
+
+const CONTINUING: u8 = 0x00;
+
+const LAST: u8 = 0x80;
+
+// A packet of the application with so many octets of data, each of them this octet.
+fn add_packet(field: &mut Vec<u8>, data: usize, octet: u8) -> Result<()> {
+    let [high, low] = (data.saturating_sub(1) as u16).to_be_bytes();
+    field.extend_from_slice(&[0x10, APID as u8, 0xc0, 0, high, low])?;
+    for _ in 0..data {
+        field.push(octet)?;
+    }
+    Ok(())
+}
+
+// The Type-BD frame with this data field.
+fn bypassing(alloc: Global, field: &[u8]) -> Result<Octets> {
+    let header = Header {
+        bypass: true,
+        control: false,
+        scid: SCID,
+        vcid: 1,
+        ns: 0,
+    };
+    Ok(Octets::from(write_frame(alloc, &header, field)?))
+}
+
+/// A frame that is full of small packets.
+pub(crate) fn full(alloc: Global) -> Result<Octets> {
+    let mut field = vec![in alloc; UNSEGMENTED]?;
+    for _ in 0..PACKETS {
+        add_packet(&mut field, 1, 0xaa)?;
+    }
+    bypassing(alloc, &field)
+}
+
+/// The frames with the segments of the largest packet.
+pub(crate) fn segments(alloc: Global) -> Result<Vec<Octets>> {
+    let mut unit = Vec::new(alloc);
+    add_packet(&mut unit, LARGEST - 6, 0xaa)?;
+    let count = unit.len().div_ceil(BODY);
+    let mut frames = Vec::with_capacity(alloc, count)?;
+    for (place, body) in unit.chunks(BODY).enumerate() {
+        let header = match place {
+            0 => FIRST,
+            _ if place + 1 == count => LAST,
+            _ => CONTINUING,
+        };
+        let mut field = vec![in alloc; header]?;
+        field.extend_from_slice(body)?;
+        frames.push(bypassing(alloc, &field)?)?;
+    }
+    Ok(frames)
+}
