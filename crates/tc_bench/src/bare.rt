@@ -1,26 +1,25 @@
 //! A channel by itself, of each form.
 
 use crate::station::APID;
-use anyhow::Result;
 use bench_parts::Score;
 use std::alloc::Global;
 use tc_channel::{ChannelWith, Delivery, FrameReply, Journal, Settings};
 use tc_fixed::FixedChannel;
 use tc_link::Frame;
 
-/// What rounds do to a channel.
+/// What rounds do to a channel. `None`, and false, stand for a refusal.
 pub(crate) trait Bare: Drop {
     /// The channel of these settings.
-    fn made(alloc: Global, settings: Settings) -> Result<Self>;
+    fn made(alloc: Global, settings: Settings) -> Option<Self>;
 
     /// Takes a frame in.
-    fn bring(&mut self, frame: &Frame) -> Result<FrameReply>;
+    fn bring(&mut self, frame: &Frame) -> Option<FrameReply>;
 
     /// Lets the oldest data field out of the buffer.
-    fn let_out(&mut self) -> Result<Delivery>;
+    fn let_out(&mut self) -> Option<Delivery>;
 
-    /// Takes the oldest packet, and adds it to the score. Where the channel copies it, it is copied to these octets.
-    fn add_taken(&mut self, into: &mut [u8], score: &mut Score) -> Result<()>;
+    /// Takes the oldest packet, and adds it to the score. Where it can be read in its room, it is, and then dropped.
+    fn add_taken(&mut self, score: &mut Score) -> bool;
 
     /// How many events its journal has.
     fn count(&self) -> u64;
@@ -39,21 +38,24 @@ fn add(octets: &[u8], score: &mut Score) {
 }
 
 impl<J: Journal> Bare for ChannelWith<J> {
-    fn made(alloc: Global, settings: Settings) -> Result<ChannelWith<J>> {
-        Ok(ChannelWith::new(alloc, settings)?)
+    fn made(alloc: Global, settings: Settings) -> Option<ChannelWith<J>> {
+        ChannelWith::new(alloc, settings).ok()
     }
 
-    fn bring(&mut self, frame: &Frame) -> Result<FrameReply> {
-        Ok(self.frame(frame)?)
+    fn bring(&mut self, frame: &Frame) -> Option<FrameReply> {
+        self.frame(frame).ok()
     }
 
-    fn let_out(&mut self) -> Result<Delivery> {
-        Ok(self.release()?)
+    fn let_out(&mut self) -> Option<Delivery> {
+        self.release().ok()
     }
 
-    fn add_taken(&mut self, _into: &mut [u8], score: &mut Score) -> Result<()> {
-        add(&self.take(APID)?, score);
-        Ok(())
+    fn add_taken(&mut self, score: &mut Score) -> bool {
+        let Ok(packet) = self.take(APID) else {
+            return false;
+        };
+        add(&packet, score);
+        true
     }
 
     fn count(&self) -> u64 {
@@ -62,24 +64,24 @@ impl<J: Journal> Bare for ChannelWith<J> {
 }
 
 impl Bare for FixedChannel {
-    fn made(alloc: Global, settings: Settings) -> Result<FixedChannel> {
-        Ok(FixedChannel::new(alloc, settings)?)
+    fn made(alloc: Global, settings: Settings) -> Option<FixedChannel> {
+        FixedChannel::new(alloc, settings).ok()
     }
 
-    fn bring(&mut self, frame: &Frame) -> Result<FrameReply> {
-        Ok(self.frame(frame))
+    fn bring(&mut self, frame: &Frame) -> Option<FrameReply> {
+        Some(self.frame(frame))
     }
 
-    fn let_out(&mut self) -> Result<Delivery> {
-        Ok(self.release()?)
+    fn let_out(&mut self) -> Option<Delivery> {
+        self.release().ok()
     }
 
-    fn add_taken(&mut self, into: &mut [u8], score: &mut Score) -> Result<()> {
-        let count = self.take(APID, into)?;
-        if let Some(octets) = into.get(..count) {
-            add(octets, score);
-        }
-        Ok(())
+    fn add_taken(&mut self, score: &mut Score) -> bool {
+        let Some(octets) = self.oldest(APID) else {
+            return false;
+        };
+        add(octets, score);
+        self.drop_oldest(APID)
     }
 
     fn count(&self) -> u64 {

@@ -10,9 +10,6 @@ use tc_link::{Header, write_frame};
 /// How many packets a data field has that is full of small ones.
 pub(crate) const PACKETS: usize = 100;
 
-/// The most octets of a unit (CCSDS 133.0-B, 4.1.2: a primary header of 6, and up to 65,536 after it).
-pub(crate) const LARGEST: usize = 65_542;
-
 // The most octets of a segment's body.
 const BODY: usize = 1_018;
 
@@ -25,12 +22,12 @@ const CONTINUING: u8 = 0x00;
 
 const LAST: u8 = 0x80;
 
-// A packet of the application with so many octets of data, each of them this octet.
-fn add_packet(field: &mut Vec<u8>, data: usize, octet: u8) -> Result<()> {
-    let [high, low] = (data.saturating_sub(1) as u16).to_be_bytes();
-    field.extend_from_slice(&[0x10, APID as u8, 0xc0, 0, high, low])?;
-    for _ in 0..data {
-        field.push(octet)?;
+// A packet of the application with this number in its length field, which is one less than the octets of its data.
+fn add_packet(octets: &mut Vec<u8>, length: u16) -> Result<()> {
+    let [high, low] = length.to_be_bytes();
+    octets.extend_from_slice(&[0x10, APID as u8, 0xc0, 0, high, low])?;
+    for _ in 0..=length {
+        octets.push(0xaa)?;
     }
     Ok(())
 }
@@ -51,7 +48,7 @@ fn bypassing(alloc: Global, field: &[u8]) -> Result<Octets> {
 pub(crate) fn full(alloc: Global) -> Result<Octets> {
     let mut field = vec![in alloc; UNSEGMENTED]?;
     for _ in 0..PACKETS {
-        add_packet(&mut field, 1, 0xaa)?;
+        add_packet(&mut field, 0)?;
     }
     bypassing(alloc, &field)
 }
@@ -59,7 +56,7 @@ pub(crate) fn full(alloc: Global) -> Result<Octets> {
 /// The frames with the segments of the largest packet.
 pub(crate) fn segments(alloc: Global) -> Result<Vec<Octets>> {
     let mut unit = Vec::new(alloc);
-    add_packet(&mut unit, LARGEST - 6, 0xaa)?;
+    add_packet(&mut unit, u16::MAX)?;
     let count = unit.len().div_ceil(BODY);
     let mut frames = Vec::with_capacity(alloc, count)?;
     for (place, body) in unit.chunks(BODY).enumerate() {

@@ -1,12 +1,12 @@
 //! Rounds on a bare channel, of whatever form.
 
 use crate::bare::Bare;
-use crate::loads::{LARGEST, PACKETS, full, segments};
+use crate::loads::{PACKETS, full, segments};
 use crate::station::{APID, settings};
 use anyhow::{Result, anyhow};
 use bench_parts::{Form, Load, Score, Sender, Sent};
 use std::alloc::Global;
-use tc_channel::{Channel, FlightChannel, FrameReply, Items, QueueSetting};
+use tc_channel::{Channel, FlightChannel, Items, Octets, QueueSetting};
 use tc_fixed::FixedChannel;
 use tc_link::read_frame;
 
@@ -38,93 +38,99 @@ fn play<B: Bare>(alloc: Global, load: Load, count: u32) -> Result<u64> {
         };
         settings.queues = Items::from(Vec::from_slice(alloc, &[queue])?);
     }
-    let mut channel = B::made(alloc, settings)?;
+    let Some(mut channel) = B::made(alloc, settings) else {
+        return Err(anyhow!("no channel"));
+    };
     let mut score = Score::new();
-    match load {
-        Load::Sequenced => sequenced(&mut channel, &Sender::new(alloc, 1)?, count, &mut score)?,
-        Load::Bypassing => bypassing(&mut channel, &Sender::new(alloc, 1)?, count, &mut score)?,
-        Load::Packets => packets(alloc, &mut channel, count, &mut score)?,
-        Load::Segments => in_segments(alloc, &mut channel, count, &mut score)?,
+    let done = match load {
+        Load::Sequenced => sequenced(&mut channel, &Sender::new(alloc, 1)?, count, &mut score),
+        Load::Bypassing => bypassing(&mut channel, &Sender::new(alloc, 1)?, count, &mut score),
+        Load::Packets => packets(&mut channel, full(alloc)?.as_slice(), count, &mut score),
+        Load::Segments => in_segments(&mut channel, &segments(alloc)?, count, &mut score),
+    };
+    if !done {
+        return Err(anyhow!("a call was refused"));
     }
     score.add(channel.count());
     Ok(score.value())
 }
 
 // Frames are taken in, their data fields released, and their packets taken.
-fn sequenced<B: Bare>(
-    channel: &mut B,
-    sender: &Sender,
-    count: u32,
-    score: &mut Score,
-) -> Result<()> {
-    let mut taken = [0; 16];
+fn sequenced<B: Bare>(channel: &mut B, sender: &Sender, count: u32, score: &mut Score) -> bool {
     for number in 0..count {
-        bring(
+        if !bring(
             channel,
             sender.octets(Sent::Sequenced((number % 256) as u8)),
             score,
-        )?;
-        score.add_delivery(channel.let_out()?);
-        channel.add_taken(&mut taken, score)?;
+        ) {
+            return false;
+        }
+        let Some(delivery) = channel.let_out() else {
+            return false;
+        };
+        score.add_delivery(delivery);
+        if !channel.add_taken(score) {
+            return false;
+        }
     }
-    Ok(())
+    true
 }
 
 // Frames that bypass the window are taken in, and their packets taken.
-fn bypassing<B: Bare>(
-    channel: &mut B,
-    sender: &Sender,
-    count: u32,
-    score: &mut Score,
-) -> Result<()> {
-    let mut taken = [0; 16];
+fn bypassing<B: Bare>(channel: &mut B, sender: &Sender, count: u32, score: &mut Score) -> bool {
     for number in 0..count {
-        bring(
+        if !bring(
             channel,
             sender.octets(Sent::Bypassing((number % 256) as u8)),
             score,
-        )?;
-        channel.add_taken(&mut taken, score)?;
+        ) {
+            return false;
+        }
+        if !channel.add_taken(score) {
+            return false;
+        }
     }
-    Ok(())
+    true
 }
 
 // A frame that is full of small packets is taken in, and each of them taken.
-fn packets<B: Bare>(alloc: Global, channel: &mut B, count: u32, score: &mut Score) -> Result<()> {
-    let frame = full(alloc)?;
-    let mut taken = [0; 16];
+fn packets<B: Bare>(channel: &mut B, frame: &[u8], count: u32, score: &mut Score) -> bool {
     for _ in 0..count {
-        bring(channel, frame.as_slice(), score)?;
+        if !bring(channel, frame, score) {
+            return false;
+        }
         for _ in 0..PACKETS {
-            channel.add_taken(&mut taken, score)?;
+            if !channel.add_taken(score) {
+                return false;
+            }
         }
     }
-    Ok(())
+    true
 }
 
 // The segments of the largest packet are taken in, and it is taken.
-fn in_segments<B: Bare>(
-    alloc: Global,
-    channel: &mut B,
-    count: u32,
-    score: &mut Score,
-) -> Result<()> {
-    let frames = segments(alloc)?;
-    let mut taken = vec![in alloc; 0; LARGEST]?;
+fn in_segments<B: Bare>(channel: &mut B, frames: &[Octets], count: u32, score: &mut Score) -> bool {
     for _ in 0..count {
-        for frame in &frames {
-            bring(channel, frame.as_slice(), score)?;
+        for frame in frames {
+            if !bring(channel, frame.as_slice(), score) {
+                return false;
+            }
         }
-        channel.add_taken(&mut taken, score)?;
+        if !channel.add_taken(score) {
+            return false;
+        }
     }
-    Ok(())
+    true
 }
 
-fn bring<B: Bare>(channel: &mut B, octets: &[u8], score: &mut Score) -> Result<()> {
-    let reply: FrameReply = channel.bring(&read_frame(octets)?)?;
-    if !reply.act.accepted {
-        return Err(anyhow!("a frame was discarded"));
-    }
+// Whether a frame was read, and accepted.
+fn bring<B: Bare>(channel: &mut B, octets: &[u8], score: &mut Score) -> bool {
+    let Ok(frame) = read_frame(octets) else {
+        return false;
+    };
+    let Some(reply) = channel.bring(&frame) else {
+        return false;
+    };
     score.add_reply(1, reply);
-    Ok(())
+    reply.act.accepted
 }
