@@ -8,9 +8,13 @@
 
 mod closing;
 mod kept;
+mod laws;
 mod locked;
 mod operation;
 
 pub use closing::{Obstacle, Unclosed};
 pub use kept::{DeskHead, KeptDesk};
+pub use laws::{
+    one_alone_is_answered_after_its_own_events, the_only_operator_made_the_whole_journal,
+};
 pub use locked::{DeskKeeper, DeskOperator, LockedDesk};

@@ -1,0 +1,22 @@
+//! Laws over the definitions.
+
+ghost use Rattle.std.specs.Prelude.{List, ◌≡◌, [], ◌∷◌};
+ghost use Rattle.tc_channel.specs.declared.event.Event.{Event};
+ghost use Rattle.logged_lock.specs.Log.{IsBeginning, IsMergeOf};
+ghost use Rattle.tc_desk.specs.Log.{Moment, Own};
+ghost use Rattle.tc_desk.specs.Call.{made, looked};
+ghost use Rattle.tc_desk.specs.Alone.{HasMadeAll, HasSeenItsOwn};
+
+/// Where a journal is a merge of what one operator made, that operator has made, and seen, all of it.
+pub fn the_only_operator_made_the_whole_journal()
+    ensures { (own : Own) (journal : List Event) → HasSeenItsOwn own → IsBeginning own.seen (record { head = own.seen.head; entries = journal }) → IsMergeOf journal (own ∷ [])
+        → HasMadeAll own × (own.seen.entries ≡ journal) }
+{}
+
+/// Where an operator has made all that it has seen after a call, it had before it, too, and was answered at just the moment that
+/// it had seen. So each answer of one who works alone is that of the journal of its own events so far.
+pub fn one_alone_is_answered_after_its_own_events()
+    ensures event { (before : Own) (now : Moment) (e : Event) → HasSeenItsOwn before → IsBeginning before.seen now → HasMadeAll (made e now before) → HasMadeAll before × (now ≡ before.seen) }
+    ensures look { (before : Own) (now : Moment) → HasSeenItsOwn before → IsBeginning before.seen now → HasMadeAll (looked now before) → HasMadeAll before × (now ≡ before.seen) }
+    ensures seen { (before : Own) (now : Moment) (e : Event) → HasSeenItsOwn before → IsBeginning before.seen now → HasSeenItsOwn (made e now before) × HasSeenItsOwn (looked now before) }
+{}
