@@ -1,5 +1,6 @@
 mod calls;
 mod growth;
+mod limits;
 mod rooms;
 mod run;
 mod storage;
@@ -9,7 +10,7 @@ use std::alloc::{AllocError, Global};
 use std::fmt::Display;
 use std::process::Abort;
 use tc_channel::{Delivery, FrameReply, Items, MapSetting, QueueSetting, Settings, SettingsFault};
-use tc_fixed::{FixedChannel, NoUnitTaken, NothingReleased, NothingTaken};
+use tc_fixed::{FixedChannel, Limits, LimitsFault, NoUnitTaken, NothingReleased, NothingTaken};
 use tc_link::{Act, Link, read_frame};
 
 const NO_FLAG: Link = Link {

@@ -14,7 +14,7 @@ use Rattle.tc_channel.specs.declared.event.Event.{Event}
 use Rattle.tc_channel.specs.declared.event.Event.TheVariants.{Frame, Release, Take, TakeUnit}
 use Rattle.tc_channel.specs.ChannelState.{ChannelState, first_state, has_room}
 use Rattle.tc_channel.specs.Settings.{IsAllowed}
-use Rattle.tc_channel.specs.Run.{field_of, HasStep, AreSteps, IsLawful, step, passed_on, kept, row_of as row_at, run_from, run}
+use Rattle.tc_channel.specs.Run.{field_of, HasStep, AreSteps, IsLawful, IsLawfulWithin, step, passed_on, kept, row_of as row_at, run_from, run, run_within}
 use Rattle.tc_c.specs.declared.status.Status.{Status}
 use Rattle.tc_c.specs.declared.status.Status.TheVariants.{BadWidth}
 use Rattle.tc_c.specs.Farm.{IsFarm, is_width, first_farm, left}
@@ -45,7 +45,7 @@ run_from-farm steps s state [] farm are = farm
 run_from-farm steps s state (e ∷ es) farm are = run_from-farm steps s (step s state e) es (step-farm steps s state e farm are.0) are.1
 
 pub run-farm : StepsLeaveFarms → (s : Settings) (journal : List Event) → IsAllowed s → IsLawful s journal → IsFarm (farm_at s (run s journal))
-unfolding run IsLawful
+unfolding run_within IsLawfulWithin
 run-farm steps s journal allowed lawful = run_from-farm steps s (first_state s) journal (record { width = allowed.width; farm_b = omega arith; flags = refl }) lawful
 
 abbrev started : ℕ → ℕ → Machine

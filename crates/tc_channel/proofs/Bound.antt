@@ -5,7 +5,7 @@ use Rattle.tc_channel.specs.declared.settings.Settings.{Settings}
 use Rattle.tc_channel.specs.declared.event.Event.{Event}
 use Rattle.tc_channel.specs.ChannelState.{buffer}
 use Rattle.tc_channel.specs.Memory.{list_words, queue_words, place_words, largest_field, largest_item, packets_held, units_held, runs_memory, work_memory, memory_bound, memory_waiting, waiting_in_all, octets_in, octets_waiting}
-use Rattle.tc_channel.specs.Run.{IsLawful, run}
+use Rattle.tc_channel.specs.Run.{IsLawfulWithin, run_within}
 use Rattle.tc_channel.proofs.Octets.{fields-fit, packets-fit, units-fit}
 use Rattle.tc_channel.proofs.Room.{packets-within, units-within}
 
@@ -17,9 +17,9 @@ fits : (segmented : Bool) (queues maps held held_units fields packets octets uni
 fits true queues maps held held_units fields packets octets units unit_octets field_octets runs work e a b c d f = omega arith
 fits false queues maps held held_units fields packets octets units unit_octets field_octets runs work e a b c d f = absurd cc
 
-pub waits-within : (s : Settings) (journal : List Event) → s.segmented ≡ true → IsLawful s journal → memory_waiting s (run s journal) ≤ memory_bound s
+pub waits-within : (limits : ℕ → ℕ) (s : Settings) (journal : List Event) → s.segmented ≡ true → IsLawfulWithin limits s journal → memory_waiting s (run_within limits s journal) ≤ memory_bound s
 unfolding memory_bound
-waits-within s journal segmented lawful =
-    let state = run s journal in
+waits-within limits s journal segmented lawful =
+    let state = run_within limits s journal in
     fits s.segmented (length s.queues) (length s.maps) (packets_held s) (units_held s) s.buffer (waiting_in_all state.queues) (octets_waiting state.queues) (waiting_in_all state.units) (octets_waiting state.units) (octets_in (buffer state)) (runs_memory s) (work_memory s)
-    segmented (packets-within s journal) (packets-fit s journal) (units-within s journal) (units-fit s journal) (fields-fit s journal lawful)
+    segmented (packets-within limits s journal) (packets-fit limits s journal) (units-within limits s journal) (units-fit limits s journal) (fields-fit limits s journal lawful)

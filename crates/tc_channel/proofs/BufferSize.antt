@@ -6,8 +6,8 @@ use Rattle.tc_link.specs.Farm.{Row, E1, E2, E3, E4, E5, E6, E7, E8, E9, E10, acc
 use Rattle.tc_channel.specs.declared.settings.Settings.{Settings}
 use Rattle.tc_channel.specs.declared.event.Event.{Event}
 use Rattle.tc_channel.specs.declared.event.Event.TheVariants.{Frame, Release, Take, TakeUnit}
-use Rattle.tc_channel.specs.ChannelState.{ChannelState, Accepted, first_state, buffer, has_room}
-use Rattle.tc_channel.specs.Run.{step, row_of, kept, passed_on, run_from, run}
+use Rattle.tc_channel.specs.ChannelState.{ChannelState, Accepted, first_state_within, buffer, has_room}
+use Rattle.tc_channel.specs.Run.{step, row_of, kept, passed_on, run_from, run_within}
 use Rattle.tc_channel.proofs.Sound.{room-at_E1}
 
 abbrev Fits : Settings → ChannelState → Type 0
@@ -58,6 +58,6 @@ run_from-fits : (c : Settings) (b : ChannelState) (es : List Event) → Fits c b
 run_from-fits c b [] h = h
 run_from-fits c b (e ∷ es) h = run_from-fits c (step c b e) es (step-fits c b e h)
 
-pub buffer-fits : (c : Settings) (journal : List Event) → Fits c (run c journal)
-unfolding run
-buffer-fits c journal = run_from-fits c (first_state c) journal (omega arith)
+pub buffer-fits : (limits : ℕ → ℕ) (c : Settings) (journal : List Event) → Fits c (run_within limits c journal)
+unfolding run_within
+buffer-fits limits c journal = run_from-fits c (first_state_within limits c) journal (omega arith)

@@ -10,7 +10,7 @@ use Rattle.tc_channel.specs.declared.settings.MapSetting.{MapSetting}
 use Rattle.tc_channel.specs.declared.event.Event.{Event}
 use Rattle.tc_channel.specs.ChannelState.{ChannelState, Queue, queue_of}
 use Rattle.tc_channel.specs.Admission.{map_of, is_for, is_of_map, is_chosen, packets_offered, units_offered, with_share, room_of}
-use Rattle.tc_channel.specs.Run.{run, unit_of, passed_on}
+use Rattle.tc_channel.specs.Run.{run_within, unit_of, passed_on}
 use Rattle.tc_channel.specs.Laws.{IsOfChosenMap, has_room_for_one}
 use Rattle.tc_channel.proofs.Wholes.{take-one, take-nil}
 use Rattle.tc_channel.proofs.StateQueues.{keys, unit-keys-stay}
@@ -55,8 +55,8 @@ by-settings key (q ∷ qs) (m ∷ ms) e =
     later m ms zero x lt at is other = absurd (other (ap (λ (y : MapSetting). y.map) at ∙ is))
     later m ms (suc i) x lt at is other = (i, x, omega arith, at, is)
 
-pub chosen-by-settings : (c : Settings) (journal : List Event) (field : List ℕ) → IsTrue (is_chosen (run c journal) field) ↔ IsOfChosenMap c field
-chosen-by-settings c journal field = by-settings (map_of field) (run c journal).units c.maps (unit-keys-stay c journal)
+pub chosen-by-settings : (limits : ℕ → ℕ) (c : Settings) (journal : List Event) (field : List ℕ) → IsTrue (is_chosen (run_within limits c journal) field) ↔ IsOfChosenMap c field
+chosen-by-settings limits c journal field = by-settings (map_of field) (run_within limits c journal).units c.maps (unit-keys-stay limits c journal)
 
 -- by the room that there is
 pub one-kept : (q : Queue) (unit : List ℕ) → with_share (is_of_map q.key) (unit ∷ []) q ≡ cond (has_room_for_one q) (record q { admitted = q.admitted ++ unit ∷ [] }) q

@@ -11,7 +11,7 @@ use Rattle.tc_channel.specs.Admission.{map_of, is_chosen, is_for, is_of_map, pac
 use Rattle.tc_packet.specs.SpacePacket.{apid_of, is_telecommand, packets_of}
 use Rattle.tc_channel.specs.HeldQueues.{keys_of, held, AreDistinct}
 use Rattle.tc_channel.specs.Reply.{delivered, delivery_of}
-use Rattle.tc_channel.specs.Run.{run}
+use Rattle.tc_channel.specs.Run.{run_within}
 use Rattle.tc_channel.specs.Settings.{IsAllowed}
 use Rattle.tc_channel.proofs.Counted.{IsForOneKey, for-one, queued-within}
 use Rattle.tc_channel.proofs.Shares.{queued-is}
@@ -28,20 +28,20 @@ queued-few wanted alone items qs apart =
 for-one-map : (map_id : ℕ) → IsForOneKey (is_of_map map_id)
 for-one-map map_id a b unit h apart = ne_eqb b map_id (λ e. apart (eqb-true a map_id h ∙ sym e))
 
-pub all-told : (s : Settings) (journal : List Event) (field : List ℕ) (unit : Option (List ℕ)) → IsAllowed s
-    → (delivery_of field unit (run s journal)).queued + (delivery_of field unit (run s journal)).dropped
-    ≡ length (packets_offered unit (is_chosen (run s journal) field)) + length (units_offered unit (is_chosen (run s journal) field))
-all-told s journal field None allowed = refl
-all-told s journal field (Some unit) allowed = by (is_chosen b field) where
+pub all-told : (limits : ℕ → ℕ) (s : Settings) (journal : List Event) (field : List ℕ) (unit : Option (List ℕ)) → IsAllowed s
+    → (delivery_of field unit (run_within limits s journal)).queued + (delivery_of field unit (run_within limits s journal)).dropped
+    ≡ length (packets_offered unit (is_chosen (run_within limits s journal) field)) + length (units_offered unit (is_chosen (run_within limits s journal) field))
+all-told limits s journal field None allowed = refl
+all-told limits s journal field (Some unit) allowed = by (is_chosen b field) where
   b : ChannelState
-  b = run s journal
+  b = run_within limits s journal
 
   told : Bool → Delivery
   told t = delivered (Some unit) t (queued_of is_for (packets_offered (Some unit) t) b.queues + queued_of (is_of_map (map_of field)) (units_offered (Some unit) t) b.units)
 
   by : (t : Bool) → (told t).queued + (told t).dropped ≡ length (packets_offered (Some unit) t) + length (units_offered (Some unit) t)
-  by true = omega (arith, queued-few is_for for-one [] b.queues (queues-apart s journal allowed), queued-few (is_of_map (map_of field)) (for-one-map (map_of field)) (unit ∷ []) b.units (units-apart s journal allowed))
-  by false = omega (arith, queued-few is_for for-one (packets_of unit) b.queues (queues-apart s journal allowed), queued-few (is_of_map (map_of field)) (for-one-map (map_of field)) [] b.units (units-apart s journal allowed))
+  by true = omega (arith, queued-few is_for for-one [] b.queues (queues-apart limits s journal allowed), queued-few (is_of_map (map_of field)) (for-one-map (map_of field)) (unit ∷ []) b.units (units-apart limits s journal allowed))
+  by false = omega (arith, queued-few is_for for-one (packets_of unit) b.queues (queues-apart limits s journal allowed), queued-few (is_of_map (map_of field)) (for-one-map (map_of field)) [] b.units (units-apart limits s journal allowed))
 
 -- what a queue is given has its APID
 share-apid : (packets : List (List ℕ)) (q : Queue) (packet : List ℕ) → Contains (share_of is_for packets q) packet → apid_of packet ≡ q.key

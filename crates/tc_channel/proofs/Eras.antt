@@ -18,8 +18,8 @@ use Rattle.tc_channel.specs.declared.settings.Settings.{Settings}
 use Rattle.tc_channel.specs.declared.event.Event.{Event}
 use Rattle.tc_channel.specs.declared.event.Event.TheVariants.{Frame, Release, Take, TakeUnit}
 use Rattle.tc_channel.specs.ChannelState.{ChannelState, Accepted, has_room}
-use Rattle.tc_channel.specs.Run.{step, row_of, kept, after_frame, passed_on, run_from, run, IsLawful}
-use Rattle.tc_channel.specs.Era.{set_at, set_by, Starts, NoneSets, IsEra, accepted_since, CountsUp, CountsUpInItsEra, IsOfSender, ComesFrom}
+use Rattle.tc_channel.specs.Run.{step, row_of, kept, after_frame, passed_on, run_from, run_within, IsLawfulWithin}
+use Rattle.tc_channel.specs.Era.{set_at, set_by, StartsWithin, NoneSetsWithin, IsEraWithin, accepted_since_within, CountsUpWithin, CountsUpInItsEraWithin, IsOfSender, ComesFromWithin}
 use Rattle.tc_channel.specs.Settings.{IsAllowed}
 use Rattle.tc_channel.proofs.Filled.{AreFilled, filled-drop, state-filled}
 use Rattle.tc_channel.proofs.Small.{vr-below}
@@ -202,12 +202,12 @@ set-sets E10 S1 r x e = absurd cc
 set-sets E10 S2 r x e = absurd cc
 set-sets E10 S3 r x e = absurd cc
 
-starts-at : (c : Settings) (before : List Event) (x : ℕ) → Starts c before x → (run c before).report.vr ≡ x
-unfolding run
-starts-at c before x (inl empty) = rw (empty.0, empty.1) refl
-starts-at c before x (inr set) = rw (set.2, run-push c set.0 set.1) (by set.1 set.3) where
-  by : (e : Event) → set_by c (run c set.0) e ≡ Some x → (step c (run c set.0) e).report.vr ≡ x
-  by (Frame octets) h = set-sets (row_of c (run c set.0) octets) (run c set.0).report.state (run c set.0).report x h
+starts-at : (limits : ℕ → ℕ) (c : Settings) (before : List Event) (x : ℕ) → StartsWithin limits c before x → (run_within limits c before).report.vr ≡ x
+unfolding run_within
+starts-at limits c before x (inl empty) = rw (empty.0, empty.1) refl
+starts-at limits c before x (inr set) = rw (set.2, run-push limits c set.0 set.1) (by set.1 set.3) where
+  by : (e : Event) → set_by c (run_within limits c set.0) e ≡ Some x → (step c (run_within limits c set.0) e).report.vr ≡ x
+  by (Frame octets) h = set-sets (row_of c (run_within limits c set.0) octets) (run_within limits c set.0).report.state (run_within limits c set.0).report x h
   by Release h = absurd cc
   by (Take apid) h = absurd cc
   by (TakeUnit map_id) h = absurd cc
@@ -218,27 +218,27 @@ numbers-are x [] h filled i a e = absurd cc
 numbers-are x (b ∷ xs) h filled zero a e = let q : b ≡ a = cc in rw (← q) (let m = h.0 in let n = filled.0.1 in omega arith)
 numbers-are x (b ∷ xs) h filled (suc i) a e = numbers-are (x + 1) xs h.1 filled.1 i a e ∙ ap (λ n. n % 256) (omega arith)
 
-none-from : (c : Settings) (before later : List Event) → NoneSets c before later → NoneSetsFrom c (run c before) later
-none-from c before later none = λ i e q. rw (sym (run-append c before (take i later))) (none i e q)
+none-from : (limits : ℕ → ℕ) (c : Settings) (before later : List Event) → NoneSetsWithin limits c before later → NoneSetsFrom c (run_within limits c before) later
+none-from limits c before later none = λ i e q. rw (sym (run-append limits c before (take i later))) (none i e q)
 
-pub era-law : (c : Settings) (journal : List Event) → IsAllowed c → IsLawful c journal → CountsUpInItsEra c journal
-era-law c journal allowed lawful = λ before later x era.
-    let start = starts-at c before x era.starts in
-    let whole : run c journal ≡ run_from c (run c before) later = ap (run c) era.parts ∙ run-append c before later in
-    let run-on = run_from-advances c (run c before) later (none-from c before later era.last) in
-    let since : accepted_since c before journal ≡ run-on.more = rw (whole, run-on.grown) (drop-append_seam (run c before).accepted run-on.more) in
-    let numbers : AreConsecutive x (accepted_since c before journal) = rw (since, ← start) run-on.numbers in
-    let vr : (run c journal).report.vr % 256 ≡ (x + length (accepted_since c before journal)) % 256 = rw (since, whole, ← start) run-on.vr in
-    let small = vr-below c journal allowed.first lawful in
-    let counts : CountsUp c journal before x = record {
-      numbers = numbers-are x (accepted_since c before journal) numbers (filled-drop (length (run c before).accepted) (run c journal).accepted (state-filled c journal lawful));
+pub era-law : (limits : ℕ → ℕ) (c : Settings) (journal : List Event) → IsAllowed c → IsLawfulWithin limits c journal → CountsUpInItsEraWithin limits c journal
+era-law limits c journal allowed lawful = λ before later x era.
+    let start = starts-at limits c before x era.starts in
+    let whole : run_within limits c journal ≡ run_from c (run_within limits c before) later = ap (run_within limits c) era.parts ∙ run-append limits c before later in
+    let run-on = run_from-advances c (run_within limits c before) later (none-from limits c before later era.last) in
+    let since : accepted_since_within limits c before journal ≡ run-on.more = rw (whole, run-on.grown) (drop-append_seam (run_within limits c before).accepted run-on.more) in
+    let numbers : AreConsecutive x (accepted_since_within limits c before journal) = rw (since, ← start) run-on.numbers in
+    let vr : (run_within limits c journal).report.vr % 256 ≡ (x + length (accepted_since_within limits c before journal)) % 256 = rw (since, whole, ← start) run-on.vr in
+    let small = vr-below limits c journal allowed.first lawful in
+    let counts : CountsUpWithin limits c journal before x = record {
+      numbers = numbers-are x (accepted_since_within limits c before journal) numbers (filled-drop (length (run_within limits c before).accepted) (run_within limits c journal).accepted (state-filled limits c journal lawful));
       vr = omega arith;
     } in
     counts
 
 -- a journal's era
-abbrev pub HasEra : Settings → List Event → Type 0
-HasEra c journal = (before : List Event) × (later : List Event) × (x : ℕ) × IsEra c journal before later x
+abbrev pub HasEra : (ℕ → ℕ) → Settings → List Event → Type 0
+HasEra limits c journal = (before : List Event) × (later : List Event) × (x : ℕ) × IsEraWithin limits c journal before later x
 
 none-push : (c : Settings) (b : ChannelState) (es : List Event) (e : Event) → NoneSetsFrom c b es → set_by c (run_from c b es) e ≡ None → NoneSetsFrom c b (es ++ e ∷ [])
 none-push c b [] e none one zero f q = let same : e ≡ f = cc in rw (← same) one
@@ -246,32 +246,32 @@ none-push c b [] e none one (suc i) f q = absurd cc
 none-push c b (d ∷ es) e none one zero f q = none 0 f q
 none-push c b (d ∷ es) e none one (suc i) f q = none-push c (step c b d) es e (λ k g r. none (suc k) g r) one i f q
 
-none-back : (c : Settings) (before later : List Event) → NoneSetsFrom c (run c before) later → NoneSets c before later
-none-back c before later none = λ i e q. rw (run-append c before (take i later)) (none i e q)
+none-back : (limits : ℕ → ℕ) (c : Settings) (before later : List Event) → NoneSetsFrom c (run_within limits c before) later → NoneSetsWithin limits c before later
+none-back limits c before later none = λ i e q. rw (run-append limits c before (take i later)) (none i e q)
 
-era-push : (c : Settings) (journal : List Event) (e : Event) → HasEra c journal → HasEra c (journal ++ e ∷ [])
-era-push c journal e has = by (set_by c (run c journal) e) refl where
-  by : (o : Option ℕ) → set_by c (run c journal) e ≡ o → HasEra c (journal ++ e ∷ [])
+era-push : (limits : ℕ → ℕ) (c : Settings) (journal : List Event) (e : Event) → HasEra limits c journal → HasEra limits c (journal ++ e ∷ [])
+era-push limits c journal e has = by (set_by c (run_within limits c journal) e) refl where
+  by : (o : Option ℕ) → set_by c (run_within limits c journal) e ≡ o → HasEra limits c (journal ++ e ∷ [])
   by (Some y) is = (journal ++ e ∷ [], [], y, record { parts = sym (append-nil (journal ++ e ∷ [])); starts = inr (journal, e, refl, is); last = λ i f q. absurd cc })
   by None is =
       let era = has.3 in
-      let whole : run c journal ≡ run_from c (run c has.0) has.1 = ap (run c) era.parts ∙ run-append c has.0 has.1 in (
+      let whole : run_within limits c journal ≡ run_from c (run_within limits c has.0) has.1 = ap (run_within limits c) era.parts ∙ run-append limits c has.0 has.1 in (
         has.0,
         has.1 ++ e ∷ [],
         has.2,
         record {
           parts = rw era.parts (append_assoc has.0 has.1 (e ∷ []));
           starts = era.starts;
-          last = none-back c has.0 (has.1 ++ e ∷ []) (none-push c (run c has.0) has.1 e (none-from c has.0 has.1 era.last) (rw (← whole) is));
+          last = none-back limits c has.0 (has.1 ++ e ∷ []) (none-push c (run_within limits c has.0) has.1 e (none-from limits c has.0 has.1 era.last) (rw (← whole) is));
         },
       )
 
-era-on : (c : Settings) (past future : List Event) → HasEra c past → HasEra c (past ++ future)
-era-on c past [] has = subst (HasEra c) (sym (append-nil past)) has
-era-on c past (e ∷ future) has = subst (HasEra c) (append_assoc past (e ∷ []) future) (era-on c (past ++ e ∷ []) future (era-push c past e has))
+era-on : (limits : ℕ → ℕ) (c : Settings) (past future : List Event) → HasEra limits c past → HasEra limits c (past ++ future)
+era-on limits c past [] has = subst (HasEra limits c) (sym (append-nil past)) has
+era-on limits c past (e ∷ future) has = subst (HasEra limits c) (append_assoc past (e ∷ []) future) (era-on limits c (past ++ e ∷ []) future (era-push limits c past e has))
 
-pub each-era : (c : Settings) (journal : List Event) → HasEra c journal
-each-era c journal = era-on c [] journal ([], [], c.first, record { parts = refl; starts = inl (refl, refl); last = λ i e q. absurd cc })
+pub each-era : (limits : ℕ → ℕ) (c : Settings) (journal : List Event) → HasEra limits c journal
+each-era limits c journal = era-on limits c [] journal ([], [], c.first, record { parts = refl; starts = inl (refl, refl); last = λ i e q. absurd cc })
 
 -- what was sent is accepted once and in order
 
@@ -359,14 +359,14 @@ run_from-serves c sent x base n b (e ∷ es) none v len from =
     Serves-then sent x n b (step c b e) (run_from c (step c b e) es) one
     (run_from-serves c sent x base (n + length one.more) (step c b e) es (λ i later q. none (suc i) later q) one.vr longer (λ place later q. from (suc place) later q))
 
-pub all-sent : (c : Settings) (journal before later : List Event) (x : ℕ) (sent : ℕ → List ℕ) → IsEra c journal before later x → ComesFrom c before later x sent
-    → (i : ℕ) (a : Accepted) → slice_get (accepted_since c before journal) i ≡ Some a → a.field ≡ sent i
-all-sent c journal before later x sent era comes i a is =
-    let start = starts-at c before x era.starts in
-    let whole : run c journal ≡ run_from c (run c before) later = ap (run c) era.parts ∙ run-append c before later in
-    let base = length (run c before).accepted in
-    let from : (place : ℕ) (e : Event) → slice_get later place ≡ Some e → IsOfSender x sent (length (run_from c (run c before) (take place later)).accepted - base) e =
-    λ place e q. subst (λ m. IsOfSender x sent m e) (length-drop base (run c (before ++ take place later)).accepted ∙ ap (λ (b : ChannelState). length b.accepted - base) (run-append c before (take place later))) (comes place e q) in
-    let run-on = run_from-serves c sent x base 0 (run c before) later (none-from c before later era.last) (rw start (omega arith)) (omega arith) from in
-    let since : accepted_since c before journal ≡ run-on.more = rw (whole, run-on.grown) (drop-append_seam (run c before).accepted run-on.more) in
+pub all-sent : (limits : ℕ → ℕ) (c : Settings) (journal before later : List Event) (x : ℕ) (sent : ℕ → List ℕ) → IsEraWithin limits c journal before later x → ComesFromWithin limits c before later x sent
+    → (i : ℕ) (a : Accepted) → slice_get (accepted_since_within limits c before journal) i ≡ Some a → a.field ≡ sent i
+all-sent limits c journal before later x sent era comes i a is =
+    let start = starts-at limits c before x era.starts in
+    let whole : run_within limits c journal ≡ run_from c (run_within limits c before) later = ap (run_within limits c) era.parts ∙ run-append limits c before later in
+    let base = length (run_within limits c before).accepted in
+    let from : (place : ℕ) (e : Event) → slice_get later place ≡ Some e → IsOfSender x sent (length (run_from c (run_within limits c before) (take place later)).accepted - base) e =
+    λ place e q. subst (λ m. IsOfSender x sent m e) (length-drop base (run_within limits c (before ++ take place later)).accepted ∙ ap (λ (b : ChannelState). length b.accepted - base) (run-append limits c before (take place later))) (comes place e q) in
+    let run-on = run_from-serves c sent x base 0 (run_within limits c before) later (none-from limits c before later era.last) (rw start (omega arith)) (omega arith) from in
+    let since : accepted_since_within limits c before journal ≡ run-on.more = rw (whole, run-on.grown) (drop-append_seam (run_within limits c before).accepted run-on.more) in
     sent-at sent 0 run-on.more run-on.fields i a (rw since at is) ∙ ap sent (omega arith)

@@ -8,8 +8,8 @@ use Rattle.tc_channel.specs.declared.settings.Settings.{Settings}
 use Rattle.tc_channel.specs.declared.event.Event.{Event}
 use Rattle.tc_channel.specs.declared.event.Event.TheVariants.{Frame, Release, Take, TakeUnit}
 use Rattle.tc_channel.proofs.StateQueues.{kept-either}
-use Rattle.tc_channel.specs.ChannelState.{ChannelState, Accepted, first_state}
-use Rattle.tc_channel.specs.Run.{step, row_of, kept, passed_on, first_of, run_from, AreSteps, run, IsLawful}
+use Rattle.tc_channel.specs.ChannelState.{ChannelState, Accepted, first_state_within}
+use Rattle.tc_channel.specs.Run.{step, row_of, kept, passed_on, first_of, run_from, AreSteps, run_within, IsLawfulWithin}
 
 abbrev pub IsFilled : Accepted → Type 0
 IsFilled a = (0 < length a.field) × (a.ns < 256)
@@ -42,6 +42,6 @@ pub first-filled : (xs : List Accepted) → AreFilled xs → 0 < length xs → 0
 first-filled [] h some = absurd (omega arith)
 first-filled (x ∷ xs) h some = h.0.0
 
-pub state-filled : (c : Settings) (j : List Event) → IsLawful c j → AreFilled (run c j).accepted
-unfolding run IsLawful
-state-filled c j lawful = run_from-filled c (first_state c) j tt lawful
+pub state-filled : (limits : ℕ → ℕ) (c : Settings) (j : List Event) → IsLawfulWithin limits c j → AreFilled (run_within limits c j).accepted
+unfolding run_within IsLawfulWithin
+state-filled limits c j lawful = run_from-filled c (first_state_within limits c) j tt lawful

@@ -14,9 +14,9 @@ use Rattle.tc_channel.specs.declared.settings.MapSetting.{MapSetting}
 use Rattle.tc_channel.specs.declared.settings.Settings.{Settings}
 use Rattle.tc_channel.specs.declared.event.Event.{Event}
 use Rattle.tc_channel.specs.declared.event.Event.TheVariants.{Frame, Release, Take, TakeUnit}
-use Rattle.tc_channel.specs.ChannelState.{ChannelState, Accepted, Queue, first_state, empty_queue, empty_unit_queue, buffer, queue_of}
+use Rattle.tc_channel.specs.ChannelState.{ChannelState, Accepted, Queue, first_state_within, empty_queue, empty_unit_queue, buffer, queue_of}
 use Rattle.tc_channel.specs.Admission.{is_for, is_of_map, map_of, is_chosen, packets_offered, units_offered, share_of, with_share, with_shares}
-use Rattle.tc_channel.specs.Run.{step, row_of, passed_on, unit_of, taken_from, first_of, HasStep, AreSteps, run_from, run, IsLawful}
+use Rattle.tc_channel.specs.Run.{step, row_of, passed_on, unit_of, taken_from, first_of, HasStep, AreSteps, run_from, run_within, IsLawfulWithin}
 use Rattle.tc_channel.specs.Given.{oldest_in, packet_given, unit_given, as_list, packets_given, units_given, fields_passed}
 use Rattle.tc_channel.proofs.StateQueues.{kept-either, taken-key}
 
@@ -155,13 +155,13 @@ no-unit-yet key (m ∷ ms) = let later = no-unit-yet key ms in record { each = �
   by true q later e = let is : empty_unit_queue m ≡ q = cc in rw (← is) (refl, omega arith)
   by false q later e = later e
 
-pub packets-in-order : (c : Settings) (journal : List Event) (apid : ℕ) (q : Queue) → queue_of apid (run c journal).queues ≡ Some q → packets_given c apid (first_state c) journal ≡ take q.taken q.admitted
-unfolding run
-packets-in-order c journal apid q e = let g = packets-from c apid [] (first_state c) journal (none-yet apid c.queues) in (g.each q e).0
+pub packets-in-order : (limits : ℕ → ℕ) (c : Settings) (journal : List Event) (apid : ℕ) (q : Queue) → queue_of apid (run_within limits c journal).queues ≡ Some q → packets_given c apid (first_state_within limits c) journal ≡ take q.taken q.admitted
+unfolding run_within
+packets-in-order limits c journal apid q e = let g = packets-from c apid [] (first_state_within limits c) journal (none-yet apid c.queues) in (g.each q e).0
 
-pub units-in-order : (c : Settings) (journal : List Event) (map_id : ℕ) (q : Queue) → queue_of map_id (run c journal).units ≡ Some q → units_given c map_id (first_state c) journal ≡ take q.taken q.admitted
-unfolding run
-units-in-order c journal map_id q e = let g = units-from c map_id [] (first_state c) journal (no-unit-yet map_id c.maps) in (g.each q e).0
+pub units-in-order : (limits : ℕ → ℕ) (c : Settings) (journal : List Event) (map_id : ℕ) (q : Queue) → queue_of map_id (run_within limits c journal).units ≡ Some q → units_given c map_id (first_state_within limits c) journal ≡ take q.taken q.admitted
+unfolding run_within
+units-in-order limits c journal map_id q e = let g = units-from c map_id [] (first_state_within limits c) journal (no-unit-yet map_id c.maps) in (g.each q e).0
 
 -- what was released of the accepted fields was passed on, and nothing else of Type-AD
 record ArePassed (b : ChannelState) : Type 0 where
@@ -207,6 +207,6 @@ run_from-passed : (c : Settings) (b : ChannelState) (es : List Event) → AreSte
 run_from-passed c b [] steps h = h
 run_from-passed c b (e ∷ es) steps h = run_from-passed c (step c b e) es steps.1 (step-passed c b e steps.0 h)
 
-pub fields-in-order : (c : Settings) (journal : List Event) → IsLawful c journal → fields_passed Ad (run c journal).passed ≡ map (λ (a : Accepted). a.field) (take (run c journal).released (run c journal).accepted)
-unfolding run IsLawful
-fields-in-order c journal lawful = let h = run_from-passed c (first_state c) journal lawful (record { fields = refl; released = omega arith }) in h.fields
+pub fields-in-order : (limits : ℕ → ℕ) (c : Settings) (journal : List Event) → IsLawfulWithin limits c journal → fields_passed Ad (run_within limits c journal).passed ≡ map (λ (a : Accepted). a.field) (take (run_within limits c journal).released (run_within limits c journal).accepted)
+unfolding run_within IsLawfulWithin
+fields-in-order limits c journal lawful = let h = run_from-passed c (first_state_within limits c) journal lawful (record { fields = refl; released = omega arith }) in h.fields

@@ -10,12 +10,12 @@ use Rattle.tc_packet.specs.declared.Service.TheVariants.{Ad, Bd}
 use Rattle.tc_channel.specs.declared.settings.Settings.{Settings}
 use Rattle.tc_channel.specs.declared.event.Event.{Event}
 use Rattle.tc_channel.specs.declared.event.Event.TheVariants.{Frame, Release, Take, TakeUnit}
-use Rattle.tc_channel.specs.ChannelState.{ChannelState, Accepted, Queue, buffer, first_state, empty_queue, empty_unit_queue}
+use Rattle.tc_channel.specs.ChannelState.{ChannelState, Accepted, Queue, buffer, first_state_within, empty_queue, empty_unit_queue}
 use Rattle.tc_channel.specs.declared.settings.QueueSetting.{QueueSetting}
 use Rattle.tc_channel.specs.declared.settings.MapSetting.{MapSetting}
 use Rattle.tc_channel.specs.Admission.{is_for, is_of_map, map_of, is_chosen, packets_offered, units_offered, share_of, with_shares}
 use Rattle.tc_channel.specs.Laws.{QueueGrows, QueuesGrow, Grows}
-use Rattle.tc_channel.specs.Run.{step, row_of, passed_on, unit_of, taken_from, first_of, run_from, run}
+use Rattle.tc_channel.specs.Run.{step, row_of, passed_on, unit_of, taken_from, first_of, run_from, run_within}
 use Rattle.tc_channel.proofs.Runs.{run-append}
 use Rattle.tc_channel.proofs.StateQueues.{kept-either}
 
@@ -101,8 +101,8 @@ run_from-grows : (c : Settings) (b : ChannelState) (es : List Event) → Grows b
 run_from-grows c b [] = same b
 run_from-grows c b (e ∷ es) = then b (step c b e) (run_from c (step c b e) es) (step-grows c b e) (run_from-grows c (step c b e) es)
 
-pub run-grows : (c : Settings) (past future : List Event) → Grows (run c past) (run c (past ++ future))
-run-grows c past future = rw (run-append c past future) (run_from-grows c (run c past) future)
+pub run-grows : (limits : ℕ → ℕ) (c : Settings) (past future : List Event) → Grows (run_within limits c past) (run_within limits c (past ++ future))
+run-grows limits c past future = rw (run-append limits c past future) (run_from-grows c (run_within limits c past) future)
 
 -- the key and the capacity of a queue
 abbrev key_and_capacity : Queue → ℕ × ℕ
@@ -122,10 +122,10 @@ keys-and-capacities-empty-units : (ms : List MapSetting) → map key_and_capacit
 keys-and-capacities-empty-units [] = refl
 keys-and-capacities-empty-units (m ∷ ms) = rw (keys-and-capacities-empty-units ms) refl
 
-pub queues-are : (c : Settings) (journal : List Event) → map key_and_capacity (run c journal).queues ≡ map {B = ℕ × ℕ} (λ (q : QueueSetting). (q.apid, q.capacity)) c.queues
-unfolding run
-queues-are c journal = keys-and-capacities-kept (map empty_queue c.queues) (run c journal).queues (run_from-grows c (first_state c) journal).queues ∙ keys-and-capacities-empty c.queues
+pub queues-are : (limits : ℕ → ℕ) (c : Settings) (journal : List Event) → map key_and_capacity (run_within limits c journal).queues ≡ map {B = ℕ × ℕ} (λ (q : QueueSetting). (q.apid, q.capacity)) c.queues
+unfolding run_within
+queues-are limits c journal = keys-and-capacities-kept (map empty_queue c.queues) (run_within limits c journal).queues (run_from-grows c (first_state_within limits c) journal).queues ∙ keys-and-capacities-empty c.queues
 
-pub units-are : (c : Settings) (journal : List Event) → map key_and_capacity (run c journal).units ≡ map {B = ℕ × ℕ} (λ (m : MapSetting). (m.map, m.capacity)) c.maps
-unfolding run
-units-are c journal = keys-and-capacities-kept (map empty_unit_queue c.maps) (run c journal).units (run_from-grows c (first_state c) journal).units ∙ keys-and-capacities-empty-units c.maps
+pub units-are : (limits : ℕ → ℕ) (c : Settings) (journal : List Event) → map key_and_capacity (run_within limits c journal).units ≡ map {B = ℕ × ℕ} (λ (m : MapSetting). (m.map, m.capacity)) c.maps
+unfolding run_within
+units-are limits c journal = keys-and-capacities-kept (map empty_unit_queue c.maps) (run_within limits c journal).units (run_from-grows c (first_state_within limits c) journal).units ∙ keys-and-capacities-empty-units c.maps

@@ -10,13 +10,13 @@ use Rattle.tc_link.specs.Farm.{Row, E1, E2, E3, E4, E5, E6, E7, E8, E9, E10, num
 use Rattle.tc_channel.specs.declared.settings.Settings.{Settings}
 use Rattle.tc_channel.specs.declared.event.Event.{Event}
 use Rattle.tc_channel.specs.declared.event.Event.TheVariants.{Frame, Release, Take, TakeUnit}
-use Rattle.tc_channel.specs.ChannelState.{ChannelState, Accepted, first_state, buffer}
-use Rattle.tc_channel.specs.Run.{HasStep, step, row_of, kept, passed_on, first_of, run_from, AreSteps, run, IsLawful}
+use Rattle.tc_channel.specs.ChannelState.{ChannelState, Accepted, first_state_within, buffer}
+use Rattle.tc_channel.specs.Run.{HasStep, step, row_of, kept, passed_on, first_of, run_from, AreSteps, run_within, IsLawfulWithin}
 use Rattle.tc_packet.specs.declared.Service.TheVariants.{Ad}
 use Rattle.tc_channel.specs.Journal.{History}
-use Rattle.tc_channel.specs.Reply.{buffered_fields}
+use Rattle.tc_channel.specs.Reply.{buffered_fields_within}
 use Rattle.tc_channel.specs.Admission.{map_of}
-use Rattle.tc_channel.specs.Channel.{Inside, Holds, Follows, FollowsKind, Ends, EndsAtOnce, buffered_of, with_field}
+use Rattle.tc_channel.specs.Channel.{Inside, HoldsWithin, FollowsWithin, FollowsKindWithin, EndsWithin, EndsAtOnceWithin, buffered_of, with_field}
 use Rattle.tc_link.specs.declared.Act.{Act}
 use Rattle.tc_channel.specs.declared.queues.Planned.{Planned}
 use Rattle.tc_channel.specs.declared.queues.HeldQueue.{HeldQueue}
@@ -28,6 +28,7 @@ use Rattle.tc_channel.proofs.Streams.{frame-runs, release-runs}
 use Rattle.tc_channel.proofs.StateQueues.{kept-either, queues-kept, units-kept}
 use Rattle.tc_channel.proofs.Filled.{filled-drop, first-filled, state-filled}
 use Rattle.tc_channel.proofs.Runs.{run-push, lawful-push}
+use Rattle.tc_channel.proofs.Plain.{run-limit}
 use Rattle.tc_channel.proofs.Sound.{HaveEntries, state-sound, frame-enters, room-at_E1}
 use Rattle.std.proofs.lemmas.Bool.Decides.{nat_tests}
 
@@ -50,15 +51,15 @@ run_from-counted c b [] h steps = h
 run_from-counted c b (e ∷ es) h steps = run_from-counted c (step c b e) es (step-counted c b e h steps.0) steps.1
 
 -- no more fields were released than accepted
-pub state-counted : (c : Settings) (journal : List Event) → IsLawful c journal → IsCounted (run c journal)
-unfolding run IsLawful
-state-counted c journal lawful = run_from-counted c (first_state c) journal (omega arith) lawful
+pub state-counted : (limits : ℕ → ℕ) (c : Settings) (journal : List Event) → IsLawfulWithin limits c journal → IsCounted (run_within limits c journal)
+unfolding run_within IsLawfulWithin
+state-counted limits c journal lawful = run_from-counted c (first_state_within limits c) journal (omega arith) lawful
 
-pub oldest-filled : {c : Settings} {j : List Event} {i : Inside} → Holds c j i → 0 < length i.ring.items → 0 < length (first_of i.ring.items)
-oldest-filled {c} {j} {i} k some =
-    let b = run c j in
+pub oldest-filled : {limits : ℕ → ℕ} {c : Settings} {j : List Event} {i : Inside} → HoldsWithin limits c j i → 0 < length i.ring.items → 0 < length (first_of i.ring.items)
+oldest-filled {limits} {c} {j} {i} k some =
+    let b = run_within limits c j in
     let len : length i.ring.items ≡ length (buffer b) = ap length k.fields in
-    rw k.fields (first-filled (drop b.released b.accepted) (filled-drop b.released b.accepted (state-filled c j k.lawful)) (omega (arith, length-map (drop b.released b.accepted) (λ (a : Accepted). a.field))))
+    rw k.fields (first-filled (drop b.released b.accepted) (filled-drop b.released b.accepted (state-filled limits c j k.lawful)) (omega (arith, length-map (drop b.released b.accepted) (λ (a : Accepted). a.field))))
 
 -- what a row leaves in the buffer
 abbrev entered : ℕ → Bool → List (List ℕ) → List ℕ → List (List ℕ)
@@ -82,51 +83,51 @@ buffer-kept E9 accepted octets b h = refl
 buffer-kept E10 accepted octets b h = refl
 
 -- the row that FARM-1 is asked for is that of the book
-pub row-is : {c : Settings} {j : List Event} {i : Inside} (octets : List ℕ) (kind : Kind) (len capacity : ℕ)
-    → Holds c j i → kind ≡ kind_of (header_of octets) (drop 5 octets) → len ≡ length i.ring.items → capacity ≡ i.ring.capacity
-    → frame_row i.farm.width i.farm.report.vr kind (nat_lt len capacity) ≡ row_of c (run c j) octets
-row-is {c} {j} {i} octets kind len capacity k kind_is len_is capacity_is =
-    let fields : length i.ring.items ≡ length (buffer (run c j)) = ap length k.fields in
+pub row-is : {limits : ℕ → ℕ} {c : Settings} {j : List Event} {i : Inside} (octets : List ℕ) (kind : Kind) (len capacity : ℕ)
+    → HoldsWithin limits c j i → kind ≡ kind_of (header_of octets) (drop 5 octets) → len ≡ length i.ring.items → capacity ≡ i.ring.capacity
+    → frame_row i.farm.width i.farm.report.vr kind (nat_lt len capacity) ≡ row_of c (run_within limits c j) octets
+row-is {limits} {c} {j} {i} octets kind len capacity k kind_is len_is capacity_is =
+    let fields : length i.ring.items ≡ length (buffer (run_within limits c j)) = ap length k.fields in
     rw (k.width, k.report, kind_is, len_is, capacity_is, k.capacity, fields) refl
 
-pub can-enter : {c : Settings} {j : List Event} {i : Inside} (octets : List ℕ) (row : Row)
-    → HaveEntries → Holds c j i → row ≡ row_of c (run c j) octets → IsSome (entry row i.farm.report)
-can-enter {c} {j} octets row entries k row_is = rw (row_is, k.report) (frame-enters entries c (run c j) (state-sound c j) octets)
+pub can-enter : {limits : ℕ → ℕ} {c : Settings} {j : List Event} {i : Inside} (octets : List ℕ) (row : Row)
+    → HaveEntries → HoldsWithin limits c j i → row ≡ row_of c (run_within limits c j) octets → IsSome (entry row i.farm.report)
+can-enter {limits} {c} {j} octets row entries k row_is = rw (row_is, k.report) (frame-enters entries c (run_within limits c j) (state-sound limits c j) octets)
 
-pub frame-keeps : {c : Settings} {j : List Event} {i : Inside} (later : Inside) (made : List Placed) (p : Planned) (unit : Option (List ℕ)) (kind : Kind) (octets : List ℕ) (row : Row) (act : Act)
-    → HaveEntries → Holds c j i → kind ≡ kind_of (header_of octets) (drop 5 octets) → FollowsKind kind i.open_runs later.open_runs (drop 5 octets) → EndsAtOnce kind i.open_runs (drop 5 octets) unit
+pub frame-keeps : {limits : ℕ → ℕ} {c : Settings} {j : List Event} {i : Inside} (later : Inside) (made : List Placed) (p : Planned) (unit : Option (List ℕ)) (kind : Kind) (octets : List ℕ) (row : Row) (act : Act)
+    → HaveEntries → HoldsWithin limits c j i → kind ≡ kind_of (header_of octets) (drop 5 octets) → FollowsKindWithin (limits (map_of (drop 5 octets))) kind i.open_runs later.open_runs (drop 5 octets) → EndsAtOnceWithin (limits (map_of (drop 5 octets))) kind i.open_runs (drop 5 octets) unit
     → IsPlanned (map_of (drop 5 octets)) unit i.rings i.unit_rings made p → later.rings ≡ put_all i.rings made → later.unit_rings ≡ put_all i.unit_rings (placed p.unit)
-    → IsWhole octets → row ≡ row_of c (run c j) octets → act.event ≡ number_of row → act.accepted ≡ accepts row i.farm.report
+    → IsWhole octets → row ≡ row_of c (run_within limits c j) octets → act.event ≡ number_of row → act.accepted ≡ accepts row i.farm.report
     → later.farm.width ≡ i.farm.width → later.farm.report ≡ after row i.farm.report
     → later.ring.items ≡ with_field i.ring.items (buffered_of act (drop 5 octets)) → later.ring.capacity ≡ i.ring.capacity
-    → Holds c (j ++ Frame octets ∷ []) later
-frame-keeps {c} {j} {i} later made p unit kind octets row act entries k kind_is follows ends planned rings_are units_are whole row_is event_is accepted_is width report items capacity =
-    let b = run c j in
-    let pushed = run-push c j (Frame octets) in
+    → HoldsWithin limits c (j ++ Frame octets ∷ []) later
+frame-keeps {limits} {c} {j} {i} later made p unit kind octets row act entries k kind_is follows ends planned rings_are units_are whole row_is event_is accepted_is width report items capacity =
+    let b = run_within limits c j in
+    let pushed = run-push limits c j (Frame octets) in
     let accepts_is : act.accepted ≡ accepts (row_of c b octets) b.report = rw (accepted_is, row_is, k.report) refl in
     let number_is : act.event ≡ number_of (row_of c b octets) = rw (event_is, row_is) refl in
     let fields : later.ring.items ≡ buffer (step c b (Frame octets)) =
-    items ∙ rw (k.fields, number_is, accepts_is) (sym (buffer-kept (row_of c b octets) (accepts (row_of c b octets) b.report) octets b (state-counted c j k.lawful))) in
-    let offered = planned-held (drop 5 octets) unit i.rings later.rings i.unit_rings later.unit_rings made p b (queues-kept c j) (units-kept c j) (k.queues, k.units) planned rings_are units_are in
-    let queues = frame-queues c b octets i.open_runs unit later.rings later.unit_rings k.runs (rw (← kind_is) ends) offered in
+    items ∙ rw (k.fields, number_is, accepts_is) (sym (buffer-kept (row_of c b octets) (accepts (row_of c b octets) b.report) octets b (state-counted limits c j k.lawful))) in
+    let offered = planned-held (drop 5 octets) unit i.rings later.rings i.unit_rings later.unit_rings made p b (queues-kept limits c j) (units-kept limits c j) (k.queues, k.units) planned rings_are units_are in
+    let queues = frame-queues limits c b octets i.open_runs unit later.rings later.unit_rings (run-limit limits c j) k.runs (rw (← kind_is) ends) offered in
     record {
       allowed = k.allowed;
-      lawful = lawful-push c j (Frame octets) k.lawful (whole, frame-enters entries c b (state-sound c j) octets);
+      lawful = lawful-push limits c j (Frame octets) k.lawful (whole, frame-enters entries c b (state-sound limits c j) octets);
       width = width ∙ k.width;
       report = report ∙ rw (row_is, k.report, pushed) refl;
       capacity = capacity ∙ k.capacity;
       fields = fields ∙ ap buffer (sym pushed);
-      runs = rw pushed (frame-runs c b octets i.open_runs later.open_runs k.runs (rw (← kind_is) follows));
+      runs = rw pushed (frame-runs limits c b octets i.open_runs later.open_runs k.runs (rw (← kind_is) follows));
       queues = rw pushed queues.0;
       units = rw pushed queues.1;
     }
 
 -- a buffered field goes where there is room
-pub room-for : {c : Settings} {j : List Event} {i : Inside} (octets : List ℕ) (row : Row)
-    → Holds c j i → row ≡ row_of c (run c j) octets → number_of row ≡ 1 → length i.ring.items < i.ring.capacity
-room-for {c} {j} {i} octets row k row_is one =
-    let room = room-at_E1 c (run c j) octets (sym row_is ∙ only_E1 row one) in
-    let fields : length i.ring.items ≡ length (buffer (run c j)) = ap length k.fields in
+pub room-for : {limits : ℕ → ℕ} {c : Settings} {j : List Event} {i : Inside} (octets : List ℕ) (row : Row)
+    → HoldsWithin limits c j i → row ≡ row_of c (run_within limits c j) octets → number_of row ≡ 1 → length i.ring.items < i.ring.capacity
+room-for {limits} {c} {j} {i} octets row k row_is one =
+    let room = room-at_E1 c (run_within limits c j) octets (sym row_is ∙ only_E1 row one) in
+    let fields : length i.ring.items ≡ length (buffer (run_within limits c j)) = ap length k.fields in
     rw (k.capacity, fields) (grind (arith, nat_tests))
   where
     only_E1 : (row : Row) → number_of row ≡ 1 → row ≡ E1
@@ -153,30 +154,30 @@ released-report c b = refl
 has-release : (b : ChannelState) → 0 < length (buffer b) → b.released < length b.accepted
 has-release b h = omega (arith, length-map (drop b.released b.accepted) (λ (a : Accepted). a.field), length-drop b.released b.accepted)
 
-pub release-keeps : {c : Settings} {j : List Event} {i : Inside} (later : Inside) (made : List Placed) (p : Planned) (unit : Option (List ℕ))
-    → Holds c j i → Follows i.open_runs later.open_runs Ad (first_of i.ring.items) → Ends i.open_runs Ad (first_of i.ring.items) unit
+pub release-keeps : {limits : ℕ → ℕ} {c : Settings} {j : List Event} {i : Inside} (later : Inside) (made : List Placed) (p : Planned) (unit : Option (List ℕ))
+    → HoldsWithin limits c j i → FollowsWithin (limits (map_of (first_of i.ring.items))) i.open_runs later.open_runs Ad (first_of i.ring.items) → EndsWithin (limits (map_of (first_of i.ring.items))) i.open_runs Ad (first_of i.ring.items) unit
     → IsPlanned (map_of (first_of i.ring.items)) unit i.rings i.unit_rings made p → later.rings ≡ put_all i.rings made → later.unit_rings ≡ put_all i.unit_rings (placed p.unit) → 0 < length i.ring.items
     → later.farm.width ≡ i.farm.width → later.farm.report ≡ after E10 i.farm.report
     → later.ring ≡ record { items = drop 1 i.ring.items; capacity = i.ring.capacity }
-    → Holds c (j ++ Release ∷ []) later
-release-keeps {c} {j} {i} later made p unit k follows ends planned rings_are units_are some width report is =
-    let b = run c j in
-    let pushed = run-push c j Release in
+    → HoldsWithin limits c (j ++ Release ∷ []) later
+release-keeps {limits} {c} {j} {i} later made p unit k follows ends planned rings_are units_are some width report is =
+    let b = run_within limits c j in
+    let pushed = run-push limits c j Release in
     let len : length i.ring.items ≡ length (buffer b) = ap length k.fields in
     let fields : later.ring.items ≡ buffer (step c b Release) =
     ap (λ (x : Buffer (List ℕ)). x.items) is ∙ ap (drop 1) k.fields ∙ sym (buffer-released c b) in
     let planned_is : IsPlanned (map_of (first_of (buffer b))) unit i.rings i.unit_rings made p = rw k.fields at planned in
-    let ends_is : Ends i.open_runs Ad (first_of (buffer b)) unit = rw k.fields at ends in
-    let offered = planned-held (first_of (buffer b)) unit i.rings later.rings i.unit_rings later.unit_rings made p b (queues-kept c j) (units-kept c j) (k.queues, k.units) planned_is rings_are units_are in
-    let queues = release-queues c b i.open_runs unit later.rings later.unit_rings k.runs ends_is offered in
+    let ends_is : EndsWithin (limits (map_of (first_of (buffer b)))) i.open_runs Ad (first_of (buffer b)) unit = rw k.fields at ends in
+    let offered = planned-held (first_of (buffer b)) unit i.rings later.rings i.unit_rings later.unit_rings made p b (queues-kept limits c j) (units-kept limits c j) (k.queues, k.units) planned_is rings_are units_are in
+    let queues = release-queues limits c b i.open_runs unit later.rings later.unit_rings (run-limit limits c j) k.runs ends_is offered in
     record {
       allowed = k.allowed;
-      lawful = lawful-push c j Release k.lawful (has-release b (omega arith));
+      lawful = lawful-push limits c j Release k.lawful (has-release b (omega arith));
       width = width ∙ k.width;
       report = report ∙ rw (k.report, pushed) (sym (released-report c b));
       capacity = ap (λ (x : Buffer (List ℕ)). x.capacity) is ∙ k.capacity;
       fields = fields ∙ ap buffer (sym pushed);
-      runs = rw pushed (release-runs c b i.open_runs later.open_runs k.runs (let f : Follows i.open_runs later.open_runs Ad (first_of (buffer b)) = rw k.fields at follows in f));
+      runs = rw pushed (release-runs limits c b i.open_runs later.open_runs k.runs (let f : FollowsWithin (limits (map_of (first_of (buffer b)))) i.open_runs later.open_runs Ad (first_of (buffer b)) = rw k.fields at follows in f));
       queues = rw pushed queues.0;
       units = rw pushed queues.1;
     }
@@ -185,10 +186,10 @@ pub have-places : (wanted : ℕ → List ℕ → Bool) (items : List (List ℕ))
 have-places wanted items rings = copies-places wanted (length rings) 0 items rings (omega arith)
 
 -- a channel whose buffer isn't empty holds a field
-pub some-field : {h : History} {c : Settings} {j : List Event} {i : Inside} → record { settings = c; journal = j } ≡ h
-    → Holds c j i → (buffered_fields h.settings h.journal ≡ [] → ⊥) → 0 < length i.ring.items
-unfolding buffered_fields
-some-field {h} {c} {j} {i} view k none = by i.ring.items refl where
+pub some-field : {h : History} {limits : ℕ → ℕ} {c : Settings} {j : List Event} {i : Inside} → record { settings = c; journal = j } ≡ h
+    → HoldsWithin limits c j i → (buffered_fields_within limits h.settings h.journal ≡ [] → ⊥) → 0 < length i.ring.items
+unfolding buffered_fields_within
+some-field {h} {limits} {c} {j} {i} view k none = by i.ring.items refl where
   by : (items : List (List ℕ)) → i.ring.items ≡ items → 0 < length i.ring.items
   by [] e = absurd (none (rw (← view) (sym k.fields ∙ e)))
   by (x ∷ xs) e = rw e (omega arith)

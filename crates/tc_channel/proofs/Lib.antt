@@ -14,6 +14,7 @@ pub mod Wholes
 pub mod Chosen
 pub mod Takes
 pub mod Room
+pub mod Limits
 pub mod Octets
 pub mod Filled
 pub mod Held

@@ -1,50 +1,28 @@
 -- How many octets wait in the queues and in the buffer.
-use Rattle.std.proofs.Common.{◌≡◌, ℕ, refl, zero, suc, ◌+◌, ◌*◌, ◌≤◌, Bool, true, false, cond, eqb, ◌&&◌, List, [], ◌∷◌, ◌++◌, length, take, map, drop, filter, Option, Some, None, arith}
-use Rattle.std.specs.Prelude.{nat_lt, nat_le}
+use Rattle.std.proofs.Common.{ℕ, zero, suc, ◌+◌, ◌*◌, ◌≤◌, Bool, true, false, cond, eqb, ◌&&◌, List, [], ◌∷◌, ◌++◌, length, take, map, drop, filter, Option, Some, None, arith}
+use Rattle.std.specs.Prelude.{nat_lt}
 use Rattle.std.specs.List.{AllByRecursion}
 use Rattle.std.proofs.lemmas.List.{length-drop, length-map, length-take}
 use Rattle.std.proofs.lemmas.List.Sums.{sum_by-cons}
-use Rattle.std.proofs.lemmas.Bool.Decides.{nat_tests}
 use Rattle.tc_link.specs.Frame.{IsWhole, header_of as frame_header}
 use Rattle.tc_link.specs.Farm.{Row, accepts}
-use Rattle.tc_packet.specs.declared.segment.Part.{Part}
-use Rattle.tc_packet.specs.declared.segment.Part.TheVariants.{First, Continuing, Last, Unsegmented}
 use Rattle.tc_packet.specs.declared.Service.{Service}
 use Rattle.tc_packet.specs.declared.Service.TheVariants.{Ad, Bd}
-use Rattle.tc_packet.specs.Reassembly.{IsWithinLimit, bounded, ended_by, unit_ended, largest_unit, open_run, stream}
-use Rattle.tc_packet.specs.Segment.{header_of, body_of}
+use Rattle.tc_packet.specs.Reassembly.{IsWithinLimit, unit_ended, largest_unit, stream}
 use Rattle.tc_packet.specs.SpacePacket.{begins, named_length, packets_within}
 use Rattle.tc_channel.specs.declared.settings.QueueSetting.{QueueSetting}
 use Rattle.tc_channel.specs.declared.settings.MapSetting.{MapSetting}
 use Rattle.tc_channel.specs.declared.settings.Settings.{Settings}
 use Rattle.tc_channel.specs.declared.event.Event.{Event}
 use Rattle.tc_channel.specs.declared.event.Event.TheVariants.{Frame, Release, Take, TakeUnit}
-use Rattle.tc_channel.specs.ChannelState.{ChannelState, Accepted, Queue, first_state, empty_queue, empty_unit_queue, buffer, waiting}
+use Rattle.tc_channel.specs.ChannelState.{ChannelState, Accepted, Queue, first_state_within, empty_queue, empty_unit_queue, buffer, waiting}
 use Rattle.tc_channel.specs.Admission.{map_of, is_chosen, packets_offered, units_offered, share_of, with_shares, room_of, is_for, is_of_map}
 use Rattle.tc_channel.specs.Memory.{largest_field, packets_held, units_held, waiting_in_all, octets_in, octets_waiting}
-use Rattle.tc_channel.specs.Run.{step, row_of, kept, passed_on, taken_from, unit_of, first_of, run_from, AreSteps, IsLawful, run}
+use Rattle.tc_channel.specs.Run.{step, row_of, kept, passed_on, taken_from, unit_of, first_of, run_from, AreSteps, IsLawfulWithin, run_within}
 use Rattle.tc_channel.proofs.BufferSize.{buffer-fits}
+use Rattle.tc_channel.proofs.Limits.{within-unit, within-both}
 use Rattle.tc_channel.proofs.StateQueues.{kept-either}
 use Rattle.tc_channel.proofs.Room.{packets-within, units-within}
-
--- a unit is within the limit
-
-bounded-within : (octets : List ℕ) → IsWithinLimit (bounded octets)
-bounded-within octets = by (nat_le (length octets) largest_unit) refl where
-  by : (t : Bool) → nat_le (length octets) largest_unit ≡ t → IsWithinLimit (bounded octets)
-  by true fits = rw fits (grind (arith, nat_tests))
-  by false over = rw over tt
-
-within-ended : (part : Part) (run : Option (List ℕ)) (body : List ℕ) → IsWithinLimit (ended_by part run body)
-within-ended Unsegmented run body = bounded-within body
-within-ended Last None body = tt
-within-ended Last (Some octets) body = bounded-within (octets ++ body)
-within-ended First run body = tt
-within-ended Continuing run body = tt
-
-within-unit : (segmented : Bool) (fields : List (List ℕ)) (field : List ℕ) → IsWithinLimit (unit_ended segmented fields field)
-within-unit true fields field = within-ended (header_of field).part (open_run fields) (body_of field)
-within-unit false fields field = bounded-within field
 
 -- none of the items is longer than the largest unit
 abbrev AreShort : List (List ℕ) → Type 0
@@ -122,7 +100,7 @@ Hold b = HoldShort b.queues × HoldShort b.units
 hold-passed : (b : ChannelState) (service : Service) (field : List ℕ) → Hold b → Hold (passed_on service field b)
 unfolding passed_on
 hold-passed b service field h =
-    let w = within-unit b.segmented (stream service (map_of field) b.passed) field in
+    let w = within-both (b.limit (map_of field)) (unit_ended b.segmented (stream service (map_of field) b.passed) field) (within-unit b.segmented (stream service (map_of field) b.passed) field) in
     (hold-offered is_for (packets_offered (unit_of b service field) (is_chosen b field)) b.queues (short-packets (unit_of b service field) (is_chosen b field) w) h.0, hold-offered (is_of_map (map_of field)) (units_offered (unit_of b service field) (is_chosen b field)) b.units (short-units (unit_of b service field) (is_chosen b field) w) h.1)
 
 run_from-hold : (c : Settings) (b : ChannelState) (es : List Event) → Hold b → Hold (run_from c b es)
@@ -132,9 +110,9 @@ run_from-hold c b (Release ∷ es) h = run_from-hold c (step c b Release) es (ho
 run_from-hold c b (Take apid ∷ es) h = run_from-hold c (step c b (Take apid)) es (hold-taken apid b.queues h.0, h.1)
 run_from-hold c b (TakeUnit map_id ∷ es) h = run_from-hold c (step c b (TakeUnit map_id)) es (h.0, hold-taken map_id b.units h.1)
 
-run-hold : (c : Settings) (journal : List Event) → Hold (run c journal)
-unfolding run
-run-hold c journal = run_from-hold c (first_state c) journal (hold-empty c.queues, hold-empty-units c.maps)
+run-hold : (limits : ℕ → ℕ) (c : Settings) (journal : List Event) → Hold (run_within limits c journal)
+unfolding run_within
+run-hold limits c journal = run_from-hold c (first_state_within limits c) journal (hold-empty c.queues, hold-empty-units c.maps)
 
 octets-within : (items : List (List ℕ)) → AreShort items → octets_in items ≤ length items * 65542
 octets-within [] h = omega arith
@@ -153,11 +131,11 @@ all-within (q ∷ qs) h =
       all-within qs h.1,
     )
 
-pub packets-fit : (s : Settings) (journal : List Event) → octets_waiting (run s journal).queues ≤ packets_held s * largest_unit
-packets-fit s journal = omega (arith, all-within (run s journal).queues (run-hold s journal).0, packets-within s journal)
+pub packets-fit : (limits : ℕ → ℕ) (s : Settings) (journal : List Event) → octets_waiting (run_within limits s journal).queues ≤ packets_held s * largest_unit
+packets-fit limits s journal = omega (arith, all-within (run_within limits s journal).queues (run-hold limits s journal).0, packets-within limits s journal)
 
-pub units-fit : (s : Settings) (journal : List Event) → octets_waiting (run s journal).units ≤ units_held s * largest_unit
-units-fit s journal = omega (arith, all-within (run s journal).units (run-hold s journal).1, units-within s journal)
+pub units-fit : (limits : ℕ → ℕ) (s : Settings) (journal : List Event) → octets_waiting (run_within limits s journal).units ≤ units_held s * largest_unit
+units-fit limits s journal = omega (arith, all-within (run_within limits s journal).units (run-hold limits s journal).1, units-within limits s journal)
 
 -- each accepted frame has a data field that fits one
 abbrev HaveFields : List Accepted → Type 0
@@ -184,9 +162,9 @@ run_from-fields c b (Release ∷ es) h steps = run_from-fields c (step c b Relea
 run_from-fields c b (Take apid ∷ es) h steps = run_from-fields c (step c b (Take apid)) es h steps.1
 run_from-fields c b (TakeUnit map_id ∷ es) h steps = run_from-fields c (step c b (TakeUnit map_id)) es h steps.1
 
-state-fields : (c : Settings) (journal : List Event) → IsLawful c journal → HaveFields (run c journal).accepted
-unfolding run IsLawful
-state-fields c journal lawful = run_from-fields c (first_state c) journal tt lawful
+state-fields : (limits : ℕ → ℕ) (c : Settings) (journal : List Event) → IsLawfulWithin limits c journal → HaveFields (run_within limits c journal).accepted
+unfolding run_within IsLawfulWithin
+state-fields limits c journal lawful = run_from-fields c (first_state_within limits c) journal tt lawful
 
 fields-within : (xs : List Accepted) → HaveFields xs → octets_in (map (λ (a : Accepted). a.field) xs) ≤ length xs * 1019
 fields-within [] h = omega arith
@@ -194,13 +172,13 @@ fields-within (x ∷ xs) h =
     let short : length x.field ≤ 1019 = h.0 in
     omega (arith, short, sum_by-cons (λ (i : List ℕ). length i) x.field (map (λ (a : Accepted). a.field) xs), fields-within xs h.1)
 
-pub fields-fit : (s : Settings) (journal : List Event) → IsLawful s journal → octets_in (buffer (run s journal)) ≤ s.buffer * largest_field
-fields-fit s journal lawful =
-    let b = run s journal in
+pub fields-fit : (limits : ℕ → ℕ) (s : Settings) (journal : List Event) → IsLawfulWithin limits s journal → octets_in (buffer (run_within limits s journal)) ≤ s.buffer * largest_field
+fields-fit limits s journal lawful =
+    let b = run_within limits s journal in
     let waiting = drop b.released b.accepted in
     omega (
       arith,
-      fields-within waiting (fields-drop b.released b.accepted (state-fields s journal lawful)),
+      fields-within waiting (fields-drop b.released b.accepted (state-fields limits s journal lawful)),
       length-map waiting (λ (a : Accepted). a.field),
-      buffer-fits s journal,
+      buffer-fits limits s journal,
     )

@@ -10,7 +10,7 @@ use Rattle.tc_channel.specs.declared.event.Event.{Event}
 use Rattle.tc_channel.specs.ChannelState.{Queue, empty_queue, empty_unit_queue, waiting}
 use Rattle.tc_channel.specs.Admission.{with_share, with_shares}
 use Rattle.tc_channel.specs.Memory.{packets_held, units_held, waiting_in_all}
-use Rattle.tc_channel.specs.Run.{taken_from, run}
+use Rattle.tc_channel.specs.Run.{taken_from, run_within}
 use Rattle.tc_channel.proofs.StateQueues.{GoesOn, AreKept, run-both, queues-kept, units-kept}
 
 abbrev room : List Queue → ℕ
@@ -47,8 +47,8 @@ room-empty-units : (ms : List MapSetting) → room (map empty_unit_queue ms) ≡
 room-empty-units [] = refl
 room-empty-units (m ∷ ms) = room-cons (empty_unit_queue m) (map empty_unit_queue ms) ∙ ap (λ x. m.capacity + x) (room-empty-units ms) ∙ sym (sum_by-cons (λ (x : MapSetting). x.capacity) m ms)
 
-room-stays : (s : Settings) (journal : List Event) → (room (run s journal).queues ≡ packets_held s) × (room (run s journal).units ≡ units_held s)
-room-stays s journal = run-both (λ qs. room qs ≡ packets_held s) (λ qs. room qs ≡ units_held s) (room-goes-on (packets_held s)) (room-goes-on (units_held s)) s journal (room-empty s.queues) (room-empty-units s.maps)
+room-stays : (limits : ℕ → ℕ) (s : Settings) (journal : List Event) → (room (run_within limits s journal).queues ≡ packets_held s) × (room (run_within limits s journal).units ≡ units_held s)
+room-stays limits s journal = run-both limits (λ qs. room qs ≡ packets_held s) (λ qs. room qs ≡ units_held s) (room-goes-on (packets_held s)) (room-goes-on (units_held s)) s journal (room-empty s.queues) (room-empty-units s.maps)
 
 waiting-within : (qs : List Queue) → AreKept qs → waiting_in_all qs ≤ room qs
 waiting-within [] h = omega arith
@@ -56,8 +56,8 @@ waiting-within (q ∷ qs) h =
     let capacity = h.0.capacity in
     omega (arith, sum_by-cons (λ (x : Queue). length (waiting x)) q qs, length-drop q.taken q.admitted, room-cons q qs, waiting-within qs h.1)
 
-pub packets-within : (s : Settings) (journal : List Event) → waiting_in_all (run s journal).queues ≤ packets_held s
-packets-within s journal = omega (arith, waiting-within (run s journal).queues (queues-kept s journal), (room-stays s journal).0)
+pub packets-within : (limits : ℕ → ℕ) (s : Settings) (journal : List Event) → waiting_in_all (run_within limits s journal).queues ≤ packets_held s
+packets-within limits s journal = omega (arith, waiting-within (run_within limits s journal).queues (queues-kept limits s journal), (room-stays limits s journal).0)
 
-pub units-within : (s : Settings) (journal : List Event) → waiting_in_all (run s journal).units ≤ units_held s
-units-within s journal = omega (arith, waiting-within (run s journal).units (units-kept s journal), (room-stays s journal).1)
+pub units-within : (limits : ℕ → ℕ) (s : Settings) (journal : List Event) → waiting_in_all (run_within limits s journal).units ≤ units_held s
+units-within limits s journal = omega (arith, waiting-within (run_within limits s journal).units (units-kept limits s journal), (room-stays limits s journal).1)

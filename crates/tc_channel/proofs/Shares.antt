@@ -24,8 +24,8 @@ use Rattle.tc_link.specs.Window.{place_of}
 use Rattle.tc_packet.specs.declared.Service.{Service}
 use Rattle.tc_packet.specs.declared.Service.TheVariants.{Ad, Bd}
 use Rattle.tc_packet.specs.Segment as segment
-use Rattle.tc_packet.specs.Reassembly.{OpenRuns, stream, unit_ended}
-use Rattle.tc_channel.specs.Channel.{AreRuns, Ends, EndsAtOnce}
+use Rattle.tc_packet.specs.Reassembly.{OpenRuns, at_most, stream, unit_ended}
+use Rattle.tc_channel.specs.Channel.{AreRuns, EndsWithin, EndsAtOnceWithin}
 use Rattle.tc_channel.specs.Run.{step, row_of, kept, passed_on, unit_of, first_of}
 use Rattle.tc_channel.proofs.StateQueues.{AreKept}
 use Rattle.tc_channel.proofs.Copies.{Fit, shares-put, copies-places, length-copies}
@@ -99,10 +99,10 @@ shares-none wanted [] = refl
 shares-none wanted (q ∷ qs) = ap (λ (x : Queue). x ∷ with_shares wanted [] qs) (none-with wanted q) ∙ ap (λ (x : List Queue). q ∷ x) (shares-none wanted qs)
 
 -- the unit that a field ends
-ends-unit : (service : Service) (field : List ℕ) (b : ChannelState) (open_runs : OpenRuns) (unit : Option (List ℕ)) → AreRuns open_runs b.segmented b.passed → Ends open_runs service field unit → unit ≡ unit_of b service field
-ends-unit service field b open_runs unit are ends =
+ends-unit : (limits : ℕ → ℕ) (service : Service) (field : List ℕ) (b : ChannelState) (open_runs : OpenRuns) (unit : Option (List ℕ)) → b.limit ≡ limits → AreRuns limits open_runs b.segmented b.passed → EndsWithin (limits (map_of field)) open_runs service field unit → unit ≡ unit_of b service field
+ends-unit limits service field b open_runs unit limit are ends =
     let fields = stream service (segment.header_of field).map b.passed in
-    ends fields (are.runs service (segment.header_of field).map (omega arith)) ∙ ap (λ s. unit_ended s fields field) are.segmented
+    ends fields (are.runs service (segment.header_of field).map (omega arith)) ∙ ap (λ s. at_most (limits (map_of field)) (unit_ended s fields field)) are.segmented ∙ ap (λ (l : ℕ → ℕ). at_most (l (map_of field)) (unit_ended b.segmented fields field)) (sym limit)
 
 -- whether a MAP is chosen, by the rings
 same-chosen : (map_id : ℕ) (unit_rings : List HeldQueue) (qs : List Queue) → unit_rings ≡ map held qs → is_some (queue_for map_id unit_rings) ≡ is_some (queue_of map_id qs)
@@ -135,26 +135,26 @@ nothing-offered field unit rings unit_rings b none are =
     let e : AreHeld rings unit_rings (offered field None b) = rw none at are in
     (e.0 ∙ ap (map held) (shares-none is_for b.queues), e.1 ∙ ap (map held) (shares-none (is_of_map (map_of field)) b.units))
 
-kind-queues : (width vr : ℕ) (kind : Kind) (room : Bool) (octets : List ℕ) (b : ChannelState) (open_runs : OpenRuns) (unit : Option (List ℕ)) (new new_units : List HeldQueue) → AreRuns open_runs b.segmented b.passed
-    → EndsAtOnce kind open_runs (drop 5 octets) unit → AreHeld new new_units (offered (drop 5 octets) unit b)
+kind-queues : (limits : ℕ → ℕ) (width vr : ℕ) (kind : Kind) (room : Bool) (octets : List ℕ) (b : ChannelState) (open_runs : OpenRuns) (unit : Option (List ℕ)) (new new_units : List HeldQueue) → b.limit ≡ limits → AreRuns limits open_runs b.segmented b.passed
+    → EndsAtOnceWithin (limits (map_of (drop 5 octets))) kind open_runs (drop 5 octets) unit → AreHeld new new_units (offered (drop 5 octets) unit b)
     → AreHeld new new_units (kept (frame_row width vr kind room) (accepts (frame_row width vr kind room) b.report) octets b)
 unfolding passed_on
-kind-queues width vr (kinds.Ad ns) room octets b open_runs unit new new_units are ends is =
+kind-queues limits width vr (kinds.Ad ns) room octets b open_runs unit new new_units limit are ends is =
     let row = row_at (place_of width vr ns) room in
     kept-held row (accepts row b.report) octets b new new_units (not-BD (place_of width vr ns) room) (nothing-offered (drop 5 octets) unit new new_units b ends is)
-kind-queues width vr kinds.Bd room octets b open_runs unit new new_units are ends is = subst (λ (x : Option (List ℕ)). AreHeld new new_units (offered (drop 5 octets) x b)) (ends-unit Bd (drop 5 octets) b open_runs unit are ends) is
-kind-queues width vr (kinds.Bc Unlock) room octets b open_runs unit new new_units are ends is = nothing-offered (drop 5 octets) unit new new_units b ends is
-kind-queues width vr (kinds.Bc (SetVr x)) room octets b open_runs unit new new_units are ends is = nothing-offered (drop 5 octets) unit new new_units b ends is
-kind-queues width vr kinds.Invalid room octets b open_runs unit new new_units are ends is = nothing-offered (drop 5 octets) unit new new_units b ends is
+kind-queues limits width vr kinds.Bd room octets b open_runs unit new new_units limit are ends is = subst (λ (x : Option (List ℕ)). AreHeld new new_units (offered (drop 5 octets) x b)) (ends-unit limits Bd (drop 5 octets) b open_runs unit limit are ends) is
+kind-queues limits width vr (kinds.Bc Unlock) room octets b open_runs unit new new_units limit are ends is = nothing-offered (drop 5 octets) unit new new_units b ends is
+kind-queues limits width vr (kinds.Bc (SetVr x)) room octets b open_runs unit new new_units limit are ends is = nothing-offered (drop 5 octets) unit new new_units b ends is
+kind-queues limits width vr kinds.Invalid room octets b open_runs unit new new_units limit are ends is = nothing-offered (drop 5 octets) unit new new_units b ends is
 
-pub frame-queues : (c : Settings) (b : ChannelState) (octets : List ℕ) (open_runs : OpenRuns) (unit : Option (List ℕ)) (new new_units : List HeldQueue) → AreRuns open_runs b.segmented b.passed
-    → EndsAtOnce (kind_of (header_of octets) (drop 5 octets)) open_runs (drop 5 octets) unit → AreHeld new new_units (offered (drop 5 octets) unit b) → AreHeld new new_units (step c b (Frame octets))
-frame-queues c b octets open_runs unit new new_units are ends is = kind-queues c.width b.report.vr (kind_of (header_of octets) (drop 5 octets)) (has_room c b) octets b open_runs unit new new_units are ends is
+pub frame-queues : (limits : ℕ → ℕ) (c : Settings) (b : ChannelState) (octets : List ℕ) (open_runs : OpenRuns) (unit : Option (List ℕ)) (new new_units : List HeldQueue) → b.limit ≡ limits → AreRuns limits open_runs b.segmented b.passed
+    → EndsAtOnceWithin (limits (map_of (drop 5 octets))) (kind_of (header_of octets) (drop 5 octets)) open_runs (drop 5 octets) unit → AreHeld new new_units (offered (drop 5 octets) unit b) → AreHeld new new_units (step c b (Frame octets))
+frame-queues limits c b octets open_runs unit new new_units limit are ends is = kind-queues limits c.width b.report.vr (kind_of (header_of octets) (drop 5 octets)) (has_room c b) octets b open_runs unit new new_units limit are ends is
 
-pub release-queues : (c : Settings) (b : ChannelState) (open_runs : OpenRuns) (unit : Option (List ℕ)) (new new_units : List HeldQueue) → AreRuns open_runs b.segmented b.passed
-    → Ends open_runs Ad (first_of (buffer b)) unit → AreHeld new new_units (offered (first_of (buffer b)) unit b) → AreHeld new new_units (step c b Release)
+pub release-queues : (limits : ℕ → ℕ) (c : Settings) (b : ChannelState) (open_runs : OpenRuns) (unit : Option (List ℕ)) (new new_units : List HeldQueue) → b.limit ≡ limits → AreRuns limits open_runs b.segmented b.passed
+    → EndsWithin (limits (map_of (first_of (buffer b)))) open_runs Ad (first_of (buffer b)) unit → AreHeld new new_units (offered (first_of (buffer b)) unit b) → AreHeld new new_units (step c b Release)
 unfolding passed_on
-release-queues c b open_runs unit new new_units are ends is = subst (λ (x : Option (List ℕ)). AreHeld new new_units (offered (first_of (buffer b)) x b)) (ends-unit Ad (first_of (buffer b)) b open_runs unit are ends) is
+release-queues limits c b open_runs unit new new_units limit are ends is = subst (λ (x : Option (List ℕ)). AreHeld new new_units (offered (first_of (buffer b)) x b)) (ends-unit limits Ad (first_of (buffer b)) b open_runs unit limit are ends) is
 
 -- how many copies there are
 pub queued-is : (wanted : ℕ → List ℕ → Bool) (ps : List (List ℕ)) (qs : List Queue) → sum_by length (map (share wanted ps) (map held qs)) ≡ queued_of wanted ps qs
@@ -186,18 +186,18 @@ planned-is field unit rings unit_rings made p b are is =
     let units = count-is (is_of_map (map_of field)) (units_offered unit (is_some (queue_for (map_of field) unit_rings))) unit_rings (placed p.unit) b.units are.1 is.whole in
     is.delivery ∙ rw (packets, units, chosen) refl
 
-kind-delivery : (width vr : ℕ) (kind : Kind) (room : Bool) (octets : List ℕ) (b : ChannelState) (open_runs : OpenRuns) (unit : Option (List ℕ)) → AreRuns open_runs b.segmented b.passed → EndsAtOnce kind open_runs (drop 5 octets) unit
+kind-delivery : (limits : ℕ → ℕ) (width vr : ℕ) (kind : Kind) (room : Bool) (octets : List ℕ) (b : ChannelState) (open_runs : OpenRuns) (unit : Option (List ℕ)) → b.limit ≡ limits → AreRuns limits open_runs b.segmented b.passed → EndsAtOnceWithin (limits (map_of (drop 5 octets))) kind open_runs (drop 5 octets) unit
     → delivery_of (drop 5 octets) unit b ≡ frame_delivery (frame_row width vr kind room) octets b
-kind-delivery width vr (kinds.Ad ns) room octets b open_runs unit are ends = rw ends (sym (other-nothing (row_at (place_of width vr ns) room) octets b (not-BD (place_of width vr ns) room)))
-kind-delivery width vr kinds.Bd room octets b open_runs unit are ends = ap (λ (x : Option (List ℕ)). delivery_of (drop 5 octets) x b) (ends-unit Bd (drop 5 octets) b open_runs unit are ends)
-kind-delivery width vr (kinds.Bc Unlock) room octets b open_runs unit are ends = rw ends refl
-kind-delivery width vr (kinds.Bc (SetVr x)) room octets b open_runs unit are ends = rw ends refl
-kind-delivery width vr kinds.Invalid room octets b open_runs unit are ends = rw ends refl
+kind-delivery limits width vr (kinds.Ad ns) room octets b open_runs unit limit are ends = rw ends (sym (other-nothing (row_at (place_of width vr ns) room) octets b (not-BD (place_of width vr ns) room)))
+kind-delivery limits width vr kinds.Bd room octets b open_runs unit limit are ends = ap (λ (x : Option (List ℕ)). delivery_of (drop 5 octets) x b) (ends-unit limits Bd (drop 5 octets) b open_runs unit limit are ends)
+kind-delivery limits width vr (kinds.Bc Unlock) room octets b open_runs unit limit are ends = rw ends refl
+kind-delivery limits width vr (kinds.Bc (SetVr x)) room octets b open_runs unit limit are ends = rw ends refl
+kind-delivery limits width vr kinds.Invalid room octets b open_runs unit limit are ends = rw ends refl
 
-pub frame-delivery : (c : Settings) (b : ChannelState) (octets : List ℕ) (open_runs : OpenRuns) (unit : Option (List ℕ)) (rings unit_rings : List HeldQueue) (made : List Placed) (p : Planned) → AreRuns open_runs b.segmented b.passed → AreHeld rings unit_rings b
-    → EndsAtOnce (kind_of (header_of octets) (drop 5 octets)) open_runs (drop 5 octets) unit → IsPlanned (map_of (drop 5 octets)) unit rings unit_rings made p → p.delivery ≡ frame_delivery (row_of c b octets) octets b
-frame-delivery c b octets open_runs unit rings unit_rings made p are held_are ends is = planned-is (drop 5 octets) unit rings unit_rings made p b held_are is ∙ kind-delivery c.width b.report.vr (kind_of (header_of octets) (drop 5 octets)) (has_room c b) octets b open_runs unit are ends
+pub frame-delivery : (limits : ℕ → ℕ) (c : Settings) (b : ChannelState) (octets : List ℕ) (open_runs : OpenRuns) (unit : Option (List ℕ)) (rings unit_rings : List HeldQueue) (made : List Placed) (p : Planned) → b.limit ≡ limits → AreRuns limits open_runs b.segmented b.passed → AreHeld rings unit_rings b
+    → EndsAtOnceWithin (limits (map_of (drop 5 octets))) (kind_of (header_of octets) (drop 5 octets)) open_runs (drop 5 octets) unit → IsPlanned (map_of (drop 5 octets)) unit rings unit_rings made p → p.delivery ≡ frame_delivery (row_of c b octets) octets b
+frame-delivery limits c b octets open_runs unit rings unit_rings made p limit are held_are ends is = planned-is (drop 5 octets) unit rings unit_rings made p b held_are is ∙ kind-delivery limits c.width b.report.vr (kind_of (header_of octets) (drop 5 octets)) (has_room c b) octets b open_runs unit limit are ends
 
-pub release-delivery : (b : ChannelState) (open_runs : OpenRuns) (unit : Option (List ℕ)) (rings unit_rings : List HeldQueue) (made : List Placed) (p : Planned) → AreRuns open_runs b.segmented b.passed → AreHeld rings unit_rings b
-    → Ends open_runs Ad (first_of (buffer b)) unit → IsPlanned (map_of (first_of (buffer b))) unit rings unit_rings made p → p.delivery ≡ release_reply_at b
-release-delivery b open_runs unit rings unit_rings made p are held_are ends is = planned-is (first_of (buffer b)) unit rings unit_rings made p b held_are is ∙ ap (λ (x : Option (List ℕ)). delivery_of (first_of (buffer b)) x b) (ends-unit Ad (first_of (buffer b)) b open_runs unit are ends)
+pub release-delivery : (limits : ℕ → ℕ) (b : ChannelState) (open_runs : OpenRuns) (unit : Option (List ℕ)) (rings unit_rings : List HeldQueue) (made : List Placed) (p : Planned) → b.limit ≡ limits → AreRuns limits open_runs b.segmented b.passed → AreHeld rings unit_rings b
+    → EndsWithin (limits (map_of (first_of (buffer b)))) open_runs Ad (first_of (buffer b)) unit → IsPlanned (map_of (first_of (buffer b))) unit rings unit_rings made p → p.delivery ≡ release_reply_at b
+release-delivery limits b open_runs unit rings unit_rings made p limit are held_are ends is = planned-is (first_of (buffer b)) unit rings unit_rings made p b held_are is ∙ ap (λ (x : Option (List ℕ)). delivery_of (first_of (buffer b)) x b) (ends-unit limits Ad (first_of (buffer b)) b open_runs unit limit are ends)

@@ -18,8 +18,8 @@ use Rattle.tc_link.specs.Farm.{Row, E1, E2, E3, E4, E5, E6, E7, E8, E9, E10, row
 use Rattle.tc_channel.specs.declared.settings.Settings.{Settings}
 use Rattle.tc_channel.specs.declared.event.Event.{Event}
 use Rattle.tc_channel.specs.declared.event.Event.TheVariants.{Frame, Release, Take, TakeUnit}
-use Rattle.tc_channel.specs.ChannelState.{ChannelState, first_state, has_room}
-use Rattle.tc_channel.specs.Run.{step, row_of, passed_on, run_from, AreSteps, run, IsLawful}
+use Rattle.tc_channel.specs.ChannelState.{ChannelState, first_state_within, has_room}
+use Rattle.tc_channel.specs.Run.{step, row_of, passed_on, run_from, AreSteps, run_within, IsLawfulWithin}
 
 set-below : (field : List ℕ) (x : ℕ) → IsOctets field → command_of field ≡ Some (SetVr x) → x < 256
 set-below [] x h e = absurd cc
@@ -104,6 +104,6 @@ run_from-below c b (Release ∷ es) v steps = run_from-below c (step c b Release
 run_from-below c b (Take apid ∷ es) v steps = run_from-below c (step c b (Take apid)) es v steps.1
 run_from-below c b (TakeUnit map_id ∷ es) v steps = run_from-below c (step c b (TakeUnit map_id)) es v steps.1
 
-pub vr-below : (c : Settings) (journal : List Event) → c.first < 256 → IsLawful c journal → (run c journal).report.vr < 256
-unfolding run IsLawful
-vr-below c journal first lawful = run_from-below c (first_state c) journal first lawful
+pub vr-below : (limits : ℕ → ℕ) (c : Settings) (journal : List Event) → c.first < 256 → IsLawfulWithin limits c journal → (run_within limits c journal).report.vr < 256
+unfolding run_within IsLawfulWithin
+vr-below limits c journal first lawful = run_from-below c (first_state_within limits c) journal first lawful

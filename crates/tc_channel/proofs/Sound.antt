@@ -16,8 +16,8 @@ use Rattle.tc_link.specs.Farm.{Row, E1, E2, E3, E4, E5, E6, E7, E8, E9, E10, row
 use Rattle.tc_channel.specs.declared.settings.Settings.{Settings}
 use Rattle.tc_channel.specs.declared.event.Event.{Event}
 use Rattle.tc_channel.specs.declared.event.Event.TheVariants.{Frame, Release, Take, TakeUnit}
-use Rattle.tc_channel.specs.ChannelState.{ChannelState, first_state, has_room}
-use Rattle.tc_channel.specs.Run.{step, row_of, after_frame, after_release, passed_on, run_from, run}
+use Rattle.tc_channel.specs.ChannelState.{ChannelState, first_state_within, has_room}
+use Rattle.tc_channel.specs.Run.{step, row_of, after_frame, after_release, passed_on, run_from, run_within}
 use Rattle.tc_channel.specs.Laws.{IsSound}
 
 -- by state: Wait, Lockout, and whether there is room
@@ -119,18 +119,18 @@ run_from-sound : (c : Settings) (b : ChannelState) (es : List Event) → Sound (
 run_from-sound c b [] h = h
 run_from-sound c b (e ∷ es) h = run_from-sound c (step c b e) es (step-sound c b e h)
 
-pub run-sound : (c : Settings) (journal : List Event) → Sound (has_room c (run c journal)) (run c journal).report
-unfolding run
-run-sound c journal = run_from-sound c (first_state c) journal (refl, refl)
+pub run-sound : (limits : ℕ → ℕ) (c : Settings) (journal : List Event) → Sound (has_room c (run_within limits c journal)) (run_within limits c journal).report
+unfolding run_within
+run-sound limits c journal = run_from-sound c (first_state_within limits c) journal (refl, refl)
 
 in-S2 : (room : Bool) (st : State) (r : Report) → SoundAt st r.wait r.lockout room → (st ≡ S2 → r.wait ≡ true) × (r.wait ≡ true → room ≡ false) × (r.wait ≡ true → st ≢ S1) × (r.lockout ≡ true → st ≡ S3) × (st ≡ S3 → r.lockout ≡ true)
 in-S2 room S1 r h = let w = h.0 in let l = h.1 in (λ s. absurd cc, λ t. absurd cc, λ t. absurd cc, λ t. absurd cc, λ s. absurd cc)
 in-S2 room S2 r h = let l = h.1 in (λ s. h.0, λ t. h.2, λ t s. cc, λ t. absurd cc, λ s. absurd cc)
 in-S2 room S3 r h = (λ s. absurd cc, h.1, λ t s. cc, λ t. refl, λ s. h.0)
 
-pub state-sound : (c : Settings) (journal : List Event) → IsSound c (run c journal)
-state-sound c journal =
-    let h = in-S2 (has_room c (run c journal)) (run c journal).report.state (run c journal).report (run-sound c journal) in
+pub state-sound : (limits : ℕ → ℕ) (c : Settings) (journal : List Event) → IsSound c (run_within limits c journal)
+state-sound limits c journal =
+    let h = in-S2 (has_room c (run_within limits c journal)) (run_within limits c journal).report.state (run_within limits c journal).report (run-sound limits c journal) in
     record { waits = h.0; full = h.1; never_open = h.2; locked = h.3; lockout = h.4 }
 
 -- tc_link's law on arrivals: the table has an entry for each frame, except for one that is expected in S2 and finds room

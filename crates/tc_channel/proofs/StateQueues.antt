@@ -13,11 +13,11 @@ use Rattle.tc_channel.specs.declared.settings.Settings.{Settings}
 use Rattle.tc_channel.specs.declared.event.Event.{Event}
 use Rattle.tc_channel.specs.declared.event.Event.TheVariants.{Frame, Release, Take, TakeUnit}
 use Rattle.tc_channel.specs.Settings.{IsAllowed}
-use Rattle.tc_channel.specs.ChannelState.{ChannelState, Queue, first_state, empty_queue, empty_unit_queue, buffer}
+use Rattle.tc_channel.specs.ChannelState.{ChannelState, Queue, first_state_within, empty_queue, empty_unit_queue, buffer}
 use Rattle.tc_channel.specs.HeldQueues.{AreDistinct}
 use Rattle.tc_channel.specs.Admission.{map_of, is_chosen, packets_offered, units_offered, share_of, with_share, with_shares, room_of, is_for, is_of_map}
 use Rattle.tc_channel.specs.Laws.{KeepsToItsCapacity}
-use Rattle.tc_channel.specs.Run.{step, row_of, kept, passed_on, taken_from, unit_of, first_of, run_from, run}
+use Rattle.tc_channel.specs.Run.{step, row_of, kept, passed_on, taken_from, unit_of, first_of, run_from, run_within}
 
 -- what holds of a state, of it with one more accepted frame and of it with one more field passed on, holds of what a frame leaves
 pub kept-either : (P : ChannelState → Type 0) (row : Row) (accepted : Bool) (octets : List ℕ) (b : ChannelState) → P b
@@ -59,9 +59,9 @@ run_from-both P Q p q c b (Take apid ∷ es) h u = run_from-both P Q p q c (step
 run_from-both P Q p q c b (TakeUnit map_id ∷ es) h u = run_from-both P Q p q c (step c b (TakeUnit map_id)) es h (q.taken map_id b.units u)
 
 -- what holds of empty packet queues, and of empty unit queues, and goes on, holds of each state's
-pub run-both : (P Q : List Queue → Type 0) → GoesOn P → GoesOn Q → (c : Settings) (journal : List Event) → P (map empty_queue c.queues) → Q (map empty_unit_queue c.maps) → P (run c journal).queues × Q (run c journal).units
-unfolding run
-run-both P Q p q c journal h u = run_from-both P Q p q c (first_state c) journal h u
+pub run-both : (limits : ℕ → ℕ) (P Q : List Queue → Type 0) → GoesOn P → GoesOn Q → (c : Settings) (journal : List Event) → P (map empty_queue c.queues) → Q (map empty_unit_queue c.maps) → P (run_within limits c journal).queues × Q (run_within limits c journal).units
+unfolding run_within
+run-both limits P Q p q c journal h u = run_from-both P Q p q c (first_state_within limits c) journal h u
 
 abbrev pub keys : List Queue → List ℕ
 keys qs = map (λ (q : Queue). q.key) qs
@@ -94,17 +94,17 @@ keys-go-on first = record {
   taken = λ key qs h. keys-taken key qs ∙ h;
 }
 
-keys-stay-both : (c : Settings) (journal : List Event) → (keys (run c journal).queues ≡ map (λ (q : QueueSetting). q.apid) c.queues) × (keys (run c journal).units ≡ map (λ (m : MapSetting). m.map) c.maps)
-keys-stay-both c journal =
+keys-stay-both : (limits : ℕ → ℕ) (c : Settings) (journal : List Event) → (keys (run_within limits c journal).queues ≡ map (λ (q : QueueSetting). q.apid) c.queues) × (keys (run_within limits c journal).units ≡ map (λ (m : MapSetting). m.map) c.maps)
+keys-stay-both limits c journal =
     let apids = map (λ (q : QueueSetting). q.apid) c.queues in
     let maps = map (λ (m : MapSetting). m.map) c.maps in
-    run-both (λ qs. keys qs ≡ apids) (λ qs. keys qs ≡ maps) (keys-go-on apids) (keys-go-on maps) c journal (keys-empty c.queues) (keys-empty-units c.maps)
+    run-both limits (λ qs. keys qs ≡ apids) (λ qs. keys qs ≡ maps) (keys-go-on apids) (keys-go-on maps) c journal (keys-empty c.queues) (keys-empty-units c.maps)
 
-pub keys-stay : (c : Settings) (journal : List Event) → keys (run c journal).queues ≡ map (λ (q : QueueSetting). q.apid) c.queues
-keys-stay c journal = (keys-stay-both c journal).0
+pub keys-stay : (limits : ℕ → ℕ) (c : Settings) (journal : List Event) → keys (run_within limits c journal).queues ≡ map (λ (q : QueueSetting). q.apid) c.queues
+keys-stay limits c journal = (keys-stay-both limits c journal).0
 
-pub unit-keys-stay : (c : Settings) (journal : List Event) → keys (run c journal).units ≡ map (λ (m : MapSetting). m.map) c.maps
-unit-keys-stay c journal = (keys-stay-both c journal).1
+pub unit-keys-stay : (limits : ℕ → ℕ) (c : Settings) (journal : List Event) → keys (run_within limits c journal).units ≡ map (λ (m : MapSetting). m.map) c.maps
+unit-keys-stay limits c journal = (keys-stay-both limits c journal).1
 
 others-apart : {A : Type 0} (key : A → ℕ) (a : ℕ) (qs : List A) → ((j : ℕ) (d : A) → j < length qs → a ≢ key (get_or qs j d)) → AllByRecursion (λ b. a ≢ b) (map key qs)
 others-apart key a [] h = tt
@@ -114,11 +114,11 @@ settings-apart : {A : Type 0} (key : A → ℕ) (qs : List A) → AllPairs (λ p
 settings-apart key [] h = tt
 settings-apart key (q ∷ qs) h = (others-apart key (key q) qs (λ j d lt. h 0 (suc j) d (omega arith) (omega arith)), settings-apart key qs (λ i j d lt l. h (suc i) (suc j) d (omega arith) (omega arith)))
 
-pub queues-apart : (c : Settings) (journal : List Event) → IsAllowed c → AreDistinct (keys (run c journal).queues)
-queues-apart c journal allowed = rw (keys-stay c journal) (settings-apart (λ (q : QueueSetting). q.apid) c.queues allowed.apart)
+pub queues-apart : (limits : ℕ → ℕ) (c : Settings) (journal : List Event) → IsAllowed c → AreDistinct (keys (run_within limits c journal).queues)
+queues-apart limits c journal allowed = rw (keys-stay limits c journal) (settings-apart (λ (q : QueueSetting). q.apid) c.queues allowed.apart)
 
-pub units-apart : (c : Settings) (journal : List Event) → IsAllowed c → AreDistinct (keys (run c journal).units)
-units-apart c journal allowed = rw (unit-keys-stay c journal) (settings-apart (λ (m : MapSetting). m.map) c.maps allowed.maps_apart)
+pub units-apart : (limits : ℕ → ℕ) (c : Settings) (journal : List Event) → IsAllowed c → AreDistinct (keys (run_within limits c journal).units)
+units-apart limits c journal allowed = rw (unit-keys-stay limits c journal) (settings-apart (λ (m : MapSetting). m.map) c.maps allowed.maps_apart)
 
 abbrev pub AreKept : List Queue → Type 0
 AreKept qs = AllByRecursion KeepsToItsCapacity qs
@@ -157,12 +157,12 @@ kept-empty-units (m ∷ ms) = (record { taken = omega arith; capacity = omega ar
 kept-go-on : GoesOn AreKept
 kept-go-on = record { offered = kept-shares; taken = kept-taken }
 
-kept-both : (c : Settings) (journal : List Event) → AreKept (run c journal).queues × AreKept (run c journal).units
-kept-both c journal = run-both AreKept AreKept kept-go-on kept-go-on c journal (kept-empty c.queues) (kept-empty-units c.maps)
+kept-both : (limits : ℕ → ℕ) (c : Settings) (journal : List Event) → AreKept (run_within limits c journal).queues × AreKept (run_within limits c journal).units
+kept-both limits c journal = run-both limits AreKept AreKept kept-go-on kept-go-on c journal (kept-empty c.queues) (kept-empty-units c.maps)
 
 -- no queue holds more than its capacity
-pub queues-kept : (c : Settings) (journal : List Event) → AreKept (run c journal).queues
-queues-kept c journal = (kept-both c journal).0
+pub queues-kept : (limits : ℕ → ℕ) (c : Settings) (journal : List Event) → AreKept (run_within limits c journal).queues
+queues-kept limits c journal = (kept-both limits c journal).0
 
-pub units-kept : (c : Settings) (journal : List Event) → AreKept (run c journal).units
-units-kept c journal = (kept-both c journal).1
+pub units-kept : (limits : ℕ → ℕ) (c : Settings) (journal : List Event) → AreKept (run_within limits c journal).units
+units-kept limits c journal = (kept-both limits c journal).1

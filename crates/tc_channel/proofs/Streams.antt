@@ -17,13 +17,13 @@ use Rattle.tc_link.specs.Farm.{Row, E1, E2, E3, E4, E5, E6, E7, E8, E9, E10, row
 use Rattle.tc_packet.specs.declared.Service.{Service}
 use Rattle.tc_packet.specs.declared.Service.TheVariants.{Ad, Bd}
 use Rattle.tc_packet.specs.Segment as segment
-use Rattle.tc_packet.specs.Reassembly.{OpenRuns, Passed, Leave, is_of, same_service, stream, run_left, run_at, place_of as stream_at, stream_place}
+use Rattle.tc_packet.specs.Reassembly.{OpenRuns, Passed, at_most, is_of, same_service, stream, run_left, run_at, place_of as stream_at, stream_place}
 use Rattle.tc_channel.specs.declared.settings.Settings.{Settings}
 use Rattle.tc_channel.specs.declared.event.Event.TheVariants.{Frame, Release}
 use Rattle.tc_channel.specs.ChannelState.{ChannelState, has_room, buffer}
 use Rattle.tc_channel.specs.Run.{step, kept, passed_on, first_of}
 use Rattle.tc_channel.proofs.StateQueues.{kept-either}
-use Rattle.tc_channel.specs.Channel.{AreRuns, Follows, FollowsKind}
+use Rattle.tc_channel.specs.Channel.{AreRuns, FollowsWithin, FollowsKindWithin, LeaveAtMost}
 
 stream-same : (s : Service) (n : ℕ) (passed : List Passed) (p : Passed) → is_of s n p ≡ true → stream s n (passed ++ p ∷ []) ≡ stream s n passed ++ p.field ∷ []
 stream-same s n passed p h =
@@ -43,23 +43,38 @@ same_place Bd Bd m n m_in n_in = (λ h. elim (eqb_tells m n) [ inl e ↦ ap (λ 
 same_place Ad Bd m n m_in n_in = (λ h. absurd cc, λ h e. omega arith)
 same_place Bd Ad m n m_in n_in = (λ h. absurd cc, λ h e. omega arith)
 
-pub runs-follow : (old new : OpenRuns) (service : Service) (field : List ℕ) (segmented : Bool) (passed : List Passed) → AreRuns old segmented passed → Follows old new service field
-    → AreRuns new segmented (passed ++ record { service = service; field = field } ∷ [])
-runs-follow old new service field segmented passed are follows = record {
+-- a stream has the MAP of its fields
+same_map : (s t : Service) (m n : ℕ) → (same_service s t && eqb m n) ≡ true → m ≡ n
+same_map Ad Ad m n h = elim (eqb_tells m n) [ inl e ↦ e.1 | inr e ↦ let x = e.0 in absurd cc ]
+same_map Bd Bd m n h = elim (eqb_tells m n) [ inl e ↦ e.1 | inr e ↦ let x = e.0 in absurd cc ]
+same_map Ad Bd m n h = absurd cc
+same_map Bd Ad m n h = absurd cc
+
+pub runs-follow : (limits : ℕ → ℕ) (old new : OpenRuns) (service : Service) (field : List ℕ) (segmented : Bool) (passed : List Passed) → AreRuns limits old segmented passed → FollowsWithin (limits (segment.header_of field).map) old new service field
+    → AreRuns limits new segmented (passed ++ record { service = service; field = field } ∷ [])
+runs-follow limits old new service field segmented passed are follows = record {
   segmented = follows.segmented ∙ are.segmented;
   runs = λ s n n_in. by s n n_in (is_of s n (record { service = service; field = field })) refl (same_place s service (segment.header_of field).map n (omega arith) n_in);
 }
   where
     by : (s : Service) (n : ℕ) → n < 64 → (t : Bool) → is_of s n (record { service = service; field = field }) ≡ t
         → (((same_service s service && eqb (segment.header_of field).map n) ≡ true) → stream_at s n ≡ stream_place service field) × (((same_service s service && eqb (segment.header_of field).map n) ≡ false) → stream_at s n ≢ stream_place service field)
-        → Leave (stream s n (passed ++ record { service = service; field = field } ∷ [])) new (stream_at s n)
+        → LeaveAtMost (limits n) (stream s n (passed ++ record { service = service; field = field } ∷ [])) new (stream_at s n)
     by s n n_in true h at_place =
         let e = at_place.0 h in
-        let longer = follows.run (stream s n passed) (are.runs s n n_in ∙ ap (run_at old.runs) e) in
-        ap (run_left new.segmented) (stream-same s n passed (record { service = service; field = field }) h) ∙ longer ∙ ap (run_at new.runs) (sym e)
+        let m = same_map s service (segment.header_of field).map n h in
+        let before = ap (λ (k : ℕ). at_most (limits k) (run_left old.segmented (stream s n passed))) m ∙ are.runs s n n_in ∙ ap (run_at old.runs) e in
+        let longer = follows.run (stream s n passed) before in
+        ap (λ (x : List (List ℕ)). at_most (limits n) (run_left new.segmented x)) (stream-same s n passed (record { service = service; field = field }) h)
+        ∙ ap (λ (k : ℕ). at_most (limits k) (run_left new.segmented (stream s n passed ++ field ∷ []))) (sym m) ∙ longer ∙ ap (run_at new.runs) (sym e)
     by s n n_in false h at_place =
-        ap (run_left new.segmented) (stream-other s n passed (record { service = service; field = field }) h) ∙ ap (λ q. run_left q (stream s n passed)) follows.segmented
+        ap (λ (x : List (List ℕ)). at_most (limits n) (run_left new.segmented x)) (stream-other s n passed (record { service = service; field = field }) h)
+        ∙ ap (λ q. at_most (limits n) (run_left q (stream s n passed))) follows.segmented
         ∙ are.runs s n n_in ∙ sym (follows.others (stream_at s n) (at_place.1 h))
+
+pub kept-limit : (row : Row) (accepted : Bool) (octets : List ℕ) (b : ChannelState) → (kept row accepted octets b).limit ≡ b.limit
+unfolding passed_on
+kept-limit row accepted octets b = kept-either (λ x. x.limit ≡ b.limit) row accepted octets b refl refl refl
 
 pub kept-segmented : (row : Row) (accepted : Bool) (octets : List ℕ) (b : ChannelState) → (kept row accepted octets b).segmented ≡ b.segmented
 unfolding passed_on
@@ -85,32 +100,32 @@ not-BD Ahead room e = cc
 not-BD Behind room e = cc
 not-BD Outside room e = cc
 
-kind-runs : (width vr : ℕ) (kind : Kind) (room : Bool) (octets : List ℕ) (b : ChannelState) (old new : OpenRuns) → AreRuns old b.segmented b.passed → FollowsKind kind old new (drop 5 octets)
-    → AreRuns new (kept (frame_row width vr kind room) (accepts (frame_row width vr kind room) b.report) octets b).segmented (kept (frame_row width vr kind room) (accepts (frame_row width vr kind room) b.report) octets b).passed
+kind-runs : (limits : ℕ → ℕ) (width vr : ℕ) (kind : Kind) (room : Bool) (octets : List ℕ) (b : ChannelState) (old new : OpenRuns) → AreRuns limits old b.segmented b.passed → FollowsKindWithin (limits (segment.header_of (drop 5 octets)).map) kind old new (drop 5 octets)
+    → AreRuns limits new (kept (frame_row width vr kind room) (accepts (frame_row width vr kind room) b.report) octets b).segmented (kept (frame_row width vr kind room) (accepts (frame_row width vr kind room) b.report) octets b).passed
 unfolding passed_on
-kind-runs width vr (kinds.Ad ns) room octets b old new are same =
+kind-runs limits width vr (kinds.Ad ns) room octets b old new are same =
     let row = row_at (place_of width vr ns) room in
     rw (kept-segmented row (accepts row b.report) octets b, kept-passed row (accepts row b.report) octets b (not-BD (place_of width vr ns) room), same) are
-kind-runs width vr kinds.Bd room octets b old new are follows = runs-follow old new Bd (drop 5 octets) b.segmented b.passed are follows
-kind-runs width vr (kinds.Bc Unlock) room octets b old new are same = rw same are
-kind-runs width vr (kinds.Bc (SetVr x)) room octets b old new are same = rw same are
-kind-runs width vr kinds.Invalid room octets b old new are same = rw same are
+kind-runs limits width vr kinds.Bd room octets b old new are follows = runs-follow limits old new Bd (drop 5 octets) b.segmented b.passed are follows
+kind-runs limits width vr (kinds.Bc Unlock) room octets b old new are same = rw same are
+kind-runs limits width vr (kinds.Bc (SetVr x)) room octets b old new are same = rw same are
+kind-runs limits width vr kinds.Invalid room octets b old new are same = rw same are
 
-pub frame-runs : (c : Settings) (b : ChannelState) (octets : List ℕ) (old new : OpenRuns) → AreRuns old b.segmented b.passed → FollowsKind (kind_of (header_of octets) (drop 5 octets)) old new (drop 5 octets)
-    → AreRuns new (step c b (Frame octets)).segmented (step c b (Frame octets)).passed
-frame-runs c b octets old new are follows = kind-runs c.width b.report.vr (kind_of (header_of octets) (drop 5 octets)) (has_room c b) octets b old new are follows
+pub frame-runs : (limits : ℕ → ℕ) (c : Settings) (b : ChannelState) (octets : List ℕ) (old new : OpenRuns) → AreRuns limits old b.segmented b.passed → FollowsKindWithin (limits (segment.header_of (drop 5 octets)).map) (kind_of (header_of octets) (drop 5 octets)) old new (drop 5 octets)
+    → AreRuns limits new (step c b (Frame octets)).segmented (step c b (Frame octets)).passed
+frame-runs limits c b octets old new are follows = kind-runs limits c.width b.report.vr (kind_of (header_of octets) (drop 5 octets)) (has_room c b) octets b old new are follows
 
-pub release-runs : (c : Settings) (b : ChannelState) (old new : OpenRuns) → AreRuns old b.segmented b.passed → Follows old new Ad (first_of (buffer b)) → AreRuns new (step c b Release).segmented (step c b Release).passed
+pub release-runs : (limits : ℕ → ℕ) (c : Settings) (b : ChannelState) (old new : OpenRuns) → AreRuns limits old b.segmented b.passed → FollowsWithin (limits (segment.header_of (first_of (buffer b))).map) old new Ad (first_of (buffer b)) → AreRuns limits new (step c b Release).segmented (step c b Release).passed
 unfolding passed_on
-release-runs c b old new are follows = runs-follow old new Ad (first_of (buffer b)) b.segmented b.passed are follows
+release-runs limits c b old new are follows = runs-follow limits old new Ad (first_of (buffer b)) b.segmented b.passed are follows
 
 nothing-left : (segmented : Bool) → run_left segmented [] ≡ None
 nothing-left true = refl
 nothing-left false = refl
 
 -- no run is open at first
-pub none-open : (open_runs : OpenRuns) (segmented : Bool) (n : ℕ) → open_runs ≡ record { segmented = segmented; runs = replicate n None } → 128 ≤ n → AreRuns open_runs segmented []
-none-open open_runs segmented n e enough = record { segmented = ap (λ r. r.segmented) e; runs = by } where
-  by : (service : Service) (k : ℕ) → k < 64 → Leave (stream service k []) open_runs (stream_at service k)
+pub none-open : (limits : ℕ → ℕ) (open_runs : OpenRuns) (segmented : Bool) (n : ℕ) → open_runs ≡ record { segmented = segmented; runs = replicate n None } → 128 ≤ n → AreRuns limits open_runs segmented []
+none-open limits open_runs segmented n e enough = record { segmented = ap (λ r. r.segmented) e; runs = by } where
+  by : (service : Service) (k : ℕ) → k < 64 → LeaveAtMost (limits k) (stream service k []) open_runs (stream_at service k)
   by Ad k k_in = rw (e, nothing-left segmented, get_or-replicate {A = Option (List ℕ)} n k None None (omega arith)) refl
   by Bd k k_in = rw (e, nothing-left segmented, get_or-replicate {A = Option (List ℕ)} n (64 + k) None None (omega arith)) refl

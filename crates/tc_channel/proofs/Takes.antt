@@ -9,13 +9,13 @@ use Rattle.std.proofs.Math.ListN.{set}
 use Rattle.tc_channel.specs.declared.settings.Settings.{Settings}
 use Rattle.tc_channel.specs.declared.event.Event.{Event}
 use Rattle.tc_channel.specs.declared.event.Event.TheVariants.{Take, TakeUnit}
-use Rattle.tc_channel.specs.Channel.{Inside, Holds}
+use Rattle.tc_channel.specs.Channel.{Inside, HoldsWithin}
 use Rattle.tc_channel.proofs.Runs.{run-push, lawful-push}
 use Rattle.std.proofs.lemmas.Bool.Decides.{nat_tests, eqb_tells}
 use Rattle.tc_channel.specs.declared.queues.HeldQueue.{HeldQueue}
 use Rattle.tc_channel.specs.ChannelState.{Queue, waiting, queue_of}
-use Rattle.tc_channel.specs.Run.{taken_from, HasItem, run}
-use Rattle.tc_channel.specs.Reply.{waiting_packets, waiting_units}
+use Rattle.tc_channel.specs.Run.{taken_from, HasItem, run_within}
+use Rattle.tc_channel.specs.Reply.{waiting_packets_within, waiting_units_within}
 use Rattle.tc_channel.specs.HeldQueues.{AreDistinct, keys_of, held, queue_for, items_for, popped, shorter}
 use Rattle.tc_channel.proofs.StateQueues.{keys, queues-apart, units-apart}
 
@@ -88,14 +88,14 @@ oldest-taken key qs old new item apart are has is =
     let q = has-oldest (queue_of key qs) item found in
     (can-take key qs q.0 q.1 q.2, is ∙ ap (popped key) are ∙ popped-taken key qs q.0 apart q.1 q.2)
 
-pub take-keeps : {c : Settings} {j : List Event} {i : Inside} (later : List HeldQueue) (apid : ℕ) (packet : List ℕ)
-    → Holds c j i → oldest (items_for apid i.rings) ≡ Some packet → later ≡ popped apid i.rings → Holds c (j ++ Take apid ∷ []) (record i { rings = later })
-take-keeps {c} {j} {i} later apid packet k has is =
-    let pushed = run-push c j (Take apid) in
-    let taken = oldest-taken apid (run c j).queues i.rings later packet (queues-apart c j k.allowed) k.queues has is in
+pub take-keeps : {limits : ℕ → ℕ} {c : Settings} {j : List Event} {i : Inside} (later : List HeldQueue) (apid : ℕ) (packet : List ℕ)
+    → HoldsWithin limits c j i → oldest (items_for apid i.rings) ≡ Some packet → later ≡ popped apid i.rings → HoldsWithin limits c (j ++ Take apid ∷ []) (record i { rings = later })
+take-keeps {limits} {c} {j} {i} later apid packet k has is =
+    let pushed = run-push limits c j (Take apid) in
+    let taken = oldest-taken apid (run_within limits c j).queues i.rings later packet (queues-apart limits c j k.allowed) k.queues has is in
     record {
       allowed = k.allowed;
-      lawful = lawful-push c j (Take apid) k.lawful taken.0;
+      lawful = lawful-push limits c j (Take apid) k.lawful taken.0;
       width = k.width;
       report = k.report ∙ rw pushed refl;
       capacity = k.capacity;
@@ -105,14 +105,14 @@ take-keeps {c} {j} {i} later apid packet k has is =
       units = k.units ∙ rw pushed refl;
     }
 
-pub take-unit-keeps : {c : Settings} {j : List Event} {i : Inside} (later : List HeldQueue) (map_id : ℕ) (unit : List ℕ)
-    → Holds c j i → oldest (items_for map_id i.unit_rings) ≡ Some unit → later ≡ popped map_id i.unit_rings → Holds c (j ++ TakeUnit map_id ∷ []) (record i { unit_rings = later })
-take-unit-keeps {c} {j} {i} later map_id unit k has is =
-    let pushed = run-push c j (TakeUnit map_id) in
-    let taken = oldest-taken map_id (run c j).units i.unit_rings later unit (units-apart c j k.allowed) k.units has is in
+pub take-unit-keeps : {limits : ℕ → ℕ} {c : Settings} {j : List Event} {i : Inside} (later : List HeldQueue) (map_id : ℕ) (unit : List ℕ)
+    → HoldsWithin limits c j i → oldest (items_for map_id i.unit_rings) ≡ Some unit → later ≡ popped map_id i.unit_rings → HoldsWithin limits c (j ++ TakeUnit map_id ∷ []) (record i { unit_rings = later })
+take-unit-keeps {limits} {c} {j} {i} later map_id unit k has is =
+    let pushed = run-push limits c j (TakeUnit map_id) in
+    let taken = oldest-taken map_id (run_within limits c j).units i.unit_rings later unit (units-apart limits c j k.allowed) k.units has is in
     record {
       allowed = k.allowed;
-      lawful = lawful-push c j (TakeUnit map_id) k.lawful taken.0;
+      lawful = lawful-push limits c j (TakeUnit map_id) k.lawful taken.0;
       width = k.width;
       report = k.report ∙ rw pushed refl;
       capacity = k.capacity;
@@ -131,14 +131,14 @@ items-wait : (key : ℕ) (rings : List HeldQueue) (qs : List Queue) → rings �
 items-wait key rings qs are = rw are (items-map (queue_of key qs) ∙ ap (option_map (λ (w : HeldQueue). w.ring.items)) (sym (held-queue key qs)))
 
 -- the packets that wait for an application, by the fields
-pub packets-wait : {c : Settings} {j : List Event} {i : Inside} (apid : ℕ) → Holds c j i → waiting_packets c j apid ≡ items_for apid i.rings
-unfolding waiting_packets
-packets-wait {c} {j} {i} apid k = items-wait apid i.rings (run c j).queues k.queues
+pub packets-wait : {limits : ℕ → ℕ} {c : Settings} {j : List Event} {i : Inside} (apid : ℕ) → HoldsWithin limits c j i → waiting_packets_within limits c j apid ≡ items_for apid i.rings
+unfolding waiting_packets_within
+packets-wait {limits} {c} {j} {i} apid k = items-wait apid i.rings (run_within limits c j).queues k.queues
 
 -- the units of a MAP that wait, by the fields
-pub units-wait : {c : Settings} {j : List Event} {i : Inside} (map_id : ℕ) → Holds c j i → waiting_units c j map_id ≡ items_for map_id i.unit_rings
-unfolding waiting_units
-units-wait {c} {j} {i} map_id k = items-wait map_id i.unit_rings (run c j).units k.units
+pub units-wait : {limits : ℕ → ℕ} {c : Settings} {j : List Event} {i : Inside} (map_id : ℕ) → HoldsWithin limits c j i → waiting_units_within limits c j map_id ≡ items_for map_id i.unit_rings
+unfolding waiting_units_within
+units-wait {limits} {c} {j} {i} map_id k = items-wait map_id i.unit_rings (run_within limits c j).units k.units
 
 -- the oldest item of ring i is taken
 pub popped-at : (key : ℕ) (ws : List HeldQueue) (i : ℕ) (w : HeldQueue) → w ≡ get_or ws i w → i < length ws → w.key ≡ key → set ws i (shorter w) ≡ take i ws ++ popped key (drop i ws)
@@ -161,8 +161,8 @@ pub same-keys : (qs : List Queue) → keys_of (map held qs) ≡ keys qs
 same-keys [] = refl
 same-keys (q ∷ qs) = ap (λ (x : List ℕ). q.key ∷ x) (same-keys qs)
 
-pub queues-distinct : {c : Settings} {j : List Event} {i : Inside} → Holds c j i → AreDistinct (keys_of i.rings)
-queues-distinct {c} {j} k = rw (k.queues, same-keys (run c j).queues) (queues-apart c j k.allowed)
+pub queues-distinct : {limits : ℕ → ℕ} {c : Settings} {j : List Event} {i : Inside} → HoldsWithin limits c j i → AreDistinct (keys_of i.rings)
+queues-distinct {limits} {c} {j} k = rw (k.queues, same-keys (run_within limits c j).queues) (queues-apart limits c j k.allowed)
 
-pub units-distinct : {c : Settings} {j : List Event} {i : Inside} → Holds c j i → AreDistinct (keys_of i.unit_rings)
-units-distinct {c} {j} k = rw (k.units, same-keys (run c j).units) (units-apart c j k.allowed)
+pub units-distinct : {limits : ℕ → ℕ} {c : Settings} {j : List Event} {i : Inside} → HoldsWithin limits c j i → AreDistinct (keys_of i.unit_rings)
+units-distinct {limits} {c} {j} k = rw (k.units, same-keys (run_within limits c j).units) (units-apart limits c j k.allowed)

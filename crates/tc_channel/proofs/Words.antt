@@ -1,5 +1,5 @@
 -- The CLCW of a lawful journal fits 32 bits.
-use Rattle.std.proofs.Common.{◌<◌, ◌≤◌, ◌^◌, Bool, true, false, List, [], ◌∷◌, arith}
+use Rattle.std.proofs.Common.{ℕ, ◌<◌, ◌≤◌, ◌^◌, Bool, true, false, List, [], ◌∷◌, arith}
 use Rattle.std.specs.Prelude.{unwrap_or}
 use Rattle.tc_link.specs.Bits.{bit}
 use Rattle.tc_link.specs.declared.Report.{Report}
@@ -11,9 +11,9 @@ use Rattle.tc_channel.specs.declared.settings.Settings.{Settings}
 use Rattle.tc_channel.specs.declared.event.Event.{Event}
 use Rattle.tc_channel.specs.declared.event.Event.TheVariants.{Frame, Release, Take, TakeUnit}
 use Rattle.tc_channel.specs.Settings.{IsAllowed}
-use Rattle.tc_channel.specs.ChannelState.{ChannelState, first_state}
-use Rattle.tc_channel.specs.Run.{step, row_of, passed_on, run_from, run, IsLawful}
-use Rattle.tc_channel.specs.Reply.{clcw}
+use Rattle.tc_channel.specs.ChannelState.{ChannelState, first_state_within}
+use Rattle.tc_channel.specs.Run.{step, row_of, passed_on, run_from, run_within, IsLawfulWithin}
+use Rattle.tc_channel.specs.Reply.{clcw_within}
 use Rattle.tc_channel.proofs.Small.{vr-below}
 
 counter-below : (row : Row) (st : State) (r : Report) → r.farm_b < 4 → (unwrap_or (entry_at row st r) r).farm_b < 4
@@ -56,21 +56,21 @@ run_from-counter c b (Release ∷ es) h = run_from-counter c (step c b Release) 
 run_from-counter c b (Take apid ∷ es) h = run_from-counter c (step c b (Take apid)) es h
 run_from-counter c b (TakeUnit map_id ∷ es) h = run_from-counter c (step c b (TakeUnit map_id)) es h
 
-run-counter : (c : Settings) (journal : List Event) → (run c journal).report.farm_b < 4
-unfolding run
-run-counter c journal = run_from-counter c (first_state c) journal (omega arith)
+run-counter : (limits : ℕ → ℕ) (c : Settings) (journal : List Event) → (run_within limits c journal).report.farm_b < 4
+unfolding run_within
+run-counter limits c journal = run_from-counter c (first_state_within limits c) journal (omega arith)
 
 bit-most : (b : Bool) → bit b ≤ 1
 bit-most true = omega arith
 bit-most false = omega arith
 
-pub clcw-fits : (c : Settings) (journal : List Event) (link : Link) → IsAllowed c → IsLawful c journal → clcw c journal link < 2 ^ 32
-unfolding clcw
-clcw-fits c journal link allowed lawful =
-    let r = (run c journal).report in
+pub clcw-fits : (limits : ℕ → ℕ) (c : Settings) (journal : List Event) (link : Link) → IsAllowed c → IsLawfulWithin limits c journal → clcw_within limits c journal link < 2 ^ 32
+unfolding clcw_within
+clcw-fits limits c journal link allowed lawful =
+    let r = (run_within limits c journal).report in
     let vcid = allowed.vcid in
-    let vr = vr-below c journal allowed.first lawful in
-    let farm_b = run-counter c journal in
+    let vr = vr-below limits c journal allowed.first lawful in
+    let farm_b = run-counter limits c journal in
     let no_rf = bit-most link.no_rf in
     let no_bit_lock = bit-most link.no_bit_lock in
     let lockout = bit-most r.lockout in

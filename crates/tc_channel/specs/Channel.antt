@@ -7,23 +7,33 @@ use Rattle.tc_link.specs.declared.Kind.{Kind}
 use Rattle.tc_link.specs.declared.Kind.TheVariants as kinds
 use Rattle.tc_packet.specs.declared.Service.{Service}
 use Rattle.tc_packet.specs.declared.Service.TheVariants.{Bd}
-use Rattle.tc_packet.specs.Reassembly.{OpenRuns, Passed, Leave, stream, run_at, place_of, stream_place, unit_ended}
+use Rattle.tc_packet.specs.Reassembly.{OpenRuns, Passed, Leave, at_most, stream, run_at, run_left, place_of, stream_place, unit_ended}
 use Rattle.tc_channel.specs.declared.settings.Settings.{Settings}
 use Rattle.tc_channel.specs.Settings.{IsAllowed}
 use Rattle.tc_channel.specs.declared.event.Event.{Event}
-use Rattle.tc_channel.specs.ChannelState.{buffer}
+use Rattle.tc_channel.specs.ChannelState.{buffer, no_limits}
 use Rattle.tc_channel.specs.HeldQueues.{held}
 use Rattle.tc_channel.specs.declared.queues.HeldQueue.{HeldQueue}
-use Rattle.tc_channel.specs.Run.{run, IsLawful}
+use Rattle.tc_channel.specs.Run.{run_within, IsLawfulWithin}
 
--- each stream's open run is that of the data fields that were passed, with segment headers or without
-pub record AreRuns (open_runs : OpenRuns) (headed : Bool) (passed : List Passed) : Type 0 where
+-- the fields leave the run at this place, if it is no longer than the limit
+abbrev pub LeaveAtMost : ℕ → List (List ℕ) → OpenRuns → ℕ → Type 0
+LeaveAtMost limit fields open_runs place = at_most limit (run_left open_runs.segmented fields) ≡ run_at open_runs.runs place
+
+-- each stream's open run is that of the data fields that were passed, with segment headers or without, if it is within the limit of its MAP
+pub record AreRuns (limits : ℕ → ℕ) (open_runs : OpenRuns) (headed : Bool) (passed : List Passed) : Type 0 where
   pub segmented : open_runs.segmented ≡ headed
-  pub runs : (service : Service) (map_id : ℕ) → map_id < 64 → Leave (stream service map_id passed) open_runs (place_of service map_id)
+  pub runs : (service : Service) (map_id : ℕ) → map_id < 64 → LeaveAtMost (limits map_id) (stream service map_id passed) open_runs (place_of service map_id)
 
 -- the runs after one more data field
 pub record Follows (old new : OpenRuns) (service : Service) (field : List ℕ) : Type 0 where
   pub run : (fields : List (List ℕ)) → Leave fields old (stream_place service field) → Leave (fields ++ field ∷ []) new (stream_place service field)
+  pub others : (other : ℕ) → other ≢ stream_place service field → run_at new.runs other ≡ run_at old.runs other
+  pub segmented : new.segmented ≡ old.segmented
+
+-- the same with a limit
+pub record FollowsWithin (limit : ℕ) (old new : OpenRuns) (service : Service) (field : List ℕ) : Type 0 where
+  pub run : (fields : List (List ℕ)) → LeaveAtMost limit fields old (stream_place service field) → LeaveAtMost limit (fields ++ field ∷ []) new (stream_place service field)
   pub others : (other : ℕ) → other ≢ stream_place service field → run_at new.runs other ≡ run_at old.runs other
   pub segmented : new.segmented ≡ old.segmented
 
@@ -34,9 +44,19 @@ FollowsKind (kinds.Ad ns) old new field = new ≡ old
 FollowsKind (kinds.Bc command) old new field = new ≡ old
 FollowsKind kinds.Invalid old new field = new ≡ old
 
+abbrev pub FollowsKindWithin : ℕ → Kind → OpenRuns → OpenRuns → List ℕ → Type 0
+FollowsKindWithin limit kinds.Bd old new field = FollowsWithin limit old new Bd field
+FollowsKindWithin limit (kinds.Ad ns) old new field = new ≡ old
+FollowsKindWithin limit (kinds.Bc command) old new field = new ≡ old
+FollowsKindWithin limit kinds.Invalid old new field = new ≡ old
+
 -- the unit that a data field would end
 abbrev pub Ends : OpenRuns → Service → List ℕ → Option (List ℕ) → Type 0
 Ends open_runs service field unit = (fields : List (List ℕ)) → Leave fields open_runs (stream_place service field) → unit ≡ unit_ended open_runs.segmented fields field
+
+-- the same with a limit: a longer unit is none
+abbrev pub EndsWithin : ℕ → OpenRuns → Service → List ℕ → Option (List ℕ) → Type 0
+EndsWithin limit open_runs service field unit = (fields : List (List ℕ)) → LeaveAtMost limit fields open_runs (stream_place service field) → unit ≡ at_most limit (unit_ended open_runs.segmented fields field)
 
 -- the unit that a frame would end at once
 abbrev pub EndsAtOnce : Kind → OpenRuns → List ℕ → Option (List ℕ) → Type 0
@@ -44,6 +64,12 @@ EndsAtOnce kinds.Bd open_runs field unit = Ends open_runs Bd field unit
 EndsAtOnce (kinds.Ad ns) open_runs field unit = unit ≡ None
 EndsAtOnce (kinds.Bc command) open_runs field unit = unit ≡ None
 EndsAtOnce kinds.Invalid open_runs field unit = unit ≡ None
+
+abbrev pub EndsAtOnceWithin : ℕ → Kind → OpenRuns → List ℕ → Option (List ℕ) → Type 0
+EndsAtOnceWithin limit kinds.Bd open_runs field unit = EndsWithin limit open_runs Bd field unit
+EndsAtOnceWithin limit (kinds.Ad ns) open_runs field unit = unit ≡ None
+EndsAtOnceWithin limit (kinds.Bc command) open_runs field unit = unit ≡ None
+EndsAtOnceWithin limit kinds.Invalid open_runs field unit = unit ≡ None
 
 -- what goes into the buffer of a frame: the data field of an accepted AD frame
 abbrev pub buffered_of : Act → List ℕ → Option (List ℕ)
@@ -61,14 +87,18 @@ pub record Inside : Type 0 where
   pub rings : List HeldQueue
   pub unit_rings : List HeldQueue
 
--- all that a channel works with is that of the journal's run
-pub record Holds (s : Settings) (journal : List Event) (inside : Inside) : Type 0 where
+-- all that a channel works with is that of the journal's run, with a limit for each MAP
+pub record HoldsWithin (limits : ℕ → ℕ) (s : Settings) (journal : List Event) (inside : Inside) : Type 0 where
   pub allowed : IsAllowed s
-  pub lawful : IsLawful s journal
+  pub lawful : IsLawfulWithin limits s journal
   pub width : inside.farm.width ≡ s.width
-  pub report : inside.farm.report ≡ (run s journal).report
+  pub report : inside.farm.report ≡ (run_within limits s journal).report
   pub capacity : inside.ring.capacity ≡ s.buffer
-  pub fields : inside.ring.items ≡ buffer (run s journal)
-  pub runs : AreRuns inside.open_runs (run s journal).segmented (run s journal).passed
-  pub queues : inside.rings ≡ map held (run s journal).queues
-  pub units : inside.unit_rings ≡ map held (run s journal).units
+  pub fields : inside.ring.items ≡ buffer (run_within limits s journal)
+  pub runs : AreRuns limits inside.open_runs (run_within limits s journal).segmented (run_within limits s journal).passed
+  pub queues : inside.rings ≡ map held (run_within limits s journal).queues
+  pub units : inside.unit_rings ≡ map held (run_within limits s journal).units
+
+-- the same of a channel that has no limit by MAP
+abbrev pub Holds : Settings → List Event → Inside → Type 0
+Holds s journal inside = HoldsWithin no_limits s journal inside

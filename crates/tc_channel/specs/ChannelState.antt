@@ -2,7 +2,7 @@
 use Rattle.std.specs.Prelude.{ℕ, Bool, List, [], ◌∷◌, length, map, drop, nat_lt, ◌==◌, Option, Some, None, if◌then◌else◌}
 use Rattle.tc_link.specs.declared.Report.{Report}
 use Rattle.tc_link.specs.Farm.{first_report}
-use Rattle.tc_packet.specs.Reassembly.{Passed}
+use Rattle.tc_packet.specs.Reassembly.{Passed, largest_unit}
 use Rattle.tc_channel.specs.declared.settings.QueueSetting.{QueueSetting}
 use Rattle.tc_channel.specs.declared.settings.MapSetting.{MapSetting}
 use Rattle.tc_channel.specs.declared.settings.Settings.{Settings}
@@ -19,11 +19,12 @@ pub record Queue : Type 0 where
   pub admitted : List (List ℕ)
   pub taken : ℕ
 
--- whether data fields have segment headers, all AD frames ever accepted and how many of them were released, all data fields ever passed to
+-- whether data fields have segment headers, the most octets of a unit of each MAP, all AD frames ever accepted and how many of them were released, all data fields ever passed to
 -- reassembly, the packet queues and the unit queues
 pub record ChannelState : Type 0 where
   pub report : Report
   pub segmented : Bool
+  pub limit : ℕ → ℕ
   pub accepted : List Accepted
   pub released : ℕ
   pub passed : List Passed
@@ -42,17 +43,26 @@ empty_queue q = queue_with q.apid q.capacity
 abbrev pub empty_unit_queue : MapSetting → Queue
 empty_unit_queue m = queue_with m.map m.capacity
 
--- the state of a channel that starts
-abbrev pub first_state : Settings → ChannelState
-first_state s = record {
+-- the limits of a channel that has no limit by MAP: no unit is longer than the largest
+unfoldable pub no_limits : ℕ → ℕ
+no_limits map_id = largest_unit
+
+-- the state of a channel that starts, with a limit for each MAP
+abbrev pub first_state_within : (ℕ → ℕ) → Settings → ChannelState
+first_state_within limits s = record {
   report = first_report s.first;
   segmented = s.segmented;
+  limit = limits;
   accepted = [];
   released = 0;
   passed = [];
   queues = map empty_queue s.queues;
   units = map empty_unit_queue s.maps;
 }
+
+-- the state of a channel that starts
+abbrev pub first_state : Settings → ChannelState
+first_state s = first_state_within no_limits s
 
 -- the data fields that wait in the buffer, the oldest first
 abbrev pub buffer : ChannelState → List (List ℕ)

@@ -7,8 +7,8 @@ use Rattle.tc_link.specs.declared.State.TheVariants.{S1, S2}
 use Rattle.tc_channel.specs.declared.settings.Settings.{Settings}
 use Rattle.tc_channel.specs.declared.event.Event.{Event}
 use Rattle.tc_channel.specs.declared.event.Event.TheVariants.{Frame, Release, Take, TakeUnit}
-use Rattle.tc_channel.specs.ChannelState.{ChannelState, Accepted}
-use Rattle.tc_channel.specs.Run.{field_of, row_of, run}
+use Rattle.tc_channel.specs.ChannelState.{ChannelState, Accepted, no_limits}
+use Rattle.tc_channel.specs.Run.{field_of, row_of, run_within}
 
 -- Set V(R) is obeyed in S1 and in S2
 abbrev pub set_at : Row → State → Option ℕ
@@ -24,33 +24,33 @@ set_by s state (Take apid) = None
 set_by s state (TakeUnit map_id) = None
 
 -- an era starts after these events, at V(R) = x: they are none, or the last of them set V(R) to x
-abbrev pub Starts : Settings → List Event → ℕ → Type 0
-Starts s before x =
+abbrev pub StartsWithin : (ℕ → ℕ) → Settings → List Event → ℕ → Type 0
+StartsWithin limits s before x =
     ((before ≡ []) × (x ≡ s.first))
-    ⊎ ((past : List Event) × (e : Event) × (before ≡ past ++ e ∷ []) × (set_by s (run s past) e ≡ Some x))
+    ⊎ ((past : List Event) × (e : Event) × (before ≡ past ++ e ∷ []) × (set_by s (run_within limits s past) e ≡ Some x))
 
 -- no event that came later set V(R)
-abbrev pub NoneSets : Settings → List Event → List Event → Type 0
-NoneSets s before later = (i : ℕ) (e : Event) → slice_get later i ≡ Some e → set_by s (run s (before ++ take i later)) e ≡ None
+abbrev pub NoneSetsWithin : (ℕ → ℕ) → Settings → List Event → List Event → Type 0
+NoneSetsWithin limits s before later = (i : ℕ) (e : Event) → slice_get later i ≡ Some e → set_by s (run_within limits s (before ++ take i later)) e ≡ None
 
 -- the era of the journal: what came before it, what came in it, and its first number
-pub record IsEra (s : Settings) (journal before later : List Event) (x : ℕ) : Type 0 where
+pub record IsEraWithin (limits : ℕ → ℕ) (s : Settings) (journal before later : List Event) (x : ℕ) : Type 0 where
   pub parts : journal ≡ before ++ later
-  pub starts : Starts s before x
-  pub last : NoneSets s before later
+  pub starts : StartsWithin limits s before x
+  pub last : NoneSetsWithin limits s before later
 
 -- the AD frames that were accepted after these events
-abbrev pub accepted_since : Settings → List Event → List Event → List Accepted
-accepted_since s before journal = drop (length (run s before).accepted) (run s journal).accepted
+abbrev pub accepted_since_within : (ℕ → ℕ) → Settings → List Event → List Event → List Accepted
+accepted_since_within limits s before journal = drop (length (run_within limits s before).accepted) (run_within limits s journal).accepted
 
 -- modulo 256, the accepted frames have the numbers from x on, one after the other, and V(R) is the one after them
-pub record CountsUp (s : Settings) (journal before : List Event) (x : ℕ) : Type 0 where
-  pub numbers : (i : ℕ) (a : Accepted) → slice_get (accepted_since s before journal) i ≡ Some a → a.ns ≡ (x + i) % 256
-  pub vr : (run s journal).report.vr ≡ (x + length (accepted_since s before journal)) % 256
+pub record CountsUpWithin (limits : ℕ → ℕ) (s : Settings) (journal before : List Event) (x : ℕ) : Type 0 where
+  pub numbers : (i : ℕ) (a : Accepted) → slice_get (accepted_since_within limits s before journal) i ≡ Some a → a.ns ≡ (x + i) % 256
+  pub vr : (run_within limits s journal).report.vr ≡ (x + length (accepted_since_within limits s before journal)) % 256
 
 -- in whatever way a journal is parted into an era and what came before
-abbrev pub CountsUpInItsEra : Settings → List Event → Type 0
-CountsUpInItsEra s journal = (before later : List Event) (x : ℕ) → IsEra s journal before later x → CountsUp s journal before x
+abbrev pub CountsUpInItsEraWithin : (ℕ → ℕ) → Settings → List Event → Type 0
+CountsUpInItsEraWithin limits s journal = (before later : List Event) (x : ℕ) → IsEraWithin limits s journal before later x → CountsUpWithin limits s journal before x
 
 -- the frame is one that a sender made, whose frame number i, from 0 on, has N(S) = x + i modulo 256 and the data field `sent i`; and it comes
 -- where its number is less than 256 from the number of those that were accepted, so that no two are taken for one another
@@ -69,6 +69,17 @@ IsOfSender x sent accepted (Take apid) = Unit {0}
 IsOfSender x sent accepted (TakeUnit map_id) = Unit {0}
 
 -- each Type-AD frame that comes in the era is the sender's: lost, repeated and put in another order as may be, but none 256 frames old
-abbrev pub ComesFrom : Settings → List Event → List Event → ℕ → (ℕ → List ℕ) → Type 0
-ComesFrom s before later x sent = (place : ℕ) (e : Event) → slice_get later place ≡ Some e
-    → IsOfSender x sent (length (accepted_since s before (before ++ take place later))) e
+abbrev pub ComesFromWithin : (ℕ → ℕ) → Settings → List Event → List Event → ℕ → (ℕ → List ℕ) → Type 0
+ComesFromWithin limits s before later x sent = (place : ℕ) (e : Event) → slice_get later place ≡ Some e
+    → IsOfSender x sent (length (accepted_since_within limits s before (before ++ take place later))) e
+
+-- the same of a channel that has no limit by MAP
+
+abbrev pub IsEra : Settings → List Event → List Event → List Event → ℕ → Type 0
+IsEra s journal before later x = IsEraWithin no_limits s journal before later x
+
+abbrev pub accepted_since : Settings → List Event → List Event → List Accepted
+accepted_since s before journal = accepted_since_within no_limits s before journal
+
+abbrev pub CountsUpInItsEra : Settings → List Event → Type 0
+CountsUpInItsEra s journal = CountsUpInItsEraWithin no_limits s journal

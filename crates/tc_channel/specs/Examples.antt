@@ -1,5 +1,5 @@
 -- Short journals whose answers are worked out by hand, to be read with the definitions: their settings and their frames, octet by octet.
-use Rattle.std.specs.Prelude.{ℕ, Bool, true, false, List, [], ◌∷◌, replicate}
+use Rattle.std.specs.Prelude.{ℕ, ◌==◌, if◌then◌else◌, Bool, true, false, List, [], ◌∷◌, replicate}
 use Rattle.tc_link.specs.declared.Link.{Link}
 use Rattle.tc_channel.specs.declared.settings.Settings.{Settings}
 use Rattle.tc_channel.specs.declared.event.Event.{Event}
@@ -16,6 +16,10 @@ plain = record { vcid = 1; width = 10; buffer = 1; first = 0; segmented = false;
 -- the same with segment headers, where MAP 3 is chosen and one of its units may wait
 abbrev pub map_3_chosen : Settings
 map_3_chosen = record { vcid = 1; width = 10; buffer = 1; first = 0; segmented = true; queues = record { apid = 5; capacity = 1 } ∷ []; maps = record { map = 3; capacity = 1 } ∷ [] }
+
+-- a limit of so many octets for the units of one MAP, and that of the largest unit for the others
+abbrev pub limited : ℕ → ℕ → ℕ → ℕ
+limited own octets map_id = if map_id == own then octets else 65542
 
 abbrev pub link_up : Link
 link_up = record { no_rf = false; no_bit_lock = false }

@@ -18,9 +18,9 @@ use Rattle.tc_channel.specs.declared.reply.TakeUnitFault.{TakeUnitFault}
 use Rattle.tc_channel.specs.declared.reply.TakeUnitFault.TheVariants as unit_faults
 use Rattle.tc_channel.specs.declared.settings.Settings.{Settings}
 use Rattle.tc_channel.specs.declared.event.Event.{Event}
-use Rattle.tc_channel.specs.ChannelState.{ChannelState, buffer, queue_of, waiting}
+use Rattle.tc_channel.specs.ChannelState.{ChannelState, no_limits, buffer, queue_of, waiting}
 use Rattle.tc_channel.specs.Admission.{is_chosen, count_queued}
-use Rattle.tc_channel.specs.Run.{field_of, row_of, unit_of, first_of, run}
+use Rattle.tc_channel.specs.Run.{field_of, row_of, unit_of, first_of, run_within}
 
 -- the frame is of Type-BD: the only one for which a channel whose journal isn't kept may run out of memory
 abbrev pub IsBypassData : List ℕ → Type 0
@@ -57,21 +57,39 @@ frame_reply_at s state octets = record { act = act_of s state octets; delivery =
 abbrev pub release_reply_at : ChannelState → Delivery
 release_reply_at state = delivery_of (first_of (buffer state)) (unit_of state Ad (first_of (buffer state))) state
 
+-- what a channel with a limit for each MAP answers after a journal
+
 -- the reply to a frame
-unfoldable pub frame_reply : Settings → List Event → List ℕ → FrameReply
-frame_reply s journal octets = frame_reply_at s (run s journal) octets
+unfoldable pub frame_reply_within : (ℕ → ℕ) → Settings → List Event → List ℕ → FrameReply
+frame_reply_within limits s journal octets = frame_reply_at s (run_within limits s journal) octets
 
 -- the reply to a release
-unfoldable pub release_reply : Settings → List Event → Delivery
-release_reply s journal = release_reply_at (run s journal)
+unfoldable pub release_reply_within : (ℕ → ℕ) → Settings → List Event → Delivery
+release_reply_within limits s journal = release_reply_at (run_within limits s journal)
 
 -- the packets that wait in the queue with this APID, the oldest first; None where there is no such queue
-unfoldable pub waiting_packets : Settings → List Event → ℕ → Option (List (List ℕ))
-waiting_packets s journal apid = option_map waiting (queue_of apid (run s journal).queues)
+unfoldable pub waiting_packets_within : (ℕ → ℕ) → Settings → List Event → ℕ → Option (List (List ℕ))
+waiting_packets_within limits s journal apid = option_map waiting (queue_of apid (run_within limits s journal).queues)
 
 -- the reply to a take: the oldest packet that waits
-abbrev pub take_reply : Settings → List Event → ℕ → Option (List ℕ)
-take_reply s journal apid = option_and_then (λ packets. slice_get packets 0) (waiting_packets s journal apid)
+abbrev pub take_reply_within : (ℕ → ℕ) → Settings → List Event → ℕ → Option (List ℕ)
+take_reply_within limits s journal apid = option_and_then (λ packets. slice_get packets 0) (waiting_packets_within limits s journal apid)
+
+-- the units that wait in the queue of this MAP, the oldest first; None where it isn't chosen
+unfoldable pub waiting_units_within : (ℕ → ℕ) → Settings → List Event → ℕ → Option (List (List ℕ))
+waiting_units_within limits s journal map_id = option_map waiting (queue_of map_id (run_within limits s journal).units)
+
+-- the reply to the take of a unit: the oldest that waits
+abbrev pub unit_reply_within : (ℕ → ℕ) → Settings → List Event → ℕ → Option (List ℕ)
+unit_reply_within limits s journal map_id = option_and_then (λ units. slice_get units 0) (waiting_units_within limits s journal map_id)
+
+-- the data fields that wait in the buffer, the oldest first
+unfoldable pub buffered_fields_within : (ℕ → ℕ) → Settings → List Event → List (List ℕ)
+buffered_fields_within limits s journal = buffer (run_within limits s journal)
+
+-- the CLCW (CCSDS 232.0-B, 4.2)
+unfoldable pub clcw_within : (ℕ → ℕ) → Settings → List Event → Link → ℕ
+clcw_within limits s journal link = word_of (run_within limits s journal).report s.vcid link
 
 -- the fault of a unit queue that the fault of a packet queue is, where both are taken from alike
 abbrev pub unit_fault_of : TakeFault → TakeUnitFault
@@ -79,18 +97,28 @@ unit_fault_of take_faults.NoQueue = unit_faults.NoMap
 unit_fault_of take_faults.Empty = unit_faults.Empty
 unit_fault_of take_faults.NoMemory = unit_faults.NoMemory
 
--- the units that wait in the queue of this MAP, the oldest first; None where it isn't chosen
-unfoldable pub waiting_units : Settings → List Event → ℕ → Option (List (List ℕ))
-waiting_units s journal map_id = option_map waiting (queue_of map_id (run s journal).units)
+-- what a channel that has no limit by MAP answers
 
--- the reply to the take of a unit: the oldest that waits
+abbrev pub frame_reply : Settings → List Event → List ℕ → FrameReply
+frame_reply s journal octets = frame_reply_within no_limits s journal octets
+
+abbrev pub release_reply : Settings → List Event → Delivery
+release_reply s journal = release_reply_within no_limits s journal
+
+abbrev pub waiting_packets : Settings → List Event → ℕ → Option (List (List ℕ))
+waiting_packets s journal apid = waiting_packets_within no_limits s journal apid
+
+abbrev pub take_reply : Settings → List Event → ℕ → Option (List ℕ)
+take_reply s journal apid = take_reply_within no_limits s journal apid
+
+abbrev pub waiting_units : Settings → List Event → ℕ → Option (List (List ℕ))
+waiting_units s journal map_id = waiting_units_within no_limits s journal map_id
+
 abbrev pub unit_reply : Settings → List Event → ℕ → Option (List ℕ)
-unit_reply s journal map_id = option_and_then (λ units. slice_get units 0) (waiting_units s journal map_id)
+unit_reply s journal map_id = unit_reply_within no_limits s journal map_id
 
--- the data fields that wait in the buffer, the oldest first
-unfoldable pub buffered_fields : Settings → List Event → List (List ℕ)
-buffered_fields s journal = buffer (run s journal)
+abbrev pub buffered_fields : Settings → List Event → List (List ℕ)
+buffered_fields s journal = buffered_fields_within no_limits s journal
 
--- the CLCW (CCSDS 232.0-B, 4.2)
-unfoldable pub clcw : Settings → List Event → Link → ℕ
-clcw s journal link = word_of (run s journal).report s.vcid link
+abbrev pub clcw : Settings → List Event → Link → ℕ
+clcw s journal link = clcw_within no_limits s journal link

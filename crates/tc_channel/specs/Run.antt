@@ -5,11 +5,11 @@ use Rattle.tc_link.specs.Command.{kind_of}
 use Rattle.tc_link.specs.Farm.{Row, E1, E6, E10, frame_row, entry, accepts, after}
 use Rattle.tc_packet.specs.declared.Service.{Service}
 use Rattle.tc_packet.specs.declared.Service.TheVariants.{Ad, Bd}
-use Rattle.tc_packet.specs.Reassembly.{stream, unit_ended}
+use Rattle.tc_packet.specs.Reassembly.{at_most, stream, unit_ended}
 use Rattle.tc_channel.specs.declared.settings.Settings.{Settings}
 use Rattle.tc_channel.specs.declared.event.Event.{Event}
 use Rattle.tc_channel.specs.declared.event.Event.TheVariants.{Frame, Release, Take, TakeUnit}
-use Rattle.tc_channel.specs.ChannelState.{ChannelState, Queue, first_state, buffer, has_room}
+use Rattle.tc_channel.specs.ChannelState.{ChannelState, Queue, first_state_within, no_limits, buffer, has_room}
 use Rattle.tc_channel.specs.Admission.{map_of, offered}
 
 -- the data field of a frame
@@ -20,9 +20,9 @@ field_of octets = drop 5 octets
 abbrev pub row_of : Settings → ChannelState → List ℕ → Row
 row_of s state octets = frame_row s.width state.report.vr (kind_of (header_of octets) (field_of octets)) (has_room s state)
 
--- the unit that a data field ends where it is passed to reassembly
+-- the unit that a data field ends where it is passed to reassembly, if it is no longer than the limit of its MAP
 abbrev pub unit_of : ChannelState → Service → List ℕ → Option (List ℕ)
-unit_of state service field = unit_ended state.segmented (stream service (map_of field) state.passed) field
+unit_of state service field = at_most (state.limit (map_of field)) (unit_ended state.segmented (stream service (map_of field) state.passed) field)
 
 -- a data field is passed to reassembly, and the queues admit what they can of the unit that it ends
 unfoldable pub passed_on : Service → List ℕ → ChannelState → ChannelState
@@ -84,10 +84,18 @@ abbrev pub AreSteps : Settings → ChannelState → List Event → Type 0
 AreSteps s state [] = Unit {0}
 AreSteps s state (e ∷ es) = HasStep s state e × AreSteps s (step s state e) es
 
--- the state that a journal leads to
-unfoldable pub run : Settings → List Event → ChannelState
-run s journal = run_from s (first_state s) journal
+-- the state that a journal leads to, with a limit for each MAP
+unfoldable pub run_within : (ℕ → ℕ) → Settings → List Event → ChannelState
+run_within limits s journal = run_from s (first_state_within limits s) journal
 
 -- each event of the journal could happen where it stands
-unfoldable pub IsLawful : Settings → List Event → Type 0
-IsLawful s journal = AreSteps s (first_state s) journal
+unfoldable pub IsLawfulWithin : (ℕ → ℕ) → Settings → List Event → Type 0
+IsLawfulWithin limits s journal = AreSteps s (first_state_within limits s) journal
+
+-- the same of a channel that has no limit by MAP
+
+abbrev pub run : Settings → List Event → ChannelState
+run s journal = run_within no_limits s journal
+
+abbrev pub IsLawful : Settings → List Event → Type 0
+IsLawful s journal = IsLawfulWithin no_limits s journal

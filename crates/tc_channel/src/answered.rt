@@ -2,7 +2,7 @@
 
 ghost use Rattle.std.specs.Prelude.{◌≡◌, true, false, [], ◌∷◌, Some, None};
 ghost use Rattle.tc_channel.specs.declared.event.Event.TheVariants.{Frame, Release, Take, TakeUnit};
-ghost use Rattle.tc_channel.specs.Reply.{frame_reply, release_reply, take_reply, unit_reply, waiting_packets, waiting_units, buffered_fields, clcw};
+ghost use Rattle.tc_channel.specs.Reply.{frame_reply, release_reply, release_reply_within, take_reply, unit_reply, unit_reply_within, waiting_packets, waiting_units, buffered_fields, clcw};
 ghost use Rattle.tc_channel.specs.Run.{IsLawful};
 ghost use Rattle.tc_channel.specs.Memory.{memory_bound};
 ghost use Rattle.tc_channel.specs.Examples as example;
@@ -62,6 +62,18 @@ pub fn further_journals_are_answered_so()
     ensures second_application { waiting_packets (example.two_queues true) (example.two_applications ∷ Release ∷ []) 6 ≡ Some ((0x10 ∷ 0x06 ∷ 0xc0 ∷ 0x00 ∷ 0x00 ∷ 0x00 ∷ 0xbb ∷ []) ∷ []) }
     ensures nothing_to_release { IsLawful (example.buffer_of 1) (Release ∷ []) → ⊥ }
     ensures map_that_is_cut { release_reply example.map_3_chosen (example.one_packet 0 ∷ []) ≡ record { queued = 1; dropped = 0; rest = false } }
+{}
+
+/// The same with limits by MAP: a packet of 7 octets on MAP 0, one of 8 octets in two segments, and a unit of 3 octets on MAP 3.
+pub fn journals_within_limits_are_answered_so()
+    ensures of_the_limit { release_reply_within (example.limited 0 7) (example.buffer_of 1) (example.one_packet 0 ∷ []) ≡ record { queued = 1; dropped = 0; rest = false } }
+    ensures over_the_limit { release_reply_within (example.limited 0 6) (example.buffer_of 1) (example.one_packet 0 ∷ []) ≡ record { queued = 0; dropped = 0; rest = false } }
+    ensures limit_of_another_map { release_reply_within (example.limited 3 6) (example.buffer_of 1) (example.one_packet 0 ∷ []) ≡ record { queued = 1; dropped = 0; rest = false } }
+    ensures run_of_the_limit { release_reply_within (example.limited 0 8) (example.buffer_of 2) (example.first_segment ∷ example.last_segment ∷ Release ∷ []) ≡ record { queued = 1; dropped = 0; rest = false } }
+    ensures run_over_the_limit { release_reply_within (example.limited 0 7) (example.buffer_of 2) (example.first_segment ∷ example.last_segment ∷ Release ∷ []) ≡ record { queued = 0; dropped = 0; rest = false } }
+    ensures unit_of_the_limit { unit_reply_within (example.limited 3 3) example.map_3_chosen (example.map_3_octets ∷ Release ∷ []) 3 ≡ Some (0xaa ∷ 0xbb ∷ 0xcc ∷ []) }
+    ensures unit_over_the_limit { unit_reply_within (example.limited 3 2) example.map_3_chosen (example.map_3_octets ∷ Release ∷ []) 3 ≡ None }
+    ensures empty_unit { unit_reply_within (example.limited 3 0) example.map_3_chosen (example.bypass_map_3_empty ∷ []) 3 ≡ Some [] }
 {}
 
 /// The memory that is worked out by hand for three settings.

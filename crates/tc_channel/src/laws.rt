@@ -1,4 +1,5 @@
-//! Laws over the definitions.
+//! Laws over the definitions. A law over the run of a journal is one of each run, with any limit for each MAP (`run_within`); so it is
+//! one of a channel that has no limit by MAP (`run`), too.
 
 ghost use Rattle.std.specs.Prelude.{List, ℕ, ◌≡◌, ◌≤◌, ◌<◌, ◌+◌, ◌^◌, ◌++◌, ◌↔◌, Option, Some, None, false, [], ◌∷◌, ◌≢◌, IsTrue, length, map, slice_get};
 ghost use Rattle.tc_channel.specs.ChannelState.{ChannelState, Accepted, Queue, buffer};
@@ -6,16 +7,16 @@ ghost use Rattle.std.specs.List.{AllByRecursion, Contains};
 ghost use Rattle.tc_link.specs.Frame.{IsWhole};
 ghost use Rattle.tc_link.specs.declared.Link.{Link};
 ghost use Rattle.tc_packet.specs.declared.Service.{Service};
-ghost use Rattle.tc_packet.specs.Reassembly.{largest_unit, run_left, stream};
-ghost use Rattle.tc_channel.specs.Admission.{is_chosen, is_for, is_of_map, packets_offered, units_offered, share_of, with_share};
-ghost use Rattle.tc_channel.specs.Reply.{clcw, delivery_of};
+ghost use Rattle.tc_packet.specs.Reassembly.{largest_unit, run_left, stream, unit_ended};
+ghost use Rattle.tc_channel.specs.Admission.{map_of, is_chosen, is_for, is_of_map, packets_offered, units_offered, share_of, with_share};
+ghost use Rattle.tc_channel.specs.Reply.{clcw_within, delivery_of};
 ghost use Rattle.tc_channel.specs.declared.settings.Settings.{Settings};
 ghost use Rattle.tc_channel.specs.declared.event.Event.{Event};
 ghost use Rattle.tc_channel.specs.declared.settings.SettingsFault.{SettingsFault};
 ghost use Rattle.tc_channel.specs.Settings.{IsAllowed, IsFault};
-ghost use Rattle.tc_channel.specs.Run.{run, run_from, unit_of, passed_on, HasStep, IsLawful, AreSteps};
+ghost use Rattle.tc_channel.specs.Run.{run, run_within, run_from, unit_of, passed_on, HasStep, IsLawfulWithin, AreSteps};
 ghost use Rattle.tc_channel.specs.Laws.{IsSound, KeepsToItsCapacity, Grows, IsOfChosenMap, with_unit};
-ghost use Rattle.tc_channel.specs.Era.{IsEra, CountsUpInItsEra, ComesFrom, accepted_since};
+ghost use Rattle.tc_channel.specs.Era.{IsEraWithin, CountsUpInItsEraWithin, ComesFromWithin, accepted_since_within};
 ghost use Rattle.tc_channel.specs.declared.settings.QueueSetting.{QueueSetting};
 ghost use Rattle.tc_channel.specs.declared.settings.MapSetting.{MapSetting};
 
@@ -29,76 +30,76 @@ pub fn allowed_settings_have_no_fault()
 
 /// In S2 Wait is set. Wait means that there is no room, and is never set in S1. Lockout is set just in S3.
 pub fn wait_means_no_room()
-    ensures { (s : Settings) (journal : List Event) → IsSound s (run s journal) }
+    ensures { (limits : ℕ → ℕ) (s : Settings) (journal : List Event) → IsSound s (run_within limits s journal) }
 {}
 
 /// Whatever came before, each frame has its step: a frame that is expected and finds room never comes in S2.
 pub fn each_frame_has_a_step()
-    ensures { (s : Settings) (journal : List Event) (octets : List ℕ) → IsWhole octets → HasStep s (run s journal) (Event.Frame octets) }
+    ensures { (limits : ℕ → ℕ) (s : Settings) (journal : List Event) (octets : List ℕ) → IsWhole octets → HasStep s (run_within limits s journal) (Event.Frame octets) }
 {
     each_arrival_has_an_entry();
 }
 
 /// A journal can be parted into its era and what came before.
 pub fn each_journal_has_an_era()
-    ensures { (s : Settings) (journal : List Event) → (before : List Event) × (later : List Event) × (x : ℕ) × IsEra s journal before later x }
+    ensures { (limits : ℕ → ℕ) (s : Settings) (journal : List Event) → (before : List Event) × (later : List Event) × (x : ℕ) × IsEraWithin limits s journal before later x }
 {}
 
 /// In a lawful journal of allowed settings the AD frames that were accepted since V(R) was last set by a Set V(R) that was
 /// obeyed, or else since the start, have consecutive numbers modulo 256 from that V(R) on, and V(R) is the next one.
 pub fn accepted_frames_count_up()
-    ensures { (s : Settings) (journal : List Event) → IsAllowed s → IsLawful s journal → CountsUpInItsEra s journal }
+    ensures { (limits : ℕ → ℕ) (s : Settings) (journal : List Event) → IsAllowed s → IsLawfulWithin limits s journal → CountsUpInItsEraWithin limits s journal }
 {}
 
 /// No queue ever holds more than its capacity, or gives more than it was given.
 pub fn queues_keep_to_their_capacity()
-    ensures queues { (s : Settings) (journal : List Event) → AllByRecursion KeepsToItsCapacity (run s journal).queues }
-    ensures units { (s : Settings) (journal : List Event) → AllByRecursion KeepsToItsCapacity (run s journal).units }
+    ensures queues { (limits : ℕ → ℕ) (s : Settings) (journal : List Event) → AllByRecursion KeepsToItsCapacity (run_within limits s journal).queues }
+    ensures units { (limits : ℕ → ℕ) (s : Settings) (journal : List Event) → AllByRecursion KeepsToItsCapacity (run_within limits s journal).units }
 {}
 
 /// The run of a longer journal begins with the run of its beginning: it goes on from there, and nothing is cut.
 pub fn a_longer_run_goes_on()
-    ensures run { (s : Settings) (past future : List Event) → run s (past ++ future) ≡ run_from s (run s past) future }
-    ensures grows { (s : Settings) (past future : List Event) → Grows (run s past) (run s (past ++ future)) }
-    ensures lawful_before { (s : Settings) (past future : List Event) → IsLawful s (past ++ future) → IsLawful s past }
-    ensures lawful_after { (s : Settings) (past future : List Event) → IsLawful s (past ++ future) → AreSteps s (run s past) future }
+    ensures run { (limits : ℕ → ℕ) (s : Settings) (past future : List Event) → run_within limits s (past ++ future) ≡ run_from s (run_within limits s past) future }
+    ensures grows { (limits : ℕ → ℕ) (s : Settings) (past future : List Event) → Grows (run_within limits s past) (run_within limits s (past ++ future)) }
+    ensures lawful_before { (limits : ℕ → ℕ) (s : Settings) (past future : List Event) → IsLawfulWithin limits s (past ++ future) → IsLawfulWithin limits s past }
+    ensures lawful_after { (limits : ℕ → ℕ) (s : Settings) (past future : List Event) → IsLawfulWithin limits s (past ++ future) → AreSteps s (run_within limits s past) future }
 {}
 
 /// The buffer never holds more data fields than its size.
 pub fn buffer_keeps_to_its_size()
-    ensures { (s : Settings) (journal : List Event) → length (buffer (run s journal)) ≤ s.buffer }
+    ensures { (limits : ℕ → ℕ) (s : Settings) (journal : List Event) → length (buffer (run_within limits s journal)) ≤ s.buffer }
 {}
 
 /// Where settings are allowed, of the packets that a unit is cut into the queued and the dropped are together as many as there
 /// are; a unit of a chosen MAP is queued whole or dropped whole. Queues that are given the same packet have the same APID, which
 /// is their key.
 pub fn each_packet_is_queued_or_dropped()
-    ensures count { (s : Settings) (journal : List Event) (field : List ℕ) (unit : Option (List ℕ)) → IsAllowed s
-        → (delivery_of field unit (run s journal)).queued + (delivery_of field unit (run s journal)).dropped
-        ≡ length (packets_offered unit (is_chosen (run s journal) field)) + length (units_offered unit (is_chosen (run s journal) field)) }
+    ensures count { (limits : ℕ → ℕ) (s : Settings) (journal : List Event) (field : List ℕ) (unit : Option (List ℕ)) → IsAllowed s
+        → (delivery_of field unit (run_within limits s journal)).queued + (delivery_of field unit (run_within limits s journal)).dropped
+        ≡ length (packets_offered unit (is_chosen (run_within limits s journal) field)) + length (units_offered unit (is_chosen (run_within limits s journal) field)) }
     ensures apid { (packets : List (List ℕ)) (one other : Queue) (packet : List ℕ) → Contains (share_of is_for packets one) packet → Contains (share_of is_for packets other) packet → one.key ≡ other.key }
 {}
 
 /// The CLCW of a lawful journal of allowed settings fits 32 bits.
 pub fn each_clcw_fits_its_word()
-    ensures { (s : Settings) (journal : List Event) (link : Link) → IsAllowed s → IsLawful s journal → clcw s journal link < 2 ^ 32 }
+    ensures { (limits : ℕ → ℕ) (s : Settings) (journal : List Event) (link : Link) → IsAllowed s → IsLawfulWithin limits s journal → clcw_within limits s journal link < 2 ^ 32 }
 {}
 
-/// No event makes a plain channel a segmented one, or back. On a plain channel each data field within the limit is a unit by
+/// No event makes a plain channel a segmented one, or back. On a plain channel each data field within the limits is a unit by
 /// itself, and no run is ever open.
 pub fn a_plain_channel_takes_each_field_as_a_unit()
-    ensures stays { (s : Settings) (journal : List Event) → (run s journal).segmented ≡ s.segmented }
-    ensures unit { (s : Settings) (journal : List Event) (service : Service) (field octets : List ℕ) → s.segmented ≡ false
-        → (unit_of (run s journal) service field ≡ Some octets) ↔ ((octets ≡ field) × (length field ≤ largest_unit)) }
-    ensures run { (s : Settings) (journal : List Event) (service : Service) (map_id : ℕ) → s.segmented ≡ false
-        → run_left (run s journal).segmented (stream service map_id (run s journal).passed) ≡ None }
+    ensures stays { (limits : ℕ → ℕ) (s : Settings) (journal : List Event) → (run_within limits s journal).segmented ≡ s.segmented }
+    ensures unit { (limits : ℕ → ℕ) (s : Settings) (journal : List Event) (service : Service) (field octets : List ℕ) → s.segmented ≡ false
+        → (unit_of (run_within limits s journal) service field ≡ Some octets) ↔ ((octets ≡ field) × (length field ≤ largest_unit) × (length field ≤ limits (map_of field))) }
+    ensures run { (limits : ℕ → ℕ) (s : Settings) (journal : List Event) (service : Service) (map_id : ℕ) → s.segmented ≡ false
+        → run_left (run_within limits s journal).segmented (stream service map_id (run_within limits s journal).passed) ≡ None }
 {
     a_plain_field_is_a_unit_by_itself();
 }
 
 /// The chosen MAPs are those of the settings, whatever comes.
 pub fn chosen_maps_stay()
-    ensures { (s : Settings) (journal : List Event) (field : List ℕ) → IsTrue (is_chosen (run s journal) field) ↔ IsOfChosenMap s field }
+    ensures { (limits : ℕ → ℕ) (s : Settings) (journal : List Event) (field : List ℕ) → IsTrue (is_chosen (run_within limits s journal) field) ↔ IsOfChosenMap s field }
 {}
 
 /// A unit of a chosen MAP is appended whole to the queue of its MAP where that has room, else it is dropped; the queues of other
@@ -118,12 +119,23 @@ pub fn a_unit_is_delivered_whole_or_by_packets()
 /// early or too late, the accepted data fields are what was sent: each once, in order, and none left out. Frames may be lost, come
 /// several times, and out of order.
 pub fn what_was_sent_is_accepted_once_and_in_order()
-    ensures { (s : Settings) (journal before later : List Event) (x : ℕ) (sent : ℕ → List ℕ) → IsEra s journal before later x → ComesFrom s before later x sent
-        → (i : ℕ) (a : Accepted) → slice_get (accepted_since s before journal) i ≡ Some a → a.field ≡ sent i }
+    ensures { (limits : ℕ → ℕ) (s : Settings) (journal before later : List Event) (x : ℕ) (sent : ℕ → List ℕ) → IsEraWithin limits s journal before later x → ComesFromWithin limits s before later x sent
+        → (i : ℕ) (a : Accepted) → slice_get (accepted_since_within limits s before journal) i ≡ Some a → a.field ≡ sent i }
 {}
 
 /// The queues of a channel are those of its settings, in their order, each with its capacity, whatever comes.
 pub fn queues_are_those_of_the_settings()
-    ensures queues { (s : Settings) (journal : List Event) → map {B = ℕ × ℕ} (λ (q : Queue). (q.key, q.capacity)) (run s journal).queues ≡ map {B = ℕ × ℕ} (λ (q : QueueSetting). (q.apid, q.capacity)) s.queues }
-    ensures units { (s : Settings) (journal : List Event) → map {B = ℕ × ℕ} (λ (q : Queue). (q.key, q.capacity)) (run s journal).units ≡ map {B = ℕ × ℕ} (λ (m : MapSetting). (m.map, m.capacity)) s.maps }
+    ensures queues { (limits : ℕ → ℕ) (s : Settings) (journal : List Event) → map {B = ℕ × ℕ} (λ (q : Queue). (q.key, q.capacity)) (run_within limits s journal).queues ≡ map {B = ℕ × ℕ} (λ (q : QueueSetting). (q.apid, q.capacity)) s.queues }
+    ensures units { (limits : ℕ → ℕ) (s : Settings) (journal : List Event) → map {B = ℕ × ℕ} (λ (q : Queue). (q.key, q.capacity)) (run_within limits s journal).units ≡ map {B = ℕ × ℕ} (λ (m : MapSetting). (m.map, m.capacity)) s.maps }
+{}
+
+/// No event changes the limits. A data field ends a unit where it would without the limits, if the unit is no longer than the limit of
+/// its MAP. Where there is no limit by MAP, it ends each unit that reassembly makes: the limit of the largest unit leaves none out.
+pub fn a_unit_beyond_the_limit_of_its_map_is_none()
+    ensures stays { (limits : ℕ → ℕ) (s : Settings) (journal : List Event) → (run_within limits s journal).limit ≡ limits }
+    ensures within { (limits : ℕ → ℕ) (s : Settings) (journal : List Event) (service : Service) (field octets : List ℕ)
+        → (unit_of (run_within limits s journal) service field ≡ Some octets)
+        ↔ ((unit_ended (run_within limits s journal).segmented (stream service (map_of field) (run_within limits s journal).passed) field ≡ Some octets) × (length octets ≤ limits (map_of field))) }
+    ensures without { (s : Settings) (journal : List Event) (service : Service) (field : List ℕ)
+        → unit_of (run s journal) service field ≡ unit_ended (run s journal).segmented (stream service (map_of field) (run s journal).passed) field }
 {}

@@ -32,7 +32,8 @@ mod settings;
 mod unkept;
 
 pub use answered::{
-    further_journals_are_answered_so, memory_is_counted_so, short_journals_are_answered_so,
+    further_journals_are_answered_so, journals_within_limits_are_answered_so, memory_is_counted_so,
+    short_journals_are_answered_so,
 };
 pub use channel::{Channel, ChannelWith, FlightChannel};
 pub use event::Event;
@@ -42,9 +43,10 @@ pub use journal::Journal;
 pub use kept::Kept;
 pub use laws::{
     a_longer_run_goes_on, a_plain_channel_takes_each_field_as_a_unit,
-    a_unit_is_delivered_whole_or_by_packets, a_unit_is_kept_where_its_queue_has_room,
-    accepted_frames_count_up, allowed_settings_have_no_fault, buffer_keeps_to_its_size,
-    chosen_maps_stay, each_clcw_fits_its_word, each_frame_has_a_step, each_journal_has_an_era,
+    a_unit_beyond_the_limit_of_its_map_is_none, a_unit_is_delivered_whole_or_by_packets,
+    a_unit_is_kept_where_its_queue_has_room, accepted_frames_count_up,
+    allowed_settings_have_no_fault, buffer_keeps_to_its_size, chosen_maps_stay,
+    each_clcw_fits_its_word, each_frame_has_a_step, each_journal_has_an_era,
     each_packet_is_queued_or_dropped, queues_are_those_of_the_settings,
     queues_keep_to_their_capacity, wait_means_no_room, what_was_sent_is_accepted_once_and_in_order,
 };

@@ -1,13 +1,13 @@
 //! How much memory a channel can come to hold.
 
-ghost use Rattle.std.specs.Prelude.{List, true, ◌≡◌, ◌≤◌, ◌^◌, ◌-◌, ◌<◌, ◌*◌, min, sum_by};
+ghost use Rattle.std.specs.Prelude.{List, ℕ, true, ◌≡◌, ◌≤◌, ◌^◌, ◌-◌, ◌<◌, ◌*◌, min, sum_by};
 ghost use Rattle.tc_channel.specs.declared.settings.QueueSetting.{QueueSetting};
 ghost use Rattle.tc_channel.specs.declared.settings.MapSetting.{MapSetting};
 ghost use Rattle.tc_channel.specs.declared.settings.Settings.{Settings};
 ghost use Rattle.tc_channel.specs.declared.event.Event.{Event};
 ghost use Rattle.tc_packet.specs.Reassembly.{largest_unit};
 ghost use Rattle.tc_channel.specs.ChannelState.{buffer};
-ghost use Rattle.tc_channel.specs.Run.{IsLawful, run};
+ghost use Rattle.tc_channel.specs.Run.{IsLawfulWithin, run_within};
 ghost use Rattle.tc_channel.specs.Settings.{settings_of};
 ghost use Rattle.tc_channel.specs.Memory.{buffer_memory, doubled, largest_field, largest_item, memory_bound, memory_waiting, octets_in, octets_waiting, packets_held, queues_memory, runs_memory, units_held, waiting_in_all, work_memory};
 
@@ -163,15 +163,15 @@ fn work_octets(settings: LentSettings<'_>) -> u128
 /// Whatever journal a channel has, its queues hold no more packets and units than the bound of its memory counts, and of each no
 /// more octets than as many largest units; in a lawful one its buffer holds no more octets than as many largest data fields.
 pub fn no_more_items_wait_than_memory_counts()
-    ensures packets { (s : Settings) (journal : List Event) → waiting_in_all (run s journal).queues ≤ packets_held s }
-    ensures units { (s : Settings) (journal : List Event) → waiting_in_all (run s journal).units ≤ units_held s }
-    ensures packet_octets { (s : Settings) (journal : List Event) → octets_waiting (run s journal).queues ≤ packets_held s * largest_unit }
-    ensures unit_octets { (s : Settings) (journal : List Event) → octets_waiting (run s journal).units ≤ units_held s * largest_unit }
-    ensures field_octets { (s : Settings) (journal : List Event) → IsLawful s journal → octets_in (buffer (run s journal)) ≤ s.buffer * largest_field }
+    ensures packets { (limits : ℕ → ℕ) (s : Settings) (journal : List Event) → waiting_in_all (run_within limits s journal).queues ≤ packets_held s }
+    ensures units { (limits : ℕ → ℕ) (s : Settings) (journal : List Event) → waiting_in_all (run_within limits s journal).units ≤ units_held s }
+    ensures packet_octets { (limits : ℕ → ℕ) (s : Settings) (journal : List Event) → octets_waiting (run_within limits s journal).queues ≤ packets_held s * largest_unit }
+    ensures unit_octets { (limits : ℕ → ℕ) (s : Settings) (journal : List Event) → octets_waiting (run_within limits s journal).units ≤ units_held s * largest_unit }
+    ensures field_octets { (limits : ℕ → ℕ) (s : Settings) (journal : List Event) → IsLawfulWithin limits s journal → octets_in (buffer (run_within limits s journal)) ≤ s.buffer * largest_field }
 {}
 
 /// After each lawful journal, what waits in a channel with segment headers is within the bound of its memory: the octets of packets,
 /// units and data fields, and the words of each item and of each queue.
 pub fn what_waits_is_within_the_bound_of_memory()
-    ensures { (s : Settings) (journal : List Event) → s.segmented ≡ true → IsLawful s journal → memory_waiting s (run s journal) ≤ memory_bound s }
+    ensures { (limits : ℕ → ℕ) (s : Settings) (journal : List Event) → s.segmented ≡ true → IsLawfulWithin limits s journal → memory_waiting s (run_within limits s journal) ≤ memory_bound s }
 {}

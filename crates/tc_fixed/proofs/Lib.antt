@@ -2,3 +2,5 @@ pub mod Sizes
 pub mod Ways
 pub mod Inside
 pub mod Taking
+pub mod Within
+pub mod ByMap

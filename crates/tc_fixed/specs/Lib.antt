@@ -2,3 +2,5 @@ pub mod Delivering
 pub mod Channel
 pub mod Taking
 pub mod Storage
+pub mod Limits
+pub mod History

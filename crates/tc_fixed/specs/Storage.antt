@@ -1,8 +1,10 @@
 -- How many octets the making of a channel in rooms asks an allocator for, in a program for a machine of 64 bits.
-use Rattle.std.specs.Prelude.{ℕ, ◌+◌, ◌*◌, length, if◌then◌else◌}
-use Rattle.tc_packet.specs.Reassembly.{largest_unit, stream_count}
+use Rattle.std.specs.Prelude.{ℕ, zero, suc, ◌+◌, ◌*◌, length, if◌then◌else◌}
+use Rattle.tc_packet.specs.Reassembly.{stream_count}
 use Rattle.tc_channel.specs.declared.settings.Settings.{Settings}
-use Rattle.tc_channel.specs.Memory.{largest_field, largest_item, packets_held, units_held}
+use Rattle.tc_channel.specs.Memory.{largest_field, packets_held, units_held}
+use Rattle.tc_fixed.specs.Limits.{item_size, limit_of, none}
+use Rattle.tc_fixed.specs.declared.limits.Limits.{Limits}
 
 -- a room's own words, where it is free and where it is taken: each time those of its block and how many octets are in use
 abbrev pub room_words : ℕ
@@ -20,14 +22,26 @@ queue_words = 72
 abbrev pub fields_storage : Settings → ℕ
 fields_storage s = s.buffer * (room_words + largest_field)
 
--- with segment headers a room for the largest unit for each stream
-abbrev pub runs_storage : Settings → ℕ
-runs_storage s = if s.segmented then stream_count * (stream_words + largest_unit) else 0
+-- the limits of the first MAPs, all together
+abbrev pub limits_below : Limits → ℕ → ℕ
+limits_below limits zero = 0
+limits_below limits (suc count) = limits_below limits count + limit_of limits count
 
--- each queue, and a room for each packet and each unit
-abbrev pub queues_storage : Settings → ℕ
-queues_storage s = (length s.queues + length s.maps) * queue_words + (packets_held s + units_held s) * (room_words + largest_item s.segmented)
+-- with segment headers a room for the largest unit of its MAP for each stream, of two services and 64 MAPs
+abbrev pub runs_storage : Settings → Limits → ℕ
+runs_storage s limits = if s.segmented then stream_count * stream_words + 2 * limits_below limits 64 else 0
 
--- all that a channel of these settings asks for, where it is made
-unfoldable pub storage_of : Settings → ℕ
-storage_of s = fields_storage s + runs_storage s + queues_storage s
+-- each queue, and a room of so many octets for each packet and each unit
+abbrev pub queues_in_rooms : Settings → ℕ → ℕ
+queues_in_rooms s item = (length s.queues + length s.maps) * queue_words + (packets_held s + units_held s) * (room_words + item)
+
+abbrev pub queues_storage : Settings → Limits → ℕ
+queues_storage s limits = queues_in_rooms s (item_size limits s.segmented)
+
+-- all that a channel of these settings and limits asks for, where it is made
+unfoldable pub storage_within : Settings → Limits → ℕ
+storage_within s limits = fields_storage s + runs_storage s limits + queues_storage s limits
+
+-- the same without limits by MAP
+abbrev pub storage_of : Settings → ℕ
+storage_of s = storage_within s none

@@ -3,20 +3,25 @@
 ghost use Rattle.std.specs.Prelude.{List, ℕ, ◌≡◌, [], ◌<◌, ◌≤◌, ◌↔◌, ◌∷◌, ◌++◌, ◌^◌, ◌-◌, length, min, IfOk, OnOk, OnErr, IsErrOf, MatchResult, IsSome, IsTrue, Some, None, Option, option_map, false};
 ghost use Rattle.tc_channel.specs.declared.event.Event.TheVariants as Event;
 ghost use Rattle.tc_channel.specs.Settings.{IsAllowed, IsRefusal};
-ghost use Rattle.tc_channel.specs.Journal.{with_event};
-ghost use Rattle.tc_channel.specs.Run.{run, IsLawful};
-ghost use Rattle.tc_channel.specs.Reply.{frame_reply, release_reply, take_reply, unit_reply, waiting_packets, waiting_units, buffered_fields, clcw as clcw_of};
-ghost use Rattle.tc_channel.specs.Era.{CountsUpInItsEra};
-ghost use Rattle.tc_channel.specs.Channel.{Follows, FollowsKind, Ends, EndsAtOnce, buffered_of, with_field};
+ghost use Rattle.tc_channel.specs.Run.{run_within, IsLawfulWithin};
+ghost use Rattle.tc_channel.specs.Reply.{frame_reply_within, release_reply_within, take_reply_within, unit_reply_within, waiting_packets_within, waiting_units_within, buffered_fields_within, clcw_within};
+ghost use Rattle.tc_channel.specs.Era.{CountsUpInItsEraWithin};
+ghost use Rattle.tc_channel.specs.Channel.{FollowsWithin, FollowsKindWithin, EndsWithin, EndsAtOnceWithin, buffered_of, with_field};
 ghost use Rattle.tc_channel.specs.Admission.{map_of};
-ghost use Rattle.tc_channel.specs.Memory.{largest_item, largest_field};
+ghost use Rattle.tc_channel.specs.Memory.{largest_field};
+ghost use Rattle.tc_packet.specs.declared.Service.{Service};
+ghost use Rattle.tc_packet.specs.declared.Service.TheVariants.{Bd};
+ghost use Rattle.tc_packet.specs.Reassembly.{run_at, stream_place};
 ghost use Rattle.tc_channel.specs.HeldQueues.{AreDistinct, keys_of};
-ghost use Rattle.tc_rooms.specs.Runs.{open_runs};
+ghost use Rattle.tc_rooms.specs.Runs.{limit_at, open_runs};
 ghost use Rattle.tc_fixed.specs.Delivering.{rings_in, room_sizes, IsDelivered};
-ghost use Rattle.tc_fixed.specs.Channel.{AreLargest, AreAll};
+ghost use Rattle.tc_fixed.specs.Channel.{AreEnough, AreSmall, HaveLimits};
+ghost use Rattle.tc_fixed.specs.History.{with_event};
+ghost use Rattle.tc_fixed.specs.Limits.{AreLimits, HasMapsByHeaders, HaveOctets, IsOthers, IsRefusal as IsRefusalWithin, limit_of, none};
 ghost use Rattle.tc_fixed.specs.Taking.{IsOver, IsLaid};
 
 use crate::faults::{NoUnitTaken, NothingReleased, NothingTaken};
+use crate::limits::{Limits, LimitsFault};
 use crate::noted::Noted;
 use crate::past::Past;
 use crate::queues::{
@@ -31,7 +36,7 @@ use tc_link::{
     Act, Arrival, Farm, Frame, Kind, Link, Report, Window, clcw_word, each_arrival_has_an_entry,
     kind,
 };
-use tc_packet::{LARGEST_UNIT, Service, read_segment};
+use tc_packet::{Service, read_segment};
 use tc_rooms::{Ended, FixedReassembler, Slots};
 
 /// The most octets of a data field: a frame has 1,024 at most (CCSDS 232.0-B, 4.1.2.7), and 5 of them are its primary header.
@@ -44,6 +49,7 @@ pub(crate) const LARGEST_FIELD: usize = 1_019;
 #[derive(Drop)]
 pub struct FixedChannelWith<N: Noted> {
     settings: Settings,
+    limits: Limits,
     farm: Farm,
     fields: Slots,
     reassembler: FixedReassembler,
@@ -56,28 +62,49 @@ pub struct FixedChannelWith<N: Noted> {
 pub type FixedChannel = FixedChannelWith<Unkept>;
 
 impl<N: Noted> Model for FixedChannelWith<N> {
-    ghost use Rattle.tc_channel.specs.Journal.{History};
     ghost use Rattle.tc_fixed.specs.Channel.{HoldsInRooms};
+    ghost use Rattle.tc_fixed.specs.History.{LimitedHistory};
 
-    ghost Value = { History };
+    ghost Value = { LimitedHistory };
 
-    ghost view = { λ c. record { settings = c.settings; journal = N.noted c.journal } };
+    ghost view = { λ c. record { settings = c.settings; limits = c.limits; journal = N.noted c.journal } };
 
-    ghost invariant = { λ c. HoldsInRooms c.settings (N.noted c.journal) (record { farm = c.farm; fields = c.fields; store = c.reassembler; queues = c.queues.items; units = c.units.items }) };
+    ghost invariant = { λ c. HoldsInRooms c.limits c.settings (N.noted c.journal) (record { farm = c.farm; fields = c.fields; store = c.reassembler; queues = c.queues.items; units = c.units.items }) };
 }
 
 impl<N: Noted> FixedChannelWith<N> {
-    /// A channel that starts: in S1, with nothing in it and an empty journal. All memory that it ever has is asked for here:
-    /// [`storage`](crate::storage) octets.
+    /// A channel that starts: in S1, with nothing in it and an empty journal, and with no limit by MAP: a unit has 65,542 octets at
+    /// most. All memory that it ever has is asked for here: [`storage`](crate::storage) octets.
     pub fn new(alloc: Global, settings: Settings) -> Result<FixedChannelWith<N>, SettingsFault>
         ensures settings { IfOk result (λ channel. channel.settings ≡ settings) }
+        ensures limits { IfOk result (λ channel. channel.limits ≡ none) }
         ensures journal { IfOk result (λ channel. channel.journal ≡ []) }
         ensures fault { MatchResult result (λ _. IsAllowed settings) (IsRefusal settings) }
     {
         settings.check()?;
-        match start(alloc, settings) {
+        match start(alloc, settings, Limits::none(alloc)) {
             Ok(channel) => Ok(channel),
             Err(_) => Err(SettingsFault::NoMemory),
+        }
+    }
+
+    /// The same with a limit for the units of each MAP, so that it asks for less memory:
+    /// [`storage_with_limits`](crate::storage_with_limits) octets. A unit of more octets than its MAP's limit is dropped where it
+    /// ends, and no answer says so, just as one of more than 65,542 octets is without limits.
+    pub fn with_limits(
+        alloc: Global,
+        settings: Settings,
+        limits: Limits,
+    ) -> Result<FixedChannelWith<N>, LimitsFault>
+        ensures settings { IfOk result (λ channel. channel.settings ≡ settings) }
+        ensures limits { IfOk result (λ channel. channel.limits ≡ limits) }
+        ensures journal { IfOk result (λ channel. channel.journal ≡ []) }
+        ensures fault { MatchResult result (λ _. IsAllowed settings × AreLimits settings limits) (IsRefusalWithin settings limits) }
+    {
+        limits.check(&settings)?;
+        match start(alloc, settings, limits) {
+            Ok(channel) => Ok(channel),
+            Err(_) => Err(LimitsFault::Settings(SettingsFault::NoMemory)),
         }
     }
 
@@ -85,8 +112,8 @@ impl<N: Noted> FixedChannelWith<N> {
     /// field the unit that it ends is queued at once: whole where its MAP is chosen, else its packets, each copied into its room.
     pub fn frame(&mut self, frame: &Frame) -> FrameReply
         ensures allowed { IsAllowed self.old.settings }
-        ensures lawful { IsLawful self.old.settings self.old.journal }
-        ensures reply { result ≡ frame_reply self.old.settings self.old.journal frame.now }
+        ensures lawful { IsLawfulWithin (limit_of self.old.limits) self.old.settings self.old.journal }
+        ensures reply { result ≡ frame_reply_within (limit_of self.old.limits) self.old.settings self.old.journal frame.now }
         ensures done { self.new ≡ with_event self.old (Event.Frame frame.now) }
     {
         each_arrival_has_an_entry();
@@ -111,9 +138,9 @@ impl<N: Noted> FixedChannelWith<N> {
     /// packets.
     pub fn release(&mut self) -> Result<Delivery, NothingReleased>
         ensures allowed { IsAllowed self.old.settings }
-        ensures lawful { IsLawful self.old.settings self.old.journal }
-        ensures empty { IsErrOf result NothingReleased.Empty ↔ (buffered_fields self.old.settings self.old.journal ≡ []) }
-        ensures reply { IfOk result (λ delivery. delivery ≡ release_reply self.old.settings self.old.journal) }
+        ensures lawful { IsLawfulWithin (limit_of self.old.limits) self.old.settings self.old.journal }
+        ensures empty { IsErrOf result NothingReleased.Empty ↔ (buffered_fields_within (limit_of self.old.limits) self.old.settings self.old.journal ≡ []) }
+        ensures reply { IfOk result (λ delivery. delivery ≡ release_reply_within (limit_of self.old.limits) self.old.settings self.old.journal) }
         ensures done { OnOk result (self.new ≡ with_event self.old Event.Release) }
         ensures refused { OnErr result (self.new ≡ self.old) }
     {
@@ -136,11 +163,11 @@ impl<N: Noted> FixedChannelWith<N> {
     /// Takes the oldest packet out of the queue with this APID: copies it to the front of these octets, and says how many it has.
     pub fn take(&mut self, apid: u16, into: &mut [u8]) -> Result<usize, NothingTaken>
         ensures allowed { IsAllowed self.old.settings }
-        ensures lawful { IsLawful self.old.settings self.old.journal }
-        ensures no_queue { IsErrOf result NothingTaken.NoQueue ↔ (waiting_packets self.old.settings self.old.journal apid ≡ None) }
-        ensures empty { IsErrOf result NothingTaken.Empty ↔ (waiting_packets self.old.settings self.old.journal apid ≡ Some []) }
-        ensures no_room { IsErrOf result NothingTaken.NoRoom ↔ IsOver (length into.old) (take_reply self.old.settings self.old.journal apid) }
-        ensures reply { IfOk result (λ count. IsLaid (take_reply self.old.settings self.old.journal apid) count into.old into.new) }
+        ensures lawful { IsLawfulWithin (limit_of self.old.limits) self.old.settings self.old.journal }
+        ensures no_queue { IsErrOf result NothingTaken.NoQueue ↔ (waiting_packets_within (limit_of self.old.limits) self.old.settings self.old.journal apid ≡ None) }
+        ensures empty { IsErrOf result NothingTaken.Empty ↔ (waiting_packets_within (limit_of self.old.limits) self.old.settings self.old.journal apid ≡ Some []) }
+        ensures no_room { IsErrOf result NothingTaken.NoRoom ↔ IsOver (length into.old) (take_reply_within (limit_of self.old.limits) self.old.settings self.old.journal apid) }
+        ensures reply { IfOk result (λ count. IsLaid (take_reply_within (limit_of self.old.limits) self.old.settings self.old.journal apid) count into.old into.new) }
         ensures done { OnOk result (self.new ≡ with_event self.old (Event.Take apid)) }
         ensures refused { OnErr result ((self.new ≡ self.old) × (into.new ≡ into.old)) }
     {
@@ -152,11 +179,11 @@ impl<N: Noted> FixedChannelWith<N> {
     /// Takes the oldest unit out of the queue of this chosen MAP: copies it to the front of these octets, and says how many it has.
     pub fn take_unit(&mut self, map: u8, into: &mut [u8]) -> Result<usize, NoUnitTaken>
         ensures allowed { IsAllowed self.old.settings }
-        ensures lawful { IsLawful self.old.settings self.old.journal }
-        ensures no_map { IsErrOf result NoUnitTaken.NoMap ↔ (waiting_units self.old.settings self.old.journal map ≡ None) }
-        ensures empty { IsErrOf result NoUnitTaken.Empty ↔ (waiting_units self.old.settings self.old.journal map ≡ Some []) }
-        ensures no_room { IsErrOf result NoUnitTaken.NoRoom ↔ IsOver (length into.old) (unit_reply self.old.settings self.old.journal map) }
-        ensures reply { IfOk result (λ count. IsLaid (unit_reply self.old.settings self.old.journal map) count into.old into.new) }
+        ensures lawful { IsLawfulWithin (limit_of self.old.limits) self.old.settings self.old.journal }
+        ensures no_map { IsErrOf result NoUnitTaken.NoMap ↔ (waiting_units_within (limit_of self.old.limits) self.old.settings self.old.journal map ≡ None) }
+        ensures empty { IsErrOf result NoUnitTaken.Empty ↔ (waiting_units_within (limit_of self.old.limits) self.old.settings self.old.journal map ≡ Some []) }
+        ensures no_room { IsErrOf result NoUnitTaken.NoRoom ↔ IsOver (length into.old) (unit_reply_within (limit_of self.old.limits) self.old.settings self.old.journal map) }
+        ensures reply { IfOk result (λ count. IsLaid (unit_reply_within (limit_of self.old.limits) self.old.settings self.old.journal map) count into.old into.new) }
         ensures done { OnOk result (self.new ≡ with_event self.old (Event.TakeUnit map)) }
         ensures refused { OnErr result ((self.new ≡ self.old) × (into.new ≡ into.old)) }
     {
@@ -169,8 +196,8 @@ impl<N: Noted> FixedChannelWith<N> {
     /// [`oldest`](FixedChannelWith::oldest) lends it before.
     pub fn drop_oldest(&mut self, apid: u16) -> bool
         ensures allowed { IsAllowed self.old.settings }
-        ensures lawful { IsLawful self.old.settings self.old.journal }
-        ensures waits { IsTrue result ↔ IsSome (take_reply self.old.settings self.old.journal apid) }
+        ensures lawful { IsLawfulWithin (limit_of self.old.limits) self.old.settings self.old.journal }
+        ensures waits { IsTrue result ↔ IsSome (take_reply_within (limit_of self.old.limits) self.old.settings self.old.journal apid) }
         ensures done { IsTrue result → self.new ≡ with_event self.old (Event.Take apid) }
         ensures refused { result ≡ false → self.new ≡ self.old }
     {
@@ -185,8 +212,8 @@ impl<N: Noted> FixedChannelWith<N> {
     /// [`oldest_unit`](FixedChannelWith::oldest_unit) lends it before.
     pub fn drop_oldest_unit(&mut self, map: u8) -> bool
         ensures allowed { IsAllowed self.old.settings }
-        ensures lawful { IsLawful self.old.settings self.old.journal }
-        ensures waits { IsTrue result ↔ IsSome (unit_reply self.old.settings self.old.journal map) }
+        ensures lawful { IsLawfulWithin (limit_of self.old.limits) self.old.settings self.old.journal }
+        ensures waits { IsTrue result ↔ IsSome (unit_reply_within (limit_of self.old.limits) self.old.settings self.old.journal map) }
         ensures done { IsTrue result → self.new ≡ with_event self.old (Event.TakeUnit map) }
         ensures refused { result ≡ false → self.new ≡ self.old }
     {
@@ -200,9 +227,9 @@ impl<N: Noted> FixedChannelWith<N> {
     /// The octets of the packet that [`take`](FixedChannelWith::take) with this APID gives next, lent. None where there is no such
     /// queue, and where it is empty. It is no event.
     pub fn oldest(&self, apid: u16) -> Option<&[u8]>
-        ensures packet { option_map (λ octets. octets.now) result ≡ take_reply self.now.settings self.now.journal apid }
+        ensures packet { option_map (λ octets. octets.now) result ≡ take_reply_within (limit_of self.now.limits) self.now.settings self.now.journal apid }
         ensures allowed { IsAllowed self.now.settings }
-        ensures lawful { IsLawful self.now.settings self.now.journal }
+        ensures lawful { IsLawfulWithin (limit_of self.now.limits) self.now.settings self.now.journal }
     {
         oldest_with(&self.queues, apid)
     }
@@ -210,56 +237,56 @@ impl<N: Noted> FixedChannelWith<N> {
     /// The octets of the unit that [`take_unit`](FixedChannelWith::take_unit) with this MAP gives next, lent. None where the MAP
     /// isn't chosen, and where its queue is empty. It is no event.
     pub fn oldest_unit(&self, map: u8) -> Option<&[u8]>
-        ensures unit { option_map (λ octets. octets.now) result ≡ unit_reply self.now.settings self.now.journal map }
+        ensures unit { option_map (λ octets. octets.now) result ≡ unit_reply_within (limit_of self.now.limits) self.now.settings self.now.journal map }
         ensures allowed { IsAllowed self.now.settings }
-        ensures lawful { IsLawful self.now.settings self.now.journal }
+        ensures lawful { IsLawfulWithin (limit_of self.now.limits) self.now.settings self.now.journal }
     {
         oldest_with(&self.units, map as u16)
     }
 
     /// FARM-1's components.
     pub fn report(&self) -> Report
-        ensures report { result ≡ (run self.now.settings self.now.journal).report }
+        ensures report { result ≡ (run_within (limit_of self.now.limits) self.now.settings self.now.journal).report }
         ensures farm_b { result.farm_b < 4 }
         ensures allowed { IsAllowed self.now.settings }
-        ensures lawful { IsLawful self.now.settings self.now.journal }
-        ensures era { CountsUpInItsEra self.now.settings self.now.journal }
+        ensures lawful { IsLawfulWithin (limit_of self.now.limits) self.now.settings self.now.journal }
+        ensures era { CountsUpInItsEraWithin (limit_of self.now.limits) self.now.settings self.now.journal }
     {
         self.farm.report()
     }
 
     /// The communications link control word.
     pub fn clcw(&self, link: Link) -> u32
-        ensures word { result ≡ clcw_of self.now.settings self.now.journal link }
+        ensures word { result ≡ clcw_within (limit_of self.now.limits) self.now.settings self.now.journal link }
         ensures allowed { IsAllowed self.now.settings }
-        ensures lawful { IsLawful self.now.settings self.now.journal }
+        ensures lawful { IsLawfulWithin (limit_of self.now.limits) self.now.settings self.now.journal }
     {
         clcw_word(&self.farm.report(), self.settings.vcid, link)
     }
 
     /// How many data fields wait in the buffer.
     pub fn buffered(&self) -> usize
-        ensures count { result ≡ length (buffered_fields self.now.settings self.now.journal) }
+        ensures count { result ≡ length (buffered_fields_within (limit_of self.now.limits) self.now.settings self.now.journal) }
         ensures allowed { IsAllowed self.now.settings }
-        ensures lawful { IsLawful self.now.settings self.now.journal }
+        ensures lawful { IsLawfulWithin (limit_of self.now.limits) self.now.settings self.now.journal }
     {
         self.fields.len()
     }
 
     /// How many packets wait in the queue with this APID, if there is one.
     pub fn queued(&self, apid: u16) -> Option<usize>
-        ensures count { result ≡ option_map length (waiting_packets self.now.settings self.now.journal apid) }
+        ensures count { result ≡ option_map length (waiting_packets_within (limit_of self.now.limits) self.now.settings self.now.journal apid) }
         ensures allowed { IsAllowed self.now.settings }
-        ensures lawful { IsLawful self.now.settings self.now.journal }
+        ensures lawful { IsLawfulWithin (limit_of self.now.limits) self.now.settings self.now.journal }
     {
         Some(find(&self.queues, apid)?.slots.len())
     }
 
     /// How many units wait in the queue of this MAP, if it is chosen.
     pub fn units(&self, map: u8) -> Option<usize>
-        ensures count { result ≡ option_map length (waiting_units self.now.settings self.now.journal map) }
+        ensures count { result ≡ option_map length (waiting_units_within (limit_of self.now.limits) self.now.settings self.now.journal map) }
         ensures allowed { IsAllowed self.now.settings }
-        ensures lawful { IsLawful self.now.settings self.now.journal }
+        ensures lawful { IsLawfulWithin (limit_of self.now.limits) self.now.settings self.now.journal }
     {
         Some(find(&self.units, map as u16)?.slots.len())
     }
@@ -268,7 +295,7 @@ impl<N: Noted> FixedChannelWith<N> {
     pub fn events(&self) -> u64
         ensures count { result ≡ min (length self.now.journal) (2 ^ 64 - 1) }
         ensures allowed { IsAllowed self.now.settings }
-        ensures lawful { IsLawful self.now.settings self.now.journal }
+        ensures lawful { IsLawfulWithin (limit_of self.now.limits) self.now.settings self.now.journal }
     {
         self.journal.count()
     }
@@ -277,10 +304,11 @@ impl<N: Noted> FixedChannelWith<N> {
     pub fn past(&self) -> Past
         ensures past { result ≡ self.now }
         ensures allowed { IsAllowed self.now.settings }
-        ensures lawful { IsLawful self.now.settings self.now.journal }
+        ensures lawful { IsLawfulWithin (limit_of self.now.limits) self.now.settings self.now.journal }
     {
         Past {
             settings: Snapshot::of(&self.settings),
+            limits: Snapshot::of(&self.limits),
             journal: self.journal.seen(),
         }
     }
@@ -289,31 +317,61 @@ impl<N: Noted> FixedChannelWith<N> {
     pub fn settings(&self) -> &Settings
         ensures settings { result.now ≡ self.now.settings }
         ensures allowed { IsAllowed self.now.settings }
-        ensures lawful { IsLawful self.now.settings self.now.journal }
+        ensures lawful { IsLawfulWithin (limit_of self.now.limits) self.now.settings self.now.journal }
     {
         &self.settings
     }
+
+    /// The limits that the channel was made by.
+    pub fn limits(&self) -> &Limits
+        ensures limits { result.now ≡ self.now.limits }
+        ensures allowed { AreLimits self.now.settings self.now.limits }
+    {
+        &self.limits
+    }
 }
 
-// A channel by settings that were checked.
-fn start<N: Noted>(alloc: Global, settings: Settings) -> Result<FixedChannelWith<N>, AllocError>
-    requires { IsAllowed settings }
+// The open runs of a channel that starts. A plain data field is a unit by itself, with the limit of the MAPs that aren't listed.
+fn open_none(
+    alloc: Global,
+    segmented: bool,
+    limits: &Limits,
+) -> Result<FixedReassembler, AllocError>
+    requires others { IsOthers limits.now.others segmented }
+    requires octets { HaveOctets limits.now.maps }
+    requires by_headers { HasMapsByHeaders limits.now.maps segmented }
+    ensures segmented { IfOk result (λ r. r.segmented ≡ segmented) }
+    ensures none { IfOk result (λ r. (place : ℕ) → run_at (open_runs r).runs place ≡ None) }
+    ensures limits { IfOk result (λ r. HaveLimits (limit_of limits.now) r) }
+{
+    if segmented {
+        return FixedReassembler::by_map(alloc, &limits.table());
+    }
+    FixedReassembler::new(alloc, false, limits.others as usize)
+}
+
+// A channel by settings and limits that were checked.
+fn start<N: Noted>(
+    alloc: Global,
+    settings: Settings,
+    limits: Limits,
+) -> Result<FixedChannelWith<N>, AllocError>
+    requires settings { IsAllowed settings }
+    requires limits { AreLimits settings limits }
     ensures settings { IfOk result (λ channel. channel.settings ≡ settings) }
+    ensures limits { IfOk result (λ channel. channel.limits ≡ limits) }
     ensures journal { IfOk result (λ channel. channel.journal ≡ []) }
 {
     let window = Window::new(settings.width).unwrap();
-    let largest = if settings.segmented {
-        LARGEST_UNIT
-    } else {
-        LARGEST_FIELD
-    };
+    let size = limits.item_size(settings.segmented);
     let fields = Slots::with_capacity(alloc, settings.buffer as usize, LARGEST_FIELD)?;
-    let reassembler = FixedReassembler::new(alloc, settings.segmented, largest)?;
-    let queues = empty_queues(alloc, settings.queues.as_slice(), largest)?;
-    let units = empty_unit_queues(alloc, settings.maps.as_slice(), largest)?;
+    let reassembler = open_none(alloc, settings.segmented, &limits)?;
+    let queues = empty_queues(alloc, settings.queues.as_slice(), size)?;
+    let units = empty_unit_queues(alloc, settings.maps.as_slice(), size)?;
     Ok(FixedChannelWith {
         farm: Farm::new(window, settings.first),
         settings,
+        limits,
         fields,
         reassembler,
         queues,
@@ -345,15 +403,15 @@ fn pass(
 ) -> Delivery
     requires field { 0 < length field.now }
     requires within { length field.now ≤ largest_field }
-    requires limits { AreLargest reassembler.old }
+    requires small { AreSmall reassembler.old }
     requires distinct { AreDistinct (keys_of (rings_in queues.old.items)) }
     requires units_distinct { AreDistinct (keys_of (rings_in units.old.items)) }
-    requires sizes { AreAll (largest_item reassembler.old.segmented) (room_sizes queues.old.items) }
-    requires unit_sizes { AreAll (largest_item reassembler.old.segmented) (room_sizes units.old.items) }
-    ensures follows { Follows (open_runs reassembler.old) (open_runs reassembler.new) service field.now }
-    ensures limits { AreLargest reassembler.new }
+    requires sizes { AreEnough reassembler.old (room_sizes queues.old.items) }
+    requires unit_sizes { AreEnough reassembler.old (room_sizes units.old.items) }
+    ensures follows { FollowsWithin (limit_at reassembler.old (stream_place service field.now)) (open_runs reassembler.old) (open_runs reassembler.new) service field.now }
+    ensures limits { (place : ℕ) → limit_at reassembler.new place ≡ limit_at reassembler.old place }
     ensures segmented { reassembler.new.segmented ≡ reassembler.old.segmented }
-    ensures delivered { (unit : Option (List ℕ)) × Ends (open_runs reassembler.old) service field.now unit
+    ensures delivered { (unit : Option (List ℕ)) × EndsWithin (limit_at reassembler.old (stream_place service field.now)) (open_runs reassembler.old) service field.now unit
         × IsDelivered (map_of field.now) unit (rings_in queues.old.items) (rings_in queues.new.items) (rings_in units.old.items) (rings_in units.new.items) result }
     ensures sizes { room_sizes queues.new.items ≡ room_sizes queues.old.items }
     ensures unit_sizes { room_sizes units.new.items ≡ room_sizes units.old.items }
@@ -376,15 +434,15 @@ fn pass_bypass(
 ) -> Delivery
     requires field { 0 < length field.now }
     requires within { length field.now ≤ largest_field }
-    requires limits { AreLargest reassembler.old }
+    requires small { AreSmall reassembler.old }
     requires distinct { AreDistinct (keys_of (rings_in queues.old.items)) }
     requires units_distinct { AreDistinct (keys_of (rings_in units.old.items)) }
-    requires sizes { AreAll (largest_item reassembler.old.segmented) (room_sizes queues.old.items) }
-    requires unit_sizes { AreAll (largest_item reassembler.old.segmented) (room_sizes units.old.items) }
-    ensures follows { FollowsKind kind (open_runs reassembler.old) (open_runs reassembler.new) field.now }
-    ensures limits { AreLargest reassembler.new }
+    requires sizes { AreEnough reassembler.old (room_sizes queues.old.items) }
+    requires unit_sizes { AreEnough reassembler.old (room_sizes units.old.items) }
+    ensures follows { FollowsKindWithin (limit_at reassembler.old (stream_place Bd field.now)) kind (open_runs reassembler.old) (open_runs reassembler.new) field.now }
+    ensures limits { (place : ℕ) → limit_at reassembler.new place ≡ limit_at reassembler.old place }
     ensures segmented { reassembler.new.segmented ≡ reassembler.old.segmented }
-    ensures delivered { (unit : Option (List ℕ)) × EndsAtOnce kind (open_runs reassembler.old) field.now unit
+    ensures delivered { (unit : Option (List ℕ)) × EndsAtOnceWithin (limit_at reassembler.old (stream_place Bd field.now)) kind (open_runs reassembler.old) field.now unit
         × IsDelivered (map_of field.now) unit (rings_in queues.old.items) (rings_in queues.new.items) (rings_in units.old.items) (rings_in units.new.items) result }
     ensures sizes { room_sizes queues.new.items ≡ room_sizes queues.old.items }
     ensures unit_sizes { room_sizes units.new.items ≡ room_sizes units.old.items }

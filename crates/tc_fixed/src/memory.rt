@@ -1,12 +1,13 @@
 //! How much memory the making of a channel asks for.
 
-ghost use Rattle.std.specs.Prelude.{List, ◌≡◌, ◌^◌, ◌-◌, ◌<◌, min, sum_by};
+ghost use Rattle.std.specs.Prelude.{List, ◌≡◌, ◌+◌, ◌^◌, ◌-◌, ◌<◌, min, sum_by};
 ghost use Rattle.tc_channel.specs.declared.settings.QueueSetting.{QueueSetting};
 ghost use Rattle.tc_channel.specs.declared.settings.MapSetting.{MapSetting};
-ghost use Rattle.tc_channel.specs.Memory.{largest_item};
-ghost use Rattle.tc_fixed.specs.Storage.{fields_storage, queues_storage, runs_storage, storage_of};
+ghost use Rattle.tc_fixed.specs.Limits.{item_size, none};
+ghost use Rattle.tc_fixed.specs.Storage.{fields_storage, limits_below, queues_in_rooms, runs_storage, storage_of, storage_within};
 
 use crate::channel::LARGEST_FIELD;
+use crate::limits::{Limits, MAPS};
 use tc_channel::{MapSetting, QueueSetting, Settings};
 use tc_packet::LARGEST_UNIT;
 
@@ -24,11 +25,37 @@ const STREAMS: u128 = 128;
 /// a channel, on a machine of 64 bits; 2^64 - 1 where it is more. No other call of the channel asks for any. What an allocator adds
 /// to a block is not counted, nor is the room of the lists of the settings themselves, which whoever made them chose. It takes a step
 /// a queue and a MAP, and no memory.
-#[tactic(auto, unfolding(crate::specs::Storage::storage_of))]
+#[tactic(auto, unfolding(crate::specs::Storage::storage_within))]
 pub fn storage(settings: &Settings) -> u64
     ensures { result ≡ min (storage_of settings.now) (2 ^ 64 - 1) }
 {
-    let all = field_octets(settings) + run_octets(settings) + queue_octets(settings);
+    all_octets(
+        settings,
+        run_octets(settings),
+        item_octets(settings.segmented),
+    )
+}
+
+/// The same of [`FixedChannelWith::with_limits`](crate::FixedChannelWith::with_limits) by these settings and limits. It takes a step a
+/// queue, and for each of the 64 MAPs one a limit that is listed.
+#[tactic(auto, unfolding(crate::specs::Storage::storage_within))]
+pub fn storage_with_limits(settings: &Settings, limits: &Limits) -> u64
+    ensures { result ≡ min (storage_within settings.now limits.now) (2 ^ 64 - 1) }
+{
+    all_octets(
+        settings,
+        limited_run_octets(settings, limits),
+        limits.item_size(settings.segmented) as u128,
+    )
+}
+
+// All octets, with so many for the streams, where a packet and a unit have so many at most.
+fn all_octets(settings: &Settings, runs: u128, item: u128) -> u64
+    requires runs { runs < 2 ^ 100 }
+    requires item { item < 2 ^ 20 }
+    ensures { result ≡ min (fields_storage settings.now + runs + queues_in_rooms settings.now item) (2 ^ 64 - 1) }
+{
+    let all = field_octets(settings) + runs + queue_octets(settings, item);
     match u64::try_from(all) {
         Ok(all) => all,
         Err(_) => u64::MAX,
@@ -67,9 +94,9 @@ fn field_octets(settings: &Settings) -> u128
     u128::from(settings.buffer) * (ROOM_WORDS + LARGEST_FIELD as u128)
 }
 
-// The rooms of the streams.
+// The rooms of the streams, where there are no limits by MAP.
 fn run_octets(settings: &Settings) -> u128
-    ensures value { result ≡ runs_storage settings.now }
+    ensures value { result ≡ runs_storage settings.now none }
     ensures within { result < 2 ^ 100 }
 {
     if settings.segmented {
@@ -78,9 +105,32 @@ fn run_octets(settings: &Settings) -> u128
     0
 }
 
-// The octets of the largest packet and unit.
+// The limits of all MAPs, together.
+fn all_limits(limits: &Limits) -> u128
+    ensures value { result ≡ limits_below limits.now 64 }
+    ensures within { result < 2 ^ 80 }
+{
+    let mut all: u128 = 0;
+    for map in 0..MAPS {
+        all += u128::from(limits.of(map as u8));
+    }
+    all
+}
+
+// The rooms of the streams within these limits.
+fn limited_run_octets(settings: &Settings, limits: &Limits) -> u128
+    ensures value { result ≡ runs_storage settings.now limits.now }
+    ensures within { result < 2 ^ 100 }
+{
+    if settings.segmented {
+        return STREAMS * STREAM_WORDS + 2 * all_limits(limits);
+    }
+    0
+}
+
+// The octets of the largest packet and unit, where there are no limits by MAP.
 fn item_octets(segmented: bool) -> u128
-    ensures value { result ≡ largest_item segmented }
+    ensures value { result ≡ item_size none segmented }
     ensures within { result < 2 ^ 20 }
 {
     if segmented {
@@ -90,12 +140,13 @@ fn item_octets(segmented: bool) -> u128
     }
 }
 
-// The queues and their rooms.
-fn queue_octets(settings: &Settings) -> u128
-    ensures value { result ≡ queues_storage settings.now }
+// The queues and their rooms, where a packet and a unit have so many octets at most.
+fn queue_octets(settings: &Settings, item: u128) -> u128
+    requires { item < 2 ^ 20 }
+    ensures value { result ≡ queues_in_rooms settings.now item }
     ensures within { result < 2 ^ 110 }
 {
     let queues = settings.queues.len() as u128 + settings.maps.len() as u128;
     let items = held_packets(&settings.queues) + held_units(&settings.maps);
-    queues * QUEUE_WORDS + items * (ROOM_WORDS + item_octets(settings.segmented))
+    queues * QUEUE_WORDS + items * (ROOM_WORDS + item)
 }

@@ -1,20 +1,22 @@
 //! What clauses see of a channel, without an octet.
 
+use crate::limits::Limits;
 use std::marker::Model;
 use std::snapshot::Snapshot;
 use tc_channel::{EventsSeen, Settings};
 
-/// The settings of a channel and its journal at a moment, as clauses see them. It takes no memory, and no program can read it.
+/// The settings of a channel, its limits and its journal at a moment, as clauses see them. It takes no memory, and no program can read it.
 #[derive(Drop)]
 pub struct Past {
     pub(crate) settings: Snapshot<Settings>,
+    pub(crate) limits: Snapshot<Limits>,
     pub(crate) journal: EventsSeen,
 }
 
 impl Model for Past {
-    ghost use Rattle.tc_channel.specs.Journal.{History};
+    ghost use Rattle.tc_fixed.specs.History.{LimitedHistory};
 
-    ghost Value = { History };
+    ghost Value = { LimitedHistory };
 
-    ghost view = { λ p. record { settings = p.settings.value; journal = p.journal.events } };
+    ghost view = { λ p. record { settings = p.settings.value; limits = p.limits.value; journal = p.journal.events } };
 }

@@ -16,6 +16,11 @@ largest_unit = largest_packet
 abbrev pub bounded : List ℕ → Option (List ℕ)
 bounded octets = if nat_le (length octets) largest_unit then Some octets else None
 
+-- octets that are no more than so many, or none; at the largest unit it leaves each run and unit of a stream as it is
+abbrev pub at_most : ℕ → Option (List ℕ) → Option (List ℕ)
+at_most limit None = None
+at_most limit (Some octets) = if nat_le (length octets) limit then Some octets else None
+
 abbrev pub IsWithinLimit : Option (List ℕ) → Type 0
 IsWithinLimit run = IfSome run (λ octets. length octets ≤ largest_unit)
 

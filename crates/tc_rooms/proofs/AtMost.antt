@@ -4,9 +4,9 @@ use Rattle.std.proofs.lemmas.Bool.{le-leb, lt-leb, leb-true, leb-false}
 use Rattle.std.proofs.lemmas.List.{length-append}
 use Rattle.tc_packet.specs.declared.segment.Part.{Part}
 use Rattle.tc_packet.specs.declared.segment.Part.TheVariants.{First, Continuing, Last, Unsegmented}
-use Rattle.tc_packet.specs.Reassembly.{IsWithinLimit, bounded, extended, ended_by}
+use Rattle.tc_packet.specs.Reassembly.{at_most, IsWithinLimit, bounded, extended, ended_by}
 use Rattle.tc_packet.specs.Runs.{next_run}
-use Rattle.tc_rooms.specs.Runs.{at_most, IsAtMost}
+use Rattle.tc_rooms.specs.Runs.{IsAtMost}
 
 pub at_most-some : (n : ℕ) (octets : List ℕ) → length octets ≤ n → at_most n (Some octets) ≡ Some octets
 at_most-some n octets h = rw (le-leb (length octets) n h) refl

@@ -6,10 +6,10 @@ use Rattle.std.proofs.Math.ListN.{set}
 use Rattle.std.proofs.lemmas.List.{length-map, length-set, map-set, get_or-map, get_or-set_same, get_or-set_other, set-get_or}
 use Rattle.tc_packet.specs.declared.segment.Part.{Part}
 use Rattle.tc_packet.specs.Segment.{header_of, body_of}
-use Rattle.tc_packet.specs.Reassembly.{bounded, run_at, run_left, open_run, unit_at, unit_ended, ended_by}
+use Rattle.tc_packet.specs.Reassembly.{at_most, bounded, run_at, run_left, open_run, unit_at, unit_ended, ended_by}
 use Rattle.tc_packet.specs.Runs.{next_run}
 use Rattle.tc_packet.proofs.OpenRuns.{open_run-push}
-use Rattle.tc_rooms.specs.Runs.{at_most, open_in, open_runs, sizes_of, limit_at, told, ended_by_stream, unit_in, Store, IsStore, LeaveWithin, IsThere, IsAtMost}
+use Rattle.tc_rooms.specs.Runs.{open_in, open_runs, sizes_of, limit_at, told, ended_by_stream, unit_in, Store, IsStore, LeaveWithin, IsThere, IsAtMost}
 use Rattle.tc_rooms.specs.declared.runs.Told.{Told}
 use Rattle.tc_rooms.specs.declared.runs.Ended.{Ended}
 use Rattle.tc_rooms.specs.declared.runs.Told.TheVariants as tolds

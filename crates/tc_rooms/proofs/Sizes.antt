@@ -1,11 +1,10 @@
 -- Rooms of one size.
-use Rattle.std.proofs.Common.{◌≡◌, ℕ, zero, suc, ◌+◌, ◌≤◌, ◌<◌, ◌-◌, length, List, [], ◌∷◌, ◌++◌, drop, map, replicate, ap, ◌∙◌, Option, Some, None, arith}
-use Rattle.std.specs.Prelude.{slice_get}
-use Rattle.std.specs.List.{AllByRecursion}
-use Rattle.std.proofs.lemmas.List.{map_push, length-append, replicate-append-replicate}
+use Rattle.std.proofs.Common.{◌≡◌, ℕ, zero, suc, ◌+◌, ◌≤◌, ◌<◌, ◌-◌, ◌%◌, Bool, true, false, get_or, refl, Result, Ok, Err, if◌then◌else◌, length, List, [], ◌∷◌, ◌++◌, drop, map, replicate, ap, ◌∙◌, Option, Some, None, arith}
+use Rattle.std.specs.Prelude.{slice_get, IfOk}
+use Rattle.std.proofs.lemmas.List.{map_push, length-append, get_or-replicate, replicate-append-replicate}
 use Rattle.circular_buffer.specs.Buffer.{Buffer, buffer, keep_last}
 use Rattle.tc_rooms.specs.Rooms.{Laid, HaveSize, AreSlots}
-use Rattle.tc_rooms.specs.Runs.{open_in, sizes_of, AreWithin}
+use Rattle.tc_rooms.specs.Runs.{open_in, AreWithin}
 use Rattle.tc_rooms.specs.declared.runs.Run.{Run}
 
 pub size-push : (n : ℕ) (rooms : List Laid) (room : Laid) → HaveSize n rooms → room.size ≡ n → HaveSize n (rooms ++ room ∷ [])
@@ -26,21 +25,19 @@ size-before n (r ∷ rooms) room all = let later = size-before n rooms room all.
 pub closed-push : (runs : List Run) (run : Run) (n : ℕ) → map open_in runs ≡ replicate n None → open_in run ≡ None → map open_in (runs ++ run ∷ []) ≡ replicate (n + 1) None
 closed-push runs run n are closed = map_push open_in runs run ∙ ap (λ (x : List (Option (List ℕ))). x ++ open_in run ∷ []) are ∙ ap (λ (x : Option (List ℕ)). replicate n None ++ x ∷ []) closed ∙ replicate-append-replicate n 1 None
 
-pub sized-push : (runs : List Run) (run : Run) (n size : ℕ) → sizes_of runs ≡ replicate n size → run.room.size ≡ size → sizes_of (runs ++ run ∷ []) ≡ replicate (n + 1) size
-sized-push runs run n size are one = map_push (λ (r : Run). r.room.size) runs run ∙ ap (λ (x : List ℕ). x ++ run.room.size ∷ []) are ∙ ap (λ (x : ℕ). replicate n size ++ x ∷ []) one ∙ replicate-append-replicate n 1 size
-
 pub within-push : (runs : List Run) (run : Run) → AreWithin runs → length run.room.octets ≤ run.room.size → AreWithin (runs ++ run ∷ [])
 within-push [] run all one = (one, tt)
 within-push (r ∷ runs) run all one = (all.0, within-push runs run all.1 one)
 
--- rooms of one size are within a limit that this size is within
-pub sized-within : (runs : List Run) (n size limit : ℕ) → sizes_of runs ≡ replicate n size → size ≤ limit → AllByRecursion (λ (r : Run). r.room.size ≤ limit) runs
-sized-within [] n size limit are le = tt
-sized-within (r ∷ runs) zero size limit are le = absurd cc
-sized-within (r ∷ runs) (suc n) size limit are le =
-    let head : r.room.size ≡ size = cc in
-    let tail : sizes_of runs ≡ replicate n size = cc in
-    (omega arith, sized-within runs n size limit tail le)
+-- what follows for a value follows where there is one
+pub if-ok : {A E : Type 0} (P Q : A → Type 0) (r : Result A E) → ((x : A) → P x → Q x) → IfOk r P → IfOk r Q
+if-ok P Q (Ok x) follows h = follows x h
+if-ok P Q (Err e) follows h = tt
+
+-- the same limit for each MAP
+pub one-limit : (segmented : Bool) (limit place : ℕ) → (if segmented then get_or (replicate 64 limit) (place % 64) 0 else limit) ≡ limit
+one-limit true limit place = get_or-replicate 64 (place % 64) limit 0 (omega arith)
+one-limit false limit place = refl
 
 -- an item takes the last free room
 pub room-taken : (size most : ℕ) (taken later : Buffer Laid) (free rest : List Laid) (room next : Laid) → AreSlots size most taken free → free ≡ rest ++ room ∷ [] → length taken.items < taken.capacity

@@ -1,17 +1,12 @@
 -- The open runs in their rooms, and the limit that each room is to its stream.
-use Rattle.std.specs.Prelude.{◌≡◌, ◌≤◌, ℕ, Bool, true, false, List, length, map, drop, get_or, Option, Some, None, option_map, slice_get, nat_le, ◌<◌, IfSome, if◌then◌else◌}
+use Rattle.std.specs.Prelude.{◌≡◌, ◌≤◌, ℕ, Bool, true, false, List, length, map, drop, get_or, Option, Some, None, option_map, slice_get, ◌<◌, IfSome, if◌then◌else◌}
 use Rattle.std.specs.List.{AllByRecursion}
-use Rattle.tc_packet.specs.Reassembly.{OpenRuns, largest_unit, stream_count, run_left, run_at}
+use Rattle.tc_packet.specs.Reassembly.{OpenRuns, at_most, largest_unit, stream_count, run_left, run_at}
 use Rattle.tc_rooms.specs.declared.runs.Run.{Run}
 use Rattle.tc_rooms.specs.declared.runs.Told.{Told}
 use Rattle.tc_rooms.specs.declared.runs.Told.TheVariants as tolds
 use Rattle.tc_rooms.specs.declared.runs.Ended.{Ended}
 use Rattle.tc_rooms.specs.declared.runs.Ended.TheVariants.{Nothing, Lying, Joined}
-
--- octets that are no more than so many, or none; at the largest unit it leaves each run and unit of a stream as it is
-abbrev pub at_most : ℕ → Option (List ℕ) → Option (List ℕ)
-at_most limit None = None
-at_most limit (Some octets) = if nat_le (length octets) limit then Some octets else None
 
 -- the run in a room, where one is open
 abbrev pub open_in : Run → Option (List ℕ)

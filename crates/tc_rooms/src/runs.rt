@@ -1,14 +1,19 @@
 //! Reassembly (CCSDS 232.0-B, 4.4) in a room for each stream.
 
-ghost use Rattle.std.specs.Prelude.{◌≡◌, ◌<◌, ◌≤◌, ◌∷◌, ◌++◌, ℕ, List, [], length, map, replicate, Some, None, IfOk, slice_get, option_map};
-ghost use Rattle.tc_packet.specs.Reassembly.{bounded, ended_by, place_of, run_at, stream_place, unit_ended, largest_unit, extended};
+ghost use Rattle.std.specs.Prelude.{◌≡◌, ◌<◌, ◌≤◌, ◌%◌, ◌∷◌, ◌++◌, ℕ, true, false, List, [], length, map, get_or, replicate, Some, None, IfOk, slice_get, option_map, if◌then◌else◌};
+ghost use Rattle.std.specs.List.{AllByRecursion};
+ghost use Rattle.tc_packet.specs.declared.Service.{Service};
+ghost use Rattle.tc_packet.specs.Reassembly.{at_most, bounded, ended_by, place_of, run_at, stream_place, unit_ended, largest_unit, extended};
 ghost use Rattle.tc_packet.specs.Runs.{next_run};
-ghost use Rattle.tc_rooms.specs.Runs.{at_most, open_in, open_runs, limit_at, LeaveWithin, told, unit_in, sizes_of, ended_by_stream, Store, AreWithin, IsThere, IsAtMost};
+ghost use Rattle.tc_rooms.specs.Runs.{open_in, open_runs, limit_at, LeaveWithin, told, unit_in, sizes_of, ended_by_stream, Store, AreWithin, IsThere, IsAtMost};
 
 use crate::room::Room;
 use std::alloc::{AllocError, Global};
 use std::marker::Model;
 use tc_packet::{LARGEST_UNIT, Part, Service, read_segment};
+
+// How many MAPs there are.
+const MAPS: usize = 64;
 
 // Two services of 64 MAPs.
 const STREAMS: usize = 128;
@@ -145,6 +150,7 @@ fn whole_field(field: &[u8], limit: usize) -> Ended
     requires { limit ≤ LARGEST_UNIT }
     ensures unit { (store : Store) → unit_in result store field.now ≡ at_most limit (bounded field.now) }
     ensures there { (store : Store) → IsThere result store field.now }
+    ensures shorter { (store : Store) → IsAtMost (length field.now) (unit_in result store field.now) }
 {
     if field.len() <= limit {
         return Ended::Lying(0);
@@ -152,19 +158,45 @@ fn whole_field(field: &[u8], limit: usize) -> Ended
     Ended::Nothing
 }
 
-// A room of this size for each stream.
-fn empty_runs(alloc: Global, count: usize, size: usize) -> Result<Vec<Run>, AllocError>
+// A room for each of so many streams, as large as the limit of its MAP.
+fn empty_runs(alloc: Global, count: usize, limits: &[usize]) -> Result<Vec<Run>, AllocError>
+    requires maps { length limits.now ≡ 64 }
+    requires limits { AllByRecursion (λ n. n ≤ largest_unit) limits.now }
     ensures count { IfOk result (λ v. length v.items ≡ count) }
     ensures runs { IfOk result (λ v. map open_in v.items ≡ replicate count None) }
-    ensures sizes { IfOk result (λ v. sizes_of v.items ≡ replicate count size) }
+    ensures sizes { IfOk result (λ v. (place : ℕ) → place < count → get_or (sizes_of v.items) place 0 ≡ get_or limits.now (place % 64) 0) }
+    ensures limits { IfOk result (λ v. AllByRecursion (λ (r : Run). r.room.size ≤ largest_unit) v.items) }
     ensures within { IfOk result (λ v. AreWithin v.items) }
 {
     let mut runs = Vec::with_capacity(alloc, count)?;
-    for _ in 0..count {
-        let room = Room::new(alloc, size)?;
+    for place in 0..count {
+        let room = Room::new(alloc, limits[place % MAPS])?;
         runs.push_reserved(Run { open: false, room });
     }
     Ok(runs)
+}
+
+// No run is open. With segment headers each stream has a room, as large as the limit of its MAP.
+fn with_rooms(
+    alloc: Global,
+    segmented: bool,
+    plain_limit: usize,
+    limits: &[usize],
+) -> Result<FixedReassembler, AllocError>
+    requires plain { plain_limit ≤ LARGEST_UNIT }
+    requires maps { length limits.now ≡ 64 }
+    requires limits { AllByRecursion (λ n. n ≤ largest_unit) limits.now }
+    ensures segmented { IfOk result (λ r. r.segmented ≡ segmented) }
+    ensures none { IfOk result (λ r. (place : ℕ) → run_at (open_runs r).runs place ≡ None) }
+    ensures limits { IfOk result (λ r. (place : ℕ) → place < 128 → limit_at r place ≡ (if segmented then get_or limits.now (place % 64) 0 else plain_limit)) }
+{
+    let count = if segmented { STREAMS } else { 0 };
+    let runs = empty_runs(alloc, count, limits)?;
+    Ok(FixedReassembler {
+        segmented,
+        plain_limit,
+        runs,
+    })
 }
 
 impl FixedReassembler {
@@ -176,13 +208,19 @@ impl FixedReassembler {
         ensures none { IfOk result (λ r. (place : ℕ) → run_at (open_runs r).runs place ≡ None) }
         ensures limits { IfOk result (λ r. (place : ℕ) → place < 128 → limit_at r place ≡ limit) }
     {
-        let count = if segmented { STREAMS } else { 0 };
-        let runs = empty_runs(alloc, count, limit)?;
-        Ok(FixedReassembler {
-            segmented,
-            plain_limit: limit,
-            runs,
-        })
+        with_rooms(alloc, segmented, limit, &[limit; MAPS])
+    }
+
+    /// No run is open, and data fields have segment headers. Units of a MAP that have more octets than its limit are dropped: `limits`
+    /// has one for each of the 64 MAPs. The room of each of the 128 streams is made here, as large as the limit of its MAP.
+    pub fn by_map(alloc: Global, limits: &[usize]) -> Result<FixedReassembler, AllocError>
+        requires maps { length limits.now ≡ 64 }
+        requires limits { AllByRecursion (λ n. n ≤ largest_unit) limits.now }
+        ensures segmented { IfOk result (λ r. r.segmented ≡ true) }
+        ensures none { IfOk result (λ r. (place : ℕ) → run_at (open_runs r).runs place ≡ None) }
+        ensures limits { IfOk result (λ r. (service : Service) (map_id : ℕ) → map_id < 64 → limit_at r (place_of service map_id) ≡ get_or limits.now map_id 0) }
+    {
+        with_rooms(alloc, true, 0, limits)
     }
 
     /// Takes the next field of its stream, and says where the unit lies that it ends. A run or a unit of more octets than the limit
@@ -198,6 +236,7 @@ impl FixedReassembler {
             → run_at (open_runs self.new).runs other ≡ run_at (open_runs self.old).runs other }
         ensures there { IsThere result self.new field.now }
         ensures within { IsAtMost (limit_at self.old (stream_place service field.now)) (unit_in result self.new field.now) }
+        ensures shorter { self.old.segmented ≡ false → IsAtMost (length field.now) (unit_in result self.new field.now) }
         ensures limits { (place : ℕ) → limit_at self.new place ≡ limit_at self.old place }
         ensures segmented { self.new.segmented ≡ self.old.segmented }
     {

@@ -34,3 +34,26 @@ fn growth_of_a_fixed_channel(rt: HostRuntime) {
     };
     run.play(&rt, &EACH_CALL)
 }
+
+// The same channel within limits.
+fn made_within(rt: &impl Abort, alloc: Global) -> Result<Run, LimitsFault> {
+    let maps = listed(alloc, &[]).expect(rt, "no MAP");
+    Run::with_limits(
+        alloc,
+        settings(alloc).expect(rt, "settings"),
+        Limits { others: 16, maps },
+    )
+}
+
+#[test]
+fn growth_of_a_fixed_channel_within_limits(rt: HostRuntime) {
+    let mut run = match made_within(&rt, rt.alloc()) {
+        Ok(run) => run,
+        Err(fault) => {
+            let _ = println!(&rt; "refused: FixedChannel::with_limits");
+            assert_eq!(&rt; fault, LimitsFault::Settings(SettingsFault::NoMemory));
+            made_within(&rt, rt.alloc()).expect(&rt, "a channel")
+        }
+    };
+    run.play(&rt, &EACH_CALL)
+}

@@ -66,3 +66,18 @@ fn plain_fields_within_their_limit(rt: HostRuntime) {
     check_unit(&rt, &mut runs, &[0xc0, 6], Some(&[0xc0, 6]));
     check_unit(&rt, &mut runs, &[0xc0, 6, 7], None);
 }
+
+// Two octets on MAP 0, and one on each other MAP.
+static BY_MAP: [usize; 64] = [
+    2, 1, 1, 1, 1, 1, 1, 1, 1, 1, 1, 1, 1, 1, 1, 1, 1, 1, 1, 1, 1, 1, 1, 1, 1, 1, 1, 1, 1, 1, 1, 1,
+    1, 1, 1, 1, 1, 1, 1, 1, 1, 1, 1, 1, 1, 1, 1, 1, 1, 1, 1, 1, 1, 1, 1, 1, 1, 1, 1, 1, 1, 1, 1, 1,
+];
+
+#[test]
+fn units_within_the_limit_of_their_map(rt: HostRuntime) {
+    let mut runs = FixedReassembler::by_map(rt.alloc(), &BY_MAP).expect(&rt, "rooms");
+    check_unit(&rt, &mut runs, &[0xc0, 6, 7], Some(&[6, 7]));
+    check_unit(&rt, &mut runs, &[0xc1, 6, 7], None);
+    check_unit(&rt, &mut runs, &[0xff, 6], Some(&[6]));
+    check_unit(&rt, &mut runs, &[0xc0, 6, 7, 8], None);
+}

@@ -41,6 +41,15 @@ impl Run {
         Ok(Run { channel })
     }
 
+    pub fn with_limits(
+        alloc: Global,
+        settings: Settings,
+        limits: Limits,
+    ) -> Result<Run, LimitsFault> {
+        let channel = FixedChannel::with_limits(alloc, settings, limits)?;
+        Ok(Run { channel })
+    }
+
     fn frame(&mut self, rt: &impl Abort, octets: &[u8], expected: FrameReply) {
         let frame = read_frame(octets).expect(rt, "a frame");
         assert_eq!(rt; self.channel.frame(&frame), expected);

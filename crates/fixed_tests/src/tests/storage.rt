@@ -2,7 +2,7 @@
 //! free and 32 where it is taken, those of a stream 40, those of a queue 72.
 
 use super::*;
-use tc_fixed::storage;
+use tc_fixed::{MapLimit, storage, storage_with_limits};
 
 // Two queues of 4 packets and a buffer of 4, with segment headers or without.
 fn two_queues(alloc: Global, segmented: bool) -> Result<Settings, AllocError> {
@@ -42,4 +42,40 @@ fn octets_of_two_queues(rt: HostRuntime) {
 fn octets_of_a_chosen_map(rt: HostRuntime) {
     let settings = settings(rt.alloc()).expect(&rt, "settings");
     assert_eq!(&rt; storage(&settings), 8_658_147);
+}
+
+// Units of 1,024 octets on MAP 0 alone, four queues of 8 and a buffer of 8: 8 times 64 + 1,019 for the buffer, 128 times 40 and twice
+// 1,024 for the streams, 4 times 72 for the queues, and 32 times 64 + 1,024 for packets.
+fn usual(alloc: Global) -> Result<Settings, AllocError> {
+    let queues = [5, 6, 7, 8].map(|apid| QueueSetting { apid, capacity: 8 });
+    Ok(Settings {
+        vcid: 1,
+        width: 10,
+        buffer: 8,
+        first: 0,
+        segmented: true,
+        queues: listed(alloc, &queues)?,
+        maps: listed(alloc, &[])?,
+    })
+}
+
+#[test]
+fn octets_within_limits(rt: HostRuntime) {
+    let settings = usual(rt.alloc()).expect(&rt, "settings");
+    let map = MapLimit {
+        map: 0,
+        octets: 1_024,
+    };
+    let maps = listed(rt.alloc(), &[map]).expect(&rt, "limits");
+    let octets = storage_with_limits(&settings, &Limits { others: 0, maps });
+    assert_eq!(&rt; octets, 50_936);
+    assert!(&rt; 64 * octets < 4_000_000);
+}
+
+// Without limits by MAP it is what is asked for without them.
+#[test]
+fn octets_within_no_limits(rt: HostRuntime) {
+    let settings = two_queues(rt.alloc(), true).expect(&rt, "settings");
+    let octets = storage_with_limits(&settings, &Limits::none(rt.alloc()));
+    assert_eq!(&rt; octets, 8_923_820);
 }

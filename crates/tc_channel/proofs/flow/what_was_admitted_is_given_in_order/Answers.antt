@@ -1,5 +1,5 @@
 use Rattle.std.proofs.Common.{refl}
-use Rattle.tc_channel.specs.Reply.{waiting_packets, waiting_units}
+use Rattle.tc_channel.specs.Reply.{waiting_packets_within, waiting_units_within}
 use Rattle.tc_channel.proofs.Given.{packets-in-order, units-in-order}
 use Rattle.tc_channel.proofs.flow.what_was_admitted_is_given_in_order.Goals as goal
 
@@ -10,9 +10,9 @@ pub returns-clause-units : goal.returns-clause-units
 returns-clause-units c = units-in-order
 
 pub returns-clause-packet : goal.returns-clause-packet
-unfolding waiting_packets
-returns-clause-packet c = λ s journal apid. refl
+unfolding waiting_packets_within
+returns-clause-packet c = λ limits s journal apid. refl
 
 pub returns-clause-unit : goal.returns-clause-unit
-unfolding waiting_units
-returns-clause-unit c = λ s journal map_id. refl
+unfolding waiting_units_within
+returns-clause-unit c = λ limits s journal map_id. refl

@@ -1,17 +1,20 @@
 use Rattle.std.proofs.Common.{◌∙◌}
 use Rattle.tc_packet.specs.Segment.{header_of}
 use Rattle.tc_packet.specs.Reassembly.{stream}
-use Rattle.tc_channel.specs.Run.{run}
-use Rattle.tc_channel.proofs.Plain.{run-segmented}
+use Rattle.tc_channel.specs.Run.{run_within}
+use Rattle.tc_channel.proofs.Plain.{run-limit, run-segmented}
+use Rattle.tc_channel.proofs.Limits.{plain-unit}
 use Rattle.tc_channel.proofs.laws.a_plain_channel_takes_each_field_as_a_unit.Goals as goal
 
 pub returns-clause-stays : goal.returns-clause-stays
 returns-clause-stays c = run-segmented
 
 pub returns-clause-unit : goal.returns-clause-unit
-returns-clause-unit c = λ s journal service field octets plain.
-    rw (run-segmented s journal ∙ plain) (c.a_plain_field_is_a_unit_by_itself.ensures.unit (stream service (header_of field).map (run s journal).passed) field octets)
+returns-clause-unit c = λ limits s journal service field octets plain.
+    let off = run-segmented limits s journal ∙ plain in
+    plain-unit limits (run_within limits s journal) service field octets off (run-limit limits s journal)
+    (c.a_plain_field_is_a_unit_by_itself.ensures.unit (stream service (header_of field).map (run_within limits s journal).passed) field octets)
 
 pub returns-clause-run : goal.returns-clause-run
-returns-clause-run c = λ s journal service map_id plain.
-    rw (run-segmented s journal ∙ plain) (c.a_plain_field_is_a_unit_by_itself.ensures.run (stream service map_id (run s journal).passed))
+returns-clause-run c = λ limits s journal service map_id plain.
+    rw (run-segmented limits s journal ∙ plain) (c.a_plain_field_is_a_unit_by_itself.ensures.run (stream service map_id (run_within limits s journal).passed))

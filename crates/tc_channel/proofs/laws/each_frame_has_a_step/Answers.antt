@@ -1,6 +1,6 @@
-use Rattle.tc_channel.specs.Run.{run}
+use Rattle.tc_channel.specs.Run.{run_within}
 use Rattle.tc_channel.proofs.Sound.{state-sound, frame-enters}
 use Rattle.tc_channel.proofs.laws.each_frame_has_a_step.Goals as goal
 
 pub returns : goal.returns
-returns c = λ s journal octets whole. (whole, frame-enters c.each_arrival_has_an_entry.ensures.frame s (run s journal) (state-sound s journal) octets)
+returns c = λ limits s journal octets whole. (whole, frame-enters c.each_arrival_has_an_entry.ensures.frame s (run_within limits s journal) (state-sound limits s journal) octets)

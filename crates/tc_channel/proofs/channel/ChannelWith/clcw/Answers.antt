@@ -1,6 +1,6 @@
-use Rattle.tc_channel.specs.Reply.{clcw}
+use Rattle.tc_channel.specs.Reply.{clcw_within}
 use Rattle.tc_channel.proofs.channel.ChannelWith.clcw.Goals as goal
 
 pub returns-clause-word : goal.returns-clause-word
-unfolding clcw
+unfolding clcw_within
 returns-clause-word g c = rw (← c.self.view_is, ← c.self.invariant.report, ← c.report.ensures.report) c.clcw_word.ensures

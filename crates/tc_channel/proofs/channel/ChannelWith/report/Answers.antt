@@ -1,12 +1,13 @@
 use Rattle.std.proofs.Common.{rules, subst}
 use Rattle.tc_channel.specs.Journal.{History}
+use Rattle.tc_channel.specs.ChannelState.{no_limits}
 use Rattle.tc_channel.specs.Era.{CountsUpInItsEra}
 use Rattle.tc_channel.proofs.Eras.{era-law}
 use Rattle.tc_channel.proofs.channel.ChannelWith.report.Goals as goal
 
 pub returns-clause-era : goal.returns-clause-era
 returns-clause-era g c =
-    subst (λ (h : History). CountsUpInItsEra h.settings h.journal) c.self.view_is (era-law c.self.inside.settings (g.J.Journal.events c.self.inside.journal) c.self.invariant.allowed c.self.invariant.lawful)
+    subst (λ (h : History). CountsUpInItsEra h.settings h.journal) c.self.view_is (era-law no_limits c.self.inside.settings (g.J.Journal.events c.self.inside.journal) c.self.invariant.allowed c.self.invariant.lawful)
 
 pub returns-clause-report : goal.returns-clause-report
 returns-clause-report g c = search rules

@@ -1,9 +1,10 @@
 use Rattle.std.proofs.Common.{◌≡◌, ◌∷◌, [], ◌++◌, arith}
 use Rattle.std.proofs.lemmas.Grind.{common_steps}
 use Rattle.tc_channel.specs.declared.event.Event.TheVariants.{TakeUnit}
-use Rattle.tc_channel.specs.Reply.{waiting_units}
+use Rattle.tc_channel.specs.Reply.{waiting_units_within}
 use Rattle.tc_channel.specs.HeldQueues.{items_for}
 use Rattle.tc_channel.proofs.Takes.{units-wait}
+use Rattle.tc_fixed.specs.Limits.{limit_of}
 use Rattle.tc_fixed.specs.Delivering.{rings_in}
 use Rattle.tc_fixed.specs.Taking.{oldest_for}
 use Rattle.tc_fixed.proofs.Inside.{some-item, unit-taken}
@@ -11,7 +12,7 @@ use Rattle.tc_fixed.proofs.channel.FixedChannelWith.drop_oldest_unit.Goals as go
 
 pub returns-then-not-drop_from-clause-waits : goal.returns-then-not-drop_from-clause-waits
 returns-then-not-drop_from-clause-waits g c =
-    let w : waiting_units c.args.self.now.settings c.args.self.now.journal c.args.map ≡ items_for c.args.map (rings_in c.self.inside.units.items) = rw (← c.self.view_is) (units-wait c.args.map c.self.invariant.holds) in
+    let w : waiting_units_within (limit_of c.args.self.now.limits) c.args.self.now.settings c.args.self.now.journal c.args.map ≡ items_for c.args.map (rings_in c.self.inside.units.items) = rw (← c.self.view_is) (units-wait c.args.map c.self.invariant.holds) in
     rw w (grind (arith, common_steps))
 
 pub invariant_of-self-2 : goal.invariant_of-self-2
@@ -23,5 +24,5 @@ invariant_of-self-2 g c =
 
 pub returns-clause-waits : goal.returns-clause-waits
 returns-clause-waits g c =
-    let w : waiting_units c.args.self.now.settings c.args.self.now.journal c.args.map ≡ items_for c.args.map (rings_in c.self.inside.units.items) = rw (← c.self.view_is) (units-wait c.args.map c.self.invariant.holds) in
+    let w : waiting_units_within (limit_of c.args.self.now.limits) c.args.self.now.settings c.args.self.now.journal c.args.map ≡ items_for c.args.map (rings_in c.self.inside.units.items) = rw (← c.self.view_is) (units-wait c.args.map c.self.invariant.holds) in
     rw w (grind (arith, common_steps))

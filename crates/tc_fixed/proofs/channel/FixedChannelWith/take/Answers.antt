@@ -1,9 +1,10 @@
 use Rattle.std.proofs.Common.{◌≡◌, ◌∷◌, [], ◌++◌, arith}
 use Rattle.std.proofs.lemmas.Grind.{common_steps}
 use Rattle.tc_channel.specs.declared.event.Event.TheVariants.{Take}
-use Rattle.tc_channel.specs.Reply.{waiting_packets}
+use Rattle.tc_channel.specs.Reply.{waiting_packets_within}
 use Rattle.tc_channel.specs.HeldQueues.{items_for}
 use Rattle.tc_channel.proofs.Takes.{packets-wait}
+use Rattle.tc_fixed.specs.Limits.{limit_of}
 use Rattle.tc_fixed.specs.Delivering.{rings_in}
 use Rattle.tc_fixed.specs.Taking.{oldest_for}
 use Rattle.tc_fixed.proofs.Inside.{laid-item, packet-taken}
@@ -11,17 +12,17 @@ use Rattle.tc_fixed.proofs.channel.FixedChannelWith.take.Goals as goal
 
 pub returns-in_err-count-clause-no_queue : goal.returns-in_err-count-clause-no_queue
 returns-in_err-count-clause-no_queue g c =
-    let w : waiting_packets c.args.self.now.settings c.args.self.now.journal c.args.apid ≡ items_for c.args.apid (rings_in c.self.inside.queues.items) = rw (← c.self.view_is) (packets-wait c.args.apid c.self.invariant.holds) in
+    let w : waiting_packets_within (limit_of c.args.self.now.limits) c.args.self.now.settings c.args.self.now.journal c.args.apid ≡ items_for c.args.apid (rings_in c.self.inside.queues.items) = rw (← c.self.view_is) (packets-wait c.args.apid c.self.invariant.holds) in
     rw w (grind (arith, common_steps))
 
 pub returns-in_err-count-clause-empty : goal.returns-in_err-count-clause-empty
 returns-in_err-count-clause-empty g c =
-    let w : waiting_packets c.args.self.now.settings c.args.self.now.journal c.args.apid ≡ items_for c.args.apid (rings_in c.self.inside.queues.items) = rw (← c.self.view_is) (packets-wait c.args.apid c.self.invariant.holds) in
+    let w : waiting_packets_within (limit_of c.args.self.now.limits) c.args.self.now.settings c.args.self.now.journal c.args.apid ≡ items_for c.args.apid (rings_in c.self.inside.queues.items) = rw (← c.self.view_is) (packets-wait c.args.apid c.self.invariant.holds) in
     rw w (grind (arith, common_steps))
 
 pub returns-in_err-count-clause-no_room : goal.returns-in_err-count-clause-no_room
 returns-in_err-count-clause-no_room g c =
-    let w : waiting_packets c.args.self.now.settings c.args.self.now.journal c.args.apid ≡ items_for c.args.apid (rings_in c.self.inside.queues.items) = rw (← c.self.view_is) (packets-wait c.args.apid c.self.invariant.holds) in
+    let w : waiting_packets_within (limit_of c.args.self.now.limits) c.args.self.now.settings c.args.self.now.journal c.args.apid ≡ items_for c.args.apid (rings_in c.self.inside.queues.items) = rw (← c.self.view_is) (packets-wait c.args.apid c.self.invariant.holds) in
     rw w (grind (arith, common_steps))
 
 pub invariant_of-self-2 : goal.invariant_of-self-2
@@ -32,20 +33,20 @@ invariant_of-self-2 g c =
 
 pub returns-clause-no_queue : goal.returns-clause-no_queue
 returns-clause-no_queue g c =
-    let w : waiting_packets c.args.self.now.settings c.args.self.now.journal c.args.apid ≡ items_for c.args.apid (rings_in c.self.inside.queues.items) = rw (← c.self.view_is) (packets-wait c.args.apid c.self.invariant.holds) in
+    let w : waiting_packets_within (limit_of c.args.self.now.limits) c.args.self.now.settings c.args.self.now.journal c.args.apid ≡ items_for c.args.apid (rings_in c.self.inside.queues.items) = rw (← c.self.view_is) (packets-wait c.args.apid c.self.invariant.holds) in
     rw w (grind (arith, common_steps))
 
 pub returns-clause-empty : goal.returns-clause-empty
 returns-clause-empty g c =
-    let w : waiting_packets c.args.self.now.settings c.args.self.now.journal c.args.apid ≡ items_for c.args.apid (rings_in c.self.inside.queues.items) = rw (← c.self.view_is) (packets-wait c.args.apid c.self.invariant.holds) in
+    let w : waiting_packets_within (limit_of c.args.self.now.limits) c.args.self.now.settings c.args.self.now.journal c.args.apid ≡ items_for c.args.apid (rings_in c.self.inside.queues.items) = rw (← c.self.view_is) (packets-wait c.args.apid c.self.invariant.holds) in
     rw w (grind (arith, common_steps))
 
 pub returns-clause-no_room : goal.returns-clause-no_room
 returns-clause-no_room g c =
-    let w : waiting_packets c.args.self.now.settings c.args.self.now.journal c.args.apid ≡ items_for c.args.apid (rings_in c.self.inside.queues.items) = rw (← c.self.view_is) (packets-wait c.args.apid c.self.invariant.holds) in
+    let w : waiting_packets_within (limit_of c.args.self.now.limits) c.args.self.now.settings c.args.self.now.journal c.args.apid ≡ items_for c.args.apid (rings_in c.self.inside.queues.items) = rw (← c.self.view_is) (packets-wait c.args.apid c.self.invariant.holds) in
     rw w (grind (arith, common_steps))
 
 pub returns-clause-reply : goal.returns-clause-reply
 returns-clause-reply g c =
-    let w : waiting_packets c.args.self.now.settings c.args.self.now.journal c.args.apid ≡ items_for c.args.apid (rings_in c.self.inside.queues.items) = rw (← c.self.view_is) (packets-wait c.args.apid c.self.invariant.holds) in
+    let w : waiting_packets_within (limit_of c.args.self.now.limits) c.args.self.now.settings c.args.self.now.journal c.args.apid ≡ items_for c.args.apid (rings_in c.self.inside.queues.items) = rw (← c.self.view_is) (packets-wait c.args.apid c.self.invariant.holds) in
     rw w (grind (arith, common_steps))

@@ -1,9 +1,10 @@
 use Rattle.std.proofs.Common.{◌≡◌, ◌∷◌, [], ◌++◌, arith}
 use Rattle.std.proofs.lemmas.Grind.{common_steps}
 use Rattle.tc_channel.specs.declared.event.Event.TheVariants.{TakeUnit}
-use Rattle.tc_channel.specs.Reply.{waiting_units}
+use Rattle.tc_channel.specs.Reply.{waiting_units_within}
 use Rattle.tc_channel.specs.HeldQueues.{items_for}
 use Rattle.tc_channel.proofs.Takes.{units-wait}
+use Rattle.tc_fixed.specs.Limits.{limit_of}
 use Rattle.tc_fixed.specs.Delivering.{rings_in}
 use Rattle.tc_fixed.specs.Taking.{oldest_for}
 use Rattle.tc_fixed.proofs.Inside.{laid-item, unit-taken}
@@ -11,17 +12,17 @@ use Rattle.tc_fixed.proofs.channel.FixedChannelWith.take_unit.Goals as goal
 
 pub returns-in_err-count-clause-no_map : goal.returns-in_err-count-clause-no_map
 returns-in_err-count-clause-no_map g c =
-    let w : waiting_units c.args.self.now.settings c.args.self.now.journal c.args.map ≡ items_for c.args.map (rings_in c.self.inside.units.items) = rw (← c.self.view_is) (units-wait c.args.map c.self.invariant.holds) in
+    let w : waiting_units_within (limit_of c.args.self.now.limits) c.args.self.now.settings c.args.self.now.journal c.args.map ≡ items_for c.args.map (rings_in c.self.inside.units.items) = rw (← c.self.view_is) (units-wait c.args.map c.self.invariant.holds) in
     rw w (grind (arith, common_steps))
 
 pub returns-in_err-count-clause-empty : goal.returns-in_err-count-clause-empty
 returns-in_err-count-clause-empty g c =
-    let w : waiting_units c.args.self.now.settings c.args.self.now.journal c.args.map ≡ items_for c.args.map (rings_in c.self.inside.units.items) = rw (← c.self.view_is) (units-wait c.args.map c.self.invariant.holds) in
+    let w : waiting_units_within (limit_of c.args.self.now.limits) c.args.self.now.settings c.args.self.now.journal c.args.map ≡ items_for c.args.map (rings_in c.self.inside.units.items) = rw (← c.self.view_is) (units-wait c.args.map c.self.invariant.holds) in
     rw w (grind (arith, common_steps))
 
 pub returns-in_err-count-clause-no_room : goal.returns-in_err-count-clause-no_room
 returns-in_err-count-clause-no_room g c =
-    let w : waiting_units c.args.self.now.settings c.args.self.now.journal c.args.map ≡ items_for c.args.map (rings_in c.self.inside.units.items) = rw (← c.self.view_is) (units-wait c.args.map c.self.invariant.holds) in
+    let w : waiting_units_within (limit_of c.args.self.now.limits) c.args.self.now.settings c.args.self.now.journal c.args.map ≡ items_for c.args.map (rings_in c.self.inside.units.items) = rw (← c.self.view_is) (units-wait c.args.map c.self.invariant.holds) in
     rw w (grind (arith, common_steps))
 
 pub invariant_of-self-2 : goal.invariant_of-self-2
@@ -32,20 +33,20 @@ invariant_of-self-2 g c =
 
 pub returns-clause-no_map : goal.returns-clause-no_map
 returns-clause-no_map g c =
-    let w : waiting_units c.args.self.now.settings c.args.self.now.journal c.args.map ≡ items_for c.args.map (rings_in c.self.inside.units.items) = rw (← c.self.view_is) (units-wait c.args.map c.self.invariant.holds) in
+    let w : waiting_units_within (limit_of c.args.self.now.limits) c.args.self.now.settings c.args.self.now.journal c.args.map ≡ items_for c.args.map (rings_in c.self.inside.units.items) = rw (← c.self.view_is) (units-wait c.args.map c.self.invariant.holds) in
     rw w (grind (arith, common_steps))
 
 pub returns-clause-empty : goal.returns-clause-empty
 returns-clause-empty g c =
-    let w : waiting_units c.args.self.now.settings c.args.self.now.journal c.args.map ≡ items_for c.args.map (rings_in c.self.inside.units.items) = rw (← c.self.view_is) (units-wait c.args.map c.self.invariant.holds) in
+    let w : waiting_units_within (limit_of c.args.self.now.limits) c.args.self.now.settings c.args.self.now.journal c.args.map ≡ items_for c.args.map (rings_in c.self.inside.units.items) = rw (← c.self.view_is) (units-wait c.args.map c.self.invariant.holds) in
     rw w (grind (arith, common_steps))
 
 pub returns-clause-no_room : goal.returns-clause-no_room
 returns-clause-no_room g c =
-    let w : waiting_units c.args.self.now.settings c.args.self.now.journal c.args.map ≡ items_for c.args.map (rings_in c.self.inside.units.items) = rw (← c.self.view_is) (units-wait c.args.map c.self.invariant.holds) in
+    let w : waiting_units_within (limit_of c.args.self.now.limits) c.args.self.now.settings c.args.self.now.journal c.args.map ≡ items_for c.args.map (rings_in c.self.inside.units.items) = rw (← c.self.view_is) (units-wait c.args.map c.self.invariant.holds) in
     rw w (grind (arith, common_steps))
 
 pub returns-clause-reply : goal.returns-clause-reply
 returns-clause-reply g c =
-    let w : waiting_units c.args.self.now.settings c.args.self.now.journal c.args.map ≡ items_for c.args.map (rings_in c.self.inside.units.items) = rw (← c.self.view_is) (units-wait c.args.map c.self.invariant.holds) in
+    let w : waiting_units_within (limit_of c.args.self.now.limits) c.args.self.now.settings c.args.self.now.journal c.args.map ≡ items_for c.args.map (rings_in c.self.inside.units.items) = rw (← c.self.view_is) (units-wait c.args.map c.self.invariant.holds) in
     rw w (grind (arith, common_steps))

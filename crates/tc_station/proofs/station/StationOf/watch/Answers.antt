@@ -1,11 +1,12 @@
 use Rattle.std.proofs.Common.{◌≡◌, rules, arith}
 use Rattle.tc_link.specs.Bits.{bit}
+use Rattle.tc_channel.specs.ChannelState.{no_limits}
 use Rattle.tc_station.proofs.station.StationOf.watch.Goals as goal
 
 pub overflow_add-result : goal.overflow_add-result
 overflow_add-result g c =
     let seen = c.read.new.self.seen in
-    let fits = c.each_clcw_fits_its_word.ensures seen.settings seen.journal c.args.link c.read.ensures.allowed c.read.ensures.lawful in
+    let fits = c.each_clcw_fits_its_word.ensures no_limits seen.settings seen.journal c.args.link c.read.ensures.allowed c.read.ensures.lawful in
     let flags = c.the_flags_of_the_link_have_their_own_bits.ensures seen c.args.link in
     let no_rf : c.from.result ≡ bit c.args.link.no_rf = search rules in
     omega (arith, c.read.ensures.word, fits, flags, no_rf)
@@ -13,7 +14,7 @@ overflow_add-result g c =
 pub overflow_add-result-2 : goal.overflow_add-result-2
 overflow_add-result-2 g c =
     let seen = c.read.new.self.seen in
-    let fits = c.each_clcw_fits_its_word.ensures seen.settings seen.journal c.args.link c.read.ensures.allowed c.read.ensures.lawful in
+    let fits = c.each_clcw_fits_its_word.ensures no_limits seen.settings seen.journal c.args.link c.read.ensures.allowed c.read.ensures.lawful in
     let flags = c.the_flags_of_the_link_have_their_own_bits.ensures seen c.args.link in
     let no_rf : c.from.result ≡ bit c.args.link.no_rf = search rules in
     let no_bit_lock : c.from-2.result ≡ bit c.args.link.no_bit_lock = search rules in

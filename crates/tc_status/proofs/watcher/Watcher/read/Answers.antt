@@ -1,4 +1,5 @@
 use Rattle.std.proofs.Common.{ap, rules, arith}
+use Rattle.tc_channel.specs.ChannelState.{no_limits}
 use Rattle.tc_status.specs.Board.{no_flag}
 use Rattle.tc_status.proofs.Steps.{reads}
 use Rattle.tc_status.proofs.watcher.Watcher.read.Goals as goal
@@ -10,5 +11,5 @@ pub overflow_cast-result : goal.overflow_cast-result
 overflow_cast-result c =
     let read = c.load.ensures.2 in
     let seen = c.load.new.seat.me.0.seen in
-    let fits = c.each_clcw_fits_its_word.ensures seen.settings seen.journal no_flag read.allowed read.lawful in
+    let fits = c.each_clcw_fits_its_word.ensures no_limits seen.settings seen.journal no_flag read.allowed read.lawful in
     omega (arith, read.word, fits)

@@ -1,0 +1,14 @@
+-- What a contract sees of a channel in rooms: its settings, its limits, and the events that it answered, the oldest first.
+use Rattle.std.specs.Prelude.{List, [], ◌∷◌, ◌++◌}
+use Rattle.tc_channel.specs.declared.settings.Settings.{Settings}
+use Rattle.tc_channel.specs.declared.event.Event.{Event}
+use Rattle.tc_fixed.specs.declared.limits.Limits.{Limits}
+
+pub record LimitedHistory : Type 0 where
+  pub settings : Settings
+  pub limits : Limits
+  pub journal : List Event
+
+-- the same channel, one event later
+abbrev pub with_event : LimitedHistory → Event → LimitedHistory
+with_event history event = record history { journal = history.journal ++ event ∷ [] }

@@ -1,0 +1,107 @@
+-- How long the units of each MAP may be, which limits a channel can have, and why it can't have others. They are this receiver's own rule.
+use Rattle.std.specs.Prelude.{◌≡◌, ◌≢◌, ◌≤◌, ◌⊎◌, ◌==◌, ℕ, max, min, Bool, false, List, [], ◌∷◌, All, AllPairs, Any, if◌then◌else◌}
+use Rattle.std.specs.List.{AllByRecursion}
+use Rattle.tc_packet.specs.Reassembly.{largest_unit}
+use Rattle.tc_channel.specs.Memory.{largest_item}
+use Rattle.tc_channel.specs.declared.settings.MapSetting.{MapSetting}
+use Rattle.tc_channel.specs.declared.settings.Settings.{Settings}
+use Rattle.tc_channel.specs.declared.settings.SettingsFault.{SettingsFault}
+use Rattle.tc_channel.specs.declared.settings.SettingsFault.TheVariants as settings_faults
+use Rattle.tc_channel.specs.Settings.{IsAllowed, IsFault as IsFaultOfSettings}
+use Rattle.tc_fixed.specs.declared.limits.MapLimit.{MapLimit}
+use Rattle.tc_fixed.specs.declared.limits.Limits.{Limits}
+use Rattle.tc_fixed.specs.declared.limits.LimitsFault.{LimitsFault}
+use Rattle.tc_fixed.specs.declared.limits.LimitsFault.TheVariants as faults
+
+-- the limit of a MAP: as it is listed, else that of the others
+abbrev pub limit_in : List MapLimit → ℕ → ℕ → ℕ
+limit_in [] others map_id = others
+limit_in (m ∷ ms) others map_id = if m.map == map_id then m.octets else limit_in ms others map_id
+
+abbrev pub limit_of : Limits → ℕ → ℕ
+limit_of limits map_id = limit_in limits.maps limits.others map_id
+
+-- the largest limit of all
+abbrev pub largest_in : List MapLimit → ℕ → ℕ
+largest_in [] others = others
+largest_in (m ∷ ms) others = largest_in ms (max others m.octets)
+
+abbrev pub largest_limit : Limits → ℕ
+largest_limit limits = largest_in limits.maps limits.others
+
+-- the most octets of a packet and of a unit: on a plain channel it is in one data field
+abbrev pub item_size : Limits → Bool → ℕ
+item_size limits segmented = min (largest_limit limits) (largest_item segmented)
+
+-- no limit by MAP
+abbrev pub none : Limits
+none = record { others = largest_unit; maps = [] }
+
+-- a plain data field is a unit by itself, so its limit isn't 0
+abbrev pub IsOthers : ℕ → Bool → Type 0
+IsOthers others segmented = (others ≤ largest_unit) × (segmented ≡ false → 1 ≤ others)
+
+abbrev pub AreMaps : List MapLimit → Type 0
+AreMaps maps = All (λ m. m.map ≤ 63) maps
+
+-- no MAP is listed twice
+abbrev pub AreMapsApart : List MapLimit → Type 0
+AreMapsApart maps = AllPairs (λ (m n : MapLimit). m.map ≢ n.map) maps
+
+abbrev pub HaveOctets : List MapLimit → Type 0
+HaveOctets maps = All (λ m. (1 ≤ m.octets) × (m.octets ≤ largest_unit)) maps
+
+-- a plain channel, which has no segment headers, has no MAPs
+abbrev pub HasMapsByHeaders : List MapLimit → Bool → Type 0
+HasMapsByHeaders maps segmented = segmented ≡ false → maps ≡ []
+
+abbrev pub IsListed : List MapLimit → ℕ → Type 0
+IsListed maps map_id = Any (λ (m : MapLimit). m.map ≡ map_id) maps
+
+-- each chosen MAP is listed, where the limit of the others is 0
+abbrev pub AreListed : Limits → List MapSetting → Type 0
+AreListed limits chosen = limits.others ≡ 0 → AllByRecursion (λ (m : MapSetting). IsListed limits.maps m.map) chosen
+
+-- a channel of these settings can have these limits
+pub record AreLimits (s : Settings) (limits : Limits) : Type 0 where
+  pub others : IsOthers limits.others s.segmented
+  pub maps : AreMaps limits.maps
+  pub maps_apart : AreMapsApart limits.maps
+  pub octets : HaveOctets limits.maps
+  pub by_headers : HasMapsByHeaders limits.maps s.segmented
+  pub listed : AreListed limits s.maps
+
+-- what limits keep that are free of this fault; the settings have faults of their own
+abbrev pub IsFreeOf : Settings → Limits → LimitsFault → Type 0
+IsFreeOf s limits (faults.Settings fault) = Unit {0}
+IsFreeOf s limits faults.BadOthers = IsOthers limits.others s.segmented
+IsFreeOf s limits faults.BadMap = AreMaps limits.maps
+IsFreeOf s limits faults.DoubleMap = AreMapsApart limits.maps
+IsFreeOf s limits faults.BadLimit = HaveOctets limits.maps
+IsFreeOf s limits faults.PlainMap = HasMapsByHeaders limits.maps s.segmented
+IsFreeOf s limits faults.UnlistedMap = AreListed limits s.maps
+
+-- the faults that limits may have, in the order in which they are looked for
+abbrev pub faults_in_order : List LimitsFault
+faults_in_order = faults.BadOthers ∷ faults.BadMap ∷ faults.DoubleMap ∷ faults.BadLimit ∷ faults.PlainMap ∷ faults.UnlistedMap ∷ []
+
+-- of the listed faults the limits have this one, and none before it
+abbrev pub IsFirstFault : Settings → Limits → List LimitsFault → LimitsFault → Type 0
+IsFirstFault s limits [] fault = ⊥
+IsFirstFault s limits (next ∷ later) fault = ((fault ≡ next) × ¬ IsFreeOf s limits next) ⊎ (IsFreeOf s limits next × IsFirstFault s limits later fault)
+
+-- the first fault of the limits is this one
+unfoldable pub IsLimitsFault : Settings → Limits → LimitsFault → Type 0
+IsLimitsFault s limits fault = IsFirstFault s limits faults_in_order fault
+
+-- a fault of the settings
+abbrev pub of_settings : SettingsFault → LimitsFault
+of_settings fault = faults.Settings fault
+
+-- the first fault is this one, where those of the settings come before those of the limits
+abbrev pub IsFault : Settings → Limits → LimitsFault → Type 0
+IsFault s limits fault = ((its : SettingsFault) × (fault ≡ of_settings its) × IsFaultOfSettings s its) ⊎ (IsAllowed s × IsLimitsFault s limits fault)
+
+-- why no channel was made: out of memory only where there is no fault
+abbrev pub IsRefusal : Settings → Limits → LimitsFault → Type 0
+IsRefusal s limits fault = IsFault s limits fault ⊎ ((fault ≡ of_settings settings_faults.NoMemory) × IsAllowed s × AreLimits s limits)

@@ -1,0 +1,226 @@
+//! How long the units of each MAP may be.
+
+ghost use Rattle.std.specs.Prelude.{ℕ, ◌≡◌, ◌<◌, ◌≤◌, ◌↔◌, IsTrue, MatchResult, get_or};
+ghost use Rattle.tc_channel.specs.declared.settings.MapSetting.{MapSetting};
+ghost use Rattle.tc_channel.specs.Settings.{IsAllowed};
+ghost use Rattle.std.specs.List.{AllByRecursion};
+ghost use Rattle.tc_packet.specs.Reassembly.{largest_unit};
+ghost use Rattle.tc_fixed.specs.Limits.{IsOthers, AreMaps, AreMapsApart, HaveOctets, HasMapsByHeaders, AreListed, IsListed, AreLimits, IsFault, IsLimitsFault, item_size, largest_limit, limit_of, none};
+
+use crate::channel::LARGEST_FIELD;
+use std::alloc::Global;
+use tc_channel::{Items, MapSetting, Settings, SettingsFault};
+use tc_packet::LARGEST_UNIT;
+use thiserror::Error;
+
+/// How many MAPs there are: they have six bits (CCSDS 232.0-B, 4.1.3.2.2).
+pub(crate) const MAPS: usize = 64;
+
+/// How long the units of one MAP may be.
+#[derive(Clone, Copy, Debug, PartialEq, Eq)]
+pub struct MapLimit {
+    /// The multiplexer access point, at most 63.
+    pub map: u8,
+    /// The most octets of a unit, 1 to 65,542.
+    pub octets: u32,
+}
+
+/// How long the units of each MAP may be. A longer unit is dropped, as one of more than 65,542 octets is where there are no limits.
+#[derive(Debug, Drop, PartialEq, Eq)]
+pub struct Limits {
+    /// The most octets of a unit of each MAP that isn't listed, at most 65,542. It may be 0 where there are segment headers: then
+    /// such a MAP ends no unit but the empty one. On a plain channel it is the limit of each data field.
+    pub others: u32,
+    /// The MAPs with a limit of their own, no two the same, and none on a plain channel.
+    pub maps: Items<MapLimit>,
+}
+
+/// Why settings and limits make no channel: the first fault that they have, in this order.
+#[derive(Clone, Copy, Debug, PartialEq, Eq, Error)]
+pub enum LimitsFault {
+    /// The settings have this fault. With `NoMemory` nothing has a fault, and memory ran out.
+    #[error(transparent)]
+    Settings(SettingsFault),
+    #[error("bad limit of the other multiplexer access points")]
+    BadOthers,
+    #[error("bad multiplexer access point of a limit")]
+    BadMap,
+    #[error("two limits of one multiplexer access point")]
+    DoubleMap,
+    #[error("bad limit of a multiplexer access point")]
+    BadLimit,
+    #[error("a limit of a multiplexer access point without segment headers")]
+    PlainMap,
+    /// A chosen MAP isn't listed, and the limit of the others is 0.
+    #[error("no limit of a chosen multiplexer access point")]
+    UnlistedMap,
+}
+
+impl From<SettingsFault> for LimitsFault {
+    ghost use Rattle.tc_fixed.specs.Limits.{of_settings};
+
+    ghost from_gives = { λ fault e. e ≡ of_settings fault };
+
+    fn from(fault: SettingsFault) -> LimitsFault {
+        LimitsFault::Settings(fault)
+    }
+}
+
+impl Limits {
+    /// No limit by MAP: a unit has 65,542 octets at most. It takes no memory.
+    pub fn none(alloc: Global) -> Limits
+        ensures { result ≡ none }
+    {
+        Limits {
+            others: LARGEST_UNIT as u32,
+            maps: Items::from(Vec::new(alloc)),
+        }
+    }
+
+    /// The most octets of a unit of this MAP.
+    pub fn of(&self, map: u8) -> u32
+        ensures { result ≡ limit_of self.now map }
+    {
+        for limit in self.maps.as_slice() {
+            if limit.map == map {
+                return limit.octets;
+            }
+        }
+        self.others
+    }
+
+    /// Whether a channel can be made by these settings and limits. It never answers that there is no memory, and takes none.
+    pub fn check(&self, settings: &Settings) -> Result<(), LimitsFault>
+        ensures { MatchResult result (λ _. IsAllowed settings.now × AreLimits settings.now self.now) (IsFault settings.now self.now) }
+    {
+        settings.check()?;
+        self.check_alone(settings)
+    }
+
+    // Whether a channel of these settings can have these limits.
+    #[tactic(auto, unfolding(crate::specs::Limits::IsLimitsFault))]
+    fn check_alone(&self, settings: &Settings) -> Result<(), LimitsFault>
+        ensures { MatchResult result (λ _. AreLimits settings.now self.now) (IsLimitsFault settings.now self.now) }
+    {
+        if !is_others(self.others, settings.segmented) {
+            return Err(LimitsFault::BadOthers);
+        }
+        if !are_maps(&self.maps) {
+            return Err(LimitsFault::BadMap);
+        }
+        if !are_maps_apart(&self.maps) {
+            return Err(LimitsFault::DoubleMap);
+        }
+        if !have_octets(&self.maps) {
+            return Err(LimitsFault::BadLimit);
+        }
+        if !has_maps_by_headers(&self.maps, settings.segmented) {
+            return Err(LimitsFault::PlainMap);
+        }
+        if !are_listed(self, &settings.maps) {
+            return Err(LimitsFault::UnlistedMap);
+        }
+        Ok(())
+    }
+
+    // The most octets of a unit of whatever MAP.
+    pub(crate) fn largest(&self) -> u32
+        ensures { result ≡ largest_limit self.now }
+    {
+        let mut largest = self.others;
+        for limit in self.maps.as_slice() {
+            largest = largest.max(limit.octets);
+        }
+        largest
+    }
+
+    // The most octets of a packet and of a unit.
+    pub(crate) fn item_size(&self, segmented: bool) -> usize
+        ensures size { result ≡ item_size self.now segmented }
+        ensures within { result ≤ LARGEST_UNIT }
+    {
+        let largest = if segmented {
+            LARGEST_UNIT
+        } else {
+            LARGEST_FIELD
+        };
+        largest.min(self.largest() as usize)
+    }
+
+    // The most octets of a unit of each MAP.
+    pub(crate) fn table(&self) -> [usize; MAPS]
+        requires others { self.now.others ≤ largest_unit }
+        requires octets { HaveOctets self.now.maps }
+        ensures small { AllByRecursion (λ n. n ≤ largest_unit) result }
+        ensures limits { (map_id : ℕ) → map_id < 64 → get_or result map_id 0 ≡ limit_of self.now map_id }
+    {
+        let mut table = [0; MAPS];
+        for map in 0..MAPS {
+            table[map] = self.of(map as u8) as usize;
+        }
+        table
+    }
+}
+
+fn is_others(others: u32, segmented: bool) -> bool
+    ensures { IsTrue result ↔ IsOthers others segmented }
+{
+    others as usize <= LARGEST_UNIT && (segmented || others >= 1)
+}
+
+fn are_maps(maps: &[MapLimit]) -> bool
+    ensures { IsTrue result ↔ AreMaps maps.now }
+{
+    maps.iter().all(|limit| limit.map <= 63)
+}
+
+fn have_octets(maps: &[MapLimit]) -> bool
+    ensures { IsTrue result ↔ HaveOctets maps.now }
+{
+    maps.iter().all(|limit| limit.octets >= 1 && limit.octets as usize <= LARGEST_UNIT)
+}
+
+// Whether no MAP is listed where there are no segment headers.
+fn has_maps_by_headers(maps: &[MapLimit], segmented: bool) -> bool
+    ensures { IsTrue result ↔ HasMapsByHeaders maps.now segmented }
+{
+    segmented || maps.is_empty()
+}
+
+// Whether one of the listed MAPs is this one.
+fn has_map(maps: &[MapLimit], map: u8) -> bool
+    ensures { IsTrue result ↔ IsListed maps.now map }
+{
+    maps.iter().any(|other| other.map == map)
+}
+
+// Whether no MAP is listed twice.
+fn are_maps_apart(maps: &[MapLimit]) -> bool
+    ensures { IsTrue result ↔ AreMapsApart maps.now }
+{
+    for (i, limit) in maps.iter().enumerate() {
+        if has_map(&maps[..i], limit.map) {
+            return false;
+        }
+    }
+    true
+}
+
+// Whether each chosen MAP has a limit that isn't 0.
+fn are_listed(limits: &Limits, chosen: &[MapSetting]) -> bool
+    ensures { IsTrue result ↔ AreListed limits.now chosen.now }
+{
+    limits.others >= 1 || all_listed(&limits.maps, chosen)
+}
+
+// Whether each chosen MAP is listed.
+fn all_listed(maps: &[MapLimit], chosen: &[MapSetting]) -> bool
+    ensures { IsTrue result ↔ AllByRecursion (λ (m : MapSetting). IsListed maps.now m.map) chosen.now }
+{
+    for map in chosen {
+        if !has_map(maps, map.map) {
+            return false;
+        }
+    }
+    true
+}
