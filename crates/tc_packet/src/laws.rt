@@ -1,8 +1,10 @@
 //! Laws over the definitions of this crate.
 
-ghost use Rattle.std.specs.Prelude.{◌≡◌, ◌<◌, ◌≤◌, ◌↔◌, ℕ, false, List, length, Option, Some, None, take};
+ghost use Rattle.std.specs.Prelude.{◌≡◌, ◌<◌, ◌≤◌, ◌↔◌, ◌∷◌, [], ◌++◌, ℕ, false, List, length, Option, Some, None, take};
 ghost use Rattle.tc_packet.specs.declared.reassembler.Service.{Service};
 ghost use Rattle.tc_packet.specs.Reassembly.{IsLeftByFields, IsOpenRun, IsUnit, IsWithinLimit, largest_unit, open_run, place_of, run_left, stream_count, unit_at, unit_ended};
+ghost use Rattle.tc_packet.specs.Runs.{next_run};
+ghost use Rattle.tc_packet.specs.Segment.{header_of, body_of};
 ghost use Rattle.tc_packet.specs.SpacePacket.{IsCut, IsPacket, packets_of, rest_of};
 
 /// The cut of a unit is this one, and no other.
@@ -33,6 +35,12 @@ pub fn each_run_within_the_limit_is_left_by_fields()
     ensures left { (map : ℕ) (run : Option (List ℕ)) → map < 64 → IsWithinLimit run → IsLeftByFields map run }
     ensures only { (fields : List (List ℕ)) → IsWithinLimit (open_run fields) }
     ensures units { (fields : List (List ℕ)) (field : List ℕ) → IsWithinLimit (unit_at fields field) }
+{}
+
+/// What one more field leaves of a stream follows from the run that the fields before it left, its part and its body alone: a first
+/// segment begins a run, a continuing one makes the open run longer, and no run is open behind any other.
+pub fn one_more_field_moves_its_run_on()
+    ensures { (fields : List (List ℕ)) (field : List ℕ) → open_run (fields ++ field ∷ []) ≡ next_run (header_of field).part (open_run fields) (body_of field) }
 {}
 
 /// Without segment headers a field is a unit by itself where it is within the limit, and no run is left open.

@@ -8,7 +8,6 @@ use Rattle.tc_packet.specs.declared.segment.Part.{Part}
 use Rattle.tc_packet.specs.Segment.{header_of, body_of}
 use Rattle.tc_packet.specs.Reassembly.{at_most, bounded, run_at, run_left, open_run, unit_at, unit_ended, ended_by}
 use Rattle.tc_packet.specs.Runs.{next_run}
-use Rattle.tc_packet.proofs.OpenRuns.{open_run-push}
 use Rattle.tc_rooms.specs.Runs.{open_in, open_runs, sizes_of, limit_at, told, ended_by_stream, unit_in, Store, IsStore, LeaveWithin, IsThere, IsAtMost}
 use Rattle.tc_rooms.specs.declared.runs.Told.{Told}
 use Rattle.tc_rooms.specs.declared.runs.Ended.{Ended}
@@ -49,12 +48,23 @@ here [] i next inside = absurd (omega arith)
 here (r ∷ runs) zero next inside = refl
 here (r ∷ runs) (suc i) next inside = here runs i next (omega arith)
 
+pub elsewhere : (runs : List Run) (i other : ℕ) (next : Run) → other ≢ i → slice_get (set runs i next) other ≡ slice_get runs other
+elsewhere [] i other next apart = refl
+elsewhere (r ∷ runs) zero zero next apart = absurd (apart refl)
+elsewhere (r ∷ runs) zero (suc other) next apart = refl
+elsewhere (r ∷ runs) (suc i) zero next apart = refl
+elsewhere (r ∷ runs) (suc i) (suc other) next apart = elsewhere runs i other next (λ e. apart (ap suc e))
+
+-- what one more field leaves of a stream, as the law of tc_packet says it
+abbrev pub MovesOn : Type 0
+MovesOn = (fields : List (List ℕ)) (field : List ℕ) → open_run (fields ++ field ∷ []) ≡ next_run (header_of field).part (open_run fields) (body_of field)
+
 -- the stream of the field has the run of its longer list, within the limit
-pub run-pushed : (n : ℕ) (next run : Option (List ℕ)) (fields : List (List ℕ)) (field body : List ℕ) (part : Part) → n ≤ 65542
+pub run-pushed : MovesOn → (n : ℕ) (next run : Option (List ℕ)) (fields : List (List ℕ)) (field body : List ℕ) (part : Part) → n ≤ 65542
     → part ≡ (header_of field).part → body ≡ body_of field → next ≡ at_most n (next_run part run body)
     → at_most n (open_run fields) ≡ run → at_most n (open_run (fields ++ field ∷ [])) ≡ next
-run-pushed n next run fields field body part small part_is body_is next_is left =
-    ap (at_most n) (open_run-push fields field) ∙ sym (next-at_most n (header_of field).part (open_run fields) (body_of field) small)
+run-pushed moves n next run fields field body part small part_is body_is next_is left =
+    ap (at_most n) (moves fields field) ∙ sym (next-at_most n (header_of field).part (open_run fields) (body_of field) small)
     ∙ sym (next_is ∙ rw (part_is, body_is, ← left) refl)
 
 pub unit-pushed : (n : ℕ) (unit run : Option (List ℕ)) (fields : List (List ℕ)) (field body : List ℕ) (part : Part) → n ≤ 65542
@@ -108,15 +118,15 @@ unit-at {store} {i} {place} {run} {next} {t} {part} {field} {body} fields p left
     ∙ unit-pushed run.room.size (told t next body) (open_in run) fields field body part p.small p.part_is p.body_is p.unit_is (left-is fields p left)
     ∙ ap (λ (n : ℕ). at_most n (unit_at fields field)) (sym (size-is p)) ∙ back
 
-run-at : {store : Store} {i place : ℕ} {run next : Run} {t : Told} {part : Part} {field body : List ℕ} (fields : List (List ℕ)) → IsPassed store i place run next t part field body
+run-at : MovesOn → {store : Store} {i place : ℕ} {run next : Run} {t : Told} {part : Part} {field body : List ℕ} (fields : List (List ℕ)) → IsPassed store i place run next t part field body
     → LeaveWithin fields store place → LeaveWithin (fields ++ field ∷ []) (with_run store i next) place
-run-at {store} {i} {place} {run} {next} {t} {part} {field} {body} fields p left =
+run-at moves {store} {i} {place} {run} {next} {t} {part} {field} {body} fields p left =
     let on = p.on in
     let sizes = same-sizes store.runs i run next p.inside p.run_is p.same_size in
     let front : at_most (limit_at (with_run store i next) place) (run_left store.segmented (fields ++ field ∷ [])) ≡ at_most (get_or (sizes_of (set store.runs i next)) place 0) (open_run (fields ++ field ∷ [])) = rw on refl in
     front ∙ ap (λ (x : List ℕ). at_most (get_or x place 0) (open_run (fields ++ field ∷ []))) sizes
     ∙ ap (λ (n : ℕ). at_most n (open_run (fields ++ field ∷ []))) (size-is p)
-    ∙ run-pushed run.room.size (open_in next) (open_in run) fields field body part p.small p.part_is p.body_is p.next_is (left-is fields p left)
+    ∙ run-pushed moves run.room.size (open_in next) (open_in run) fields field body part p.small p.part_is p.body_is p.next_is (left-is fields p left)
     ∙ sym (ap (λ (k : ℕ). run_at (map open_in (set store.runs i next)) k) (sym p.at) ∙ written-open store.runs i next p.inside)
 
 -- of a store as it is seen
@@ -125,15 +135,20 @@ pub passed-unit : {store : Store} {i place : ℕ} {run next : Run} {t : Told} {p
 passed-unit {store} {i} {place} {run} {next} {t} {part} {field} {body} old fields p seen =
     subst (λ (x : Store). LeaveWithin fields x place → unit_in (ended_by_stream t i) (with_run store i next) field ≡ at_most (limit_at x place) (unit_ended x.segmented fields field)) seen (unit-at fields p)
 
-pub passed-run : {store : Store} {i place : ℕ} {run next : Run} {t : Told} {part : Part} {field body : List ℕ} (old : Store) (fields : List (List ℕ)) → IsPassed store i place run next t part field body → store ≡ old
+pub passed-run : MovesOn → {store : Store} {i place : ℕ} {run next : Run} {t : Told} {part : Part} {field body : List ℕ} (old : Store) (fields : List (List ℕ)) → IsPassed store i place run next t part field body → store ≡ old
     → LeaveWithin fields old place → LeaveWithin (fields ++ field ∷ []) (with_run store i next) place
-passed-run {store} {i} {place} {run} {next} {t} {part} {field} {body} old fields p seen =
-    subst (λ (x : Store). LeaveWithin fields x place → LeaveWithin (fields ++ field ∷ []) (with_run store i next) place) seen (run-at fields p)
+passed-run moves {store} {i} {place} {run} {next} {t} {part} {field} {body} old fields p seen =
+    subst (λ (x : Store). LeaveWithin fields x place → LeaveWithin (fields ++ field ∷ []) (with_run store i next) place) seen (run-at moves fields p)
 
 pub passed-others : {store : Store} {i place : ℕ} {run next : Run} {t : Told} {part : Part} {field body : List ℕ} (old : Store) (other : ℕ) → IsPassed store i place run next t part field body → store ≡ old
     → (other ≡ place → ⊥) → run_at (open_runs (with_run store i next)).runs other ≡ run_at (open_runs old).runs other
 passed-others {store} {i} {place} {run} {next} old other p seen apart =
     others-open store.runs i other next (λ e. apart (e ∙ p.at)) ∙ ap (λ (x : Store). run_at (open_runs x).runs other) seen
+
+pub passed-rooms : {store : Store} {i place : ℕ} {run next : Run} {t : Told} {part : Part} {field body : List ℕ} (old : Store) (other : ℕ) → IsPassed store i place run next t part field body → store ≡ old
+    → (other ≡ place → ⊥) → slice_get (with_run store i next).runs other ≡ slice_get old.runs other
+passed-rooms {store} {i} {place} {run} {next} old other p seen apart =
+    elsewhere store.runs i other next (λ e. apart (e ∙ p.at)) ∙ ap (λ (x : Store). slice_get x.runs other) seen
 
 pub passed-limits : {store : Store} {i place : ℕ} {run next : Run} {t : Told} {part : Part} {field body : List ℕ} (old : Store) (q : ℕ) → IsPassed store i place run next t part field body → store ≡ old
     → limit_at (with_run store i next) q ≡ limit_at old q

@@ -10,7 +10,7 @@ ghost use Rattle.tc_rooms.specs.Runs.{open_in, open_runs, limit_at, LeaveWithin,
 use crate::room::Room;
 use std::alloc::{AllocError, Global};
 use std::marker::Model;
-use tc_packet::{LARGEST_UNIT, Part, Service, read_segment};
+use tc_packet::{LARGEST_UNIT, Part, Service, one_more_field_moves_its_run_on, read_segment};
 
 // How many MAPs there are.
 const MAPS: usize = 64;
@@ -234,6 +234,8 @@ impl FixedReassembler {
             → LeaveWithin (fields ++ field.now ∷ []) self.new (stream_place service field.now) }
         ensures others { (other : ℕ) → (other ≡ stream_place service field.now → ⊥)
             → run_at (open_runs self.new).runs other ≡ run_at (open_runs self.old).runs other }
+        ensures other_rooms { (other : ℕ) → (other ≡ stream_place service field.now → ⊥)
+            → slice_get self.new.runs other ≡ slice_get self.old.runs other }
         ensures there { IsThere result self.new field.now }
         ensures within { IsAtMost (limit_at self.old (stream_place service field.now)) (unit_in result self.new field.now) }
         ensures shorter { self.old.segmented ≡ false → IsAtMost (length field.now) (unit_in result self.new field.now) }
@@ -243,6 +245,7 @@ impl FixedReassembler {
         if !self.segmented {
             return whole_field(field, self.plain_limit);
         }
+        one_more_field_moves_its_run_on();
         let segment = read_segment(field[0]);
         let at = place(service, segment.map);
         let run = &mut self.runs[at];
