@@ -12,7 +12,8 @@ use Rattle.tc_packet.specs.declared.packet.Packet.{Packet}
 use Rattle.tc_fecf.specs.FrameWithField.{taking_fault_of}
 use Rattle.tc_fecf.specs.declared.frames.FieldFault.{FieldFault}
 use Rattle.tc_fecf.specs.declared.frames.FieldFault.TheVariants as fields
-use Rattle.tc_make.specs.Answer.{Writes, OrNoMemory, Unless, IsSentAt, IsStopAt, AreSent, IsPart, IsFramesSaid, IsPartingOf, IsUnitSaid, IsExplained, frames_text, parts_of, field_fault_text}
+use Rattle.tc_lines.specs.Answering.{Writes}
+use Rattle.tc_make.specs.Answer.{OrNoMemory, Unless, IsSentAt, IsStopAt, AreSent, IsPart, IsFramesSaid, IsPartingOf, IsUnitSaid, IsExplained, frames_text, parts_of, field_fault_text}
 use Rattle.tc_make.specs.Printed.{bad_text, named_text, some_text, unit_text, packet_text, held_text, holds_text, whole_text}
 use Rattle.tc_make.specs.declared.ending.Ending.{Ending}
 use Rattle.tc_make.specs.declared.ending.Ending.TheVariants.{ErrorControl}

@@ -1,6 +1,5 @@
 -- What a line is answered.
 use Rattle.std.specs.Prelude.{◌≡◌, ◌⊎◌, ℕ, suc, ◌<◌, ◌==◌, if◌then◌else◌, Bool, true, false, List, [], ◌∷◌, ◌++◌, length, codes, Option, Some, None, Result, Ok, Err}
-use Rattle.std.specs.Io.KnownBytes.{Appends}
 use Rattle.std.specs.Int.{from_be_bytes, w32}
 use Rattle.std.specs.List.{flat_map}
 use Rattle.tc_link.specs.Frame.{fault_of}
@@ -29,10 +28,6 @@ use Rattle.tc_make.specs.declared.line.Line.TheVariants.{Blank, Packet, Frame, C
 use Rattle.tc_make.specs.declared.line.Sizing.{Sizing}
 use Rattle.tc_make.specs.declared.line.Stream.{Stream}
 use Rattle.tc_make.specs.declared.parting.Parting.{Parting}
-
--- what a writer holds grew by a text that is such
-abbrev pub Writes : Option (List ℕ) → Option (List ℕ) → (List ℕ → Type 0) → Type 0
-Writes old new Is = (text : List ℕ) × Is text × Appends old new text
 
 -- such a text, or that memory ran out
 abbrev pub OrNoMemory : (List ℕ → Type 0) → List ℕ → Type 0

@@ -10,3 +10,4 @@ pub mod Ending
 pub mod Segments
 pub mod Printed
 pub mod Answer
+pub mod Serving

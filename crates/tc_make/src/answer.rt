@@ -1,7 +1,8 @@
 //! What lines are answered.
 
 ghost use Rattle.std.specs.Prelude.{◌≡◌, ◌<◌, None, codes, length, IfOk, OnOk};
-ghost use Rattle.tc_make.specs.Answer.{Writes, OrNoMemory, IsAnswer, IsSaid, IsMadePacketSaid, IsMadeFrameSaid, IsCommandSaid, IsEnded, IsUnitSaid, IsFramesSaid, IsPart};
+ghost use Rattle.tc_lines.specs.Answering.{Writes};
+ghost use Rattle.tc_make.specs.Answer.{OrNoMemory, IsAnswer, IsSaid, IsMadePacketSaid, IsMadeFrameSaid, IsCommandSaid, IsEnded, IsUnitSaid, IsFramesSaid, IsPart};
 ghost use Rattle.tc_link.specs.Frame.{IsWhole};
 ghost use Rattle.tc_make.specs.Line.{line_of};
 ghost use Rattle.tc_make.specs.Parts.{count_of};

@@ -2,7 +2,8 @@
 
 ghost use Rattle.std.specs.Prelude.{◌≡◌, ◌++◌, OnOk};
 ghost use Rattle.std.specs.Io.KnownBytes.{Appends};
-ghost use Rattle.tc_make.specs.Answer.{Writes, OrNoMemory, IsFrameSaid, IsExplained, IsClcwSaid, field_fault_text};
+ghost use Rattle.tc_lines.specs.Answering.{Writes};
+ghost use Rattle.tc_make.specs.Answer.{OrNoMemory, IsFrameSaid, IsExplained, IsClcwSaid, field_fault_text};
 ghost use Rattle.tc_make.specs.Printed.{frame_fault_text, kind_text, fields_text, lengths_text, header_text, part_text, segment_text, type_text, holds_text, whole_text, held_text, unit_text, body_text, carried_text, field_text, explanation_text, link_text, flags_text, numbers_text, clcw_text};
 
 use crate::ending::Ending;

@@ -32,4 +32,5 @@ pub use line::{Line, Sizing, Stream, parse_line};
 pub use octets::Octets;
 pub use packets::make_packet;
 pub use parting::Parting;
-pub use serving::{MAX_LINE, ServingFault, answer_lines};
+pub use serving::{MAX_LINE, answer_lines};
+pub use tc_lines::ServingFault;

@@ -1,73 +1,48 @@
 //! A bench: lines in, lines out.
 
-use crate::answer::answer_line;
+ghost use Rattle.std.specs.Prelude.{◌≡◌, IfErr, IfSome, OnOk};
+ghost use Rattle.tc_make.specs.Serving.{AreWritten, IsCutShort};
+
+use crate::answer;
 use crate::ending::Ending;
 use std::alloc::Global;
-use std::io::{BufRead, Read, Write};
-use thiserror::Error;
+use std::io;
+use std::io::{BufRead, Write};
+use tc_lines::{LineAnswerer, ServingFault};
 
 /// How many octets a line may have, its line feed among them. The longest line that says something, a unit of 65,542
 /// octets, fits.
 pub const MAX_LINE: usize = 262_144;
 
-/// Why lines are no longer answered.
-#[derive(Clone, Copy, Debug, PartialEq, Eq, Error)]
-pub enum ServingFault {
-    /// The reader failed.
-    #[error("cannot read")]
-    Read,
-    /// The writer failed.
-    #[error("cannot write")]
-    Write,
-    /// Memory was wanting for a line.
-    #[error("no memory")]
-    NoMemory,
+impl LineAnswerer for Ending {
+    ghost use Rattle.tc_make.specs.Serving.{IsAnswered};
+
+    ghost answers = { IsAnswered };
+
+    fn answer_line<W: Write>(
+        &mut self,
+        alloc: Global,
+        octets: &[u8],
+        writer: &mut W,
+    ) -> io::Result<()> {
+        answer::answer_line(alloc, *self, octets, writer)
+    }
 }
 
 /// Answers lines until there are no more, and flushes after each answer.
 ///
 /// A line that is longer than a line may be is answered `bad too long`. Octets after the last line feed are a line.
+/// Where the octets of the reader are known, the answers of all its lines are written, or as many as it gave before it
+/// failed.
 pub fn answer_lines<R: BufRead, W: Write>(
     alloc: Global,
     ending: Ending,
     reader: &mut R,
     writer: &mut W,
-) -> Result<(), ServingFault> {
-    let Ok(mut line) = Vec::with_capacity(alloc, MAX_LINE) else {
-        return Err(ServingFault::NoMemory);
-    };
-    let mut over = false;
-    for _piece in 0..u64::MAX {
-        line.clear();
-        let count = read_piece(reader, &mut line)?;
-        let ended = line.last() == Some(&b'\n');
-        if count == MAX_LINE && !ended {
-            over = true;
-            continue;
-        }
-        if over {
-            write_too_long(writer)?;
-            over = false;
-        } else if count > 0 {
-            let octets = line.strip_suffix(b"\n").unwrap_or(&line);
-            answer_line(alloc, ending, octets, writer).map_err(|_| ServingFault::Write)?;
-        }
-        writer.flush().map_err(|_| ServingFault::Write)?;
-        if !ended {
-            return Ok(());
-        }
-    }
-    Ok(())
-}
-
-// The octets up to a line feed, or as many as a line may have.
-fn read_piece<R: BufRead>(reader: &mut R, line: &mut Vec<u8>) -> Result<usize, ServingFault> {
-    let mut limited = Read::take(reader.by_ref(), MAX_LINE as u64);
-    limited
-        .read_until(b'\n', line)
-        .map_err(|_| ServingFault::Read)
-}
-
-fn write_too_long<W: Write>(writer: &mut W) -> Result<(), ServingFault> {
-    writeln!(writer, "bad too long").map_err(|_| ServingFault::Write)
+) -> Result<(), ServingFault>
+    ensures written { OnOk result (IfSome (R.remaining reader.old) (λ octets. AreWritten ending octets (W.contents writer.old) (W.contents writer.new))) }
+    ensures cut_short { IfErr result (λ fault. IfSome (R.remaining reader.old) (λ octets. IsCutShort ending octets (W.contents writer.old) (W.contents writer.new) fault)) }
+{
+    let mut ending = ending;
+    tc_lines::answer_lines(alloc, MAX_LINE - 1, &mut ending, reader, writer)
 }

@@ -24,6 +24,27 @@ impl Read for Failing<'_> {
     }
 }
 
+/// Gives a thousand octets a read, and is interrupted before each read.
+#[derive(Drop)]
+struct Interrupted<'a> {
+    rest: &'a [u8],
+    was_interrupted: bool,
+}
+
+impl Read for Interrupted<'_> {
+    fn read(&mut self, buf: &mut [u8]) -> io::Result<usize> {
+        self.was_interrupted = !self.was_interrupted;
+        if self.was_interrupted {
+            return Err(io::Error::from(ErrorKind::Interrupted));
+        }
+        let count = self.rest.len().min(buf.len()).min(1000);
+        let (given, rest) = self.rest.split_at(count);
+        buf[..count].copy_from_slice(given);
+        self.rest = rest;
+        Ok(count)
+    }
+}
+
 /// Keeps what is written. It fails at a write or at a flush, and counts the flushes.
 #[derive(Drop)]
 struct Watched {
@@ -85,6 +106,24 @@ fn a_read_fails_after_a_line(rt: HostRuntime) -> Result<(), Fail> {
     let served = answer_lines(rt.alloc(), Ending::DataField, &mut reader, &mut writer);
     assert_eq!(rt; served, Err(ServingFault::Read));
     assert!(rt; writer.kept.as_slice() == b"frame 302a04050000\n".as_slice());
+    Ok(())
+}
+
+#[test]
+fn lines_come_in_parts(rt: HostRuntime) -> Result<(), Fail> {
+    let mut lines = vec![in rt.alloc(); b' '; MAX_LINE]?;
+    lines.extend_from_slice(b"\nunlock 42 1\nunlock 42 1")?;
+    let parts = Interrupted {
+        rest: lines.as_slice(),
+        was_interrupted: false,
+    };
+    let mut reader = BufReader::new(rt.alloc(), parts)?;
+    let mut writer = new_watched(rt.alloc(), 0, false);
+    let served = answer_lines(rt.alloc(), Ending::DataField, &mut reader, &mut writer);
+    assert_eq!(rt; served, Ok(()));
+    let text = b"bad too long\nframe 302a04050000\nframe 302a04050000\n".as_slice();
+    assert!(rt; writer.kept.as_slice() == text);
+    assert_eq!(rt; writer.flushes, 3);
     Ok(())
 }
 

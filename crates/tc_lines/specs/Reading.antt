@@ -1,0 +1,46 @@
+-- What is read of a line.
+use Rattle.std.specs.Prelude.{◌≡◌, ◌≢◌, ◌≤◌, ◌+◌, ℕ, Bool, true, false, List, [], ◌∷◌, ◌++◌, All, length, take, nat_lt, Option, OnSome}
+use Rattle.std.specs.Io.KnownBytes.{Consumes, IsAtEnd}
+use Rattle.tc_lines.specs.declared.reading.Front.{Front}
+use Rattle.tc_lines.specs.declared.reading.LineRead.{LineRead}
+use Rattle.tc_lines.specs.declared.reading.Part.{Part}
+
+-- no octet is a line feed
+abbrev pub IsOneLine : List ℕ → Type 0
+IsOneLine line = All (λ octet. octet ≢ 10) line
+
+-- the line feed of a line that one ended
+abbrev pub feed_of : Bool → List ℕ
+feed_of true = 10 ∷ []
+feed_of false = []
+
+-- a reader lost a line, and its line feed or, where there was none, all that it had; so many octets of it are kept at most
+pub record IsLineRead (limit : ℕ) (old new : Option (List ℕ)) (kept : List ℕ) (read : LineRead) : Type 0 where
+  pub line : List ℕ
+  pub one : IsOneLine line
+  pub lost : Consumes old new (line ++ feed_of read.ended)
+  pub end : read.ended ≡ false → OnSome old (IsAtEnd new)
+  pub kept_is : kept ≡ take limit line
+  pub too_long_is : read.too_long ≡ nat_lt limit (length line)
+
+-- the same of a part of a line, which follows what was kept before
+pub record IsPartRead (limit : ℕ) (old new : Option (List ℕ)) (before after : List ℕ) (part : Part) : Type 0 where
+  pub octets : List ℕ
+  pub one : IsOneLine octets
+  pub lost : Consumes old new (octets ++ feed_of part.ended)
+  pub more : part.goes_on ≡ true → part.ended ≡ false
+  pub end : part.goes_on ≡ false → part.ended ≡ false → OnSome old (IsAtEnd new)
+  pub after_is : after ≡ take limit (before ++ octets)
+  pub over_is : part.over ≡ nat_lt limit (length before + length octets)
+
+-- where nothing was read so far
+abbrev pub nothing_yet : Part
+nothing_yet = record { over = false; goes_on = true; ended = false }
+
+-- the front of octets, up to their first line feed
+pub record IsFront (octets : List ℕ) (front : Front) : Type 0 where
+  pub one : IsOneLine (take front.line octets)
+  pub all_is : take front.all octets ≡ take front.line octets ++ feed_of front.ended
+  pub line_within : front.line ≤ length octets
+  pub all_within : front.all ≤ length octets
+  pub whole : front.ended ≡ false → front.all ≡ length octets

@@ -1,0 +1,102 @@
+//! Lines in, answers out.
+
+ghost use Rattle.std.specs.Prelude.{◌≡◌, ℕ, List, IfErr, IfSome, OnOk};
+ghost use Rattle.tc_lines.specs.Answering.{AreAllWritten, IsCutShort, IsReadAnswered, Writes};
+
+use crate::reading::{LineRead, read_line};
+use std::alloc::Global;
+use std::io;
+use std::io::{BufRead, Write};
+use thiserror::Error;
+
+/// Why lines are no longer answered.
+#[derive(Clone, Copy, Debug, PartialEq, Eq, Error)]
+pub enum ServingFault {
+    /// The reader failed.
+    #[error("cannot read")]
+    Read,
+    /// The writer failed.
+    #[error("cannot write")]
+    Write,
+    /// Memory was wanting for a line.
+    #[error("no memory")]
+    NoMemory,
+}
+
+/// What answers lines.
+pub trait LineAnswerer {
+    // What a line does to it, and by what text it is answered.
+    ghost answers: { Self → List ℕ → Self → List ℕ → Type 0 };
+
+    /// Answers a line, which is given without its line feed.
+    fn answer_line<W: Write>(
+        &mut self,
+        alloc: Global,
+        octets: &[u8],
+        writer: &mut W,
+    ) -> io::Result<()>
+        ensures { OnOk result (Writes (W.contents writer.old) (W.contents writer.new) (answers self.old octets.now self.new)) };
+}
+
+/// Answers lines until there are no more, and flushes after each answer.
+///
+/// A line that has more octets than a line may have is answered `bad too long`, and isn't kept. Octets after the last line feed are
+/// a line. Where the octets of the reader are known, the answers of all its lines are written, or as many as it gave before it
+/// failed. After 2^64 - 1 lines it counts as failed.
+pub fn answer_lines<A: LineAnswerer, R: BufRead, W: Write>(
+    alloc: Global,
+    limit: usize,
+    answerer: &mut A,
+    reader: &mut R,
+    writer: &mut W,
+) -> Result<(), ServingFault>
+    ensures written { OnOk result (IfSome (R.remaining reader.old) (λ octets. AreAllWritten limit A.answers answerer.old octets answerer.new (W.contents writer.old) (W.contents writer.new))) }
+    ensures cut_short { IfErr result (λ fault. IfSome (R.remaining reader.old) (λ octets. IsCutShort limit A.answers answerer.old octets answerer.new (W.contents writer.old) (W.contents writer.new) fault)) }
+{
+    let Ok(mut line) = Vec::with_capacity(alloc, limit) else {
+        return Err(ServingFault::NoMemory);
+    };
+    for _line in 0..u64::MAX {
+        let Ok(read) = read_line(reader, limit, &mut line) else {
+            return Err(ServingFault::Read);
+        };
+        answer_and_flush(alloc, answerer, read, line.as_slice(), writer)?;
+        if !read.ended {
+            return Ok(());
+        }
+    }
+    Err(ServingFault::Read)
+}
+
+fn answer_and_flush<A: LineAnswerer, W: Write>(
+    alloc: Global,
+    answerer: &mut A,
+    read: LineRead,
+    kept: &[u8],
+    writer: &mut W,
+) -> Result<(), ServingFault>
+    ensures written { OnOk result (Writes (W.contents writer.old) (W.contents writer.new) (IsReadAnswered A.answers answerer.old read kept.now answerer.new)) }
+    ensures fault { IfErr result (λ fault. fault ≡ ServingFault.Write) }
+{
+    answer_read(alloc, answerer, read, kept, writer).map_err(|_| ServingFault::Write)?;
+    writer.flush().map_err(|_| ServingFault::Write)
+}
+
+fn answer_read<A: LineAnswerer, W: Write>(
+    alloc: Global,
+    answerer: &mut A,
+    read: LineRead,
+    kept: &[u8],
+    writer: &mut W,
+) -> io::Result<()>
+    ensures { OnOk result (Writes (W.contents writer.old) (W.contents writer.new) (IsReadAnswered A.answers answerer.old read kept.now answerer.new)) }
+{
+    if read.too_long {
+        return writeln!(writer, "bad too long");
+    }
+    if read.ended || !kept.is_empty() {
+        answerer.answer_line(alloc, kept, writer)
+    } else {
+        Ok(())
+    }
+}
