@@ -3,8 +3,9 @@
 //! With `plain`, `one` or `many` it makes a channel of that plan, tells the bound, and fills the channel. With `calls` it makes each
 //! kind of call once, and again, and prints a line after each, with `kept` likewise on a channel whose journal is kept. With
 //! `fixed_plain`, `fixed_one`, `fixed_many` and `fixed_calls` it does so with the channel in rooms. Nothing that it keeps beside the
-//! channel grows between two lines. With `fixed_hostile` it brings to that the frames of a sender who means harm. With `fixed_worst`
-//! it makes one call of it, once, behind what makes that cost most.
+//! channel grows between two lines. With `fixed_limited` it fills one in rooms within limits. With `fixed_hostile` it brings to that
+//! of `fixed_many` the frames of a sender who means harm. With `fixed_worst` it makes one call of it, once, behind what makes that
+//! cost most.
 #![tactic(auto)]
 
 mod calls;
@@ -59,12 +60,13 @@ fn obey<R: AllocGlobal + Print + Eprint>(rt: &R, words: &[String]) -> ExitCode {
         "fixed_plain" => fill::print_fixed(rt, &PLAIN),
         "fixed_one" => fill::print_fixed(rt, &ONE),
         "fixed_many" => fill::print_fixed(rt, &MANY),
+        "fixed_limited" => fill::print_limited(rt),
         "fixed_calls" => calls::print::<FixedChannel, R>(rt),
         "fixed_hostile" => hostile::print(rt),
         "fixed_worst" => worst::print(rt, call, queues),
         _ => {
             let _ = eprintln!(rt;
-                "usage: fill_channel [fixed_](plain | one | many | calls) | kept | fixed_hostile | fixed_worst CALL QUEUES"
+                "usage: fill_channel [fixed_](plain | one | many | calls) | kept | fixed_limited | fixed_hostile | fixed_worst CALL QUEUES"
             );
             return ExitCode::from(BAD_COMMAND_LINE);
         }

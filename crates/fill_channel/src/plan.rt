@@ -51,6 +51,17 @@ pub(crate) const MANY: Plan = Plan {
     segmented: true,
 };
 
+/// The channel that is made within limits.
+pub(crate) const LIMITED: Plan = Plan {
+    buffer: 8,
+    queues: 4,
+    packets: 8,
+    last_packets: 8,
+    maps: 0,
+    units: 0,
+    segmented: true,
+};
+
 /// The channel on which calls are counted.
 pub(crate) const CALLED: Plan = Plan {
     buffer: 4,
