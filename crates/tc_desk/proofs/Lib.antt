@@ -1,2 +1,4 @@
 pub mod Told
 pub mod Alone
+pub mod Rows
+pub mod Sent

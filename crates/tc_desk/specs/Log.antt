@@ -79,3 +79,9 @@ accounts_of operators = map (λ (o : AtLock). o.own) operators
 -- the first seat, once it was told what these have seen and made
 abbrev pub told_all : Sight → List Own → Sight
 told_all v accounts = record { live = v.live; locks = v.locks; own = v.own; told = v.told ++ accounts }
+
+-- a desk whose lock its keeper has: the keeper before, the desk as it is, and what the keeper was told of operators
+pub record AtHand : Type 0 where
+  pub keeper : AtLock
+  pub now : Moment
+  pub told : List Own

@@ -7,10 +7,14 @@
 #![tactic(auto)]
 
 mod closing;
+mod held;
 mod kept;
 mod laws;
 mod locked;
 mod operation;
+mod post;
+mod resident;
+mod together;
 
 pub use closing::{Obstacle, Unclosed};
 pub use kept::{DeskHead, KeptDesk};
@@ -18,3 +22,5 @@ pub use laws::{
     one_alone_is_answered_after_its_own_events, the_only_operator_made_the_whole_journal,
 };
 pub use locked::{DeskKeeper, DeskOperator, LockedDesk};
+pub use post::Post;
+pub use together::{Crew, LeftOpen, Refusal, close_together, take_out_together};

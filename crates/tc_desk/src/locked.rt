@@ -12,6 +12,7 @@ use crate::operation::{
     Framing, Makes, Occasion, Operation, Question, Release, Reporting, Taking, UnitTaking,
     WatchedFraming, Watching, WordMaking,
 };
+use crate::resident::ResidentBadge;
 use atomic_table::Badge;
 use logged_lock::{LockSeat, LoggedLock, View};
 use std::alloc::Global;
@@ -63,10 +64,11 @@ impl Model for DeskOperator {
     ghost invariant = { λ o. IsResting o.badge.views × (o.count ≡ count_of (view_in o.badge.views).own) };
 }
 
-/// Who makes operators for a lock, and takes the channel out of it. It has no octets.
+/// Who makes operators for a lock, and takes the channel out of it. It has no octets. Threads may share it: a `&` to it offers
+/// nothing.
 #[derive(Drop)]
 pub struct DeskKeeper {
-    badge: DeskBadge,
+    badge: ResidentBadge<View<DeskHead, Event>>,
 }
 
 impl Model for DeskKeeper {
@@ -75,9 +77,9 @@ impl Model for DeskKeeper {
 
     ghost Value = { AtLock };
 
-    ghost view = { λ k. at_lock k.badge.table_id k.badge.views };
+    ghost view = { λ k. at_lock k.badge.badge.table_id k.badge.badge.views };
 
-    ghost invariant = { λ k. IsResting k.badge.views × ((view_in k.badge.views).told ≡ []) × (k.badge.id ≡ 0) };
+    ghost invariant = { λ k. IsResting k.badge.badge.views × ((view_in k.badge.badge.views).told ≡ []) × (k.badge.badge.id ≡ 0) };
 }
 
 // The desk does what the operation asks for, by the seat that has the lock.
@@ -202,9 +204,9 @@ impl DeskKeeper {
         ensures seen { result.own.seen ≡ self.old.own.seen }
         ensures new { result.own.made ≡ [] }
     {
-        let keeper = mem::replace(&mut self.badge, Badge::blank());
-        let (keeper, badge) = issue_from(&desk.lock, keeper);
-        self.badge = keeper;
+        let keeper = mem::replace(&mut self.badge, ResidentBadge::new(Badge::blank()));
+        let (keeper, badge) = issue_from(&desk.lock, keeper.into_badge());
+        self.badge = ResidentBadge::new(keeper);
         DeskOperator { badge, count: 0 }
     }
 
@@ -215,7 +217,9 @@ impl DeskKeeper {
         requires told { (view_in badge.views).told ≡ [] }
         ensures { result ≡ at_lock badge.table_id badge.views }
     {
-        DeskKeeper { badge }
+        DeskKeeper {
+            badge: ResidentBadge::new(badge),
+        }
     }
 
     // The first seat.
@@ -226,7 +230,7 @@ impl DeskKeeper {
         ensures own { at_lock result.table_id result.views ≡ self }
     {
         let DeskKeeper { badge } = self;
-        badge
+        badge.into_badge()
     }
 }
 

@@ -1,0 +1,8 @@
+-- A `&` to it can't be read: all that such a `&` has is a part of what the badge owns, which may go to another thread.
+use denote.RattleType.{RattleType}
+use denote.Param.Send.{IsSync, part_keyless}
+use Rattle.tc_desk.specs.contracts.resident.ResidentBadge.{the_row}
+use Rattle.tc_desk.proofs.Sent.{resident_send}
+
+pub sync : (V : RattleType) → IsSync (the_row V)
+sync V = record { shared = λ d b o ν q. part_keyless (the_row V) (resident_send V) q d b o }

@@ -1,0 +1,32 @@
+use Rattle.std.proofs.Common.{◌<◌, ◌∙◌, [], ◌≡◌, length, sym, refl, rules}
+use Rattle.tc_desk.proofs.Rows.{are_at, all_told, last_told, told_step}
+use Rattle.tc_desk.specs.Log.{AtLock, AtHand}
+use Rattle.tc_desk.proofs.together.tell_row.Goals as goal
+
+some_desk : AtLock → AtHand
+some_desk o = record { keeper = o; now = o.own.seen; told = [] }
+
+pub loop-operator-init : goal.loop-operator-init
+loop-operator-init g c = (refl, are_at c.args.held.now c.args.operators.items c.requires)
+
+pub offset_bounds-held-len : goal.offset_bounds-held-len
+offset_bounds-held-len g c =
+    let at = last_told c.loop-operator.held c.loop-operator.operators.items c.pop.new.self.items c.in-Some.operator c.len.result (some_desk c.in-Some.operator) c.in-Some.ensures.items (search rules) c.loop-operator.invariant.1 in
+    let h : c.len.result < length c.loop-operator.held = at.inside in
+    search rules
+
+pub bounds-held-len : goal.bounds-held-len
+bounds-held-len g c = (last_told c.loop-operator.held c.loop-operator.operators.items c.pop.new.self.items c.in-Some.operator c.len.result (some_desk c.in-Some.operator) c.in-Some.ensures.items (search rules) c.loop-operator.invariant.1).inside
+
+pub tell-requires : goal.tell-requires
+tell-requires g c = (last_told c.loop-operator.held c.loop-operator.operators.items c.pop.new.self.items c.in-Some.operator c.len.result c.index-held-len.result c.in-Some.ensures.items (search rules) c.loop-operator.invariant.1).lock
+
+pub loop-operator-preserved : goal.loop-operator-preserved
+loop-operator-preserved g c =
+    told_step c.loop-operator.held c.args.held.now c.loop-operator.operators.items c.pop.new.self.items c.args.operators.items c.in-Some.operator c.len.result c.index-held-len.result c.tell.new.self
+    c.in-Some.ensures.items (search rules) c.tell.ensures c.loop-operator.invariant.1 c.loop-operator.invariant.0
+
+pub returns : goal.returns
+returns g c =
+    let none : c.loop-operator.operators.items ≡ [] = search rules in
+    sym (all_told c.loop-operator.held c.loop-operator.operators.items none) ∙ c.loop-operator.invariant.0

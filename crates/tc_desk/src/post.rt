@@ -1,0 +1,57 @@
+//! A desk that threads share, with the keeper of its lock.
+
+ghost use Rattle.std.specs.Prelude.{◌≡◌, [], ◌∷◌, IfOk, MatchResult};
+ghost use Rattle.tc_channel.specs.Settings.{IsAllowed, IsRefusal};
+ghost use Rattle.tc_desk.specs.Log.{AtLock};
+
+use crate::locked::{DeskKeeper, DeskOperator, LockedDesk};
+use std::alloc::Global;
+use std::marker::Model;
+use tc_channel::{Journal, Settings, SettingsFault};
+
+/// A desk behind its lock, with its keeper. Threads may share it: the keeper is reached by `&mut` or by value alone.
+#[derive(Drop)]
+pub struct Post<J: Journal> {
+    pub(crate) desk: LockedDesk<J>,
+    pub(crate) keeper: DeskKeeper,
+}
+
+impl<J: Journal> Model for Post<J> {
+    ghost use Rattle.std.specs.Prelude.{◌≡◌};
+    ghost use Rattle.tc_desk.specs.Log.{AtLock};
+
+    ghost Value = { AtLock };
+
+    ghost view = { λ p. p.keeper };
+
+    ghost invariant = { λ p. p.keeper.lock ≡ p.desk };
+}
+
+impl<J: Journal> Post<J> {
+    /// A new desk behind a lock that is free. It takes the memory of the desk, and of the lock.
+    pub fn new(alloc: Global, settings: Settings) -> Result<Post<J>, SettingsFault>
+        ensures settings { IfOk result (λ post. post.own.seen.head.settings ≡ settings) }
+        ensures journal { IfOk result (λ post. post.own.seen.entries ≡ []) }
+        ensures fault { MatchResult result (λ _. IsAllowed settings) (IsRefusal settings) }
+    {
+        let (desk, keeper) = LockedDesk::new(alloc, settings)?;
+        Ok(Post { desk, keeper })
+    }
+
+    /// The desk, for the calls of operators.
+    pub fn desk(&self) -> &LockedDesk<J>
+        ensures { result.now ≡ self.now.lock }
+    {
+        &self.desk
+    }
+
+    /// A new operator of the desk, which has made nothing, and has seen what the keeper has seen.
+    pub fn operator(&mut self) -> DeskOperator
+        ensures same { self.new ≡ self.old }
+        ensures lock { result.lock ≡ self.old.lock }
+        ensures seen { result.own.seen ≡ self.old.own.seen }
+        ensures new { result.own.made ≡ [] }
+    {
+        self.keeper.operator(&self.desk)
+    }
+}
