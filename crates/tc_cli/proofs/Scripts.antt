@@ -1,9 +1,10 @@
 -- A script, line by line.
-use Rattle.std.proofs.Common.{◌≡◌, ◌≤◌, ℕ, ◌+◌, List, [], ◌⊎◌, Result, Ok, Err, Option, None, Some, IfSome, inl, inr, length, refl, subst, sym, arith}
+use Rattle.std.proofs.Common.{◌≡◌, ◌<◌, ◌≤◌, ℕ, ◌+◌, List, [], ◌⊎◌, Result, Ok, Err, Option, None, Some, IfSome, inl, inr, length, refl, subst, sym, arith}
+use Rattle.std.proofs.lemmas.Bool.{cases_lt}
 use Rattle.std.specs.Prelude.{OnOk, IfErr}
 use Rattle.tc_setup.specs.Phase.{Phase, Setup}
 use Rattle.tc_cli.specs.Parallel.{Plan, AreParted, none_parted, one_parted}
-use Rattle.tc_cli.specs.Script.{Leads, starts, goes_on, AreGoodBefore, IsBadLine, IsFault, IsFirstBad, IsGood, IsReportFault, IsWorkFault}
+use Rattle.tc_cli.specs.Script.{Leads, starts, goes_on, AreFirstGood, AreGoodBefore, IsBadLine, IsFault, IsFirstBad, IsGood, IsReportFault, IsWorkFault}
 use Rattle.tc_cli.specs.Stage.{phase_of}
 use Rattle.tc_text.specs.Reading.{IsFirstLine, IsReadFault, limit}
 use Rattle.tc_text.specs.declared.fault.Reason.{Reason}
@@ -66,3 +67,25 @@ read-fault (Some script) Unbalanced why = absurd why
 pub work-fault : (script : List ℕ) (fault : ScriptFault) → IsGood script → length script ≤ limit → IsWorkFault fault → IsFault script fault
 work-fault script fault good within (inl unbalanced) = subst (IsFault script) (sym unbalanced) (within, good)
 work-fault script fault good within (inr memory) = subst (IsFault script) (sym memory.1) (inl (refl, inl good))
+
+-- of good first lines, the first of them are good
+first-good : (script : List ℕ) (count : ℕ) (phase : Phase) (rest : List ℕ) (less : ℕ) → Leads script count phase rest → less ≤ count → AreFirstGood script less
+first-good script count phase rest less starts le =
+    let none : 0 ≡ less = omega (arith, le) in
+    (Setup [], script, subst (λ n. Leads script n (Setup []) script) none starts)
+first-good script count phase rest less (goes_on {count = before} {phase = old} {rest = left} leads next done) le =
+    at (λ lt. first-good script before old left less leads (omega (arith, lt))) (cases_lt less (before + 1))
+  where
+    at : (less < before + 1 → AreFirstGood script less) → (less < before + 1) ⊎ (before + 1 ≤ less) → AreFirstGood script less
+    at fewer (inl lt) = fewer lt
+    at fewer (inr ge) =
+        let all : before + 1 ≡ less = omega (arith, ge, le) in
+        (phase, rest, subst (λ n. Leads script n phase rest) all (goes_on leads next done))
+
+-- the lines before the one at which memory ran out
+pub good-before : (script : List ℕ) (number count : ℕ) → IsFault script (Line number NoMemory) → count < number → IsGood script ⊎ AreFirstGood script count
+good-before script number count (inl (memory, inl good)) lt = inl good
+good-before script number count (inl (memory, inr (before, phase, rest, leads, le))) lt =
+    inr (first-good script before phase rest count leads (omega (arith, le, lt)))
+good-before script number count (inr (within, bad)) lt =
+    inr (first-good script bad.before bad.phase bad.rest count bad.leads (omega (arith, bad.number_is, lt)))

@@ -44,6 +44,10 @@ pub record IsFirstBad (script : List ℕ) (number : ℕ) (reason : Reason) : Typ
 abbrev pub IsGood : List ℕ → Type 0
 IsGood script = (count : ℕ) × (phase : Phase) × Leads script count phase []
 
+-- so many first lines of a script are good
+abbrev pub AreFirstGood : List ℕ → ℕ → Type 0
+AreFirstGood script count = (phase : Phase) × (rest : List ℕ) × Leads script count phase rest
+
 -- the lines before the one with this number are good, or all are
 abbrev pub AreGoodBefore : List ℕ → ℕ → Type 0
 AreGoodBefore script number = IsGood script ⊎ ((before : ℕ) × (phase : Phase) × (rest : List ℕ) × Leads script before phase rest × (number ≤ before + 1))

@@ -7,6 +7,7 @@
 
 mod answer;
 mod founding;
+mod laws;
 mod manned;
 mod parallel;
 mod parting;
@@ -17,6 +18,7 @@ mod stage;
 mod watchers;
 
 pub use answer::{Answer, Refusal};
+pub use laws::the_lines_before_memory_ran_out_are_good;
 pub use parallel::parallel_script;
 pub use report::write_report;
 pub use script::run_script;

@@ -66,7 +66,3 @@ live_text UnknownChannel = codes "refused channel\n"
 -- what a bad line is answered
 abbrev pub bad_text : Reason → List ℕ
 bad_text reason = codes "bad " ++ reason_text reason ++ codes "\n"
-
--- what a line is answered that is longer than a line may be
-abbrev pub too_long_text : List ℕ
-too_long_text = codes "bad too long\n"

@@ -1,6 +1,9 @@
--- What is written of a line and at the end, and why a live receiver ends without a report.
-use Rattle.std.specs.Prelude.{◌≡◌, ◌⊎◌, ℕ, List, Option, IsPermutation, map}
-use Rattle.std.specs.Io.KnownBytes.{Appends}
+-- What is written of lines and at the end, and why a live receiver ends without a report.
+use Rattle.std.specs.Prelude.{◌≡◌, ◌⊎◌, ◌++◌, ℕ, List, Option, IsPermutation, map}
+use Rattle.std.specs.Io.KnownBytes.{Appends, Keeps}
+use Rattle.tc_lines.specs.Answering as lines
+use Rattle.tc_lines.specs.declared.answering.ServingFault.{ServingFault as AnsweringFault}
+use Rattle.tc_lines.specs.declared.answering.ServingFault.TheVariants as answering
 use Rattle.tc_text.specs.declared.fault.Reason.{Reason}
 use Rattle.tc_text.specs.declared.fault.Reason.TheVariants as reasons
 use Rattle.tc_live.specs.declared.answer.LiveAnswer.{LiveAnswer}
@@ -10,29 +13,55 @@ use Rattle.tc_channel.specs.Journal.{History}
 use Rattle.tc_cli.specs.Report.{AreRising, report_text}
 use Rattle.tc_rack.specs.Linked.{Linked}
 use Rattle.tc_live.specs.declared.serving.ServingFault.{ServingFault}
-use Rattle.tc_live.specs.declared.serving.ServingFault.TheVariants.{Write, NoMemory, Unbalanced}
+use Rattle.tc_live.specs.declared.serving.ServingFault.TheVariants.{Read, Write, NoMemory, Unbalanced}
 
 -- why there is no final report, or not the whole of it
 abbrev pub IsClosingFault : ServingFault → Type 0
 IsClosingFault fault = (fault ≡ Write) ⊎ (fault ≡ NoMemory) ⊎ (fault ≡ Unbalanced)
 
--- a line was done, and the text of its answer was written
-abbrev pub IsAnswerWritten : Receiving → List ℕ → Receiving → Option (List ℕ) → Option (List ℕ) → Type 0
-IsAnswerWritten old octets new before after =
-    (answer : LiveAnswer) × IsLineAnswered old octets new answer × Appends before after (live_text answer)
+-- a line is done, and answered by the text of its answer
+abbrev pub IsAnswerSaid : Receiving → List ℕ → Receiving → List ℕ → Type 0
+IsAnswerSaid old octets new text = (answer : LiveAnswer) × IsLineAnswered old octets new answer × (text ≡ live_text answer)
 
--- a line was refused, and why was written
-abbrev pub IsReasonWritten : Receiving → List ℕ → Receiving → Option (List ℕ) → Option (List ℕ) → Type 0
-IsReasonWritten old octets new before after =
-    (reason : Reason) × ((reason ≡ reasons.NoMemory) ⊎ IsBadLiveLine old octets reason) × IsReceiverLeft reason old new
-    × Appends before after (bad_text reason)
+-- a line is refused, and answered by why
+abbrev pub IsReasonSaid : Receiving → List ℕ → Receiving → List ℕ → Type 0
+IsReasonSaid old octets new text =
+    (reason : Reason) × ((reason ≡ reasons.NoMemory) ⊎ IsBadLiveLine old octets reason) × IsReceiverLeft reason old new × (text ≡ bad_text reason)
 
--- what a line does to the receiver, and to what was written before
-abbrev pub IsLineWritten : Receiving → List ℕ → Receiving → Option (List ℕ) → Option (List ℕ) → Type 0
-IsLineWritten old octets new before after = IsAnswerWritten old octets new before after ⊎ IsReasonWritten old octets new before after
+-- what a line does to the receiver, and by what text it is answered
+abbrev pub IsLineSaid : Receiving → List ℕ → Receiving → List ℕ → Type 0
+IsLineSaid old octets new text = IsAnswerSaid old octets new text ⊎ IsReasonSaid old octets new text
 
 -- the final report was written: of the receiver's channels, each once, in rising order of their ids
 abbrev pub IsReportWritten : Receiving → Option (List ℕ) → Option (List ℕ) → Type 0
 IsReportWritten receiver before after =
     (channels : List History) × IsPermutation (map (λ (channel : Linked). channel.history) (rack_at receiver).channels) channels
     × AreRising channels × Appends before after (report_text channels)
+
+-- how many octets a line may have, without its line feed
+abbrev pub limit : ℕ
+limit = 8192
+
+-- the answers of all lines of these octets were written, in their order, each once, and then the final report of the channels that they left
+abbrev pub IsWritten : Receiving → List ℕ → Option (List ℕ) → Option (List ℕ) → Type 0
+IsWritten receiver octets before after =
+    (last : Receiving) × (answers : List ℕ) × (channels : List History) × lines.AreAnswered limit IsLineSaid receiver (lines.lines_of octets) last answers
+    × IsPermutation (map (λ (channel : Linked). channel.history) (rack_at last).channels) channels
+    × AreRising channels × Appends before after (answers ++ report_text channels)
+
+-- the answers of all lines were written, and no report
+abbrev pub IsUnreported : Receiving → List ℕ → Option (List ℕ) → Option (List ℕ) → Type 0
+IsUnreported receiver octets before after = (last : Receiving) × lines.AreAllWritten limit IsLineSaid receiver octets last before after
+
+-- what was written where it ended early: nothing of what failed to be written is known
+abbrev pub IsCutShort : Receiving → List ℕ → Option (List ℕ) → Option (List ℕ) → ServingFault → Type 0
+IsCutShort receiver octets before after Read = (last : Receiving) × lines.AreFirstWritten limit IsLineSaid receiver octets last before after
+IsCutShort receiver octets before after Write = Unit {0}
+IsCutShort receiver octets before after NoMemory = Keeps before after ⊎ IsUnreported receiver octets before after
+IsCutShort receiver octets before after Unbalanced = IsUnreported receiver octets before after
+
+-- the same fault, met at the lines
+abbrev pub fault_of : AnsweringFault → ServingFault
+fault_of answering.Read = Read
+fault_of answering.Write = Write
+fault_of answering.NoMemory = NoMemory

@@ -1,6 +1,7 @@
 //! A receiver that does lines.
 
 ghost use Rattle.std.specs.Prelude.{◌≡◌, ◌≢◌, ◌⊎◌, true, [], All, IsPermutation, map, IfOk, IfErr, OnOk, OnErr};
+ghost use Rattle.std.specs.Io.KnownBytes.{Keeps};
 ghost use Rattle.tc_cli.specs.Report.{AreRising};
 ghost use Rattle.tc_cli.specs.Stage.{phase_of};
 ghost use Rattle.tc_live.specs.Receiver.{new_receiver, begun, rack_at, IsInstructed, IsOperated, IsScriptDone, IsPerformed, IsLinked, IsReportDone, IsLineAnswered, IsBadLiveLine, IsBadScript, IsReceiverLeft};
@@ -179,10 +180,12 @@ impl Receiver {
         }
     }
 
-    /// Ends the reception, and writes the final report of the channels, with both link flags 0.
+    /// Ends the reception, and writes the final report of the channels, with both link flags 0. Where no
+    /// report can be made, nothing is written.
     pub fn close<W: Write>(self, alloc: Global, writer: &mut W) -> Result<(), ServingFault>
         ensures written { OnOk result (IsReportWritten self (W.contents writer.old) (W.contents writer.new)) }
         ensures fault { IfErr result IsClosingFault }
+        ensures kept { IfErr result (λ fault. (fault ≡ ServingFault.Write) ⊎ Keeps (W.contents writer.old) (W.contents writer.new)) }
     {
         let channels = self.into_channels(alloc)?;
         match write_report(&channels, writer) {

@@ -1,22 +1,22 @@
 //! Lines in, lines out.
 
-ghost use Rattle.std.specs.Io.KnownBytes.{Appends};
-ghost use Rattle.std.specs.Prelude.{◌≡◌, IfErr, OnOk};
-ghost use Rattle.tc_live.specs.Printed.{live_text, bad_text, too_long_text};
-ghost use Rattle.tc_live.specs.Serving.{IsLineWritten, IsReportWritten};
+ghost use Rattle.std.specs.Io.KnownBytes.{Appends, Keeps};
+ghost use Rattle.std.specs.Prelude.{◌≡◌, ◌⊎◌, IfErr, IfSome, OnOk};
+ghost use Rattle.tc_lines.specs.Answering.{Writes};
+ghost use Rattle.tc_live.specs.Printed.{live_text, bad_text};
+ghost use Rattle.tc_live.specs.Serving.{IsClosingFault, IsCutShort, IsLineSaid, IsReportWritten, IsWritten, fault_of};
 
 use crate::answer::LiveAnswer;
 use crate::receiver::Receiver;
 use std::alloc::Global;
-use std::io::{BufRead, Read, Write};
+use std::io;
+use std::io::{BufRead, Write};
+use tc_lines::LineAnswerer;
 use tc_text::Reason;
 use thiserror::Error;
 
 /// How many octets a line may have, without its line feed. A frame of 1,024 octets fits three times over.
 pub const MAX_LINE: usize = 8_192;
-
-// With its line feed.
-const MAX_PIECE: usize = MAX_LINE + 1;
 
 /// Why lines are no longer answered.
 #[derive(Clone, Copy, Debug, PartialEq, Eq, Error)]
@@ -35,56 +35,53 @@ pub enum ServingFault {
     Unbalanced,
 }
 
+impl ServingFault {
+    // Why the lines were answered no longer.
+    fn of(fault: tc_lines::ServingFault) -> ServingFault
+        ensures { result ≡ fault_of fault }
+    {
+        match fault {
+            tc_lines::ServingFault::Read => ServingFault::Read,
+            tc_lines::ServingFault::Write => ServingFault::Write,
+            tc_lines::ServingFault::NoMemory => ServingFault::NoMemory,
+        }
+    }
+}
+
+impl LineAnswerer for Receiver {
+    ghost use Rattle.tc_live.specs.Serving.{IsLineSaid};
+
+    ghost answers = { IsLineSaid };
+
+    fn answer_line<W: Write>(
+        &mut self,
+        alloc: Global,
+        octets: &[u8],
+        writer: &mut W,
+    ) -> io::Result<()> {
+        answer_line(alloc, self, octets, writer)
+    }
+}
+
 /// Answers lines until there are no more, and flushes after each answer; then writes the final report.
 ///
 /// A bad line is answered `bad` and why. A line that is longer than a line may be is answered `bad too long`, and isn't kept. Octets
-/// after the last line feed are a line.
+/// after the last line feed are a line. Where the octets of the reader are known, the answers of all its lines are written, or as
+/// many as it gave before it failed.
 pub fn answer_lines<R: BufRead, W: Write>(
     alloc: Global,
-    mut receiver: Receiver,
+    receiver: Receiver,
     reader: &mut R,
     writer: &mut W,
-) -> Result<(), ServingFault> {
-    let Ok(mut line) = Vec::with_capacity(alloc, MAX_PIECE) else {
-        return Err(ServingFault::NoMemory);
-    };
-    let mut over = false;
-    for _piece in 0..u64::MAX {
-        line.clear();
-        let count = read_piece(reader, &mut line)?;
-        let ended = line.last() == Some(&b'\n');
-        if count == MAX_PIECE && !ended {
-            over = true;
-            continue;
-        }
-        if over {
-            write_too_long(writer)?;
-            over = false;
-        } else if count > 0 {
-            let octets = line.strip_suffix(b"\n").unwrap_or(&line);
-            answer_line(alloc, &mut receiver, octets, writer)?;
-        }
-        writer.flush().map_err(|_| ServingFault::Write)?;
-        if !ended {
-            break;
-        }
-    }
-    close(alloc, receiver, writer)
-}
-
-// The octets up to a line feed, or as many as a line may have.
-fn read_piece<R: BufRead>(reader: &mut R, line: &mut Vec<u8>) -> Result<usize, ServingFault> {
-    let mut limited = Read::take(reader.by_ref(), MAX_PIECE as u64);
-    limited
-        .read_until(b'\n', line)
-        .map_err(|_| ServingFault::Read)
-}
-
-fn write_too_long<W: Write>(writer: &mut W) -> Result<(), ServingFault>
-    ensures written { OnOk result (Appends (W.contents writer.old) (W.contents writer.new) too_long_text) }
-    ensures fault { IfErr result (λ fault. fault ≡ ServingFault.Write) }
+) -> Result<(), ServingFault>
+    ensures written { OnOk result (IfSome (R.remaining reader.old) (λ octets. IsWritten receiver octets (W.contents writer.old) (W.contents writer.new))) }
+    ensures cut_short { IfErr result (λ fault. IfSome (R.remaining reader.old) (λ octets. IsCutShort receiver octets (W.contents writer.old) (W.contents writer.new) fault)) }
 {
-    writeln!(writer, "bad too long").map_err(|_| ServingFault::Write)
+    let mut receiver = receiver;
+    match tc_lines::answer_lines(alloc, MAX_LINE, &mut receiver, reader, writer) {
+        Ok(()) => close(alloc, receiver, writer),
+        Err(fault) => Err(ServingFault::of(fault)),
+    }
 }
 
 // Does a line, and writes just the text of its answer, or `bad` and why.
@@ -93,9 +90,8 @@ fn answer_line<W: Write>(
     receiver: &mut Receiver,
     octets: &[u8],
     writer: &mut W,
-) -> Result<(), ServingFault>
-    ensures written { OnOk result (IsLineWritten receiver.old octets.now receiver.new (W.contents writer.old) (W.contents writer.new)) }
-    ensures fault { IfErr result (λ fault. fault ≡ ServingFault.Write) }
+) -> io::Result<()>
+    ensures written { OnOk result (Writes (W.contents writer.old) (W.contents writer.new) (IsLineSaid receiver.old octets.now receiver.new)) }
 {
     match receiver.do_line(alloc, octets) {
         Ok(answer) => write_answer(&answer, writer),
@@ -103,23 +99,23 @@ fn answer_line<W: Write>(
     }
 }
 
-fn write_answer<W: Write>(answer: &LiveAnswer, writer: &mut W) -> Result<(), ServingFault>
-    ensures written { OnOk result (Appends (W.contents writer.old) (W.contents writer.new) (live_text answer.now)) }
-    ensures fault { IfErr result (λ fault. fault ≡ ServingFault.Write) }
+fn write_answer<W: Write>(answer: &LiveAnswer, writer: &mut W) -> io::Result<()>
+    ensures { OnOk result (Appends (W.contents writer.old) (W.contents writer.new) (live_text answer.now)) }
 {
-    write!(writer, "{answer}").map_err(|_| ServingFault::Write)
+    write!(writer, "{answer}")
 }
 
-fn write_bad<W: Write>(reason: Reason, writer: &mut W) -> Result<(), ServingFault>
-    ensures written { OnOk result (Appends (W.contents writer.old) (W.contents writer.new) (bad_text reason)) }
-    ensures fault { IfErr result (λ fault. fault ≡ ServingFault.Write) }
+fn write_bad<W: Write>(reason: Reason, writer: &mut W) -> io::Result<()>
+    ensures { OnOk result (Appends (W.contents writer.old) (W.contents writer.new) (bad_text reason)) }
 {
-    writeln!(writer, "bad {reason}").map_err(|_| ServingFault::Write)
+    writeln!(writer, "bad {reason}")
 }
 
 // The final report.
 fn close<W: Write>(alloc: Global, receiver: Receiver, writer: &mut W) -> Result<(), ServingFault>
-    ensures { OnOk result (IsReportWritten receiver (W.contents writer.old) (W.contents writer.new)) }
+    ensures written { OnOk result (IsReportWritten receiver (W.contents writer.old) (W.contents writer.new)) }
+    ensures fault { IfErr result IsClosingFault }
+    ensures kept { IfErr result (λ fault. (fault ≡ ServingFault.Write) ⊎ Keeps (W.contents writer.old) (W.contents writer.new)) }
 {
     receiver.close(alloc, writer)?;
     writer.flush().map_err(|_| ServingFault::Write)

@@ -1,0 +1,44 @@
+-- What was written at the end of the lines.
+use Rattle.std.proofs.Common.{◌≡◌, ◌⊎◌, ℕ, List, Option, None, Some, IfSome, Result, Ok, Err, inl, inr, sym, subst}
+use Rattle.std.proofs.KnownBytes.{Appends-trans, Appends-kept}
+use Rattle.std.specs.Prelude.{OnOk, IfErr}
+use Rattle.std.specs.Io.KnownBytes.{Keeps}
+use Rattle.tc_lines.specs.Answering as lines
+use Rattle.tc_lines.specs.declared.answering.ServingFault.{ServingFault as AnsweringFault}
+use Rattle.tc_lines.specs.declared.answering.ServingFault.TheVariants as answering
+use Rattle.tc_live.specs.Receiver.{Receiving}
+use Rattle.tc_live.specs.Serving.{IsClosingFault, IsCutShort, IsLineSaid, IsReportWritten, IsWritten, fault_of, limit}
+use Rattle.tc_live.specs.declared.serving.ServingFault.{ServingFault}
+use Rattle.tc_live.specs.declared.serving.ServingFault.TheVariants.{Write}
+
+-- the report follows the answers
+pub all-written : (closed : Result (Unit {0}) ServingFault) (receiver last : Receiving) (known a b c : Option (List ℕ))
+    → IfSome known (λ octets. lines.AreAllWritten limit IsLineSaid receiver octets last a b) → OnOk closed (IsReportWritten last b c)
+    → OnOk closed (IfSome known (λ octets. IsWritten receiver octets a c))
+all-written (Err fault) receiver last known a b c answered report = tt
+all-written (Ok done) receiver last None a b c answered report = tt
+all-written (Ok done) receiver last (Some octets) a b c (answers, is, before) (channels, all, rising, more) =
+    (last, answers, channels, is, all, rising, Appends-trans a b c answers _ before more)
+
+-- there is no report, or not the whole of it
+pub not-reported : (closed : Result (Unit {0}) ServingFault) (receiver last : Receiving) (known a b c : Option (List ℕ))
+    → IfSome known (λ octets. lines.AreAllWritten limit IsLineSaid receiver octets last a b)
+    → IfErr closed IsClosingFault → IfErr closed (λ fault. (fault ≡ Write) ⊎ Keeps b c)
+    → IfErr closed (λ fault. IfSome known (λ octets. IsCutShort receiver octets a c fault))
+not-reported (Ok done) receiver last known a b c answered why kept = tt
+not-reported (Err fault) receiver last None a b c answered why kept = tt
+not-reported (Err fault) receiver last (Some octets) a b c answered why (inl write) = subst (IsCutShort receiver octets a c) (sym write) tt
+not-reported (Err fault) receiver last (Some octets) a b c answered (inl write) (inr kept) = subst (IsCutShort receiver octets a c) (sym write) tt
+not-reported (Err fault) receiver last (Some octets) a b c (answers, is, before) (inr (inl memory)) (inr kept) =
+    subst (IsCutShort receiver octets a c) (sym memory) (inr (last, (answers, is, Appends-kept a b c answers before kept)))
+not-reported (Err fault) receiver last (Some octets) a b c (answers, is, before) (inr (inr unbalanced)) (inr kept) =
+    subst (IsCutShort receiver octets a c) (sym unbalanced) (last, (answers, is, Appends-kept a b c answers before kept))
+
+-- no more lines are answered
+pub lines-cut : (fault : AnsweringFault) (receiver last : Receiving) (known a b : Option (List ℕ))
+    → IfSome known (λ octets. lines.IsCutShort limit IsLineSaid receiver octets last a b fault)
+    → IfSome known (λ octets. IsCutShort receiver octets a b (fault_of fault))
+lines-cut fault receiver last None a b cut = tt
+lines-cut answering.Read receiver last (Some octets) a b cut = (last, cut)
+lines-cut answering.Write receiver last (Some octets) a b cut = tt
+lines-cut answering.NoMemory receiver last (Some octets) a b cut = inl cut.1
