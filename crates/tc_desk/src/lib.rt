@@ -22,5 +22,8 @@ pub use laws::{
     one_alone_is_answered_after_its_own_events, the_only_operator_made_the_whole_journal,
 };
 pub use locked::{DeskKeeper, DeskOperator, LockedDesk};
+pub use operation::{
+    Framing, Operation, Question, Release, Taking, UnitTaking, WatchedFraming, Watching,
+};
 pub use post::Post;
 pub use together::{Crew, LeftOpen, Refusal, close_together, take_out_together};

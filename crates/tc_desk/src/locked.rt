@@ -14,6 +14,7 @@ use crate::operation::{
 };
 use crate::resident::ResidentBadge;
 use atomic_table::Badge;
+use crossbeam_utils::CachePadded;
 use logged_lock::{LockSeat, LoggedLock, View};
 use std::alloc::Global;
 use std::marker::{Brand, Model};
@@ -50,18 +51,20 @@ impl<J: Journal> Model for LockedDesk<J> {
 #[derive(Drop)]
 pub struct DeskOperator {
     badge: DeskBadge,
-    count: u64,
+    // on cache lines of its own, since another thread raises the next operator's
+    count: CachePadded<u64>,
 }
 
 impl Model for DeskOperator {
     ghost use Rattle.std.specs.Prelude.{◌≡◌};
+    ghost use Rattle.crossbeam_utils.specs.Padded.{padded_value};
     ghost use Rattle.tc_desk.specs.Log.{AtLock, at_lock, view_in, count_of, IsResting};
 
     ghost Value = { AtLock };
 
     ghost view = { λ o. at_lock o.badge.table_id o.badge.views };
 
-    ghost invariant = { λ o. IsResting o.badge.views × (o.count ≡ count_of (view_in o.badge.views).own) };
+    ghost invariant = { λ o. IsResting o.badge.views × (padded_value o.count ≡ count_of (view_in o.badge.views).own) };
 }
 
 /// Who makes operators for a lock, and takes the channel out of it. It has no octets. Threads may share it: a `&` to it offers
@@ -207,7 +210,8 @@ impl DeskKeeper {
         let keeper = mem::replace(&mut self.badge, ResidentBadge::new(Badge::blank()));
         let (keeper, badge) = issue_from(&desk.lock, keeper.into_badge());
         self.badge = ResidentBadge::new(keeper);
-        DeskOperator { badge, count: 0 }
+        let count = CachePadded::new(0);
+        DeskOperator { badge, count }
     }
 
     // A keeper of this first seat, to which nothing was told.
@@ -239,7 +243,7 @@ impl DeskOperator {
     pub fn count(&self) -> u64
         ensures { result ≡ count_of self.now.own }
     {
-        self.count
+        *self.count
     }
 
     // The seat, once the operator has made all its events.
@@ -251,8 +255,8 @@ impl DeskOperator {
         badge
     }
 
-    // The operation on the desk, by this operator.
-    fn operate<J: Journal, O: Operation<J>, R: Wait>(
+    /// The operation on the desk, by this operator, under the lock. An answer counts.
+    pub fn operate<J: Journal, O: Operation<J>, R: Wait>(
         &mut self,
         desk: &LockedDesk<J>,
         rt: &R,
@@ -265,14 +269,14 @@ impl DeskOperator {
         let (badge, answer) = operate_by(&desk.lock, rt, badge, operation);
         self.badge = badge;
         if answer.is_ok() {
-            let count = &mut self.count;
+            let count: &mut u64 = &mut self.count;
             *count = count.saturating_add(1);
         }
         answer
     }
 
-    // The desk's answer to the question, by this operator.
-    fn ask<J: Journal, Q: Question<J>, R: Wait>(
+    /// The desk's answer to the question, by this operator, under the lock.
+    pub fn ask<J: Journal, Q: Question<J>, R: Wait>(
         &mut self,
         desk: &LockedDesk<J>,
         rt: &R,
@@ -307,6 +311,16 @@ impl<J: Journal> LockedDesk<J> {
             return Err(SettingsFault::NoMemory);
         };
         Ok((LockedDesk { lock }, DeskKeeper::of(first.into_badge())))
+    }
+
+    /// The desk's answer to the question at a moment under the lock, for who has no operator. Of the desk no more is known then
+    /// than that its settings are allowed and its journal is lawful.
+    pub fn ask_as_guest<Q: Question<J>, R: Wait>(&self, rt: &R, question: &Q) -> Q::Answer
+        ensures { (now : Moment) × IsMoment now × Q.answers question.now now result }
+    {
+        let badge = self.lock.guest().into_badge();
+        let (_, answer) = ask_by(&self.lock, rt, badge, question);
+        answer
     }
 
     /// The channel lets the oldest data field out of its buffer, under the lock.

@@ -70,7 +70,7 @@ pub trait Question<J: Journal> {
 
 /// A release of the oldest data field.
 #[derive(Drop)]
-pub(crate) struct Release;
+pub struct Release;
 
 impl<J: Journal> Operation<J> for Release {
     ghost use Rattle.tc_channel.specs.declared.event.Event.TheVariants.{Release};
@@ -93,8 +93,8 @@ impl<J: Journal> Operation<J> for Release {
 
 /// A frame that comes in.
 #[derive(Drop)]
-pub(crate) struct Framing<'a> {
-    pub(crate) frame: &'a Frame<'a>,
+pub struct Framing<'a> {
+    pub frame: &'a Frame<'a>,
 }
 
 impl<J: Journal> Operation<J> for Framing<'_> {
@@ -118,8 +118,8 @@ impl<J: Journal> Operation<J> for Framing<'_> {
 
 /// The same, and a watcher of the desk's board sees it.
 #[derive(Drop)]
-pub(crate) struct WatchedFraming<'a> {
-    pub(crate) frame: &'a Frame<'a>,
+pub struct WatchedFraming<'a> {
+    pub frame: &'a Frame<'a>,
 }
 
 impl<J: Journal> Operation<J> for WatchedFraming<'_> {
@@ -147,8 +147,8 @@ impl<J: Journal> Operation<J> for WatchedFraming<'_> {
 
 /// The take of the oldest packet of a queue.
 #[derive(Drop)]
-pub(crate) struct Taking {
-    pub(crate) apid: u16,
+pub struct Taking {
+    pub apid: u16,
 }
 
 impl<J: Journal> Operation<J> for Taking {
@@ -172,8 +172,8 @@ impl<J: Journal> Operation<J> for Taking {
 
 /// The take of the oldest unit of a chosen MAP.
 #[derive(Drop)]
-pub(crate) struct UnitTaking {
-    pub(crate) map: u8,
+pub struct UnitTaking {
+    pub map: u8,
 }
 
 impl<J: Journal> Operation<J> for UnitTaking {
@@ -197,7 +197,7 @@ impl<J: Journal> Operation<J> for UnitTaking {
 
 /// A watcher of the desk's board.
 #[derive(Drop)]
-pub(crate) struct Watching;
+pub struct Watching;
 
 impl<J: Journal> Question<J> for Watching {
     ghost use Rattle.std.specs.Prelude.{IfOk};
