@@ -5,8 +5,8 @@ mod desk;
 mod station;
 mod work;
 
-ghost use Rattle.std.specs.Prelude.{◌≡◌, ◌∷◌, [], All, replicate};
-ghost use Rattle.tc_station.specs.Tally.{fresh};
+ghost use Rattle.std.specs.Prelude.{◌≡◌, ◌∷◌, [], All, length};
+ghost use Rattle.tc_station.specs.Tally.{IsOurs};
 
 use std::alloc::Global;
 use std::process::Abort;
@@ -14,7 +14,7 @@ use tc_channel::{
     Channel, Delivery, Event, FrameReply, Items, MapSetting, Octets, QueueSetting, Settings,
 };
 use tc_link::{Act, Link};
-use tc_station::{CloseFault, Operator, OperatorsFault, Station, StationFault};
+use tc_station::{CloseFault, Operator, OperatorsFault, Refusal, Station, StationFault};
 
 // No unit was ended.
 const NOTHING: Delivery = Delivery {
@@ -181,7 +181,8 @@ fn new_station(rt: &(impl Abort + Print), alloc: Global) -> Station {
 
 // So many operators of the station. One growth may be refused.
 fn new_operators(rt: &(impl Abort + Print), station: &mut Station, n: u16) -> Vec<Operator>
-    ensures { result.items ≡ replicate n (fresh station.new.vcids) }
+    ensures ours { All (IsOurs station.new) result.items }
+    ensures number { length result.items ≡ n }
 {
     match station.operators(n) {
         Ok(operators) => operators,
@@ -195,7 +196,8 @@ fn new_operators(rt: &(impl Abort + Print), station: &mut Station, n: u16) -> Ve
 
 // A station with one operator. One growth may be refused.
 fn new_crew(rt: &(impl Abort + Print), alloc: Global) -> (Station, Vec<Operator>)
-    ensures { result.1.items ≡ fresh result.0.vcids ∷ [] }
+    ensures ours { All (IsOurs result.0) result.1.items }
+    ensures one { length result.1.items ≡ 1 }
 {
     let mut station = new_station(rt, alloc);
     let operators = new_operators(rt, &mut station, 1);
@@ -223,6 +225,33 @@ fn check_counts(rt: &impl Abort, operators: &[Operator], number: usize, count: u
     assert_eq!(rt; operators.len(), number);
     for operator in operators {
         assert!(rt; operator.count(1) == Some(count), "not {count} counted");
+    }
+}
+
+// Closes a station whose operators these are. Where memory is wanting, it gives all back, and is closed then.
+fn closed_together(
+    rt: &(impl Abort + Print),
+    station: Station,
+    operators: Vec<Operator>,
+) -> Vec<Channel>
+    requires { All (IsOurs station) operators.items }
+{
+    match station.close_together(operators) {
+        Ok(channels) => channels,
+        Err(left) => {
+            let _ = println!(rt; "refused: close_together");
+            assert!(rt; left.refusal == Refusal::NoMemory);
+            closed_at_last(rt, left.station, left.operators)
+        }
+    }
+}
+
+fn closed_at_last(rt: &impl Abort, station: Station, operators: Vec<Operator>) -> Vec<Channel>
+    requires { All (IsOurs station) operators.items }
+{
+    match station.close_together(operators) {
+        Ok(channels) => channels,
+        Err(_) => panic!(rt; "not closed"),
     }
 }
 

@@ -7,11 +7,12 @@ mod maps;
 mod refusals;
 mod status;
 mod steps;
+mod together;
 mod work;
 
-ghost use Rattle.std.specs.Prelude.{◌≡◌, ◌∷◌, [], All, replicate};
+ghost use Rattle.std.specs.Prelude.{◌≡◌, ◌∷◌, [], All, length};
 ghost use Rattle.tc_station.specs.StationSettings.{vcids_of};
-ghost use Rattle.tc_station.specs.Tally.{fresh};
+ghost use Rattle.tc_station.specs.Tally.{IsOurs};
 
 use crew::{Manned, two_channels};
 use std::alloc::Global;
@@ -177,7 +178,8 @@ fn new_station(rt: &impl Abort, alloc: Global, list: Vec<Settings>) -> Station
 
 // So many operators of a station that has issued none.
 fn new_operators(rt: &impl Abort, station: &mut Station, n: u16) -> Vec<Operator>
-    ensures fresh { result.items ≡ replicate n (fresh station.new.vcids) }
+    ensures ours { All (IsOurs station.new) result.items }
+    ensures number { length result.items ≡ n }
     ensures kept { station.new.vcids ≡ station.old.vcids }
 {
     station.operators(n).expect(rt, "operators")

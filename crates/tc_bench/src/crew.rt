@@ -1,6 +1,6 @@
 //! A station with one operator.
 
-ghost use Rattle.std.specs.Prelude.{◌≡◌};
+ghost use Rattle.tc_station.specs.Tally.{IsOurs};
 
 use crate::station::{APID, new_station};
 use anyhow::{Result, anyhow};
@@ -21,7 +21,7 @@ pub(crate) const NO_FLAG: Link = Link {
 pub(crate) struct Crew {
     station: Station,
     operator: Operator,
-    ghost ours: { operator.vcids ≡ station.vcids },
+    ghost ours: { IsOurs station operator },
 }
 
 impl Crew {

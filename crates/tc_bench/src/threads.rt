@@ -1,6 +1,7 @@
 //! How many frames a second several threads get answered.
 
 ghost use Rattle.std.specs.Prelude.{◌≡◌, ◌<◌, ◌≤◌, All, length};
+ghost use Rattle.tc_station.specs.Tally.{IsOurs};
 
 use crate::measure::{Cost, Start, median_of};
 use crate::round::senders;
@@ -106,7 +107,7 @@ fn timed<R: Threads + Wait + Clock + CpuClock + Sync>(
     operators: &mut [Operator],
 ) -> Result<Cost>
     requires as_many { length operators.old ≡ length senders.now }
-    requires ours { All (λ o. o.vcids ≡ station.now.vcids) operators.old }
+    requires ours { All (IsOurs station.now) operators.old }
 {
     let start = Start::now(rt)?;
     run_all(rt, station, load, senders, operators);
@@ -124,7 +125,7 @@ fn run_all<R: Threads + Wait + Sync>(
     operators: &mut [Operator],
 )
     requires as_many { length operators.old ≡ length senders.now }
-    requires ours { All (λ o. o.vcids ≡ station.now.vcids) operators.old }
+    requires ours { All (IsOurs station.now) operators.old }
 {
     if senders.is_empty() {
         return;
@@ -134,7 +135,7 @@ fn run_all<R: Threads + Wait + Sync>(
         operators,
         senders.len(),
         &|i: usize, operator: &mut Operator| -> ()
-            requires ours { operator.old.vcids ≡ station.now.vcids }
+            requires ours { IsOurs station.now operator.old }
             requires inside { i < length senders.now }
         { run(rt, station, load, &senders[i], operator) },
     );
@@ -142,7 +143,7 @@ fn run_all<R: Threads + Wait + Sync>(
 
 // Brings all frames, and stops where a call is refused.
 fn run<R: Wait>(rt: &R, station: &Station, load: Load, sender: &Sender, operator: &mut Operator)
-    requires { operator.old.vcids ≡ station.now.vcids }
+    requires { IsOurs station.now operator.old }
 {
     for number in 0..FRAMES {
         let octet = (number % 256) as u8;
@@ -164,8 +165,8 @@ fn sequenced<R: Wait>(
     octet: u8,
     operator: &mut Operator,
 ) -> bool
-    requires { operator.old.vcids ≡ station.now.vcids }
-    ensures { operator.new.vcids ≡ operator.old.vcids }
+    requires { IsOurs station.now operator.old }
+    ensures { IsOurs station.now operator.new }
 {
     let octets = sender.octets(Sent::Sequenced(octet));
     station.bring(rt, operator, octets).is_ok()
@@ -181,8 +182,8 @@ fn bypassing<R: Wait>(
     octet: u8,
     operator: &mut Operator,
 ) -> bool
-    requires { operator.old.vcids ≡ station.now.vcids }
-    ensures { operator.new.vcids ≡ operator.old.vcids }
+    requires { IsOurs station.now operator.old }
+    ensures { IsOurs station.now operator.new }
 {
     let octets = sender.octets(Sent::Bypassing(octet));
     station.bring(rt, operator, octets).is_ok()

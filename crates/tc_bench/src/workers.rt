@@ -1,6 +1,7 @@
 //! The load by workers, a list of jobs for each channel.
 
-ghost use Rattle.std.specs.Prelude.{◌≡◌, All, length, map};
+ghost use Rattle.std.specs.Prelude.{◌≡◌, All, length};
+ghost use Rattle.tc_station.specs.Tally.{IsOurs};
 
 use crate::station::{APID, new_station};
 use anyhow::Result;
@@ -41,8 +42,8 @@ fn do_lists<R: Threads + Wait + Sync>(
     lists: &[WorkList],
 ) -> Result<()>
     requires as_many { length operators.old.items ≡ length lists.now }
-    requires ours { All (λ o. o.vcids ≡ station.now.vcids) operators.old.items }
-    ensures { map (λ o. o.vcids) operators.new.items ≡ map (λ o. o.vcids) operators.old.items }
+    requires ours { All (IsOurs station.now) operators.old.items }
+    ensures { All (IsOurs station.now) operators.new.items }
 {
     Ok(station.work(rt, &FreeGate, operators, lists)?)
 }

@@ -12,20 +12,21 @@ use Rattle.tc_channel.specs.declared.settings.MapSetting.{MapSetting}
 use Rattle.tc_channel.specs.declared.settings.QueueSetting.{QueueSetting}
 use Rattle.tc_station.specs.Balance.{IsNumberTold}
 use Rattle.tc_station.specs.Roster.{Roster}
-use Rattle.tc_station.specs.Tally.{Tally}
+use Rattle.tc_station.specs.Tally.{AtStation, tally}
 use Rattle.tc_setup.specs.Phase.{Setup}
 use Rattle.tc_text.specs.Reading.{IsFirstLine}
 use Rattle.tc_text.specs.declared.fault.Reason.{Reason}
 use Rattle.tc_text.specs.declared.fault.Reason.TheVariants.{NoMemory}
 use Rattle.tc_text.specs.declared.fault.ScriptFault.{ScriptFault}
 use Rattle.tc_text.specs.declared.fault.ScriptFault.TheVariants.{Line, Read, TooLong, Write, Unbalanced}
-use Rattle.tc_cli.specs.Manned.{Manned}
+use Rattle.tc_cli.specs.Manned.{Manned, outline}
+use Rattle.tc_cli.specs.Parallel.{AreWorkedChannels}
 use Rattle.tc_cli.specs.Printed.{answer_line}
 use Rattle.tc_cli.specs.Report.{AreBalanced, AreRising, channel_text, final_line, IsLawfulHistory, map_line, queue_line, report_text}
 use Rattle.tc_cli.specs.Script.{Leads, starts, goes_on, IsBadLine, IsReportFault}
 use Rattle.tc_cli.specs.Session.{Session, manned_for}
 use Rattle.tc_cli.specs.Stage.{phase_of}
-use Rattle.tc_cli.specs.Written.{AreAnswers, at_first, one_more, IsLineAnswered, IsReportWritten, IsWritten, IsCutShort, answers_text, no_flags}
+use Rattle.tc_cli.specs.Written.{AreAnswers, at_first, one_more, IsLineAnswered, IsReportWritten, IsWritten, IsWrittenInParallel, IsCutShort, answers_text, no_flags}
 use Rattle.tc_cli.specs.declared.answer.Answer.{Answer}
 
 -- one element more is written
@@ -124,15 +125,27 @@ end-cut-short (Err fault) scid script lines a b (inr (inl unbalanced)) = subst (
 end-cut-short (Err fault) scid script lines a b (inr (inr memory)) = subst (IsCutShort scid script a b) (sym memory) (inl refl)
 
 -- the report of the station of a session
-pub reported : (scid : ℕ) (session : Session) (manned : Manned) (station : Roster) (operator : Tally) (operators : List Tally) (channels shown : List History) (a b : Option (List ℕ))
-    → shown ≡ channels → manned ≡ manned_for scid session → station ≡ manned.station → operator ≡ manned.operator → operators ≡ operator ∷ []
+pub reported : (scid : ℕ) (session : Session) (manned : Manned) (station : Roster) (operator : AtStation) (operators : List AtStation) (channels shown : List History) (a b : Option (List ℕ))
+    → shown ≡ channels → manned ≡ manned_for scid session → outline station ≡ manned.station → tally operator ≡ manned.operator → operators ≡ operator ∷ []
     → AreBalanced station.vcids operators channels → AreRising channels → All IsNumberTold channels → All IsLawfulHistory shown → Appends a b (report_text shown)
     → IsReportWritten scid session a b
 reported scid session manned station operator operators channels shown a b lent is place hand all balanced rising told lawful text =
-    let one = subst (λ (s : Roster). AreBalanced s.vcids operators channels) place balanced in
-    let two = subst (λ ts. AreBalanced manned.station.vcids ts channels) (all ∙ ap (λ t. t ∷ []) hand) one in
-    let three = subst (λ (m : Manned). AreBalanced m.station.vcids (m.operator ∷ []) channels) is two in
-    (report_text shown, inr (channels, three, rising, told, subst (All IsLawfulHistory) lent lawful, ap report_text lent), text)
+    let one = subst (λ vs. AreBalanced vs operators channels) (ap (λ (s : Roster). s.vcids) place) balanced in
+    let two = subst (λ os. AreBalanced manned.station.vcids os channels) all one in
+    let three = subst (λ (m : Manned). AreBalanced m.station.vcids (operator ∷ []) channels) is two in
+    let four = subst (λ (m : Manned). tally operator ≡ m.operator) is hand in
+    (report_text shown, inr (operator, channels, four, three, rising, told, subst (All IsLawfulHistory) lent lawful, ap report_text lent), text)
+
+-- what was read is the script, where the octets of the reader are known, and the report is that of its channels
+pub parallel-written : (flushed : Result (Unit {0}) ScriptFault) (known : Option (List ℕ)) (scid : ℕ) (script read : List ℕ) (channels shown : List History) (a b c : Option (List ℕ))
+    → script ≡ read → IfSome known (λ octets. read ≡ octets) → shown ≡ channels → AreWorkedChannels scid script channels → AreRising channels → All IsNumberTold channels
+    → All IsLawfulHistory shown → Appends a b (report_text shown) → Keeps b c → OnOk flushed (IfSome known (λ octets. IsWrittenInParallel scid octets a c))
+parallel-written (Err fault) known scid script read channels shown a b c whole is lent worked rising told lawful text kept = tt
+parallel-written (Ok done) None scid script read channels shown a b c whole is lent worked rising told lawful text kept = tt
+parallel-written (Ok done) (Some octets) scid script read channels shown a b c whole is lent worked rising told lawful text kept =
+    let of-script = subst (λ s. AreWorkedChannels scid s channels) (whole ∙ is) worked in
+    let of-channels = subst (λ cs. Appends a b (report_text cs)) lent text in
+    (channels, of-script, rising, told, subst (All IsLawfulHistory) lent lawful, Appends-kept a b c _ of-channels kept)
 
 -- no channel was set up
 pub not-reported : (scid : ℕ) (session : Session) (a : Option (List ℕ)) → phase_of session ≡ Setup [] → IsReportWritten scid session a a

@@ -1,10 +1,19 @@
 -- A station with the one operator that it has issued.
-use Rattle.std.specs.Prelude.{ℕ, List}
+use Rattle.std.specs.Prelude.{ℕ, List, []}
 use Rattle.tc_station.specs.Roster.{Roster}
 use Rattle.tc_station.specs.Tally.{Tally, counted, fresh}
 use Rattle.tc_cli.specs.declared.answer.Answer.{Answer}
 use Rattle.tc_cli.specs.declared.answer.Answer.TheVariants.{Frame, Release, Take, Unit as TakeUnit, Clcw, Refused}
 
+-- what a script's answers say of a station: nothing of its locks, nor of what is behind them
+abbrev pub outline : Roster → Roster
+outline station = record station { locks = []; heads = [] }
+
+-- the one with these channels that has issued so many operators
+abbrev pub outlined : ℕ → List ℕ → ℕ → Roster
+outlined scid vcids issued = record { scid = scid; vcids = vcids; issued = issued; locks = []; heads = [] }
+
+-- the outline of the station, and what its operator has counted
 pub record Manned : Type 0 where
   pub station : Roster
   pub operator : Tally
@@ -12,7 +21,7 @@ pub record Manned : Type 0 where
 -- a new one for the channels with these ids
 abbrev pub newly_manned : ℕ → List ℕ → Manned
 newly_manned scid vcids = record {
-  station = record { scid = scid; vcids = vcids; issued = 1 };
+  station = outlined scid vcids 1;
   operator = fresh vcids;
 }
 

@@ -5,15 +5,16 @@ use Rattle.tc_channel.specs.declared.settings.Settings.{Settings}
 use Rattle.tc_station.specs.Location.{IsLocated, IsLocateFault}
 use Rattle.tc_station.specs.Roster.{Roster}
 use Rattle.tc_station.specs.StationSettings.{vcids_of}
-use Rattle.tc_station.specs.Tally.{Tally, fresh}
+use Rattle.tc_station.specs.Tally.{AtStation, fresh, tallies}
 use Rattle.tc_station.specs.Work.{AreWorked}
 use Rattle.tc_station.specs.declared.faults.LocateFault.{LocateFault}
 use Rattle.tc_station.specs.declared.work.Job.{Job}
 use Rattle.tc_station.specs.declared.work.Order.TheVariants.{Bring}
 use Rattle.tc_station.specs.declared.work.WorkList.{WorkList}
+use Rattle.tc_cli.specs.Manned.{outline, outlined}
 use Rattle.tc_cli.specs.Report.{AreBalanced}
 
--- a station that has issued no operator, and a list for each of its channels
+-- the outline of a station that has issued no operator, and a list for each of its channels
 pub record Parted : Type 0 where
   pub station : Roster
   pub lists : List WorkList
@@ -23,7 +24,7 @@ empty_list s = record { vcid = s.vcid; jobs = [] }
 
 abbrev pub newly_parted : ℕ → List Settings → Parted
 newly_parted scid list = record {
-  station = record { scid = scid; vcids = vcids_of list; issued = 0 };
+  station = outlined scid (vcids_of list) 0;
   lists = map empty_list list;
 }
 
@@ -50,9 +51,11 @@ IsFrameGiven line octets old new =
     ((vcid : ℕ) × (frame : List ℕ) × IsLocated old.station octets vcid frame × IsGiven vcid (record { line = line; order = Bring octets }) old new)
     ⊎ ((fault : LocateFault) × IsLocateFault old.station octets fault × (new ≡ old))
 
--- all jobs were done by as many operators, with whose counts the channels are in balance
+-- all jobs were done by as many new operators of a station with this outline, with whose counts the channels are in balance
 abbrev pub IsWorkedOut : Parted → List History → Type 0
 IsWorkedOut parted channels =
-    (operators : List Tally)
-    × AreWorked (record parted.station { issued = length parted.lists }) parted.lists None (replicate (length parted.lists) (fresh parted.station.vcids)) operators
+    (station : Roster) × (befores operators : List AtStation)
+    × (outline station ≡ record parted.station { issued = length parted.lists })
+    × (tallies befores ≡ replicate (length parted.lists) (fresh parted.station.vcids))
+    × AreWorked station parted.lists None befores operators
     × AreBalanced parted.station.vcids operators channels

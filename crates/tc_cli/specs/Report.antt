@@ -10,7 +10,7 @@ use Rattle.tc_channel.specs.declared.settings.QueueSetting.{QueueSetting}
 use Rattle.tc_channel.specs.declared.settings.MapSetting.{MapSetting}
 use Rattle.tc_status.specs.Board.{status_word}
 use Rattle.tc_station.specs.Balance.{AreInBalance}
-use Rattle.tc_station.specs.Tally.{Tally}
+use Rattle.tc_station.specs.Tally.{AtStation}
 use Rattle.tc_text.specs.Printed.{word_text}
 
 abbrev pub vcid_of : History → ℕ
@@ -24,7 +24,7 @@ abbrev pub IsLawfulHistory : History → Type 0
 IsLawfulHistory channel = IsAllowed channel.settings × IsLawful channel.settings channel.journal
 
 -- the channels of these ids, all of them, each in balance with the operators' counts, in any order
-abbrev pub AreBalanced : List ℕ → List Tally → List History → Type 0
+abbrev pub AreBalanced : List ℕ → List AtStation → List History → Type 0
 AreBalanced vcids operators channels =
     (there : List History) × IsPermutation there channels × (map vcid_of there ≡ vcids) × AreInBalance vcids operators there
 

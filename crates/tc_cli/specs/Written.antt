@@ -6,6 +6,7 @@ use Rattle.tc_channel.specs.Journal.{History}
 use Rattle.tc_link.specs.declared.clcw.Link.{Link}
 use Rattle.tc_status.specs.Board.{no_flag}
 use Rattle.tc_station.specs.Balance.{IsNumberTold}
+use Rattle.tc_station.specs.Tally.{AtStation, tally}
 use Rattle.tc_text.specs.Reading.{IsFirstLine}
 use Rattle.tc_text.specs.Word.{words}
 use Rattle.tc_text.specs.Line.{line_of}
@@ -51,7 +52,8 @@ answers_text answers = flat_map answer_line answers
 -- (of a channel in its lock only the type is known, so each is in the state of some lawful history)
 abbrev pub IsReportOf : Manned → List ℕ → Type 0
 IsReportOf manned text =
-    (channels : List History) × AreBalanced manned.station.vcids (manned.operator ∷ []) channels × AreRising channels
+    (operator : AtStation) × (channels : List History) × (tally operator ≡ manned.operator)
+    × AreBalanced manned.station.vcids (operator ∷ []) channels × AreRising channels
     × All IsNumberTold channels × All IsLawfulHistory channels × (text ≡ report_text channels)
 
 -- the text is the report at the end of a script that came to this session: there is none where no channel was set up

@@ -1,8 +1,8 @@
 //! A station with its operator, and what the operations of a script are answered.
 
 ghost use Rattle.std.specs.Prelude.{◌≡◌, IfOk, IfErr, OnOk, OnErr};
-ghost use Rattle.tc_cli.specs.Manned.{newly_manned, after_answer};
-ghost use Rattle.tc_station.specs.Tally.{fresh};
+ghost use Rattle.tc_cli.specs.Manned.{newly_manned, after_answer, outline};
+ghost use Rattle.tc_station.specs.Tally.{IsOurs, fresh, tally};
 ghost use Rattle.tc_cli.specs.Operation.{IsAnswerTo, IsFrameAnswer, IsReleaseAnswer, IsTakeAnswer, IsUnitAnswer, IsClcwAnswer};
 
 use crate::answer::{Answer, Refusal};
@@ -43,13 +43,14 @@ pub(crate) struct MannedStation {
 
 impl Model for MannedStation {
     ghost use Rattle.std.specs.Prelude.{◌≡◌};
-    ghost use Rattle.tc_cli.specs.Manned.{Manned};
+    ghost use Rattle.tc_cli.specs.Manned.{Manned, outline};
+    ghost use Rattle.tc_station.specs.Tally.{IsOurs, tally};
 
     ghost Value = { Manned };
 
-    ghost view = { λ o. record { station = o.station; operator = o.operator } };
+    ghost view = { λ o. record { station = outline o.station; operator = tally o.operator } };
 
-    ghost invariant = { λ o. (o.operator.vcids ≡ o.station.vcids) × (o.station.issued ≡ 1) × (o.watchers ≡ o.station.vcids) };
+    ghost invariant = { λ o. IsOurs o.station o.operator × (o.station.issued ≡ 1) × (o.watchers ≡ o.station.vcids) };
 }
 
 impl MannedStation {
@@ -77,9 +78,9 @@ impl MannedStation {
 
     /// The station and its operator, apart.
     pub(crate) fn into_parts(self) -> (FlightStation, Operator)
-        ensures station { result.0 ≡ self.station }
-        ensures operator { result.1 ≡ self.operator }
-        ensures ours { result.1.vcids ≡ result.0.vcids }
+        ensures station { outline result.0 ≡ self.station }
+        ensures operator { tally result.1 ≡ self.operator }
+        ensures ours { IsOurs result.0 result.1 }
         ensures one { result.0.issued ≡ 1 }
     {
         let MannedStation {
@@ -193,7 +194,8 @@ impl MannedStation {
 // The first operator that a station issues.
 fn only_operator(station: &mut FlightStation) -> Result<Operator, Reason>
     requires { station.old.issued ≡ 0 }
-    ensures operator { IfOk result (λ operator. operator ≡ fresh station.old.vcids) }
+    ensures operator { IfOk result (λ operator. tally operator ≡ fresh station.old.vcids) }
+    ensures ours { IfOk result (IsOurs station.old) }
     ensures issued { OnOk result (station.new ≡ record station.old { issued = 1 }) }
     ensures reason { IfErr result (λ reason. reason ≡ Reason.NoMemory) }
 {

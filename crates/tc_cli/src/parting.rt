@@ -26,11 +26,12 @@ pub(crate) struct Parted {
 
 impl Model for Parted {
     ghost use Rattle.std.specs.Prelude.{◌≡◌, ◌≤◌, length};
+    ghost use Rattle.tc_cli.specs.Manned.{outline};
     ghost use Rattle.tc_cli.specs.Parting.{Parted};
 
     ghost Value = { Parted };
 
-    ghost view = { λ o. record { station = o.station; lists = o.lists.items } };
+    ghost view = { λ o. record { station = outline o.station; lists = o.lists.items } };
 
     ghost invariant = { λ o. (o.station.issued ≡ 0) × (length o.lists.items ≤ 64) };
 }

@@ -76,7 +76,7 @@ for-nobody station octets UnknownChannel v there fault =
     and-false (is_none (fault_of octets)) _ (and-false ((header_of octets).scid == station.scid) _ other)
 
 -- one job more
-raised-is : (c : ℕ) → raised c ≡ raised_by 1 c
+pub raised-is : (c : ℕ) → raised c ≡ raised_by 1 c
 raised-is c = grind (arith, nat_tests)
 
 pub raised-length : (o : Option ℕ) (cs : List ℕ) → length (raised_at o cs) ≡ length cs

@@ -1,4 +1,6 @@
 pub mod Distinct
 pub mod Counts
+pub mod Called
+pub mod Posts
 pub mod Works
 pub mod Ordered

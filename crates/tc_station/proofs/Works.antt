@@ -1,6 +1,6 @@
 -- Lists of jobs, and the counts of their operators.
 use Rattle.std.proofs.Common.{◌≡◌, ℕ, zero, suc, ◌+◌, ◌<◌, ◌≤◌, List, [], ◌∷◌, ◌++◌, length, map, take, drop, get_or, set, min, cond, Option, Some, None, refl, sym, ap, ◌∙◌, subst, inl, inr, arith}
-use Rattle.std.specs.Prelude.{◌==◌, position, slice_index, Contains, count_by}
+use Rattle.std.specs.Prelude.{◌==◌, All, position, slice_index, Contains, count_by}
 use Rattle.std.specs.List.{AllByRecursion}
 use Rattle.std.proofs.lemmas.Bool.{eqb-true}
 use Rattle.std.proofs.lemmas.Bool.Decides.{eqb_tells}
@@ -8,8 +8,8 @@ use Rattle.std.proofs.lemmas.List.{take_more, map-append, length-map}
 use Rattle.std.proofs.lemmas.List.Sums.{sum_by-cons}
 use Rattle.std.proofs.lemmas.List.Quantifiers.{position-Some}
 use Rattle.std.proofs.lemmas.Grind.{common_steps}
-use Rattle.tc_station.specs.Roster.{Roster}
-use Rattle.tc_station.specs.Tally.{Tally, counted, raised}
+use Rattle.tc_station.specs.Roster.{Roster, IsPlace}
+use Rattle.tc_station.specs.Tally.{Tally, AtStation, IsOurs, tally, counted, raised}
 use Rattle.tc_station.specs.Lowest.{lower}
 use Rattle.tc_station.specs.declared.work.Order.{Order}
 use Rattle.tc_station.specs.declared.work.Order.TheVariants.{Bring, Release, Take, TakeUnit}
@@ -55,7 +55,7 @@ shifts-append : (station : Roster) (xs ys : List Shift) → AllByRecursion (IsSh
 shifts-append station [] ys p q = q
 shifts-append station (x ∷ xs) ys p q = (p.0, shifts-append station xs ys p.1 q)
 
-pub all-worked : (station : Roster) (fl bl : List WorkList) (fa ba : List Tally) (fz bz : List Tally) (a b : Option ℕ) → AreWorked station fl a fa fz → AreWorked station bl b ba bz
+pub all-worked : (station : Roster) (fl bl : List WorkList) (fa ba : List AtStation) (fz bz : List AtStation) (a b : Option ℕ) → AreWorked station fl a fa fz → AreWorked station bl b ba bz
     → AreWorked station (fl ++ bl) (lower a b) (fa ++ ba) (fz ++ bz)
 all-worked station fl bl fa ba fz bz a b p q = (
   p.0 ++ q.0,
@@ -71,16 +71,16 @@ lower-none None = refl
 lower-none (Some x) = refl
 
 -- one list
-pub one-worked : (station : Roster) (lists : List WorkList) (ops : List Tally) (l : WorkList) (o z : Tally) (line : Option ℕ) → length lists ≡ 1 → length ops ≡ 1 → l ≡ get_or lists 0 l → o ≡ get_or ops 0 o
-    → IsTallyOf station o → IsWorked station l line o z → AreWorked station lists line ops (set ops 0 z)
-one-worked station (x ∷ []) (y ∷ []) l o z line e f p q fits worked =
-    (record { list = l; refused = line; before = o; after = z } ∷ [], ap (λ w. w ∷ []) p, ap (λ w. w ∷ []) q, refl, (record { ours = fits; worked = worked }, tt), lower-none line)
-one-worked station [] ops l o z line e f p q fits worked = absurd (omega arith)
-one-worked station (x ∷ (w ∷ ws)) ops l o z line e f p q fits worked = absurd (omega arith)
-one-worked station (x ∷ []) [] l o z line e f p q fits worked = absurd (omega arith)
-one-worked station (x ∷ []) (y ∷ (w ∷ ws)) l o z line e f p q fits worked = absurd (omega arith)
+pub one-worked : (station : Roster) (lists : List WorkList) (ops : List AtStation) (l : WorkList) (o z : AtStation) (line : Option ℕ) → length lists ≡ 1 → length ops ≡ 1 → l ≡ get_or lists 0 l → o ≡ get_or ops 0 o
+    → IsTallyOf station (tally o) → IsOurs station z → IsWorked station l line (tally o) (tally z) → AreWorked station lists line ops (set ops 0 z)
+one-worked station (x ∷ []) (y ∷ []) l o z line e f p q fits ours worked =
+    (record { list = l; refused = line; before = o; after = z } ∷ [], ap (λ w. w ∷ []) p, ap (λ w. w ∷ []) q, refl, (record { ours = fits; kept = ours; worked = worked }, tt), lower-none line)
+one-worked station [] ops l o z line e f p q fits ours worked = absurd (omega arith)
+one-worked station (x ∷ (w ∷ ws)) ops l o z line e f p q fits ours worked = absurd (omega arith)
+one-worked station (x ∷ []) [] l o z line e f p q fits ours worked = absurd (omega arith)
+one-worked station (x ∷ []) (y ∷ (w ∷ ws)) l o z line e f p q fits ours worked = absurd (omega arith)
 
-pub moved-worked : (station : Roster) (fl gl : List WorkList) (a b : Option ℕ) (fo go : List Tally) (z : List Tally) → AreWorked station fl a fo z → fl ≡ gl → a ≡ b → fo ≡ go → AreWorked station gl b go z
+pub moved-worked : (station : Roster) (fl gl : List WorkList) (a b : Option ℕ) (fo go : List AtStation) (z : List AtStation) → AreWorked station fl a fo z → fl ≡ gl → a ≡ b → fo ≡ go → AreWorked station gl b go z
 moved-worked station fl gl a b fo go z w p q r = (w.0, w.1 ∙ p, w.2 ∙ r, w.3, w.4, w.5 ∙ q)
 
 -- what one job does to the count of a channel
@@ -97,9 +97,6 @@ tally-kept station vcid (Bring octets) a b (inr d) f = subst (IsTallyOf station)
 tally-kept station vcid Release a b d f = tried-kept station vcid a b d f
 tally-kept station vcid (Take apid) a b d f = tried-kept station vcid a b d f
 tally-kept station vcid (TakeUnit map_id) a b d f = tried-kept station vcid a b d f
-
-abbrev IsPlace : Roster → ℕ → ℕ → Type 0
-IsPlace station v place = position (λ w. w == v) station.vcids ≡ Some place
 
 counted-here : (station : Roster) (u v place : ℕ) (a : Tally) → IsTallyOf station a → IsPlace station v place → u ≡ v → slice_index (counted u a).counts place ≡ raised (slice_index a.counts place)
 counted-here station u v place a f at same =
@@ -209,47 +206,56 @@ none-first None b e = (refl, e)
 none-first (Some x) None e = absurd cc
 none-first (Some x) (Some y) e = absurd cc
 
-shifts-keep : (station : Roster) (shifts : List Shift) → AllByRecursion (IsShift station) shifts → map (λ (t : Tally). t.vcids) (map (λ (s : Shift). s.after) shifts) ≡ map (λ (t : Tally). t.vcids) (map (λ (s : Shift). s.before) shifts)
+shifts-keep : (station : Roster) (shifts : List Shift) → AllByRecursion (IsShift station) shifts → map (λ (t : AtStation). t.vcids) (map (λ (s : Shift). s.after) shifts) ≡ map (λ (t : AtStation). t.vcids) (map (λ (s : Shift). s.before) shifts)
 shifts-keep station [] all = refl
 shifts-keep station (s ∷ ss) all =
-    let here = list-keeps station s.list s.refused s.before s.after all.0.worked in
+    let here = list-keeps station s.list s.refused (tally s.before) (tally s.after) all.0.worked in
     let rest = shifts-keep station ss all.1 in
     cc
 
-shifts-rise : (station : Roster) (shifts : List Shift) → AllByRecursion (IsShift station) shifts → (k : ℕ) (o : Tally) → k < length shifts
-    → NoCountFalls (get_or (map (λ (s : Shift). s.before) shifts) k o) (get_or (map (λ (s : Shift). s.after) shifts) k o)
+shifts-rise : (station : Roster) (shifts : List Shift) → AllByRecursion (IsShift station) shifts → (k : ℕ) (o : AtStation) → k < length shifts
+    → NoCountFalls (tally (get_or (map (λ (s : Shift). s.before) shifts) k o)) (tally (get_or (map (λ (s : Shift). s.after) shifts) k o))
 shifts-rise station [] all k o lt = absurd (omega arith)
-shifts-rise station (s ∷ ss) all zero o lt = list-rises station s.list s.refused s.before s.after all.0.worked
+shifts-rise station (s ∷ ss) all zero o lt = list-rises station s.list s.refused (tally s.before) (tally s.after) all.0.worked
 shifts-rise station (s ∷ ss) all (suc k) o lt = shifts-rise station ss all.1 k o (omega arith)
 
-shifts-raise : (station : Roster) (shifts : List Shift) → AllByRecursion (IsShift station) shifts → lowest shifts ≡ None → (k : ℕ) (l : WorkList) (o : Tally) → k < length shifts
-    → IsRaised station (get_or (map (λ (s : Shift). s.list) shifts) k l) (get_or (map (λ (s : Shift). s.before) shifts) k o) (get_or (map (λ (s : Shift). s.after) shifts) k o)
+shifts-raise : (station : Roster) (shifts : List Shift) → AllByRecursion (IsShift station) shifts → lowest shifts ≡ None → (k : ℕ) (l : WorkList) (o : AtStation) → k < length shifts
+    → IsRaised station (get_or (map (λ (s : Shift). s.list) shifts) k l) (tally (get_or (map (λ (s : Shift). s.before) shifts) k o)) (tally (get_or (map (λ (s : Shift). s.after) shifts) k o))
 shifts-raise station [] all none k l o lt = absurd (omega arith)
-shifts-raise station (s ∷ ss) all none zero l o lt = list-raises station s.list s.refused s.before s.after (none-first s.refused (lowest ss) none).0 all.0.ours all.0.worked
+shifts-raise station (s ∷ ss) all none zero l o lt = list-raises station s.list s.refused (tally s.before) (tally s.after) (none-first s.refused (lowest ss) none).0 all.0.ours all.0.worked
 shifts-raise station (s ∷ ss) all none (suc k) l o lt = shifts-raise station ss all.1 (none-first s.refused (lowest ss) none).1 k l o (omega arith)
 
-pub work-keeps : (station : Roster) (lists : List WorkList) (line : Option ℕ) (os ps : List Tally) → AreWorked station lists line os ps → map (λ (t : Tally). t.vcids) ps ≡ map (λ (t : Tally). t.vcids) os
-work-keeps station lists line os ps w = ap (map (λ (t : Tally). t.vcids)) (sym w.3) ∙ (shifts-keep station w.0 w.4 ∙ ap (map (λ (t : Tally). t.vcids)) w.2)
+pub work-keeps : (station : Roster) (lists : List WorkList) (line : Option ℕ) (os ps : List AtStation) → AreWorked station lists line os ps → map (λ (t : AtStation). t.vcids) ps ≡ map (λ (t : AtStation). t.vcids) os
+work-keeps station lists line os ps w = ap (map (λ (t : AtStation). t.vcids)) (sym w.3) ∙ (shifts-keep station w.0 w.4 ∙ ap (map (λ (t : AtStation). t.vcids)) w.2)
 
-pub work-rises : (station : Roster) (lists : List WorkList) (line : Option ℕ) (os ps : List Tally) → AreWorked station lists line os ps → (k : ℕ) (o : Tally) → k < length lists → NoCountFalls (get_or os k o) (get_or ps k o)
+pub work-rises : (station : Roster) (lists : List WorkList) (line : Option ℕ) (os ps : List AtStation) → AreWorked station lists line os ps → (k : ℕ) (o : AtStation) → k < length lists → NoCountFalls (tally (get_or os k o)) (tally (get_or ps k o))
 work-rises station lists line os ps w k o lt =
     let inside : k < length w.0 = omega (arith, ap (length {A = WorkList}) w.1, length-map w.0 (λ (s : Shift). s.list)) in
-    subst (λ (x : List Tally). NoCountFalls (get_or x k o) (get_or ps k o)) w.2
-    (subst (λ (x : List Tally). NoCountFalls (get_or (map (λ (s : Shift). s.before) w.0) k o) (get_or x k o)) w.3 (shifts-rise station w.0 w.4 k o inside))
+    subst (λ (x : List AtStation). NoCountFalls (tally (get_or x k o)) (tally (get_or ps k o))) w.2
+    (subst (λ (x : List AtStation). NoCountFalls (tally (get_or (map (λ (s : Shift). s.before) w.0) k o)) (tally (get_or x k o))) w.3 (shifts-rise station w.0 w.4 k o inside))
 
-pub work-raises : (station : Roster) (lists : List WorkList) (line : Option ℕ) (os ps : List Tally) → line ≡ None → AreWorked station lists line os ps → (k : ℕ) (l : WorkList) (o : Tally) → k < length lists
-    → IsRaised station (get_or lists k l) (get_or os k o) (get_or ps k o)
+pub work-raises : (station : Roster) (lists : List WorkList) (line : Option ℕ) (os ps : List AtStation) → line ≡ None → AreWorked station lists line os ps → (k : ℕ) (l : WorkList) (o : AtStation) → k < length lists
+    → IsRaised station (get_or lists k l) (tally (get_or os k o)) (tally (get_or ps k o))
 work-raises station lists line os ps none w k l o lt =
     let inside : k < length w.0 = omega (arith, ap (length {A = WorkList}) w.1, length-map w.0 (λ (s : Shift). s.list)) in
-    subst (λ (x : List WorkList). IsRaised station (get_or x k l) (get_or os k o) (get_or ps k o)) w.1
-    (subst (λ (x : List Tally). IsRaised station (get_or (map (λ (s : Shift). s.list) w.0) k l) (get_or x k o) (get_or ps k o)) w.2
-    (subst (λ (x : List Tally). IsRaised station (get_or (map (λ (s : Shift). s.list) w.0) k l) (get_or (map (λ (s : Shift). s.before) w.0) k o) (get_or x k o)) w.3
+    subst (λ (x : List WorkList). IsRaised station (get_or x k l) (tally (get_or os k o)) (tally (get_or ps k o))) w.1
+    (subst (λ (x : List AtStation). IsRaised station (get_or (map (λ (s : Shift). s.list) w.0) k l) (tally (get_or x k o)) (tally (get_or ps k o))) w.2
+    (subst (λ (x : List AtStation). IsRaised station (get_or (map (λ (s : Shift). s.list) w.0) k l) (tally (get_or (map (λ (s : Shift). s.before) w.0) k o)) (tally (get_or x k o))) w.3
     (shifts-raise station w.0 w.4 (w.5 ∙ none) k l o inside)))
 
-pub work-length : (station : Roster) (lists : List WorkList) (line : Option ℕ) (os ps : List Tally) → AreWorked station lists line os ps → length ps ≡ length os
+-- all operators are still the station's
+shifts-ours : (station : Roster) (shifts : List Shift) → AllByRecursion (IsShift station) shifts → All (IsOurs station) (map (λ (s : Shift). s.after) shifts)
+shifts-ours station [] all k o lt = absurd (omega arith)
+shifts-ours station (s ∷ ss) all zero o lt = all.0.kept
+shifts-ours station (s ∷ ss) all (suc k) o lt = shifts-ours station ss all.1 k o (omega arith)
+
+pub work-ours : (station : Roster) (lists : List WorkList) (line : Option ℕ) (os ps : List AtStation) → AreWorked station lists line os ps → All (IsOurs station) ps
+work-ours station lists line os ps w = subst (All (IsOurs station)) w.3 (shifts-ours station w.0 w.4)
+
+pub work-length : (station : Roster) (lists : List WorkList) (line : Option ℕ) (os ps : List AtStation) → AreWorked station lists line os ps → length ps ≡ length os
 work-length station lists line os ps w =
-    omega (arith, ap (length {A = Tally}) w.2, ap (length {A = Tally}) w.3, length-map w.0 (λ (s : Shift). s.before), length-map w.0 (λ (s : Shift). s.after))
+    omega (arith, ap (length {A = AtStation}) w.2, ap (length {A = AtStation}) w.3, length-map w.0 (λ (s : Shift). s.before), length-map w.0 (λ (s : Shift). s.after))
 
 -- a list that was written through a slice over all of it
-pub written : (n : ℕ) (new old : List Tally) → length new ≡ length old → n ≡ length old → take n (new ++ drop (length new) old) ≡ new
+pub written : (n : ℕ) (new old : List AtStation) → length new ≡ length old → n ≡ length old → take n (new ++ drop (length new) old) ≡ new
 written n new old e f = grind (arith, common_steps)

@@ -8,7 +8,7 @@ use Rattle.tc_channel.specs.declared.reply.TakeFault.TheVariants as take
 use Rattle.tc_channel.specs.declared.reply.TakeUnitFault.{TakeUnitFault}
 use Rattle.tc_channel.specs.declared.reply.TakeUnitFault.TheVariants as take_unit
 use Rattle.tc_station.specs.Roster.{Roster}
-use Rattle.tc_station.specs.Tally.{Tally}
+use Rattle.tc_station.specs.Tally.{AtStation}
 use Rattle.tc_station.specs.Balance.{AreInBalance, AreInToldBalance}
 use Rattle.tc_station.specs.Moments.{AtSomeMomentOf}
 use Rattle.tc_station.specs.declared.faults.ReleaseRefused.{ReleaseRefused}
@@ -61,14 +61,14 @@ IsWatcherFault station vcid watcher_faults.UnknownChannel = ¬ Contains station.
 IsWatcherFault station vcid watcher_faults.NoMemory = Contains station.vcids vcid
 
 -- the first of these that applies; the channels are handed back only where the counts don't tell their journals
-abbrev pub IsCloseFault : Roster → List Tally → CloseFault → Type 0
+abbrev pub IsCloseFault : Roster → List AtStation → CloseFault → Type 0
 IsCloseFault station operators (Missing s os) = (length operators < station.issued) × (s ≡ station) × (os.items ≡ operators)
 IsCloseFault station operators (NoMemory s os) = (station.issued ≤ length operators) × (s ≡ station) × (os.items ≡ operators)
 IsCloseFault station operators (Unbalanced channels os) =
     (station.issued ≤ length operators) × (os.items ≡ operators) × (length channels.items ≡ length station.vcids) × ¬ AreInBalance station.vcids operators channels.items
 
 -- the same of a station in flight, whose channels tell the numbers of their events
-abbrev pub IsFlightCloseFault : Roster → List Tally → FlightCloseFault → Type 0
+abbrev pub IsFlightCloseFault : Roster → List AtStation → FlightCloseFault → Type 0
 IsFlightCloseFault station operators (flight.Missing s os) = (length operators < station.issued) × (s ≡ station) × (os.items ≡ operators)
 IsFlightCloseFault station operators (flight.NoMemory s os) = (station.issued ≤ length operators) × (s ≡ station) × (os.items ≡ operators)
 IsFlightCloseFault station operators (flight.Unbalanced channels os) =

@@ -6,5 +6,7 @@ pub mod Moments
 pub mod Holding
 pub mod Balance
 pub mod Faults
+pub mod Call
+pub mod Together
 pub mod Lowest
 pub mod Work

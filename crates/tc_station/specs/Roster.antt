@@ -1,7 +1,26 @@
--- What a contract sees of a station: its spacecraft id, the ids of its virtual channels in order, and how many operators it has issued.
-use Rattle.std.specs.Prelude.{ℕ, List}
+-- What a contract sees of a station: its spacecraft id, the ids of its virtual channels in order, and how many operators it has
+-- issued; and of the desk of each channel its lock, and what never changes of it.
+use Rattle.std.specs.Prelude.{◌≡◌, ◌==◌, ℕ, List, map, position, Some}
+use Rattle.tc_channel.specs.declared.settings.Settings.{Settings}
+use Rattle.tc_desk.specs.{TableId}
+use Rattle.tc_desk.specs.Log.{Identity, AtLock}
+use Rattle.tc_desk.specs.Together.{locks_of, heads_of}
 
 pub record Roster : Type 0 where
   pub scid : ℕ
   pub vcids : List ℕ
   pub issued : ℕ
+  pub locks : List TableId
+  pub heads : List Identity
+
+-- the settings of its channels
+abbrev pub settings_in : Roster → List Settings
+settings_in station = map (λ (h : Identity). h.settings) station.heads
+
+-- the channel with this id has this place
+abbrev pub IsPlace : Roster → ℕ → ℕ → Type 0
+IsPlace station vcid place = position (λ v. v == vcid) station.vcids ≡ Some place
+
+-- what the keepers of its desks have seen
+abbrev pub ArePostsOf : Roster → List AtLock → Type 0
+ArePostsOf station posts = (locks_of posts ≡ station.locks) × (heads_of posts ≡ station.heads)

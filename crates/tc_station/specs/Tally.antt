@@ -1,9 +1,47 @@
--- What a contract sees of an operator: the channels of its station, and a count for each.
-use Rattle.std.specs.Prelude.{ℕ, ◌+◌, List, Option, Some, None, if◌then◌else◌, ◌==◌, nat_lt, slice_index, slice_set, position, length, replicate, option_map}
+-- What a contract sees of an operator: the channels of its station, a count for each, and what it has seen and made at their desks.
+use Rattle.std.specs.Prelude.{◌≡◌, ℕ, ◌+◌, List, [], map, Option, Some, None, if◌then◌else◌, ◌==◌, nat_lt, slice_index, slice_set, position, length, replicate, option_map, All}
+use Rattle.tc_desk.specs.Log.{AtLock, count_of}
+use Rattle.tc_desk.specs.Together.{locks_of}
+use Rattle.tc_station.specs.Roster.{Roster}
 
 pub record Tally : Type 0 where
   pub vcids : List ℕ
   pub counts : List ℕ
+
+-- an operator: its channels with their counts, and its operators at their desks, in the same order
+pub record AtStation : Type 0 where
+  pub vcids : List ℕ
+  pub counts : List ℕ
+  pub desks : List AtLock
+
+abbrev pub tally : AtStation → Tally
+tally o = record { vcids = o.vcids; counts = o.counts }
+
+abbrev pub tallies : List AtStation → List Tally
+tallies operators = map tally operators
+
+-- how many events were made at each of these desks; 2^64 - 1 is for as many or more
+abbrev pub counts_of : List AtLock → List ℕ
+counts_of desks = map (λ (d : AtLock). count_of d.own) desks
+
+-- who works at these desks, by what was made there
+abbrev pub at_station : List ℕ → List AtLock → AtStation
+at_station vcids desks = record { vcids = vcids; counts = counts_of desks; desks = desks }
+
+-- who has made nothing at a desk, and has seen what its keeper has
+abbrev pub arrival : AtLock → AtLock
+arrival post = record { lock = post.lock; own = record { seen = post.own.seen; made = [] } }
+
+-- the same at each of these desks
+abbrev pub newcomer : List ℕ → List AtLock → AtStation
+newcomer vcids posts = at_station vcids (map arrival posts)
+
+-- it works at the desks of this station
+abbrev pub IsOurs : Roster → AtStation → Type 0
+IsOurs station o = (o.vcids ≡ station.vcids) × (locks_of o.desks ≡ station.locks)
+
+abbrev pub HasMadeNothing : AtStation → Type 0
+HasMadeNothing o = All (λ (d : AtLock). d.own.made ≡ []) o.desks
 
 -- it has counted nothing
 abbrev pub fresh : List ℕ → Tally

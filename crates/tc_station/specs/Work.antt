@@ -3,7 +3,7 @@ use Rattle.std.specs.Prelude.{◌≡◌, ℕ, ◌+◌, ◌≤◌, ◌==◌, ◌&
 use Rattle.std.specs.List.{AllByRecursion}
 use Rattle.tc_link.specs.Frame.{header_of, fault_of}
 use Rattle.tc_station.specs.Roster.{Roster}
-use Rattle.tc_station.specs.Tally.{Tally, counted}
+use Rattle.tc_station.specs.Tally.{Tally, AtStation, tally, counted, IsOurs}
 use Rattle.tc_station.specs.Lowest.{lower}
 use Rattle.tc_station.specs.Location.{IsLocated, IsLocateFault}
 use Rattle.tc_station.specs.declared.faults.LocateFault.{LocateFault}
@@ -50,8 +50,8 @@ pub record Shift : Type 0 where
   pub list : WorkList
   -- the line that was refused for memory
   pub refused : Option ℕ
-  pub before : Tally
-  pub after : Tally
+  pub before : AtStation
+  pub after : AtStation
 
 -- a count for each channel of the station
 pub record IsTallyOf (station : Roster) (t : Tally) : Type 0 where
@@ -59,20 +59,21 @@ pub record IsTallyOf (station : Roster) (t : Tally) : Type 0 where
   pub counts : length t.counts ≡ length t.vcids
 
 pub record IsShift (station : Roster) (s : Shift) : Type 0 where
-  pub ours : IsTallyOf station s.before
-  pub worked : IsWorked station s.list s.refused s.before s.after
+  pub ours : IsTallyOf station (tally s.before)
+  pub kept : IsOurs station s.after
+  pub worked : IsWorked station s.list s.refused (tally s.before) (tally s.after)
 
 abbrev pub lowest : List Shift → Option ℕ
 lowest [] = None
 lowest (s ∷ ss) = lower s.refused (lowest ss)
 
 -- each list has an operator of the station
-pub record AreManned (station : Roster) (lists : List WorkList) (operators : List Tally) : Type 0 where
+pub record AreManned (station : Roster) (lists : List WorkList) (operators : List AtStation) : Type 0 where
   pub as_many : length operators ≡ length lists
-  pub ours : All (λ (o : Tally). o.vcids ≡ station.vcids) operators
+  pub ours : All (IsOurs station) operators
 
 -- each list was worked by the operator of its place, and this is the lowest line that was refused
-abbrev pub AreWorked : Roster → List WorkList → Option ℕ → List Tally → List Tally → Type 0
+abbrev pub AreWorked : Roster → List WorkList → Option ℕ → List AtStation → List AtStation → Type 0
 AreWorked station lists line befores afters =
     (shifts : List Shift) × (map (λ s. s.list) shifts ≡ lists) × (map (λ s. s.before) shifts ≡ befores) × (map (λ s. s.after) shifts ≡ afters)
     × AllByRecursion (IsShift station) shifts × (lowest shifts ≡ line)

@@ -13,6 +13,7 @@
 
 mod closing;
 mod faults;
+mod guest;
 mod holding;
 mod operator;
 mod station;
@@ -24,6 +25,7 @@ pub use faults::{
 };
 pub use holding::{Holding, HoldingFault, MapHolding, QueueHolding, holding_in};
 pub use operator::Operator;
-pub use station::{Brought, FlightStation, Located, Station, StationOf};
+pub use station::{Brought, FlightStation, Located, Station, StationOf, StillOpen};
+pub use tc_desk::Refusal;
 pub use tc_status::{Desk, DeskOf, FlightDesk};
 pub use work::{FreeGate, Gate, Job, Order, WorkList};

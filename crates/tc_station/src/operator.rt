@@ -1,69 +1,49 @@
 //! Operators: who makes operations on the channels of a station.
 
-ghost use Rattle.std.specs.Prelude.{◌≡◌, ◌==◌, ◌<◌, length, replicate, position, slice_index, Some, IfOk, MatchOption, Contains};
-ghost use Rattle.tc_station.specs.Tally.{raised, counted, count_in, fresh};
+ghost use Rattle.std.specs.Prelude.{◌≡◌, ◌==◌, ◌<◌, length, map, replicate, position, slice_index, slice_index_or, Some, IfOk, OnOk, OnErr, MatchOption, Contains};
+ghost use Rattle.tc_desk.specs.Together.{locks_of, settings_of};
+ghost use Rattle.tc_station.specs.StationSettings.{vcids_of};
+ghost use Rattle.tc_station.specs.Tally.{counted, count_in, tally, newcomer, arrival};
+ghost use Rattle.tc_station.specs.Call.{IsCallAt};
 
-use crossbeam_utils::CachePadded;
 use std::alloc::{AllocError, Global};
 use std::marker::Model;
-use tc_channel::NoMemory;
-
-// A count that lies on cache lines of its own, since another thread raises the next operator's. A contract sees a number.
-#[derive(Drop)]
-struct Count {
-    padded: CachePadded<u64>,
-}
-
-impl Model for Count {
-    ghost use Rattle.std.specs.Prelude.{ℕ};
-    ghost use Rattle.crossbeam_utils.specs.Padded.{padded_value};
-
-    ghost Value = { ℕ };
-
-    ghost view = { λ c. padded_value c.padded };
-}
-
-impl Count {
-    fn zero() -> Count
-        ensures { result ≡ 0 }
-    {
-        Count {
-            padded: CachePadded::new(0),
-        }
-    }
-
-    fn get(&self) -> u64
-        ensures { result ≡ self.now }
-    {
-        *self.padded
-    }
-
-    // One more; the largest count stays.
-    fn raise(&mut self)
-        ensures { self.new ≡ raised self.old }
-    {
-        let count: &mut u64 = &mut self.padded;
-        *count = count.saturating_add(1);
-    }
-}
+use std::sync::Wait;
+use tc_channel::{Journal, NoMemory};
+use tc_desk::{Crew, DeskOperator, LockedDesk, Operation, Post};
 
 /// Someone who makes operations on the channels of a station, and counts those that were answered, channel by channel.
 /// One thread has it at a time.
 #[derive(Drop)]
 pub struct Operator {
     vcids: Vec<u8>,
-    counts: Vec<Count>,
+    desks: Vec<DeskOperator>,
 }
 
 impl Model for Operator {
-    ghost use Rattle.std.specs.Prelude.{◌≡◌, length};
-    ghost use Rattle.tc_station.specs.Tally.{Tally};
+    ghost use Rattle.std.specs.Prelude.{◌≡◌};
+    ghost use Rattle.tc_desk.specs.Together.{settings_of};
+    ghost use Rattle.tc_station.specs.StationSettings.{vcids_of};
+    ghost use Rattle.tc_station.specs.Tally.{AtStation, at_station};
 
-    ghost Value = { Tally };
+    ghost Value = { AtStation };
 
-    ghost view = { λ o. record { vcids = o.vcids.items; counts = o.counts.items } };
+    ghost view = { λ o. at_station o.vcids.items o.desks.items };
 
-    ghost invariant = { λ o. length o.counts.items ≡ length o.vcids.items };
+    ghost invariant = { λ o. vcids_of (settings_of o.desks.items) ≡ o.vcids.items };
+}
+
+impl Crew for Operator {
+    ghost at_desks = { λ o. o.desks };
+
+    fn operators(&self) -> &[DeskOperator] {
+        self.desks.as_slice()
+    }
+
+    fn into_operators(self) -> Vec<DeskOperator> {
+        let Operator { vcids: _, desks } = self;
+        desks
+    }
 }
 
 /// The place of a virtual channel id among others.
@@ -74,41 +54,51 @@ pub(crate) fn place_of(vcids: &[u8], vcid: u8) -> Option<usize>
     vcids.iter().position(|v| *v == vcid)
 }
 
-// A count for each of so many channels, of which nothing was counted.
-fn no_counts(alloc: Global, channels: usize) -> Result<Vec<Count>, AllocError>
-    ensures { IfOk result (λ counts. counts.items ≡ replicate channels 0) }
+// An operator at each of these desks, which has made nothing.
+fn desk_operators<J: Journal>(
+    alloc: Global,
+    posts: &mut [Post<J>],
+) -> Result<Vec<DeskOperator>, AllocError>
+    ensures same { posts.new ≡ posts.old }
+    ensures operators { IfOk result (λ operators. operators.items ≡ map arrival posts.old) }
 {
-    let mut counts = Vec::with_capacity(alloc, channels)?;
-    for _ in 0..channels {
-        counts.push_reserved(Count::zero());
+    let mut operators = Vec::with_capacity(alloc, posts.len())?;
+    for place in 0..posts.len() {
+        operators.push_reserved(posts[place].operator());
     }
-    Ok(counts)
+    Ok(operators)
 }
 
 impl Operator {
-    /// An operator that has counted nothing.
-    pub(crate) fn new(alloc: Global, vcids: &[u8]) -> Result<Operator, NoMemory>
-        ensures { IfOk result (λ operator. operator ≡ fresh vcids.now) }
+    /// An operator that has made nothing, and has seen what the keepers of these desks have seen.
+    pub(crate) fn new<J: Journal>(
+        alloc: Global,
+        vcids: &[u8],
+        posts: &mut [Post<J>],
+    ) -> Result<Operator, NoMemory>
+        requires ids { vcids_of (settings_of posts.old) ≡ vcids.now }
+        ensures same { posts.new ≡ posts.old }
+        ensures operator { IfOk result (λ operator. operator ≡ newcomer vcids.now posts.old) }
     {
         Ok(Operator {
             vcids: Vec::from_slice(alloc, vcids)?,
-            counts: no_counts(alloc, vcids.len())?,
+            desks: desk_operators(alloc, posts)?,
         })
     }
 
-    /// How many of its operations on this channel were answered; 2^64 - 1 stands for as many or more. None: no such channel.
+    /// How many of its operations on this channel were answered; 2^64 - 1 is for as many or more. None: no such channel.
     pub fn count(&self, vcid: u8) -> Option<u64>
-        ensures { result ≡ count_in vcid self.now }
+        ensures { result ≡ count_in vcid (tally self.now) }
     {
         let place = place_of(&self.vcids, vcid)?;
-        Some(self.counts[place].get())
+        Some(self.desks[place].count())
     }
 
-    /// It tells a proof that no channel lacks a count.
+    /// It shows a proof that no channel lacks a count.
     pub(crate) fn has_a_count_for_each_channel(&self)
         ensures { length self.now.counts ≡ length self.now.vcids }
     {
-        let _ = self.counts.len();
+        let _ = self.desks.len();
     }
 
     /// The count of the channel at a place.
@@ -116,14 +106,25 @@ impl Operator {
         requires { place < length self.now.vcids }
         ensures { result ≡ slice_index self.now.counts place }
     {
-        self.counts[place].get()
+        self.desks[place].count()
     }
 
-    /// An operation on the channel at this place was answered.
-    pub(crate) fn raise(&mut self, place: usize, vcid: u8)
-        requires { position (λ v. v == vcid) self.old.vcids ≡ Some place }
-        ensures { self.new ≡ counted vcid self.old }
+    /// The operation on the desk of the channel at this place, which has this id.
+    pub(crate) fn operate_at<J: Journal, O: Operation<J>, R: Wait>(
+        &mut self,
+        desk: &LockedDesk<J>,
+        rt: &R,
+        place: usize,
+        vcid: u8,
+        operation: &O,
+    ) -> Result<O::Answer, O::Fault>
+        requires place { position (λ v. v == vcid) self.old.vcids ≡ Some place }
+        requires lock { slice_index_or (locks_of self.old.desks) place desk.now ≡ desk.now }
+        ensures call { IsCallAt place vcid (O.event operation.now) (O.answers operation.now) (O.refuses operation.now) self.old result self.new }
+        ensures locks { locks_of self.new.desks ≡ locks_of self.old.desks }
+        ensures counted { OnOk result (tally self.new ≡ counted vcid (tally self.old)) }
+        ensures refused { OnErr result (tally self.new ≡ tally self.old) }
     {
-        self.counts[place].raise();
+        self.desks[place].operate(desk, rt, operation)
     }
 }

@@ -1,14 +1,15 @@
 //! The station: a lock for each channel.
 
-ghost use Rattle.std.specs.Prelude.{◌≡◌, ◌≤◌, ◌<◌, ◌+◌, ◌↔◌, false, All, Any, IsTrue, length, map, replicate, vec_len, vec_capacity, IfOk, IfErr, IsErrOf, OnOk, OnErr, MatchOption, MatchResult};
-ghost use Rattle.std.specs.Sync.Mutex.{mutex_guard_value};
-ghost use Rattle.tc_link.specs.Frame.{BeginsWith};
+ghost use Rattle.std.specs.Prelude.{◌≡◌, ◌≤◌, ◌<◌, ◌+◌, ◌↔◌, [], false, All, Any, IsTrue, length, map, replicate, vec_len, vec_capacity, IfOk, IfErr, IsErrOf, OnOk, OnErr, MatchOption, MatchResult};
 ghost use Rattle.tc_channel.specs.Settings.{IsAllowed};
-ghost use Rattle.tc_channel.specs.Journal.{with_event};
 ghost use Rattle.tc_channel.specs.Run.{IsLawful};
-ghost use Rattle.tc_channel.specs.Reply.{BeginsWithBypassData, frame_reply, clcw};
+ghost use Rattle.tc_channel.specs.Reply.{BeginsWithBypassData, clcw};
 ghost use Rattle.tc_status.specs.Board.{IsBeginning};
-ghost use Rattle.tc_station.specs.Tally.{counted, fresh};
+ghost use Rattle.tc_desk.specs.Call as at_desk;
+ghost use Rattle.tc_desk.specs.Together.{settings_of};
+ghost use Rattle.tc_station.specs.Roster.{IsPlace, settings_in};
+ghost use Rattle.tc_station.specs.Tally.{HasMadeNothing, IsOurs, counted, fresh, newcomer, tally};
+ghost use Rattle.tc_station.specs.Call.{IsBringCall, IsCallAt, IsCallOn, IsNotBrought, IsNotBroughtWatched, IsNotReleased, IsNotTaken, IsReplied, IsRepliedWatched, IsUnitNotTaken};
 ghost use Rattle.tc_station.specs.Balance.{AreInBalance, IsNumberTold};
 ghost use Rattle.tc_station.specs.StationSettings.{vcids_of, HaveDistinctVcids, IsFirstDouble, IsFirstRefused, AreStationSettings, IsStationFault};
 
@@ -17,19 +18,23 @@ use crate::faults::{
     BringFault, CloseFault, FlightCloseFault, LocateFault, OperatorsFault, ReleaseRefused,
     StationFault, TakeRefused, TakeUnitRefused, WatcherFault,
 };
-use crate::holding::{Holding, HoldingFault, holding_in};
+use crate::guest::{Named, Passing, Summing};
+use crate::holding::{Holding, HoldingFault};
 use crate::operator::{Operator, place_of};
 use crate::work::Gate;
-use crossbeam_utils::CachePadded;
 use std::alloc::Global;
 use std::marker::Model;
-use std::sync::{Mutex, MutexGuard, Wait};
+use std::sync::Wait;
 use tc_channel::{
     Channel, ChannelWith, Delivery, Event, FlightChannel, FrameReply, Journal, Kept, NoMemory,
     Settings, SettingsFault, Unkept, each_clcw_fits_its_word,
 };
+use tc_desk::{
+    Framing, LeftOpen, Operation, Post, Question, Refusal, Release, Taking, UnitTaking,
+    WatchedFraming, Watching, close_together, take_out_together,
+};
 use tc_link::{Frame, Link, read_frame};
-use tc_status::{DeskOf, Watcher, the_flags_of_the_link_have_their_own_bits};
+use tc_status::{Watcher, the_flags_of_the_link_have_their_own_bits};
 
 /// A frame for a channel of the station.
 #[derive(Debug, Drop)]
@@ -48,14 +53,14 @@ pub struct Brought {
     pub reply: FrameReply,
 }
 
-/// The virtual channels of one spacecraft, each behind a lock of its own, with nothing else on its cache lines.
+/// The virtual channels of one spacecraft, each behind a lock of its own, with nothing else on the cache lines of the lock.
 #[derive(Drop)]
 pub struct StationOf<J: Journal> {
     alloc: Global,
     scid: u16,
     vcids: Vec<u8>,
     issued: u16,
-    desks: Vec<CachePadded<Mutex<DeskOf<J>>>>,
+    desks: Vec<Post<J>>,
 }
 
 /// A station whose channels keep their journals in memory, and give them out when it is closed.
@@ -65,27 +70,41 @@ pub type Station = StationOf<Kept>;
 /// by the same proof, but for its close, which compares the numbers of events.
 pub type FlightStation = StationOf<Unkept>;
 
+/// A station whose channels weren't closed together: it is given back with the operators, and work can go on.
+#[derive(Drop)]
+pub struct StillOpen<J: Journal> {
+    pub station: StationOf<J>,
+    pub operators: Vec<Operator>,
+    pub refusal: Refusal,
+}
+
 impl<J: Journal> Model for StationOf<J> {
     ghost use Rattle.std.specs.Prelude.{◌≡◌, vec_len};
+    ghost use Rattle.tc_desk.specs.Together.{locks_of, heads_of, settings_of};
     ghost use Rattle.tc_station.specs.Roster.{Roster};
+    ghost use Rattle.tc_station.specs.StationSettings.{vcids_of};
 
     ghost Value = { Roster };
 
-    ghost view = { λ s. record { scid = s.scid; vcids = s.vcids.items; issued = s.issued } };
+    ghost view = { λ s. record { scid = s.scid; vcids = s.vcids.items; issued = s.issued; locks = locks_of s.desks.items; heads = heads_of s.desks.items } };
 
-    ghost invariant = { λ s. vec_len s.desks ≡ vec_len s.vcids };
+    ghost invariant = { λ s. (vec_len s.desks ≡ vec_len s.vcids) × (vcids_of (settings_of s.desks.items) ≡ s.vcids.items) };
 }
 
 impl<J: Journal> StationOf<J> {
     ghost use Rattle.tc_station.specs.Location.{IsLocated, IsPlaced, IsLocateFault, IsBringFault};
-    ghost use Rattle.tc_station.specs.Moments.{IsBrought, IsBroughtWatched, IsReleased, IsTaken, IsUnitTaken, IsWatched};
+    ghost use Rattle.tc_station.specs.Moments.{AtSomeMomentOf, IsBrought, IsBroughtWatched, IsReleased, IsTaken, IsUnitTaken, IsWatched};
     ghost use Rattle.tc_station.specs.Faults.{IsReleaseRefused, IsTakeRefused, IsTakeUnitRefused, IsWatcherFault};
     ghost use Rattle.tc_station.specs.Holding.{IsHolding, IsHoldingFault};
+    ghost use Rattle.tc_station.specs.Together.{AreClosedTogether, IsNotClosedTogether};
+    ghost use Rattle.tc_desk.specs.Log.{Moment};
+    ghost use Rattle.tc_desk.specs.Call.{IsMoment};
 
-    /// A station with a new channel for each of the settings: two lists, and what each channel and its board take. On a
+    /// A station with a new channel for each of the settings: two lists, and what each channel, its board and its lock take. On a
     /// refusal the settings are dropped.
     pub fn new(alloc: Global, scid: u16, list: Vec<Settings>) -> Result<StationOf<J>, StationFault>
-        ensures made { IfOk result (λ station. station ≡ record { scid = scid; vcids = vcids_of list.items; issued = 0 }) }
+        ensures made { IfOk result (λ station. (station.scid ≡ scid) × (station.vcids ≡ vcids_of list.items) × (station.issued ≡ 0)) }
+        ensures settings { IfOk result (λ station. settings_in station ≡ list.items) }
         ensures fault { MatchResult result (λ _. AreStationSettings scid list.items) (IsStationFault scid list.items) }
     {
         check(scid, &list)?;
@@ -119,9 +138,11 @@ impl<J: Journal> StationOf<J> {
         Ok((place, Located { vcid, frame }))
     }
 
-    /// Issues operators: at most 65,535 over the station's life. Each takes a list of ids and one of counts.
+    /// Issues operators: at most 65,535 over the station's life. Each takes a list of ids and one of its operators at the desks.
     pub fn operators(&mut self, n: u16) -> Result<Vec<Operator>, OperatorsFault>
-        ensures fresh { IfOk result (λ operators. operators.items ≡ replicate n (fresh self.old.vcids)) }
+        ensures fresh { IfOk result (λ operators. map tally operators.items ≡ replicate n (fresh self.old.vcids)) }
+        ensures new { IfOk result (λ operators. All HasMadeNothing operators.items) }
+        ensures ours { IfOk result (λ operators. All (IsOurs self.new) operators.items) }
         ensures issued { OnOk result (self.new ≡ record self.old { issued = self.old.issued + n }) }
         ensures many { IsErrOf result OperatorsFault.TooMany ↔ (65535 < self.old.issued + n) }
         ensures refused { OnErr result (self.new ≡ self.old) }
@@ -129,7 +150,7 @@ impl<J: Journal> StationOf<J> {
         let Some(issued) = self.issued.checked_add(n) else {
             return Err(OperatorsFault::TooMany);
         };
-        let Ok(operators) = issue(self.alloc, &self.vcids, n) else {
+        let Ok(operators) = issue(self.alloc, &self.vcids, &mut self.desks, n) else {
             return Err(OperatorsFault::NoMemory);
         };
         self.issued = issued;
@@ -145,19 +166,21 @@ impl<J: Journal> StationOf<J> {
         operator: &mut Operator,
         octets: &[u8],
     ) -> Result<Brought, BringFault>
-        requires ours { operator.old.vcids ≡ self.now.vcids }
+        requires ours { IsOurs self.now operator.old }
         ensures answer { MatchResult result (λ brought. IsBrought self.now octets.now brought.vcid brought.reply) (IsBringFault self.now octets.now) }
-        ensures counted { IfOk result (λ brought. operator.new ≡ counted brought.vcid operator.old) }
-        ensures refused { OnErr result (operator.new ≡ operator.old) }
+        ensures call { IsBringCall self.now octets.now IsReplied (IsNotBrought J.grows) operator.old result operator.new }
+        ensures counted { IfOk result (λ brought. tally operator.new ≡ counted brought.vcid (tally operator.old)) }
+        ensures refused { OnErr result (tally operator.new ≡ tally operator.old) }
+        ensures ours { IsOurs self.now operator.new }
         ensures answered { J.grows ≡ false → IsErrOf result BringFault.NoMemory → BeginsWithBypassData octets.now }
     {
         let (place, Located { vcid, frame }) = self
             .place_frame(octets)
             .map_err(BringFault::Locate)?;
-        let Ok(reply) = self.lock_desk(rt, place, vcid).frame(&frame) else {
+        let framing = Framing { frame: &frame };
+        let Ok(reply) = self.operate(rt, operator, place, vcid, &framing) else {
             return Err(BringFault::NoMemory);
         };
-        operator.raise(place, vcid);
         Ok(Brought { vcid, reply })
     }
 
@@ -168,16 +191,17 @@ impl<J: Journal> StationOf<J> {
         operator: &mut Operator,
         vcid: u8,
     ) -> Result<Delivery, ReleaseRefused>
-        requires ours { operator.old.vcids ≡ self.now.vcids }
+        requires ours { IsOurs self.now operator.old }
         ensures answer { MatchResult result (IsReleased self.now vcid) (IsReleaseRefused self.now vcid) }
-        ensures counted { OnOk result (operator.new ≡ counted vcid operator.old) }
-        ensures refused { OnErr result (operator.new ≡ operator.old) }
+        ensures call { IsCallOn self.now vcid Event.Release at_desk.IsReleased IsNotReleased ReleaseRefused.UnknownChannel operator.old result operator.new }
+        ensures counted { OnOk result (tally operator.new ≡ counted vcid (tally operator.old)) }
+        ensures refused { OnErr result (tally operator.new ≡ tally operator.old) }
+        ensures ours { IsOurs self.now operator.new }
     {
         let Some(place) = place_of(&self.vcids, vcid) else {
             return Err(ReleaseRefused::UnknownChannel);
         };
-        let delivery = self.lock_desk(rt, place, vcid).release()?;
-        operator.raise(place, vcid);
+        let delivery = self.operate(rt, operator, place, vcid, &Release)?;
         Ok(delivery)
     }
 
@@ -189,17 +213,18 @@ impl<J: Journal> StationOf<J> {
         vcid: u8,
         apid: u16,
     ) -> Result<Vec<u8>, TakeRefused>
-        requires ours { operator.old.vcids ≡ self.now.vcids }
+        requires ours { IsOurs self.now operator.old }
         ensures answer { MatchResult result (λ packet. IsTaken self.now vcid apid packet.items) (IsTakeRefused self.now vcid apid) }
-        ensures counted { OnOk result (operator.new ≡ counted vcid operator.old) }
-        ensures refused { OnErr result (operator.new ≡ operator.old) }
+        ensures call { IsCallOn self.now vcid (Event.Take apid) (λ m packet. at_desk.IsTaken apid m packet.items) (IsNotTaken J.grows apid) TakeRefused.UnknownChannel operator.old result operator.new }
+        ensures counted { OnOk result (tally operator.new ≡ counted vcid (tally operator.old)) }
+        ensures refused { OnErr result (tally operator.new ≡ tally operator.old) }
+        ensures ours { IsOurs self.now operator.new }
         ensures answered { J.grows ≡ false → IsErrOf result TakeRefused.NoMemory → ⊥ }
     {
         let Some(place) = place_of(&self.vcids, vcid) else {
             return Err(TakeRefused::UnknownChannel);
         };
-        let packet = self.lock_desk(rt, place, vcid).take(apid)?;
-        operator.raise(place, vcid);
+        let packet = self.operate(rt, operator, place, vcid, &Taking { apid })?;
         Ok(packet)
     }
 
@@ -211,17 +236,18 @@ impl<J: Journal> StationOf<J> {
         vcid: u8,
         map: u8,
     ) -> Result<Vec<u8>, TakeUnitRefused>
-        requires ours { operator.old.vcids ≡ self.now.vcids }
+        requires ours { IsOurs self.now operator.old }
         ensures answer { MatchResult result (λ unit. IsUnitTaken self.now vcid map unit.items) (IsTakeUnitRefused self.now vcid map) }
-        ensures counted { OnOk result (operator.new ≡ counted vcid operator.old) }
-        ensures refused { OnErr result (operator.new ≡ operator.old) }
+        ensures call { IsCallOn self.now vcid (Event.TakeUnit map) (λ m unit. at_desk.IsUnitTaken map m unit.items) (IsUnitNotTaken J.grows map) TakeUnitRefused.UnknownChannel operator.old result operator.new }
+        ensures counted { OnOk result (tally operator.new ≡ counted vcid (tally operator.old)) }
+        ensures refused { OnErr result (tally operator.new ≡ tally operator.old) }
+        ensures ours { IsOurs self.now operator.new }
         ensures answered { J.grows ≡ false → IsErrOf result TakeUnitRefused.NoMemory → ⊥ }
     {
         let Some(place) = place_of(&self.vcids, vcid) else {
             return Err(TakeUnitRefused::UnknownChannel);
         };
-        let unit = self.lock_desk(rt, place, vcid).take_unit(map)?;
-        operator.raise(place, vcid);
+        let unit = self.operate(rt, operator, place, vcid, &UnitTaking { map })?;
         Ok(unit)
     }
 
@@ -232,7 +258,7 @@ impl<J: Journal> StationOf<J> {
         let Some(place) = place_of(&self.vcids, vcid) else {
             return Err(WatcherFault::UnknownChannel);
         };
-        let Ok(watcher) = self.lock_desk(rt, place, vcid).watcher() else {
+        let Ok(watcher) = self.ask(rt, place, vcid, &Watching) else {
             return Err(WatcherFault::NoMemory);
         };
         Ok(watcher)
@@ -260,8 +286,8 @@ impl<J: Journal> StationOf<J> {
         let Some(place) = place_of(&self.vcids, vcid) else {
             return Err(HoldingFault::UnknownChannel);
         };
-        let desk = self.lock_desk(rt, place, vcid);
-        match holding_in(self.alloc, desk.channel()) {
+        let alloc = self.alloc;
+        match self.ask(rt, place, vcid, &Summing { alloc }) {
             Ok(holding) => Ok(holding),
             Err(NoMemory) => Err(HoldingFault::NoMemory),
         }
@@ -275,74 +301,149 @@ impl<J: Journal> StationOf<J> {
         operator: &mut Operator,
         octets: &[u8],
     ) -> Result<(Brought, Watcher), BringFault>
-        requires ours { operator.old.vcids ≡ self.now.vcids }
+        requires ours { IsOurs self.now operator.old }
         ensures answer { MatchResult result (λ answer. IsBroughtWatched self.now octets.now answer.0.vcid answer.0.reply answer.1.seen) (IsBringFault self.now octets.now) }
-        ensures counted { IfOk result (λ answer. operator.new ≡ counted answer.0.vcid operator.old) }
-        ensures refused { OnErr result (operator.new ≡ operator.old) }
+        ensures call { IsBringCall self.now octets.now IsRepliedWatched IsNotBroughtWatched operator.old result operator.new }
+        ensures counted { IfOk result (λ answer. tally operator.new ≡ counted answer.0.vcid (tally operator.old)) }
+        ensures refused { OnErr result (tally operator.new ≡ tally operator.old) }
+        ensures ours { IsOurs self.now operator.new }
     {
         let (place, Located { vcid, frame }) = self
             .place_frame(octets)
             .map_err(BringFault::Locate)?;
-        let Ok((reply, watcher)) = frame_watched(&mut self.lock_desk(rt, place, vcid), &frame)
-        else {
+        let framing = WatchedFraming { frame: &frame };
+        let Ok((reply, watcher)) = self.operate(rt, operator, place, vcid, &framing) else {
             return Err(BringFault::NoMemory);
         };
-        operator.raise(place, vcid);
         Ok((Brought { vcid, reply }, watcher))
     }
 
-    // The desk of the channel at this place, behind its lock. Contracts know of what is under a lock just what its type says,
-    // so the desk is asked for its id; another's would never be given out.
-    #[inline(always)]
-    fn lock_desk<R: Wait>(&self, rt: &R, place: usize, vcid: u8) -> MutexGuard<'_, DeskOf<J>>
-        requires inside { place < length self.now.vcids }
-        ensures own { (mutex_guard_value result).channel.settings.vcid ≡ vcid }
+    // The operation on the desk of the channel at this place, which has this id, by the operator there.
+    fn operate<O: Operation<J>, R: Wait>(
+        &self,
+        rt: &R,
+        operator: &mut Operator,
+        place: usize,
+        vcid: u8,
+        operation: &O,
+    ) -> Result<O::Answer, O::Fault>
+        requires ours { IsOurs self.now operator.old }
+        requires place { IsPlace self.now vcid place }
+        ensures call { IsCallAt place vcid (O.event operation.now) (O.answers operation.now) (O.refuses operation.now) operator.old result operator.new }
+        ensures counted { OnOk result (tally operator.new ≡ counted vcid (tally operator.old)) }
+        ensures refused { OnErr result (tally operator.new ≡ tally operator.old) }
+        ensures ours { IsOurs self.now operator.new }
     {
-        let desk = self.desks[place].lock(rt);
-        if desk.channel().settings().vcid != vcid {
-            for _ in rt.forever() {}
-            unreachable!()
+        operator.operate_at(self.desks[place].desk(), rt, place, vcid, operation)
+    }
+
+    // The answer of the channel at this place, which has this id, to who has no operator. Of a desk such a one knows no more than
+    // its type until it answers, so it is asked for the id as well, and again if it were another's.
+    fn ask<A: Drop, Q: Question<J, Answer = A>, R: Wait>(
+        &self,
+        rt: &R,
+        place: usize,
+        vcid: u8,
+        question: &Q,
+    ) -> A
+        requires inside { place < length self.now.vcids }
+        ensures { (now : Moment) × IsMoment now × (now.head.settings.vcid ≡ vcid) × Q.answers question.now now result }
+    {
+        let desk = self.desks[place].desk();
+        for _ in rt.forever() {
+            let (id, answer) = desk.ask_as_guest(rt, &Named { question });
+            if id == vcid {
+                return answer;
+            }
         }
-        desk
+        unreachable!()
     }
 
     /// Passes the gate once, under the lock of the channel if there is one.
     pub(crate) fn pass<G: Gate, R: Wait>(&self, rt: &R, gate: &G, vcid: u8) {
-        let Some(place) = place_of(&self.vcids, vcid) else {
-            gate.pass(vcid);
-            return;
-        };
-        let desk = self.desks[place].lock(rt);
-        gate.pass(vcid);
-        drop(desk);
+        match place_of(&self.vcids, vcid) {
+            None => gate.pass(vcid),
+            Some(place) => self.desks[place]
+                .desk()
+                .ask_as_guest(rt, &Passing { gate, vcid }),
+        }
     }
 
-    // The ids, and the channels out of their locks: the whole station where their list is refused, which is the one
-    // allocation.
+    // The ids, and the channels out of their locks: the whole station where their lists are refused, or a lock isn't free.
     fn into_channels(self) -> Result<(Vec<u8>, Vec<ChannelWith<J>>), StationOf<J>>
         ensures vcids { IfOk result (λ parts. parts.0.items ≡ self.vcids) }
         ensures channels { IfOk result (λ parts. vec_len parts.1 ≡ length self.vcids) }
         ensures refused { IfErr result (λ station. station ≡ self) }
     {
-        let Ok(room) = Vec::with_capacity(self.alloc, self.desks.len()) else {
-            return Err(self);
-        };
         let StationOf {
-            alloc: _,
-            scid: _,
+            alloc,
+            scid,
             vcids,
-            issued: _,
+            issued,
             desks,
         } = self;
-        Ok((vcids, take_out(desks, room)))
+        match take_out_together(alloc, desks) {
+            Ok(channels) => Ok((vcids, channels)),
+            Err((desks, _)) => Err(StationOf {
+                alloc,
+                scid,
+                vcids,
+                issued,
+                desks,
+            }),
+        }
+    }
+
+    /// Ends the station: takes the channels out of their locks, where its operators have made all events of their journals. The
+    /// journal of each channel is then a merge of what they made, and what each of them had seen is a beginning of it. An operator
+    /// that isn't among these has made nothing. Two lists are allocated, before any lock is taken.
+    pub fn close_together(
+        self,
+        operators: Vec<Operator>,
+    ) -> Result<Vec<ChannelWith<J>>, StillOpen<J>>
+        requires ours { All (IsOurs self) operators.items }
+        ensures closed { IfOk result (λ channels. AreClosedTogether self operators.items channels.items) }
+        ensures channels { IfOk result (λ channels. map (λ c. c.settings) channels.items ≡ settings_in self) }
+        ensures kept { IfErr result (λ left. (left.station ≡ self) × (left.operators.items ≡ operators.items)) }
+        ensures refusal { IfErr result (λ left. IsNotClosedTogether self operators.items left.refusal) }
+    {
+        let StationOf {
+            alloc,
+            scid,
+            vcids,
+            issued,
+            desks,
+        } = self;
+        match close_together(alloc, desks, operators) {
+            Ok(channels) => Ok(channels),
+            Err(
+                LeftOpen {
+                    posts,
+                    crews,
+                    refusal,
+                },
+            ) => Err(StillOpen {
+                station: StationOf {
+                    alloc,
+                    scid,
+                    vcids,
+                    issued,
+                    desks: posts,
+                },
+                operators: crews,
+                refusal,
+            }),
+        }
     }
 }
 
 impl StationOf<Kept> {
     ghost use Rattle.tc_station.specs.Faults.{IsCloseFault};
 
-    /// Ends the station: takes the channels out of their locks and compares their journals with the operators' counts. The
-    /// list of the channels is the one allocation, and it is made before the station is taken apart.
+    /// Ends the station: takes the channels out of their locks and compares their journals with the operators' counts. Two lists
+    /// are allocated, before any lock is taken. Any operators with counts for these channels may come, also another station's;
+    /// of this station's own [`StationOf::close_together`] says more. A lock that isn't free would be reported as
+    /// [`CloseFault::NoMemory`]; whoever owns the station doesn't come to see that.
     pub fn close(self, operators: Vec<Operator>) -> Result<Vec<Channel>, CloseFault>
         requires ours { All (λ o. o.vcids ≡ self.vcids) operators.items }
         ensures all { IfOk result (λ _. self.issued ≤ vec_len operators) }
@@ -370,8 +471,7 @@ impl StationOf<Unkept> {
     ghost use Rattle.tc_station.specs.Faults.{IsFlightCloseFault};
 
     /// Ends the station: takes the channels out of their locks and compares the numbers of their events with the operators'
-    /// counts. 2^64 - 1 stands for as many events or more, so it is no balance. The list of the channels is the one allocation,
-    /// and it is made before the station is taken apart.
+    /// counts. 2^64 - 1 is for as many events or more, so it is no balance. All else is as for a [`Station`].
     pub fn close(self, operators: Vec<Operator>) -> Result<Vec<FlightChannel>, FlightCloseFault>
         requires ours { All (λ o. o.vcids ≡ self.vcids) operators.items }
         ensures all { IfOk result (λ _. self.issued ≤ vec_len operators) }
@@ -452,16 +552,17 @@ fn start<J: Journal>(
     scid: u16,
     list: Vec<Settings>,
 ) -> Result<StationOf<J>, NoMemory>
-    ensures { IfOk result (λ station. station ≡ record { scid = scid; vcids = vcids_of list.items; issued = 0 }) }
+    ensures made { IfOk result (λ station. (station.scid ≡ scid) × (station.vcids ≡ vcids_of list.items) × (station.issued ≡ 0)) }
+    ensures settings { IfOk result (λ station. settings_in station ≡ list.items) }
 {
     let mut vcids = Vec::with_capacity(alloc, list.len())?;
     let mut desks = Vec::with_capacity(alloc, list.len())?;
     for settings in list {
         vcids.push_reserved(settings.vcid);
-        let Ok(desk) = DeskOf::new(alloc, settings) else {
+        let Ok(post) = Post::new(alloc, settings) else {
             return Err(NoMemory);
         };
-        desks.push_reserved(CachePadded::new(Mutex::new(desk)));
+        desks.push_reserved(post);
     }
     Ok(StationOf {
         alloc,
@@ -472,47 +573,20 @@ fn start<J: Journal>(
     })
 }
 
-// Operators that have counted nothing.
-fn issue(alloc: Global, vcids: &[u8], n: u16) -> Result<Vec<Operator>, NoMemory>
-    ensures { IfOk result (λ operators. operators.items ≡ replicate n (fresh vcids.now)) }
+// Operators that have made nothing.
+fn issue<J: Journal>(
+    alloc: Global,
+    vcids: &[u8],
+    posts: &mut [Post<J>],
+    n: u16,
+) -> Result<Vec<Operator>, NoMemory>
+    requires ids { vcids_of (settings_of posts.old) ≡ vcids.now }
+    ensures same { posts.new ≡ posts.old }
+    ensures operators { IfOk result (λ operators. operators.items ≡ replicate n (newcomer vcids.now posts.old)) }
 {
     let mut operators = Vec::with_capacity(alloc, usize::from(n))?;
     for _ in 0..n {
-        operators.push_reserved(Operator::new(alloc, vcids)?);
+        operators.push_reserved(Operator::new(alloc, vcids, posts)?);
     }
     Ok(operators)
-}
-
-// Takes the channels out of their locks, into a list with room for them. Of each no more is known than its type says.
-fn take_out<J: Journal>(
-    desks: Vec<CachePadded<Mutex<DeskOf<J>>>>,
-    mut room: Vec<ChannelWith<J>>,
-) -> Vec<ChannelWith<J>>
-    requires empty { vec_len room ≡ 0 }
-    requires room { vec_len desks ≤ vec_capacity room }
-    ensures { vec_len result ≡ vec_len desks }
-{
-    for desk in desks {
-        room.push_reserved(desk.into_inner().into_inner().into_channel());
-    }
-    room
-}
-
-// The desk takes a frame in, and a watcher of its board sees it do so.
-fn frame_watched<J: Journal>(
-    desk: &mut DeskOf<J>,
-    frame: &Frame,
-) -> Result<(FrameReply, Watcher), NoMemory>
-    ensures allowed { IsAllowed desk.old.channel.settings }
-    ensures lawful { IsLawful desk.old.channel.settings desk.old.channel.journal }
-    ensures reply { IfOk result (λ answer. answer.0 ≡ frame_reply desk.old.channel.settings desk.old.channel.journal frame.now) }
-    ensures board { IfOk result (λ answer. answer.1.board ≡ desk.new.board) }
-    ensures seen { IfOk result (λ answer. answer.1.seen ≡ with_event desk.old.channel (Event.Frame frame.now)) }
-    ensures done { OnOk result (desk.new.channel ≡ with_event desk.old.channel (Event.Frame frame.now)) }
-    ensures refused { OnErr result (desk.new ≡ desk.old) }
-{
-    let mut watcher = desk.watcher()?;
-    let reply = desk.frame(frame)?;
-    desk.meet(&mut watcher);
-    Ok((reply, watcher))
 }

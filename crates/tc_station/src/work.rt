@@ -2,7 +2,7 @@
 
 ghost use Rattle.std.specs.Prelude.{◌≡◌, ◌<◌, ℕ, All, Option, None, Some, length, map, slice_index_or, OnOk, OnErr, MatchResult};
 ghost use Rattle.std.specs.Thread.{IsSend, IsSync};
-ghost use Rattle.tc_station.specs.Tally.{Tally};
+ghost use Rattle.tc_station.specs.Tally.{AtStation, IsOurs, tally};
 ghost use Rattle.tc_station.specs.Lowest.{lower};
 
 use crate::faults::{BringFault, ReleaseRefused, TakeRefused, TakeUnitRefused, WorkFault};
@@ -72,13 +72,14 @@ where
         lists: &[WorkList],
     ) -> Result<(), WorkFault>
         requires as_many { length operators.old.items ≡ length lists.now }
-        requires ours { All (λ o. o.vcids ≡ self.now.vcids) operators.old.items }
+        requires ours { All (IsOurs self.now) operators.old.items }
         ensures worked { (line : Option ℕ) × AreWorked self.now lists.now line operators.old.items operators.new.items
             × MatchResult result (λ _. line ≡ None) (λ fault. line ≡ Some (line_of fault)) }
         ensures kept { map (λ o. o.vcids) operators.new.items ≡ map (λ o. o.vcids) operators.old.items }
-        ensures risen { (k : ℕ) (o : Tally) → k < length lists.now → NoCountFalls (slice_index_or operators.old.items k o) (slice_index_or operators.new.items k o) }
-        ensures raised { OnOk result ((k : ℕ) (l : WorkList) (o : Tally) → k < length lists.now →
-            IsRaised self.now (slice_index_or lists.now k l) (slice_index_or operators.old.items k o) (slice_index_or operators.new.items k o)) }
+        ensures ours { All (IsOurs self.now) operators.new.items }
+        ensures risen { (k : ℕ) (o : AtStation) → k < length lists.now → NoCountFalls (tally (slice_index_or operators.old.items k o)) (tally (slice_index_or operators.new.items k o)) }
+        ensures raised { OnOk result ((k : ℕ) (l : WorkList) (o : AtStation) → k < length lists.now →
+            IsRaised self.now (slice_index_or lists.now k l) (tally (slice_index_or operators.old.items k o)) (tally (slice_index_or operators.new.items k o))) }
     {
         match self.work_all(rt, gate, lists, operators.as_mut_slice()) {
             None => Ok(()),
@@ -163,9 +164,10 @@ where
         list: &WorkList,
         operator: &mut Operator,
     ) -> Option<u32>
-        requires ours { operator.old.vcids ≡ self.now.vcids }
-        ensures tally { IsTallyOf self.now operator.old }
-        ensures worked { IsWorked self.now list.now result operator.old operator.new }
+        requires ours { IsOurs self.now operator.old }
+        ensures tally { IsTallyOf self.now (tally operator.old) }
+        ensures ours { IsOurs self.now operator.new }
+        ensures worked { IsWorked self.now list.now result (tally operator.old) (tally operator.new) }
     {
         self.pass(rt, gate, list.vcid);
         operator.has_a_count_for_each_channel();
@@ -185,9 +187,10 @@ where
         order: &Order,
         operator: &mut Operator,
     ) -> Result<(), NoMemory>
-        requires ours { operator.old.vcids ≡ self.now.vcids }
-        ensures done { OnOk result (IsDone self.now vcid order.now operator.old operator.new) }
-        ensures refused { OnErr result (operator.new ≡ operator.old) }
+        requires ours { IsOurs self.now operator.old }
+        ensures ours { IsOurs self.now operator.new }
+        ensures done { OnOk result (IsDone self.now vcid order.now (tally operator.old) (tally operator.new)) }
+        ensures refused { OnErr result (tally operator.new ≡ tally operator.old) }
         ensures wanting { OnErr result (MayWantMemory self.now vcid order.now) }
     {
         match order {

@@ -1,6 +1,7 @@
 mod gate;
 mod sharing;
 mod six_threads;
+mod together;
 
 ghost use Rattle.std.specs.Prelude.{◌≡◌, ◌∷◌, [], All};
 ghost use Rattle.tc_station.specs.StationSettings.{vcids_of};

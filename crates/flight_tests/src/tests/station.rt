@@ -1,8 +1,8 @@
 //! A station whose channels' journals take no memory.
 
-ghost use Rattle.std.specs.Prelude.{◌≡◌, ◌∷◌, [], All};
+ghost use Rattle.std.specs.Prelude.{◌≡◌, ◌∷◌, [], All, length};
 ghost use Rattle.tc_station.specs.StationSettings.{vcids_of};
-ghost use Rattle.tc_station.specs.Tally.{fresh};
+ghost use Rattle.tc_station.specs.Tally.{IsOurs};
 
 use super::*;
 use std::sync::Wait;
@@ -16,7 +16,8 @@ const UNLOCK: [u8; 6] = [0x30, 0x2a, 0x04, 0x05, 0x00, 0x00];
 // A station of virtual channel 1 with one operator, in a list as `close` takes it. One growth may be refused.
 fn new_crew(rt: &(impl Abort + Print), alloc: Global) -> (FlightStation, Vec<Operator>)
     ensures vcids { result.0.vcids ≡ 1 ∷ [] }
-    ensures operators { result.1.items ≡ fresh (1 ∷ []) ∷ [] }
+    ensures ours { All (IsOurs result.0) result.1.items }
+    ensures one { length result.1.items ≡ 1 }
 {
     let mut station = match FlightStation::new(alloc, 42, list_of_settings(rt, alloc)) {
         Ok(station) => station,
@@ -59,8 +60,8 @@ fn bring(
     operator: &mut Operator,
     octets: &[u8],
 ) -> Option<FrameReply>
-    requires { operator.old.vcids ≡ station.now.vcids }
-    ensures { operator.new.vcids ≡ operator.old.vcids }
+    requires { IsOurs station.now operator.old }
+    ensures { IsOurs station.now operator.new }
 {
     match station.bring(rt, operator, octets) {
         Ok(brought) => Some(brought.reply),
@@ -73,16 +74,16 @@ fn release(
     station: &FlightStation,
     operator: &mut Operator,
 ) -> Result<Delivery, ReleaseRefused>
-    requires { operator.old.vcids ≡ station.now.vcids }
-    ensures { operator.new.vcids ≡ operator.old.vcids }
+    requires { IsOurs station.now operator.old }
+    ensures { IsOurs station.now operator.new }
 {
     station.release(rt, operator, 1)
 }
 
 // The oldest packet for APID 5 is `PACKET`.
 fn take_packet(rt: &(impl Abort + Wait), station: &FlightStation, operator: &mut Operator)
-    requires { operator.old.vcids ≡ station.now.vcids }
-    ensures { operator.new.vcids ≡ operator.old.vcids }
+    requires { IsOurs station.now operator.old }
+    ensures { IsOurs station.now operator.new }
 {
     let packet = station.take(rt, operator, 1, 5).expect(rt, "a packet");
     assert_eq!(rt; packet.as_slice(), PACKET.as_slice());
@@ -96,8 +97,8 @@ fn check_word(rt: &(impl Abort + Wait), station: &FlightStation, word: u32) {
 
 // Three events of channel 1, and a release that is refused.
 fn three_events(rt: &(impl Abort + Wait), station: &FlightStation, operator: &mut Operator)
-    requires { operator.old.vcids ≡ station.now.vcids }
-    ensures { operator.new.vcids ≡ operator.old.vcids }
+    requires { IsOurs station.now operator.old }
+    ensures { IsOurs station.now operator.new }
 {
     assert_eq!(rt; bring(rt, station, operator, &FIRST), Some(BUFFERED));
     check_word(rt, station, 0x0104_0001);
@@ -169,6 +170,14 @@ fn unlocks(alloc: Global) -> Result<WorkList, AllocError> {
     })
 }
 
+// So many operators of a station that has issued none.
+fn new_operators(rt: &impl Abort, station: &mut FlightStation, n: u16) -> Vec<Operator>
+    ensures ours { All (IsOurs station.new) result.items }
+    ensures number { length result.items ≡ n }
+{
+    station.operators(n).expect(rt, "operators")
+}
+
 // Each of 246 Unlocks raises FARM-B by one, which has two bits and so comes to 2.
 #[test]
 fn six_threads_on_a_station_in_flight(rt: HostRuntime) {
@@ -177,7 +186,7 @@ fn six_threads_on_a_station_in_flight(rt: HostRuntime) {
     let lists = [one(), one(), one(), one(), one(), one()];
     let list = list_of_settings(&rt, alloc);
     let mut station = FlightStation::new(alloc, 42, list).expect(&rt, "a station");
-    let mut operators = station.operators(6).expect(&rt, "operators");
+    let mut operators = new_operators(&rt, &mut station, 6);
     let done = station.work(&rt, &FreeGate, &mut operators, &lists);
     assert_eq!(rt; done, Ok(()));
     for operator in &operators {
@@ -209,8 +218,8 @@ fn bring_bypassed(
     station: &FlightStation,
     operator: &mut Operator,
 )
-    requires { operator.old.vcids ≡ station.now.vcids }
-    ensures { operator.new.vcids ≡ operator.old.vcids }
+    requires { IsOurs station.now operator.old }
+    ensures { IsOurs station.now operator.new }
 {
     if bring(rt, station, operator, &BYPASSED).is_none() {
         let _ = println!(rt; "refused: FlightStation::bring");
@@ -222,8 +231,8 @@ fn bring_bypassed(
 
 // Releases as the third event; a refused release leaves the count as it was.
 fn release_again(rt: &(impl Abort + Print + Wait), station: &FlightStation, operator: &mut Operator)
-    requires { operator.old.vcids ≡ station.now.vcids }
-    ensures { operator.new.vcids ≡ operator.old.vcids }
+    requires { IsOurs station.now operator.old }
+    ensures { IsOurs station.now operator.new }
 {
     if let Err(fault) = release(rt, station, operator) {
         let _ = println!(rt; "refused: FlightStation::release");
@@ -235,8 +244,8 @@ fn release_again(rt: &(impl Abort + Print + Wait), station: &FlightStation, oper
 
 // Four events of channel 1. A Type-AD frame wants no memory, so it is never refused for it.
 fn four_events(rt: &(impl Abort + Print + Wait), station: &FlightStation, operator: &mut Operator)
-    requires { operator.old.vcids ≡ station.now.vcids }
-    ensures { operator.new.vcids ≡ operator.old.vcids }
+    requires { IsOurs station.now operator.old }
+    ensures { IsOurs station.now operator.new }
 {
     assert_eq!(rt; bring(rt, station, operator, &FIRST), Some(BUFFERED));
     bring_bypassed(rt, station, operator);

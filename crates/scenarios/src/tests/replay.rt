@@ -1,6 +1,7 @@
 //! The lines of a script on channels of a station, which keep their journals or are in flight, and on channels that stand alone.
 
 ghost use Rattle.std.specs.Prelude.{◌≡◌, All};
+ghost use Rattle.tc_station.specs.Tally.{IsOurs};
 
 use super::alone::{Alone, Answer};
 use super::texts::text_of;
@@ -80,14 +81,27 @@ struct Crew<J: Journal> {
     bringing: Bringing,
     station: StationOf<J>,
     operator: Operator,
-    ghost ours: { operator.vcids ≡ station.vcids },
+    ghost ours: { IsOurs station operator },
+}
+
+// A list of the one operator that a station issues.
+fn issued<J: Journal>(rt: &impl Abort, station: &mut StationOf<J>) -> Vec<Operator>
+    ensures { All (IsOurs station.new) result.items }
+{
+    station.operators(1).expect(rt, "operators")
+}
+
+// That operator.
+fn only_operator<J: Journal>(rt: &impl Abort, station: &mut StationOf<J>) -> Operator
+    ensures { IsOurs station.new result }
+{
+    issued(rt, station).pop().expect(rt, "an operator")
 }
 
 impl<J: Journal> Crew<J> {
     fn new(rt: &impl Abort, alloc: Global, bringing: Bringing, list: Vec<Settings>) -> Crew<J> {
         let mut station = StationOf::new(alloc, 42, list).expect(rt, "a station");
-        let mut operators = station.operators(1).expect(rt, "operators");
-        let operator = operators.pop().expect(rt, "an operator");
+        let operator = only_operator(rt, &mut station);
         Crew {
             bringing,
             station,

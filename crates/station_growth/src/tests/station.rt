@@ -1,6 +1,6 @@
 //! Calls of a station.
 
-ghost use Rattle.std.specs.Prelude.{◌≡◌};
+ghost use Rattle.tc_station.specs.Tally.{IsOurs};
 
 use super::*;
 use std::sync::Wait;
@@ -26,7 +26,7 @@ struct Short {
     operator: Operator,
     watcher: Watcher,
     journal: Vec<Event>,
-    ghost ours: { operator.vcids ≡ station.vcids },
+    ghost ours: { IsOurs station operator },
 }
 
 // A watcher takes no memory.
@@ -203,6 +203,14 @@ fn growth_of_operators(rt: HostRuntime) {
     let operators = new_operators(&rt, &mut station, 3);
     check_counts(&rt, &operators, 3, 0);
     let channels = closed(&rt, station, operators);
+    assert_eq!(rt; channels.len(), 1);
+}
+
+#[test]
+fn growth_of_a_close_together(rt: HostRuntime) {
+    let mut station = new_station(&rt, rt.alloc());
+    let operators = new_operators(&rt, &mut station, 2);
+    let channels = closed_together(&rt, station, operators);
     assert_eq!(rt; channels.len(), 1);
 }
 

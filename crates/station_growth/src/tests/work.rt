@@ -1,6 +1,7 @@
 //! Workers, of which each growth that is refused is told with its line or done without.
 
-ghost use Rattle.std.specs.Prelude.{◌≡◌, ◌≤◌, All, length, map};
+ghost use Rattle.std.specs.Prelude.{◌≡◌, ◌≤◌, All, length};
+ghost use Rattle.tc_station.specs.Tally.{IsOurs};
 
 use super::*;
 use std::sync::Wait;
@@ -54,8 +55,9 @@ fn do_lists<R: Threads + Wait + Sync + Abort + Print>(
     lists: &[WorkList],
 ) -> u64
     requires as_many { length operators.old.items ≡ length lists.now }
-    requires ours { All (λ o. o.vcids ≡ station.now.vcids) operators.old.items }
-    ensures kept { map (λ o. o.vcids) operators.new.items ≡ map (λ o. o.vcids) operators.old.items }
+    requires ours { All (IsOurs station.now) operators.old.items }
+    ensures kept { All (IsOurs station.now) operators.new.items }
+    ensures number { length operators.new.items ≡ length operators.old.items }
     ensures most { result ≤ 2 }
 {
     answered(rt, station.work(rt, &FreeGate, operators, lists))

@@ -2,6 +2,7 @@
 
 ghost use Rattle.std.specs.Prelude.{◌≡◌, ◌∷◌, []};
 ghost use Rattle.tc_station.specs.StationSettings.{vcids_of};
+ghost use Rattle.tc_station.specs.Tally.{IsOurs};
 
 use super::*;
 use std::sync::Wait;
@@ -13,7 +14,7 @@ use tc_status::Watcher;
 pub(super) struct Manned {
     pub(super) station: Station,
     pub(super) operator: Operator,
-    ghost ours: { operator.vcids ≡ station.vcids },
+    ghost ours: { IsOurs station operator },
 }
 
 impl Manned {

@@ -1,4 +1,5 @@
-ghost use Rattle.std.specs.Prelude.{◌≡◌, All, length, map};
+ghost use Rattle.std.specs.Prelude.{◌≡◌, All, length};
+ghost use Rattle.tc_station.specs.Tally.{IsOurs};
 
 use super::*;
 use std::sync::Wait;
@@ -65,8 +66,8 @@ pub(super) fn do_lists<R: Threads + Wait + Sync + Abort, G: Gate + Sync>(
     lists: &[WorkList],
 )
     requires as_many { length operators.old.items ≡ length lists.now }
-    requires ours { All (λ o. o.vcids ≡ station.now.vcids) operators.old.items }
-    ensures { map (λ o. o.vcids) operators.new.items ≡ map (λ o. o.vcids) operators.old.items }
+    requires ours { All (IsOurs station.now) operators.old.items }
+    ensures { All (IsOurs station.now) operators.new.items }
 {
     let done = station.work(rt, gate, operators, lists);
     assert!(rt; done == Ok(()));

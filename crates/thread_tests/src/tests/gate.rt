@@ -1,7 +1,7 @@
 //! Two workers meet at a gate while each holds the lock of its list's channel.
 
-ghost use Rattle.std.specs.Prelude.{◌≡◌, All, length, map, replicate};
-ghost use Rattle.tc_station.specs.Tally.{fresh};
+ghost use Rattle.std.specs.Prelude.{◌≡◌, All, length};
+ghost use Rattle.tc_station.specs.Tally.{IsOurs};
 
 use super::*;
 use std::sync::atomic::{AtomicBool, Ordering};
@@ -95,8 +95,9 @@ fn two_unlocks(rt: &impl Abort, alloc: Global) -> [WorkList; 2] {
 }
 
 // A station with channels 1 and 2, and two operators.
-fn new_crew(rt: &impl Abort, alloc: Global) -> (Station, Vec<Operator>)
-    ensures { result.1.items ≡ replicate 2 (fresh result.0.vcids) }
+pub(super) fn new_crew(rt: &impl Abort, alloc: Global) -> (Station, Vec<Operator>)
+    ensures ours { All (IsOurs result.0) result.1.items }
+    ensures two { length result.1.items ≡ 2 }
 {
     let mut station = station_of_two(rt, alloc, 1);
     let operators = station.operators(2).expect(rt, "operators");
@@ -104,7 +105,7 @@ fn new_crew(rt: &impl Abort, alloc: Global) -> (Station, Vec<Operator>)
 }
 
 // Does the lists to their end.
-fn do_lists<R: Threads + Wait + Sync + Abort, G: Gate + Sync>(
+pub(super) fn do_lists<R: Threads + Wait + Sync + Abort, G: Gate + Sync>(
     rt: &R,
     gate: &G,
     station: &Station,
@@ -112,8 +113,8 @@ fn do_lists<R: Threads + Wait + Sync + Abort, G: Gate + Sync>(
     lists: &[WorkList],
 )
     requires as_many { length operators.old.items ≡ length lists.now }
-    requires ours { All (λ o. o.vcids ≡ station.now.vcids) operators.old.items }
-    ensures { map (λ o. o.vcids) operators.new.items ≡ map (λ o. o.vcids) operators.old.items }
+    requires ours { All (IsOurs station.now) operators.old.items }
+    ensures { All (IsOurs station.now) operators.new.items }
 {
     let done = station.work(rt, gate, operators, lists);
     assert!(rt; done == Ok(()));

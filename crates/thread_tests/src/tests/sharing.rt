@@ -1,15 +1,16 @@
 //! Two threads, each with an operator of its own, make operations on one station.
 
-ghost use Rattle.std.specs.Prelude.{◌≡◌, ◌∷◌, []};
+ghost use Rattle.std.specs.Thread.{IsSync};
+ghost use Rattle.tc_station.specs.Tally.{IsOurs};
 
 use super::*;
-use std::thread::{Threads, join};
+use std::thread::{Threads, join_mut};
 use tc_station::ReleaseRefused;
 
 // The third octet of the frames for virtual channels 1 and 2.
 pub(super) const TO_CHANNEL_1: u8 = 0x04;
 
-const TO_CHANNEL_2: u8 = 0x08;
+pub(super) const TO_CHANNEL_2: u8 = 0x08;
 
 // The AD frame of 13 octets with this third octet and this N(S) that carries one packet.
 pub(super) fn ad_frame(third: u8, ns: u8) -> [u8; 13] {
@@ -18,106 +19,83 @@ pub(super) fn ad_frame(third: u8, ns: u8) -> [u8; 13] {
     ]
 }
 
-// A station with virtual channels 1 and 2.
-#[derive(Drop)]
-struct TwoChannels {
-    station: Station,
-    ghost two: { station.vcids ≡ 1 ∷ 2 ∷ [] },
+// Whether the frame was not refused.
+fn bring(rt: &impl Wait, station: &Station, operator: &mut Operator, frame: &[u8]) -> bool
+    requires { IsOurs station.now operator.old }
+    ensures { IsOurs station.now operator.new }
+{
+    station.bring(rt, operator, frame).is_ok()
 }
 
-// An operator of such a station.
-#[derive(Drop)]
-struct Hand {
-    operator: Operator,
-    ghost ours: { operator.vcids ≡ 1 ∷ 2 ∷ [] },
-}
-
-impl Hand {
-    // Whether the frame was not refused.
-    fn bring(&mut self, rt: &impl Wait, shared: &TwoChannels, frame: &[u8]) -> bool {
-        shared.station.bring(rt, &mut self.operator, frame).is_ok()
-    }
-
-    // Whether nothing was refused but for an empty buffer: the other thread may have emptied it.
-    fn release(&mut self, rt: &impl Wait, shared: &TwoChannels, vcid: u8) -> bool {
-        match shared.station.release(rt, &mut self.operator, vcid) {
-            Ok(_) => true,
-            Err(refused) => refused == ReleaseRefused::Empty,
-        }
-    }
-
-    // Brings the frame with this third octet and this N(S), and releases its channel.
-    fn turn(
-        &mut self,
-        rt: &impl Wait,
-        shared: &TwoChannels,
-        (third, vcid): (u8, u8),
-        ns: u8,
-    ) -> bool {
-        self.bring(rt, shared, &ad_frame(third, ns)) && self.release(rt, shared, vcid)
-    }
-
-    // 300 turns on channel 1 and then on channel 2, with rising numbers. Says whether nothing else was refused.
-    fn take_turns(&mut self, rt: &impl Wait, shared: &TwoChannels) -> bool {
-        let mut done = true;
-        for turn in 0..300u16 {
-            let ns = (turn % 256) as u8;
-            let first = self.turn(rt, shared, (TO_CHANNEL_1, 1), ns);
-            let second = self.turn(rt, shared, (TO_CHANNEL_2, 2), ns);
-            done = done && first && second;
-        }
-        done
+// Whether nothing was refused but for an empty buffer: the other thread may have emptied it.
+fn release(rt: &impl Wait, station: &Station, operator: &mut Operator, vcid: u8) -> bool
+    requires { IsOurs station.now operator.old }
+    ensures { IsOurs station.now operator.new }
+{
+    match station.release(rt, operator, vcid) {
+        Ok(_) => true,
+        Err(refused) => refused == ReleaseRefused::Empty,
     }
 }
 
-// A station, and its two operators.
-#[derive(Drop)]
-struct Crew {
-    shared: TwoChannels,
-    one: Hand,
-    two: Hand,
+// Brings the frame with this third octet and this N(S), and releases its channel.
+fn turn(
+    rt: &impl Wait,
+    station: &Station,
+    operator: &mut Operator,
+    channel: (u8, u8),
+    ns: u8,
+) -> bool
+    requires { IsOurs station.now operator.old }
+    ensures { IsOurs station.now operator.new }
+{
+    let (third, vcid) = channel;
+    let brought = bring(rt, station, operator, &ad_frame(third, ns));
+    let released = release(rt, station, operator, vcid);
+    brought && released
 }
 
-impl Crew {
-    // The channels have room for 64 fields.
-    fn new(rt: &impl Abort, alloc: Global) -> Crew {
-        let mut station = station_of_two(rt, alloc, 64);
-        let mut operators = station.operators(2).expect(rt, "operators");
-        let two = operators.pop().expect(rt, "a second operator");
-        let one = operators.pop().expect(rt, "a first operator");
-        Crew {
-            shared: TwoChannels { station },
-            one: Hand { operator: one },
-            two: Hand { operator: two },
-        }
+// 300 turns on channel 1 and then on channel 2, with rising numbers. Says whether nothing else was refused.
+fn take_turns(rt: &impl Wait, station: &Station, operator: &mut Operator) -> bool
+    requires { IsOurs station.now operator.old }
+    ensures { IsOurs station.now operator.new }
+{
+    let mut done = true;
+    for number in 0..300u16 {
+        let ns = (number % 256) as u8;
+        let first = turn(rt, station, operator, (TO_CHANNEL_1, 1), ns);
+        let second = turn(rt, station, operator, (TO_CHANNEL_2, 2), ns);
+        done = done && first && second;
     }
+    done
+}
 
-    // Both operators take their turns, each in a thread of its own.
-    fn share<R: Threads + Wait + Sync>(&mut self, rt: &R) -> bool {
-        let shared = &self.shared;
-        let one = &mut self.one;
-        let two = &mut self.two;
-        let (a, b) = join(
-            rt,
-            || one.take_turns(rt, shared),
-            || two.take_turns(rt, shared),
-        );
-        a && b
-    }
+// Both operators take their turns, each in a thread of its own.
+fn share<R: Threads + Wait + Sync>(
+    rt: &R,
+    station: &Station,
+    one: &mut Operator,
+    two: &mut Operator,
+) -> bool
+    requires one { IsOurs station.now one.old }
+    requires two { IsOurs station.now two.old }
+    ensures one { IsOurs station.now one.new }
+    ensures two { IsOurs station.now two.new }
+{
+    let mut first = || -> bool
+        requires { IsSync R.row × IsOurs station.now one.now }
+        ensures { IsOurs station.entry.now one.exit.now }
+    { take_turns(rt, station, one) };
+    let mut second = || -> bool
+        requires { IsSync R.row × IsOurs station.now two.now }
+        ensures { IsOurs station.entry.now two.exit.now }
+    { take_turns(rt, station, two) };
+    let (a, b) = join_mut(rt, &mut first, &mut second);
+    a && b
+}
 
-    fn counted_by_both(&self, vcid: u8) -> Option<u64> {
-        let one = self.one.operator.count(vcid)?;
-        one.checked_add(self.two.operator.count(vcid)?)
-    }
-
-    fn close(self, rt: &impl Abort, alloc: Global) -> Vec<Channel> {
-        let Crew { shared, one, two } = self;
-        let TwoChannels { station } = shared;
-        let Hand { operator: one } = one;
-        let Hand { operator: two } = two;
-        let others = vec![in alloc; one].expect(rt, "a list");
-        close(rt, station, others, two)
-    }
+fn counted_by_both(one: &Operator, two: &Operator, vcid: u8) -> Option<u64> {
+    one.count(vcid)?.checked_add(two.count(vcid)?)
 }
 
 // The channel has as many events as were counted of it: each of the 600 frames, and what was released.
@@ -130,11 +108,16 @@ fn check_journal(rt: &impl Abort, channel: &Channel, vcid: u8, counted: Option<u
 
 #[test]
 fn two_operators_on_one_station(rt: HostRuntime) {
-    let mut crew = Crew::new(&rt, rt.alloc());
-    assert!(rt; crew.share(&rt));
-    let first = crew.counted_by_both(1);
-    let second = crew.counted_by_both(2);
-    let channels = crew.close(&rt, rt.alloc());
+    // Its channels have room for 64 fields.
+    let mut station = station_of_two(&rt, rt.alloc(), 64);
+    let mut operators = station.operators(2).expect(&rt, "operators");
+    let mut two = operators.pop().expect(&rt, "a second operator");
+    let mut one = operators.pop().expect(&rt, "a first operator");
+    assert!(rt; share(&rt, &station, &mut one, &mut two));
+    let first = counted_by_both(&one, &two, 1);
+    let second = counted_by_both(&one, &two, 2);
+    let others = vec![in rt.alloc(); one].expect(&rt, "a list");
+    let channels = close(&rt, station, others, two);
     assert_eq!(rt; channels.len(), 2);
     check_journal(&rt, &channels[0], 1, first);
     check_journal(&rt, &channels[1], 2, second);

@@ -3,38 +3,24 @@
 //! In whatever order they came, a new channel that is given the events of the closed one's journal answers what they were
 //! answered.
 
-ghost use Rattle.std.specs.Prelude.{◌≡◌, ◌∷◌, []};
+ghost use Rattle.std.specs.Prelude.{◌≡◌, ◌∷◌, [], All};
+ghost use Rattle.std.specs.Thread.{IsSync};
+ghost use Rattle.tc_station.specs.Tally.{IsOurs};
 
 use super::sharing::{TO_CHANNEL_1, ad_frame};
 use super::*;
-use std::thread::{Threads, for_each_mut, yield_now};
+use std::thread::{Threads, for_each_mut, join, join_mut, yield_now};
 use tc_channel::{Delivery, Event, FrameReply};
 use tc_link::{read_clcw, read_frame};
 use tc_station::{ReleaseRefused, TakeRefused};
 use tc_status::Watcher;
 
 // A station with virtual channel 1.
-#[derive(Drop)]
-struct OneChannel {
-    station: Station,
-    ghost one: { station.vcids ≡ 1 ∷ [] },
-}
-
-impl OneChannel {
-    fn new(rt: &impl Abort, alloc: Global) -> OneChannel {
-        let list = vec![in alloc; settings_of_the_channel(rt, alloc)].expect(rt, "a list");
-        OneChannel {
-            station: new_station(rt, alloc, list),
-        }
-    }
-
-    fn watcher(&self, rt: &(impl Abort + Wait)) -> Watcher {
-        self.station.watcher(rt, 1).expect(rt, "a watcher")
-    }
-
-    fn status(&self, watcher: &mut Watcher) -> u32 {
-        self.station.watch(watcher, NO_FLAG)
-    }
+fn station_of_one(rt: &impl Abort, alloc: Global) -> Station
+    ensures { result.vcids ≡ 1 ∷ [] }
+{
+    let list = vec![in alloc; settings_of_the_channel(rt, alloc)].expect(rt, "a list");
+    new_station(rt, alloc, list)
 }
 
 // Room for 64 fields, and a queue of capacity 256 for APID 5.
@@ -78,12 +64,16 @@ struct Worker {
     task: Task,
     operator: Operator,
     answers: Vec<Answer>,
-    ghost ours: { operator.vcids ≡ 1 ∷ [] },
+    ghost one: { operator.vcids ≡ 1 ∷ [] },
 }
 
 impl Worker {
-    fn new(rt: &impl Abort, alloc: Global, shared: &mut OneChannel, task: Task) -> Worker {
-        let mut operators = shared.station.operators(1).expect(rt, "operators");
+    fn new(rt: &impl Abort, alloc: Global, station: &mut Station, task: Task) -> Worker
+        requires { station.old.vcids ≡ 1 ∷ [] }
+        ensures ours { IsOurs station.new result.operator }
+        ensures same { (station.new.vcids ≡ station.old.vcids) × (station.new.locks ≡ station.old.locks) }
+    {
+        let mut operators = station.operators(1).expect(rt, "operators");
         let operator = operators.pop().expect(rt, "an operator");
         Worker {
             task,
@@ -92,55 +82,70 @@ impl Worker {
         }
     }
 
-    fn note(&mut self, answer: Answer) -> bool {
+    fn note(&mut self, answer: Answer) -> bool
+        ensures { self.new.operator ≡ self.old.operator }
+    {
         self.answers.push(answer).is_ok()
     }
 
-    fn bring(&mut self, rt: &impl Wait, shared: &OneChannel, ns: u8) -> bool {
+    fn bring(&mut self, rt: &impl Wait, station: &Station, ns: u8) -> bool
+        requires { IsOurs station.now self.old.operator }
+        ensures { IsOurs station.now self.new.operator }
+    {
         let octets = ad_frame(TO_CHANNEL_1, ns);
-        match shared.station.bring(rt, &mut self.operator, &octets) {
+        match station.bring(rt, &mut self.operator, &octets) {
             Ok(brought) => self.note(Answer::Frame(brought.reply)),
             Err(_) => false,
         }
     }
 
-    fn release(&mut self, rt: &impl Wait, shared: &OneChannel) -> bool {
-        match shared.station.release(rt, &mut self.operator, 1) {
+    fn release(&mut self, rt: &impl Wait, station: &Station) -> bool
+        requires { IsOurs station.now self.old.operator }
+        ensures { IsOurs station.now self.new.operator }
+    {
+        match station.release(rt, &mut self.operator, 1) {
             Ok(delivery) => self.note(Answer::Release(delivery)),
             Err(refused) => refused == ReleaseRefused::Empty,
         }
     }
 
-    fn take(&mut self, rt: &impl Wait, shared: &OneChannel) -> bool {
-        match shared.station.take(rt, &mut self.operator, 1, 5) {
+    fn take(&mut self, rt: &impl Wait, station: &Station) -> bool
+        requires { IsOurs station.now self.old.operator }
+        ensures { IsOurs station.now self.new.operator }
+    {
+        match station.take(rt, &mut self.operator, 1, 5) {
             Ok(packet) => self.note(Answer::Packet(packet)),
             Err(refused) => refused == TakeRefused::Empty,
         }
     }
 
     // One turn of its task. Says whether nothing was refused but for an empty buffer or an empty queue.
-    fn act(&mut self, rt: &impl Wait, shared: &OneChannel, turn: u16) -> bool {
+    fn act(&mut self, rt: &impl Wait, station: &Station, turn: u16) -> bool
+        requires { IsOurs station.now self.old.operator }
+        ensures { IsOurs station.now self.new.operator }
+    {
         match self.task {
-            Task::Bring => self.bring(rt, shared, (turn % 256) as u8),
-            Task::Release => self.release(rt, shared),
-            Task::Take => self.take(rt, shared),
+            Task::Bring => self.bring(rt, station, (turn % 256) as u8),
+            Task::Release => self.release(rt, station),
+            Task::Take => self.take(rt, station),
         }
     }
 
-    // All its turns. Says whether nothing else was refused.
-    fn work(&mut self, rt: &impl Wait, shared: &OneChannel) -> bool {
+    // All its turns. Nothing else is refused.
+    fn work(&mut self, rt: &(impl Abort + Wait), station: &Station)
+        requires { IsOurs station.now self.old.operator }
+        ensures { IsOurs station.now self.new.operator }
+    {
         let turns = if self.task == Task::Bring { 200 } else { 300 };
-        let mut done = true;
         for turn in 0..turns {
-            done = self.act(rt, shared, turn) && done;
+            assert!(rt; self.act(rt, station, turn));
         }
-        done
     }
 }
 
 // V(R) in the watcher's next status, which is of channel 1 with a FARM-B counter of 0.
-fn next_number(shared: &OneChannel, watcher: &mut Watcher) -> Option<u8> {
-    let status = read_clcw(shared.status(watcher))?;
+fn next_number(station: &Station, watcher: &mut Watcher) -> Option<u8> {
+    let status = read_clcw(station.watch(watcher, NO_FLAG))?;
     if status.vcid == 1 && status.farm_b == 0 {
         Some(status.vr)
     } else {
@@ -149,10 +154,10 @@ fn next_number(shared: &OneChannel, watcher: &mut Watcher) -> Option<u8> {
 }
 
 // Watches 300 times. Says whether V(R) never fell.
-fn never_falls(shared: &OneChannel, watcher: &mut Watcher) -> bool {
+fn never_falls(station: &Station, watcher: &mut Watcher) -> bool {
     let mut last = 0;
     for _ in 0..300 {
-        match next_number(shared, watcher) {
+        match next_number(station, watcher) {
             Some(next) if next >= last => last = next,
             _ => return false,
         }
@@ -161,74 +166,67 @@ fn never_falls(shared: &OneChannel, watcher: &mut Watcher) -> bool {
     true
 }
 
-// One of the threads.
-#[derive(Drop)]
-enum Part {
-    Works(Worker),
-    Watches(Watcher),
+// Two that bring, one that releases and one that takes.
+fn four_workers(rt: &impl Abort, alloc: Global, station: &mut Station) -> Vec<Worker>
+    requires { station.old.vcids ≡ 1 ∷ [] }
+    ensures ours { All (λ w. IsOurs station.new w.operator) result.items }
+    ensures same { station.new.vcids ≡ station.old.vcids }
+{
+    let one = Worker::new(rt, alloc, station, Task::Bring);
+    let two = Worker::new(rt, alloc, station, Task::Bring);
+    let releaser = Worker::new(rt, alloc, station, Task::Release);
+    let taker = Worker::new(rt, alloc, station, Task::Take);
+    vec![in alloc; one, two, releaser, taker].expect(rt, "a list")
 }
 
-impl Part {
-    // All that it does. Nothing is refused but what may be, and V(R) never falls.
-    fn play(&mut self, rt: &(impl Abort + Wait), shared: &OneChannel) {
-        match self {
-            Part::Works(worker) => assert!(rt; worker.work(rt, shared)),
-            Part::Watches(watcher) => assert!(rt; never_falls(shared, watcher)),
-        }
-    }
+fn new_watcher(rt: &(impl Abort + Wait), station: &Station) -> Watcher {
+    station.watcher(rt, 1).expect(rt, "a watcher")
 }
 
-// Two that bring, one that releases, one that takes, and two that watch.
-fn six_parts(rt: &(impl Abort + Wait), alloc: Global, shared: &mut OneChannel) -> Vec<Part> {
-    let mut parts = Vec::with_capacity(alloc, 6).expect(rt, "a list");
-    for task in [Task::Bring, Task::Bring, Task::Release, Task::Take] {
-        let worker = Worker::new(rt, alloc, shared, task);
-        parts.push(Part::Works(worker)).expect(rt, "a list");
-    }
-    for _ in 0..2 {
-        let watcher = shared.watcher(rt);
-        parts.push(Part::Watches(watcher)).expect(rt, "a list");
-    }
-    parts
+// Each worker in a thread of its own.
+fn work_all<R: Abort + Threads + Wait + Sync>(rt: &R, station: &Station, workers: &mut [Worker])
+    requires { All (λ w. IsOurs station.now w.operator) workers.old }
+{
+    for_each_mut(
+        rt,
+        workers,
+        4,
+        &|_, worker: &mut Worker| -> ()
+            requires { IsOurs station.now worker.old.operator }
+        { worker.work(rt, station) },
+    );
 }
 
-// Each in a thread of its own.
-fn all_at_once<R: Abort + Threads + Wait + Sync>(rt: &R, shared: &OneChannel, parts: &mut [Part]) {
-    for_each_mut(rt, parts, 6, &|_, part: &mut Part| part.play(rt, shared));
+// For neither watcher V(R) falls, each of which is in a thread of its own.
+fn watch_both<R: Abort + Threads + Wait + Sync>(
+    rt: &R,
+    station: &Station,
+    one: &mut Watcher,
+    two: &mut Watcher,
+) {
+    let (first, second) = join(
+        rt,
+        || never_falls(station, one),
+        || never_falls(station, two),
+    );
+    assert!(rt; first && second);
 }
 
-// The workers and the watchers, each in order.
-#[derive(Drop)]
-struct Parted {
-    workers: Vec<Worker>,
-    watchers: Vec<Watcher>,
-}
-
-impl Parted {
-    fn new(rt: &impl Abort, alloc: Global, parts: Vec<Part>) -> Parted {
-        let mut parted = Parted {
-            workers: Vec::new(alloc),
-            watchers: Vec::new(alloc),
-        };
-        for part in parts {
-            parted.add(rt, part);
-        }
-        parted
-    }
-
-    fn add(&mut self, rt: &impl Abort, part: Part) {
-        let added = match part {
-            Part::Works(worker) => self.workers.push(worker).is_ok(),
-            Part::Watches(watcher) => self.watchers.push(watcher).is_ok(),
-        };
-        assert!(rt; added);
-    }
-}
-
-// What a watcher reads at the end.
-fn last_status(rt: &impl Abort, shared: &OneChannel, mut watchers: Vec<Watcher>) -> u32 {
-    let mut watcher = watchers.pop().expect(rt, "a watcher");
-    shared.status(&mut watcher)
+// Workers and watchers, each in a thread of its own.
+fn all_at_once<R: Abort + Threads + Wait + Sync>(
+    rt: &R,
+    station: &Station,
+    workers: &mut [Worker],
+    one: &mut Watcher,
+    two: &mut Watcher,
+)
+    requires { All (λ w. IsOurs station.now w.operator) workers.old }
+{
+    let mut first = || -> ()
+        requires { IsSync R.row × All (λ w. IsOurs station.now w.operator) workers.now }
+    { work_all(rt, station, workers) };
+    let mut second = || watch_both(rt, station, one, two);
+    join_mut(rt, &mut first, &mut second);
 }
 
 // What all operators counted of channel 1.
@@ -317,7 +315,7 @@ fn check_as_often(rt: &impl Abort, all: &[Answer], one: &[Answer], two: &[Answer
     }
 }
 
-fn is_frame(event: &Event, frame: &[u8]) -> bool {
+pub(super) fn is_frame(event: &Event, frame: &[u8]) -> bool {
     match event {
         Event::Frame(octets) => octets.as_slice() == frame,
         _ => false,
@@ -366,19 +364,16 @@ fn last_of(rt: &impl Abort, workers: &mut Vec<Worker>) -> Worker {
 }
 
 // Closes the station, and keeps what each operator was answered.
-fn close_all(
-    rt: &impl Abort,
-    alloc: Global,
-    shared: OneChannel,
-    mut workers: Vec<Worker>,
-) -> Closed {
+fn close_all(rt: &impl Abort, alloc: Global, station: Station, mut workers: Vec<Worker>) -> Closed
+    requires { station.vcids ≡ 1 ∷ [] }
+{
     let taker = last_of(rt, &mut workers);
     let releaser = last_of(rt, &mut workers);
     let two = last_of(rt, &mut workers);
     let one = last_of(rt, &mut workers);
     let three = vec![in alloc; one.operator, two.operator, releaser.operator];
     let three = three.expect(rt, "a list");
-    let mut channels = close(rt, shared.station, three, taker.operator);
+    let mut channels = close(rt, station, three, taker.operator);
     assert_eq!(rt; channels.len(), 1);
     Closed {
         channel: channels.pop().expect(rt, "a channel"),
@@ -400,13 +395,14 @@ fn check_answers(rt: &impl Abort, alloc: Global, closed: &Closed) {
 #[test]
 fn six_threads_on_one_channel(rt: HostRuntime) {
     let alloc = rt.alloc();
-    let mut shared = OneChannel::new(&rt, alloc);
-    let mut parts = six_parts(&rt, alloc, &mut shared);
-    all_at_once(&rt, &shared, parts.as_mut_slice());
-    let Parted { workers, watchers } = Parted::new(&rt, alloc, parts);
-    let status = last_status(&rt, &shared, watchers);
+    let mut station = station_of_one(&rt, alloc);
+    let mut workers = four_workers(&rt, alloc, &mut station);
+    let mut one = new_watcher(&rt, &station);
+    let mut two = new_watcher(&rt, &station);
+    all_at_once(&rt, &station, workers.as_mut_slice(), &mut one, &mut two);
+    let status = station.watch(&mut one, NO_FLAG);
     let counted = counted(&rt, &workers);
-    let closed = close_all(&rt, alloc, shared, workers);
+    let closed = close_all(&rt, alloc, station, workers);
     check_closed(&rt, &closed.channel, counted, status);
     check_answers(&rt, alloc, &closed);
 }

@@ -1,5 +1,5 @@
-use Rattle.std.proofs.Common.{◌≡◌}
+use Rattle.tc_station.specs.Tally.{IsOurs}
 use Rattle.tc_bench.proofs.threads.run.Given as goal
 
 abbrev pub invariant-loop-number : goal.invariant-loop-number
-invariant-loop-number g l = l.operator.vcids ≡ l.station.vcids
+invariant-loop-number g l = IsOurs l.station l.operator

@@ -1,11 +1,10 @@
 use Rattle.std.proofs.Common.{◌≡◌, length, arith}
 use Rattle.std.proofs.lemmas.Result.{IfOk-weaker}
-use Rattle.tc_cli.proofs.Parts.{kept-ours, worked-out}
+use Rattle.tc_cli.proofs.Parts.{worked-out}
 use Rattle.tc_cli.proofs.parting.Parted.work.Goals as goal
 
 pub close-requires-clause-ours : goal.close-requires-clause-ours
-close-requires-clause-ours g c =
-    rw c.in-Ok.ensures.issued (kept-ours c.in-Ok.operators.items c.work.new.operators.items c.len.result c.self.inside.station.vcids c.in-Ok.ensures.fresh c.work.ensures.kept)
+close-requires-clause-ours g c = λ k d inside. (c.work.ensures.ours k d inside).0
 
 pub returns-in-Ok-work-clause-worked : goal.returns-in-Ok-work-clause-worked
 returns-in-Ok-work-clause-worked g c =

@@ -1,12 +1,12 @@
 use Rattle.std.proofs.Common.{◌≡◌, ◌∙◌, ℕ, List, sym, ap, subst, rules, refl}
 use Rattle.tc_channel.specs.Journal.{History}
-use Rattle.tc_station.specs.Tally.{Tally}
+use Rattle.tc_station.specs.Tally.{AtStation}
 use Rattle.tc_station.specs.Balance.{AreInBalance}
 use Rattle.tc_station.proofs.Ordered.{in-order}
 use Rattle.tc_station.proofs.station.StationOf+Kept.close.Goals as goal
 
-moved : (a b : List ℕ) (o p : List Tally) (d e : List History) → a ≡ b → o ≡ p → d ≡ e → AreInBalance a o d → AreInBalance b p e
-moved a b o p d e s t u h = subst (λ (x : List ℕ × List Tally × List History). AreInBalance x.0 x.1 x.2) (λ i. (s i, t i, u i)) h
+moved : (a b : List ℕ) (o p : List AtStation) (d e : List History) → a ≡ b → o ≡ p → d ≡ e → AreInBalance a o d → AreInBalance b p e
+moved a b o p d e s t u h = subst (λ (x : List ℕ × List AtStation × List History). AreInBalance x.0 x.1 x.2) (λ i. (s i, t i, u i)) h
 
 pub returns-then-are_in_balance-clause-balanced : goal.returns-then-are_in_balance-clause-balanced
 returns-then-are_in_balance-clause-balanced c =

@@ -1,13 +1,13 @@
 use Rattle.std.proofs.Common.{◌≡◌, ◌∙◌, ℕ, List, get_or, sym, ap, subst, rules, refl}
 use Rattle.std.proofs.lemmas.Option.{slice_get-get_or}
 use Rattle.tc_channel.specs.Journal.{History}
-use Rattle.tc_station.specs.Tally.{Tally}
+use Rattle.tc_station.specs.Tally.{AtStation}
 use Rattle.tc_station.specs.Balance.{AreInToldBalance}
 use Rattle.tc_station.proofs.Ordered.{in-order}
 use Rattle.tc_station.proofs.station.StationOf+Unkept.close.Goals as goal
 
-moved : (a b : List ℕ) (o p : List Tally) (d e : List History) → a ≡ b → o ≡ p → d ≡ e → AreInToldBalance a o d → AreInToldBalance b p e
-moved a b o p d e s t u h = subst (λ (x : List ℕ × List Tally × List History). AreInToldBalance x.0 x.1 x.2) (λ i. (s i, t i, u i)) h
+moved : (a b : List ℕ) (o p : List AtStation) (d e : List History) → a ≡ b → o ≡ p → d ≡ e → AreInToldBalance a o d → AreInToldBalance b p e
+moved a b o p d e s t u h = subst (λ (x : List ℕ × List AtStation × List History). AreInToldBalance x.0 x.1 x.2) (λ i. (s i, t i, u i)) h
 
 pub returns-then-are_in_told_balance-clause-balanced : goal.returns-then-are_in_told_balance-clause-balanced
 returns-then-are_in_told_balance-clause-balanced c =

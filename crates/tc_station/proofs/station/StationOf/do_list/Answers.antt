@@ -1,5 +1,6 @@
-use Rattle.std.proofs.Common.{◌∙◌, rules}
-use Rattle.tc_station.proofs.Works.{one-more, same-vcids}
+use Rattle.std.proofs.Common.{rules}
+use Rattle.tc_station.specs.Tally.{tally}
+use Rattle.tc_station.proofs.Works.{one-more}
 use Rattle.tc_station.proofs.station.StationOf.do_list.Goals as goal
 
 pub loop-job-preserved : goal.loop-job-preserved
@@ -7,6 +8,6 @@ loop-job-preserved g c =
     let i = c.loop-job.invariant in
     let is = rw c.as_slice-job-items.ensures at c.job-item.is in
     let done = c.in-Ok.ensures.done in (
-      same-vcids c.args.self.now c.args.list.now.vcid c.job-item.result.order c.loop-job.operator c.do_job.new.operator done ∙ i.0,
-      one-more c.args.self.now c.args.list.now.vcid c.args.list.now.jobs c.loop-job.job-index c.job-item.result c.args.operator.now c.loop-job.operator c.do_job.new.operator (search rules) is i.1 done,
+      c.do_job.ensures.ours,
+      one-more c.args.self.now c.args.list.now.vcid c.args.list.now.jobs c.loop-job.job-index c.job-item.result (tally c.args.operator.now) (tally c.loop-job.operator) (tally c.do_job.new.operator) (search rules) is i.1 done,
     )

@@ -1,5 +1,14 @@
-use Rattle.std.proofs.Common.{rules}
+use Rattle.std.proofs.Common.{inl, rules}
+use Rattle.tc_station.specs.Faults.{take_refused}
+use Rattle.tc_station.proofs.Called.{ok-call, refused-call}
 use Rattle.tc_station.proofs.station.StationOf.take.Goals as goal
 
 pub returns-clause-answer : goal.returns-clause-answer
 returns-clause-answer g c = search rules
+
+pub returns-in_err-packet-clause-call : goal.returns-in_err-packet-clause-call
+returns-in_err-packet-clause-call g c =
+    inl (c.in-Some.place, search rules, refused-call _ _ _ _ _ _ _ _ _ _ _ take_refused _ c.operate.ensures.call c.in_err-packet.was c.from_residual.ensures.1 (λ m h said p. (c.in_err-packet.field-0.0, said, p)))
+
+pub returns-clause-call : goal.returns-clause-call
+returns-clause-call g c = inl (c.in-Some.place, search rules, ok-call _ _ _ _ _ _ _ _ _ _ _ _ c.operate.ensures.call c.in_ok-packet.was (λ m p. p))

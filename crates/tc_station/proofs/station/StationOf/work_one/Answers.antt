@@ -1,4 +1,5 @@
 use Rattle.std.proofs.Common.{sym, subst, rules}
+use Rattle.tc_station.specs.Tally.{tally}
 use Rattle.tc_station.specs.Work.{IsTallyOf, IsWorked}
 use Rattle.tc_station.proofs.Works.{one-worked}
 use Rattle.tc_station.proofs.station.StationOf.work_one.Goals as goal
@@ -10,5 +11,6 @@ returns g c =
     let line = c.do_list.result in
     let z = c.do_list.new.operator in
     one-worked c.args.self.now c.args.lists.now c.args.operators.now l o z line (search rules) (search rules) c.index-lists-0.is c.index-operators-0.is
-    (subst (IsTallyOf c.args.self.now) (sym c.index-operators-0.is) c.do_list.ensures.tally)
-    (subst (λ t. IsWorked c.args.self.now l line t z) (sym c.index-operators-0.is) c.do_list.ensures.worked)
+    (subst (λ t. IsTallyOf c.args.self.now (tally t)) (sym c.index-operators-0.is) c.do_list.ensures.tally)
+    c.do_list.ensures.ours
+    (subst (λ t. IsWorked c.args.self.now l line (tally t) (tally z)) (sym c.index-operators-0.is) c.do_list.ensures.worked)

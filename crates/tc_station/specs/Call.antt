@@ -1,0 +1,71 @@
+-- What the calls of operators do at the desks of a station.
+use Rattle.std.specs.Prelude.{◌≡◌, ◌⊎◌, ℕ, Bool, false, List, Some, Result, Err, slice_get, slice_set}
+use Rattle.tc_channel.specs.declared.event.Event.{Event}
+use Rattle.tc_channel.specs.declared.event.Event.TheVariants.{Frame}
+use Rattle.tc_channel.specs.declared.reply.ReleaseFault.{ReleaseFault}
+use Rattle.tc_channel.specs.declared.reply.TakeFault.{TakeFault}
+use Rattle.tc_channel.specs.declared.reply.TakeUnitFault.{TakeUnitFault}
+use Rattle.tc_channel.specs.Reply.{IsBypassData}
+use Rattle.tc_status.specs.Board.{Watching}
+use Rattle.tc_desk.specs.Log.{Moment, AtLock}
+use Rattle.tc_desk.specs.Call.{IsCall, IsFramed, IsFramedWatched, IsReleaseFault, IsTakeFault, IsTakeUnitFault}
+use Rattle.tc_station.specs.Roster.{Roster, IsPlace}
+use Rattle.tc_station.specs.Tally.{AtStation}
+use Rattle.tc_station.specs.Location.{IsPlaced}
+use Rattle.tc_station.specs.Faults.{release_refused, take_refused, take_unit_refused}
+use Rattle.tc_station.specs.declared.faults.LocateFault.{LocateFault}
+use Rattle.tc_station.specs.declared.faults.BringFault.{BringFault}
+use Rattle.tc_station.specs.declared.faults.BringFault.TheVariants.{Locate, NoMemory}
+use Rattle.tc_station.specs.declared.faults.ReleaseRefused.{ReleaseRefused}
+use Rattle.tc_station.specs.declared.faults.TakeRefused.{TakeRefused}
+use Rattle.tc_station.specs.declared.faults.TakeUnitRefused.{TakeUnitRefused}
+use Rattle.tc_station.specs.declared.station.Brought.{Brought}
+
+-- The operator made this call at its desk of this place, whose channel has this id. Its other desks are as they were.
+pub record IsCallAt {R F : Type 0} (place vcid : ℕ) (e : Event) (ok : Moment → R → Type 0) (err : Moment → F → Type 0) (before : AtStation) (result : Result R F) (after : AtStation) : Type 0 where
+  pub there : AtLock
+  pub next : AtLock
+  pub was : slice_get before.desks place ≡ Some there
+  pub named : there.own.seen.head.settings.vcid ≡ vcid
+  pub call : IsCall e ok err there result next
+  pub others : after.desks ≡ slice_set before.desks place next
+  pub vcids : after.vcids ≡ before.vcids
+
+-- It made this call at the desk of the channel with this id; or the station has no such channel, and nothing happened.
+abbrev pub IsCallOn : {R F : Type 0} → Roster → ℕ → Event → (Moment → R → Type 0) → (Moment → F → Type 0) → F → AtStation → Result R F → AtStation → Type 0
+IsCallOn {R = R} {F = F} station vcid e ok err unknown before result after =
+    ((place : ℕ) × IsPlace station vcid place × IsCallAt place vcid e ok err before result after)
+    ⊎ ((result ≡ Err unknown) × (after ≡ before))
+
+-- It brought the frame at the front of the octets to the desk of the channel that the frame names; or there is no such frame or
+-- channel, and nothing happened.
+abbrev pub IsBringCall : {R : Type 0} → Roster → List ℕ → (ℕ → List ℕ → Moment → R → Type 0) → (List ℕ → Moment → BringFault → Type 0) → AtStation → Result R BringFault → AtStation → Type 0
+IsBringCall {R = R} station octets ok err before result after =
+    ((place vcid : ℕ) × (frame : List ℕ) × IsPlaced station octets place vcid frame × IsCallAt place vcid (Frame frame) (ok vcid frame) (err frame) before result after)
+    ⊎ ((f : LocateFault) × (result ≡ Err (Locate f)) × (after ≡ before))
+
+-- the reply to this frame, brought to the channel with this id
+abbrev pub IsReplied : ℕ → List ℕ → Moment → Brought → Type 0
+IsReplied vcid frame m brought = (brought.vcid ≡ vcid) × IsFramed frame m brought.reply
+
+-- the same, and a watcher of the desk's board that has seen the channel take the frame
+abbrev pub IsRepliedWatched : ℕ → List ℕ → Moment → Brought × Watching → Type 0
+IsRepliedWatched vcid frame m answer = (answer.0.vcid ≡ vcid) × IsFramedWatched frame m (answer.0.reply, answer.1)
+
+-- out of memory; where the journal takes none, only a Type-BD frame can be refused so
+abbrev pub IsNotBrought : Bool → List ℕ → Moment → BringFault → Type 0
+IsNotBrought grows frame m fault = (fault ≡ NoMemory) × (grows ≡ false → IsBypassData frame)
+
+-- out of memory, for the frame or the watcher
+abbrev pub IsNotBroughtWatched : List ℕ → Moment → BringFault → Type 0
+IsNotBroughtWatched frame m fault = fault ≡ NoMemory
+
+-- the desk refused, and this is how the station says it
+abbrev pub IsNotReleased : Moment → ReleaseRefused → Type 0
+IsNotReleased m refused = (fault : ReleaseFault) × (refused ≡ release_refused fault) × IsReleaseFault m fault
+
+abbrev pub IsNotTaken : Bool → ℕ → Moment → TakeRefused → Type 0
+IsNotTaken grows apid m refused = (fault : TakeFault) × (refused ≡ take_refused fault) × IsTakeFault grows apid m fault
+
+abbrev pub IsUnitNotTaken : Bool → ℕ → Moment → TakeUnitRefused → Type 0
+IsUnitNotTaken grows map_id m refused = (fault : TakeUnitFault) × (refused ≡ take_unit_refused fault) × IsTakeUnitFault grows map_id m fault

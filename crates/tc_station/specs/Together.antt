@@ -1,0 +1,20 @@
+-- What the channels of a station are to its operators where they are closed together, and when they aren't.
+use Rattle.std.specs.Prelude.{List, map}
+use Rattle.tc_channel.specs.Journal.{History}
+use Rattle.tc_desk.specs.Log.{AtLock}
+use Rattle.tc_desk.specs.Together.{AreClosed, IsRefusal}
+use Rattle.tc_desk.specs.declared.together.Refusal.{Refusal}
+use Rattle.tc_station.specs.Roster.{Roster, ArePostsOf}
+use Rattle.tc_station.specs.Tally.{AtStation}
+
+abbrev pub crews_of : List AtStation → List (List AtLock)
+crews_of operators = map (λ (o : AtStation). o.desks) operators
+
+-- The journal of each channel is a merge of what these operators made at its desk, what each of them had seen is a beginning of it,
+-- and its settings are those of the desk.
+abbrev pub AreClosedTogether : Roster → List AtStation → List History → Type 0
+AreClosedTogether station operators closed = (posts : List AtLock) × ArePostsOf station posts × AreClosed posts (crews_of operators) closed
+
+-- where counts are the reason, there were moments of the desks, all at once, at which one of them wasn't balanced
+abbrev pub IsNotClosedTogether : Roster → List AtStation → Refusal → Type 0
+IsNotClosedTogether station operators refusal = (posts : List AtLock) × ArePostsOf station posts × IsRefusal posts (crews_of operators) refusal

@@ -1,0 +1,63 @@
+//! What a station asks its desks for without an operator.
+
+ghost use Rattle.std.specs.Prelude.{◌≡◌, ⊤, IfOk};
+ghost use Rattle.tc_station.specs.Holding.{holding_of};
+
+use crate::holding::{Holding, holding_in};
+use crate::work::Gate;
+use std::alloc::Global;
+use tc_channel::{Journal, NoMemory};
+use tc_desk::Question;
+use tc_status::DeskOf;
+
+/// The question, and for which channel it was answered, since who asks without an operator doesn't know that.
+#[derive(Drop)]
+pub(crate) struct Named<'a, Q> {
+    pub(crate) question: &'a Q,
+}
+
+impl<J: Journal, Q: Question<J>> Question<J> for Named<'_, Q> {
+    type Answer = (u8, Q::Answer);
+
+    ghost answers = { λ n m answer. (answer.0 ≡ m.head.settings.vcid) × Q.answers n.question.now m answer.1 };
+
+    fn ask(&self, desk: &mut DeskOf<J>) -> (u8, Q::Answer) {
+        let answer = self.question.ask(desk);
+        (desk.channel().settings().vcid, answer)
+    }
+}
+
+/// What the channel has come to.
+#[derive(Drop)]
+pub(crate) struct Summing {
+    pub(crate) alloc: Global,
+}
+
+impl<J: Journal> Question<J> for Summing {
+    type Answer = Result<Holding, NoMemory>;
+
+    ghost answers = { λ _ m answer. IfOk answer (λ holding. holding ≡ holding_of m.head.settings m.entries) };
+
+    fn ask(&self, desk: &mut DeskOf<J>) -> Result<Holding, NoMemory> {
+        holding_in(self.alloc, desk.channel())
+    }
+}
+
+/// The gate is passed.
+#[derive(Drop)]
+pub(crate) struct Passing<'a, G> {
+    pub(crate) gate: &'a G,
+    pub(crate) vcid: u8,
+}
+
+impl<J: Journal, G: Gate> Question<J> for Passing<'_, G> {
+    type Answer = ();
+
+    ghost answers = { λ _ _ _. ⊤ };
+
+    fn ask(&self, desk: &mut DeskOf<J>) {
+        self.gate.pass(self.vcid);
+        // it shows a proof that the journal is lawful
+        let _ = desk.channel().settings();
+    }
+}

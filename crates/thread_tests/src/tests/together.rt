@@ -1,0 +1,81 @@
+//! Two threads on two channels, which are closed together.
+
+ghost use Rattle.std.specs.Prelude.{All};
+ghost use Rattle.tc_station.specs.Tally.{IsOurs};
+
+use super::gate::{do_lists, new_crew};
+use super::sharing::{TO_CHANNEL_1, TO_CHANNEL_2};
+use super::six_threads::is_frame;
+use super::*;
+use tc_channel::{Event, Octets};
+use tc_station::{FreeGate, Job, Order, WorkList};
+
+// How many frames each worker brings to each channel.
+const FRAMES: u8 = 200;
+
+// A Type-BD frame to the channel of the third octet. Its data field names the worker and the frame.
+fn frame(third: u8, worker: u8, number: u8) -> [u8; 8] {
+    [0x20, 0x2a, third, 0x07, 0x00, 0xc0, worker, number]
+}
+
+fn bring(rt: &impl Abort, alloc: Global, octets: &[u8]) -> Job {
+    Job {
+        line: 1,
+        order: Order::Bring(Octets::copied(alloc, octets).expect(rt, "octets")),
+    }
+}
+
+// The worker's frames, to channel 1 and to channel 2 in turn.
+fn frames_of(rt: &impl Abort, alloc: Global, worker: u8) -> WorkList {
+    let mut jobs = Vec::new(alloc);
+    for number in 0..FRAMES {
+        let first = bring(rt, alloc, &frame(TO_CHANNEL_1, worker, number));
+        jobs.push(first).expect(rt, "jobs");
+        let second = bring(rt, alloc, &frame(TO_CHANNEL_2, worker, number));
+        jobs.push(second).expect(rt, "jobs");
+    }
+    WorkList {
+        vcid: worker,
+        jobs: Items::from(jobs),
+    }
+}
+
+// Closes a station that is refused nothing.
+fn closed_together(rt: &impl Abort, station: Station, operators: Vec<Operator>) -> Vec<Channel>
+    requires { All (IsOurs station) operators.items }
+{
+    match station.close_together(operators) {
+        Ok(channels) => channels,
+        Err(_) => panic!(rt; "not closed"),
+    }
+}
+
+// The journal is a merge of both workers' frames to this channel: each worker's are there in order, all of them, and nothing else.
+fn check_merge(rt: &impl Abort, journal: &[Event], third: u8) {
+    let mut one: u8 = 0;
+    let mut two: u8 = 0;
+    for event in journal {
+        if is_frame(event, &frame(third, 1, one)) {
+            one = one.saturating_add(1);
+        } else {
+            assert!(rt; is_frame(event, &frame(third, 2, two)));
+            two = two.saturating_add(1);
+        }
+    }
+    assert_eq!(rt; one, FRAMES);
+    assert_eq!(rt; two, FRAMES);
+}
+
+#[test]
+fn two_threads_on_two_channels(rt: HostRuntime) {
+    let alloc = rt.alloc();
+    let lists = [frames_of(&rt, alloc, 1), frames_of(&rt, alloc, 2)];
+    let (station, mut operators) = new_crew(&rt, alloc);
+    do_lists(&rt, &FreeGate, &station, &mut operators, &lists);
+    let channels = closed_together(&rt, station, operators);
+    assert_eq!(rt; channels.len(), 2);
+    assert_eq!(rt; channels[0].settings().vcid, 1);
+    assert_eq!(rt; channels[1].settings().vcid, 2);
+    check_merge(&rt, channels[0].journal(), TO_CHANNEL_1);
+    check_merge(&rt, channels[1].journal(), TO_CHANNEL_2);
+}
