@@ -10,7 +10,7 @@ use Rattle.tc_desk.specs.Log.{AtLock, Identity}
 use Rattle.tc_desk.specs.Together.{AreClosed, AreOurs, AreSame, heads_of, locks_of, settings_of}
 use Rattle.tc_station.specs.Roster.{Roster}
 use Rattle.tc_station.specs.StationSettings.{vcids_of}
-use Rattle.tc_station.specs.Tally.{AtStation, Tally, HasMadeNothing, IsOurs, arrival, counts_of, fresh, newcomer, tallies, tally}
+use Rattle.tc_station.specs.Tally.{AtStation, Tally, HasMadeNothing, IsOurs, KnowsDesks, arrival, counts_of, fresh, newcomer, tallies, tally}
 use Rattle.tc_station.specs.Together.{crews_of}
 
 -- the settings are in the heads
@@ -41,6 +41,10 @@ are-ours station posts (o ∷ os) locks all (suc k) d lt = are-ours station post
 pub arrival-locks : (posts : List AtLock) → locks_of (map arrival posts) ≡ locks_of posts
 arrival-locks [] = refl
 arrival-locks (p ∷ ps) = ap (λ (l : List TableId). p.lock ∷ l) (arrival-locks ps)
+
+pub arrival-heads : (posts : List AtLock) → heads_of (map arrival posts) ≡ heads_of posts
+arrival-heads [] = refl
+arrival-heads (p ∷ ps) = ap (λ (l : List Identity). p.own.seen.head ∷ l) (arrival-heads ps)
 
 pub arrival-settings : (posts : List AtLock) → settings_of (map arrival posts) ≡ settings_of posts
 arrival-settings [] = refl
@@ -75,6 +79,9 @@ issued-new n vcids posts operators is = subst (All HasMadeNothing) (sym is) (all
 
 pub issued-ours : (n : ℕ) (station : Roster) (vcids : List ℕ) (posts : List AtLock) (operators : List AtStation) → vcids ≡ station.vcids → locks_of posts ≡ station.locks → operators ≡ replicate n (newcomer vcids posts) → All (IsOurs station) operators
 issued-ours n station vcids posts operators ids locks is = subst (All (IsOurs station)) (sym is) (all-same (IsOurs station) n (newcomer vcids posts) (ids, arrival-locks posts ∙ locks))
+
+pub issued-heads : (n : ℕ) (station : Roster) (vcids : List ℕ) (posts : List AtLock) (operators : List AtStation) → heads_of posts ≡ station.heads → operators ≡ replicate n (newcomer vcids posts) → All (KnowsDesks station) operators
+issued-heads n station vcids posts operators heads is = subst (All (KnowsDesks station)) (sym is) (all-same (KnowsDesks station) n (newcomer vcids posts) (arrival-heads posts ∙ heads))
 
 -- the lock of an operator's desk is that of the station's desk
 pub lock-at : (desks posts : List AtLock) (place : ℕ) (post : AtLock) → locks_of desks ≡ locks_of posts → place < length posts → post ≡ get_or posts place post → get_or (locks_of desks) place post.lock ≡ post.lock

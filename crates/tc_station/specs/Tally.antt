@@ -1,7 +1,7 @@
 -- What a contract sees of an operator: the channels of its station, a count for each, and what it has seen and made at their desks.
 use Rattle.std.specs.Prelude.{◌≡◌, ℕ, ◌+◌, List, [], map, Option, Some, None, if◌then◌else◌, ◌==◌, nat_lt, slice_index, slice_set, position, length, replicate, option_map, All}
 use Rattle.tc_desk.specs.Log.{AtLock, count_of}
-use Rattle.tc_desk.specs.Together.{locks_of}
+use Rattle.tc_desk.specs.Together.{locks_of, heads_of}
 use Rattle.tc_station.specs.Roster.{Roster}
 
 pub record Tally : Type 0 where
@@ -39,6 +39,10 @@ newcomer vcids posts = at_station vcids (map arrival posts)
 -- it works at the desks of this station
 abbrev pub IsOurs : Roster → AtStation → Type 0
 IsOurs station o = (o.vcids ≡ station.vcids) × (locks_of o.desks ≡ station.locks)
+
+-- what it has seen of them has their settings and boards
+abbrev pub KnowsDesks : Roster → AtStation → Type 0
+KnowsDesks station o = heads_of o.desks ≡ station.heads
 
 abbrev pub HasMadeNothing : AtStation → Type 0
 HasMadeNothing o = All (λ (d : AtLock). d.own.made ≡ []) o.desks

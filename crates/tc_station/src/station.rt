@@ -8,7 +8,7 @@ ghost use Rattle.tc_status.specs.Board.{IsBeginning};
 ghost use Rattle.tc_desk.specs.Call as at_desk;
 ghost use Rattle.tc_desk.specs.Together.{settings_of};
 ghost use Rattle.tc_station.specs.Roster.{IsPlace, settings_in};
-ghost use Rattle.tc_station.specs.Tally.{HasMadeNothing, IsOurs, counted, fresh, newcomer, tally};
+ghost use Rattle.tc_station.specs.Tally.{HasMadeNothing, KnowsDesks, IsOurs, counted, fresh, newcomer, tally};
 ghost use Rattle.tc_station.specs.Call.{IsBringCall, IsCallAt, IsCallOn, IsNotBrought, IsNotBroughtWatched, IsNotReleased, IsNotTaken, IsReplied, IsRepliedWatched, IsUnitNotTaken};
 ghost use Rattle.tc_station.specs.Balance.{AreInBalance, IsNumberTold};
 ghost use Rattle.tc_station.specs.StationSettings.{vcids_of, HaveDistinctVcids, IsFirstDouble, IsFirstRefused, AreStationSettings, IsStationFault};
@@ -143,6 +143,7 @@ impl<J: Journal> StationOf<J> {
         ensures fresh { IfOk result (λ operators. map tally operators.items ≡ replicate n (fresh self.old.vcids)) }
         ensures new { IfOk result (λ operators. All HasMadeNothing operators.items) }
         ensures ours { IfOk result (λ operators. All (IsOurs self.new) operators.items) }
+        ensures heads { IfOk result (λ operators. All (KnowsDesks self.new) operators.items) }
         ensures issued { OnOk result (self.new ≡ record self.old { issued = self.old.issued + n }) }
         ensures many { IsErrOf result OperatorsFault.TooMany ↔ (65535 < self.old.issued + n) }
         ensures refused { OnErr result (self.new ≡ self.old) }

@@ -1,10 +1,10 @@
 use Rattle.std.proofs.Common.{◌≡◌, ◌++◌, ◌+◌, ◌∙◌, take, drop, length, replicate, sym, ap, rules, arith}
-use Rattle.tc_desk.specs.Together.{locks_of, settings_of}
+use Rattle.tc_desk.specs.Together.{heads_of, locks_of, settings_of}
 use Rattle.tc_station.specs.Roster.{Roster}
 use Rattle.tc_station.specs.StationSettings.{vcids_of}
 use Rattle.tc_station.specs.Tally.{fresh}
 use Rattle.tc_station.proofs.Called.{as-many}
-use Rattle.tc_station.proofs.Posts.{at_posts, issued-fresh, issued-new, issued-ours, more-issued, written-posts}
+use Rattle.tc_station.proofs.Posts.{at_posts, issued-fresh, issued-heads, issued-new, issued-ours, more-issued, written-posts}
 use Rattle.tc_station.proofs.station.StationOf.operators.Goals as goal
 
 pub returns-clause-issued : goal.returns-clause-issued
@@ -32,4 +32,14 @@ returns-clause-ours g c =
     let posts = take old.len (c.issue.new.posts ++ drop (length c.issue.new.posts) old.items) in
     let is : posts ≡ old.items = written-posts old.len old.items c.issue.new.posts same (omega (arith, one)) in
     issued-ours c.args.n (at_posts c.self.inside.scid c.self.inside.vcids.items c.in-Some.issued posts) c.deref.result.now c.deref_mut.result.now c.in-Ok.operators.items c.deref.ensures.value (ap locks_of (c.deref_mut.ensures.value ∙ sym is))
+    c.in-Ok.ensures.operators
+
+pub returns-clause-heads : goal.returns-clause-heads
+returns-clause-heads g c =
+    let old = c.self.inside.desks in
+    let one = old.ok.0 in
+    let same = c.issue.ensures.same ∙ c.deref_mut.ensures.value in
+    let posts = take old.len (c.issue.new.posts ++ drop (length c.issue.new.posts) old.items) in
+    let is : posts ≡ old.items = written-posts old.len old.items c.issue.new.posts same (omega (arith, one)) in
+    issued-heads c.args.n (at_posts c.self.inside.scid c.self.inside.vcids.items c.in-Some.issued posts) c.deref.result.now c.deref_mut.result.now c.in-Ok.operators.items (ap heads_of (c.deref_mut.ensures.value ∙ sym is))
     c.in-Ok.ensures.operators
