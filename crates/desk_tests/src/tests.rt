@@ -4,6 +4,7 @@ mod growth;
 mod manned;
 mod refusals;
 mod threads;
+mod together;
 
 use std::alloc::Global;
 use std::process::Abort;

@@ -29,7 +29,12 @@ fn bring<R: Abort + Wait>(rt: &R, desk: &Locked, operator: &mut DeskOperator, oc
 }
 
 // Brings the frames of all turns, one after the other. Says whether each was answered.
-fn bring_all<R: Abort + Wait>(rt: &R, desk: &Locked, operator: &mut DeskOperator, who: u8) -> bool
+pub(super) fn bring_all<R: Abort + Wait>(
+    rt: &R,
+    desk: &Locked,
+    operator: &mut DeskOperator,
+    who: u8,
+) -> bool
     requires { operator.old.lock ≡ desk.now }
     ensures { operator.new.lock ≡ desk.now }
 {
@@ -77,7 +82,7 @@ fn work<R: Threads + Abort + Wait + Sync>(
 }
 
 // Of the frames of the journal those of one thread are all that it brought, in their order.
-fn check_frames(rt: &impl Abort, journal: &[Event], who: u8) {
+pub(super) fn check_frames(rt: &impl Abort, journal: &[Event], who: u8) {
     let mut turn = 0u8;
     for event in journal {
         if let Event::Frame(octets) = event {

@@ -1,0 +1,383 @@
+//! The close of two desks at once, with all who have an operator at each, and without one of them.
+
+ghost use Rattle.std.specs.Prelude.{◌≡◌, ◌∷◌, [], All, map};
+ghost use Rattle.std.specs.Thread.{IsSync};
+ghost use Rattle.tc_desk.specs.Together.{AreOurs, AreSame, locks_of};
+
+use super::threads::{bring_all, check_frames};
+use super::*;
+use std::sync::Wait;
+use std::thread::{Threads, join_mut};
+use tc_channel::{Channel, Kept, SettingsFault};
+use tc_desk::{DeskOperator, LeftOpen, Post, Refusal, close_together, take_out_together};
+use tc_link::read_frame;
+
+type Desk = Post<Kept>;
+
+// As `UNIT_FRAME`, for virtual channel 2.
+const OTHER_FRAME: [u8; 8] = [0x20, 0x2a, 0x08, 0x07, 0x00, 0xc3, 0xaa, 0xbb];
+
+// A desk for this virtual channel, whose settings are else those of virtual channel 1. One growth may be refused.
+fn new_desk(rt: &(impl Abort + Print), alloc: Global, vcid: u8) -> Desk {
+    match Desk::new(alloc, settings_of(rt, alloc, vcid)) {
+        Ok(desk) => desk,
+        Err(SettingsFault::NoMemory) => {
+            let _ = println!(rt; "refused: Post::new");
+            Desk::new(alloc, settings_of(rt, alloc, vcid)).expect(rt, "a desk")
+        }
+        Err(_) => panic!(rt; "another refusal"),
+    }
+}
+
+fn settings_of(rt: &impl Abort, alloc: Global, vcid: u8) -> Settings {
+    let mut settings = settings(rt, alloc);
+    settings.vcid = vcid;
+    settings
+}
+
+// Two desks, of virtual channels 1 and 2.
+#[derive(Drop)]
+struct Desks {
+    first: Desk,
+    second: Desk,
+}
+
+// Who has an operator at each of them.
+#[derive(Drop)]
+struct Worker {
+    first: DeskOperator,
+    second: DeskOperator,
+}
+
+impl Desks {
+    fn new(rt: &(impl Abort + Print), alloc: Global) -> Desks {
+        Desks {
+            first: new_desk(rt, alloc, 1),
+            second: new_desk(rt, alloc, 2),
+        }
+    }
+
+    fn worker(&mut self) -> Worker
+        ensures same { self.new ≡ self.old }
+        ensures first { result.first.lock ≡ self.new.first.lock }
+        ensures second { result.second.lock ≡ self.new.second.lock }
+    {
+        Worker {
+            first: self.first.operator(),
+            second: self.second.operator(),
+        }
+    }
+}
+
+// A call that grows may be refused once; then it is made again.
+fn bring(
+    rt: &(impl Abort + Wait),
+    desk: &Desk,
+    operator: &mut DeskOperator,
+    octets: &[u8],
+) -> FrameReply
+    requires { operator.old.lock ≡ desk.now.lock }
+    ensures { operator.new.lock ≡ operator.old.lock }
+{
+    let frame = read_frame(octets).expect(rt, "a frame");
+    match desk.desk().frame(rt, operator, &frame) {
+        Ok(reply) => reply,
+        Err(_) => desk
+            .desk()
+            .frame(rt, operator, &frame)
+            .expect(rt, "a reply"),
+    }
+}
+
+fn release(rt: &(impl Abort + Wait), desk: &Desk, operator: &mut DeskOperator) -> Delivery
+    requires { operator.old.lock ≡ desk.now.lock }
+    ensures { operator.new.lock ≡ operator.old.lock }
+{
+    match desk.desk().release(rt, operator) {
+        Ok(delivery) => delivery,
+        Err(_) => desk.desk().release(rt, operator).expect(rt, "a delivery"),
+    }
+}
+
+fn take_unit(rt: &(impl Abort + Wait), desk: &Desk, operator: &mut DeskOperator) -> Vec<u8>
+    requires { operator.old.lock ≡ desk.now.lock }
+    ensures { operator.new.lock ≡ operator.old.lock }
+{
+    match desk.desk().take_unit(rt, operator, 3) {
+        Ok(unit) => unit,
+        Err(_) => desk.desk().take_unit(rt, operator, 3).expect(rt, "a unit"),
+    }
+}
+
+// At the first desk one brings a frame, and the other lets its data field out; at the second the other brings a unit, and the one
+// takes it.
+fn work(rt: &(impl Abort + Wait), desks: &Desks, one: &mut Worker, other: &mut Worker)
+    requires one { (one.old.first.lock ≡ desks.now.first.lock) × (one.old.second.lock ≡ desks.now.second.lock) }
+    requires other { (other.old.first.lock ≡ desks.now.first.lock) × (other.old.second.lock ≡ desks.now.second.lock) }
+    ensures one { (one.new.first.lock ≡ one.old.first.lock) × (one.new.second.lock ≡ one.old.second.lock) }
+    ensures other { (other.new.first.lock ≡ other.old.first.lock) × (other.new.second.lock ≡ other.old.second.lock) }
+{
+    assert!(rt; bring(rt, &desks.first, &mut one.first, &FRAME) == BUFFERED);
+    assert!(rt; release(rt, &desks.first, &mut other.first) == ONE);
+    assert!(rt; bring(rt, &desks.second, &mut other.second, &OTHER_FRAME) == UNIT_KEPT);
+    let unit = take_unit(rt, &desks.second, &mut one.second);
+    assert_eq!(rt; unit.as_slice(), UNIT.as_slice());
+}
+
+// A list of two. One growth may be refused.
+fn list_of<T: Drop>(rt: &impl Abort, alloc: Global, first: T, second: T) -> Vec<T>
+    ensures { result.items ≡ first ∷ second ∷ [] }
+{
+    let mut list = room_for_two(rt, alloc);
+    list.push(first).expect(rt, "room");
+    list.push(second).expect(rt, "room");
+    list
+}
+
+fn room_for_two<T>(rt: &impl Abort, alloc: Global) -> Vec<T>
+    ensures { result.items ≡ [] }
+{
+    match Vec::with_capacity(alloc, 2) {
+        Ok(list) => list,
+        Err(_) => Vec::with_capacity(alloc, 2).expect(rt, "a list"),
+    }
+}
+
+// The two desks in their order, and one's operators in the same. One growth may be refused.
+fn posts_of(rt: &impl Abort, alloc: Global, desks: Desks) -> Vec<Desk>
+    ensures { result.items ≡ desks.first ∷ desks.second ∷ [] }
+{
+    let Desks { first, second } = desks;
+    list_of(rt, alloc, first, second)
+}
+
+fn crew_of(rt: &impl Abort, alloc: Global, worker: Worker) -> Vec<DeskOperator>
+    ensures { result.items ≡ worker.first ∷ worker.second ∷ [] }
+{
+    let Worker { first, second } = worker;
+    list_of(rt, alloc, first, second)
+}
+
+// Closes the desks. One growth may be refused: all is given back, and the desks are closed then.
+fn closed(
+    rt: &(impl Abort + Print),
+    alloc: Global,
+    posts: Vec<Desk>,
+    crews: Vec<Vec<DeskOperator>>,
+) -> Vec<Channel>
+    requires { AreOurs posts.items (map (λ crew. crew.items) crews.items) }
+{
+    let left = match close_together(alloc, posts, crews) {
+        Ok(channels) => return channels,
+        Err(left) => left,
+    };
+    assert!(rt; left.refusal == Refusal::NoMemory);
+    let _ = println!(rt; "refused: close_together");
+    match close_together(alloc, left.posts, left.crews) {
+        Ok(channels) => channels,
+        Err(_) => panic!(rt; "not closed"),
+    }
+}
+
+// Takes the channels out, whoever made their events. One growth may be refused: the desks are given back, and opened then.
+fn taken_out(rt: &(impl Abort + Print), alloc: Global, posts: Vec<Desk>) -> Vec<Channel> {
+    let (posts, refusal) = match take_out_together(alloc, posts) {
+        Ok(channels) => return channels,
+        Err(left) => left,
+    };
+    assert!(rt; refusal == Refusal::NoMemory);
+    let _ = println!(rt; "refused: take_out_together");
+    match take_out_together(alloc, posts) {
+        Ok(channels) => channels,
+        Err(_) => panic!(rt; "not taken out"),
+    }
+}
+
+// The two channels, in the order of the desks: the journal of each, and its CLCW. At the first V(R) is 1, at the second FARM-B
+// counts 1.
+fn check_channels(rt: &impl Abort, alloc: Global, channels: &[Channel]) {
+    assert_eq!(rt; channels.len(), 2);
+    if let [first, second] = channels {
+        let released = [frame_event(rt, alloc, &FRAME), Event::Release];
+        assert!(rt; first.journal() == released.as_slice());
+        assert_eq!(rt; first.clcw(NO_FLAG), 0x01040001);
+        let taken = [frame_event(rt, alloc, &OTHER_FRAME), Event::TakeUnit(3)];
+        assert!(rt; second.journal() == taken.as_slice());
+        assert_eq!(rt; second.clcw(NO_FLAG), 0x01080200);
+    }
+}
+
+// Each of the two has made one event at each desk.
+fn check_counts(rt: &impl Abort, worker: &Worker) {
+    assert_eq!(rt; worker.first.count(), 1);
+    assert_eq!(rt; worker.second.count(), 1);
+}
+
+// Without the other's crew the desks aren't closed, and all is given back.
+fn refused(
+    rt: &impl Abort,
+    alloc: Global,
+    posts: Vec<Desk>,
+    crew: Vec<DeskOperator>,
+) -> (Vec<Desk>, Vec<Vec<DeskOperator>>)
+    requires { locks_of crew.items ≡ locks_of posts.items }
+    ensures posts { AreSame posts.items result.0.items }
+    ensures crews { map (λ crew. crew.items) result.1.items ≡ crew.items ∷ [] }
+{
+    let crews = vec![in alloc; crew].expect(rt, "a list");
+    let Err(left) = close_together(alloc, posts, crews) else {
+        panic!(rt; "closed without a crew")
+    };
+    let LeftOpen {
+        posts,
+        crews,
+        refusal,
+    } = left;
+    assert!(rt; refusal == Refusal::Unbalanced);
+    (posts, crews)
+}
+
+// At the first of the desks that were given back the other takes the packet.
+fn go_on(rt: &(impl Abort + Wait), posts: &[Desk], other: &mut Worker)
+    requires { locks_of posts.now ≡ other.old.first.lock ∷ other.old.second.lock ∷ [] }
+    ensures first { other.new.first.lock ≡ other.old.first.lock }
+    ensures second { other.new.second.lock ≡ other.old.second.lock }
+{
+    let [first, _] = posts else {
+        panic!(rt; "not two desks")
+    };
+    let packet = first
+        .desk()
+        .take(rt, &mut other.first, 5)
+        .expect(rt, "a packet");
+    assert_eq!(rt; packet.as_slice(), PACKET.as_slice());
+}
+
+// Closes the desks, which the one's crew can't close alone, with both, once the other has gone on.
+fn close_twice(
+    rt: &(impl Abort + Print + Wait),
+    alloc: Global,
+    desks: Desks,
+    one: Worker,
+    mut other: Worker,
+) -> Vec<Channel>
+    requires one { (one.first.lock ≡ desks.first.lock) × (one.second.lock ≡ desks.second.lock) }
+    requires other { (other.first.lock ≡ desks.first.lock) × (other.second.lock ≡ desks.second.lock) }
+{
+    let posts = posts_of(rt, alloc, desks);
+    let (posts, mut crews) = refused(rt, alloc, posts, crew_of(rt, alloc, one));
+    go_on(rt, &posts, &mut other);
+    crews.push(crew_of(rt, alloc, other)).expect(rt, "room");
+    closed(rt, alloc, posts, crews)
+}
+
+// Two desks and two who have worked at both.
+fn worked(rt: &(impl Abort + Print + Wait), alloc: Global) -> (Desks, Worker, Worker)
+    ensures one { (result.1.first.lock ≡ result.0.first.lock) × (result.1.second.lock ≡ result.0.second.lock) }
+    ensures other { (result.2.first.lock ≡ result.0.first.lock) × (result.2.second.lock ≡ result.0.second.lock) }
+{
+    let mut desks = Desks::new(rt, alloc);
+    let mut one = desks.worker();
+    let mut other = desks.worker();
+    work(rt, &desks, &mut one, &mut other);
+    (desks, one, other)
+}
+
+#[test]
+fn desks_that_were_not_closed_go_on(rt: HostRuntime) {
+    let alloc = rt.alloc();
+    let (desks, one, other) = worked(&rt, alloc);
+    let channels = close_twice(&rt, alloc, desks, one, other);
+    assert_eq!(rt; channels.len(), 2);
+    if let [first, second] = channels.as_slice() {
+        let taken = [
+            frame_event(&rt, alloc, &FRAME),
+            Event::Release,
+            Event::Take(5),
+        ];
+        assert!(rt; first.journal() == taken.as_slice());
+        let unit = [frame_event(&rt, alloc, &OTHER_FRAME), Event::TakeUnit(3)];
+        assert!(rt; second.journal() == unit.as_slice());
+    }
+}
+
+// One brings its frames to both desks, all to the first one before the second. Says whether each was answered.
+fn bring_to_both<R: Abort + Wait>(rt: &R, desks: &Desks, worker: &mut Worker, who: u8) -> bool
+    requires first { worker.old.first.lock ≡ desks.now.first.lock }
+    requires second { worker.old.second.lock ≡ desks.now.second.lock }
+    ensures first { worker.new.first.lock ≡ worker.old.first.lock }
+    ensures second { worker.new.second.lock ≡ worker.old.second.lock }
+{
+    let done = bring_all(rt, desks.first.desk(), &mut worker.first, who);
+    bring_all(rt, desks.second.desk(), &mut worker.second, who) && done
+}
+
+// Both do so, each in a thread of its own. Says whether each frame was answered.
+fn side_by_side<R: Threads + Abort + Wait + Sync>(
+    rt: &R,
+    desks: &Desks,
+    one: &mut Worker,
+    other: &mut Worker,
+) -> bool
+    requires one { (one.old.first.lock ≡ desks.now.first.lock) × (one.old.second.lock ≡ desks.now.second.lock) }
+    requires other { (other.old.first.lock ≡ desks.now.first.lock) × (other.old.second.lock ≡ desks.now.second.lock) }
+    ensures one { (one.new.first.lock ≡ one.old.first.lock) × (one.new.second.lock ≡ one.old.second.lock) }
+    ensures other { (other.new.first.lock ≡ other.old.first.lock) × (other.new.second.lock ≡ other.old.second.lock) }
+{
+    let mut first = || -> bool
+        requires { IsSync R.row × (one.now.first.lock ≡ desks.now.first.lock) × (one.now.second.lock ≡ desks.now.second.lock) }
+        ensures { (one.exit.now.first.lock ≡ desks.entry.now.first.lock) × (one.exit.now.second.lock ≡ desks.entry.now.second.lock) }
+    { bring_to_both(rt, desks, one, 1) };
+    let mut second = || -> bool
+        requires { IsSync R.row × (other.now.first.lock ≡ desks.now.first.lock) × (other.now.second.lock ≡ desks.now.second.lock) }
+        ensures { (other.exit.now.first.lock ≡ desks.entry.now.first.lock) × (other.exit.now.second.lock ≡ desks.entry.now.second.lock) }
+    { bring_to_both(rt, desks, other, 2) };
+    let (a, b) = join_mut(rt, &mut first, &mut second);
+    a && b
+}
+
+#[test]
+fn two_threads_work_at_two_desks(rt: HostRuntime) {
+    let alloc = rt.alloc();
+    let mut desks = Desks::new(&rt, alloc);
+    let mut one = desks.worker();
+    let mut other = desks.worker();
+    assert!(rt; side_by_side(&rt, &desks, &mut one, &mut other));
+    let posts = posts_of(&rt, alloc, desks);
+    let crews = list_of(
+        &rt,
+        alloc,
+        crew_of(&rt, alloc, one),
+        crew_of(&rt, alloc, other),
+    );
+    for channel in &closed(&rt, alloc, posts, crews) {
+        assert_eq!(rt; channel.journal().len(), 500);
+        check_frames(&rt, channel.journal(), 1);
+        check_frames(&rt, channel.journal(), 2);
+    }
+}
+
+#[test]
+fn growth_of_desks_closed_together(rt: HostRuntime) {
+    let alloc = rt.alloc();
+    let (desks, one, other) = worked(&rt, alloc);
+    check_counts(&rt, &one);
+    check_counts(&rt, &other);
+    let posts = posts_of(&rt, alloc, desks);
+    let crews = list_of(
+        &rt,
+        alloc,
+        crew_of(&rt, alloc, one),
+        crew_of(&rt, alloc, other),
+    );
+    check_channels(&rt, alloc, &closed(&rt, alloc, posts, crews));
+}
+
+// Who worked at the desks isn't asked.
+#[test]
+fn growth_of_desks_taken_out_together(rt: HostRuntime) {
+    let alloc = rt.alloc();
+    let (desks, _, _) = worked(&rt, alloc);
+    let posts = posts_of(&rt, alloc, desks);
+    check_channels(&rt, alloc, &taken_out(&rt, alloc, posts));
+}
