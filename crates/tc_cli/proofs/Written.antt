@@ -3,7 +3,7 @@ use Rattle.std.proofs.Common.{◌≡◌, ◌<◌, ℕ, ◌+◌, List, [], ◌∷
 use Rattle.std.proofs.lemmas.Grind.{common_steps}
 use Rattle.std.proofs.lemmas.List.{flat_map_more, take_more}
 use Rattle.std.proofs.lemmas.List.Elements.{All-more}
-use Rattle.std.proofs.KnownBytes.{Appends-nil, Appends-trans, Appends-kept}
+use Rattle.std.proofs.KnownBytes.{Appends-nil, Appends-trans, Appends-kept, Keeps-refl, Keeps-trans}
 use Rattle.std.specs.Prelude.{OnOk, IfErr, is_ok}
 use Rattle.std.specs.List.{flat_map}
 use Rattle.std.specs.Io.KnownBytes.{Appends, Keeps}
@@ -14,7 +14,7 @@ use Rattle.tc_station.specs.Balance.{IsNumberTold}
 use Rattle.tc_station.specs.Roster.{Roster}
 use Rattle.tc_station.specs.Tally.{AtStation, tally}
 use Rattle.tc_setup.specs.Phase.{Setup}
-use Rattle.tc_text.specs.Reading.{IsFirstLine}
+use Rattle.tc_text.specs.Reading.{IsFirstLine, IsReadFault}
 use Rattle.tc_text.specs.declared.fault.Reason.{Reason}
 use Rattle.tc_text.specs.declared.fault.Reason.TheVariants.{NoMemory}
 use Rattle.tc_text.specs.declared.fault.ScriptFault.{ScriptFault}
@@ -26,7 +26,7 @@ use Rattle.tc_cli.specs.Report.{AreBalanced, AreRising, channel_text, final_line
 use Rattle.tc_cli.specs.Script.{Leads, starts, goes_on, IsBadLine, IsReportFault}
 use Rattle.tc_cli.specs.Session.{Session, manned_for}
 use Rattle.tc_cli.specs.Stage.{phase_of}
-use Rattle.tc_cli.specs.Written.{AreAnswers, at_first, one_more, IsLineAnswered, IsReportWritten, IsWritten, IsWrittenInParallel, IsCutShort, answers_text, no_flags}
+use Rattle.tc_cli.specs.Written.{AreAnswers, at_first, one_more, IsLineAnswered, IsReportWritten, IsUnreported, IsWritten, IsWrittenInParallel, IsCutShort, answers_text, no_flags}
 use Rattle.tc_cli.specs.declared.answer.Answer.{Answer}
 
 -- one element more is written
@@ -106,7 +106,8 @@ one-more-so-far scid script count session new rest line after answer a b c (answ
 pub cut-short : (scid : ℕ) (script : List ℕ) (count : ℕ) (session : Session) (rest line after : List ℕ) (reason : Reason) (a b : Option (List ℕ))
     → (reason ≡ NoMemory) ⊎ IsBadLine (phase_of session) line reason → IsSoFar scid script count session rest a b → IsFirstLine rest line after
     → IsCutShort scid script a b (Line (count + 1) reason)
-cut-short scid script count session rest line after reason a b (inl memory) so-far next = inl memory
+cut-short scid script count session rest line after reason a b (inl memory) (answers, leads, is, text) next =
+    inl (memory, inr (inl (answers, session, rest, line, after, leads, next, tt, ap (λ n. n + 1) is, text)))
 cut-short scid script count session rest line after reason a b (inr bad) (answers, leads, is, text) next =
     inr (answers, session, rest, line, after, leads, next, bad, ap (λ n. n + 1) is, text)
 
@@ -117,12 +118,21 @@ end-written (Err fault) scid script count session rest a b c so-far end written 
 end-written (Ok done) scid script count session rest a b c (answers, leads, is, text) end (report, of, more) =
     (answers, session, report, rw end at leads, of, Appends-trans a b c _ _ text more)
 
-pub end-cut-short : (reported : Result (Unit {0}) ScriptFault) (scid : ℕ) (script : List ℕ) (lines : ℕ) (a b : Option (List ℕ)) → IfErr reported (IsReportFault lines)
-    → IfErr reported (IsCutShort scid script a b)
-end-cut-short (Ok done) scid script lines a b why = tt
-end-cut-short (Err fault) scid script lines a b (inl write) = subst (IsCutShort scid script a b) (sym write) tt
-end-cut-short (Err fault) scid script lines a b (inr (inl unbalanced)) = subst (IsCutShort scid script a b) (sym unbalanced) tt
-end-cut-short (Err fault) scid script lines a b (inr (inr memory)) = subst (IsCutShort scid script a b) (sym memory) (inl refl)
+unreported : (scid : ℕ) (script : List ℕ) (count : ℕ) (session : Session) (rest : List ℕ) (a b c : Option (List ℕ))
+    → IsSoFar scid script count session rest a b → rest ≡ [] → Keeps b c → IsUnreported scid script count a c
+unreported scid script count session rest a b c (answers, leads, is, text) end kept =
+    (answers, session, rw end at leads, is, Appends-kept a b c _ text kept)
+
+pub end-cut-short : (reported : Result (Unit {0}) ScriptFault) (scid : ℕ) (script : List ℕ) (count : ℕ) (session : Session) (rest : List ℕ) (a b c : Option (List ℕ))
+    → IsSoFar scid script count session rest a b → rest ≡ [] → IfErr reported (IsReportFault count) → IfErr reported (λ fault. (fault ≡ Write) ⊎ Keeps b c)
+    → IfErr reported (IsCutShort scid script a c)
+end-cut-short (Ok done) scid script count session rest a b c so-far end why kept = tt
+end-cut-short (Err fault) scid script count session rest a b c so-far end why (inl write) = subst (IsCutShort scid script a c) (sym write) tt
+end-cut-short (Err fault) scid script count session rest a b c so-far end (inl write) (inr kept) = subst (IsCutShort scid script a c) (sym write) tt
+end-cut-short (Err fault) scid script count session rest a b c so-far end (inr (inl unbalanced)) (inr kept) =
+    subst (IsCutShort scid script a c) (sym unbalanced) (count, unreported scid script count session rest a b c so-far end kept)
+end-cut-short (Err fault) scid script count session rest a b c so-far end (inr (inr memory)) (inr kept) =
+    subst (IsCutShort scid script a c) (sym memory) (inl (refl, inr (inr (unreported scid script count session rest a b c so-far end kept))))
 
 -- the report of the station of a session
 pub reported : (scid : ℕ) (session : Session) (manned : Manned) (station : Roster) (operator : AtStation) (operators : List AtStation) (channels shown : List History) (a b : Option (List ℕ))
@@ -156,13 +166,28 @@ written-kept : (scid : ℕ) (script : List ℕ) (a b c : Option (List ℕ)) → 
 written-kept scid script a b c (answers, session, report, leads, of, text) kept = (answers, session, report, leads, of, Appends-kept a b c _ text kept)
 
 cut-short-kept : (scid : ℕ) (script : List ℕ) (a b c : Option (List ℕ)) (fault : ScriptFault) → IsCutShort scid script a b fault → Keeps b c → IsCutShort scid script a c fault
-cut-short-kept scid script a b c Read short kept = tt
-cut-short-kept scid script a b c TooLong short kept = tt
+cut-short-kept scid script a b c Read short kept = Keeps-trans a b c short kept
+cut-short-kept scid script a b c TooLong short kept = Keeps-trans a b c short kept
 cut-short-kept scid script a b c Write short kept = tt
-cut-short-kept scid script a b c Unbalanced short kept = tt
-cut-short-kept scid script a b c (Line number reason) (inl memory) kept = inl memory
+cut-short-kept scid script a b c Unbalanced (count, (answers, session, leads, is, text)) kept =
+    (count, (answers, session, leads, is, Appends-kept a b c _ text kept))
+cut-short-kept scid script a b c (Line number reason) (inl (memory, inl (none, short))) kept = inl (memory, inl (none, Keeps-trans a b c short kept))
+cut-short-kept scid script a b c (Line number reason) (inl (memory, inr (inl (answers, session, rest, line, after, leads, next, so, is, text)))) kept =
+    inl (memory, inr (inl (answers, session, rest, line, after, leads, next, so, is, Appends-kept a b c _ text kept)))
+cut-short-kept scid script a b c (Line number reason) (inl (memory, inr (inr (answers, session, leads, is, text)))) kept =
+    inl (memory, inr (inr (answers, session, leads, is, Appends-kept a b c _ text kept)))
 cut-short-kept scid script a b c (Line number reason) (inr (answers, session, rest, line, after, leads, next, bad, is, text)) kept =
     inr (answers, session, rest, line, after, leads, next, bad, is, Appends-kept a b c _ text kept)
+
+-- nothing was written where the script wasn't read
+pub read-cut-short : (known : Option (List ℕ)) (scid : ℕ) (a : Option (List ℕ)) (fault : ScriptFault) → IsReadFault known fault
+    → IfSome known (λ script. IsCutShort scid script a a fault)
+read-cut-short None scid a fault why = tt
+read-cut-short (Some script) scid a Read why = Keeps-refl a
+read-cut-short (Some script) scid a TooLong why = Keeps-refl a
+read-cut-short (Some script) scid a (Line number reason) why = inl (why.1, inl (why.0, Keeps-refl a))
+read-cut-short (Some script) scid a Write why = tt
+read-cut-short (Some script) scid a Unbalanced why = absurd why
 
 -- what was read is the script, where the octets of the reader are known
 pub whole-written : (done : Result (Unit {0}) ScriptFault) (known : Option (List ℕ)) (scid : ℕ) (script read : List ℕ) (a b c : Option (List ℕ))

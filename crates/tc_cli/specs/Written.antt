@@ -1,7 +1,7 @@
 -- What a script writes that is done in order: what its lines are answered, one after the other, and then the final report.
-use Rattle.std.specs.Prelude.{◌≡◌, ◌⊎◌, ℕ, ◌+◌, List, [], ◌∷◌, ◌++◌, Option, All, length, replicate, Ok}
+use Rattle.std.specs.Prelude.{◌≡◌, ◌⊎◌, ⊤, ℕ, ◌+◌, List, [], ◌∷◌, ◌++◌, Option, All, length, replicate, Ok}
 use Rattle.std.specs.List.{flat_map}
-use Rattle.std.specs.Io.KnownBytes.{Appends}
+use Rattle.std.specs.Io.KnownBytes.{Appends, Keeps}
 use Rattle.tc_channel.specs.Journal.{History}
 use Rattle.tc_link.specs.declared.clcw.Link.{Link}
 use Rattle.tc_status.specs.Board.{no_flag}
@@ -70,20 +70,34 @@ IsWritten scid script old new =
     (answers : List (Option Answer)) × (session : Session) × (report : List ℕ) × AreAnswers scid script answers session []
     × IsReport scid session report × Appends old new (answers_text answers ++ report)
 
--- the line with this number is bad, and known octets grow by the answers of the lines before it alone
-abbrev pub IsWrittenBefore : ℕ → List ℕ → ℕ → Reason → Option (List ℕ) → Option (List ℕ) → Type 0
-IsWrittenBefore scid script number reason old new =
+-- the script has a line with this number, of which this is so; known octets grow by the answers of the lines before it alone
+abbrev pub IsWrittenBefore : ℕ → List ℕ → ℕ → (Session → List ℕ → Type 0) → Option (List ℕ) → Option (List ℕ) → Type 0
+IsWrittenBefore scid script number IsSo old new =
     (answers : List (Option Answer)) × (session : Session) × (rest : List ℕ) × (line : List ℕ) × (after : List ℕ)
-    × AreAnswers scid script answers session rest × IsFirstLine rest line after × IsBadLine (phase_of session) line reason
+    × AreAnswers scid script answers session rest × IsFirstLine rest line after × IsSo session line
     × (number ≡ length answers + 1) × Appends old new (answers_text answers)
 
--- what was written where a script ends early: where a bad line ends it, the answers of the lines before
+-- known octets grow by the answers of all lines, of which there are so many, and by no report
+abbrev pub IsUnreported : ℕ → List ℕ → ℕ → Option (List ℕ) → Option (List ℕ) → Type 0
+IsUnreported scid script count old new =
+    (answers : List (Option Answer)) × (session : Session) × AreAnswers scid script answers session [] × (count ≡ length answers)
+    × Appends old new (answers_text answers)
+
+-- memory ran out before the first line, which is told as line 0; at the line with this number; or for the report, after the last line
+abbrev pub IsOutOfMemory : ℕ → List ℕ → ℕ → Option (List ℕ) → Option (List ℕ) → Type 0
+IsOutOfMemory scid script number old new =
+    ((number ≡ 0) × Keeps old new) ⊎ IsWrittenBefore scid script number (λ _ _. ⊤) old new ⊎ IsUnreported scid script number old new
+
+-- what was written where a script ends early: nothing where it wasn't read; where a line ends it, the answers of the lines before; and
+-- where counts are out of balance, those of all lines. Nothing of what failed to be written is known
 abbrev pub IsCutShort : ℕ → List ℕ → Option (List ℕ) → Option (List ℕ) → ScriptFault → Type 0
-IsCutShort scid script old new (Line number reason) = (reason ≡ NoMemory) ⊎ IsWrittenBefore scid script number reason old new
-IsCutShort scid script old new Read = Unit {0}
-IsCutShort scid script old new TooLong = Unit {0}
+IsCutShort scid script old new (Line number reason) =
+    ((reason ≡ NoMemory) × IsOutOfMemory scid script number old new)
+    ⊎ IsWrittenBefore scid script number (λ session line. IsBadLine (phase_of session) line reason) old new
+IsCutShort scid script old new Read = Keeps old new
+IsCutShort scid script old new TooLong = Keeps old new
 IsCutShort scid script old new Write = Unit {0}
-IsCutShort scid script old new Unbalanced = Unit {0}
+IsCutShort scid script old new Unbalanced = (count : ℕ) × IsUnreported scid script count old new
 
 -- known octets grow by the report of what the workers of the whole script have made of its channels
 abbrev pub IsWrittenInParallel : ℕ → List ℕ → Option (List ℕ) → Option (List ℕ) → Type 0

@@ -1,6 +1,7 @@
 //! Scripts whose channels are worked side by side.
 
 ghost use Rattle.std.specs.Prelude.{◌≡◌, ◌≢◌, ◌⊎◌, ◌≤◌, [], All, length, IfOk, IfErr, OnOk, IfSome};
+ghost use Rattle.std.specs.Io.KnownBytes.{Keeps};
 ghost use Rattle.tc_cli.specs.Parallel.{parted_for, AreParted, AreWorkedChannels, IsLineParted, IsParted, Parts};
 ghost use Rattle.tc_cli.specs.Parting.{IsGiven, IsFrameGiven};
 ghost use Rattle.tc_setup.specs.Phase.{Does, IsBad, Setup};
@@ -30,6 +31,7 @@ use tc_text::{Reason, ScriptFault, next_line, parse_line, read_whole};
 ///
 /// Each worker passes the gate once, while it holds its channel's lock. Where the octets of the reader
 /// are known, nothing is done unless each line is good, and a bad line that is told is the first one.
+/// Where it ends early, nothing is written, unless a write failed.
 pub fn parallel_script<T: Threads + Wait + Sync, G: Gate + Sync, R: Read, W: Write>(
     rt: &T,
     alloc: Global,
@@ -42,6 +44,7 @@ pub fn parallel_script<T: Threads + Wait + Sync, G: Gate + Sync, R: Read, W: Wri
     ensures good { OnOk result (IfSome (R.remaining reader.old) (λ script. (length script ≤ limit) × IsGood script)) }
     ensures fault { IfErr result (λ fault. IfSome (R.remaining reader.old) (λ script. IsFault script fault)) }
     ensures written { OnOk result (IfSome (R.remaining reader.old) (λ script. IsWrittenInParallel scid script (W.contents writer.old) (W.contents writer.new))) }
+    ensures kept { IfErr result (λ fault. (fault ≡ ScriptFault.Write) ⊎ Keeps (W.contents writer.old) (W.contents writer.new)) }
 {
     let script = read_whole(alloc, reader)?;
     let channels = work_lines(rt, alloc, gate, scid, script.as_slice())?;

@@ -5,7 +5,7 @@ ghost use Rattle.tc_cli.specs.Script.{IsFault, IsGood, IsDone, IsBadLine, IsRepo
 ghost use Rattle.tc_text.specs.Reading.{limit};
 ghost use Rattle.tc_cli.specs.Session.{IsLeft};
 ghost use Rattle.tc_cli.specs.Stage.{phase_of};
-ghost use Rattle.std.specs.Io.KnownBytes.{Appends};
+ghost use Rattle.std.specs.Io.KnownBytes.{Appends, Keeps};
 ghost use Rattle.tc_cli.specs.Printed.{answer_line};
 ghost use Rattle.tc_cli.specs.Written.{IsCutShort, IsLineAnswered, IsReportWritten, IsWritten};
 
@@ -25,7 +25,8 @@ use tc_text::{Reason, ScriptFault, next_line, parse_line, read_whole};
 ///
 /// The script, of 1,048,576 octets at most, is read whole and kept before the first line is done.
 /// Where the octets of the reader are known, a script is done to its end only if each line is good,
-/// and a bad line that ends it is the first one. Then the answers of the lines before it are written.
+/// and a bad line that ends it is the first one. Where it ends early, the answers of the lines before are
+/// written alone, unless a write failed.
 pub fn run_script<T: Wait, R: Read, W: Write>(
     rt: &T,
     alloc: Global,
@@ -118,6 +119,7 @@ fn report<W: Write>(
     requires { scid ≤ 1023 }
     ensures written { OnOk result (IsReportWritten scid session (W.contents writer.old) (W.contents writer.new)) }
     ensures fault { IfErr result (IsReportFault lines) }
+    ensures kept { IfErr result (λ fault. (fault ≡ ScriptFault.Write) ⊎ Keeps (W.contents writer.old) (W.contents writer.new)) }
 {
     let manned = match session.start(rt, alloc, scid) {
         Ok(manned) => manned,

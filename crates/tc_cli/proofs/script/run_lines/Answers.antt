@@ -31,7 +31,8 @@ returns-clause-written g c =
     end-written _ _ _ _ _ _ _ _ _ c.loop-octets.invariant.so_far c.in_default.ensures c.report.ensures.written
 
 pub returns-clause-cut_short : goal.returns-clause-cut_short
-returns-clause-cut_short g c = end-cut-short _ _ _ _ _ _ c.report.ensures.fault
+returns-clause-cut_short g c =
+    end-cut-short _ _ _ _ _ _ _ _ _ c.loop-octets.invariant.so_far c.in_default.ensures c.report.ensures.fault c.report.ensures.kept
 
 pub returns-clause-fault : goal.returns-clause-fault
 returns-clause-fault g c =
