@@ -10,6 +10,7 @@ use Rattle.tc_channel.specs.declared.settings.SettingsFault.TheVariants as setti
 use Rattle.tc_channel.specs.Settings.{IsAllowed, IsFault as IsFaultOfSettings}
 use Rattle.tc_fixed.specs.declared.limits.MapLimit.{MapLimit}
 use Rattle.tc_fixed.specs.declared.limits.Limits.{Limits}
+use Rattle.tc_fixed.specs.declared.limits.LentLimits.{LentLimits}
 use Rattle.tc_fixed.specs.declared.limits.LimitsFault.{LimitsFault}
 use Rattle.tc_fixed.specs.declared.limits.LimitsFault.TheVariants as faults
 
@@ -32,6 +33,10 @@ largest_limit limits = largest_in limits.maps limits.others
 -- the most octets of a packet and of a unit: on a plain channel it is in one data field
 abbrev pub item_size : Limits → Bool → ℕ
 item_size limits segmented = min (largest_limit limits) (largest_item segmented)
+
+-- the limits whose list is lent
+abbrev pub limits_of : LentLimits → Limits
+limits_of lent = record { others = lent.others; maps = lent.maps.now }
 
 -- no limit by MAP
 abbrev pub none : Limits

@@ -1,15 +1,16 @@
 //! How long the units of each MAP may be.
 
-ghost use Rattle.std.specs.Prelude.{ℕ, ◌≡◌, ◌<◌, ◌≤◌, ◌↔◌, IsTrue, MatchResult, get_or};
+ghost use Rattle.std.specs.Prelude.{ℕ, ◌≡◌, ◌<◌, ◌≤◌, ◌↔◌, IfOk, IsTrue, MatchResult, get_or};
 ghost use Rattle.tc_channel.specs.declared.settings.MapSetting.{MapSetting};
 ghost use Rattle.tc_channel.specs.Settings.{IsAllowed};
 ghost use Rattle.std.specs.List.{AllByRecursion};
 ghost use Rattle.tc_packet.specs.Reassembly.{largest_unit};
-ghost use Rattle.tc_fixed.specs.Limits.{IsOthers, AreMaps, AreMapsApart, HaveOctets, HasMapsByHeaders, AreListed, IsListed, AreLimits, IsFault, IsLimitsFault, item_size, largest_limit, limit_of, none};
+ghost use Rattle.tc_channel.specs.Settings.{settings_of};
+ghost use Rattle.tc_fixed.specs.Limits.{IsOthers, AreMaps, AreMapsApart, HaveOctets, HasMapsByHeaders, AreListed, IsListed, AreLimits, IsFault, IsLimitsFault, item_size, largest_limit, limit_of, limits_of, none};
 
 use crate::channel::LARGEST_FIELD;
-use std::alloc::Global;
-use tc_channel::{Items, MapSetting, Settings, SettingsFault};
+use std::alloc::{AllocError, Global};
+use tc_channel::{Items, LentSettings, MapSetting, Settings, SettingsFault};
 use tc_packet::LARGEST_UNIT;
 use thiserror::Error;
 
@@ -17,6 +18,7 @@ use thiserror::Error;
 pub(crate) const MAPS: usize = 64;
 
 /// How long the units of one MAP may be.
+#[repr(C)]
 #[derive(Clone, Copy, Debug, PartialEq, Eq)]
 pub struct MapLimit {
     /// The multiplexer access point, at most 63.
@@ -33,6 +35,13 @@ pub struct Limits {
     pub others: u32,
     /// The MAPs with a limit of their own, no two the same, and none on a plain channel.
     pub maps: Items<MapLimit>,
+}
+
+/// Limits whose list is lent, so that they can be looked at without memory.
+#[derive(Clone, Copy, Debug)]
+pub struct LentLimits<'a> {
+    pub others: u32,
+    pub maps: &'a [MapLimit],
 }
 
 /// Why settings and limits make no channel: the first fault that they have, in this order.
@@ -77,61 +86,28 @@ impl Limits {
         }
     }
 
+    /// The same limits, with the list lent.
+    pub fn lent(&self) -> LentLimits<'_>
+        ensures { limits_of result ≡ self.now }
+    {
+        LentLimits {
+            others: self.others,
+            maps: &self.maps,
+        }
+    }
+
     /// The most octets of a unit of this MAP.
     pub fn of(&self, map: u8) -> u32
         ensures { result ≡ limit_of self.now map }
     {
-        for limit in self.maps.as_slice() {
-            if limit.map == map {
-                return limit.octets;
-            }
-        }
-        self.others
+        self.lent().of(map)
     }
 
     /// Whether a channel can be made by these settings and limits. It never answers that there is no memory, and takes none.
     pub fn check(&self, settings: &Settings) -> Result<(), LimitsFault>
         ensures { MatchResult result (λ _. IsAllowed settings.now × AreLimits settings.now self.now) (IsFault settings.now self.now) }
     {
-        settings.check()?;
-        self.check_alone(settings)
-    }
-
-    // Whether a channel of these settings can have these limits.
-    #[tactic(auto, unfolding(crate::specs::Limits::IsLimitsFault))]
-    fn check_alone(&self, settings: &Settings) -> Result<(), LimitsFault>
-        ensures { MatchResult result (λ _. AreLimits settings.now self.now) (IsLimitsFault settings.now self.now) }
-    {
-        if !is_others(self.others, settings.segmented) {
-            return Err(LimitsFault::BadOthers);
-        }
-        if !are_maps(&self.maps) {
-            return Err(LimitsFault::BadMap);
-        }
-        if !are_maps_apart(&self.maps) {
-            return Err(LimitsFault::DoubleMap);
-        }
-        if !have_octets(&self.maps) {
-            return Err(LimitsFault::BadLimit);
-        }
-        if !has_maps_by_headers(&self.maps, settings.segmented) {
-            return Err(LimitsFault::PlainMap);
-        }
-        if !are_listed(self, &settings.maps) {
-            return Err(LimitsFault::UnlistedMap);
-        }
-        Ok(())
-    }
-
-    // The most octets of a unit of whatever MAP.
-    pub(crate) fn largest(&self) -> u32
-        ensures { result ≡ largest_limit self.now }
-    {
-        let mut largest = self.others;
-        for limit in self.maps.as_slice() {
-            largest = largest.max(limit.octets);
-        }
-        largest
+        self.lent().check(settings.lent())
     }
 
     // The most octets of a packet and of a unit.
@@ -139,12 +115,7 @@ impl Limits {
         ensures size { result ≡ item_size self.now segmented }
         ensures within { result ≤ LARGEST_UNIT }
     {
-        let largest = if segmented {
-            LARGEST_UNIT
-        } else {
-            LARGEST_FIELD
-        };
-        largest.min(self.largest() as usize)
+        self.lent().item_size(segmented)
     }
 
     // The most octets of a unit of each MAP.
@@ -159,6 +130,89 @@ impl Limits {
             table[map] = self.of(map as u8) as usize;
         }
         table
+    }
+}
+
+impl LentLimits<'_> {
+    /// The same limits, with a copy of the list: one allocation.
+    pub fn copied(self, alloc: Global) -> Result<Limits, AllocError>
+        ensures { IfOk result (λ limits. limits ≡ limits_of self.entry) }
+    {
+        let maps = Vec::from_slice(alloc, self.maps)?;
+        Ok(Limits {
+            others: self.others,
+            maps: Items::from(maps),
+        })
+    }
+
+    /// The most octets of a unit of this MAP.
+    pub fn of(self, map: u8) -> u32
+        ensures { result ≡ limit_of (limits_of self.entry) map }
+    {
+        for limit in self.maps {
+            if limit.map == map {
+                return limit.octets;
+            }
+        }
+        self.others
+    }
+
+    /// Whether a channel can be made by these settings and limits. It never answers that there is no memory, and takes none.
+    pub fn check(self, settings: LentSettings<'_>) -> Result<(), LimitsFault>
+        ensures { MatchResult result (λ _. IsAllowed (settings_of settings.entry) × AreLimits (settings_of settings.entry) (limits_of self.entry)) (IsFault (settings_of settings.entry) (limits_of self.entry)) }
+    {
+        settings.check()?;
+        self.check_alone(settings)
+    }
+
+    // Whether a channel of these settings can have these limits.
+    #[tactic(auto, unfolding(crate::specs::Limits::IsLimitsFault))]
+    fn check_alone(self, settings: LentSettings<'_>) -> Result<(), LimitsFault>
+        ensures { MatchResult result (λ _. AreLimits (settings_of settings.entry) (limits_of self.entry)) (IsLimitsFault (settings_of settings.entry) (limits_of self.entry)) }
+    {
+        if !is_others(self.others, settings.segmented) {
+            return Err(LimitsFault::BadOthers);
+        }
+        if !are_maps(self.maps) {
+            return Err(LimitsFault::BadMap);
+        }
+        if !are_maps_apart(self.maps) {
+            return Err(LimitsFault::DoubleMap);
+        }
+        if !have_octets(self.maps) {
+            return Err(LimitsFault::BadLimit);
+        }
+        if !has_maps_by_headers(self.maps, settings.segmented) {
+            return Err(LimitsFault::PlainMap);
+        }
+        if !are_listed(self, settings.maps) {
+            return Err(LimitsFault::UnlistedMap);
+        }
+        Ok(())
+    }
+
+    // The most octets of a unit of whatever MAP.
+    fn largest(self) -> u32
+        ensures { result ≡ largest_limit (limits_of self.entry) }
+    {
+        let mut largest = self.others;
+        for limit in self.maps {
+            largest = largest.max(limit.octets);
+        }
+        largest
+    }
+
+    // The most octets of a packet and of a unit.
+    pub(crate) fn item_size(self, segmented: bool) -> usize
+        ensures size { result ≡ item_size (limits_of self.entry) segmented }
+        ensures within { result ≤ LARGEST_UNIT }
+    {
+        let largest = if segmented {
+            LARGEST_UNIT
+        } else {
+            LARGEST_FIELD
+        };
+        largest.min(self.largest() as usize)
     }
 }
 
@@ -207,10 +261,10 @@ fn are_maps_apart(maps: &[MapLimit]) -> bool
 }
 
 // Whether each chosen MAP has a limit that isn't 0.
-fn are_listed(limits: &Limits, chosen: &[MapSetting]) -> bool
-    ensures { IsTrue result ↔ AreListed limits.now chosen.now }
+fn are_listed(limits: LentLimits<'_>, chosen: &[MapSetting]) -> bool
+    ensures { IsTrue result ↔ AreListed (limits_of limits.entry) chosen.now }
 {
-    limits.others >= 1 || all_listed(&limits.maps, chosen)
+    limits.others >= 1 || all_listed(limits.maps, chosen)
 }
 
 // Whether each chosen MAP is listed.

@@ -8,6 +8,6 @@ use Rattle.tc_fixed.proofs.limits.are_listed.Goals as goal
 
 pub returns-else-limits-ge1 : goal.returns-else-limits-ge1
 returns-else-limits-ge1 c =
-    let none : c.args.limits.now.others ≡ 0 = grind (arith, common_steps) in
-    let each : IsTrue c.all_listed.result ↔ AllByRecursion (λ (m : MapSetting). IsListed c.args.limits.now.maps m.map) c.args.chosen.now = rw (← c.deref.ensures) c.all_listed.ensures in
+    let none : c.args.limits.others ≡ 0 = grind (arith, common_steps) in
+    let each : IsTrue c.all_listed.result ↔ AllByRecursion (λ (m : MapSetting). IsListed c.args.limits.maps.now m.map) c.args.chosen.now = c.all_listed.ensures in
     (λ yes zero. each.0 yes, λ listed. each.1 (listed none))
