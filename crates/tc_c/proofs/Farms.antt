@@ -12,9 +12,9 @@ use Rattle.tc_link.specs.Farm.{Machine, E10, row_of, entry_at, entry, first_repo
 use Rattle.tc_channel.specs.declared.settings.Settings.{Settings}
 use Rattle.tc_channel.specs.declared.event.Event.{Event}
 use Rattle.tc_channel.specs.declared.event.Event.TheVariants.{Frame, Release, Take, TakeUnit}
-use Rattle.tc_channel.specs.ChannelState.{ChannelState, first_state, has_room}
+use Rattle.tc_channel.specs.ChannelState.{ChannelState, first_state_within, has_room}
 use Rattle.tc_channel.specs.Settings.{IsAllowed}
-use Rattle.tc_channel.specs.Run.{field_of, HasStep, AreSteps, IsLawful, IsLawfulWithin, step, passed_on, kept, row_of as row_at, run_from, run, run_within}
+use Rattle.tc_channel.specs.Run.{field_of, HasStep, AreSteps, IsLawfulWithin, step, passed_on, kept, row_of as row_at, run_from, run_within}
 use Rattle.tc_c.specs.declared.status.Status.{Status}
 use Rattle.tc_c.specs.declared.status.Status.TheVariants.{BadWidth}
 use Rattle.tc_c.specs.Farm.{IsFarm, is_width, first_farm, left}
@@ -44,9 +44,9 @@ run_from-farm : StepsLeaveFarms → (s : Settings) (state : ChannelState) (es : 
 run_from-farm steps s state [] farm are = farm
 run_from-farm steps s state (e ∷ es) farm are = run_from-farm steps s (step s state e) es (step-farm steps s state e farm are.0) are.1
 
-pub run-farm : StepsLeaveFarms → (s : Settings) (journal : List Event) → IsAllowed s → IsLawful s journal → IsFarm (farm_at s (run s journal))
+pub run-farm : StepsLeaveFarms → (limits : ℕ → ℕ) (s : Settings) (journal : List Event) → IsAllowed s → IsLawfulWithin limits s journal → IsFarm (farm_at s (run_within limits s journal))
 unfolding run_within IsLawfulWithin
-run-farm steps s journal allowed lawful = run_from-farm steps s (first_state s) journal (record { width = allowed.width; farm_b = omega arith; flags = refl }) lawful
+run-farm steps limits s journal allowed lawful = run_from-farm steps s (first_state_within limits s) journal (record { width = allowed.width; farm_b = omega arith; flags = refl }) lawful
 
 abbrev started : ℕ → ℕ → Machine
 started width first = record { width = width; report = first_report first }

@@ -1,14 +1,17 @@
 -- Each fault has a status of its own: from its status the fault is found again.
 use Rattle.std.proofs.Common.{◌≡◌, Option, Some, None, refl, sym, ap, ◌∙◌}
+use Rattle.std.specs.Prelude.{option_map}
 use Rattle.tc_c.specs.declared.status.Status.{Status}
 use Rattle.tc_c.specs.declared.status.Status.TheVariants as st
-use Rattle.tc_c.specs.Status.{frame_status, write_status, settings_status}
+use Rattle.tc_c.specs.Status.{frame_status, write_status, settings_status, limits_status}
 use Rattle.tc_link.specs.declared.frame.FrameFault.{FrameFault}
 use Rattle.tc_link.specs.declared.frame.FrameFault.TheVariants as frames
 use Rattle.tc_link.specs.declared.writing.WriteFault.{WriteFault}
 use Rattle.tc_link.specs.declared.writing.WriteFault.TheVariants as writing
 use Rattle.tc_channel.specs.declared.settings.SettingsFault.{SettingsFault}
 use Rattle.tc_channel.specs.declared.settings.SettingsFault.TheVariants as settings
+use Rattle.tc_fixed.specs.declared.limits.LimitsFault.{LimitsFault}
+use Rattle.tc_fixed.specs.declared.limits.LimitsFault.TheVariants as limits
 
 abbrev frame_of : Status → Option FrameFault
 frame_of st.Short = Some frames.Short
@@ -78,4 +81,37 @@ settings-found settings.NoMemory = refl
 pub settings-apart : (one other : SettingsFault) → settings_status one ≡ settings_status other → one ≡ other
 settings-apart one other e =
     let same : Some one ≡ Some other = sym (settings-found one) ∙ (ap settings_of e ∙ settings-found other) in
+    cc
+
+abbrev limits_of : Status → Option LimitsFault
+limits_of st.BadOthers = Some limits.BadOthers
+limits_of st.BadLimitMap = Some limits.BadMap
+limits_of st.DoubleLimit = Some limits.DoubleMap
+limits_of st.BadLimit = Some limits.BadLimit
+limits_of st.PlainLimit = Some limits.PlainMap
+limits_of st.UnlistedMap = Some limits.UnlistedMap
+limits_of other = option_map limits.Settings (settings_of other)
+
+limits-found : (fault : LimitsFault) → limits_of (limits_status fault) ≡ Some fault
+limits-found (limits.Settings settings.BadVcid) = refl
+limits-found (limits.Settings settings.BadWindow) = refl
+limits-found (limits.Settings settings.BadBuffer) = refl
+limits-found (limits.Settings settings.BadApid) = refl
+limits-found (limits.Settings settings.DoubleApid) = refl
+limits-found (limits.Settings settings.BadCapacity) = refl
+limits-found (limits.Settings settings.BadMap) = refl
+limits-found (limits.Settings settings.DoubleMap) = refl
+limits-found (limits.Settings settings.BadUnits) = refl
+limits-found (limits.Settings settings.PlainMap) = refl
+limits-found (limits.Settings settings.NoMemory) = refl
+limits-found limits.BadOthers = refl
+limits-found limits.BadMap = refl
+limits-found limits.DoubleMap = refl
+limits-found limits.BadLimit = refl
+limits-found limits.PlainMap = refl
+limits-found limits.UnlistedMap = refl
+
+pub limits-apart : (one other : LimitsFault) → limits_status one ≡ limits_status other → one ≡ other
+limits-apart one other e =
+    let same : Some one ≡ Some other = sym (limits-found one) ∙ (ap limits_of e ∙ limits-found other) in
     cc

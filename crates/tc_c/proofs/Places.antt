@@ -1,19 +1,14 @@
 -- A place with a channel, and the parts of its box, own what the box owns.
 use Rattle.std.proofs.Common.{◌≡◌, refl, [], Option, Some, None, IsSome}
 use mir.Syntax.{impl, tnil, dnil}
-use denote.Builtin.{unit}
-use denote.Param.Laws.{of_field}
-use denote.Param.Shared.{copy_shared}
 use denote.Signature.{Slot, plain}
-use denote.Struct.Field.{unit-field}
-use denote.Struct.Laws.{unit-laws, unit-copy}
 use Rattle.std.proofs.BoxSteps.Form.{Bx}
 use Rattle.std.specs.contracts.alloc.Global as Heap
 use Rattle.std.specs.contracts.impls.GlobalAllocator.TheImpl.{ghosts, dict}
 use Rattle.std.proofs.alloc.Global.TheLaws as heap
 use Rattle.tc_channel.specs.contracts.unkept.Unkept as Unkept
-use Rattle.tc_channel.specs.contracts.unkept.UnkeptJournal.TheImpl as journal
-use Rattle.tc_channel.proofs.channel.ChannelWith.TheLaws as channel
+use Rattle.tc_fixed.specs.contracts.noted.UnkeptNoted.TheImpl as journal
+use Rattle.tc_fixed.proofs.channel.FixedChannelWith.TheLaws as channel
 use Rattle.tc_channel.proofs.unkept.Unkept.TheLaws as unkept
 use Rattle.tc_c.specs.Place.{channel_row}
 use Rattle.tc_c.specs.contracts.parts.Parts as Parts
@@ -23,8 +18,7 @@ use Rattle.tc_c.specs.contracts.place.Place as Place
 abbrev pub E : Bx
 E = record {
   row = channel_row;
-  laws = channel.the_row_laws Unkept.the_row unit journal.ghosts unkept.the_row_laws
-      (of_field unit-field unit-laws refl (copy_shared unit-field unit-copy));
+  laws = channel.the_row_laws Unkept.the_row journal.ghosts unkept.the_row_laws;
   al = record { row = Heap.the_row; laws = heap.the_row_laws; g = ghosts; d = dict; drops = impl [] tnil dnil };
 }
 

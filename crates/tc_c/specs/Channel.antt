@@ -1,5 +1,5 @@
 -- What a channel answers, as records of numbers.
-use Rattle.std.specs.Prelude.{◌≡◌, ◌⊎◌, ℕ, List, length, take, drop, Result, Ok, Err}
+use Rattle.std.specs.Prelude.{◌≡◌, ◌⊎◌, ◌++◌, ℕ, List, length, drop, Result, Ok, Err}
 use Rattle.tc_link.specs.Bits.{bit}
 use Rattle.tc_link.specs.declared.Link.{Link}
 use Rattle.tc_channel.specs.declared.reply.Delivery.{Delivery}
@@ -9,6 +9,10 @@ use Rattle.tc_channel.specs.declared.settings.QueueSetting.{QueueSetting}
 use Rattle.tc_channel.specs.declared.settings.MapSetting.{MapSetting}
 use Rattle.tc_channel.specs.declared.settings.SettingsFault.{SettingsFault}
 use Rattle.tc_channel.specs.Settings.{IsAllowed, IsFault}
+use Rattle.tc_fixed.specs.declared.limits.Limits.{Limits}
+use Rattle.tc_fixed.specs.declared.limits.LimitsFault.{LimitsFault}
+use Rattle.tc_fixed.specs.declared.limits.MapLimit.{MapLimit}
+use Rattle.tc_fixed.specs.Limits.{AreLimits, IsFault as IsFaultWithin}
 use Rattle.tc_c.specs.declared.status.Status.{Status}
 use Rattle.tc_c.specs.declared.status.Status.TheVariants.{Done, NoMemory, NoRoom}
 use Rattle.tc_c.specs.declared.settings.SettingsRecord.{SettingsRecord}
@@ -16,7 +20,7 @@ use Rattle.tc_c.specs.declared.channel.ReplyRecord.{ReplyRecord}
 use Rattle.tc_c.specs.declared.channel.DeliveryRecord.{DeliveryRecord}
 use Rattle.tc_c.specs.declared.buffer.WrittenRecord.{WrittenRecord}
 use Rattle.tc_c.specs.declared.counts.CountRecord.{CountRecord}
-use Rattle.tc_c.specs.Status.{code_of, settings_status}
+use Rattle.tc_c.specs.Status.{code_of, settings_status, limits_status}
 use Rattle.tc_c.specs.Farm.{with_ok, flag_of}
 
 -- the settings that the records stand for
@@ -67,17 +71,35 @@ abbrev pub IsUnfit : Result Settings Status → Status → Type 0
 IsUnfit (Err flag) fault = fault ≡ flag
 IsUnfit (Ok s) fault = (f : SettingsFault) × IsFault s f × (fault ≡ settings_status f)
 
--- why none is made: that, or want of memory where one can be made
+-- why none is made: that, or out of memory where one can be made
 abbrev pub IsRefusedBy : Result Settings Status → Status → Type 0
 IsRefusedBy given fault = IsUnfit given fault ⊎ ((fault ≡ NoMemory) × (s : Settings) × (given ≡ Ok s) × IsAllowed s)
+
+-- the limits that a number and a list stand for
+abbrev pub limits_given : ℕ → List MapLimit → Limits
+limits_given others maps = record { others = others; maps = maps }
+
+-- why no channel can be made of what the records stand for within these limits: a flag, else the first fault of the settings, else
+-- that of the limits
+abbrev pub IsUnfitWithin : Result Settings Status → Limits → Status → Type 0
+IsUnfitWithin (Err flag) limits fault = fault ≡ flag
+IsUnfitWithin (Ok s) limits fault = (f : LimitsFault) × IsFaultWithin s limits f × (fault ≡ limits_status f)
+
+-- why none is made: that, or out of memory where one can be made
+abbrev pub IsRefusedWithin : Result Settings Status → Limits → Status → Type 0
+IsRefusedWithin given limits fault = IsUnfitWithin given limits fault ⊎ ((fault ≡ NoMemory) × (s : Settings) × (given ≡ Ok s) × IsAllowed s × AreLimits s limits)
 
 abbrev pub no_octets : Status → WrittenRecord
 no_octets fault = record { status = code_of fault; length = 0 }
 
--- the answer to a buffer that is too short for these octets
-abbrev pub too_short : List ℕ → WrittenRecord
-too_short octets = record { status = code_of NoRoom; length = length octets }
+-- the answer to a buffer that is too short for so many octets
+abbrev pub too_short : ℕ → WrittenRecord
+too_short needed = record { status = code_of NoRoom; length = needed }
+
+-- the answer where so many octets were taken
+abbrev pub taken : ℕ → WrittenRecord
+taken count = record { status = code_of Done; length = count }
 
 -- octets at the front of a buffer, whose rest is as it was
 abbrev pub IsCopied : List ℕ → List ℕ → List ℕ → Type 0
-IsCopied octets old new = (take (length octets) new ≡ octets) × (drop (length octets) new ≡ drop (length octets) old)
+IsCopied octets old new = new ≡ octets ++ drop (length octets) old

@@ -1,7 +1,6 @@
 -- What a place owns: nothing where no channel lies there, else the same as a box.
 use base.Fml.{Fml, ftrue}
 use base.Stored.{Coded}
-use denote.Builtin.{unit}
 use denote.RattleType.{RattleType}
 use denote.RawPtr.{Ptr}
 use Rattle.std.specs.Prelude.{Option, Some, None}
@@ -9,17 +8,17 @@ use Rattle.std.specs.Coded.{coded_option}
 use Rattle.std.specs.Box.Ownership.{box_owns}
 use Rattle.std.specs.Global.{Global}
 use Rattle.std.specs.contracts.impls.GlobalAllocator.TheImpl.{ghosts}
-use Rattle.tc_channel.specs.Journal.{History}
-use Rattle.tc_channel.specs.contracts.channel.ChannelWith as Channel
 use Rattle.tc_channel.specs.contracts.unkept.Unkept as Unkept
-use Rattle.tc_channel.specs.contracts.unkept.UnkeptJournal.TheImpl as journal
+use Rattle.tc_fixed.specs.History.{LimitedHistory}
+use Rattle.tc_fixed.specs.contracts.channel.FixedChannelWith as Channel
+use Rattle.tc_fixed.specs.contracts.noted.UnkeptNoted.TheImpl as journal
 
 abbrev pub channel_row : RattleType
-channel_row = Channel.the_row Unkept.the_row unit journal.ghosts
+channel_row = Channel.the_row Unkept.the_row journal.ghosts
 
-abbrev pub history_coded : Coded (Option History)
+abbrev pub history_coded : Coded (Option LimitedHistory)
 history_coded = coded_option channel_row.coded
 
-abbrev pub place_owns : Global → Ptr → Option History → Fml
+abbrev pub place_owns : Global → Ptr → Option LimitedHistory → Fml
 place_owns alloc at None = ftrue
 place_owns alloc at (Some history) = box_owns (ghosts.dealloc_token alloc) channel_row at history

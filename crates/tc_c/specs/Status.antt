@@ -6,11 +6,14 @@ use Rattle.tc_link.specs.declared.writing.WriteFault.{WriteFault}
 use Rattle.tc_link.specs.declared.writing.WriteFault.TheVariants as writing
 use Rattle.tc_channel.specs.declared.settings.SettingsFault.{SettingsFault}
 use Rattle.tc_channel.specs.declared.settings.SettingsFault.TheVariants as settings
+use Rattle.tc_fixed.specs.declared.limits.LimitsFault.{LimitsFault}
+use Rattle.tc_fixed.specs.declared.limits.LimitsFault.TheVariants as limits
 use Rattle.tc_c.specs.declared.status.Status.{Status}
 use Rattle.tc_c.specs.declared.status.Status.TheVariants as st
 
 -- 0 is done; from 1 on no frame stands there, from 10 on none is written, from 20 on FARM-1 refuses, from 30 on CLCWs, from 40
--- on packets, from 50 on buffers and pointers, from 60 on no channel is made of settings, and from 70 on one can't be asked
+-- on packets, from 50 on buffers and pointers, from 60 on no channel is made of settings, from 70 on one can't be asked,
+-- and from 80 on no channel is made with limits
 abbrev pub code_of : Status → ℕ
 code_of st.Done = 0
 code_of st.Short = 1
@@ -48,6 +51,12 @@ code_of st.InUse = 71
 code_of st.NoQueue = 72
 code_of st.NoMap = 73
 code_of st.Empty = 74
+code_of st.BadOthers = 80
+code_of st.BadLimitMap = 81
+code_of st.DoubleLimit = 82
+code_of st.BadLimit = 83
+code_of st.PlainLimit = 84
+code_of st.UnlistedMap = 85
 
 abbrev pub status_of : ℕ → Option Status
 status_of number =
@@ -87,6 +96,12 @@ status_of number =
     else if number == 72 then Some st.NoQueue
     else if number == 73 then Some st.NoMap
     else if number == 74 then Some st.Empty
+    else if number == 80 then Some st.BadOthers
+    else if number == 81 then Some st.BadLimitMap
+    else if number == 82 then Some st.DoubleLimit
+    else if number == 83 then Some st.BadLimit
+    else if number == 84 then Some st.PlainLimit
+    else if number == 85 then Some st.UnlistedMap
     else None
 
 abbrev pub text_of : Status → List ℕ
@@ -126,6 +141,12 @@ text_of st.InUse = codes "a channel is held already"
 text_of st.NoQueue = codes "no queue has that APID"
 text_of st.NoMap = codes "that MAP isn't chosen"
 text_of st.Empty = codes "nothing waits there"
+text_of st.BadOthers = codes "the limit of the other MAPs is out of its range"
+text_of st.BadLimitMap = codes "the MAP of a limit is over 63"
+text_of st.DoubleLimit = codes "a MAP has two limits"
+text_of st.BadLimit = codes "the limit of a MAP isn't 1 to 65,542 octets"
+text_of st.PlainLimit = codes "a channel without segment headers has no limits by MAP"
+text_of st.UnlistedMap = codes "a chosen MAP has no limit"
 
 -- the faults of frames, by their names
 abbrev pub frame_status : FrameFault → Status
@@ -154,3 +175,13 @@ settings_status settings.DoubleMap = st.DoubleMap
 settings_status settings.BadUnits = st.BadUnits
 settings_status settings.PlainMap = st.PlainMap
 settings_status settings.NoMemory = st.NoMemory
+
+-- the faults of limits, by their names, and those of the settings with them
+abbrev pub limits_status : LimitsFault → Status
+limits_status (limits.Settings fault) = settings_status fault
+limits_status limits.BadOthers = st.BadOthers
+limits_status limits.BadMap = st.BadLimitMap
+limits_status limits.DoubleMap = st.DoubleLimit
+limits_status limits.BadLimit = st.BadLimit
+limits_status limits.PlainMap = st.PlainLimit
+limits_status limits.UnlistedMap = st.UnlistedMap

@@ -1,17 +1,18 @@
 //! Frames into a channel that C holds, releases, and packets and units out of it.
 
-ghost use Rattle.std.specs.Prelude.{◌≡◌, ◌<◌, ◌⊎◌, ℕ, List, [], Some, None, IfSome, IfNone};
+ghost use Rattle.std.specs.Prelude.{◌≡◌, ◌≢◌, ◌<◌, ℕ, List, [], Some, None, IfSome, IfNone};
 ghost use Rattle.tc_link.specs.Frame.{BeginsWith, fault_of};
 ghost use Rattle.tc_channel.specs.declared.event.Event.TheVariants as Event;
-ghost use Rattle.tc_channel.specs.Journal.{with_event};
-ghost use Rattle.tc_channel.specs.Reply.{BeginsWithBypassData, frame_reply, release_reply, buffered_fields};
+ghost use Rattle.tc_channel.specs.Reply.{frame_reply_within, release_reply_within, buffered_fields_within};
+ghost use Rattle.tc_fixed.specs.History.{with_event};
+ghost use Rattle.tc_fixed.specs.Limits.{limit_of};
 ghost use Rattle.tc_c.specs.Status.{code_of, frame_status};
 ghost use Rattle.tc_c.specs.Channel.{reply_record, no_reply, delivery_record, no_delivery};
 
 use crate::seat::Seat;
 use crate::status::{Status, code, frame_fault};
-use std::alloc::Global;
-use tc_channel::{Delivery, FlightChannel, FrameReply, ReleaseFault};
+use tc_channel::{Delivery, FrameReply};
+use tc_fixed::{FixedChannel, NothingReleased};
 use tc_link::read_frame;
 
 /// What became of a frame. Flags are 0 or 1, and each number is 0 where the call is refused.
@@ -93,18 +94,13 @@ fn delivery_refused(fault: Status) -> DeliveryRecord
 }
 
 // Gives the channel the frame at the front of the octets.
-fn bring(channel: &mut FlightChannel, octets: &[u8]) -> ReplyRecord
-    ensures done { result.status ≡ 0 → (frame : List ℕ) × BeginsWith octets.now frame × (result ≡ reply_record (frame_reply channel.old.settings channel.old.journal frame)) × (channel.new ≡ with_event channel.old (Event.Frame frame)) }
-    ensures fault { IfSome (fault_of octets.now) (λ fault. result ≡ no_reply (frame_status fault)) }
-    ensures memory { 0 < result.status → IfNone (fault_of octets.now) (result ≡ no_reply Status.NoMemory) }
-    ensures answered { 0 < result.status → IfNone (fault_of octets.now) (BeginsWithBypassData octets.now) }
+fn bring(channel: &mut FixedChannel, octets: &[u8]) -> ReplyRecord
+    ensures done { IfNone (fault_of octets.now) ((frame : List ℕ) × BeginsWith octets.now frame × (result ≡ reply_record (frame_reply_within (limit_of channel.old.limits) channel.old.settings channel.old.journal frame)) × (channel.new ≡ with_event channel.old (Event.Frame frame))) }
+    ensures fault { IfSome (fault_of octets.now) (λ fault. (result ≡ no_reply (frame_status fault)) × (channel.new ≡ channel.old)) }
     ensures refused { 0 < result.status → channel.new ≡ channel.old }
 {
     match read_frame(octets) {
-        Ok(frame) => match channel.frame(&frame) {
-            Ok(reply) => reply_told(reply),
-            Err(_) => reply_refused(Status::NoMemory),
-        },
+        Ok(frame) => reply_told(channel.frame(&frame)),
         Err(fault) => reply_refused(frame_fault(fault)),
     }
 }
@@ -112,22 +108,16 @@ fn bring(channel: &mut FlightChannel, octets: &[u8]) -> ReplyRecord
 /// Gives the channel the frame at the front of the octets, of whatever virtual channel (CCSDS 232.0-B, 232.1-B). What follows
 /// it is fill.
 ///
-/// Refused are a seat with no channel by NoChannel, octets with which no frame begins by their first fault, and a frame of
-/// Type-BD for which memory is wanting by NoMemory, with the channel as it was. No other frame is refused for memory.
+/// Refused are a seat with no channel by NoChannel, and octets with which no frame begins by their first fault. Each frame is
+/// answered: no call but the one that makes the channel asks for memory.
 #[unsafe(no_mangle)]
-pub extern "C" fn tcrx_channel_frame_at(
-    alloc: Global,
-    seat: &mut Seat,
-    octets: &[u8],
-) -> ReplyRecord
-    ensures done { IfSome seat.old.place.channel (λ h. result.status ≡ 0 → (frame : List ℕ) × BeginsWith octets.now frame × (result ≡ reply_record (frame_reply h.settings h.journal frame)) × (seat.new.place.channel ≡ Some (with_event h (Event.Frame frame)))) }
+pub extern "C" fn tcrx_channel_frame_at(seat: &mut Seat, octets: &[u8]) -> ReplyRecord
+    ensures done { IfSome seat.old.place.channel (λ h. IfNone (fault_of octets.now) ((frame : List ℕ) × BeginsWith octets.now frame × (result ≡ reply_record (frame_reply_within (limit_of h.limits) h.settings h.journal frame)) × (seat.new.place.channel ≡ Some (with_event h (Event.Frame frame))))) }
     ensures fault { IfSome seat.old.place.channel (λ h. IfSome (fault_of octets.now) (λ fault. result ≡ no_reply (frame_status fault))) }
-    ensures memory { IfSome seat.old.place.channel (λ h. 0 < result.status → IfNone (fault_of octets.now) (result ≡ no_reply Status.NoMemory)) }
-    ensures answered { IfSome seat.old.place.channel (λ _. 0 < result.status → IfNone (fault_of octets.now) (BeginsWithBypassData octets.now)) }
     ensures refused { 0 < result.status → seat.new.place.channel ≡ seat.old.place.channel }
     ensures no_channel { IfNone seat.old.place.channel (result ≡ no_reply Status.NoChannel) }
 {
-    match seat.take(alloc) {
+    match seat.take() {
         Some(mut held) => {
             let reply = bring(&mut held, octets);
             seat.put(held);
@@ -137,33 +127,29 @@ pub extern "C" fn tcrx_channel_frame_at(
     }
 }
 
-fn let_out(channel: &mut FlightChannel) -> DeliveryRecord
-    ensures done { result.status ≡ 0 → (result ≡ delivery_record (release_reply channel.old.settings channel.old.journal)) × (channel.new ≡ with_event channel.old Event.Release) }
-    ensures empty { buffered_fields channel.old.settings channel.old.journal ≡ [] → result ≡ no_delivery Status.Empty }
-    ensures memory { 0 < result.status → (result ≡ no_delivery Status.NoMemory) ⊎ (buffered_fields channel.old.settings channel.old.journal ≡ []) }
+fn let_out(channel: &mut FixedChannel) -> DeliveryRecord
+    ensures done { buffered_fields_within (limit_of channel.old.limits) channel.old.settings channel.old.journal ≢ [] → (result ≡ delivery_record (release_reply_within (limit_of channel.old.limits) channel.old.settings channel.old.journal)) × (channel.new ≡ with_event channel.old Event.Release) }
+    ensures empty { buffered_fields_within (limit_of channel.old.limits) channel.old.settings channel.old.journal ≡ [] → result ≡ no_delivery Status.Empty }
     ensures refused { 0 < result.status → channel.new ≡ channel.old }
 {
     match channel.release() {
         Ok(delivery) => delivery_told(delivery),
-        Err(ReleaseFault::Empty) => delivery_refused(Status::Empty),
-        Err(ReleaseFault::NoMemory) => delivery_refused(Status::NoMemory),
+        Err(NothingReleased::Empty) => delivery_refused(Status::Empty),
     }
 }
 
 /// Lets the oldest data field out of the buffer, and queues the unit that it ends: whole where its MAP is chosen, else its
 /// packets.
 ///
-/// Refused are a seat with no channel by NoChannel, an empty buffer by Empty, and want of memory by NoMemory, with the channel
-/// as it was.
+/// Refused are a seat with no channel by NoChannel, and an empty buffer by Empty, with the channel as it was.
 #[unsafe(no_mangle)]
-pub extern "C" fn tcrx_channel_release_at(alloc: Global, seat: &mut Seat) -> DeliveryRecord
-    ensures done { IfSome seat.old.place.channel (λ h. result.status ≡ 0 → (result ≡ delivery_record (release_reply h.settings h.journal)) × (seat.new.place.channel ≡ Some (with_event h Event.Release))) }
-    ensures empty { IfSome seat.old.place.channel (λ h. buffered_fields h.settings h.journal ≡ [] → result ≡ no_delivery Status.Empty) }
-    ensures memory { IfSome seat.old.place.channel (λ h. 0 < result.status → (result ≡ no_delivery Status.NoMemory) ⊎ (buffered_fields h.settings h.journal ≡ [])) }
+pub extern "C" fn tcrx_channel_release_at(seat: &mut Seat) -> DeliveryRecord
+    ensures done { IfSome seat.old.place.channel (λ h. buffered_fields_within (limit_of h.limits) h.settings h.journal ≢ [] → (result ≡ delivery_record (release_reply_within (limit_of h.limits) h.settings h.journal)) × (seat.new.place.channel ≡ Some (with_event h Event.Release))) }
+    ensures empty { IfSome seat.old.place.channel (λ h. buffered_fields_within (limit_of h.limits) h.settings h.journal ≡ [] → result ≡ no_delivery Status.Empty) }
     ensures refused { 0 < result.status → seat.new.place.channel ≡ seat.old.place.channel }
     ensures no_channel { IfNone seat.old.place.channel (result ≡ no_delivery Status.NoChannel) }
 {
-    match seat.take(alloc) {
+    match seat.take() {
         Some(mut held) => {
             let delivery = let_out(&mut held);
             seat.put(held);
@@ -175,12 +161,12 @@ pub extern "C" fn tcrx_channel_release_at(alloc: Global, seat: &mut Seat) -> Del
 
 /// Frees the channel with all that it holds. Refused is a seat with no channel by NoChannel. The seat then holds none.
 #[unsafe(no_mangle)]
-pub extern "C" fn tcrx_channel_free_at(alloc: Global, seat: &mut Seat) -> u32
+pub extern "C" fn tcrx_channel_free_at(seat: &mut Seat) -> u32
     ensures freed { IfSome seat.old.place.channel (λ _. result ≡ code_of Status.Done) }
     ensures no_channel { IfNone seat.old.place.channel (result ≡ code_of Status.NoChannel) }
     ensures empty { seat.new.place.channel ≡ None }
 {
-    match seat.take(alloc) {
+    match seat.take() {
         Some(_held) => code(Status::Done),
         None => code(Status::NoChannel),
     }

@@ -1,10 +1,11 @@
 //! What a channel that C holds reports: the CLCW, FARM-1 and counts.
 
 ghost use Rattle.std.specs.Prelude.{◌≡◌, ◌^◌, ◌-◌, length, min, Some, None, Ok, IfSome, IfNone, IfOk, IfErr};
-ghost use Rattle.tc_channel.specs.Run.{run, IsLawful};
+ghost use Rattle.tc_channel.specs.Run.{run_within, IsLawfulWithin};
 ghost use Rattle.tc_channel.specs.Settings.{IsAllowed};
-ghost use Rattle.tc_channel.specs.Era.{CountsUpInItsEra};
-ghost use Rattle.tc_channel.specs.Reply.{waiting_packets, waiting_units, buffered_fields, clcw as word_of};
+ghost use Rattle.tc_channel.specs.Era.{CountsUpInItsEraWithin};
+ghost use Rattle.tc_channel.specs.Reply.{waiting_packets_within, waiting_units_within, buffered_fields_within, clcw_within};
+ghost use Rattle.tc_fixed.specs.Limits.{limit_of};
 ghost use Rattle.tc_c.specs.Status.{code_of};
 ghost use Rattle.tc_c.specs.Farm.{record_of, no_record};
 ghost use Rattle.tc_c.specs.Channel.{link_of, count_record, no_count};
@@ -13,8 +14,7 @@ use crate::clcw::ClcwRecord;
 use crate::farm::{FarmAnswer, FarmRecord, flag, record};
 use crate::seat::Seat;
 use crate::status::{Status, code};
-use std::alloc::Global;
-use tc_channel::FlightChannel;
+use tc_fixed::FixedChannel;
 use tc_link::Link;
 
 /// A status with a count.
@@ -53,8 +53,8 @@ fn link(no_rf: u8, no_bit_lock: u8) -> Result<Link, Status>
     })
 }
 
-fn clcw(channel: &FlightChannel, no_rf: u8, no_bit_lock: u8) -> ClcwRecord
-    ensures word { IfOk (link_of no_rf no_bit_lock) (λ link. result ≡ record { status = code_of Status.Done; word = word_of channel.now.settings channel.now.journal link }) }
+fn clcw(channel: &FixedChannel, no_rf: u8, no_bit_lock: u8) -> ClcwRecord
+    ensures word { IfOk (link_of no_rf no_bit_lock) (λ link. result ≡ record { status = code_of Status.Done; word = clcw_within (limit_of channel.now.limits) channel.now.settings channel.now.journal link }) }
     ensures refused { IfErr (link_of no_rf no_bit_lock) (λ fault. result ≡ record { status = code_of fault; word = 0 }) }
 {
     match link(no_rf, no_bit_lock) {
@@ -74,17 +74,16 @@ fn clcw(channel: &FlightChannel, no_rf: u8, no_bit_lock: u8) -> ClcwRecord
 /// Refused are a seat with no channel by NoChannel and another flag by BadFlag; the word then is 0. The channel stays as it was.
 #[unsafe(no_mangle)]
 pub extern "C" fn tcrx_channel_clcw_at(
-    alloc: Global,
     seat: &mut Seat,
     no_rf: u8,
     no_bit_lock: u8,
 ) -> ClcwRecord
-    ensures word { IfSome seat.old.place.channel (λ h. IfOk (link_of no_rf no_bit_lock) (λ link. result ≡ record { status = code_of Status.Done; word = word_of h.settings h.journal link })) }
+    ensures word { IfSome seat.old.place.channel (λ h. IfOk (link_of no_rf no_bit_lock) (λ link. result ≡ record { status = code_of Status.Done; word = clcw_within (limit_of h.limits) h.settings h.journal link })) }
     ensures refused { IfSome seat.old.place.channel (λ h. IfErr (link_of no_rf no_bit_lock) (λ fault. result ≡ record { status = code_of fault; word = 0 })) }
     ensures no_channel { IfNone seat.old.place.channel (result ≡ record { status = code_of Status.NoChannel; word = 0 }) }
     ensures unchanged { seat.new.place.channel ≡ seat.old.place.channel }
 {
-    match seat.take(alloc) {
+    match seat.take() {
         Some(held) => {
             let answer = clcw(&held, no_rf, no_bit_lock);
             seat.put(held);
@@ -97,11 +96,11 @@ pub extern "C" fn tcrx_channel_clcw_at(
     }
 }
 
-fn farm_of(channel: &FlightChannel) -> FarmAnswer
+fn farm_of(channel: &FixedChannel) -> FarmAnswer
     ensures allowed { IsAllowed channel.now.settings }
-    ensures lawful { IsLawful channel.now.settings channel.now.journal }
-    ensures era { CountsUpInItsEra channel.now.settings channel.now.journal }
-    ensures farm { result ≡ record { status = code_of Status.Done; farm = record_of (record { width = channel.now.settings.width; report = (run channel.now.settings channel.now.journal).report }) } }
+    ensures lawful { IsLawfulWithin (limit_of channel.now.limits) channel.now.settings channel.now.journal }
+    ensures era { CountsUpInItsEraWithin (limit_of channel.now.limits) channel.now.settings channel.now.journal }
+    ensures farm { result ≡ record { status = code_of Status.Done; farm = record_of (record { width = channel.now.settings.width; report = (run_within (limit_of channel.now.limits) channel.now.settings channel.now.journal).report }) } }
 {
     FarmAnswer {
         status: code(Status::Done),
@@ -113,15 +112,15 @@ fn farm_of(channel: &FlightChannel) -> FarmAnswer
 ///
 /// Refused is a seat with no channel by NoChannel, with each number of the record 0. The channel stays as it was.
 #[unsafe(no_mangle)]
-pub extern "C" fn tcrx_channel_report_at(alloc: Global, seat: &mut Seat) -> FarmAnswer
-    ensures farm { IfSome seat.old.place.channel (λ h. result ≡ record { status = code_of Status.Done; farm = record_of (record { width = h.settings.width; report = (run h.settings h.journal).report }) }) }
+pub extern "C" fn tcrx_channel_report_at(seat: &mut Seat) -> FarmAnswer
+    ensures farm { IfSome seat.old.place.channel (λ h. result ≡ record { status = code_of Status.Done; farm = record_of (record { width = h.settings.width; report = (run_within (limit_of h.limits) h.settings h.journal).report }) }) }
     ensures no_channel { IfNone seat.old.place.channel (result ≡ record { status = code_of Status.NoChannel; farm = no_record }) }
     ensures unchanged { seat.new.place.channel ≡ seat.old.place.channel }
     ensures allowed { IfSome seat.old.place.channel (λ h. IsAllowed h.settings) }
-    ensures lawful { IfSome seat.old.place.channel (λ h. IsLawful h.settings h.journal) }
-    ensures era { IfSome seat.old.place.channel (λ h. CountsUpInItsEra h.settings h.journal) }
+    ensures lawful { IfSome seat.old.place.channel (λ h. IsLawfulWithin (limit_of h.limits) h.settings h.journal) }
+    ensures era { IfSome seat.old.place.channel (λ h. CountsUpInItsEraWithin (limit_of h.limits) h.settings h.journal) }
 {
-    match seat.take(alloc) {
+    match seat.take() {
         Some(held) => {
             let answer = farm_of(&held);
             seat.put(held);
@@ -144,12 +143,12 @@ pub extern "C" fn tcrx_channel_report_at(alloc: Global, seat: &mut Seat) -> Farm
 
 /// How many data fields wait in the buffer. Refused is a seat with no channel by NoChannel. The channel stays as it was.
 #[unsafe(no_mangle)]
-pub extern "C" fn tcrx_channel_buffered_at(alloc: Global, seat: &mut Seat) -> CountRecord
-    ensures count { IfSome seat.old.place.channel (λ h. result ≡ count_record (length (buffered_fields h.settings h.journal))) }
+pub extern "C" fn tcrx_channel_buffered_at(seat: &mut Seat) -> CountRecord
+    ensures count { IfSome seat.old.place.channel (λ h. result ≡ count_record (length (buffered_fields_within (limit_of h.limits) h.settings h.journal))) }
     ensures no_channel { IfNone seat.old.place.channel (result ≡ no_count Status.NoChannel) }
     ensures unchanged { seat.new.place.channel ≡ seat.old.place.channel }
 {
-    match seat.take(alloc) {
+    match seat.take() {
         Some(held) => {
             let answer = counted(held.buffered() as u64);
             seat.put(held);
@@ -159,9 +158,9 @@ pub extern "C" fn tcrx_channel_buffered_at(alloc: Global, seat: &mut Seat) -> Co
     }
 }
 
-fn packets(channel: &FlightChannel, apid: u16) -> CountRecord
-    ensures count { IfSome (waiting_packets channel.now.settings channel.now.journal apid) (λ packets. result ≡ count_record (length packets)) }
-    ensures no_queue { IfNone (waiting_packets channel.now.settings channel.now.journal apid) (result ≡ no_count Status.NoQueue) }
+fn packets(channel: &FixedChannel, apid: u16) -> CountRecord
+    ensures count { IfSome (waiting_packets_within (limit_of channel.now.limits) channel.now.settings channel.now.journal apid) (λ packets. result ≡ count_record (length packets)) }
+    ensures no_queue { IfNone (waiting_packets_within (limit_of channel.now.limits) channel.now.settings channel.now.journal apid) (result ≡ no_count Status.NoQueue) }
 {
     match channel.queued(apid) {
         Some(count) => counted(count as u64),
@@ -172,13 +171,13 @@ fn packets(channel: &FlightChannel, apid: u16) -> CountRecord
 /// How many packets wait in the queue with this APID. Refused are a seat with no channel by NoChannel, and an APID with no queue
 /// by NoQueue. The channel stays as it was.
 #[unsafe(no_mangle)]
-pub extern "C" fn tcrx_channel_queued_at(alloc: Global, seat: &mut Seat, apid: u16) -> CountRecord
-    ensures count { IfSome seat.old.place.channel (λ h. IfSome (waiting_packets h.settings h.journal apid) (λ packets. result ≡ count_record (length packets))) }
-    ensures no_queue { IfSome seat.old.place.channel (λ h. IfNone (waiting_packets h.settings h.journal apid) (result ≡ no_count Status.NoQueue)) }
+pub extern "C" fn tcrx_channel_queued_at(seat: &mut Seat, apid: u16) -> CountRecord
+    ensures count { IfSome seat.old.place.channel (λ h. IfSome (waiting_packets_within (limit_of h.limits) h.settings h.journal apid) (λ packets. result ≡ count_record (length packets))) }
+    ensures no_queue { IfSome seat.old.place.channel (λ h. IfNone (waiting_packets_within (limit_of h.limits) h.settings h.journal apid) (result ≡ no_count Status.NoQueue)) }
     ensures no_channel { IfNone seat.old.place.channel (result ≡ no_count Status.NoChannel) }
     ensures unchanged { seat.new.place.channel ≡ seat.old.place.channel }
 {
-    match seat.take(alloc) {
+    match seat.take() {
         Some(held) => {
             let answer = packets(&held, apid);
             seat.put(held);
@@ -188,9 +187,9 @@ pub extern "C" fn tcrx_channel_queued_at(alloc: Global, seat: &mut Seat, apid: u
     }
 }
 
-fn units(channel: &FlightChannel, map: u8) -> CountRecord
-    ensures count { IfSome (waiting_units channel.now.settings channel.now.journal map) (λ units. result ≡ count_record (length units)) }
-    ensures no_map { IfNone (waiting_units channel.now.settings channel.now.journal map) (result ≡ no_count Status.NoMap) }
+fn units(channel: &FixedChannel, map: u8) -> CountRecord
+    ensures count { IfSome (waiting_units_within (limit_of channel.now.limits) channel.now.settings channel.now.journal map) (λ units. result ≡ count_record (length units)) }
+    ensures no_map { IfNone (waiting_units_within (limit_of channel.now.limits) channel.now.settings channel.now.journal map) (result ≡ no_count Status.NoMap) }
 {
     match channel.units(map) {
         Some(count) => counted(count as u64),
@@ -201,13 +200,13 @@ fn units(channel: &FlightChannel, map: u8) -> CountRecord
 /// How many units wait in the queue of this chosen MAP. Refused are a seat with no channel by NoChannel, and a MAP that isn't
 /// chosen by NoMap. The channel stays as it was.
 #[unsafe(no_mangle)]
-pub extern "C" fn tcrx_channel_units_at(alloc: Global, seat: &mut Seat, map: u8) -> CountRecord
-    ensures count { IfSome seat.old.place.channel (λ h. IfSome (waiting_units h.settings h.journal map) (λ units. result ≡ count_record (length units))) }
-    ensures no_map { IfSome seat.old.place.channel (λ h. IfNone (waiting_units h.settings h.journal map) (result ≡ no_count Status.NoMap)) }
+pub extern "C" fn tcrx_channel_units_at(seat: &mut Seat, map: u8) -> CountRecord
+    ensures count { IfSome seat.old.place.channel (λ h. IfSome (waiting_units_within (limit_of h.limits) h.settings h.journal map) (λ units. result ≡ count_record (length units))) }
+    ensures no_map { IfSome seat.old.place.channel (λ h. IfNone (waiting_units_within (limit_of h.limits) h.settings h.journal map) (result ≡ no_count Status.NoMap)) }
     ensures no_channel { IfNone seat.old.place.channel (result ≡ no_count Status.NoChannel) }
     ensures unchanged { seat.new.place.channel ≡ seat.old.place.channel }
 {
-    match seat.take(alloc) {
+    match seat.take() {
         Some(held) => {
             let answer = units(&held, map);
             seat.put(held);
@@ -220,12 +219,12 @@ pub extern "C" fn tcrx_channel_units_at(alloc: Global, seat: &mut Seat, map: u8)
 /// How many frames, releases and takes there were; where they are more than 2^64 - 1, that number. Refused is a seat with no
 /// channel by NoChannel. The channel stays as it was.
 #[unsafe(no_mangle)]
-pub extern "C" fn tcrx_channel_events_at(alloc: Global, seat: &mut Seat) -> CountRecord
+pub extern "C" fn tcrx_channel_events_at(seat: &mut Seat) -> CountRecord
     ensures count { IfSome seat.old.place.channel (λ h. result ≡ count_record (min (length h.journal) (2 ^ 64 - 1))) }
     ensures no_channel { IfNone seat.old.place.channel (result ≡ no_count Status.NoChannel) }
     ensures unchanged { seat.new.place.channel ≡ seat.old.place.channel }
 {
-    match seat.take(alloc) {
+    match seat.take() {
         Some(held) => {
             let answer = counted(held.events());
             seat.put(held);

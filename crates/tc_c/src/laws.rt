@@ -12,10 +12,11 @@ ghost use Rattle.tc_channel.specs.declared.settings.Settings.{Settings};
 ghost use Rattle.tc_channel.specs.declared.settings.SettingsFault.{SettingsFault};
 ghost use Rattle.tc_channel.specs.declared.event.Event.{Event};
 ghost use Rattle.tc_channel.specs.Settings.{IsAllowed};
-ghost use Rattle.tc_channel.specs.Run.{IsLawful, run};
+ghost use Rattle.tc_channel.specs.Run.{IsLawfulWithin, run_within};
+ghost use Rattle.tc_fixed.specs.declared.limits.LimitsFault.{LimitsFault};
 ghost use Rattle.tc_c.specs.declared.farm.FarmRecord.{FarmRecord};
 ghost use Rattle.tc_c.specs.declared.status.Status.{Status};
-ghost use Rattle.tc_c.specs.Status.{code_of, status_of, text_of, frame_status, write_status, settings_status};
+ghost use Rattle.tc_c.specs.Status.{code_of, status_of, text_of, frame_status, write_status, settings_status, limits_status};
 ghost use Rattle.tc_c.specs.Farm.{IsFarm, first_farm, record_of, farm_of, arrival_of, left};
 ghost use Rattle.tc_c.specs.Frame.{kind_number, kind_value};
 
@@ -35,7 +36,7 @@ pub fn a_step_leaves_a_farm()
 /// What starts is a FARM-1 whose record the next call reads, and so are the components of a channel after each lawful journal.
 pub fn each_channel_has_a_farm()
     ensures start { (width first : ℕ) (farm : Machine) → first_farm width first ≡ Ok farm → IsFarm farm }
-    ensures run { (s : Settings) (journal : List Event) → IsAllowed s → IsLawful s journal → IsFarm (record { width = s.width; report = (run s journal).report }) }
+    ensures run { (limits : ℕ → ℕ) (s : Settings) (journal : List Event) → IsAllowed s → IsLawfulWithin limits s journal → IsFarm (record { width = s.width; report = (run_within limits s journal).report }) }
 {
     a_step_leaves_a_farm();
 }
@@ -50,11 +51,13 @@ pub fn each_status_has_a_number()
     ensures { (st : Status) → status_of (code_of st) ≡ Some st }
 {}
 
-/// No two faults have one status: those of octets with which no frame begins, of frames that aren't written, and of settings.
+/// No two faults have one status: those of octets with which no frame begins, of frames that aren't written, of settings, and of
+/// settings with limits.
 pub fn each_fault_has_a_status_of_its_own()
     ensures frames { (one other : FrameFault) → frame_status one ≡ frame_status other → one ≡ other }
     ensures writing { (one other : WriteFault) → write_status one ≡ write_status other → one ≡ other }
     ensures settings { (one other : SettingsFault) → settings_status one ≡ settings_status other → one ≡ other }
+    ensures limits { (one other : LimitsFault) → limits_status one ≡ limits_status other → one ≡ other }
 {}
 
 /// Each text fits 64 octets with the octet 0 after it.

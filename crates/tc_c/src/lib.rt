@@ -5,7 +5,6 @@
 //! The header `c/tcrx.h` says the same to callers in C.
 #![tactic(auto)]
 
-mod bound;
 mod buffer;
 mod channel;
 mod clcw;
@@ -19,9 +18,9 @@ mod place;
 mod seat;
 mod settings;
 mod status;
+mod storage;
 mod takes;
 
-pub use bound::tcrx_memory_bound_at;
 pub use buffer::{WrittenRecord, tcrx_text_at};
 pub use channel::{
     DeliveryRecord, ReplyRecord, tcrx_channel_frame_at, tcrx_channel_free_at,
@@ -44,6 +43,7 @@ pub use laws::{
 pub use packets::{PacketRecord, tcrx_read_packet_at};
 pub use place::Place;
 pub use seat::Seat;
-pub use settings::{SettingsRecord, tcrx_channel_new_at};
+pub use settings::{SettingsRecord, tcrx_channel_new_at, tcrx_channel_new_with_limits_at};
 pub use status::Status;
+pub use storage::{tcrx_storage_at, tcrx_storage_with_limits_at};
 pub use takes::{tcrx_channel_take_at, tcrx_channel_take_unit_at};

@@ -1,14 +1,14 @@
 //! Where a channel lies in memory, or that none does.
 
 ghost use Rattle.std.specs.Prelude.{◌≡◌, Option, Some, None, IsSome};
-ghost use Rattle.tc_channel.specs.Journal.{History};
+ghost use Rattle.tc_fixed.specs.History.{LimitedHistory};
 ghost use Rattle.tc_c.specs.Place.{place_owns, history_coded};
 
 use crate::parts::Parts;
 use std::alloc::Global;
 use std::marker::Model;
 use std::ptr;
-use tc_channel::FlightChannel;
+use tc_fixed::FixedChannel;
 
 /// The place of a channel, or of none. C passes it on, and never reads or copies it. It is let go only where no channel is.
 #[repr(C)]
@@ -16,7 +16,7 @@ use tc_channel::FlightChannel;
 pub struct Place {
     ptr: *mut u8,
     alloc: Global,
-    pub ghost channel: { Option History } by { history_coded },
+    pub ghost channel: { Option LimitedHistory } by { history_coded },
 }
 
 impl Model for Place {
@@ -35,7 +35,7 @@ impl Place {
     }
 
     /// The place of a channel in these parts.
-    pub(crate) fn of(parts: Parts<FlightChannel, Global>) -> Place
+    pub(crate) fn of(parts: Parts<FixedChannel, Global>) -> Place
         ensures { result.channel ≡ Some parts.value }
     {
         let Parts { ptr, alloc } = parts;
@@ -46,13 +46,13 @@ impl Place {
     }
 
     /// The parts of the channel that lies here.
-    pub(crate) fn into_parts(self) -> Parts<FlightChannel, Global>
+    pub(crate) fn into_parts(self) -> Parts<FixedChannel, Global>
         requires { IsSome self.channel }
         ensures { self.channel ≡ Some result.value }
     {
         let Place { ptr, alloc } = self;
         Parts {
-            ptr: ptr as *mut FlightChannel,
+            ptr: ptr as *mut FixedChannel,
             alloc,
         }
     }

@@ -6,12 +6,13 @@ use crate::parts::Parts;
 use crate::place::Place;
 use std::alloc::Global;
 use std::mem::replace;
-use tc_channel::FlightChannel;
+use tc_fixed::FixedChannel;
 
 /// A channel that C holds, or none. All zero, it holds none.
 #[repr(C)]
 pub struct Seat {
     pub(crate) held: bool,
+    alloc: Global,
     pub place: Place,
     pub ghost agrees: { held ≡ is_some place.channel },
 }
@@ -22,25 +23,31 @@ impl Seat {
     {
         Seat {
             held: false,
+            alloc,
             place: Place::empty(alloc),
         }
     }
 
-    fn of(held: Box<FlightChannel>) -> Seat
+    fn of(alloc: Global, held: Box<FixedChannel>) -> Seat
         ensures { result.place.channel ≡ Some held.value }
     {
         Seat {
             held: true,
+            alloc,
             place: Place::of(Parts::of(held)),
         }
     }
 
     /// Takes the channel out, and leaves none.
-    pub(crate) fn take(&mut self, alloc: Global) -> Option<Box<FlightChannel>>
+    pub(crate) fn take(&mut self) -> Option<Box<FixedChannel>>
         ensures channel { self.old.place.channel ≡ option_map (λ held. held.value) result }
         ensures empty { self.new.place.channel ≡ None }
     {
-        let Seat { held, place } = replace(self, Seat::empty(alloc));
+        let Seat {
+            held,
+            alloc: _alloc,
+            place,
+        } = replace(self, Seat::empty(self.alloc));
         if held {
             Some(place.into_parts().into_box())
         } else {
@@ -49,14 +56,15 @@ impl Seat {
     }
 
     /// Puts a channel in where none is.
-    pub(crate) fn put(&mut self, held: Box<FlightChannel>)
+    pub(crate) fn put(&mut self, held: Box<FixedChannel>)
         requires { self.old.place.channel ≡ None }
         ensures { self.new.place.channel ≡ Some held.value }
     {
         let Seat {
             held: _was_held,
+            alloc: _alloc,
             place,
-        } = replace(self, Seat::of(held));
+        } = replace(self, Seat::of(self.alloc, held));
         drop(place);
     }
 

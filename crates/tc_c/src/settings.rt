@@ -1,17 +1,19 @@
-//! The settings of a channel as records.
+//! The settings and the limits of a channel as records.
 
-ghost use Rattle.std.specs.Prelude.{◌≡◌, ◌<◌, IfOk, IfErr, IfSome, IfNone, Ok, Some, None, []};
+ghost use Rattle.std.specs.Prelude.{◌≡◌, ◌<◌, IfOk, IfErr, IfSome, IfNone, MatchResult, Ok, Err, Some, []};
 ghost use Rattle.tc_channel.specs.declared.settings.Settings.{Settings as ChannelSettings};
 ghost use Rattle.tc_c.specs.declared.status.Status.{Status as StatusName};
 ghost use Rattle.tc_c.specs.Status.{code_of};
 ghost use Rattle.tc_channel.specs.Settings.{settings_of as owned_of, IsAllowed};
-ghost use Rattle.tc_c.specs.Channel.{settings_of, IsUnfit, IsRefusedBy};
+ghost use Rattle.tc_fixed.specs.Limits.{AreLimits, limits_of, none};
+ghost use Rattle.tc_c.specs.Channel.{settings_of, limits_given, IsUnfit, IsUnfitWithin, IsRefusedBy, IsRefusedWithin};
 
 use crate::farm::flag;
 use crate::seat::Seat;
-use crate::status::{Status, code, settings_fault};
+use crate::status::{Status, code, limits_fault, settings_fault};
 use std::alloc::Global;
-use tc_channel::{FlightChannel, LentSettings, MapSetting, QueueSetting};
+use tc_channel::{LentSettings, MapSetting, QueueSetting};
+use tc_fixed::{FixedChannel, LentLimits, MapLimit};
 
 /// What a channel is made by, apart from its queues. Those come as lists of `QueueSetting` and `MapSetting`.
 #[repr(C)]
@@ -29,7 +31,28 @@ pub struct SettingsRecord {
     pub segmented: u8,
 }
 
-/// The settings that the records stand for, with the lists lent, where a channel can be made by them.
+/// The settings that the records stand for, with the lists lent.
+fn lent<'a>(
+    given: SettingsRecord,
+    queues: &'a [QueueSetting],
+    maps: &'a [MapSetting],
+) -> Result<LentSettings<'a>, Status>
+    ensures settings { MatchResult result (λ lent. settings_of given queues.now maps.now ≡ Ok (owned_of lent)) (λ fault. settings_of given queues.now maps.now ≡ Err fault) }
+    ensures refusal { IfErr result (λ fault. 0 < code_of fault) }
+{
+    let segmented = flag(given.segmented)?;
+    Ok(LentSettings {
+        vcid: given.vcid,
+        width: given.width,
+        buffer: given.buffer,
+        first: given.first,
+        segmented,
+        queues,
+        maps,
+    })
+}
+
+/// The same where a channel can be made by them.
 pub(crate) fn checked<'a>(
     given: SettingsRecord,
     queues: &'a [QueueSetting],
@@ -40,30 +63,40 @@ pub(crate) fn checked<'a>(
     ensures fault { IfErr result (λ fault. IsUnfit (settings_of given queues.now maps.now) fault) }
     ensures refusal { IfErr result (λ fault. 0 < code_of fault) }
 {
-    let segmented = flag(given.segmented)?;
-    let lent = LentSettings {
-        vcid: given.vcid,
-        width: given.width,
-        buffer: given.buffer,
-        first: given.first,
-        segmented,
-        queues,
-        maps,
-    };
+    let lent = lent(given, queues, maps)?;
     match lent.check() {
         Ok(()) => Ok(lent),
         Err(fault) => Err(settings_fault(fault)),
     }
 }
 
-/// A channel of the settings that the records stand for.
-pub(crate) fn channel(
+/// The same where a channel can be made by them within these limits.
+pub(crate) fn checked_within<'a>(
+    given: SettingsRecord,
+    queues: &'a [QueueSetting],
+    maps: &'a [MapSetting],
+    limits: LentLimits<'_>,
+) -> Result<LentSettings<'a>, Status>
+    ensures settings { IfOk result (λ lent. settings_of given queues.now maps.now ≡ Ok (owned_of lent)) }
+    ensures allowed { IfOk result (λ lent. IsAllowed (owned_of lent) × AreLimits (owned_of lent) (limits_of limits.entry)) }
+    ensures fault { IfErr result (λ fault. IsUnfitWithin (settings_of given queues.now maps.now) (limits_of limits.entry) fault) }
+    ensures refusal { IfErr result (λ fault. 0 < code_of fault) }
+{
+    let lent = lent(given, queues, maps)?;
+    match limits.check(lent) {
+        Ok(()) => Ok(lent),
+        Err(fault) => Err(limits_fault(fault)),
+    }
+}
+
+// A channel of the settings that the records stand for.
+fn channel(
     alloc: Global,
     given: SettingsRecord,
     queues: &[QueueSetting],
     maps: &[MapSetting],
-) -> Result<Box<FlightChannel>, Status>
-    ensures made { IfOk result (λ held. (s : ChannelSettings) × (settings_of given queues.now maps.now ≡ Ok s) × IsAllowed s × (held.value ≡ record { settings = s; journal = [] })) }
+) -> Result<Box<FixedChannel>, Status>
+    ensures made { IfOk result (λ held. (s : ChannelSettings) × (settings_of given queues.now maps.now ≡ Ok s) × IsAllowed s × (held.value ≡ record { settings = s; limits = none; journal = [] })) }
     ensures fault { IfErr result (λ fault. IsRefusedBy (settings_of given queues.now maps.now) fault) }
     ensures refusal { IfErr result (λ fault. 0 < code_of fault) }
 {
@@ -71,7 +104,7 @@ pub(crate) fn channel(
     let Ok(settings) = lent.copied(alloc) else {
         return Err(Status::NoMemory);
     };
-    let Ok(channel) = FlightChannel::new(alloc, settings) else {
+    let Ok(channel) = FixedChannel::new(alloc, settings) else {
         return Err(Status::NoMemory);
     };
     match Box::new(alloc, channel) {
@@ -80,10 +113,40 @@ pub(crate) fn channel(
     }
 }
 
-/// Makes a channel of these settings in a seat that holds none, in which it then lies until it is freed.
+// A channel of the settings that the records stand for, within these limits.
+fn channel_within(
+    alloc: Global,
+    given: SettingsRecord,
+    queues: &[QueueSetting],
+    maps: &[MapSetting],
+    limits: LentLimits<'_>,
+) -> Result<Box<FixedChannel>, Status>
+    ensures made { IfOk result (λ held. (s : ChannelSettings) × (settings_of given queues.now maps.now ≡ Ok s) × IsAllowed s × AreLimits s (limits_of limits.entry) × (held.value ≡ record { settings = s; limits = limits_of limits.entry; journal = [] })) }
+    ensures fault { IfErr result (λ fault. IsRefusedWithin (settings_of given queues.now maps.now) (limits_of limits.entry) fault) }
+    ensures refusal { IfErr result (λ fault. 0 < code_of fault) }
+{
+    let lent = checked_within(given, queues, maps, limits)?;
+    let Ok(settings) = lent.copied(alloc) else {
+        return Err(Status::NoMemory);
+    };
+    let Ok(limits) = limits.copied(alloc) else {
+        return Err(Status::NoMemory);
+    };
+    let Ok(channel) = FixedChannel::with_limits(alloc, settings, limits) else {
+        return Err(Status::NoMemory);
+    };
+    match Box::new(alloc, channel) {
+        Ok(held) => Ok(held),
+        Err(_) => Err(Status::NoMemory),
+    }
+}
+
+/// Makes a channel of these settings, without limits by MAP, in a seat that holds none, in which it then lies until it is freed. All
+/// memory that it ever has is asked for here: the octets that `tcrx_storage_at` answers, the channel's own block, and a copy of each
+/// list.
 ///
 /// Refused are a seat with a channel by InUse, a flag that is neither 0 nor 1 by BadFlag, the first fault of the settings by its
-/// status, and want of memory by NoMemory, where the settings have no fault; then the seat stays as it was.
+/// status, and no memory by NoMemory, where the settings have no fault; then the seat stays as it was.
 #[unsafe(no_mangle)]
 pub extern "C" fn tcrx_channel_new_at(
     alloc: Global,
@@ -92,7 +155,7 @@ pub extern "C" fn tcrx_channel_new_at(
     queues: &[QueueSetting],
     maps: &[MapSetting],
 ) -> u32
-    ensures made { IfNone seat.old.place.channel (result ≡ 0 → (s : ChannelSettings) × (settings_of given queues.now maps.now ≡ Ok s) × IsAllowed s × (seat.new.place.channel ≡ Some (record { settings = s; journal = [] }))) }
+    ensures made { IfNone seat.old.place.channel (result ≡ 0 → (s : ChannelSettings) × (settings_of given queues.now maps.now ≡ Ok s) × IsAllowed s × (seat.new.place.channel ≡ Some (record { settings = s; limits = none; journal = [] }))) }
     ensures fault { IfNone seat.old.place.channel (0 < result → (fault : StatusName) × IsRefusedBy (settings_of given queues.now maps.now) fault × (result ≡ code_of fault)) }
     ensures in_use { IfSome seat.old.place.channel (λ _. result ≡ code_of Status.InUse) }
     ensures refused { 0 < result → seat.new.place.channel ≡ seat.old.place.channel }
@@ -101,6 +164,41 @@ pub extern "C" fn tcrx_channel_new_at(
         return code(Status::InUse);
     }
     match channel(alloc, given, queues, maps) {
+        Ok(held) => {
+            seat.put(held);
+            code(Status::Done)
+        }
+        Err(fault) => code(fault),
+    }
+}
+
+/// The same within limits by MAP, so that it asks for less memory: the octets that `tcrx_storage_with_limits_at` answers. A unit of
+/// more octets than its MAP's limit is dropped where it ends, and no answer says so.
+///
+/// Refused as by `tcrx_channel_new_at`; after the faults of the settings come those of the limits, each by its status.
+#[unsafe(no_mangle)]
+pub extern "C" fn tcrx_channel_new_with_limits_at(
+    alloc: Global,
+    seat: &mut Seat,
+    given: SettingsRecord,
+    queues: &[QueueSetting],
+    maps: &[MapSetting],
+    others: u32,
+    limits: &[MapLimit],
+) -> u32
+    ensures made { IfNone seat.old.place.channel (result ≡ 0 → (s : ChannelSettings) × (settings_of given queues.now maps.now ≡ Ok s) × IsAllowed s × AreLimits s (limits_given others limits.now) × (seat.new.place.channel ≡ Some (record { settings = s; limits = limits_given others limits.now; journal = [] }))) }
+    ensures fault { IfNone seat.old.place.channel (0 < result → (fault : StatusName) × IsRefusedWithin (settings_of given queues.now maps.now) (limits_given others limits.now) fault × (result ≡ code_of fault)) }
+    ensures in_use { IfSome seat.old.place.channel (λ _. result ≡ code_of Status.InUse) }
+    ensures refused { 0 < result → seat.new.place.channel ≡ seat.old.place.channel }
+{
+    if seat.holds() {
+        return code(Status::InUse);
+    }
+    let limits = LentLimits {
+        others,
+        maps: limits,
+    };
+    match channel_within(alloc, given, queues, maps, limits) {
         Ok(held) => {
             seat.put(held);
             code(Status::Done)

@@ -1,9 +1,10 @@
 //! What a call came to.
 
 ghost use Rattle.std.specs.Prelude.{◌≡◌, ◌<◌};
-ghost use Rattle.tc_c.specs.Status.{code_of, status_of, text_of, frame_status, write_status, settings_status};
+ghost use Rattle.tc_c.specs.Status.{code_of, status_of, text_of, frame_status, write_status, settings_status, limits_status};
 
 use tc_channel::SettingsFault;
+use tc_fixed::LimitsFault;
 use tc_link::{FrameFault, WriteFault};
 
 /// What a call came to: that it is done, or the first reason why it isn't.
@@ -48,6 +49,12 @@ pub enum Status {
     NoQueue,
     NoMap,
     Empty,
+    BadOthers,
+    BadLimitMap,
+    DoubleLimit,
+    BadLimit,
+    PlainLimit,
+    UnlistedMap,
 }
 
 /// The number of a status.
@@ -91,6 +98,12 @@ pub(crate) fn code(status: Status) -> u32
         Status::NoQueue => 72,
         Status::NoMap => 73,
         Status::Empty => 74,
+        Status::BadOthers => 80,
+        Status::BadLimitMap => 81,
+        Status::DoubleLimit => 82,
+        Status::BadLimit => 83,
+        Status::PlainLimit => 84,
+        Status::UnlistedMap => 85,
     }
 }
 
@@ -135,6 +148,12 @@ pub(crate) fn from_number(number: u32) -> Option<Status>
         72 => Some(Status::NoQueue),
         73 => Some(Status::NoMap),
         74 => Some(Status::Empty),
+        80 => Some(Status::BadOthers),
+        81 => Some(Status::BadLimitMap),
+        82 => Some(Status::DoubleLimit),
+        83 => Some(Status::BadLimit),
+        84 => Some(Status::PlainLimit),
+        85 => Some(Status::UnlistedMap),
         _ => None,
     }
 }
@@ -180,6 +199,12 @@ pub(crate) fn text(status: Status) -> &'static [u8]
         Status::NoQueue => b"no queue has that APID",
         Status::NoMap => b"that MAP isn't chosen",
         Status::Empty => b"nothing waits there",
+        Status::BadOthers => b"the limit of the other MAPs is out of its range",
+        Status::BadLimitMap => b"the MAP of a limit is over 63",
+        Status::DoubleLimit => b"a MAP has two limits",
+        Status::BadLimit => b"the limit of a MAP isn't 1 to 65,542 octets",
+        Status::PlainLimit => b"a channel without segment headers has no limits by MAP",
+        Status::UnlistedMap => b"a chosen MAP has no limit",
     }
 }
 
@@ -226,5 +251,21 @@ pub(crate) fn settings_fault(fault: SettingsFault) -> Status
         SettingsFault::BadUnits => Status::BadUnits,
         SettingsFault::PlainMap => Status::PlainMap,
         SettingsFault::NoMemory => Status::NoMemory,
+    }
+}
+
+/// The status of settings and limits of which no channel is made.
+pub(crate) fn limits_fault(fault: LimitsFault) -> Status
+    ensures status { result ≡ limits_status fault }
+    ensures refusal { 0 < code_of result }
+{
+    match fault {
+        LimitsFault::Settings(fault) => settings_fault(fault),
+        LimitsFault::BadOthers => Status::BadOthers,
+        LimitsFault::BadMap => Status::BadLimitMap,
+        LimitsFault::DoubleMap => Status::DoubleLimit,
+        LimitsFault::BadLimit => Status::BadLimit,
+        LimitsFault::PlainMap => Status::PlainLimit,
+        LimitsFault::UnlistedMap => Status::UnlistedMap,
     }
 }

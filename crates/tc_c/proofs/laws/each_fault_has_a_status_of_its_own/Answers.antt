@@ -1,4 +1,4 @@
-use Rattle.tc_c.proofs.Faults.{frame-apart, write-apart, settings-apart}
+use Rattle.tc_c.proofs.Faults.{frame-apart, write-apart, settings-apart, limits-apart}
 use Rattle.tc_c.proofs.laws.each_fault_has_a_status_of_its_own.Goals as goal
 
 pub returns-clause-frames : goal.returns-clause-frames
@@ -9,3 +9,6 @@ returns-clause-writing c = write-apart
 
 pub returns-clause-settings : goal.returns-clause-settings
 returns-clause-settings c = settings-apart
+
+pub returns-clause-limits : goal.returns-clause-limits
+returns-clause-limits c = limits-apart

@@ -17,7 +17,7 @@ use denote.Triple.Walked.{says, Stays, stay_dropped, walk_of, ends_at, Goes-drop
 use Rattle.std.proofs.raw_atomic.Walks.{proved_at}
 use Rattle.std.proofs.BoxSteps.Form.{D, word, box_typed}
 use Rattle.std.proofs.BoxSteps.Steps.{box_out, box_in}
-use Rattle.tc_channel.specs.Journal.{History}
+use Rattle.tc_fixed.specs.History.{LimitedHistory}
 use Rattle.tc_c.proofs.Places.{E, FromPlace, found}
 use Rattle.tc_c.specs.contracts.place.Place as Place
 use Rattle.tc_c.specs.contracts.place.Place.into_parts as f
@@ -40,7 +40,7 @@ into_parts_spec 𝓤 𝓛 𝓜 𝓡 wired =
     let x = (found d.channel there).0 in let is = (found d.channel there).1 in
     let v : D E = record { ptr = d.ptr; alloc = d.alloc; value = x } in
     let made : To.Denot = record { ptr = d.ptr; alloc = d.alloc; value = x } in
-    rewrite ! 0 (λ (o : Option History). ‵ (Place.the_row.own_val (record { ptr = d.ptr; alloc = d.alloc; channel = o }) vs)) is refl $
+    rewrite ! 0 (λ (o : Option LimitedHistory). ‵ (Place.the_row.own_val (record { ptr = d.ptr; alloc = d.alloc; channel = o }) vs)) is refl $
     box_out E ! v vs (λ b o hv e ws fa. let w = word E hv b o in
     box_in E ! v b o x e refl $ use1 𝓛 (‵ (To.own_val made (w ∷ []))) (id⊢ 𝓤 _) $ move ! (1 ∷ []) $ drop ! $
     -- [the parts]

@@ -1,0 +1,85 @@
+//! How much memory the making of a channel asks for.
+
+ghost use Rattle.std.specs.Prelude.{◌≡◌, ◌<◌, ◌^◌, ◌-◌, min, IfOk, IfErr, Ok};
+ghost use Rattle.tc_channel.specs.declared.settings.Settings.{Settings as ChannelSettings};
+ghost use Rattle.tc_channel.specs.Settings.{IsAllowed};
+ghost use Rattle.tc_fixed.specs.Limits.{AreLimits, limits_of};
+ghost use Rattle.tc_fixed.specs.Storage.{storage_of, storage_within};
+ghost use Rattle.tc_c.specs.declared.status.Status.{Status as StatusName};
+ghost use Rattle.tc_c.specs.Status.{code_of};
+ghost use Rattle.tc_c.specs.Channel.{settings_of, limits_given, IsUnfit, IsUnfitWithin, count_record, no_count};
+
+use crate::counts::{CountRecord, counted, not_counted};
+use crate::settings::{SettingsRecord, checked, checked_within};
+use crate::status::Status;
+use tc_channel::{MapSetting, QueueSetting};
+use tc_fixed::{LentLimits, MapLimit, storage_of_lent, storage_with_lent};
+
+// The storage of the settings that the records stand for.
+fn storage(given: SettingsRecord, queues: &[QueueSetting], maps: &[MapSetting]) -> Result<u64, Status>
+    ensures storage { IfOk result (λ octets. (s : ChannelSettings) × (settings_of given queues.now maps.now ≡ Ok s) × IsAllowed s × (octets ≡ min (storage_of s) (2 ^ 64 - 1))) }
+    ensures fault { IfErr result (λ fault. IsUnfit (settings_of given queues.now maps.now) fault) }
+    ensures refusal { IfErr result (λ fault. 0 < code_of fault) }
+{
+    Ok(storage_of_lent(checked(given, queues, maps)?))
+}
+
+// The same within these limits.
+fn limited_storage(
+    given: SettingsRecord,
+    queues: &[QueueSetting],
+    maps: &[MapSetting],
+    limits: LentLimits<'_>,
+) -> Result<u64, Status>
+    ensures storage { IfOk result (λ octets. (s : ChannelSettings) × (settings_of given queues.now maps.now ≡ Ok s) × IsAllowed s × AreLimits s (limits_of limits.entry) × (octets ≡ min (storage_within s (limits_of limits.entry)) (2 ^ 64 - 1))) }
+    ensures fault { IfErr result (λ fault. IsUnfitWithin (settings_of given queues.now maps.now) (limits_of limits.entry) fault) }
+    ensures refusal { IfErr result (λ fault. 0 < code_of fault) }
+{
+    Ok(storage_with_lent(
+        checked_within(given, queues, maps, limits)?,
+        limits,
+    ))
+}
+
+/// How many octets `tcrx_channel_new_at` asks for by these settings. The channel's own block and the copies of both lists are not
+/// counted. No other call of the channel asks for any.
+///
+/// Refused are a flag that is neither 0 nor 1 by BadFlag, and the first fault of the settings by its status. The count then is 0.
+/// It takes no memory.
+#[unsafe(no_mangle)]
+pub extern "C" fn tcrx_storage_at(
+    given: SettingsRecord,
+    queues: &[QueueSetting],
+    maps: &[MapSetting],
+) -> CountRecord
+    ensures storage { result.status ≡ 0 → (s : ChannelSettings) × (settings_of given queues.now maps.now ≡ Ok s) × IsAllowed s × (result ≡ count_record (min (storage_of s) (2 ^ 64 - 1))) }
+    ensures fault { 0 < result.status → (fault : StatusName) × IsUnfit (settings_of given queues.now maps.now) fault × (result ≡ no_count fault) }
+{
+    match storage(given, queues, maps) {
+        Ok(octets) => counted(octets),
+        Err(fault) => not_counted(fault),
+    }
+}
+
+/// The same of `tcrx_channel_new_with_limits_at`, whose copy of the limits isn't counted either. After the faults of the settings
+/// come those of the limits.
+#[unsafe(no_mangle)]
+pub extern "C" fn tcrx_storage_with_limits_at(
+    given: SettingsRecord,
+    queues: &[QueueSetting],
+    maps: &[MapSetting],
+    others: u32,
+    limits: &[MapLimit],
+) -> CountRecord
+    ensures storage { result.status ≡ 0 → (s : ChannelSettings) × (settings_of given queues.now maps.now ≡ Ok s) × IsAllowed s × AreLimits s (limits_given others limits.now) × (result ≡ count_record (min (storage_within s (limits_given others limits.now)) (2 ^ 64 - 1))) }
+    ensures fault { 0 < result.status → (fault : StatusName) × IsUnfitWithin (settings_of given queues.now maps.now) (limits_given others limits.now) fault × (result ≡ no_count fault) }
+{
+    let limits = LentLimits {
+        others,
+        maps: limits,
+    };
+    match limited_storage(given, queues, maps, limits) {
+        Ok(octets) => counted(octets),
+        Err(fault) => not_counted(fault),
+    }
+}
