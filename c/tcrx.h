@@ -6,7 +6,7 @@
  * transfer frames (CCSDS 232.0-B); the primary header of space packets (CCSDS 133.0-B); and a whole virtual channel of a
  * receiver, with its buffer, its reassembly and its queues. The library is libtcrx.a, or libtcrx.so with the memory of
  * tcrx_memory.c. Its functions are proved. Apart from them the static one needs memmove, memset, and the three functions of
- * tcrx_memory.c or tcrx_pool.c.
+ * tcrx_memory.c or tcrx_static.c.
  *
  * @par Answers
  * Each call answers with a record whose first field is a status: #TCRX_DONE, or the first reason why the call is refused, in
@@ -19,27 +19,27 @@
  * the call is given. Where a pointer is null the status is #TCRX_NULL, and every other number of the answer is 0.
  *
  * @par Threads
- * The library keeps nothing of its own between calls, and only the calls with a channel allocate memory. The other calls may be
- * made from any number of threads, interrupt handlers and signal handlers at the same time, as long as none of them writes octets
+ * The library keeps nothing of its own between calls, and only the two calls that make a channel ask for memory. The calls without
+ * a channel may be made from any number of threads, interrupt handlers and signal handlers at the same time, as long as none of them writes octets
  * that another one reads or writes. The calls of a channel may be made from any thread, but not from an interrupt or signal
  * handler. A channel is given to one call at a time: threads that share one need a lock.
  *
  * @par Memory
- * A channel takes its memory by rattle_alloc, rattle_realloc and rattle_dealloc. tcrx_memory.c defines them over malloc, realloc
- * and free, and tcrx_pool.c over a static array. Flight software may link three functions of its own instead; tcrx_memory.c says
- * what they must keep to. Where they give no memory the status is #TCRX_NO_MEMORY and the channel is as it was before the call,
- * which can be made again.
+ * A channel has a room for each data field, packet, unit and open run that its settings and limits allow. All of them are asked for
+ * where it is made, by rattle_alloc and rattle_realloc, and given back where it is freed, by rattle_dealloc. No other call asks for
+ * any, so none can be refused for memory. tcrx_memory.c defines the three functions over malloc, realloc and free, and tcrx_static.c
+ * over a static array, which can be sealed after the start. Flight software may link three functions of its own instead;
+ * tcrx_memory.c says what they must keep to. Where they give no memory no channel is made, and the status is #TCRX_NO_MEMORY.
  *
- * @par Less memory than the bound
- * tcrx_memory_bound() answers how much a channel can come to hold. With less it can be starved for good: a run of segments that a
- * Type-BD frame opened keeps its memory until a first, an unsegmented or a last segment comes for the same MAP. Once open runs
- * have taken all memory each release is answered #TCRX_NO_MEMORY, after an Unlock as well. An unsegmented Type-BD frame with one
- * octet of data on each MAP ends it: it needs no memory and drops the open run.
+ * @par How much memory
+ * tcrx_storage() and tcrx_storage_with_limits() answer how many octets the making of a channel asks for. Without limits a room for a
+ * unit has 65,542 octets, so that a channel with segment headers takes 8.4 MB and more: give it limits.
  *
  * @par The library as portable C
  * Where TCRX_MODULE is defined this header is that of the portable C that tools/portable writes for other processors. There the
  * calls without a channel share one memory. They may not be made at the same time, nor from interrupt and signal handlers, unless
- * a lock is given as its README says. tcrx_read_packet() and tcrx_memory_bound() can be refused by #TCRX_NO_MEMORY there.
+ * a lock is given as its README says. tcrx_read_packet(), tcrx_storage() and tcrx_storage_with_limits() can be refused by
+ * #TCRX_NO_MEMORY there, and so can a take, for its buffer.
  *
  * @par Names that end in _at
  * These are the functions that the library exports, for callers in other languages. Each is the call without _at, but must
@@ -96,7 +96,7 @@ enum {
     TCRX_BAD_FIELD = 10,  /**< No frame is written: the spacecraft id is over 1,023 or the virtual channel id over 63. */
     TCRX_EMPTY_DATA = 11, /**< No frame is written: the data field is empty. */
     TCRX_TOO_LONG = 12,   /**< No frame is written: the data field has more than 1,019 octets. */
-    TCRX_NO_MEMORY = 13,  /**< Out of memory: only calls with a channel ask for any. */
+    TCRX_NO_MEMORY = 13,  /**< Out of memory: no channel is made. No other call asks for any. */
 
     TCRX_BAD_WIDTH = 20,      /**< The width of the window isn't even and 2 to 254. */
     TCRX_BAD_STATE = 21,      /**< The state isn't 1 to 3. */
@@ -128,7 +128,14 @@ enum {
     TCRX_IN_USE = 71,     /**< A channel is held already. */
     TCRX_NO_QUEUE = 72,   /**< No queue has that APID. */
     TCRX_NO_MAP = 73,     /**< That MAP isn't chosen. */
-    TCRX_EMPTY = 74       /**< Nothing waits there. */
+    TCRX_EMPTY = 74,      /**< Nothing waits there. */
+
+    TCRX_BAD_OTHERS = 80,    /**< Limits: that of the other MAPs is over 65,542 octets, or 0 without segment headers. */
+    TCRX_BAD_LIMIT_MAP = 81, /**< Limits: a MAP is over 63. */
+    TCRX_DOUBLE_LIMIT = 82,  /**< Limits: a MAP has two. */
+    TCRX_BAD_LIMIT = 83,     /**< Limits: that of a MAP isn't 1 to 65,542 octets. */
+    TCRX_PLAIN_LIMIT = 84,   /**< Limits: a channel without segment headers has none by MAP. */
+    TCRX_UNLISTED_MAP = 85   /**< Limits: a chosen MAP has none, and that of the other MAPs is 0. */
 };
 
 /** The octets of a buffer that has room for the text of any status. */
@@ -280,6 +287,12 @@ typedef struct {
     uint16_t capacity; /**< How many units its queue holds, 1 to 256. */
 } tcrx_map;
 
+/** The limit of one MAP: a longer unit is dropped where it ends, and no answer says so. */
+typedef struct {
+    uint8_t map;     /**< The MAP, at most 63. */
+    uint32_t octets; /**< The most octets of its units, 1 to 65,542. */
+} tcrx_limit;
+
 /** What a frame came to, and what became of the unit that it ended. Where it ended none, each number of the unit is 0. */
 typedef struct {
     tcrx_status status; /**< #TCRX_DONE, or why not. */
@@ -344,6 +357,7 @@ TCRX_LAYOUT(tcrx_settings, sizeof(tcrx_settings) == 5 && TCRX_AT(tcrx_settings, 
                                && TCRX_AT(tcrx_settings, segmented, 4));
 TCRX_LAYOUT(tcrx_queue, sizeof(tcrx_queue) == 4 && TCRX_AT(tcrx_queue, apid, 0) && TCRX_AT(tcrx_queue, capacity, 2));
 TCRX_LAYOUT(tcrx_map, sizeof(tcrx_map) == 4 && TCRX_AT(tcrx_map, map, 0) && TCRX_AT(tcrx_map, capacity, 2));
+TCRX_LAYOUT(tcrx_limit, sizeof(tcrx_limit) == 8 && TCRX_AT(tcrx_limit, map, 0) && TCRX_AT(tcrx_limit, octets, 4));
 TCRX_LAYOUT(tcrx_reply, sizeof(tcrx_reply) == 16 && TCRX_AT(tcrx_reply, status, 0) && TCRX_AT(tcrx_reply, queued, 4)
                             && TCRX_AT(tcrx_reply, dropped, 8) && TCRX_AT(tcrx_reply, event, 12)
                             && TCRX_AT(tcrx_reply, accepted, 13) && TCRX_AT(tcrx_reply, rest, 14));
@@ -373,12 +387,19 @@ tcrx_kind_answer tcrx_kind_at(const uint8_t *octets, size_t count);
 tcrx_written tcrx_write_frame_at(tcrx_header header, const uint8_t *field, size_t field_count, uint8_t *octets, size_t room);
 /** @copydoc tcrx_read_packet */
 tcrx_packet tcrx_read_packet_at(const uint8_t *octets, size_t count);
-/** @copydoc tcrx_memory_bound */
-tcrx_count tcrx_memory_bound_at(tcrx_settings settings, const tcrx_queue *queues, size_t queue_count, const tcrx_map *maps,
-                                size_t map_count);
+/** @copydoc tcrx_storage */
+tcrx_count tcrx_storage_at(tcrx_settings settings, const tcrx_queue *queues, size_t queue_count, const tcrx_map *maps,
+                           size_t map_count);
+/** @copydoc tcrx_storage_with_limits */
+tcrx_count tcrx_storage_with_limits_at(tcrx_settings settings, const tcrx_queue *queues, size_t queue_count, const tcrx_map *maps,
+                                       size_t map_count, uint32_t others, const tcrx_limit *limits, size_t limit_count);
 /** @copydoc tcrx_channel_new */
 tcrx_status tcrx_channel_new_at(tcrx_channel *channel, tcrx_settings settings, const tcrx_queue *queues, size_t queue_count,
                                 const tcrx_map *maps, size_t map_count);
+/** @copydoc tcrx_channel_new_with_limits */
+tcrx_status tcrx_channel_new_with_limits_at(tcrx_channel *channel, tcrx_settings settings, const tcrx_queue *queues,
+                                            size_t queue_count, const tcrx_map *maps, size_t map_count, uint32_t others,
+                                            const tcrx_limit *limits, size_t limit_count);
 /** @copydoc tcrx_channel_frame */
 tcrx_reply tcrx_channel_frame_at(tcrx_channel *channel, const uint8_t *octets, size_t count);
 /** @copydoc tcrx_channel_release */
@@ -546,9 +567,9 @@ static inline tcrx_packet tcrx_read_packet(const uint8_t *octets, size_t count) 
  */
 
 /**
- * The most octets that a channel of these settings has asked for and not given back, at any moment of its life and with any
- * frames. Three things are not counted: what the functions of memory add to each block, the block of the channel itself, and the
- * copies of the two lists, of up to 8 octets an entry, that tcrx_channel_new() makes as well.
+ * How many octets tcrx_channel_new() asks for by these settings: so many, whatever frames come. Three things are not counted: what
+ * the functions of memory add to each block, the block of the channel itself, and the copies of the two lists, of up to 8 octets an
+ * entry. #TCRX_STORAGE_OF counts all of it.
  *
  * @param settings    the settings
  * @param queues      the packet queues; null where there are none
@@ -558,20 +579,48 @@ static inline tcrx_packet tcrx_read_packet(const uint8_t *octets, size_t count) 
  * @return the count. Refused by #TCRX_NULL, then as by tcrx_channel_new() by #TCRX_BAD_FLAG and the first fault of the settings. It
  * asks for no memory.
  */
-static inline tcrx_count tcrx_memory_bound(tcrx_settings settings, const tcrx_queue *queues, size_t queue_count,
-                                           const tcrx_map *maps, size_t map_count) {
+static inline tcrx_count tcrx_storage(tcrx_settings settings, const tcrx_queue *queues, size_t queue_count, const tcrx_map *maps,
+                                      size_t map_count) {
     const tcrx_queue no_queue = {0, 0};
     const tcrx_map no_map = {0, 0};
     if ((queues == NULL && queue_count != 0) || (maps == NULL && map_count != 0)) {
         const tcrx_count refused = {TCRX_NULL, 0};
         return refused;
     }
-    return tcrx_memory_bound_at(settings, queues == NULL ? &no_queue : queues, queue_count, maps == NULL ? &no_map : maps,
-                                map_count);
+    return tcrx_storage_at(settings, queues == NULL ? &no_queue : queues, queue_count, maps == NULL ? &no_map : maps, map_count);
 }
 
 /**
- * Makes a channel, which is held until it is freed. Nothing that is given is kept.
+ * The same of tcrx_channel_new_with_limits(). The copy of the limits, of up to 16 octets an entry, is not counted either.
+ *
+ * @param settings    the settings
+ * @param queues      the packet queues; null where there are none
+ * @param queue_count how many there are
+ * @param maps        the chosen MAPs; null where there are none
+ * @param map_count   how many there are
+ * @param others      the limit of each MAP that isn't listed
+ * @param limits      the limits of MAPs; null where there are none
+ * @param limit_count how many there are
+ * @return the count. Refused by #TCRX_NULL, then as by tcrx_channel_new_with_limits() by #TCRX_BAD_FLAG, the first fault of the
+ * settings, and the first fault of the limits. It asks for no memory.
+ */
+static inline tcrx_count tcrx_storage_with_limits(tcrx_settings settings, const tcrx_queue *queues, size_t queue_count,
+                                                  const tcrx_map *maps, size_t map_count, uint32_t others,
+                                                  const tcrx_limit *limits, size_t limit_count) {
+    const tcrx_queue no_queue = {0, 0};
+    const tcrx_map no_map = {0, 0};
+    const tcrx_limit no_limit = {0, 0};
+    if ((queues == NULL && queue_count != 0) || (maps == NULL && map_count != 0) || (limits == NULL && limit_count != 0)) {
+        const tcrx_count refused = {TCRX_NULL, 0};
+        return refused;
+    }
+    return tcrx_storage_with_limits_at(settings, queues == NULL ? &no_queue : queues, queue_count, maps == NULL ? &no_map : maps,
+                                       map_count, others, limits == NULL ? &no_limit : limits, limit_count);
+}
+
+/**
+ * Makes a channel, which is held until it is freed. Nothing that is given is kept. All memory that the channel ever has is asked for
+ * here. A unit has 65,542 octets at most.
  *
  * @param channel     where it is to be held, #TCRX_HOLDS_NONE
  * @param settings    its settings
@@ -595,6 +644,39 @@ static inline tcrx_status tcrx_channel_new(tcrx_channel *channel, tcrx_settings 
 }
 
 /**
+ * Makes a channel with a limit for the units of each MAP, so that it asks for less memory. A unit of more octets than its MAP's limit
+ * is dropped where it ends, and no answer says so, just as a unit of more than 65,542 octets is without limits.
+ *
+ * @param channel     where it is to be held, #TCRX_HOLDS_NONE
+ * @param settings    its settings
+ * @param queues      its packet queues; null where there are none
+ * @param queue_count how many there are
+ * @param maps        its chosen MAPs; null where there are none
+ * @param map_count   how many there are
+ * @param others      the most octets of a unit of each MAP that isn't listed, at most 65,542. With segment headers it may be 0: such
+ *                    a MAP then ends no unit but the empty one. Without them it is the limit of each data field.
+ * @param limits      the limits of MAPs, none without segment headers; null where there are none
+ * @param limit_count how many there are
+ * @return #TCRX_DONE. Refused as by tcrx_channel_new(); behind the faults of the settings come those of the limits in this order:
+ * #TCRX_BAD_OTHERS, #TCRX_BAD_LIMIT_MAP, #TCRX_DOUBLE_LIMIT, #TCRX_BAD_LIMIT, #TCRX_PLAIN_LIMIT, #TCRX_UNLISTED_MAP; and last
+ * #TCRX_NO_MEMORY.
+ */
+static inline tcrx_status tcrx_channel_new_with_limits(tcrx_channel *channel, tcrx_settings settings, const tcrx_queue *queues,
+                                                       size_t queue_count, const tcrx_map *maps, size_t map_count,
+                                                       uint32_t others, const tcrx_limit *limits, size_t limit_count) {
+    const tcrx_queue no_queue = {0, 0};
+    const tcrx_map no_map = {0, 0};
+    const tcrx_limit no_limit = {0, 0};
+    if (channel == NULL || (queues == NULL && queue_count != 0) || (maps == NULL && map_count != 0)
+        || (limits == NULL && limit_count != 0)) {
+        return TCRX_NULL;
+    }
+    return tcrx_channel_new_with_limits_at(channel, settings, queues == NULL ? &no_queue : queues, queue_count,
+                                           maps == NULL ? &no_map : maps, map_count, others, limits == NULL ? &no_limit : limits,
+                                           limit_count);
+}
+
+/**
  * Gives the channel the frame at the front of octets. What follows the frame is fill. The data field of an accepted Type-AD
  * frame waits in the buffer. The unit that an accepted Type-BD frame ends is queued at once.
  *
@@ -604,8 +686,7 @@ static inline tcrx_status tcrx_channel_new(tcrx_channel *channel, tcrx_settings 
  * @param channel the channel
  * @param octets  the octets
  * @param count   how many there are
- * @return the event, and what became of the unit. Refused by #TCRX_NULL, #TCRX_NO_CHANNEL, #TCRX_SHORT to #TCRX_TRUNCATED; a
- * Type-BD frame also by #TCRX_NO_MEMORY, and no other one.
+ * @return the event, and what became of the unit. Refused by #TCRX_NULL, #TCRX_NO_CHANNEL, #TCRX_SHORT to #TCRX_TRUNCATED.
  */
 static inline tcrx_reply tcrx_channel_frame(tcrx_channel *channel, const uint8_t *octets, size_t count) {
     if (channel == NULL || octets == NULL) {
@@ -620,7 +701,7 @@ static inline tcrx_reply tcrx_channel_frame(tcrx_channel *channel, const uint8_t
  * unit of a chosen MAP is queued whole.
  *
  * @param channel the channel
- * @return what became of the unit. Refused by #TCRX_NULL, #TCRX_NO_CHANNEL, #TCRX_EMPTY, #TCRX_NO_MEMORY.
+ * @return what became of the unit. Refused by #TCRX_NULL, #TCRX_NO_CHANNEL, #TCRX_EMPTY.
  */
 static inline tcrx_delivery tcrx_channel_release(tcrx_channel *channel) {
     if (channel == NULL) {
@@ -638,8 +719,7 @@ static inline tcrx_delivery tcrx_channel_release(tcrx_channel *channel) {
  * @param apid    the APID of the queue
  * @param octets  the buffer
  * @param room    the octets of the buffer
- * @return the length of the packet. Refused by #TCRX_NULL, #TCRX_NO_CHANNEL, #TCRX_NO_QUEUE, #TCRX_EMPTY, #TCRX_NO_ROOM, and by
- * nothing else: it asks for no memory.
+ * @return the length of the packet. Refused by #TCRX_NULL, #TCRX_NO_CHANNEL, #TCRX_NO_QUEUE, #TCRX_EMPTY, #TCRX_NO_ROOM.
  */
 static inline tcrx_written tcrx_channel_take(tcrx_channel *channel, uint16_t apid, uint8_t *octets, size_t room) {
     if (channel == NULL || octets == NULL) {
@@ -656,8 +736,7 @@ static inline tcrx_written tcrx_channel_take(tcrx_channel *channel, uint16_t api
  * @param map     the MAP
  * @param octets  the buffer
  * @param room    the octets of the buffer
- * @return the length of the unit. Refused by #TCRX_NULL, #TCRX_NO_CHANNEL, #TCRX_NO_MAP, #TCRX_EMPTY, #TCRX_NO_ROOM, and by
- * nothing else: it asks for no memory.
+ * @return the length of the unit. Refused by #TCRX_NULL, #TCRX_NO_CHANNEL, #TCRX_NO_MAP, #TCRX_EMPTY, #TCRX_NO_ROOM.
  */
 static inline tcrx_written tcrx_channel_take_unit(tcrx_channel *channel, uint8_t map, uint8_t *octets, size_t room) {
     if (channel == NULL || octets == NULL) {
@@ -767,6 +846,57 @@ static inline tcrx_status tcrx_channel_free(tcrx_channel *channel) {
     }
     return tcrx_channel_free_at(channel);
 }
+/** @} */
+
+/**
+ * @defgroup tcrx_static Memory in a static array
+ *
+ * For a program that is linked with tcrx_static.c, on a machine of 64 bits. One of its files defines the array by #TCRX_STATIC_STORAGE.
+ * @{
+ */
+
+/**
+ * The octets of a static array in which channels of such settings and limits can be made, as a constant: those that
+ * tcrx_storage_with_limits() answers, and all that it doesn't count. For several channels take the sum.
+ *
+ * @param segmented 1 with segment headers, else 0
+ * @param buffer    how many data fields the buffer holds
+ * @param queues    how many packet queues there are
+ * @param maps      how many chosen MAPs there are
+ * @param items     the capacities of all of these together
+ * @param limits    how many MAPs have limits that are listed
+ * @param sum       the limits of all 64 MAPs together; without limits 64 * 65542, without segment headers 0
+ * @param largest   the largest limit of all; without limits 65542, without segment headers at most 1019
+ */
+#define TCRX_STORAGE_OF(segmented, buffer, queues, maps, items, limits, sum, largest) \
+    ((size_t)(buffer) * 1083u + ((segmented) ? 5120u + 2u * (size_t)(sum) : 0u) + ((size_t)(queues) + (size_t)(maps)) * 80u \
+     + (size_t)(items) * (64u + (size_t)(largest)) + (size_t)(limits) * 16u + TCRX_OWN_STORAGE)
+
+/** What each channel takes of the array for itself, whatever its settings are. */
+#define TCRX_OWN_STORAGE 512u
+
+/** Defines the array, in one file of the program: `TCRX_STATIC_STORAGE(TCRX_STORAGE_OF(..));` */
+#define TCRX_STATIC_STORAGE(octets) \
+    uint8_t tcrx_static_octets[octets]; \
+    const size_t tcrx_static_size = sizeof tcrx_static_octets
+
+/** The array from which tcrx_static.c gives memory. */
+extern uint8_t tcrx_static_octets[];
+/** How many octets it has. */
+extern const size_t tcrx_static_size;
+
+/**
+ * Ends the start: each request for memory after it stops the program by TCRX_STORAGE_TRAP() of tcrx_static.c, a trap of the processor
+ * where that isn't defined otherwise.
+ */
+void tcrx_storage_seal(void);
+
+/**
+ * How much of the array has been given.
+ *
+ * @return the octets
+ */
+size_t tcrx_storage_used(void);
 /** @} */
 
 #ifdef __cplusplus

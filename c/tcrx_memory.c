@@ -1,5 +1,5 @@
 /*
- * The memory of channels, over malloc, realloc and free. Link it with libtcrx.a; or tcrx_pool.c, or three functions of your own, in
+ * The memory of channels, over malloc, realloc and free. Link it with libtcrx.a; or tcrx_static.c, or three functions of your own, in
  * its place.
  *
  * They must keep to this:
