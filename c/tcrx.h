@@ -5,7 +5,7 @@
  * FARM-1, the frame acceptance and reporting mechanism (CCSDS 232.1-B); the CLCW, the communications link control word, and
  * transfer frames (CCSDS 232.0-B); the primary header of space packets (CCSDS 133.0-B); and a whole virtual channel of a
  * receiver, with its buffer, its reassembly and its queues. The library is libtcrx.a, or libtcrx.so with the memory of
- * tcrx_memory.c. Its functions are proved. Apart from them the static one needs memmove, memset, and the three functions of
+ * tcrx_memory.c. Its functions are proved. Apart from them the static one needs memcpy, memmove, memset, and the two functions of
  * tcrx_memory.c or tcrx_static.c.
  *
  * @par Answers
@@ -26,10 +26,10 @@
  *
  * @par Memory
  * A channel has a room for each data field, packet, unit and open run that its settings and limits allow. All of them are asked for
- * where it is made, by rattle_alloc and rattle_realloc, and given back where it is freed, by rattle_dealloc. No other call asks for
- * any, so none can be refused for memory. tcrx_memory.c defines the three functions over malloc, realloc and free, and tcrx_static.c
- * over a static array, which can be sealed after the start. Flight software may link three functions of its own instead;
- * tcrx_memory.c says what they must keep to. Where they give no memory no channel is made, and the status is #TCRX_NO_MEMORY.
+ * where it is made, by rattle_alloc, and given back where it is freed, by rattle_dealloc. No other call asks for any, so none can be
+ * refused for memory. tcrx_memory.c defines the two functions over malloc and free, and tcrx_static.c over a static array, which can
+ * be sealed after the start. Flight software may link two functions of its own instead; tcrx_memory.c says what they must keep to.
+ * Where they give no memory no channel is made, and the status is #TCRX_NO_MEMORY.
  *
  * @par How much memory
  * tcrx_storage() and tcrx_storage_with_limits() answer how many octets the making of a channel asks for. Without limits a room for a
@@ -568,8 +568,8 @@ static inline tcrx_packet tcrx_read_packet(const uint8_t *octets, size_t count) 
 
 /**
  * How many octets tcrx_channel_new() asks for by these settings: so many, whatever frames come. Three things are not counted: what
- * the functions of memory add to each block, the block of the channel itself, and the copies of the two lists, of up to 8 octets an
- * entry. #TCRX_STORAGE_OF counts all of it.
+ * the functions of memory add to each block, the block of the channel itself, and the copies of the two lists, of 4 octets an entry.
+ * #TCRX_STORAGE_OF counts all of it.
  *
  * @param settings    the settings
  * @param queues      the packet queues; null where there are none
@@ -591,7 +591,7 @@ static inline tcrx_count tcrx_storage(tcrx_settings settings, const tcrx_queue *
 }
 
 /**
- * The same of tcrx_channel_new_with_limits(). The copy of the limits, of up to 16 octets an entry, is not counted either.
+ * The same of tcrx_channel_new_with_limits(). The copy of the limits, of 8 octets an entry, is not counted either.
  *
  * @param settings    the settings
  * @param queues      the packet queues; null where there are none
@@ -869,11 +869,11 @@ static inline tcrx_status tcrx_channel_free(tcrx_channel *channel) {
  * @param largest   the largest limit of all; without limits 65542, without segment headers at most 1019
  */
 #define TCRX_STORAGE_OF(segmented, buffer, queues, maps, items, limits, sum, largest) \
-    ((size_t)(buffer) * 1083u + ((segmented) ? 5120u + 2u * (size_t)(sum) : 0u) + ((size_t)(queues) + (size_t)(maps)) * 80u \
-     + (size_t)(items) * (64u + (size_t)(largest)) + (size_t)(limits) * 16u + TCRX_OWN_STORAGE)
+    ((size_t)(buffer) * 1083u + ((segmented) ? 5120u + 2u * (size_t)(sum) : 0u) + ((size_t)(queues) + (size_t)(maps)) * 76u \
+     + (size_t)(items) * (64u + (size_t)(largest)) + (size_t)(limits) * 8u + TCRX_OWN_STORAGE)
 
 /** What each channel takes of the array for itself, whatever its settings are. */
-#define TCRX_OWN_STORAGE 512u
+#define TCRX_OWN_STORAGE 320u
 
 /** Defines the array, in one file of the program: `TCRX_STATIC_STORAGE(TCRX_STORAGE_OF(..));` */
 #define TCRX_STATIC_STORAGE(octets) \

@@ -13,8 +13,8 @@
  * refused call is that of an empty answer, so reading it is no fault, and says nothing.
  *
  * @par Memory
- * A channel takes its memory by rattle_alloc, rattle_realloc and rattle_dealloc, as tcrx.h says. libtcrx.so has them over malloc;
- * with libtcrx.a you link tcrx_memory.c, tcrx_pool.c or three functions of your own.
+ * A channel takes its memory where it is made, by rattle_alloc and rattle_dealloc, as tcrx.h says. libtcrx.so has them over malloc;
+ * with libtcrx.a you link tcrx_memory.c, tcrx_static.c or two functions of your own.
  */
 #pragma once
 
@@ -66,7 +66,13 @@ enum class Status : tcrx_status {
     in_use = TCRX_IN_USE,
     no_queue = TCRX_NO_QUEUE,
     no_map = TCRX_NO_MAP,
-    empty = TCRX_EMPTY
+    empty = TCRX_EMPTY,
+    bad_others = TCRX_BAD_OTHERS,
+    bad_limit_map = TCRX_BAD_LIMIT_MAP,
+    double_limit = TCRX_DOUBLE_LIMIT,
+    bad_limit = TCRX_BAD_LIMIT,
+    plain_limit = TCRX_PLAIN_LIMIT,
+    unlisted_map = TCRX_UNLISTED_MAP
 };
 
 /** Elements that are somewhere else, and how many there are: a std::span for C++17. */
@@ -364,8 +370,18 @@ struct Settings {
 using Queue = tcrx_queue;
 /** A chosen MAP, and how many units its queue holds. */
 using Map = tcrx_map;
+/** The limit of one MAP: a longer unit is dropped where it ends. */
+using Limit = tcrx_limit;
 using Queues = View<const Queue>;
 using Maps = View<const Map>;
+
+/** How long the units of each MAP may be. */
+struct Limits {
+    /** The most octets of a unit of each MAP that isn't listed, at most 65,542; it may be 0 with segment headers. */
+    std::uint32_t others = 0;
+    /** The MAPs with a limit of their own; none without segment headers. */
+    View<const Limit> maps;
+};
 
 /** What became of the unit that an operation ended; where it ended none, each number is 0. */
 struct Delivery {
@@ -382,9 +398,16 @@ struct Brought {
     Delivery delivery;
 };
 
-/** The most octets that a channel of these settings comes to hold: tcrx_memory_bound(). */
-inline Result<std::uint64_t> memory_bound(const Settings &settings, Queues queues, Maps maps = {}) noexcept {
-    const tcrx_count answer = tcrx_memory_bound(settings.record(), queues.data(), queues.size(), maps.data(), maps.size());
+/** How many octets the making of a channel of these settings asks for: tcrx_storage(). */
+inline Result<std::uint64_t> storage(const Settings &settings, Queues queues, Maps maps = {}) noexcept {
+    const tcrx_count answer = tcrx_storage(settings.record(), queues.data(), queues.size(), maps.data(), maps.size());
+    return answer.status == TCRX_DONE ? Result<std::uint64_t>(answer.count) : detail::refused(answer.status);
+}
+
+/** The same within limits: tcrx_storage_with_limits(). */
+inline Result<std::uint64_t> storage(const Settings &settings, Queues queues, Maps maps, const Limits &limits) noexcept {
+    const tcrx_count answer = tcrx_storage_with_limits(settings.record(), queues.data(), queues.size(), maps.data(), maps.size(),
+                                                       limits.others, limits.maps.data(), limits.maps.size());
     return answer.status == TCRX_DONE ? Result<std::uint64_t>(answer.count) : detail::refused(answer.status);
 }
 
@@ -401,6 +424,18 @@ public:
         Channel made;
         const tcrx_status status =
             tcrx_channel_new(&made.held_, settings.record(), queues.data(), queues.size(), maps.data(), maps.size());
+        if (status != TCRX_DONE) {
+            return detail::refused(status);
+        }
+        return made;
+    }
+
+    /** Makes a channel within limits. Refused as tcrx_channel_new_with_limits() is. */
+    static Result<Channel> make(const Settings &settings, Queues queues, Maps maps, const Limits &limits) noexcept {
+        Channel made;
+        const tcrx_status status = tcrx_channel_new_with_limits(&made.held_, settings.record(), queues.data(), queues.size(),
+                                                                maps.data(), maps.size(), limits.others, limits.maps.data(),
+                                                                limits.maps.size());
         if (status != TCRX_DONE) {
             return detail::refused(status);
         }

@@ -6,7 +6,7 @@
  *
  * Blocks of octets are cut from its end and all others from its front, so that no gaps are left between them. A block that is given
  * back isn't given again: make all channels at the start, and keep them. Where the array is too small a channel isn't made, by
- * TCRX_NO_MEMORY.
+ * TCRX_NO_MEMORY, and what was cut for it until then is lost.
  *
  * tcrx_storage_seal() ends the start. A request after it stops the program by TCRX_STORAGE_TRAP(), which may be defined by -D or here.
  * The calls of a channel never come to that: only those that make one ask for memory. There is no lock, since all channels are made by
@@ -15,7 +15,6 @@
 #include "tcrx.h"
 
 #include <stdbool.h>
-#include <string.h>
 
 #ifndef TCRX_STORAGE_TRAP
 #define TCRX_STORAGE_TRAP() __builtin_trap()
@@ -27,11 +26,10 @@ typedef struct {
 } rattle_block;
 
 rattle_block rattle_alloc(size_t count, size_t alignment);
-rattle_block rattle_realloc(void *at, size_t kept, size_t count, size_t alignment);
 void rattle_dealloc(void *at);
 
-/* What has been cut from the front and from the end, where the last block from the front begins, and whether the start has ended. */
-static size_t front, end, last;
+/* What has been cut from the front and from the end, and whether the start has ended. */
+static size_t front, end;
 static bool sealed;
 
 static rattle_block none(void) {
@@ -39,15 +37,14 @@ static rattle_block none(void) {
     return block;
 }
 
-/* So many octets at a place of the array, which are then the last ones from its front; none where they don't fit. */
+/* So many octets at a place at the front, behind which there are none that are given; none where they don't fit. */
 static rattle_block cut_front(size_t place, size_t count) {
-    const rattle_block block = {true, tcrx_static_octets + place};
     const size_t most = tcrx_static_size - end;
     if (place > most || count > most - place) {
         return none();
     }
-    last = place;
     front = place + count;
+    const rattle_block block = {true, tcrx_static_octets + place};
     return block;
 }
 
@@ -69,21 +66,6 @@ rattle_block rattle_alloc(size_t count, size_t alignment) {
     }
     const size_t over = (size_t)(uintptr_t)(tcrx_static_octets + front) % alignment;
     return cut_front(front + (over == 0 ? 0 : alignment - over), count);
-}
-
-/* The last block from the front grows where it is. */
-rattle_block rattle_realloc(void *at, size_t kept, size_t count, size_t alignment) {
-    if (sealed) {
-        TCRX_STORAGE_TRAP();
-    }
-    if (alignment != 1 && at == tcrx_static_octets + last && front > last) {
-        return cut_front(last, count);
-    }
-    const rattle_block block = rattle_alloc(count, alignment);
-    if (block.given) {
-        memcpy(block.at, at, kept < count ? kept : count);
-    }
-    return block;
 }
 
 void rattle_dealloc(void *at) {

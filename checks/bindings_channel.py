@@ -29,7 +29,7 @@ import tcrx  # noqa: E402
 import tcrx_channel  # noqa: E402
 from tcrx import (Brought, Channel, Clcw, Delivery, Ended, Event, Final, NotSetUp, NotStarted, Outcome, Packet, Refusal, Refused,  # noqa: E402
                   Released, Report, State, Unit)
-from tcrx_channel import BadSettings, Frame, NoMemory, memory_bound, read_frame  # noqa: E402
+from tcrx_channel import BadSettings, Frame, NoMemory, read_frame, storage  # noqa: E402
 # pylint: enable=wrong-import-position
 
 DATA, HEADER = TOP / "crates/conformance/data", TOP / "c/tcrx.h"
@@ -190,8 +190,16 @@ def check_refused() -> None:
     texts = [str(raises(BadSettings, partial(Channel, 1, **changed(change)), f"{change}")) for change in tried]
     texts.append(str(raises(BadSettings, lambda: Channel(64, **SETTINGS), "channel 64")))
     tell(texts[0] == "the width of the window isn't even and 2 to 254" and all(texts), f"why settings are refused: {texts}")
-    same(str(raises(BadSettings, lambda: memory_bound(1, **changed({"width": 9})), "the bound of an odd window")), texts[0], "the same text")
-    tell(memory_bound(1, **SETTINGS) > 65542, "a bound of memory")
+    same(str(raises(BadSettings, lambda: storage(1, **changed({"width": 9})), "the storage of an odd window")), texts[0], "the same text")
+    tell(storage(1, **SETTINGS) > 65542, "a storage")
+    limited: Tuple[Dict[str, Any], ...] = (
+        {"limits": {}, "others": 65543}, {"limits": {64: 9}, "others": 9}, {"limits": {2: 0}}, {"limits": {}},
+        {"limits": {2: 9}, "others": 9, "plain": True, "maps": {}})
+    for change in limited:
+        why = [str(raises(BadSettings, partial(call, 1, **changed(change)), f"{change}")) for call in (Channel, storage)]
+        tell(why[0] == why[1] and "limit" in why[0], f"why limits are refused: {why}")
+    same(storage(1, width=10, buffer=8, first=0, queues=dict.fromkeys((5, 6, 7, 8), 8), limits={0: 1024}), 50936, "the storage within limits")
+    raises(ValueError, lambda: Channel(1, **changed({"limits": {2: 2**32}})), "a limit that C's type doesn't have")
     raises(ValueError, lambda: Channel(256, **SETTINGS), "a number that C's type doesn't have")
     raises(ValueError, lambda: Channel(1, **changed({"queues": {70000: 1}})), "an APID that C's type doesn't have")
     text: Any = "1"
@@ -275,7 +283,7 @@ def check_fork() -> None:
 # --- Memory ---
 
 def check_growths(refusing: str) -> None:
-    """Each growth refused in turn, in each kind of call."""
+    """Each block of a channel that is made refused in turn; no other call asks for any."""
     memory = ctypes.PyDLL(refusing)
     memory.tcrx_refuse.restype, memory.tcrx_blocks.restype = ctypes.c_long, ctypes.c_long
     memory.tcrx_refuse.argtypes = [ctypes.c_long]
@@ -296,7 +304,9 @@ def check_growths(refusing: str) -> None:
             refused += 1
             tell(isinstance(answer, NoMemory) and isinstance(answer, MemoryError) and look() == before, f"{what}, growth {growth}: {answer!r}")
         return None
-    channel = done(lambda: Channel(1, **SETTINGS, library=refusing), memory.tcrx_blocks, "a channel")
+    unlimited = done(lambda: Channel(1, **SETTINGS, library=refusing), memory.tcrx_blocks, "a channel")
+    unlimited.close()
+    channel = done(lambda: Channel(1, **SETTINGS, limits={0: 64, 2: 3}, library=refusing), memory.tcrx_blocks, "a channel within limits")
     made = refused
     steps = ((lambda: channel.bring(frame(0, whole(0, ONE))), Brought(1, Event.E1, True, NOTHING)),
              (lambda: channel.bring(frame(0, b"\x42\x01\x02", bypass=1)), Brought(1, Event.E6, True, NOTHING)),
@@ -306,11 +316,11 @@ def check_growths(refusing: str) -> None:
              (lambda: channel.take_unit(2), Unit(1, 2, b"\x01\x02\x03")))
     for call, wanted in steps:
         same(done(call, lambda: (channel.report(), channel.events), f"{wanted}"), wanted, "a call in the end")
-    done(lambda: memory_bound(1, **SETTINGS, library=refusing), memory.tcrx_blocks, "a bound")
-    tell(made > 0 and refused >= 8, f"{refused} growths were refused, {made} of a channel that is made")
-    print(f"channel in Python: {refused} growths refused")
+    done(lambda: storage(1, **SETTINGS, library=refusing), memory.tcrx_blocks, "a storage")
+    tell(made >= 8 and refused == made, f"{refused} blocks were refused, {made} of channels that are made")
+    print(f"channel in Python: {refused} blocks refused")
     tell(memory.tcrx_blocks() > 0, "a channel has blocks")
-    del call, steps, channel
+    del call, steps, channel, unlimited
     gc.collect()
     same(memory.tcrx_blocks(), 0, "blocks of a channel that nothing refers to")
     with Channel(1, **SETTINGS, library=refusing):

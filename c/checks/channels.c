@@ -3,6 +3,9 @@
  * and its final report in the words of the program tcrx, for checks/c.
  *
  *   channels SCID    for the spacecraft with this id
+ *
+ * Where it is compiled with SEALED, it is linked with tcrx_static.c, and the storage is sealed once all channels are made: a request
+ * for memory by any call after that ends it.
  */
 #include "../tcrx.h"
 
@@ -23,6 +26,10 @@ typedef struct {
     tcrx_map maps[MOST_ENTRIES];
     size_t map_count;
 } receiver;
+
+#ifdef SEALED
+TCRX_STATIC_STORAGE(SEALED);
+#endif
 
 static receiver receivers[CHANNELS];
 static bool made;
@@ -80,6 +87,11 @@ static void make_all(void) {
             }
         }
     }
+#ifdef SEALED
+    if (!made) {
+        tcrx_storage_seal();
+    }
+#endif
     made = true;
 }
 

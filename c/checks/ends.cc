@@ -100,27 +100,22 @@ void check_drops() {
     tell(tcrx_blocks() == 0, "no block is left of channels that ended");
 }
 
-// Makes a call with each of its growths refused in turn, until it meets none; what it answers then. How many were refused is added.
+// Makes a call whose first block would be refused: it asks for none. What it answers.
 template <typename Call>
-tcrx::Status with_refusals(tcrx::Channel &channel, Call call, const std::string &what, int &refusals) {
-    for (long growth = 0; growth < 1000; growth++) {
-        const std::vector<std::uint64_t> before = look(channel);
-        tcrx_refuse(growth);
-        const tcrx::Status status = call();
-        if (tcrx_refuse(-1) >= 0) {
-            return status;
-        }
-        refusals += 1;
-        tell(status == tcrx::Status::no_memory && look(channel) == before, what + " with a growth refused");
-    }
-    return tcrx::Status::no_memory;
+tcrx::Status without_memory(Call call, const std::string &what) {
+    tcrx_refuse(0);
+    const tcrx::Status status = call();
+    tell(tcrx_refuse(-1) >= 0, what + " asks for no memory");
+    return status;
 }
 
 void check_refused_growths() {
+    const tcrx::Limit listed[] = {{0, 64}, {2, 6}};
+    const tcrx::Limits limits = {0, listed};
     int refusals = 0;
     tcrx::Channel channel;
     const auto made = [&] {
-        tcrx::Result<tcrx::Channel> result = tcrx::Channel::make(settings, queues, maps);
+        tcrx::Result<tcrx::Channel> result = tcrx::Channel::make(settings, queues, maps, limits);
         if (result) {
             channel = std::move(*result);
         }
@@ -139,12 +134,12 @@ void check_refused_growths() {
     Bytes room(64);
     const Bytes half = frame(0, true, {0x42, 1, 2, 3}), rest = frame(0, true, {0x82, 4, 5, 6}), whole = first_packet();
     const std::vector<std::pair<std::string, tcrx::Status>> done = {
-        {"a Type-AD frame", with_refusals(channel, [&] { return channel.frame(whole).status(); }, "a Type-AD frame", refusals)},
-        {"a first segment", with_refusals(channel, [&] { return channel.frame(half).status(); }, "a first segment", refusals)},
-        {"a last segment", with_refusals(channel, [&] { return channel.frame(rest).status(); }, "a last segment", refusals)},
-        {"a release", with_refusals(channel, [&] { return channel.release().status(); }, "a release", refusals)},
-        {"a take", with_refusals(channel, [&] { return channel.take(5, room).status(); }, "a take", refusals)},
-        {"a unit", with_refusals(channel, [&] { return channel.take_unit(2, room).status(); }, "a unit", refusals)}};
+        {"a Type-AD frame", without_memory([&] { return channel.frame(whole).status(); }, "a Type-AD frame")},
+        {"a first segment", without_memory([&] { return channel.frame(half).status(); }, "a first segment")},
+        {"a last segment", without_memory([&] { return channel.frame(rest).status(); }, "a last segment")},
+        {"a release", without_memory([&] { return channel.release().status(); }, "a release")},
+        {"a take", without_memory([&] { return channel.take(5, room).status(); }, "a take")},
+        {"a unit", without_memory([&] { return channel.take_unit(2, room).status(); }, "a unit")}};
     for (const auto &[what, status] : done) {
         tell(status == tcrx::Status::done, what + " in the end");
     }
@@ -210,8 +205,15 @@ void check_settings() {
     const tcrx::Map map_twice[] = {{2, 1}, {2, 1}}, high_map[] = {{64, 1}}, no_units[] = {{2, 0}}, one_map[] = {{2, 1}};
     const auto status = [](const tcrx::Settings &tried, tcrx::Queues its_queues, tcrx::Maps its_maps) {
         const tcrx::Status made = tcrx::Channel::make(tried, its_queues, its_maps).status();
-        return tcrx::memory_bound(tried, its_queues, its_maps).status() == made ? made : tcrx::Status::no_status;
+        return tcrx::storage(tried, its_queues, its_maps).status() == made ? made : tcrx::Status::no_status;
     };
+    const auto within = [](const tcrx::Limits &limits, bool segmented = true) {
+        const tcrx::Settings tried = {1, 10, 4, 0, segmented};
+        const tcrx::Maps its_maps = segmented ? tcrx::Maps(maps) : tcrx::Maps();
+        const tcrx::Status made = tcrx::Channel::make(tried, queues, its_maps, limits).status();
+        return tcrx::storage(tried, queues, its_maps, limits).status() == made ? made : tcrx::Status::no_status;
+    };
+    const tcrx::Limit of_two[] = {{2, 6}}, high_limit[] = {{64, 6}}, twice_limited[] = {{2, 6}, {2, 6}}, no_limit[] = {{2, 0}};
     using tcrx::Status;
     tell(status({64, 10, 4, 0}, {}, {}) == Status::bad_vcid && status({1, 9, 4, 0}, {}, {}) == Status::bad_width, "bad numbers");
     tell(status({1, 10, 0, 0}, {}, {}) == Status::bad_buffer && status(settings, high, {}) == Status::bad_apid, "bad numbers, 2");
@@ -220,7 +222,16 @@ void check_settings() {
     tell(status(settings, {}, no_units) == Status::bad_units, "a MAP without room");
     tell(status({1, 10, 4, 0, false}, {}, one_map) == Status::plain_map, "a MAP without segment headers");
     tell(status(settings, {nullptr, 1}, {}) == Status::null && status(settings, {}, {}) == Status::done, "queues nowhere");
-    tell(tcrx::memory_bound(settings, queues, maps).value() > 65542, "a bound");
+    tell(tcrx::storage(settings, queues, maps).value() > 65542, "a storage");
+    tell(within({65543, {}}) == Status::bad_others && within({0, high_limit}) == Status::bad_limit_map, "bad limits");
+    tell(within({0, twice_limited}) == Status::double_limit && within({0, no_limit}) == Status::bad_limit, "bad limits, 2");
+    tell(within({6, of_two}, false) == Status::plain_limit && within({0, {}}) == Status::unlisted_map, "bad limits, 3");
+    tell(within({0, of_two}) == Status::done && within({6, {}}, false) == Status::done, "good limits");
+    tell(within({0, {nullptr, 1}}) == Status::null, "limits nowhere");
+    const tcrx::Settings eight = {1, 10, 8, 0};
+    const tcrx::Queue four[] = {{5, 8}, {6, 8}, {7, 8}, {8, 8}};
+    const tcrx::Limit one[] = {{0, 1024}};
+    tell(tcrx::storage(eight, four, {}, {0, one}).value() == 50936, "the storage of four queues of 8 with units of 1,024 octets");
     tell(std::string(tcrx::text(Status::empty).c_str()) == "nothing waits there", "a text");
     tell(tcrx::text(static_cast<Status>(99)).c_str()[0] == '\0', "the text of no status");
     const tcrx::Result<tcrx::Farm> farm = tcrx::start_farm(10, 7);

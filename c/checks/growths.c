@@ -1,12 +1,11 @@
 /*
- * Refuses each growth of a channel's memory in turn: in each call the first block that it asks for, then the second, until it
- * asks for no more. A call that is refused must answer TCRX_NO_MEMORY and leave the channel as it was, though it may keep room
- * that it got; made again it goes on, and is done in the end. Packets and units that are taken must be those that were sent. No
- * block may be left of a channel that wasn't made, nor of one that was freed. The bound, Type-AD frames and takes must ask for none,
- * and settings that make no channel must be refused by their fault before any is asked for.
+ * Refuses each block that the making of a channel asks for in turn: the first one, then the second, until it asks for no more. Each
+ * time the answer must be TCRX_NO_MEMORY, no channel may be held, and no block may be left of it. Then each kind of call is made once
+ * with its first block refused: none may ask for any. Packets and units that are taken must be those that were sent. Nothing may be
+ * left of a channel that was freed; and settings and limits that make no channel must be refused by their fault before any is asked for.
  *
- * The memory is that of tcrx_memory.c, which is linked with this. What is refused are its calls of malloc and realloc, which the
- * linker leads here: by --wrap=malloc, --wrap=realloc and --wrap=free. The last line says how many growths were refused.
+ * The memory is that of tcrx_memory.c, which is linked with this. What is refused are its calls of malloc, which the linker leads here:
+ * by --wrap=malloc and --wrap=free. The last line says how many blocks were refused.
  */
 #include "../tcrx.h"
 
@@ -16,13 +15,11 @@
 #include <string.h>
 
 void *__real_malloc(size_t count);
-void *__real_realloc(void *at, size_t count);
 void __real_free(void *at);
 void *__wrap_malloc(size_t count);
-void *__wrap_realloc(void *at, size_t count);
 void __wrap_free(void *at);
 
-/* How many growths are given before one is refused, and how many were refused; how many blocks are out. */
+/* How many blocks are given before one is refused, and how many were refused; how many are out. */
 static unsigned long given_first, refusals, blocks;
 static bool refusing, met;
 
@@ -44,8 +41,6 @@ void *__wrap_malloc(size_t count) {
     blocks += at == NULL ? 0 : 1;
     return at;
 }
-
-void *__wrap_realloc(void *at, size_t count) { return is_refused() ? NULL : __real_realloc(at, count); }
 
 void __wrap_free(void *at) {
     blocks -= 1;
@@ -83,8 +78,13 @@ static const tcrx_settings settings = {1, 10, 4, 0, 1};
 static const tcrx_queue queues[] = {{5, 4}, {9, 2}, {77, 256}};
 static const tcrx_map maps[] = {{2, 3}, {7, 1}};
 
-static tcrx_status make(void) { return tcrx_channel_new(&channel, settings, queues, 3, maps, 2); }
-static tcrx_status ask_bound(void) { return tcrx_memory_bound(settings, queues, 3, maps, 2).status; }
+static const tcrx_limit limits[] = {{0, 64}, {2, 128}, {7, 16}};
+
+static tcrx_status make(void) { return tcrx_channel_new_with_limits(&channel, settings, queues, 3, maps, 2, 0, limits, 3); }
+static tcrx_status make_unlimited(void) { return tcrx_channel_new(&channel, settings, queues, 2, maps, 1); }
+static tcrx_status free_it(void) { return tcrx_channel_free(&channel); }
+static tcrx_status ask_storage(void) { return tcrx_storage(settings, queues, 3, maps, 2).status; }
+static tcrx_status ask_limited(void) { return tcrx_storage_with_limits(settings, queues, 3, maps, 2, 0, limits, 3).status; }
 
 static const uint8_t ad0[] = {0x00, 0x2a, 0x04, 0x0c, 0x00, 0xc0, 0x10, 0x05, 0xc0, 0x00, 0x00, 0x00, 0xaa};
 static const uint8_t first[] = {0x00, 0x2a, 0x04, 0x0b, 0x01, 0x40, 0x10, 0x05, 0xc0, 0x00, 0x00, 0x02};
@@ -133,21 +133,23 @@ static tcrx_status take_unit(void) {
     return taken(written, units[units_taken].octets, units[units_taken].count, &units_taken);
 }
 
-/* Two queues with one APID make no channel, and that is answered without a block. */
+/* Two queues with one APID, and a MAP with two limits, make no channel, and that is answered without a block. */
 static bool is_refused_by_its_fault(void) {
     static const tcrx_queue twice[] = {{5, 4}, {5, 4}};
+    static const tcrx_limit two_limits[] = {{2, 5}, {2, 5}};
     tcrx_channel other = TCRX_HOLDS_NONE;
     given_first = 0;
     met = false;
     refusing = true;
-    const tcrx_status status = tcrx_channel_new(&other, settings, twice, 2, NULL, 0);
+    const tcrx_status queue = tcrx_channel_new(&other, settings, twice, 2, NULL, 0);
+    const tcrx_status limit = tcrx_channel_new_with_limits(&other, settings, queues, 2, maps, 2, 9, two_limits, 2);
     refusing = false;
-    return status == TCRX_DOUBLE_APID && !met;
+    return queue == TCRX_DOUBLE_APID && limit == TCRX_DOUBLE_LIMIT && !met;
 }
 
-/* Makes the call with the first growth refused, then with the second, until it asks for no more. One that grows nothing asks for none. */
+/* Makes the call with the first block refused, then with the second, until it asks for no more. One that grows nothing asks for none. */
 static bool done(tcrx_status (*call)(void), bool grows) {
-    for (unsigned long n = 0; n < 1000; n++) {
+    for (unsigned long n = 0; n < 10000; n++) {
         const state before = look();
         const unsigned long blocks_before = blocks;
         given_first = n;
@@ -156,11 +158,10 @@ static bool done(tcrx_status (*call)(void), bool grows) {
         const tcrx_status status = call();
         refusing = false;
         if (!met) {
-            return status == TCRX_DONE;
+            return status == TCRX_DONE && (n > 0) == grows && (grows || call == free_it || blocks == blocks_before);
         }
         const state after = look();
-        if (!grows || status != TCRX_NO_MEMORY || memcmp(&before, &after, sizeof before) != 0 ||
-            (call == make && blocks != blocks_before)) {
+        if (!grows || status != TCRX_NO_MEMORY || memcmp(&before, &after, sizeof before) != 0 || blocks != blocks_before) {
             return false;
         }
     }
@@ -169,10 +170,11 @@ static bool done(tcrx_status (*call)(void), bool grows) {
 
 int main(void) {
     static const struct { tcrx_status (*call)(void); bool grows; } calls[] = {
-        {ask_bound, false}, {make, true},       {bring_ad0, false}, {bring_bd, true},     {bring_first, false}, {bring_last, false},
-        {release, true},    {release, true},    {release, true},    {bring_unit, true},   {bring_half, true},   {bring_middle, true},
-        {bring_rest, true}, {take, false},      {take, false},      {take, false},        {take_unit, false},   {take_unit, false},
-        {bring_bd, true},   {ask_bound, false}, {take, false},
+        {make_unlimited, true}, {free_it, false},      {ask_storage, false},  {ask_limited, false}, {make, true},
+        {bring_ad0, false},     {bring_bd, false},     {bring_first, false},  {bring_last, false},  {release, false},
+        {release, false},       {release, false},      {bring_unit, false},   {bring_half, false},  {bring_middle, false},
+        {bring_rest, false},    {take, false},         {take, false},         {take, false},        {take_unit, false},
+        {take_unit, false},     {bring_bd, false},     {ask_limited, false},  {take, false},
     };
     unsigned long good = 0;
     const unsigned long count = sizeof calls / sizeof calls[0];
@@ -184,10 +186,10 @@ int main(void) {
         }
     }
     const bool told = is_refused_by_its_fault();
-    const bool freed = tcrx_channel_free(&channel) == TCRX_DONE && blocks == 0;
+    const bool freed = free_it() == TCRX_DONE && blocks == 0;
     if (!told) {
-        printf("two queues with one APID aren't refused by that\n");
+        printf("settings or limits with a fault aren't refused by that\n");
     }
-    printf("%lu growths refused in %lu calls, %lu calls done, %s\n", refusals, count, good, freed ? "all freed" : "not all freed");
+    printf("%lu blocks refused in %lu calls, %lu calls done, %s\n", refusals, count, good, freed ? "all freed" : "not all freed");
     return good == count && told && freed && refusals > 0 ? 0 : 1;
 }

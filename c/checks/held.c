@@ -100,6 +100,50 @@ static void check_none(tcrx_channel *channel, tcrx_status status, unsigned long 
     expect(tcrx_channel_free(channel) == status, "none freed", place);
 }
 
+/* The status of a new channel within limits, which is that of its storage as well; one that is made is freed. */
+static tcrx_status limited(tcrx_settings settings, const tcrx_map *maps, size_t m, uint32_t others, const tcrx_limit *limits, size_t l) {
+    tcrx_channel channel = TCRX_HOLDS_NONE;
+    const tcrx_status status = tcrx_channel_new_with_limits(&channel, settings, good_queues, 2, maps, m, others, limits, l);
+    const tcrx_count storage = tcrx_storage_with_limits(settings, good_queues, 2, maps, m, others, limits, l);
+    expect((channel.held == 1) == (status == TCRX_DONE), "whether one is held within limits", status);
+    expect(storage.status == status && (storage.count > 0) == (status == TCRX_DONE), "the storage within limits", status);
+    expect(tcrx_channel_free(&channel) == (status == TCRX_DONE ? TCRX_DONE : TCRX_NO_CHANNEL), "what is freed", status);
+    return status;
+}
+
+static void check_limits(void) {
+    static const uint32_t octets[] = {0, 1, 1019, 1020, 65541, 65542, 65543, 131072, UINT32_MAX};
+    tcrx_settings plain = good_settings, bad = good_settings;
+    const tcrx_limit both[] = {{0, 9}, {63, 9}}, twice[] = {{5, 9}, {6, 0}, {5, 0}}, over[] = {{5, 0}, {64, 0}};
+    plain.segmented = 0;
+    bad.width = 3;
+    expect(limited(good_settings, good_maps, 2, 0, both, 2) == TCRX_DONE, "good limits", 0);
+    expect(limited(bad, good_maps, 2, 65543, over, 2) == TCRX_BAD_WIDTH, "a fault of the settings before those of limits", 0);
+    expect(limited(good_settings, good_maps, 2, 65543, over, 2) == TCRX_BAD_OTHERS, "the others", 0);
+    expect(limited(good_settings, good_maps, 2, 9, over, 2) == TCRX_BAD_LIMIT_MAP, "the MAP of a limit", 0);
+    expect(limited(good_settings, good_maps, 2, 9, twice, 3) == TCRX_DOUBLE_LIMIT, "two limits of a MAP", 0);
+    expect(limited(plain, NULL, 0, 9, both, 2) == TCRX_PLAIN_LIMIT, "limits of a plain channel", 0);
+    expect(limited(good_settings, good_maps, 2, 0, both, 1) == TCRX_UNLISTED_MAP, "a chosen MAP that isn't listed", 0);
+    expect(limited(good_settings, good_maps, 2, 1, both, 1) == TCRX_DONE, "a chosen MAP with the limit of the others", 0);
+    expect(limited(good_settings, NULL, 0, 0, NULL, 0) == TCRX_DONE, "no unit of any MAP", 0);
+    for (size_t i = 0; i < sizeof octets / sizeof octets[0]; i++) {
+        const uint32_t n = octets[i];
+        const tcrx_limit one = {7, n};
+        expect(limited(good_settings, NULL, 0, n, NULL, 0) == (n <= 65542 ? TCRX_DONE : TCRX_BAD_OTHERS), "others", n);
+        expect(limited(plain, NULL, 0, n, NULL, 0) == (n >= 1 && n <= 65542 ? TCRX_DONE : TCRX_BAD_OTHERS), "others, plain", n);
+        expect(limited(good_settings, NULL, 0, 9, &one, 1) == (n >= 1 && n <= 65542 ? TCRX_DONE : TCRX_BAD_LIMIT), "a limit", n);
+    }
+    for (unsigned map = 0; map < 256; map++) {
+        const tcrx_limit one = {(uint8_t)map, 9};
+        expect(limited(good_settings, NULL, 0, 9, &one, 1) == (map < 64 ? TCRX_DONE : TCRX_BAD_LIMIT_MAP), "a MAP's limit", map);
+    }
+    tcrx_channel channel = TCRX_HOLDS_NONE;
+    expect(tcrx_channel_new_with_limits(NULL, good_settings, NULL, 0, NULL, 0, 9, NULL, 0) == TCRX_NULL, "no seat", 0);
+    expect(tcrx_channel_new_with_limits(&channel, good_settings, NULL, 1, NULL, 0, 9, NULL, 0) == TCRX_NULL, "no queues", 0);
+    expect(tcrx_channel_new_with_limits(&channel, good_settings, NULL, 0, NULL, 1, 9, NULL, 0) == TCRX_NULL, "no MAPs", 0);
+    expect(tcrx_channel_new_with_limits(&channel, good_settings, NULL, 0, NULL, 0, 9, NULL, 1) == TCRX_NULL, "no limits", 0);
+}
+
 static bool is_filled(const uint8_t *octets, size_t count) {
     for (size_t i = 0; i < count; i++) {
         if (octets[i] != 0xee) {
@@ -139,6 +183,7 @@ static void check_asked(tcrx_channel *channel) {
     static const uint8_t unlock[] = {0x30, 0x2a, 0x04, 0x05, 0x00, 0x00, 0xff};
     uint8_t octets[8];
     expect(tcrx_channel_new(channel, good_settings, NULL, 0, NULL, 0) == TCRX_IN_USE, "a channel that is held", 0);
+    expect(tcrx_channel_new_with_limits(channel, good_settings, NULL, 0, NULL, 0, 9, NULL, 0) == TCRX_IN_USE, "one that is held", 1);
     for (size_t count = 0; count < sizeof unlock; count++) {
         uint8_t *block = malloc(count == 0 ? 1 : count);
         memcpy(block, unlock, count);
@@ -168,6 +213,7 @@ int main(void) {
     tcrx_channel channel = TCRX_HOLDS_NONE;
     check_numbers();
     check_lists();
+    check_limits();
     check_none(NULL, TCRX_NULL, 0);
     check_none(&channel, TCRX_NO_CHANNEL, 1);
     expect(tcrx_channel_new(&channel, settings, queues, 1, maps, 1) == TCRX_DONE, "a channel", 0);

@@ -1,11 +1,10 @@
 /*
- * What a channel holds between its calls. A unit of 300 packets is cut into full queues, and taken: the list on which its packets
- * were put together must not stay, so that no more is held than after a unit of 256. Each growth of a unit of 40 packets is refused
- * in turn: none of the packets that were copied by then may stay. And as many units as a MAP's queue has room for, 256, are queued
- * and taken, each as it was sent; a unit and a packet too many are dropped.
+ * What a channel holds between its calls: what its making asked for, and nothing else. A unit of 512 packets is cut into full queues,
+ * and taken. As many units as a MAP's queue has room for, 256, are queued and taken, each as it was sent; a unit and a packet too many
+ * are dropped, and so is a unit that is longer than the limit of its MAP. No call may ask for a block or give one back.
  *
- * The memory is that of tcrx_memory.c, whose calls of malloc and realloc the linker leads here: by --wrap=malloc, --wrap=realloc and
- * --wrap=free. The last line says how many things were as they must be.
+ * The memory is that of tcrx_memory.c, whose calls of malloc and free the linker leads here: by --wrap=malloc and --wrap=free. The
+ * last line says how many things were as they must be.
  */
 #include "../tcrx.h"
 
@@ -14,66 +13,24 @@
 #include <stdlib.h>
 #include <string.h>
 
-enum { HEAD = 16, ROOM = 256, LONGEST = 1018, PACKET = 7 };
+enum { ROOM = 256, LONGEST = 1018, PACKET = 7, UNIT = 2 * ROOM * PACKET };
 
 void *__real_malloc(size_t count);
-void *__real_realloc(void *at, size_t count);
 void __real_free(void *at);
 void *__wrap_malloc(size_t count);
-void *__wrap_realloc(void *at, size_t count);
 void __wrap_free(void *at);
 
-/* What is held: blocks, and octets of them. A block's size is in front of it. */
-static unsigned long blocks, held;
-/* How many growths are given before one is refused. */
-static unsigned long given_first;
-static bool refusing, met;
-
-static bool is_refused(void) {
-    if (!refusing || met) {
-        return false;
-    }
-    if (given_first > 0) {
-        given_first -= 1;
-        return false;
-    }
-    met = true;
-    return true;
-}
-
-static void *noted(unsigned char *front, size_t count) {
-    if (front == NULL) {
-        return NULL;
-    }
-    memcpy(front, &count, sizeof count);
-    held += count;
-    return front + HEAD;
-}
-
-static size_t size_of(const unsigned char *at) {
-    size_t count;
-    memcpy(&count, at - HEAD, sizeof count);
-    return count;
-}
+/* How many blocks were asked for, and how many given back. */
+static unsigned long asked, given_back;
 
 void *__wrap_malloc(size_t count) {
-    void *at = is_refused() ? NULL : noted(__real_malloc(count + HEAD), count);
-    blocks += at == NULL ? 0 : 1;
-    return at;
-}
-
-void *__wrap_realloc(void *at, size_t count) {
-    if (is_refused()) {
-        return NULL;
-    }
-    held -= size_of(at);
-    return noted(__real_realloc((unsigned char *)at - HEAD, count + HEAD), count);
+    asked += 1;
+    return __real_malloc(count);
 }
 
 void __wrap_free(void *at) {
-    blocks -= 1;
-    held -= size_of(at);
-    __real_free((unsigned char *)at - HEAD);
+    given_back += 1;
+    __real_free(at);
 }
 
 static unsigned long passed, failed;
@@ -119,9 +76,9 @@ static void take_packets(size_t count) {
     }
 }
 
-/* What is held after a unit of so many packets, in segments, and after they were taken. */
-static unsigned long held_after(size_t count) {
-    static uint8_t unit[2 * ROOM * PACKET];
+/* A unit of so many packets, in segments, which are then taken. */
+static void pass_packets(size_t count) {
+    static uint8_t unit[UNIT];
     const size_t all = count * PACKET;
     write_packets(unit, count);
     for (size_t at = 0; at < all; at += LONGEST) {
@@ -132,37 +89,20 @@ static unsigned long held_after(size_t count) {
         expect(answer.status == TCRX_DONE && answer.queued == (is_last ? count : 0) && answer.dropped == 0, "a segment", at);
     }
     take_packets(count);
-    return held;
 }
 
-static void check_list(void) {
-    const unsigned long before = held_after(ROOM);
-    for (unsigned long turn = 0; turn < 3; turn++) {
-        expect(held_after(300) <= before, "what is held after a unit of 300 packets", turn);
-        expect(held_after(2 * ROOM) <= before, "what is held after a unit of 512 packets", turn);
+/* A unit of as many octets as the limit of its MAP is cut, and one of an octet more is dropped where it ends. */
+static void check_limit(void) {
+    static uint8_t more[LONGEST];
+    memset(more, 0xff, sizeof more);
+    for (size_t over = 0; over < 2; over++) {
+        for (size_t at = 0; at < UNIT + over; at += LONGEST) {
+            const size_t left = UNIT + over - at, share = left < LONGEST ? left : LONGEST;
+            const tcrx_reply answer = bring(at == 0 ? 0x40 : share == left ? 0x80 : 0x00, more, share);
+            expect(answer.status == TCRX_DONE && answer.queued + answer.dropped == 0, "a segment of a long unit", at);
+            expect(answer.rest == (over == 0 && share == left), "a long unit", over);
+        }
     }
-}
-
-/* The three lists of what a unit is cut with may stay of a call that is refused, and no packet. */
-static void check_refused(void) {
-    enum { PACKETS = 40 };
-    static uint8_t unit[PACKETS * PACKET];
-    write_packets(unit, PACKETS);
-    const unsigned long before = blocks;
-    unsigned long growths = 0;
-    tcrx_reply answer = {TCRX_NO_MEMORY, 0, 0, 0, 0, 0};
-    do {
-        given_first = growths;
-        met = false;
-        refusing = true;
-        answer = bring(0xc0, unit, sizeof unit);
-        refusing = false;
-        expect(answer.status == (met ? TCRX_NO_MEMORY : TCRX_DONE), "a unit of 40 packets", growths);
-        expect(!met || blocks <= before + 3, "the blocks that stay of a refused unit", growths);
-        growths += 1;
-    } while (met && growths < 1000);
-    expect(growths > PACKETS && answer.queued == PACKETS, "growths of a unit of 40 packets", growths);
-    take_packets(PACKETS);
 }
 
 static void check_full(void) {
@@ -190,11 +130,17 @@ static void check_full(void) {
 }
 
 int main(void) {
-    expect(tcrx_channel_new(&channel, settings, queues, 2, maps, 1) == TCRX_DONE, "a channel", 0);
-    check_list();
-    check_refused();
+    static const tcrx_limit limits[] = {{0, UNIT}, {3, 2}};
+    expect(tcrx_channel_new_with_limits(&channel, settings, queues, 2, maps, 1, 0, limits, 2) == TCRX_DONE, "a channel", 0);
+    const unsigned long made = asked, before = given_back;
+    for (unsigned long turn = 0; turn < 3; turn++) {
+        pass_packets(300);
+        pass_packets(2 * ROOM);
+    }
+    check_limit();
     check_full();
-    expect(tcrx_channel_free(&channel) == TCRX_DONE && blocks == 0 && held == 0, "what is left", blocks);
-    printf("%lu things that a channel holds are as they must be, %lu are not\n", passed, failed);
+    expect(asked == made && given_back == before, "blocks that are asked for or given back by a call", asked - made);
+    expect(tcrx_channel_free(&channel) == TCRX_DONE && asked == given_back, "what is left", asked - given_back);
+    printf("%lu things that a channel holds as they must be, %lu otherwise\n", passed, failed);
     return failed == 0 && passed > 0 ? 0 : 1;
 }

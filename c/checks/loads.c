@@ -1,13 +1,13 @@
 /*
- * Brings loads on a channel whose memory is the pool of tcrx_pool.c, and counts the calls that are answered TCRX_NO_MEMORY. Each
- * packet that is taken must be the one that was sent.
+ * Brings loads on a channel whose memory is the array of tcrx_static.c, sealed once it is made, so that a request for memory by any
+ * call ends it. Each packet that is taken must be the one that was sent.
  *
  *   loads SETTINGS LOAD CALLS SEED
  *
- * SETTINGS: `plain`, without segment headers; `two`, two queues; `maps`, eight queues and two chosen MAPs.
+ * SETTINGS: `plain`, without segment headers; `two`, two queues; `maps`, eight queues and two chosen MAPs; `small`, as `two` with units
+ * of 1,500 octets on each MAP.
  * LOAD: `random`; `hostile`, which fills everything with the largest packets, units and open runs, lets some go and fills it anew in
  * other sizes; `comb`, small packets between large ones, of which the large ones go.
- * It is compiled with TCRX_POOL_OCTETS, as the pool is, and says what part of the bound that is.
  */
 #include "../tcrx.h"
 
@@ -17,7 +17,9 @@
 #include <stdlib.h>
 #include <string.h>
 
-enum { FIRST = 1, CONTINUING = 0, LAST = 2, UNSEGMENTED = 3, MOST_FRAME = 1024, MOST_PACKET = 65542, MAPS = 64, PAYLOADS = 63 };
+enum { FIRST = 1, CONTINUING = 0, LAST = 2, UNSEGMENTED = 3, MOST_FRAME = 1024, MOST_PACKET = 65542, MAPS = 64, PAYLOADS = 63, SMALL = 1500 };
+
+TCRX_STATIC_STORAGE(TCRX_STORAGE_OF(1, 64, 8, 2, 140, 0, MAPS * MOST_PACKET, MOST_PACKET));
 
 typedef struct {
     tcrx_settings settings;
@@ -25,12 +27,13 @@ typedef struct {
     size_t queue_count;
     tcrx_map maps[2];
     size_t map_count;
+    uint32_t limit;
 } plan;
 
 static tcrx_channel channel = TCRX_HOLDS_NONE;
 static plan with;
 static uint8_t next_ns;
-static uint64_t calls, no_memory, wrong;
+static uint64_t calls, wrong;
 static uint8_t unit[MOST_PACKET], taken[MOST_PACKET];
 
 /* A number below `end`, by Marsaglia's shifts. */
@@ -44,8 +47,7 @@ static size_t below(size_t end) {
 
 static void count(tcrx_status status) {
     calls += 1;
-    no_memory += status == TCRX_NO_MEMORY ? 1 : 0;
-    wrong += status == TCRX_DONE || status == TCRX_NO_MEMORY || status == TCRX_EMPTY ? 0 : 1;
+    wrong += status == TCRX_DONE || status == TCRX_EMPTY ? 0 : 1;
 }
 
 static uint8_t content(size_t place) { return (uint8_t)(place * 31 + place / 251); }
@@ -136,10 +138,10 @@ static void load_random(void) {
 
 /* Fills each queue and each unit queue with the largest. */
 static void fill(void) {
-    const size_t most = with.settings.segmented == 1 ? MOST_PACKET : 1019;
+    const size_t most = with.settings.segmented == 1 ? with.limit : 1019;
     for (size_t i = 0; i < with.queue_count; i++) {
         write_packet(unit, with.queues[i].apid, most);
-        for (uint64_t before = no_memory; has_room(i) && before == no_memory;) send(true, PAYLOADS, most, true);
+        while (has_room(i)) send(true, PAYLOADS, most, true);
     }
     for (size_t i = 0; i < with.map_count; i++) {
         for (size_t k = 0; k < with.maps[i].capacity; k++) send(true, with.maps[i].map, most, true);
@@ -177,7 +179,7 @@ static void load_hostile(void) {
 /* Small packets in every second queue, packets of any length in the others, which alone are taken. */
 static void load_comb(void) {
     for (size_t i = 0; i < with.queue_count; i++) {
-        for (uint64_t before = no_memory; has_room(i) && before == no_memory && below(8) != 0;) {
+        while (has_room(i) && below(8) != 0) {
             send(true, below(MAPS), write_packet(unit, with.queues[i].apid, i % 2 == 1 ? 7 + below(32) : any_length()), true);
         }
     }
@@ -189,12 +191,14 @@ static void load_comb(void) {
 
 static bool choose(const char *name) {
     static const plan plans[] = {
-        {{1, 254, 4, 0, 0}, {{5, 4}, {9, 4}}, 2, {{0, 0}}, 0},
-        {{1, 254, 4, 0, 1}, {{5, 4}, {9, 4}}, 2, {{0, 0}}, 0},
-        {{1, 254, 64, 0, 1}, {{0, 16}, {1, 16}, {2, 16}, {3, 16}, {4, 16}, {5, 16}, {6, 16}, {7, 16}}, 8, {{1, 4}, {2, 8}}, 2},
+        {{1, 254, 4, 0, 0}, {{5, 4}, {9, 4}}, 2, {{0, 0}}, 0, MOST_PACKET},
+        {{1, 254, 4, 0, 1}, {{5, 4}, {9, 4}}, 2, {{0, 0}}, 0, MOST_PACKET},
+        {{1, 254, 64, 0, 1}, {{0, 16}, {1, 16}, {2, 16}, {3, 16}, {4, 16}, {5, 16}, {6, 16}, {7, 16}}, 8, {{1, 4}, {2, 8}}, 2,
+         MOST_PACKET},
+        {{1, 254, 4, 0, 1}, {{5, 4}, {9, 4}}, 2, {{0, 0}}, 0, SMALL},
     };
-    static const char *const names[] = {"plain", "two", "maps"};
-    for (size_t i = 0; i < 3; i++) {
+    static const char *const names[] = {"plain", "two", "maps", "small"};
+    for (size_t i = 0; i < 4; i++) {
         if (strcmp(name, names[i]) == 0) {
             with = plans[i];
             return true;
@@ -210,12 +214,13 @@ int main(int words_count, char **words) {
     void (*const load)(void) = words[2][0] == 'r' ? load_random : words[2][0] == 'h' ? load_hostile : load_comb;
     const uint64_t wanted = strtoull(words[3], NULL, 10);
     for (size_t seed = strtoul(words[4], NULL, 10); seed > 0; seed--) below(2);
-    const tcrx_count bound = tcrx_memory_bound(with.settings, with.queues, with.queue_count, with.maps, with.map_count);
-    if (tcrx_channel_new(&channel, with.settings, with.queues, with.queue_count, with.maps, with.map_count) != TCRX_DONE) {
+    if (tcrx_channel_new_with_limits(&channel, with.settings, with.queues, with.queue_count, with.maps, with.map_count, with.limit,
+                                     NULL, 0) != TCRX_DONE) {
         return 2;
     }
+    const size_t used = tcrx_storage_used();
+    tcrx_storage_seal();
     while (calls < wanted) load();
-    printf("%s, %s: pool of %.3f times the bound, %" PRIu64 " calls, %" PRIu64 " without memory, %" PRIu64 " wrong\n", words[1],
-           words[2], (double)TCRX_POOL_OCTETS / (double)bound.count, calls, no_memory, wrong);
-    return tcrx_channel_free(&channel) == TCRX_DONE && no_memory == 0 && wrong == 0 ? 0 : 1;
+    printf("%s, %s: %zu octets, sealed, %" PRIu64 " calls, %" PRIu64 " wrong\n", words[1], words[2], used, calls, wrong);
+    return used == tcrx_storage_used() && wrong == 0 ? 0 : 1;
 }

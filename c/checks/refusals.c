@@ -264,6 +264,12 @@ static void check_texts(void) {
         {TCRX_NO_QUEUE, "no queue has that APID"},
         {TCRX_NO_MAP, "that MAP isn't chosen"},
         {TCRX_EMPTY, "nothing waits there"},
+        {TCRX_BAD_OTHERS, "the limit of the other MAPs is out of its range"},
+        {TCRX_BAD_LIMIT_MAP, "the MAP of a limit is over 63"},
+        {TCRX_DOUBLE_LIMIT, "a MAP has two limits"},
+        {TCRX_BAD_LIMIT, "the limit of a MAP isn't 1 to 65,542 octets"},
+        {TCRX_PLAIN_LIMIT, "a channel without segment headers has no limits by MAP"},
+        {TCRX_UNLISTED_MAP, "a chosen MAP has no limit"},
     };
     unsigned long there = 0;
     for (size_t i = 0; i < sizeof texts / sizeof texts[0]; i++) {

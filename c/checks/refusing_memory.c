@@ -12,7 +12,6 @@ typedef struct {
 } rattle_block;
 
 rattle_block rattle_alloc(size_t count, size_t alignment);
-rattle_block rattle_realloc(void *at, size_t kept, size_t count, size_t alignment);
 void rattle_dealloc(void *at);
 long tcrx_refuse(long growth);
 long tcrx_blocks(void);
@@ -52,11 +51,6 @@ rattle_block rattle_alloc(size_t count, size_t alignment) {
     void *at = is_refused() ? NULL : malloc(count == 0 ? alignment : count);
     blocks += at == NULL ? 0 : 1;
     return answer(at);
-}
-
-rattle_block rattle_realloc(void *at, size_t kept, size_t count, size_t alignment) {
-    (void)kept;
-    return answer(is_refused() ? NULL : realloc(at, count == 0 ? alignment : count));
 }
 
 void rattle_dealloc(void *at) {

@@ -48,7 +48,7 @@ def shown_code() -> list[tuple[str, str]]:
     blocks = re.findall(r"^```c\n(.*?)^```$", (TOP / "c" / "README.md").read_text(), re.M | re.S)
     lines = '#include "tcrx.h"\n' + "".join(f"void shown_{i}({GIVEN}) {{\n{block}}}\n" for i, block in enumerate(blocks))
     said = [(f"the code of c/README.md, {compiler[1]}", compiled(compiler, lines, HEADER.parent)) for compiler in (C[0], CXX[-1])]
-    return [*said, ("the blocks of code of c/README.md", "" if len(blocks) == 2 else f"there are {len(blocks)}")]
+    return [*said, ("the blocks of code of c/README.md", "" if len(blocks) == 3 else f"there are {len(blocks)}")]
 
 
 def changed_records(text: str) -> list[tuple[str, str]]:
@@ -100,7 +100,7 @@ def cppcheck(language: str, version: str, files: list[str]) -> str:
     """What cppcheck says of files; nothing where they are good."""
     command = ["cppcheck", f"--language={language}", f"--std={version}", "--enable=warning,style,performance,portability"]
     command += ["--inconclusive", "--quiet", "--error-exitcode=1", "--suppressions-list=c/checks/cppcheck.suppressions"]
-    command += ["--template={file}:{line}: {severity}: {message} [{id}]", "-Ic", "-DTCRX_POOL_OCTETS=18000000", *files]
+    command += ["--template={file}:{line}: {severity}: {message} [{id}]", "-Ic", "-DSEALED=1000", *files]
     done = subprocess.run(command, cwd=TOP, capture_output=True, text=True, check=False)
     return done.stdout + done.stderr or ("" if done.returncode == 0 else f"status {done.returncode}")
 

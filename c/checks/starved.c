@@ -1,17 +1,17 @@
 /*
- * Starves a channel whose pool is smaller than its bound: Type-BD frames open runs of segments on many MAPs and leave them open,
- * until the pool is empty. Then each release must be answered TCRX_NO_MEMORY, however often it is tried, after an Unlock as well.
- * An unsegmented Type-BD frame with one octet of data on each MAP must end it, and a packet then go through. It is linked with
- * tcrx_pool.c, by a TCRX_POOL_OCTETS that is smaller than the bound.
+ * Tries to starve a channel over tcrx_static.c whose storage is sealed: frames of both services open runs of segments on all MAPs, as
+ * long as their limits and longer, and leave them open. Nothing may be refused by that, however often: a packet goes through, before
+ * and after an Unlock, while all runs are open.
  */
 #include "../tcrx.h"
 
-#include <inttypes.h>
 #include <stdbool.h>
 #include <stdio.h>
 #include <string.h>
 
-enum { FIRST = 1, CONTINUING = 0, LAST = 2, UNSEGMENTED = 3, PART = 1018, MAPS = 64, TRIES = 100000 };
+enum { FIRST = 1, CONTINUING = 0, LAST = 2, UNSEGMENTED = 3, PART = 1018, MAPS = 64, LIMIT = 2000, TRIES = 1000 };
+
+TCRX_STATIC_STORAGE(TCRX_STORAGE_OF(1, 4, 1, 0, 4, 0, MAPS * LIMIT, LIMIT));
 
 static tcrx_channel channel = TCRX_HOLDS_NONE;
 static unsigned long failed;
@@ -37,16 +37,15 @@ static tcrx_reply segment(bool bypass, uint8_t ns, unsigned flags, size_t map, c
     return bring((tcrx_header){42, 1, ns, bypass ? 1 : 0, 0}, field, 1 + count);
 }
 
-/* Opens runs of up to 64 segments until none grows; how many frames were done, and how many runs are open. */
-static void open_runs(unsigned long *frames, unsigned long *runs) {
+/* Opens runs of up to so many segments on each MAP but the first, by Type-BD or with these N(S). */
+static void open_runs(bool bypass, size_t segments, uint8_t *ns) {
     static const uint8_t part[PART];
-    *frames = *runs = 0;
-    for (size_t map = 0; map < MAPS; map++) {
-        tcrx_status status = TCRX_DONE;
-        for (size_t i = 0; i < 64 && status == TCRX_DONE; i++) {
-            status = segment(true, 0, i == 0 ? FIRST : CONTINUING, map, part, PART).status;
-            *frames += status == TCRX_DONE ? 1 : 0;
-            *runs += status == TCRX_DONE && i == 0 ? 1 : 0;
+    for (size_t map = 1; map < MAPS; map++) {
+        for (size_t i = 0; i < segments; i++) {
+            const tcrx_reply reply = segment(bypass, *ns, i == 0 ? FIRST : CONTINUING, map, part, PART);
+            expect(reply.status == TCRX_DONE && reply.accepted == 1, "a segment of a run that stays open");
+            *ns = (uint8_t)(*ns + (bypass ? 0 : 1));
+            expect(bypass || tcrx_channel_release(&channel).status == TCRX_DONE, "a release of such a segment");
         }
     }
 }
@@ -61,39 +60,31 @@ static void send_packet(uint8_t first_ns) {
     expect(first.accepted == 1 && last.accepted == 1, "the packet's frames");
 }
 
-static void check_starved(void) {
-    for (unsigned long i = 0; i < TRIES; i++) {
-        expect(tcrx_channel_release(&channel).status == TCRX_NO_MEMORY, "a release of a channel that is starved");
-    }
-    expect(bring((tcrx_header){42, 1, 0, 1, 1}, (const uint8_t[]){0}, 1).event == 7, "an Unlock");
-    expect(tcrx_channel_release(&channel).status == TCRX_NO_MEMORY, "a release after an Unlock");
-}
-
-static void check_remedy(void) {
-    static const uint8_t one = 0;
+/* The packet goes through. */
+static void check_packet(uint8_t *ns) {
     static uint8_t packet[2000];
-    for (size_t map = 0; map < MAPS; map++) {
-        const tcrx_reply reply = segment(true, 0, UNSEGMENTED, map, &one, 1);
-        expect(reply.status == TCRX_DONE && reply.rest == 1, "an unsegmented frame of one octet");
-    }
-    expect(tcrx_channel_release(&channel).status == TCRX_DONE, "the first release after that");
+    send_packet(*ns);
+    *ns = (uint8_t)(*ns + 2);
+    expect(tcrx_channel_release(&channel).status == TCRX_DONE, "the first release");
     expect(tcrx_channel_release(&channel).queued == 1, "the packet");
+    expect(tcrx_channel_release(&channel).status == TCRX_EMPTY, "a release of nothing");
     expect(tcrx_channel_take(&channel, 5, packet, sizeof packet).length == sizeof packet, "the packet that is taken");
 }
 
 int main(void) {
-    const tcrx_settings settings = {1, 10, 4, 0, 1};
+    const tcrx_settings settings = {1, 254, 4, 0, 1};
     const tcrx_queue queue = {5, 4};
-    unsigned long frames = 0, runs = 0;
-    const tcrx_count bound = tcrx_memory_bound(settings, &queue, 1, NULL, 0);
-    expect(bound.status == TCRX_DONE && bound.count > TCRX_POOL_OCTETS, "a bound over the pool");
-    expect(tcrx_channel_new(&channel, settings, &queue, 1, NULL, 0) == TCRX_DONE, "a channel");
-    open_runs(&frames, &runs);
-    send_packet(0);
-    check_starved();
-    check_remedy();
-    expect(tcrx_channel_free(&channel) == TCRX_DONE, "what is freed");
-    printf("%d octets of %" PRIu64 ": %lu frames opened %lu runs, %d releases without memory, then freed again; %lu wrong\n",
-           TCRX_POOL_OCTETS, bound.count, frames, runs, TRIES, failed);
-    return failed == 0 && runs > 0 ? 0 : 1;
+    uint8_t ns = 0;
+    expect(tcrx_channel_new_with_limits(&channel, settings, &queue, 1, NULL, 0, LIMIT, NULL, 0) == TCRX_DONE, "a channel");
+    expect(tcrx_static_size - tcrx_storage_used() < 128, "the storage that it took");
+    tcrx_storage_seal();
+    for (unsigned long i = 0; i < TRIES; i++) {
+        open_runs(true, 1 + i % 3, &ns);
+        open_runs(false, 1 + i % 3, &ns);
+        check_packet(&ns);
+    }
+    expect(bring((tcrx_header){42, 1, 0, 1, 1}, (const uint8_t[]){0}, 1).event == 7, "an Unlock");
+    check_packet(&ns);
+    printf("%zu octets, sealed: %d times 126 open runs, and nothing was refused; %lu wrong\n", tcrx_storage_used(), TRIES, failed);
+    return failed == 0 ? 0 : 1;
 }

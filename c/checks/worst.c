@@ -100,6 +100,7 @@ static unsigned long long call_without_a_channel(void) {
     const tcrx_settings settings = {1, 10, 64, 0, 1};
     const tcrx_queue queue = {5, 1};
     const tcrx_map map = {3, 1};
+    const tcrx_limit limit = {3, 1024};
     const size_t count = make(BD, UNSEGMENTED | PACKETS, 0, 0, BODY);
     const tcrx_frame read = tcrx_read_frame(frame, count);
     const tcrx_farm_answer start = tcrx_farm_start(10, 0);
@@ -109,7 +110,8 @@ static unsigned long long call_without_a_channel(void) {
                                     tcrx_write_frame(read.header, frame + 5, 1019, taken, sizeof taken).status,
                                     tcrx_read_packet(frame + 6, BODY).status, tcrx_farm_step(start.farm, TCRX_AD, 0, 1).status,
                                     tcrx_read_clcw(word.word).status, tcrx_text(TCRX_NO_ROOM, text, sizeof text).status,
-                                    tcrx_memory_bound(settings, &queue, 1, &map, 1).status};
+                                    tcrx_storage(settings, &queue, 1, &map, 1).status,
+                                    tcrx_storage_with_limits(settings, &queue, 1, &map, 1, 0, &limit, 1).status};
     unsigned long long refused = 0;
     for (size_t i = 0; i < sizeof statuses / sizeof statuses[0]; i++) {
         refused += statuses[i] != TCRX_DONE;

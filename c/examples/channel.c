@@ -1,13 +1,14 @@
 /*
  * The main loop of a receiver in flight over a channel that the library holds: in each cycle a frame comes in, data fields are
- * released as far as the queues have room, packets go to their applications, and a CLCW goes out.
+ * released as far as the queues have room, packets go to their applications, and a CLCW goes out. All memory is asked for by start().
+ * Where it is compiled with SEALED, it is linked with tcrx_static.c: the memory is an array, and a request for more would be a trap.
  */
 #include <tcrx.h>
 
 #include <inttypes.h>
 #include <stdio.h>
 
-enum { SPACECRAFT = 42, CHANNEL = 1, PAYLOAD_MAP = 2, MOST_PACKET = 256 };
+enum { SPACECRAFT = 42, CHANNEL = 1, PACKET_MAP = 0, PAYLOAD_MAP = 2, MOST_UNIT = 256, BUFFER = 2, PACKETS = 8, PAYLOADS = 4 };
 
 typedef struct {
     uint16_t apid;
@@ -23,7 +24,11 @@ static void set_mode(const uint8_t *packet, size_t count) {
 }
 
 static const application applications[] = {{5, switch_heater}, {9, set_mode}};
-enum { APPLICATIONS = sizeof applications / sizeof applications[0] };
+enum { APPLICATIONS = sizeof applications / sizeof applications[0], ITEMS = APPLICATIONS * PACKETS + PAYLOADS };
+
+#ifdef SEALED
+TCRX_STATIC_STORAGE(TCRX_STORAGE_OF(1, BUFFER, APPLICATIONS, 1, ITEMS, 2, 2 * MOST_UNIT, MOST_UNIT));
+#endif
 
 static int print_refusal(tcrx_status status) {
     char text[TCRX_TEXT_ROOM];
@@ -32,14 +37,19 @@ static int print_refusal(tcrx_status status) {
 }
 
 static tcrx_status start(tcrx_channel *channel) {
-    const tcrx_settings settings = {CHANNEL, 10, 2, 0, 1};
-    const tcrx_map payload = {PAYLOAD_MAP, 4};
+    const tcrx_settings settings = {CHANNEL, 10, BUFFER, 0, 1};
+    const tcrx_map payload = {PAYLOAD_MAP, PAYLOADS};
+    const tcrx_limit limits[] = {{PACKET_MAP, MOST_UNIT}, {PAYLOAD_MAP, MOST_UNIT}};
     tcrx_queue queues[APPLICATIONS];
     for (size_t i = 0; i < APPLICATIONS; i++) {
         queues[i].apid = applications[i].apid;
-        queues[i].capacity = 8;
+        queues[i].capacity = PACKETS;
     }
-    return tcrx_channel_new(channel, settings, queues, APPLICATIONS, &payload, 1);
+    const tcrx_status status = tcrx_channel_new_with_limits(channel, settings, queues, APPLICATIONS, &payload, 1, 0, limits, 2);
+#ifdef SEALED
+    tcrx_storage_seal();
+#endif
+    return status;
 }
 
 static void bring(tcrx_channel *channel, const uint8_t *octets, size_t count) {
@@ -73,7 +83,7 @@ static void release_all(tcrx_channel *channel) {
 
 /* Packets to their applications, and units of the payload's MAP. */
 static void deliver(tcrx_channel *channel) {
-    uint8_t octets[MOST_PACKET];
+    uint8_t octets[MOST_UNIT];
     for (size_t i = 0; i < APPLICATIONS; i++) {
         tcrx_written packet = tcrx_channel_take(channel, applications[i].apid, octets, sizeof octets);
         for (; packet.status == TCRX_DONE; packet = tcrx_channel_take(channel, applications[i].apid, octets, sizeof octets)) {

@@ -42,7 +42,7 @@ from typing import Any, Dict, Iterator, List, Mapping, NoReturn, Optional, Tuple
 from tcrx import (Brought, Clcw, Delivery, Ended, Event, Fault, Final, NotSetUp, NotStarted, Packet, Refusal, Refused, Released, Report,
                   State, Unit)
 
-__all__ = ["BadSettings", "Channel", "Frame", "NoMemory", "find_library", "memory_bound", "read_frame"]
+__all__ = ["BadSettings", "Channel", "Frame", "NoMemory", "find_library", "read_frame", "storage"]
 
 LIBRARY = "libtcrx.so.0"
 DONE, NO_MEMORY, NO_ROOM, NO_CHANNEL, TEXT_ROOM = 0, 13, 50, 70, 64
@@ -62,7 +62,7 @@ class BadSettings(Fault):
 
 
 class NoMemory(Fault, MemoryError):
-    """There is no memory for the call; the channel is as it was, and the call can be made again."""
+    """There is no memory for a channel. Once one is made, none of its calls asks for any."""
 
 
 # Records of C have fields alone.
@@ -77,6 +77,10 @@ class _Queue(Structure):
 
 class _Map(Structure):
     _fields_ = [("map", c_uint8), ("capacity", c_uint16)]
+
+
+class _Limit(Structure):
+    _fields_ = [("map", c_uint8), ("octets", c_uint32)]
 
 
 class _Held(Structure):
@@ -121,13 +125,16 @@ class _Count(Structure):
 
 # pylint: enable=too-few-public-methods
 _LISTS = [_Settings, POINTER(_Queue), c_size_t, POINTER(_Map), c_size_t]
+_LIMITS = [c_uint32, POINTER(_Limit), c_size_t]
 _HELD = POINTER(_Held)
 # What each function takes and answers, as the header declares it.
 CALLS: Dict[str, Tuple[Any, List[Any]]] = {
     "tcrx_text_at": (_Written, [c_uint32, c_void_p, c_size_t]),
     "tcrx_read_frame_at": (_Frame, [c_char_p, c_size_t]),
-    "tcrx_memory_bound_at": (_Count, _LISTS),
+    "tcrx_storage_at": (_Count, _LISTS),
+    "tcrx_storage_with_limits_at": (_Count, [*_LISTS, *_LIMITS]),
     "tcrx_channel_new_at": (c_uint32, [_HELD, *_LISTS]),
+    "tcrx_channel_new_with_limits_at": (c_uint32, [_HELD, *_LISTS, *_LIMITS]),
     "tcrx_channel_frame_at": (_Reply, [_HELD, c_char_p, c_size_t]),
     "tcrx_channel_release_at": (_Delivery, [_HELD]),
     "tcrx_channel_take_at": (_Written, [_HELD, c_uint16, c_void_p, c_size_t]),
@@ -198,6 +205,12 @@ def lists_of(vcid: int, width: int, buffer: int, first: int, plain: bool, queues
             (_Map * max(1, len(its_maps)))(*its_maps), len(its_maps))
 
 
+def limits_of(limits: Mapping[int, int], others: int) -> Tuple[Any, ...]:
+    """The arguments that limits are passed by."""
+    listed = [_Limit(in_range(map_id, 255, "a MAP"), in_range(octets, 2**32 - 1, "a limit")) for map_id, octets in limits.items()]
+    return (in_range(others, 2**32 - 1, "others"), (_Limit * max(1, len(listed)))(*listed), len(listed))
+
+
 def check_made(library: ctypes.PyDLL, status: int) -> None:
     """Raises why settings were refused."""
     if status == NO_MEMORY:
@@ -206,12 +219,16 @@ def check_made(library: ctypes.PyDLL, status: int) -> None:
         raise BadSettings(text_of(library, status))
 
 
-def memory_bound(vcid: int, *, width: int, buffer: int, first: int, plain: bool = False,
-                 queues: Optional[Mapping[int, int]] = None, maps: Optional[Mapping[int, int]] = None,
-                 library: Union[str, "os.PathLike[str]", None] = None) -> int:
-    """The most octets that a channel of these settings has asked for and not given back, at any moment and with any frames."""
+# pylint: disable-next=too-many-arguments  # they are the settings and the limits of a channel
+def storage(vcid: int, *, width: int, buffer: int, first: int, plain: bool = False,
+            queues: Optional[Mapping[int, int]] = None, maps: Optional[Mapping[int, int]] = None,
+            limits: Optional[Mapping[int, int]] = None, others: int = 0,
+            library: Union[str, "os.PathLike[str]", None] = None) -> int:
+    """How many octets the making of a channel of these settings and limits asks for. No other call of the channel asks for any."""
     loaded = load(library)
-    answer = loaded.tcrx_memory_bound_at(*lists_of(vcid, width, buffer, first, plain, queues, maps))
+    lists = lists_of(vcid, width, buffer, first, plain, queues, maps)
+    answer = (loaded.tcrx_storage_at(*lists) if limits is None else
+              loaded.tcrx_storage_with_limits_at(*lists, *limits_of(limits, others)))
     check_made(loaded, answer.status)
     return int(answer.count)
 
@@ -260,10 +277,12 @@ class Channel:
 
     def __init__(self, vcid: int, *, width: int, buffer: int, first: int, plain: bool = False,
                  queues: Optional[Mapping[int, int]] = None, maps: Optional[Mapping[int, int]] = None,
+                 limits: Optional[Mapping[int, int]] = None, others: int = 0,
                  library: Union[str, "os.PathLike[str]", None] = None) -> None:
         """Makes a virtual channel (0 to 63): the width of its window (even, 2 to 254), how many data fields its buffer holds (1 to
         64), its first V(R) (0 to 255), and whether its data fields have no segment headers; the room of its queues by application,
-        and of those by MAP, 1 to 256 each. `library` is the path of libtcrx.so.0; without it, it is looked for by `find_library`.
+        and of those by MAP, 1 to 256 each. `limits` has the most octets of a unit by MAP, 1 to 65,542, and `others` is the limit of
+        each MAP that it doesn't list; without `limits` each unit may have 65,542. `library` is the path of libtcrx.so.0; without it, it is looked for by `find_library`.
 
         Raises `NotStarted` where the library isn't there, `BadSettings`, and `NoMemory`.
         """
@@ -277,7 +296,8 @@ class Channel:
         self._room = ctypes.create_string_buffer(FIRST_ROOM)
         self._seen = memoryview(self._room)
         lists = lists_of(vcid, width, buffer, first, plain, queues, maps)
-        check_made(self._library, self._library.tcrx_channel_new_at(self._at, *lists))
+        check_made(self._library, self._library.tcrx_channel_new_at(self._at, *lists) if limits is None else
+                   self._library.tcrx_channel_new_with_limits_at(self._at, *lists, *limits_of(limits, others)))
         self._finalizer = weakref.finalize(self, free, self._library, self._held)
 
     def __reduce__(self) -> NoReturn:
@@ -287,8 +307,6 @@ class Channel:
         """Raises what leaves a call without an answer."""
         if status == NO_CHANNEL:
             raise Ended(None, "it was closed")
-        if status == NO_MEMORY:
-            raise NoMemory(text_of(self._library, status))
         raise Fault(text_of(self._library, status))
 
     def _refuse(self, status: int) -> Refused:

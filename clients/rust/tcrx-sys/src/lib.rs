@@ -64,6 +64,12 @@ numbers! {
     NO_QUEUE: Status = 72;
     NO_MAP: Status = 73;
     EMPTY: Status = 74;
+    BAD_OTHERS: Status = 80;
+    BAD_LIMIT_MAP: Status = 81;
+    DOUBLE_LIMIT: Status = 82;
+    BAD_LIMIT: Status = 83;
+    PLAIN_LIMIT: Status = 84;
+    UNLISTED_MAP: Status = 85;
     TEXT_ROOM: usize = 64;
     OPEN: u8 = 1;
     WAIT: u8 = 2;
@@ -123,6 +129,8 @@ records! {
     Queue as "tcrx_queue" { apid: u16, capacity: u16 }
     /// A chosen MAP.
     Map as "tcrx_map" { map: u8, capacity: u16 }
+    /// The limit of one MAP.
+    Limit as "tcrx_limit" { map: u8, octets: u32 }
     /// What a frame came to.
     Reply as "tcrx_reply" { status: Status, queued: u32, dropped: u32, event: u8, accepted: u8, rest: u8 }
     /// What became of the unit that a release ended.
@@ -153,13 +161,24 @@ extern "C" {
     pub fn tcrx_write_frame_at(header: Header, field: *const u8, field_count: usize, octets: *mut u8, room: usize) -> Written;
     /// Reads the packet at the front of octets.
     pub fn tcrx_read_packet_at(octets: *const u8, count: usize) -> Packet;
-    /// The most octets that a channel comes to hold.
-    pub fn tcrx_memory_bound_at(
+    /// How many octets the making of a channel asks for.
+    pub fn tcrx_storage_at(
         settings: Settings,
         queues: *const Queue,
         queue_count: usize,
         maps: *const Map,
         map_count: usize,
+    ) -> Count;
+    /// The same within limits.
+    pub fn tcrx_storage_with_limits_at(
+        settings: Settings,
+        queues: *const Queue,
+        queue_count: usize,
+        maps: *const Map,
+        map_count: usize,
+        others: u32,
+        limits: *const Limit,
+        limit_count: usize,
     ) -> Count;
     /// Makes a channel.
     pub fn tcrx_channel_new_at(
@@ -169,6 +188,18 @@ extern "C" {
         queue_count: usize,
         maps: *const Map,
         map_count: usize,
+    ) -> Status;
+    /// Makes a channel within limits.
+    pub fn tcrx_channel_new_with_limits_at(
+        channel: *mut Channel,
+        settings: Settings,
+        queues: *const Queue,
+        queue_count: usize,
+        maps: *const Map,
+        map_count: usize,
+        others: u32,
+        limits: *const Limit,
+        limit_count: usize,
     ) -> Status;
     /// Gives a channel a frame.
     pub fn tcrx_channel_frame_at(channel: *mut Channel, octets: *const u8, count: usize) -> Reply;

@@ -1,11 +1,10 @@
-//! The memory of channels over `malloc`, `realloc` and `free`: `c/tcrx_memory.c`, for programs that link `libtcrx.a`.
+//! The memory of channels over `malloc` and `free`: `c/tcrx_memory.c`, for programs that link `libtcrx.a`.
 
 use core::ffi::c_void;
 use core::ptr::addr_of_mut;
 
 extern "C" {
     fn malloc(count: usize) -> *mut c_void;
-    fn realloc(at: *mut c_void, count: usize) -> *mut c_void;
     fn free(at: *mut c_void);
 }
 
@@ -30,22 +29,11 @@ extern "C" fn rattle_alloc(count: usize, alignment: usize) -> Block {
     answer(unsafe { malloc(if count == 0 { alignment } else { count }) })
 }
 
-/// The block with another count of octets.
-///
-/// # Safety
-///
-/// The block is one that these functions gave, and has not been given back.
-#[no_mangle]
-unsafe extern "C" fn rattle_realloc(at: *mut c_void, _kept: usize, count: usize, alignment: usize) -> Block {
-    // SAFETY: the block is one of malloc's, by the caller's word.
-    answer(unsafe { realloc(at, if count == 0 { alignment } else { count }) })
-}
-
 /// Takes a block back.
 ///
 /// # Safety
 ///
-/// The block is one that these functions gave, and has not been given back.
+/// The block is one that `rattle_alloc` gave, and has not been given back.
 #[no_mangle]
 unsafe extern "C" fn rattle_dealloc(at: *mut c_void) {
     // SAFETY: the block is one of malloc's, by the caller's word.

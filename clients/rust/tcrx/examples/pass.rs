@@ -41,7 +41,7 @@ fn command(count: u8, value: u8) -> [u8; 8] {
 fn main() -> Result<(), Box<dyn std::error::Error>> {
     let queues = [Queue { apid: HEATER, capacity: 8 }];
     let settings = Settings { vcid: CHANNEL, width: 10, buffer: 4, first_vr: 0, segmented: true, queues: &queues, maps: &[] };
-    println!("the channel takes at most {} octets", settings.memory_bound()?);
+    println!("the channel takes {} octets", settings.storage()?);
     let mut spacecraft = Spacecraft { channel: Channel::new(&settings)? };
     let commands: Vec<[u8; 8]> = (0..5).map(|count| command(count, 10 + count)).collect();
     let (mut acknowledged, mut sent, mut next) = (0, 0, 0);

@@ -31,17 +31,50 @@ impl Settings<'_> {
         sys::Settings { vcid, width, buffer, first_vr, segmented: self.segmented.into() }
     }
 
-    /// The most octets that a channel of these settings has asked for and not given back, at any moment and with any frames.
-    pub fn memory_bound(&self) -> Result<u64, SettingsError> {
+    /// How many octets the making of a channel of these settings asks for. No other call of the channel asks for any.
+    pub fn storage(&self) -> Result<u64, SettingsError> {
         let (queues, maps) = (self.queues, self.maps);
         // SAFETY: both pointers are to as many entries as the counts say.
-        let answer = unsafe { sys::tcrx_memory_bound_at(self.record(), queues.as_ptr(), queues.len(), maps.as_ptr(), maps.len()) };
+        let answer = unsafe { sys::tcrx_storage_at(self.record(), queues.as_ptr(), queues.len(), maps.as_ptr(), maps.len()) };
         if answer.status == sys::DONE {
             Ok(answer.count)
         } else {
             Err(SettingsError::of(answer.status, 0))
         }
     }
+
+    /// The same within limits.
+    pub fn storage_with_limits(&self, limits: &Limits<'_>) -> Result<u64, SettingsError> {
+        let (queues, maps, listed) = (self.queues, self.maps, limits.maps);
+        // SAFETY: the pointers are to as many entries as the counts say.
+        let answer = unsafe {
+            sys::tcrx_storage_with_limits_at(
+                self.record(),
+                queues.as_ptr(),
+                queues.len(),
+                maps.as_ptr(),
+                maps.len(),
+                limits.others,
+                listed.as_ptr(),
+                listed.len(),
+            )
+        };
+        if answer.status == sys::DONE {
+            Ok(answer.count)
+        } else {
+            Err(SettingsError::of(answer.status, 0))
+        }
+    }
+}
+
+/// How long the units of each MAP may be. A longer unit is dropped where it ends, and no answer says so.
+#[derive(Clone, Copy, Debug, Default, PartialEq, Eq)]
+pub struct Limits<'list> {
+    /// The most octets of a unit of each MAP that isn't listed, at most 65,542. With segment headers it may be 0: such a MAP then
+    /// ends no unit but the empty one. Without them it is the limit of each data field.
+    pub others: u32,
+    /// The MAPs with a limit of their own; none without segment headers.
+    pub maps: &'list [sys::Limit],
 }
 
 /// What became of the unit that an operation ended. Where it ended none, nothing was queued or dropped.
@@ -92,13 +125,38 @@ pub struct Channel(UnsafeCell<sys::Channel>);
 unsafe impl Send for Channel {}
 
 impl Channel {
-    /// Makes a channel.
+    /// Makes a channel. All memory that it ever has is asked for here; a unit has 65,542 octets at most.
     pub fn new(settings: &Settings<'_>) -> Result<Self, SettingsError> {
         let mut held = sys::HOLDS_NONE;
         let (queues, maps) = (settings.queues, settings.maps);
         // SAFETY: the channel holds none, and both lists have as many entries as the counts say.
         let status = unsafe {
             sys::tcrx_channel_new_at(&mut held, settings.record(), queues.as_ptr(), queues.len(), maps.as_ptr(), maps.len())
+        };
+        if status == sys::DONE {
+            Ok(Channel(UnsafeCell::new(held)))
+        } else {
+            Err(SettingsError::of(status, 0))
+        }
+    }
+
+    /// Makes a channel within limits, which asks for less memory.
+    pub fn with_limits(settings: &Settings<'_>, limits: &Limits<'_>) -> Result<Self, SettingsError> {
+        let mut held = sys::HOLDS_NONE;
+        let (queues, maps, listed) = (settings.queues, settings.maps, limits.maps);
+        // SAFETY: the channel holds none, and the lists have as many entries as the counts say.
+        let status = unsafe {
+            sys::tcrx_channel_new_with_limits_at(
+                &mut held,
+                settings.record(),
+                queues.as_ptr(),
+                queues.len(),
+                maps.as_ptr(),
+                maps.len(),
+                limits.others,
+                listed.as_ptr(),
+                listed.len(),
+            )
         };
         if status == sys::DONE {
             Ok(Channel(UnsafeCell::new(held)))

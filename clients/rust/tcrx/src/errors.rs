@@ -130,6 +130,18 @@ refusals! {
         BadUnits = BAD_UNITS,
         /// A channel without segment headers has no MAPs.
         PlainMap = PLAIN_MAP,
+        /// The limit of the other MAPs is over 65,542 octets, or 0 without segment headers.
+        BadOthers = BAD_OTHERS,
+        /// The MAP of a limit is over 63.
+        BadLimitMap = BAD_LIMIT_MAP,
+        /// A MAP has two limits.
+        DoubleLimit = DOUBLE_LIMIT,
+        /// The limit of a MAP isn't 1 to 65,542 octets.
+        BadLimit = BAD_LIMIT,
+        /// A channel without segment headers has no limits by MAP.
+        PlainLimit = PLAIN_LIMIT,
+        /// A chosen MAP has no limit.
+        UnlistedMap = UNLISTED_MAP,
         /// Out of memory.
         NoMemory = NO_MEMORY,
     }
@@ -148,8 +160,6 @@ refusals! {
         LengthSmall = LENGTH_SMALL,
         /// The frame length names more octets than there are.
         Truncated = TRUNCATED,
-        /// Out of memory, which a Type-BD frame alone meets; the call can be made again.
-        NoMemory = NO_MEMORY,
     }
 }
 
@@ -158,8 +168,6 @@ refusals! {
     ReleaseError {
         /// Nothing waits in the buffer.
         Empty = EMPTY,
-        /// Out of memory; the call can be made again.
-        NoMemory = NO_MEMORY,
     }
 }
 

@@ -31,7 +31,7 @@ mod channel;
 mod errors;
 mod link;
 
-pub use channel::{Brought, Channel, Delivery, Link, Settings};
+pub use channel::{Brought, Channel, Delivery, Limits, Link, Settings};
 pub use errors::{BringError, FarmError, FrameError, ReleaseError, SettingsError, TakeError, WriteError};
 pub use link::{Arrival, Clcw, Event, Farm, Frame, Header, Kind, Packet, State, Step};
-pub use tcrx_sys::{Map, Queue};
+pub use tcrx_sys::{Limit, Map, Queue};

@@ -81,14 +81,38 @@ fn refused_settings_say_why() {
     ];
     for (settings, error) in tried {
         assert_eq!(Channel::new(&settings).err(), Some(error));
-        assert_eq!(settings.memory_bound(), Err(error));
+        assert_eq!(settings.storage(), Err(error));
         assert!(!error.to_string().is_empty() && !error.to_string().starts_with("status"), "{error}");
     }
-    assert!(SETTINGS.memory_bound().expect("settings") > 65_542);
+    assert!(SETTINGS.storage().expect("settings") > 65_542);
     let boxed: Box<dyn Error> = SettingsError::BadWidth.into();
     assert_eq!(boxed.to_string(), "the width of the window isn't even and 2 to 254");
     assert_eq!(SettingsError::Other(99).to_string(), "status 99");
     assert_eq!((SettingsError::BadWidth.status(), SettingsError::Other(99).status()), (20, 99));
+}
+
+#[test]
+fn refused_limits_say_why() {
+    let plain = Settings { segmented: false, maps: &[], ..SETTINGS };
+    let (two, high) = (Limit { map: 2, octets: 9 }, Limit { map: 64, octets: 9 });
+    let tried = [
+        (SETTINGS, Limits { others: 65_543, maps: &[] }, SettingsError::BadOthers),
+        (SETTINGS, Limits { others: 9, maps: &[high] }, SettingsError::BadLimitMap),
+        (SETTINGS, Limits { others: 9, maps: &[two, two] }, SettingsError::DoubleLimit),
+        (SETTINGS, Limits { others: 9, maps: &[Limit { map: 2, octets: 0 }] }, SettingsError::BadLimit),
+        (plain, Limits { others: 9, maps: &[two] }, SettingsError::PlainLimit),
+        (SETTINGS, Limits::default(), SettingsError::UnlistedMap),
+    ];
+    for (settings, limits, error) in tried {
+        assert_eq!(Channel::with_limits(&settings, &limits).err(), Some(error));
+        assert_eq!(settings.storage_with_limits(&limits), Err(error));
+        assert!(!error.to_string().starts_with("status"), "{error}");
+    }
+    let queues = [5, 6, 7, 8].map(|apid| Queue { apid, capacity: 8 });
+    let eight = Settings { buffer: 8, queues: &queues, maps: &[], ..SETTINGS };
+    let limits = Limits { others: 0, maps: &[Limit { map: 0, octets: 1_024 }] };
+    assert_eq!(eight.storage_with_limits(&limits), Ok(50_936));
+    assert!(Channel::with_limits(&eight, &limits).is_ok());
 }
 
 #[test]

@@ -1,14 +1,13 @@
-//! Each growth of memory refused in turn, in each kind of call, by memory of this program's own: the call says `NoMemory`, the
-//! channel is as it was, and the same call is done in the end. No block is left.
+//! Each block of a channel that is made refused in turn, by memory of this program's own: the call says `NoMemory`, and no block is
+//! left. No other call asks for any.
 
-use std::alloc::{alloc, dealloc, realloc, Layout};
+use std::alloc::{alloc, dealloc, Layout};
 use std::cell::Cell;
-use std::fmt::Debug;
 use std::ptr::null_mut;
-use tcrx::{BringError, Channel, Farm, Header, Link, Map, Queue, ReleaseError, Settings, SettingsError, TakeError};
+use tcrx::{Channel, Header, Limit, Limits, Map, Queue, Settings, SettingsError};
 
 thread_local! {
-    /// How many growths are given before one is refused; none is refused where it is none.
+    /// How many blocks are given before one is refused; none is refused where it is none.
     static GIVEN_FIRST: Cell<Option<u32>> = const { Cell::new(None) };
     static BLOCKS: Cell<i64> = const { Cell::new(0) };
 }
@@ -58,19 +57,6 @@ extern "C" fn rattle_alloc(count: usize, _alignment: usize) -> Block {
 }
 
 #[no_mangle]
-unsafe extern "C" fn rattle_realloc(at: *mut u8, _kept: usize, count: usize, _alignment: usize) -> Block {
-    if is_refused() {
-        return Block { given: false, at };
-    }
-    // SAFETY: the block is one of these functions.
-    unsafe {
-        let front = at.sub(FRONT);
-        let before = front.cast::<usize>().read();
-        answer(realloc(front, layout(before), count + FRONT), count)
-    }
-}
-
-#[no_mangle]
 unsafe extern "C" fn rattle_dealloc(at: *mut u8) {
     BLOCKS.set(BLOCKS.get() - 1);
     // SAFETY: the block is one of these functions.
@@ -80,30 +66,12 @@ unsafe extern "C" fn rattle_dealloc(at: *mut u8) {
     }
 }
 
-/// All that can be asked of a channel.
-fn look(channel: &Channel) -> (u32, Farm, u64, [Option<u64>; 2], u64) {
-    let counts = [channel.queued(5), channel.units(2)];
-    (channel.clcw(Link::default()).word(), channel.report(), channel.buffered(), counts, channel.events())
-}
-
-/// Makes a call with each of its growths refused in turn, until it meets none. How many were refused.
-fn refusals<Answer: Debug, Error: PartialEq + Debug>(
-    channel: &mut Channel,
-    no_memory: Error,
-    mut call: impl FnMut(&mut Channel) -> Result<Answer, Error>,
-) -> u32 {
-    for growth in 0..1000 {
-        let before = look(channel);
-        GIVEN_FIRST.set(Some(growth));
-        let answer = call(channel);
-        if GIVEN_FIRST.replace(None).is_some() {
-            assert!(answer.is_ok(), "{answer:?} in the end");
-            return growth;
-        }
-        assert_eq!(answer.expect_err("a growth was refused"), no_memory);
-        assert_eq!(look(channel), before);
-    }
-    panic!("it asks for memory without end");
+/// Makes a call whose first block would be refused: it asks for none.
+fn without_memory<Answer>(call: impl FnOnce() -> Answer) -> Answer {
+    GIVEN_FIRST.set(Some(0));
+    let answer = call();
+    assert_eq!(GIVEN_FIRST.replace(None), Some(0), "a call asked for memory");
+    answer
 }
 
 fn frame(bypass: bool, field: &[u8]) -> Vec<u8> {
@@ -111,36 +79,41 @@ fn frame(bypass: bool, field: &[u8]) -> Vec<u8> {
     Header { scid: 42, vcid: 1, ns: 0, bypass, control: false }.write(field, &mut room).expect("a frame").to_vec()
 }
 
-#[test]
-fn each_growth_is_refused_in_turn() {
-    let (queues, maps) = ([Queue { apid: 5, capacity: 4 }], [Map { map: 2, capacity: 3 }]);
-    let settings = Settings { vcid: 1, width: 10, buffer: 4, first_vr: 0, segmented: true, queues: &queues, maps: &maps };
+/// A channel once no block of it is refused, and how many were.
+fn made(make: impl Fn() -> Result<Channel, SettingsError>) -> (Channel, u32) {
+    let before = BLOCKS.get();
     let mut refused = 0;
-    let mut channel = loop {
+    loop {
         GIVEN_FIRST.set(Some(refused));
-        match Channel::new(&settings) {
-            Ok(channel) => break channel,
-            Err(error) => assert_eq!((error, BLOCKS.get()), (SettingsError::NoMemory, 0)),
+        let answer = make();
+        GIVEN_FIRST.set(None);
+        match answer {
+            Ok(channel) => return (channel, refused),
+            Err(error) => assert_eq!((error, BLOCKS.get()), (SettingsError::NoMemory, before)),
         }
         refused += 1;
-    };
-    GIVEN_FIRST.set(None);
-    assert!(refused > 0);
+    }
+}
+
+#[test]
+fn each_block_is_refused_in_turn() {
+    let (queues, maps) = ([Queue { apid: 5, capacity: 4 }], [Map { map: 2, capacity: 3 }]);
+    let settings = Settings { vcid: 1, width: 10, buffer: 4, first_vr: 0, segmented: true, queues: &queues, maps: &maps };
+    let limits = Limits { others: 0, maps: &[Limit { map: 0, octets: 64 }, Limit { map: 2, octets: 3 }] };
+    let (unlimited, of_it) = made(|| Channel::new(&settings));
+    let (mut channel, of_the_other) = made(|| Channel::with_limits(&settings, &limits));
+    assert!(of_it > 0 && of_the_other > 0);
+    drop(unlimited);
     let frames =
         [frame(false, &[0xc0, 0x10, 0x05, 0xc0, 0x00, 0x00, 0x00, 0xaa]), frame(true, &[0x42, 1, 2]), frame(true, &[0x82, 3])];
     for octets in &frames {
-        refused += refusals(&mut channel, BringError::NoMemory, |channel| channel.frame(octets));
+        without_memory(|| channel.frame(octets)).expect("a frame");
     }
-    refused += refusals(&mut channel, ReleaseError::NoMemory, Channel::release);
-    // A take asks for no memory, so no growth of it can be refused.
+    without_memory(|| channel.release()).expect("a data field");
     let mut room = [0; 64];
-    let none = TakeError::Other(tcrx_sys::NO_MEMORY);
-    let of_takes = refusals(&mut channel, none, |channel| channel.take(5, &mut room).map(<[u8]>::len));
-    assert_eq!(room[..7], [0x10, 0x05, 0xc0, 0x00, 0x00, 0x00, 0xaa]);
-    assert_eq!(of_takes + refusals(&mut channel, none, |channel| channel.take_unit(2, &mut room).map(<[u8]>::len)), 0);
-    assert_eq!(room[..3], [1, 2, 3]);
-    println!("{refused} growths refused");
-    assert!(refused >= 8, "{refused} growths were refused");
+    assert_eq!(without_memory(|| channel.take(5, &mut room)), Ok(&[0x10, 0x05, 0xc0, 0x00, 0x00, 0x00, 0xaa][..]));
+    assert_eq!(without_memory(|| channel.take_unit(2, &mut room)), Ok(&[1, 2, 3][..]));
+    println!("{} blocks refused", of_it + of_the_other);
     assert!(BLOCKS.get() > 0);
     drop(channel);
     assert_eq!(BLOCKS.get(), 0, "no block is left");

@@ -1,0 +1,90 @@
+/*
+ * Asks tcrx_static.c for blocks of all sizes and alignments until its array is used up, a thousand times over anew in a process of its
+ * own each. Each block must be aligned, lie in the array, and keep its octets, so that two that overlap are found out; no block that
+ * fits may be refused, and one that is refused must cut nothing. Once the storage is sealed a request must stop the process by a trap,
+ * also one of no octets, and what gives a block back must not.
+ */
+#define _POSIX_C_SOURCE 200809L
+#include "../tcrx.h"
+
+#include <signal.h>
+#include <stdbool.h>
+#include <stdio.h>
+#include <string.h>
+#include <sys/wait.h>
+#include <unistd.h>
+
+typedef struct {
+    bool given;
+    void *at;
+} rattle_block;
+
+rattle_block rattle_alloc(size_t count, size_t alignment);
+void rattle_dealloc(void *at);
+
+enum { OCTETS = 100001, BLOCKS = 400, PROCESSES = 1000 };
+
+TCRX_STATIC_STORAGE(OCTETS);
+
+static struct { uint8_t *at; size_t count; } blocks[BLOCKS];
+static uint64_t state;
+
+static size_t below(size_t end) {
+    state ^= state << 13;
+    state ^= state >> 7;
+    state ^= state << 17;
+    return (size_t)(state >> 11) % end;
+}
+
+/* Fills the array with blocks; whether each was as it must be. */
+static bool fill(void) {
+    bool good = true;
+    for (size_t i = 0; i < BLOCKS; i++) {
+        const size_t alignment = (size_t)1 << below(5), count = below(4) == 0 ? below(3000) : below(200);
+        const size_t before = tcrx_storage_used();
+        const rattle_block block = rattle_alloc(count, alignment);
+        const size_t after = tcrx_storage_used();
+        good = good && block.at != NULL;
+        if (!block.given) {
+            good = good && after == before && count + alignment > OCTETS - before;
+            continue;
+        }
+        blocks[i].at = block.at;
+        blocks[i].count = count;
+        good = good && (uintptr_t)block.at % alignment == 0 && blocks[i].at >= tcrx_static_octets &&
+               blocks[i].at + count <= tcrx_static_octets + OCTETS && after >= before + count && after < before + count + alignment;
+        memset(block.at, (int)(i % 251), count);
+    }
+    for (size_t i = 0; i < BLOCKS; i++) {
+        for (size_t k = 0; k < blocks[i].count; k++) good = good && blocks[i].at[k] == i % 251;
+    }
+    return good;
+}
+
+/* What a process of its own comes to that fills the array, and then asks once more where that is sealed. */
+static int status_of(uint64_t seed, bool seals) {
+    const pid_t child = fork();
+    if (child == 0) {
+        state = UINT64_C(88172645463325252) + seed;
+        const bool good = fill();
+        if (seals) {
+            tcrx_storage_seal();
+            rattle_dealloc(blocks[0].at);
+            (void)rattle_alloc(seed % 2, 1 + seed % 2);
+        }
+        _exit(good ? 0 : 1);
+    }
+    int status = 0;
+    return child > 0 && waitpid(child, &status, 0) == child ? status : -1;
+}
+
+int main(void) {
+    unsigned long good = 0, trapped = 0;
+    for (uint64_t seed = 0; seed < PROCESSES; seed++) {
+        good += status_of(seed, false) == 0 ? 1 : 0;
+        const int status = status_of(seed, true);
+        trapped += WIFSIGNALED(status) && (WTERMSIG(status) == SIGILL || WTERMSIG(status) == SIGTRAP) ? 1 : 0;
+    }
+    printf("%lu arrays filled as they must be and %lu traps behind the seal, of %d\n", good, trapped, PROCESSES);
+    return good == PROCESSES && trapped == PROCESSES ? 0 : 1;
+}

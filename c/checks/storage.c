@@ -1,0 +1,239 @@
+/*
+ * Compares tcrx_storage and tcrx_storage_with_limits with the sum that docs/explanation/memory.md gives place by place, which is worked
+ * out here anew, for the settings of that page and for others of all sorts; their refusals with those of the calls that make a channel;
+ * and with the octets that the making of a channel then asks for: the storage, the channel's own block and the copies of the lists, and
+ * no more than TCRX_STORAGE_OF says. The last line says how many answers were as they must be.
+ *
+ * The memory is that of tcrx_memory.c, whose calls of malloc and free the linker leads here: by --wrap=malloc and --wrap=free.
+ */
+#include "../tcrx.h"
+
+#include <inttypes.h>
+#include <stdbool.h>
+#include <stdio.h>
+#include <stdlib.h>
+
+enum { MOST_QUEUES = 2047, MOST_MAPS = 64, LARGEST = 65542, OWN = 256, MADE = 2000000 };
+
+void *__real_malloc(size_t count);
+void __real_free(void *at);
+void *__wrap_malloc(size_t count);
+void __wrap_free(void *at);
+
+/* How many octets were asked for, and how many blocks are out. */
+static uint64_t asked, blocks;
+
+void *__wrap_malloc(size_t count) {
+    asked += count;
+    blocks += 1;
+    return __real_malloc(count);
+}
+
+void __wrap_free(void *at) {
+    blocks -= 1;
+    __real_free(at);
+}
+
+typedef struct {
+    tcrx_settings settings;
+    tcrx_queue queues[MOST_QUEUES + 1];
+    size_t queue_count;
+    tcrx_map maps[MOST_MAPS + 1];
+    size_t map_count;
+    bool limited;
+    uint32_t others;
+    tcrx_limit limits[MOST_MAPS + 1];
+    size_t limit_count;
+} plan;
+
+static unsigned long passed, failed;
+
+static void expect(bool good, const char *what, uint64_t place) {
+    passed += good ? 1 : 0;
+    failed += good ? 0 : 1;
+    if (!good && failed <= 20) {
+        printf("%s, case %" PRIu64 "\n", what, place);
+    }
+}
+
+static size_t below(size_t end) {
+    static uint64_t state = UINT64_C(88172645463325252);
+    state ^= state << 13;
+    state ^= state >> 7;
+    state ^= state << 17;
+    return (size_t)(state >> 11) % end;
+}
+
+/* The limit of a MAP, the largest of all, and all of them together. */
+static uint32_t limit_of(const plan *p, unsigned map) {
+    for (size_t i = 0; p->limited && i < p->limit_count; i++) {
+        if (p->limits[i].map == map) return p->limits[i].octets;
+    }
+    return p->limited ? p->others : LARGEST;
+}
+
+static uint32_t largest_of(const plan *p) {
+    uint32_t largest = p->limited ? p->others : LARGEST;
+    for (size_t i = 0; p->limited && i < p->limit_count; i++) {
+        if (p->limits[i].octets > largest) largest = p->limits[i].octets;
+    }
+    return p->settings.segmented == 0 && largest > 1019 ? 1019 : largest;
+}
+
+static uint64_t all_limits(const plan *p) {
+    uint64_t all = 0;
+    for (unsigned map = 0; map < MOST_MAPS; map++) all += limit_of(p, map);
+    return all;
+}
+
+static uint64_t items_of(const plan *p) {
+    uint64_t items = 0;
+    for (size_t i = 0; i < p->queue_count; i++) items += p->queues[i].capacity;
+    for (size_t i = 0; i < p->map_count; i++) items += p->maps[i].capacity;
+    return items;
+}
+
+/* The sum, by the places of the table. */
+static uint64_t sum(const plan *p) {
+    const uint64_t buffer = p->settings.buffer * (UINT64_C(64) + 1019);
+    const uint64_t runs = p->settings.segmented == 1 ? 128 * 40 + 2 * all_limits(p) : 0;
+    return buffer + runs + 72 * (p->queue_count + p->map_count) + items_of(p) * (64 + (uint64_t)largest_of(p));
+}
+
+static tcrx_count ask(const plan *p) {
+    return p->limited ? tcrx_storage_with_limits(p->settings, p->queues, p->queue_count, p->maps, p->map_count, p->others, p->limits,
+                                                 p->limit_count)
+                      : tcrx_storage(p->settings, p->queues, p->queue_count, p->maps, p->map_count);
+}
+
+static tcrx_status make(tcrx_channel *channel, const plan *p) {
+    return p->limited ? tcrx_channel_new_with_limits(channel, p->settings, p->queues, p->queue_count, p->maps, p->map_count,
+                                                     p->others, p->limits, p->limit_count)
+                      : tcrx_channel_new(channel, p->settings, p->queues, p->queue_count, p->maps, p->map_count);
+}
+
+/* The storage of settings that make a channel, or their refusal. A channel of much memory isn't made. */
+static void check(const plan *p, uint64_t place) {
+    tcrx_channel channel = TCRX_HOLDS_NONE;
+    asked = 0;
+    const tcrx_count storage = ask(p);
+    expect(asked == 0, "a storage that asks for memory", place);
+    expect(storage.count == (storage.status == TCRX_DONE ? sum(p) : 0), "a storage", place);
+    if (storage.count > MADE) {
+        return;
+    }
+    const tcrx_status made = make(&channel, p);
+    expect(storage.status == made, "the status of a storage", place);
+    if (made == TCRX_DONE) {
+        const size_t limits = p->limited ? p->limit_count : 0, lists = 4 * (p->queue_count + p->map_count) + 8 * limits;
+        const uint64_t most = TCRX_STORAGE_OF(p->settings.segmented, p->settings.buffer, p->queue_count, p->map_count, items_of(p),
+                                              limits, all_limits(p), largest_of(p));
+        expect(asked == storage.count + lists + OWN, "what the making asks for", place);
+        expect(asked + 63 < most && most <= asked + 128, "what TCRX_STORAGE_OF says", place);
+    } else {
+        expect(asked == 0, "a refusal that asks for memory", place);
+    }
+    expect(tcrx_channel_free(&channel) == (made == TCRX_DONE ? TCRX_DONE : TCRX_NO_CHANNEL) && blocks == 0, "what is freed", place);
+}
+
+/* So many queues and MAPs of so many places each, without limits. */
+static plan *plan_of(tcrx_settings settings, size_t queues, size_t capacity, size_t maps, size_t units) {
+    static plan p;
+    p.settings = settings;
+    p.queue_count = queues;
+    p.map_count = maps;
+    p.limited = false;
+    p.limit_count = 0;
+    for (size_t i = 0; i < queues; i++) {
+        p.queues[i].apid = (uint16_t)i;
+        p.queues[i].capacity = (uint16_t)capacity;
+    }
+    for (size_t i = 0; i < maps; i++) {
+        p.maps[i].map = (uint8_t)i;
+        p.maps[i].capacity = (uint16_t)units;
+    }
+    return &p;
+}
+
+/* The same within this limit on the first MAPs, and another one on the rest. */
+static plan *limited(plan *p, size_t maps, uint32_t octets, uint32_t others) {
+    p->limited = true;
+    p->others = others;
+    p->limit_count = maps;
+    for (size_t i = 0; i < maps; i++) {
+        p->limits[i].map = (uint8_t)i;
+        p->limits[i].octets = octets;
+    }
+    return p;
+}
+
+/* The numbers that docs/explanation/memory.md and c/README.md name, and the largest channel that there is. */
+static void check_named(void) {
+    const tcrx_settings two = {1, 10, 4, 0, 1}, plain = {1, 10, 4, 0, 0}, eight = {1, 10, 8, 0, 1}, one = {1, 10, 1, 0, 1};
+    const tcrx_settings many = {1, 10, 64, 0, 1};
+    expect(ask(plan_of(plain, 2, 4, 0, 0)).count == 13140, "a plain channel, two queues of 4", 0);
+    expect(ask(limited(plan_of(two, 2, 4, 0, 0), 1, 256, 0)).count == 12668, "two queues of 4, units of 256 on MAP 0", 0);
+    expect(ask(limited(plan_of(eight, 4, 8, 0, 0), 1, 256, 0)).count == 24824, "four queues of 8, units of 256 on MAP 0", 0);
+    expect(ask(limited(plan_of(eight, 4, 8, 0, 0), 1, 1024, 0)).count == 50936, "four queues of 8, units of 1,024 on MAP 0", 0);
+    expect(ask(limited(plan_of(eight, 4, 8, 0, 0), 0, 0, 1024)).count == 179960, "units of 1,024 on each MAP", 0);
+    expect(ask(plan_of(two, 2, 4, 0, 0)).count == 8923820, "two queues of 4, without limits", 0);
+    expect(ask(plan_of(eight, 4, 8, 0, 0)).count == 10502840, "four queues of 8, without limits", 0);
+    expect(ask(plan_of(one, 1, 1, 0, 0)).count == 8461257, "the channel `fixed_one`", 0);
+    expect(ask(plan_of(many, 70, 2, 3, 3)).count == 18244358, "the channel `fixed_many`", 0);
+    expect(ask(plan_of(many, MOST_QUEUES, 256, MOST_MAPS, 256)).count == sum(plan_of(many, MOST_QUEUES, 256, MOST_MAPS, 256)),
+           "the largest channel", 0);
+}
+
+/* Settings of all sorts, of which about half make a channel. */
+static void check_any(uint64_t place) {
+    const size_t odd = below(20);
+    const tcrx_settings settings = {(uint8_t)below(odd == 0 ? 256 : 64), (uint8_t)(odd == 1 ? below(256) : 2 + 2 * below(127)),
+                                    (uint8_t)(odd == 2 ? below(256) : 1 + below(64)), (uint8_t)below(256),
+                                    (uint8_t)below(odd == 3 ? 4 : 2)};
+    plan *p = plan_of(settings, below(below(4) == 0 ? 200 : 8), 1 + below(8), settings.segmented == 1 || odd == 4 ? below(8) : 0,
+                      1 + below(8));
+    if (p->queue_count > 0) {
+        tcrx_queue *queue = &p->queues[below(p->queue_count)];
+        if (odd == 5) queue->apid = (uint16_t)below(4000);
+        if (odd == 6) queue->capacity = (uint16_t)below(600);
+    }
+    if (p->map_count > 0) {
+        tcrx_map *map = &p->maps[below(p->map_count)];
+        if (odd == 7) map->map = (uint8_t)below(100);
+        if (odd == 8) map->capacity = (uint16_t)below(600);
+    }
+    if (below(8) != 0) {
+        const bool listed = settings.segmented == 1 || odd == 9;
+        limited(p, listed ? below(12) : 0, 1 + (uint32_t)below(2000), odd == 10 ? (uint32_t)below(80000) : (uint32_t)below(3000) / 2);
+        for (size_t i = 0; i < p->limit_count; i++) p->limits[i].octets = 1 + (uint32_t)below(2000);
+    }
+    if (p->limit_count > 0) {
+        tcrx_limit *limit = &p->limits[below(p->limit_count)];
+        if (odd == 11) limit->map = (uint8_t)below(100);
+        if (odd == 12) limit->octets = (uint32_t)below(131072);
+        if (odd == 13) p->others = 0;
+    }
+    check(p, place);
+}
+
+static void check_nothing(void) {
+    const plan *p = plan_of((tcrx_settings){1, 10, 4, 0, 1}, 0, 0, 0, 0);
+    const tcrx_count none = tcrx_storage(p->settings, NULL, 0, NULL, 0);
+    expect(none.status == TCRX_DONE && none.count == sum(p), "no queues and no MAPs", 0);
+    const tcrx_count queues = tcrx_storage(p->settings, NULL, 1, p->maps, 0);
+    expect(queues.status == TCRX_NULL && queues.count == 0, "queues that aren't there", 0);
+    const tcrx_count maps = tcrx_storage(p->settings, p->queues, 0, NULL, 1);
+    expect(maps.status == TCRX_NULL && maps.count == 0, "MAPs that aren't there", 0);
+    const tcrx_count limits = tcrx_storage_with_limits(p->settings, NULL, 0, NULL, 0, 0, NULL, 1);
+    expect(limits.status == TCRX_NULL && limits.count == 0, "limits that aren't there", 0);
+    const tcrx_count others = tcrx_storage_with_limits(p->settings, NULL, 0, NULL, 0, LARGEST, NULL, 0);
+    expect(others.status == TCRX_DONE && others.count == none.count, "the largest limit on each MAP", 0);
+}
+
+int main(void) {
+    check_named();
+    check_nothing();
+    for (uint64_t place = 0; place < 20000; place++) check_any(place);
+    printf("%lu answers about storage as they must be, %lu otherwise\n", passed, failed);
+    return failed == 0 && passed > 0 ? 0 : 1;
+}
