@@ -20,8 +20,9 @@ static uint8_t frames[2 * MOST_FRAME] __attribute__((aligned(16)));
 static tcrx_channel channel = TCRX_HOLDS_NONE;
 
 /* The heap of the module (heap.c). */
-void *heap_take(uint64_t count, uint64_t alignment);
-void *heap_resize(void *at, uint64_t kept, uint64_t count, uint64_t alignment);
+void *heap_cut(uint64_t count, uint64_t alignment);
+void heap_reserve(uint64_t count);
+void *heap_take(uint64_t count);
 void heap_give(void *at);
 
 /* What the library takes its memory by. In its LLVM module the two are numbers of 64 bits. */
@@ -31,7 +32,6 @@ typedef struct {
 } rattle_block;
 
 rattle_block rattle_alloc(size_t count, size_t alignment);
-rattle_block rattle_realloc(void *at, size_t kept, size_t count, size_t alignment);
 void rattle_dealloc(void *at);
 
 static rattle_block block_of(void *at) {
@@ -39,16 +39,13 @@ static rattle_block block_of(void *at) {
     return block;
 }
 
+/* Only the making of the channel asks for memory, and the instance ends with the channel, so that nothing is given again. */
 rattle_block rattle_alloc(size_t count, size_t alignment) {
-    return block_of(heap_take(count, alignment));
-}
-
-rattle_block rattle_realloc(void *at, size_t kept, size_t count, size_t alignment) {
-    return block_of(heap_resize(at, kept, count, alignment));
+    return block_of(heap_cut(count, alignment));
 }
 
 void rattle_dealloc(void *at) {
-    heap_give(at);
+    (void)at;
 }
 
 static tcrx_farm farm_of(u32 first, u32 second) {
@@ -83,7 +80,7 @@ uint8_t *EXPORT(module_frames)(void) {
 
 /* Room for so many octets or entries in the module, until it is given back; null where there is none. */
 void *EXPORT(module_room)(u32 count) {
-    return heap_take(count, 1);
+    return heap_take(count);
 }
 
 u32 EXPORT(module_room_back)(void *at) {
@@ -164,14 +161,38 @@ u32 EXPORT(module_read_packet)(const uint8_t *octets, u32 count) {
     return answer.status;
 }
 
-u32 EXPORT(module_memory_bound)(const tcrx_queue *queues, u32 queue_count, const tcrx_map *maps, u32 map_count) {
-    const tcrx_count answer = tcrx_memory_bound_at(settings_given(), queues, queue_count, maps, map_count);
+u32 EXPORT(module_storage)(const tcrx_queue *queues, u32 queue_count, const tcrx_map *maps, u32 map_count) {
+    const tcrx_count answer = tcrx_storage_at(settings_given(), queues, queue_count, maps, map_count);
     answer_count(answer.count);
     return answer.status;
 }
 
+u32 EXPORT(module_storage_with_limits)(const tcrx_queue *queues, u32 queue_count, const tcrx_map *maps, u32 map_count, u32 others,
+                                       const tcrx_limit *limits, u32 limit_count) {
+    const tcrx_count answer =
+        tcrx_storage_with_limits_at(settings_given(), queues, queue_count, maps, map_count, others, limits, limit_count);
+    answer_count(answer.count);
+    return answer.status;
+}
+
+/* What a channel takes besides its storage: its own block, and a copy of each list. */
+static void reserve(tcrx_count storage, uint64_t entries) {
+    if (storage.status == TCRX_DONE) {
+        heap_reserve(storage.count + 1024 + 8 * entries);
+    }
+}
+
 u32 EXPORT(module_channel_new)(const tcrx_queue *queues, u32 queue_count, const tcrx_map *maps, u32 map_count) {
+    reserve(tcrx_storage_at(settings_given(), queues, queue_count, maps, map_count), (uint64_t)queue_count + map_count);
     return tcrx_channel_new_at(&channel, settings_given(), queues, queue_count, maps, map_count);
+}
+
+u32 EXPORT(module_channel_new_with_limits)(const tcrx_queue *queues, u32 queue_count, const tcrx_map *maps, u32 map_count,
+                                           u32 others, const tcrx_limit *limits, u32 limit_count) {
+    reserve(tcrx_storage_with_limits_at(settings_given(), queues, queue_count, maps, map_count, others, limits, limit_count),
+            (uint64_t)queue_count + map_count + limit_count);
+    return tcrx_channel_new_with_limits_at(&channel, settings_given(), queues, queue_count, maps, map_count, others, limits,
+                                           limit_count);
 }
 
 u32 EXPORT(module_channel_frame)(const uint8_t *octets, u32 count) {

@@ -4,6 +4,9 @@
  *
  *   channels SCID    for the spacecraft with this id
  *
+ * Where it is compiled with LIMITED, each channel has as its limit on each MAP the octets of all frames of the script that are for it,
+ * so that no unit is longer and each answer is the same.
+ *
  * Where it is compiled with SEALED, it is linked with tcrx_static.c, and the storage is sealed once all channels are made: a request
  * for memory by any call after that ends it.
  */
@@ -76,12 +79,72 @@ static void set_up(const char *what) {
     }
 }
 
+/* The script, line by line: it is read whole, so that the limits are known. */
+static char *lines;
+static size_t lines_length, lines_read;
+
+static void read_all(void) {
+    size_t room = 0;
+    for (size_t got = 1; got > 0; lines_length += got) {
+        if (room - lines_length < MOST_LINE) {
+            room = 2 * room + 2 * (size_t)MOST_LINE;
+            lines = realloc(lines, room);
+        }
+        got = lines == NULL ? 0 : fread(lines + lines_length, 1, room - lines_length - 1, stdin);
+    }
+    if (lines == NULL) {
+        fail("the script", TCRX_NO_MEMORY);
+    }
+    lines[lines_length] = '\0';
+}
+
+/* The next line, or false at the end of the script. */
+static bool next_line(void) {
+    if (lines_read == lines_length) {
+        return false;
+    }
+    const char *from = lines + lines_read, *end = memchr(from, '\n', lines_length - lines_read);
+    const size_t length = end == NULL ? lines_length - lines_read : (size_t)(end - from) + 1;
+    if (length > MOST_LINE) {
+        fail("a long line", TCRX_NO_ROOM);
+    }
+    memcpy(line, from, length);
+    line[length] = '\0';
+    lines_read += length;
+    return true;
+}
+
+#ifdef LIMITED
+/* The octets of all frames that are for each channel. */
+static size_t octets_for[CHANNELS];
+
+static void find_limits(void) {
+    while (next_line()) {
+        const char *what = strtok(line, " \t\r\n"), *digits = what != NULL && strcmp(what, "frame") == 0 ? word() : NULL;
+        if (digits != NULL && strlen(digits) > 5) {
+            const char third[3] = {digits[4], digits[5], '\0'};
+            octets_for[strtoul(third, NULL, 16) >> 2] += strlen(digits) / 2;
+        }
+    }
+    lines_read = 0;
+}
+
+static tcrx_status make(receiver *at) {
+    const size_t all = 1 + octets_for[at->settings.vcid];
+    const uint32_t limit = (uint32_t)(all < 65542 ? all : 65542);
+    return tcrx_channel_new_with_limits(&at->held, at->settings, at->queues, at->queue_count, at->maps, at->map_count, limit, NULL, 0);
+}
+#else
+static tcrx_status make(receiver *at) {
+    return tcrx_channel_new(&at->held, at->settings, at->queues, at->queue_count, at->maps, at->map_count);
+}
+#endif
+
 static void make_all(void) {
     for (size_t i = 0; i < CHANNELS && !made; i++) {
         receiver *at = &receivers[i];
         if (at->there) {
-            const tcrx_status status =
-                tcrx_channel_new(&at->held, at->settings, at->queues, at->queue_count, at->maps, at->map_count);
+            const tcrx_status status = make(at);
             if (status != TCRX_DONE) {
                 fail("channel", status);
             }
@@ -233,7 +296,11 @@ int main(int count, char **words) {
     if (count != 2) {
         return 2;
     }
-    while (fgets(line, sizeof line, stdin) != NULL) {
+    read_all();
+#ifdef LIMITED
+    find_limits();
+#endif
+    while (next_line()) {
         const char *what = strtok(line, " \t\r\n");
         if (what == NULL || what[0] == '#') {
             continue;

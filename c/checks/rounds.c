@@ -1,5 +1,5 @@
 /*
- * Makes so many rounds on a channel that the library holds: a Type-AD frame of 13 octets with the next N(S) is given to it,
+ * Makes so many rounds on a channel that the library holds, with units of 1,024 octets on MAP 0: a Type-AD frame of 13 octets with the next N(S) is given to it,
  * released, and its packet taken. It prints how many packets were taken.
  *
  *   rounds COUNT
@@ -12,9 +12,10 @@
 int main(int count, char **words) {
     const tcrx_settings settings = {1, 10, 4, 0, 1};
     const tcrx_queue queue = {5, 16};
+    const tcrx_limit limit = {0, 1024};
     tcrx_channel channel = TCRX_HOLDS_NONE;
     uint8_t frame[] = {0x00, 0x2a, 0x04, 0x0c, 0x00, 0xc0, 0x10, 0x05, 0xc0, 0x00, 0x00, 0x00, 0xaa}, packet[64];
-    if (count != 2 || tcrx_channel_new(&channel, settings, &queue, 1, NULL, 0) != TCRX_DONE) {
+    if (count != 2 || tcrx_channel_new_with_limits(&channel, settings, &queue, 1, NULL, 0, 0, &limit, 1) != TCRX_DONE) {
         return 2;
     }
     const unsigned long rounds = strtoul(words[1], NULL, 10);

@@ -2,7 +2,8 @@
  * Compares tcrx_storage and tcrx_storage_with_limits with the sum that docs/explanation/memory.md gives place by place, which is worked
  * out here anew, for the settings of that page and for others of all sorts; their refusals with those of the calls that make a channel;
  * and with the octets that the making of a channel then asks for: the storage, the channel's own block and the copies of the lists, and
- * no more than TCRX_STORAGE_OF says. The last line says how many answers were as they must be.
+ * no more than TCRX_STORAGE_OF says. The last line says how many answers were as they must be. With the word `rows` it prints the rows
+ * of the table of c/README.md.
  *
  * The memory is that of tcrx_memory.c, whose calls of malloc and free the linker leads here: by --wrap=malloc and --wrap=free.
  */
@@ -14,6 +15,14 @@
 #include <stdlib.h>
 
 enum { MOST_QUEUES = 2047, MOST_MAPS = 64, LARGEST = 65542, OWN = 256, MADE = 2000000 };
+
+/* The portable C asks for the memory of a whole instance; and machines that are slow make few of the channels. */
+#ifdef TCRX_MODULE
+enum { IS_EXACT = 0, EACH = 100 };
+#else
+enum { IS_EXACT = 1, EACH = 1 };
+#endif
+
 
 void *__real_malloc(size_t count);
 void __real_free(void *at);
@@ -117,9 +126,9 @@ static void check(const plan *p, uint64_t place) {
     tcrx_channel channel = TCRX_HOLDS_NONE;
     asked = 0;
     const tcrx_count storage = ask(p);
-    expect(asked == 0, "a storage that asks for memory", place);
+    expect(asked == 0 || IS_EXACT == 0, "a storage that asks for memory", place);
     expect(storage.count == (storage.status == TCRX_DONE ? sum(p) : 0), "a storage", place);
-    if (storage.count > MADE) {
+    if (storage.count > MADE || place % EACH != 0) {
         return;
     }
     const tcrx_status made = make(&channel, p);
@@ -128,12 +137,14 @@ static void check(const plan *p, uint64_t place) {
         const size_t limits = p->limited ? p->limit_count : 0, lists = 4 * (p->queue_count + p->map_count) + 8 * limits;
         const uint64_t most = TCRX_STORAGE_OF(p->settings.segmented, p->settings.buffer, p->queue_count, p->map_count, items_of(p),
                                               limits, all_limits(p), largest_of(p));
-        expect(asked == storage.count + lists + OWN, "what the making asks for", place);
-        expect(asked + 63 < most && most <= asked + 128, "what TCRX_STORAGE_OF says", place);
+        const uint64_t all = storage.count + lists + OWN;
+        expect(asked == all || IS_EXACT == 0, "what the making asks for", place);
+        expect(all + 63 < most && most <= all + 128, "what TCRX_STORAGE_OF says", place);
     } else {
-        expect(asked == 0, "a refusal that asks for memory", place);
+        expect(asked == 0 || IS_EXACT == 0, "a refusal that asks for memory", place);
     }
-    expect(tcrx_channel_free(&channel) == (made == TCRX_DONE ? TCRX_DONE : TCRX_NO_CHANNEL) && blocks == 0, "what is freed", place);
+    expect(tcrx_channel_free(&channel) == (made == TCRX_DONE ? TCRX_DONE : TCRX_NO_CHANNEL), "what is freed", place);
+    expect(blocks == 0 || IS_EXACT == 0, "blocks that are left", place);
 }
 
 /* So many queues and MAPs of so many places each, without limits. */
@@ -230,7 +241,44 @@ static void check_nothing(void) {
     expect(others.status == TCRX_DONE && others.count == none.count, "the largest limit on each MAP", 0);
 }
 
-int main(void) {
+/* A number with commas. */
+static const char *number(uint64_t value, char *text) {
+    char digits[24];
+    const int count = snprintf(digits, sizeof digits, "%" PRIu64, value);
+    size_t at = 0;
+    for (int i = 0; i < count; i++) {
+        if (i > 0 && (count - i) % 3 == 0) text[at++] = ',';
+        text[at++] = digits[i];
+    }
+    text[at] = '\0';
+    return text;
+}
+
+static void print_row(const char *settings, const char *limits, const plan *p) {
+    char storage[32], array[32];
+    const uint64_t most = TCRX_STORAGE_OF(p->settings.segmented, p->settings.buffer, p->queue_count, p->map_count, items_of(p),
+                                          p->limited ? p->limit_count : 0, all_limits(p), largest_of(p));
+    printf("| %s | %s | %s | %s |\n", settings, limits, number(ask(p).count, storage), number(most, array));
+}
+
+/* The rows of the table of c/README.md. */
+static void print_rows(void) {
+    const tcrx_settings two = {1, 10, 4, 0, 1}, plain = {1, 10, 4, 0, 0}, eight = {1, 10, 8, 0, 1};
+    const char *of_two = "segmented, buffer 4, two queues of 4", *of_four = "segmented, buffer 8, four queues of 8";
+    print_row("plain, buffer 4, two queues of 4", "none", plan_of(plain, 2, 4, 0, 0));
+    print_row(of_two, "256 on MAP 0, others 0", limited(plan_of(two, 2, 4, 0, 0), 1, 256, 0));
+    print_row(of_four, "256 on MAP 0, others 0", limited(plan_of(eight, 4, 8, 0, 0), 1, 256, 0));
+    print_row(of_four, "1,024 on MAP 0, others 0", limited(plan_of(eight, 4, 8, 0, 0), 1, 1024, 0));
+    print_row(of_four, "1,024 on each MAP", limited(plan_of(eight, 4, 8, 0, 0), 0, 0, 1024));
+    print_row(of_two, "none", plan_of(two, 2, 4, 0, 0));
+    print_row(of_four, "none", plan_of(eight, 4, 8, 0, 0));
+}
+
+int main(int count, char **words) {
+    if (count == 2 && words[1][0] == 'r') {
+        print_rows();
+        return 0;
+    }
     check_named();
     check_nothing();
     for (uint64_t place = 0; place < 20000; place++) check_any(place);

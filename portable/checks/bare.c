@@ -16,7 +16,7 @@ void abort(void);
 
 __attribute__((section(".vectors"), used)) const void *const vectors[] = {&stack_top, (const void *)reset};
 
-enum { WRITE_TEXT = 4, EXIT = 0x20, EXIT_REASON = 0x20026, MOST_WORDS = 6, MOST_OCTETS = 70000 };
+enum { WRITE_TEXT = 4, EXIT = 0x20, EXIT_REASON = 0x20026, MOST_WORDS = 6, MOST_UNIT = 256, MOST_OCTETS = 70000 };
 
 static int ask_host(int what, const void *with) {
     register int r0 __asm__("r0") = what;
@@ -119,7 +119,7 @@ static tcrx_queue queues[8];
 static size_t queue_count;
 
 static void make(void) {
-    const tcrx_status status = tcrx_channel_new(&channel, settings, queues, queue_count, NULL, 0);
+    const tcrx_status status = tcrx_channel_new_with_limits(&channel, settings, queues, queue_count, NULL, 0, MOST_UNIT, NULL, 0);
     if (status != TCRX_DONE) {
         say_field("no channel: ", status);
         end(1);

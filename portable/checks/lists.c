@@ -1,15 +1,16 @@
 /*
- * Lists of queues and of MAPs that are longer than any channel takes: each entry is looked at, the last one, too. Prints the status
+ * Lists of queues, of MAPs and of limits that are longer than any channel takes: each entry is looked at, the last one, too. Prints the status
  * of each call, for checks/targets, which compares them with those of the library of this machine.
  */
 #include "tcrx.h"
 
 #include <stdio.h>
 
-enum { LONGEST = 9000 };
+enum { LONGEST = 9000, LIMIT = 16 };
 
 static tcrx_queue queues[LONGEST];
 static tcrx_map maps[LONGEST];
+static tcrx_limit limits[LONGEST];
 
 static void try_lists(size_t queue_count, size_t map_count, uint16_t last_apid, uint8_t last_map) {
     const tcrx_settings settings = {1, 10, 4, 0, 1};
@@ -19,6 +20,8 @@ static void try_lists(size_t queue_count, size_t map_count, uint16_t last_apid, 
         queues[i].capacity = 1;
         maps[i].map = (uint8_t)(i % 64);
         maps[i].capacity = 1;
+        limits[i].map = maps[i].map;
+        limits[i].octets = LIMIT;
     }
     if (queue_count > 0) {
         queues[queue_count - 1].apid = last_apid;
@@ -26,8 +29,9 @@ static void try_lists(size_t queue_count, size_t map_count, uint16_t last_apid, 
     if (map_count > 0) {
         maps[map_count - 1].map = last_map;
     }
-    const tcrx_status bound = tcrx_memory_bound(settings, queues, queue_count, maps, map_count).status;
-    const tcrx_status made = tcrx_channel_new(&channel, settings, queues, queue_count, maps, map_count);
+    const tcrx_status bound = tcrx_storage_with_limits(settings, queues, queue_count, maps, map_count, LIMIT, limits, map_count).status;
+    const tcrx_status made =
+        tcrx_channel_new_with_limits(&channel, settings, queues, queue_count, maps, map_count, LIMIT, limits, map_count);
     const tcrx_status freed = tcrx_channel_free(&channel);
     printf("%zu queues, %zu MAPs, APID %u, MAP %u: %u %u %u\n", queue_count, map_count, (unsigned)last_apid, (unsigned)last_map,
            (unsigned)bound, (unsigned)made, (unsigned)freed);

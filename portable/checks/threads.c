@@ -25,7 +25,7 @@ static int make(receiver *at, uint8_t vcid, unsigned long rounds) {
     at->vcid = vcid;
     at->rounds = rounds;
     at->done = 0;
-    return tcrx_channel_new(&at->channel, settings, &queue, 1, NULL, 0) == TCRX_DONE;
+    return tcrx_channel_new_with_limits(&at->channel, settings, &queue, 1, NULL, 0, 256, NULL, 0) == TCRX_DONE;
 }
 
 static void make_round(receiver *at, unsigned long i) {

@@ -175,43 +175,59 @@ tcrx_packet tcrx_read_packet_at(const uint8_t *octets, size_t count) {
     return answer;
 }
 
-/* The settings of a channel in the memory of an instance, with its two lists, whole. */
+/* The settings and the limits of a channel, and where their lists are in the memory of an instance, whole. */
 typedef struct {
-    uint32_t queues, queue_count, maps, map_count;
-} lists;
+    tcrx_settings settings;
+    const tcrx_queue *queues;
+    size_t queue_count;
+    const tcrx_map *maps;
+    size_t map_count;
+    bool limited;
+    uint32_t others;
+    const tcrx_limit *limits;
+    size_t limit_count;
+    uint32_t at_queues, at_maps, at_limits;
+} plan;
 
-/* Room for the entries of a list, of four octets each: 0 where there is none. */
-static uint32_t list_room(tcrx_instance *at, size_t count) {
-    return count > UINT32_MAX / 4 ? 0 : (uint32_t)Z_tcrxZ_module_room(&at->module, 4 * (uint32_t)count);
+/* Room for the entries of a list, of so many octets each: 0 where there is none. */
+static uint32_t list_room(tcrx_instance *at, size_t count, uint32_t octets) {
+    return count > UINT32_MAX / octets ? 0 : (uint32_t)Z_tcrxZ_module_room(&at->module, octets * (uint32_t)count);
 }
 
-static void give_back(tcrx_instance *at, lists put) {
-    if (put.queues != 0) {
-        Z_tcrxZ_module_room_back(&at->module, put.queues);
-    }
-    if (put.maps != 0) {
-        Z_tcrxZ_module_room_back(&at->module, put.maps);
+static void give_back(tcrx_instance *at, const plan *put) {
+    const uint32_t places[] = {put->at_queues, put->at_maps, put->at_limits};
+    for (uint32_t i = 0; i < 3; i++) {
+        if (places[i] != 0) {
+            Z_tcrxZ_module_room_back(&at->module, places[i]);
+        }
     }
 }
 
-static bool put_lists(tcrx_instance *at, lists *put, const tcrx_queue *queues, size_t queue_count, const tcrx_map *maps,
-                      size_t map_count) {
-    const lists all = {list_room(at, queue_count), (uint32_t)queue_count, list_room(at, map_count), (uint32_t)map_count};
-    if (all.queues == 0 || all.maps == 0) {
-        give_back(at, all);
+/* Puts the lists into the memory of an instance; whether there was room for them. */
+static bool put_lists(tcrx_instance *at, plan *put) {
+    put->at_queues = list_room(at, put->queue_count, 4);
+    put->at_maps = list_room(at, put->map_count, 4);
+    put->at_limits = list_room(at, put->limit_count, 8);
+    if (put->at_queues == 0 || put->at_maps == 0 || put->at_limits == 0) {
+        give_back(at, put);
         return false;
     }
-    for (uint32_t i = 0; i < all.queue_count; i++) {
-        const uint16_t apid = queues[i].apid, capacity = queues[i].capacity;
+    for (uint32_t i = 0; i < put->queue_count; i++) {
+        const uint16_t apid = put->queues[i].apid, capacity = put->queues[i].capacity;
         const uint8_t entry[] = {(uint8_t)apid, (uint8_t)(apid >> 8), (uint8_t)capacity, (uint8_t)(capacity >> 8)};
-        tcrx_put(at, all.queues + 4 * i, entry, 4);
+        tcrx_put(at, put->at_queues + 4 * i, entry, 4);
     }
-    for (uint32_t i = 0; i < all.map_count; i++) {
-        const uint16_t capacity = maps[i].capacity;
-        const uint8_t entry[] = {maps[i].map, 0, (uint8_t)capacity, (uint8_t)(capacity >> 8)};
-        tcrx_put(at, all.maps + 4 * i, entry, 4);
+    for (uint32_t i = 0; i < put->map_count; i++) {
+        const uint16_t capacity = put->maps[i].capacity;
+        const uint8_t entry[] = {put->maps[i].map, 0, (uint8_t)capacity, (uint8_t)(capacity >> 8)};
+        tcrx_put(at, put->at_maps + 4 * i, entry, 4);
     }
-    *put = all;
+    for (uint32_t i = 0; i < put->limit_count; i++) {
+        const uint32_t most = put->limits[i].octets;
+        const uint8_t entry[] = {put->limits[i].map, 0,         0,           0,
+                                 (uint8_t)most,      (uint8_t)(most >> 8), (uint8_t)(most >> 16), (uint8_t)(most >> 24)};
+        tcrx_put(at, put->at_limits + 8 * i, entry, 8);
+    }
     return true;
 }
 
@@ -222,51 +238,65 @@ static void put_settings(tcrx_instance *at, tcrx_settings settings) {
     }
 }
 
-tcrx_count tcrx_memory_bound_at(tcrx_settings settings, const tcrx_queue *queues, size_t queue_count, const tcrx_map *maps,
-                                size_t map_count) {
+static tcrx_count storage(plan *asked) {
     tcrx_count answer = {TCRX_NO_MEMORY, 0};
     tcrx_instance *at = tcrx_instance_shared();
-    lists put;
-    if (put_lists(at, &put, queues, queue_count, maps, map_count)) {
-        put_settings(at, settings);
-        answer.status = Z_tcrxZ_module_memory_bound(&at->module, put.queues, put.queue_count, put.maps, put.map_count);
+    if (put_lists(at, asked)) {
+        const uint32_t queue_count = (uint32_t)asked->queue_count, map_count = (uint32_t)asked->map_count;
+        put_settings(at, asked->settings);
+        answer.status = asked->limited
+            ? Z_tcrxZ_module_storage_with_limits(&at->module, asked->at_queues, queue_count, asked->at_maps, map_count,
+                                                 asked->others, asked->at_limits, (uint32_t)asked->limit_count)
+            : Z_tcrxZ_module_storage(&at->module, asked->at_queues, queue_count, asked->at_maps, map_count);
         answer.count = count_of(at);
-        give_back(at, put);
+        give_back(at, asked);
     }
     tcrx_instance_back();
     return answer;
 }
 
+tcrx_count tcrx_storage_at(tcrx_settings settings, const tcrx_queue *queues, size_t queue_count, const tcrx_map *maps,
+                           size_t map_count) {
+    plan asked = {settings, queues, queue_count, maps, map_count, false, 0, NULL, 0, 0, 0, 0};
+    return storage(&asked);
+}
+
+tcrx_count tcrx_storage_with_limits_at(tcrx_settings settings, const tcrx_queue *queues, size_t queue_count, const tcrx_map *maps,
+                                       size_t map_count, uint32_t others, const tcrx_limit *limits, size_t limit_count) {
+    plan asked = {settings, queues, queue_count, maps, map_count, true, others, limits, limit_count, 0, 0, 0};
+    return storage(&asked);
+}
+
 /* The channel in its instance, with room for the longest packet that it can come to hold. */
-static tcrx_status make(tcrx_instance *at, tcrx_settings settings, const tcrx_queue *queues, size_t queue_count,
-                        const tcrx_map *maps, size_t map_count) {
-    lists put;
-    if (!put_lists(at, &put, queues, queue_count, maps, map_count)) {
+static tcrx_status make(tcrx_instance *at, plan *asked) {
+    if (!put_lists(at, asked)) {
         return TCRX_NO_MEMORY;
     }
-    put_settings(at, settings);
-    const tcrx_status status =
-        Z_tcrxZ_module_channel_new(&at->module, put.queues, put.queue_count, put.maps, put.map_count);
-    give_back(at, put);
-    if (status == TCRX_DONE && settings.segmented) {
+    const uint32_t queue_count = (uint32_t)asked->queue_count, map_count = (uint32_t)asked->map_count;
+    put_settings(at, asked->settings);
+    const tcrx_status status = asked->limited
+        ? Z_tcrxZ_module_channel_new_with_limits(&at->module, asked->at_queues, queue_count, asked->at_maps, map_count,
+                                                 asked->others, asked->at_limits, (uint32_t)asked->limit_count)
+        : Z_tcrxZ_module_channel_new(&at->module, asked->at_queues, queue_count, asked->at_maps, map_count);
+    give_back(at, asked);
+    if (status == TCRX_DONE && asked->settings.segmented) {
         at->packet = (uint32_t)Z_tcrxZ_module_room(&at->module, TCRX_MODULE_PACKET);
         at->packet_room = TCRX_MODULE_PACKET;
     }
     return status == TCRX_DONE && at->packet == 0 ? TCRX_NO_MEMORY : status;
 }
 
-/* A fault of the settings is found before an instance asks for memory. */
-tcrx_status tcrx_channel_new_at(tcrx_channel *channel, tcrx_settings settings, const tcrx_queue *queues, size_t queue_count,
-                                const tcrx_map *maps, size_t map_count) {
+/* A fault of the settings and of the limits is found before an instance asks for memory. */
+static tcrx_status make_anew(tcrx_channel *channel, plan *asked) {
     if (channel->held) {
         return TCRX_IN_USE;
     }
-    const tcrx_status fault = tcrx_memory_bound_at(settings, queues, queue_count, maps, map_count).status;
+    const tcrx_status fault = storage(asked).status;
     tcrx_instance *at = fault == TCRX_DONE ? tcrx_instance_new() : NULL;
     if (at == NULL) {
         return fault == TCRX_DONE ? TCRX_NO_MEMORY : fault;
     }
-    const tcrx_status status = make(at, settings, queues, queue_count, maps, map_count);
+    const tcrx_status status = make(at, asked);
     if (status == TCRX_DONE) {
         channel->held = 1;
         channel->place = at;
@@ -274,6 +304,19 @@ tcrx_status tcrx_channel_new_at(tcrx_channel *channel, tcrx_settings settings, c
         tcrx_instance_end(at);
     }
     return status;
+}
+
+tcrx_status tcrx_channel_new_at(tcrx_channel *channel, tcrx_settings settings, const tcrx_queue *queues, size_t queue_count,
+                                const tcrx_map *maps, size_t map_count) {
+    plan asked = {settings, queues, queue_count, maps, map_count, false, 0, NULL, 0, 0, 0, 0};
+    return make_anew(channel, &asked);
+}
+
+tcrx_status tcrx_channel_new_with_limits_at(tcrx_channel *channel, tcrx_settings settings, const tcrx_queue *queues,
+                                            size_t queue_count, const tcrx_map *maps, size_t map_count, uint32_t others,
+                                            const tcrx_limit *limits, size_t limit_count) {
+    plan asked = {settings, queues, queue_count, maps, map_count, true, others, limits, limit_count, 0, 0, 0};
+    return make_anew(channel, &asked);
 }
 
 tcrx_reply tcrx_channel_frame_at(tcrx_channel *channel, const uint8_t *octets, size_t count) {
