@@ -362,7 +362,7 @@ def check_declarations() -> None:
     tell(len(kinds) > 10, f"{len(kinds)} records")
     check_places(kinds)
     in_python: Dict[str, Any] = {"tcrx_status": ctypes.c_uint32, "uint8_t": ctypes.c_uint8, "uint16_t": ctypes.c_uint16,
-                                 "size_t": ctypes.c_size_t, "const uint8_t *": ctypes.c_char_p, "uint8_t *": ctypes.c_void_p}
+                                 "uint32_t": ctypes.c_uint32, "size_t": ctypes.c_size_t, "const uint8_t *": ctypes.c_char_p, "uint8_t *": ctypes.c_void_p}
     for kind in kinds:
         in_python[name_in_c(kind)] = kind
         in_python[f"{name_in_c(kind)} *"] = in_python[f"const {name_in_c(kind)} *"] = ctypes.POINTER(kind)

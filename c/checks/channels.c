@@ -88,12 +88,13 @@ static void read_all(void) {
     for (size_t got = 1; got > 0; lines_length += got) {
         if (room - lines_length < MOST_LINE) {
             room = 2 * room + 2 * (size_t)MOST_LINE;
-            lines = realloc(lines, room);
+            char *more = realloc(lines, room);
+            if (more == NULL) {
+                fail("the script", TCRX_NO_MEMORY);
+            }
+            lines = more;
         }
-        got = lines == NULL ? 0 : fread(lines + lines_length, 1, room - lines_length - 1, stdin);
-    }
-    if (lines == NULL) {
-        fail("the script", TCRX_NO_MEMORY);
+        got = fread(lines + lines_length, 1, room - lines_length - 1, stdin);
     }
     lines[lines_length] = '\0';
 }

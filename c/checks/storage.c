@@ -16,11 +16,13 @@
 
 enum { MOST_QUEUES = 2047, MOST_MAPS = 64, LARGEST = 65542, OWN = 256, MADE = 2000000 };
 
-/* The portable C asks for the memory of a whole instance; and machines that are slow make few of the channels. */
+/* The portable C asks for the memory of a whole instance, and makes few of the channels, since it is tried on machines that are slow. */
 #ifdef TCRX_MODULE
-enum { IS_EXACT = 0, EACH = 100 };
+static const bool is_exact = false;
+static bool is_made(uint64_t place) { return place % 100 == 0; }
 #else
-enum { IS_EXACT = 1, EACH = 1 };
+static const bool is_exact = true;
+static bool is_made(uint64_t place) { return place < UINT64_MAX; }
 #endif
 
 
@@ -126,9 +128,9 @@ static void check(const plan *p, uint64_t place) {
     tcrx_channel channel = TCRX_HOLDS_NONE;
     asked = 0;
     const tcrx_count storage = ask(p);
-    expect(asked == 0 || IS_EXACT == 0, "a storage that asks for memory", place);
+    expect(asked == 0 || !is_exact, "a storage that asks for memory", place);
     expect(storage.count == (storage.status == TCRX_DONE ? sum(p) : 0), "a storage", place);
-    if (storage.count > MADE || place % EACH != 0) {
+    if (storage.count > MADE || !is_made(place)) {
         return;
     }
     const tcrx_status made = make(&channel, p);
@@ -138,13 +140,13 @@ static void check(const plan *p, uint64_t place) {
         const uint64_t most = TCRX_STORAGE_OF(p->settings.segmented, p->settings.buffer, p->queue_count, p->map_count, items_of(p),
                                               limits, all_limits(p), largest_of(p));
         const uint64_t all = storage.count + lists + OWN;
-        expect(asked == all || IS_EXACT == 0, "what the making asks for", place);
+        expect(asked == all || !is_exact, "what the making asks for", place);
         expect(all + 63 < most && most <= all + 128, "what TCRX_STORAGE_OF says", place);
     } else {
-        expect(asked == 0 || IS_EXACT == 0, "a refusal that asks for memory", place);
+        expect(asked == 0 || !is_exact, "a refusal that asks for memory", place);
     }
     expect(tcrx_channel_free(&channel) == (made == TCRX_DONE ? TCRX_DONE : TCRX_NO_CHANNEL), "what is freed", place);
-    expect(blocks == 0 || IS_EXACT == 0, "blocks that are left", place);
+    expect(blocks == 0 || !is_exact, "blocks that are left", place);
 }
 
 /* So many queues and MAPs of so many places each, without limits. */

@@ -1,7 +1,7 @@
 //! A simulated pass: a ground station sends commands over a link that loses a frame, reads the CLCWs that come down, and sends
 //! again from the number that the spacecraft expects, until each command has arrived.
 
-use tcrx::{Channel, Clcw, Frame, Header, Link, Packet, Queue, Settings};
+use tcrx::{Channel, Clcw, Frame, Header, Limit, Limits, Link, Packet, Queue, Settings};
 
 const SPACECRAFT: u16 = 42;
 const CHANNEL: u8 = 1;
@@ -41,8 +41,9 @@ fn command(count: u8, value: u8) -> [u8; 8] {
 fn main() -> Result<(), Box<dyn std::error::Error>> {
     let queues = [Queue { apid: HEATER, capacity: 8 }];
     let settings = Settings { vcid: CHANNEL, width: 10, buffer: 4, first_vr: 0, segmented: true, queues: &queues, maps: &[] };
-    println!("the channel takes {} octets", settings.storage()?);
-    let mut spacecraft = Spacecraft { channel: Channel::new(&settings)? };
+    let limits = Limits { others: 0, maps: &[Limit { map: 0, octets: 256 }] };
+    println!("the channel takes {} octets", settings.storage_with_limits(&limits)?);
+    let mut spacecraft = Spacecraft { channel: Channel::with_limits(&settings, &limits)? };
     let commands: Vec<[u8; 8]> = (0..5).map(|count| command(count, 10 + count)).collect();
     let (mut acknowledged, mut sent, mut next) = (0, 0, 0);
     while acknowledged < commands.len() {

@@ -3,8 +3,8 @@
 use std::error::Error;
 use std::thread;
 use tcrx::{
-    Arrival, Channel, Clcw, Delivery, Event, Farm, FarmError, Frame, Header, Kind, Link, Map, Packet, Queue, ReleaseError,
-    Settings, SettingsError, State, TakeError, WriteError,
+    Arrival, Channel, Clcw, Delivery, Event, Farm, FarmError, Frame, Header, Kind, Limit, Limits, Link, Map, Packet, Queue,
+    ReleaseError, Settings, SettingsError, State, TakeError, WriteError,
 };
 
 const PACKET: [u8; 7] = [0x10, 0x05, 0xc0, 0x00, 0x00, 0x00, 0xaa];
