@@ -567,7 +567,7 @@ static inline tcrx_packet tcrx_read_packet(const uint8_t *octets, size_t count) 
  */
 
 /**
- * How many octets tcrx_channel_new() asks for by these settings: so many, whatever frames come. Three things are not counted: what
+ * How many octets tcrx_channel_new() asks for by these settings. Three things are not counted: what
  * the functions of memory add to each block, the block of the channel itself, and the copies of the two lists, of 4 octets an entry.
  * #TCRX_STORAGE_OF counts all of it.
  *
@@ -859,20 +859,16 @@ static inline tcrx_status tcrx_channel_free(tcrx_channel *channel) {
  * The octets of a static array in which channels of such settings and limits can be made, as a constant: those that
  * tcrx_storage_with_limits() answers, and all that it doesn't count. For several channels take the sum.
  *
- * @param segmented 1 with segment headers, else 0
- * @param buffer    how many data fields the buffer holds
- * @param queues    how many packet queues there are
- * @param maps      how many chosen MAPs there are
- * @param items     the capacities of all of these together
- * @param limits    how many MAPs have limits that are listed
- * @param sum       the limits of all 64 MAPs together; without limits 64 * 65542, without segment headers 0
- * @param largest   the largest limit of all; without limits 65542, without segment headers at most 1019
+ * `segmented` is 1 with segment headers, else 0. `buffer` is how many data fields the buffer holds, `queues` how many packet queues
+ * there are, `maps` how many chosen MAPs, and `items` the capacities of all of these together. `limits` is how many MAPs are listed.
+ * `sum` has the limits of all 64 MAPs together: without limits 64 * 65542, and without segment headers 0. `largest` is the largest
+ * limit of all: without limits 65542, and without segment headers at most 1019.
  */
 #define TCRX_STORAGE_OF(segmented, buffer, queues, maps, items, limits, sum, largest) \
     ((size_t)(buffer) * 1083u + ((segmented) ? 5120u + 2u * (size_t)(sum) : 0u) + ((size_t)(queues) + (size_t)(maps)) * 76u \
      + (size_t)(items) * (64u + (size_t)(largest)) + (size_t)(limits) * 8u + TCRX_OWN_STORAGE)
 
-/** What each channel takes of the array for itself, whatever its settings are. */
+/** What each channel takes of the array for itself, by any settings. */
 #define TCRX_OWN_STORAGE 320u
 
 /** Defines the array, in one file of the program: `TCRX_STATIC_STORAGE(TCRX_STORAGE_OF(..));` */
