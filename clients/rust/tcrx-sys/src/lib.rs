@@ -4,7 +4,7 @@
 //! each record's size and places, and each number, with what a C program says of the header. All calls are unsafe here, since a
 //! pointer must point to as many octets as the count says, may never be null, and a channel is given to one call at a time.
 //!
-//! **Memory.** The library is linked with `libtcrx.a`, and this crate defines its three functions of memory over `malloc`. With the
+//! **Memory.** The library is linked with `libtcrx.a`, and this crate defines its two functions of memory over `malloc`. With the
 //! feature `own-memory` the program defines them, and with `shared` the crate is linked with `libtcrx.so`, which has its own.
 #![no_std]
 
