@@ -73,11 +73,7 @@ fn clcw(channel: &FixedChannel, no_rf: u8, no_bit_lock: u8) -> ClcwRecord
 ///
 /// Refused are a seat with no channel by NoChannel and another flag by BadFlag; the word then is 0. The channel stays as it was.
 #[unsafe(no_mangle)]
-pub extern "C" fn tcrx_channel_clcw_at(
-    seat: &mut Seat,
-    no_rf: u8,
-    no_bit_lock: u8,
-) -> ClcwRecord
+pub extern "C" fn tcrx_channel_clcw_at(seat: &mut Seat, no_rf: u8, no_bit_lock: u8) -> ClcwRecord
     ensures word { IfSome seat.old.place.channel (λ h. IfOk (link_of no_rf no_bit_lock) (λ link. result ≡ record { status = code_of Status.Done; word = clcw_within (limit_of h.limits) h.settings h.journal link })) }
     ensures refused { IfSome seat.old.place.channel (λ h. IfErr (link_of no_rf no_bit_lock) (λ fault. result ≡ record { status = code_of fault; word = 0 })) }
     ensures no_channel { IfNone seat.old.place.channel (result ≡ record { status = code_of Status.NoChannel; word = 0 }) }

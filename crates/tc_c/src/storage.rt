@@ -16,7 +16,11 @@ use tc_channel::{MapSetting, QueueSetting};
 use tc_fixed::{LentLimits, MapLimit, storage_of_lent, storage_with_lent};
 
 // The storage of the settings that the records stand for.
-fn storage(given: SettingsRecord, queues: &[QueueSetting], maps: &[MapSetting]) -> Result<u64, Status>
+fn storage(
+    given: SettingsRecord,
+    queues: &[QueueSetting],
+    maps: &[MapSetting],
+) -> Result<u64, Status>
     ensures storage { IfOk result (λ octets. (s : ChannelSettings) × (settings_of given queues.now maps.now ≡ Ok s) × IsAllowed s × (octets ≡ min (storage_of s) (2 ^ 64 - 1))) }
     ensures fault { IfErr result (λ fault. IsUnfit (settings_of given queues.now maps.now) fault) }
     ensures refusal { IfErr result (λ fault. 0 < code_of fault) }
@@ -35,10 +39,7 @@ fn limited_storage(
     ensures fault { IfErr result (λ fault. IsUnfitWithin (settings_of given queues.now maps.now) (limits_of limits.entry) fault) }
     ensures refusal { IfErr result (λ fault. 0 < code_of fault) }
 {
-    Ok(storage_with_lent(
-        checked_within(given, queues, maps, limits)?,
-        limits,
-    ))
+    Ok(storage_with_lent(checked_within(given, queues, maps, limits)?, limits))
 }
 
 /// How many octets `tcrx_channel_new_at` asks for by these settings. The channel's own block and the copies of both lists are not

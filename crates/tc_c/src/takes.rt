@@ -71,7 +71,11 @@ fn take_packet(channel: &mut FixedChannel, apid: u16, to: &mut [u8]) -> WrittenR
 /// Refused are a seat with no channel by NoChannel, an APID with no queue by NoQueue, an empty queue by Empty, and a buffer that
 /// is too short by NoRoom with the length that is needed; then the buffer and the channel stay as they were.
 #[unsafe(no_mangle)]
-pub extern "C" fn tcrx_channel_take_at(seat: &mut Seat, apid: u16, buffer: &mut [u8]) -> WrittenRecord
+pub extern "C" fn tcrx_channel_take_at(
+    seat: &mut Seat,
+    apid: u16,
+    buffer: &mut [u8],
+) -> WrittenRecord
     ensures taken { IfSome seat.old.place.channel (λ h. IfSome (take_reply_within (limit_of h.limits) h.settings h.journal apid) (λ packet. length packet ≤ length buffer.old → (result ≡ taken (length packet)) × IsCopied packet buffer.old buffer.new × (seat.new.place.channel ≡ Some (with_event h (Event.Take apid))))) }
     ensures no_room { IfSome seat.old.place.channel (λ h. IfSome (take_reply_within (limit_of h.limits) h.settings h.journal apid) (λ packet. length buffer.old < length packet → result ≡ too_short (length packet))) }
     ensures no_queue { IfSome seat.old.place.channel (λ h. waiting_packets_within (limit_of h.limits) h.settings h.journal apid ≡ None → result ≡ no_octets Status.NoQueue) }
@@ -119,7 +123,11 @@ fn take_unit(channel: &mut FixedChannel, map: u8, to: &mut [u8]) -> WrittenRecor
 /// Refused are a seat with no channel by NoChannel, a MAP that isn't chosen by NoMap, an empty queue by Empty, and a buffer that
 /// is too short by NoRoom with the length that is needed; then the buffer and the channel stay as they were.
 #[unsafe(no_mangle)]
-pub extern "C" fn tcrx_channel_take_unit_at(seat: &mut Seat, map: u8, buffer: &mut [u8]) -> WrittenRecord
+pub extern "C" fn tcrx_channel_take_unit_at(
+    seat: &mut Seat,
+    map: u8,
+    buffer: &mut [u8],
+) -> WrittenRecord
     ensures taken { IfSome seat.old.place.channel (λ h. IfSome (unit_reply_within (limit_of h.limits) h.settings h.journal map) (λ unit. length unit ≤ length buffer.old → (result ≡ taken (length unit)) × IsCopied unit buffer.old buffer.new × (seat.new.place.channel ≡ Some (with_event h (Event.TakeUnit map))))) }
     ensures no_room { IfSome seat.old.place.channel (λ h. IfSome (unit_reply_within (limit_of h.limits) h.settings h.journal map) (λ unit. length buffer.old < length unit → result ≡ too_short (length unit))) }
     ensures no_map { IfSome seat.old.place.channel (λ h. waiting_units_within (limit_of h.limits) h.settings h.journal map ≡ None → result ≡ no_octets Status.NoMap) }

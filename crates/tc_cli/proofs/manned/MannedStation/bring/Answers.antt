@@ -11,6 +11,7 @@ returns-clause-refused g c = search rules
 pub returns-clause-answer : goal.returns-clause-answer
 returns-clause-answer g c =
     rw (← c.self.view_is) (elim c.match-bring.branch [
-      in-Ok w ↦ rw w.result-is w.in-Ok.ensures.answer
-    | in-Err-Locate w ↦ rw w.result-is (rw w.in-Err-Locate.field-0-is at w.in-Err-Locate.ensures.answer)
-    | in-Err-NoMemory w ↦ rw w.result-is tt ])
+      | in-Ok w ↦ rw w.result-is w.in-Ok.ensures.answer
+      | in-Err-Locate w ↦ rw w.result-is (rw w.in-Err-Locate.field-0-is at w.in-Err-Locate.ensures.answer)
+      | in-Err-NoMemory w ↦ rw w.result-is tt
+    ])
