@@ -282,7 +282,8 @@ class Channel:
         """Makes a virtual channel (0 to 63): the width of its window (even, 2 to 254), how many data fields its buffer holds (1 to
         64), its first V(R) (0 to 255), and whether its data fields have no segment headers; the room of its queues by application,
         and of those by MAP, 1 to 256 each. `limits` has the most octets of a unit by MAP, 1 to 65,542, and `others` is the limit of
-        each MAP that it doesn't list; without `limits` each unit may have 65,542. `library` is the path of libtcrx.so.0; without it, it is looked for by `find_library`.
+        each MAP that it doesn't list; without `limits` each unit may have 65,542. `library` is the path of libtcrx.so.0; without
+        it, it is looked for by `find_library`.
 
         Raises `NotStarted` where the library isn't there, `BadSettings`, and `NoMemory`.
         """
