@@ -1,5 +1,5 @@
--- What the calls of a station answer. Of a channel in its lock no more is known than that its settings are allowed and its
--- journal is lawful, so each answer is the reply at some moment of a channel with the id that was asked for.
+-- What the calls of a station answer: the reply at some moment of a channel with the id that was asked for. Who has no operator
+-- knows no more. Of an operator's call, `Call` says that it is a moment of the very channel behind this lock.
 use Rattle.std.specs.Prelude.{◌≡◌, ◌≢◌, [], ℕ, List, Contains, Some}
 use Rattle.tc_channel.specs.declared.settings.Settings.{Settings}
 use Rattle.tc_channel.specs.declared.event.Event.{Event}

@@ -5,10 +5,11 @@
 //! of a desk has the contract of the channel's call. Whenever the lock is free, the word is the CLCW of the channel's journal,
 //! with both link flags 0; a watcher reads it without the lock.
 //!
-//! What is under a lock is known by its type and by the id that it is asked for, so a call of the [`Station`] promises less: what
-//! it answers is what FARM-1 and the queues answer at some lawful journal of a channel with that id. [`Station::close`] ties the
-//! journals to the operators' counts. A [`FlightStation`] does the same with journals that take no memory, and its close goes
-//! by the numbers of their events.
+//! An operator's call is answered from this channel's own journal, at a moment that goes on from all that the operator had seen
+//! there, and [`StationOf::close_together`] gives out channels whose journals are merges of what their operators made. A call of
+//! the [`Station`] without an operator promises less: what it answers is what FARM-1 and the queues answer at some lawful journal
+//! of a channel with the id that was asked for. [`Station::close`] ties the journals to the operators' counts, whosever they are.
+//! A [`FlightStation`] does the same with journals that take no memory, and its close goes by the numbers of their events.
 #![tactic(auto)]
 
 mod closing;
