@@ -396,8 +396,8 @@ impl<J: Journal> StationOf<J> {
     }
 
     /// Ends the station: takes the channels out of their locks, where its operators have made all events of their journals. The
-    /// journal of each channel is then a merge of what they made, and what each of them had seen is a beginning of it. An operator
-    /// that isn't among these has made nothing. Two lists are allocated, before any lock is taken.
+    /// journal of each channel is then a merge of what they made, and what each of them had seen is a beginning of it. Two lists
+    /// are allocated, before any lock is taken.
     pub fn close_together(
         self,
         operators: Vec<Operator>,
