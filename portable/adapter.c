@@ -21,7 +21,7 @@ static tcrx_channel channel = TCRX_HOLDS_NONE;
 
 /* The heap of the module (heap.c). */
 void *heap_cut(uint64_t count, uint64_t alignment);
-void heap_reserve(uint64_t count);
+int heap_reserve(uint64_t count);
 void *heap_take(uint64_t count);
 void heap_give(void *at);
 
@@ -175,22 +175,26 @@ u32 EXPORT(module_storage_with_limits)(const tcrx_queue *queues, u32 queue_count
     return answer.status;
 }
 
-/* What a channel takes besides its storage: its own block, and a copy of each list. */
-static void reserve(tcrx_count storage, uint64_t entries) {
-    if (storage.status == TCRX_DONE) {
-        heap_reserve(storage.count + 1024 + 8 * entries);
-    }
+/* Whether there is room for a channel of this storage, with its own block and a copy of each list; or it has a fault. */
+static int is_reserved(tcrx_count storage, uint64_t entries) {
+    return storage.status != TCRX_DONE || heap_reserve(storage.count + 1024 + 8 * entries);
 }
 
 u32 EXPORT(module_channel_new)(const tcrx_queue *queues, u32 queue_count, const tcrx_map *maps, u32 map_count) {
-    reserve(tcrx_storage_at(settings_given(), queues, queue_count, maps, map_count), (uint64_t)queue_count + map_count);
+    const tcrx_count storage = tcrx_storage_at(settings_given(), queues, queue_count, maps, map_count);
+    if (!is_reserved(storage, (uint64_t)queue_count + map_count)) {
+        return TCRX_NO_MEMORY;
+    }
     return tcrx_channel_new_at(&channel, settings_given(), queues, queue_count, maps, map_count);
 }
 
 u32 EXPORT(module_channel_new_with_limits)(const tcrx_queue *queues, u32 queue_count, const tcrx_map *maps, u32 map_count,
                                            u32 others, const tcrx_limit *limits, u32 limit_count) {
-    reserve(tcrx_storage_with_limits_at(settings_given(), queues, queue_count, maps, map_count, others, limits, limit_count),
-            (uint64_t)queue_count + map_count + limit_count);
+    const tcrx_count storage =
+        tcrx_storage_with_limits_at(settings_given(), queues, queue_count, maps, map_count, others, limits, limit_count);
+    if (!is_reserved(storage, (uint64_t)queue_count + map_count + limit_count)) {
+        return TCRX_NO_MEMORY;
+    }
     return tcrx_channel_new_with_limits_at(&channel, settings_given(), queues, queue_count, maps, map_count, others, limits,
                                            limit_count);
 }

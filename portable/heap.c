@@ -7,7 +7,7 @@
 #include <stdint.h>
 
 void *heap_cut(uint64_t count, uint64_t alignment);
-void heap_reserve(uint64_t count);
+int heap_reserve(uint64_t count);
 void *heap_take(uint64_t count);
 void heap_give(void *at);
 
@@ -60,12 +60,12 @@ void *heap_cut(uint64_t count, uint64_t alignment) {
     return (void *)place;
 }
 
-/* Has the memory grow at once for so many octets that are going to be asked for, as far as the machine has them. */
-void heap_reserve(uint64_t count) {
+/* Has the memory grow at once for so many octets that are going to be asked for; whether there is room for them then. */
+int heap_reserve(uint64_t count) {
     if (cut == 0) {
         cut = (uintptr_t)&__heap_base;
     }
-    (void)has_room(count);
+    return has_room(count);
 }
 
 /* A slot of this size that is cut so. */

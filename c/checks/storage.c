@@ -17,7 +17,7 @@
 enum { MOST_QUEUES = 2047, MOST_MAPS = 64, LARGEST = 65542, OWN = 256, MADE = 2000000 };
 
 /* The portable C asks for the memory of a whole instance, and makes few of the channels, since it is tried on machines that are slow. */
-#ifdef TCRX_MODULE
+#ifdef PORTABLE
 static const bool is_exact = false;
 static bool is_made(uint64_t place) { return place % 100 == 0; }
 #else
