@@ -17,6 +17,10 @@
 
 namespace {
 
+// The octets of all frames that are for each channel. Where this is compiled with LIMITED they are the limit of its units, so that each
+// answer is the same and less memory is filled.
+std::map<unsigned long, std::size_t> octets_for;
+
 struct Receiver {
     tcrx::Settings settings;
     std::vector<tcrx::Queue> queues;
@@ -59,7 +63,13 @@ void set_up(const std::string &what, std::istream &words) {
 void make_all() {
     for (auto &[vcid, at] : receivers) {
         if (!made) {
+#ifdef LIMITED
+            const std::size_t most = octets_for[vcid] + 1;
+            const tcrx::Limits limits = {static_cast<std::uint32_t>(most < 65542 ? most : 65542), {}};
+            tcrx::Result<tcrx::Channel> result = tcrx::Channel::make(at.settings, at.queues, at.maps, limits);
+#else
             tcrx::Result<tcrx::Channel> result = tcrx::Channel::make(at.settings, at.queues, at.maps);
+#endif
             if (!result) {
                 fail("channel", result.status());
             }
@@ -193,6 +203,15 @@ void report(unsigned vcid, Receiver &at) {
     }
 }
 
+// Counts the octets of a frame for its channel.
+void note_frame(const std::string &line) {
+    std::istringstream words(line);
+    std::string what, digits;
+    if (words >> what >> digits && what == "frame" && digits.size() > 5) {
+        octets_for[std::strtoul(digits.substr(4, 2).c_str(), nullptr, 16) >> 2] += digits.size() / 2;
+    }
+}
+
 }  // namespace
 
 int main(int count, char **arguments) {
@@ -200,7 +219,12 @@ int main(int count, char **arguments) {
         return 2;
     }
     const unsigned scid = static_cast<unsigned>(std::strtoul(arguments[1], nullptr, 10));
+    std::vector<std::string> lines;
     for (std::string line; std::getline(std::cin, line);) {
+        lines.push_back(line);
+        note_frame(line);
+    }
+    for (const std::string &line : lines) {
         std::istringstream words(line);
         std::string what;
         words >> what;
