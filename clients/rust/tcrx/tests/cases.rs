@@ -5,7 +5,7 @@ use std::collections::BTreeMap;
 use std::fmt::Write;
 use std::fs;
 use std::path::{Path, PathBuf};
-use tcrx::{BringError, Channel, Clcw, Frame, FrameError, Link, Map, Queue, ReleaseError, Settings, TakeError};
+use tcrx::{BringError, Channel, Clcw, Frame, FrameError, Limits, Link, Map, Queue, ReleaseError, Settings, TakeError};
 
 /// A channel, and the lines that it was set up by.
 #[derive(Default)]
@@ -26,6 +26,8 @@ impl Receiver {
 /// The script that is done, and what it printed.
 struct Script {
     scid: u16,
+    /// With TCRX_LIMITED the octets of all its lines, which no unit is longer than: channels then fill less memory.
+    limit: Option<u32>,
     receivers: BTreeMap<u8, Receiver>,
     printed: String,
 }
@@ -81,7 +83,11 @@ impl Script {
                 let [width, buffer, first_vr] = at.numbers;
                 let segmented = !at.plain;
                 let settings = Settings { vcid: *vcid, width, buffer, first_vr, segmented, queues: &at.queues, maps: &at.maps };
-                at.channel = Some(Channel::new(&settings).expect("settings"));
+                let made = match self.limit {
+                    Some(others) => Channel::with_limits(&settings, &Limits { others, maps: &[] }),
+                    None => Channel::new(&settings),
+                };
+                at.channel = Some(made.expect("settings"));
             }
         }
     }
@@ -190,8 +196,11 @@ impl Script {
 }
 
 fn printed_by(script: &Path, scid: u16) -> String {
-    let mut done = Script { scid, receivers: BTreeMap::new(), printed: String::new() };
-    for line in fs::read(script).expect("the script").split(|octet| *octet == b'\n') {
+    let lines = fs::read(script).expect("the script");
+    let octets = u32::try_from(lines.len() / 2 + 1).unwrap_or(u32::MAX);
+    let limit = std::env::var_os("TCRX_LIMITED").map(|_| octets.min(65_542));
+    let mut done = Script { scid, limit, receivers: BTreeMap::new(), printed: String::new() };
+    for line in lines.split(|octet| *octet == b'\n') {
         let words = words_of(line);
         match words.first() {
             None => {}
