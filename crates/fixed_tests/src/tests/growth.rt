@@ -2,6 +2,7 @@
 
 use super::Step::{DropUnit, Frame, Release, Take, TakeUnit};
 use super::*;
+use tc_fixed::MapLimit;
 
 // A unit of MAP 3 in a Type-BD frame.
 const WHOLE: [u8; 8] = [0x20, 0x2a, 0x04, 0x07, 0x00, 0xc3, 0xaa, 0xbb];
@@ -56,4 +57,19 @@ fn growth_of_a_fixed_channel_within_limits(rt: HostRuntime) {
         }
     };
     run.play(&rt, &EACH_CALL)
+}
+
+#[test]
+fn growth_of_limits_that_are_copied(rt: HostRuntime) {
+    let listed_map = MapLimit { map: 3, octets: 7 };
+    let maps = listed(rt.alloc(), &[listed_map]).expect(&rt, "limits");
+    let own = Limits { others: 16, maps };
+    let copy = match own.lent().copied(rt.alloc()) {
+        Ok(copy) => copy,
+        Err(_) => {
+            let _ = println!(&rt; "refused: LentLimits::copied");
+            own.lent().copied(rt.alloc()).expect(&rt, "a copy")
+        }
+    };
+    assert_eq!(&rt; copy, own);
 }

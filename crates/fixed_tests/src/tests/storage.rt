@@ -2,7 +2,9 @@
 //! free and 32 where it is taken, those of a stream 40, those of a queue 72.
 
 use super::*;
-use tc_fixed::{MapLimit, storage, storage_with_limits};
+use tc_fixed::{
+    LentLimits, MapLimit, storage, storage_of_lent, storage_with_lent, storage_with_limits,
+};
 
 // Two queues of 4 packets and a buffer of 4, with segment headers or without.
 fn two_queues(alloc: Global, segmented: bool) -> Result<Settings, AllocError> {
@@ -70,6 +72,21 @@ fn octets_within_limits(rt: HostRuntime) {
     let octets = storage_with_limits(&settings, &Limits { others: 0, maps });
     assert_eq!(&rt; octets, 50_936);
     assert!(&rt; 64 * octets < 4_000_000);
+}
+
+// The same of lists that are lent.
+#[test]
+fn octets_of_lent_limits(rt: HostRuntime) {
+    let settings = usual(rt.alloc()).expect(&rt, "settings");
+    let limits = LentLimits {
+        others: 0,
+        maps: &[MapLimit {
+            map: 0,
+            octets: 1_024,
+        }],
+    };
+    assert_eq!(&rt; storage_with_lent(settings.lent(), limits), 50_936);
+    assert_eq!(&rt; storage_of_lent(settings.lent()), 10_502_840);
 }
 
 // Without limits by MAP it is what is asked for without them.
