@@ -65,10 +65,11 @@ fn receive(rt: &impl Wait, alloc: Global, octets: &[u8]) -> Result<Seen> {
     };
     let mut station = Station::new(alloc, 42, vec![in alloc; settings]?)?;
     let mut operators = station.operators(1)?; // one for each thread
+    let operator = &mut operators[0];
     let mut watcher = station.watcher(rt, 1)?;
-    let brought = station.bring(rt, &mut operators[0], octets)?; // the event, and whether it was accepted
-    let delivery = station.release(rt, &mut operators[0], 1)?; // how many packets were queued
-    let packet = station.take(rt, &mut operators[0], 1, 5)?;
+    let brought = station.bring(rt, operator, octets)?; // the event, and whether it was accepted
+    let delivery = station.release(rt, operator, 1)?; // how many packets were queued
+    let packet = station.take(rt, operator, 1, 5)?;
     let word = station.watch(
         &mut watcher,
         Link {
