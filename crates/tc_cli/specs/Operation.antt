@@ -1,5 +1,5 @@
--- What the operations of a script are answered. Of a channel in its lock only the type is known, so each answer is the one
--- at some moment of a channel with that id.
+-- What the operations of a script are answered. Of a channel a script's contracts carry its id and no history, so each answer is
+-- the one at some moment of a channel with that id.
 use Rattle.std.specs.Prelude.{◌≡◌, ℕ, List, Contains}
 use Rattle.tc_station.specs.Roster.{Roster}
 use Rattle.tc_station.specs.Location.{IsLocateFault}

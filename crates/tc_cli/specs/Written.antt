@@ -49,7 +49,7 @@ abbrev pub answers_text : List (Option Answer) → List ℕ
 answers_text answers = flat_map answer_line answers
 
 -- the text is the report of all channels of this station, in rising id, each in balance with what its operator has counted
--- (of a channel in its lock only the type is known, so each is in the state of some lawful history)
+-- (the contracts of a script carry no history of a channel, so each is in the state of some lawful one)
 abbrev pub IsReportOf : Manned → List ℕ → Type 0
 IsReportOf manned text =
     (operator : AtStation) × (channels : List History) × (tally operator ≡ manned.operator)
