@@ -1,10 +1,9 @@
 -- A book of numbers, as its lock sees it.
 use Rattle.std.specs.Prelude.{◌≡◌, ⊤, ℕ}
-use Rattle.atomic_table.specs.Seated.{TableId}
 use Rattle.atomic_table.specs.declared.shared.Seat.{Seat}
 use Rattle.logged_lock.specs.declared.views.Log.{Log}
 use Rattle.logged_lock.specs.declared.views.View.{View}
-use Rattle.logged_lock.specs.Rule.{IsIdle}
+use Rattle.logged_lock.specs.Rule.{LockAt, IsIdle}
 use Rattle.lock_tests.specs.declared.book.Title.{Title}
 use Rattle.lock_tests.specs.declared.book.Book.{Book}
 
@@ -20,5 +19,5 @@ abbrev pub IsAny : Book → Type 0
 IsAny b = ⊤
 
 -- a seat at this lock, which doesn't have it
-abbrev pub IsAtRest : TableId → Seat Book (View Title ℕ) → Type 0
-IsAtRest lock seat = (seat.table_id ≡ lock) × IsIdle seat.me
+abbrev pub IsAtRest : LockAt Title → Seat Book (View Title ℕ) → Type 0
+IsAtRest lock seat = (seat.table_id ≡ lock.id) × IsIdle seat.me

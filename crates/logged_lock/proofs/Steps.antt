@@ -90,36 +90,37 @@ away-from j k n lt le e = absurd (omega arith)
 number : {D E : Type 0} (h g : Log D E) → h ≡ g → 0 + length h.entries ≡ length g.entries
 number {D = D} {E = E} h g e = omega (arith, ap (λ (x : Log D E). length x.entries) e)
 
-module _ {S D E : Type 0} (log : S → Log D E) (fits : S → Type 0) where
+module _ {S D E : Type 0} (log : S → Log D E) (fits : S → Type 0) (top : D) where
   abbrev pub Kept : State S (View D E) → Type 0
-  Kept s = IsLock log fits s.words s.homes s.views
+  Kept s = IsLock log fits top s.words s.homes s.views
 
-  pub opens : (y : S) (d : D) → fits y → log y ≡ start_of d → Kept (opening (words_of 0) (y ∷ []) (newcomer (start_of d)))
-  opens y d fit same = record {
-    now = start_of d;
+  pub opens : (y : S) → fits y → log y ≡ start_of top → Kept (opening (words_of 0) (y ∷ []) (newcomer (start_of top)))
+  opens y fit same = record {
+    now = start_of top;
+    headed = refl;
     owners = [];
     long = refl;
     holder = none;
     seats = one;
     others = λ id le. refl;
-    first = newcomer (start_of d);
+    first = newcomer (start_of top);
     at_first = refl;
     told = ((λ k. refl), (λ k a e. absurd (some-ne-none a (sym e))));
     lock = inl record { kept = y; mark = 0; small = omega arith; word = refl; home = refl; fitting = fit; same = same; nobody = refl };
   }
     where
-      one : (id : ℕ) (v : View D E) → get_elem? (newcomer (start_of d) ∷ []) id ≡ some v → IsSeat (start_of d) [] none id v
-      one zero v e = subst (IsSeat (start_of d) [] none 0) (some-injective (newcomer (start_of d)) v e) record { mine = refl; behind = λ _. beginning-self (start_of d); locks = λ h. absurd (off h) }
+      one : (id : ℕ) (v : View D E) → get_elem? (newcomer (start_of top) ∷ []) id ≡ some v → IsSeat (start_of top) [] none id v
+      one zero v e = subst (IsSeat (start_of top) [] none 0) (some-injective (newcomer (start_of top)) v e) record { mine = refl; behind = λ _. beginning-self (start_of top); locks = λ h. absurd (off h) }
       one (suc id) v e = absurd (some-ne-none v (sym e))
 
   -- where nothing is changed but the lock
-  relock : (words words' : List ℕ) (homes homes' : List (Option S)) (views : List (View D E)) (b : IsLock log fits words homes views)
-      → IsFree log fits words' homes' b.now b.holder ⊎ IsTakenOut words' homes' → IsLock log fits words' homes' views
-  relock words words' homes homes' views b lock = record { now = b.now; owners = b.owners; long = b.long; holder = b.holder; seats = b.seats; others = b.others; first = b.first; at_first = b.at_first; told = b.told; lock = lock }
+  relock : (words words' : List ℕ) (homes homes' : List (Option S)) (views : List (View D E)) (b : IsLock log fits top words homes views)
+      → IsFree log fits words' homes' b.now b.holder ⊎ IsTakenOut words' homes' → IsLock log fits top words' homes' views
+  relock words words' homes homes' views b lock = record { now = b.now; headed = b.headed; owners = b.owners; long = b.long; holder = b.holder; seats = b.seats; others = b.others; first = b.first; at_first = b.at_first; told = b.told; lock = lock }
 
   -- where a view is put in its own place
-  again : (words : List ℕ) (homes : List (Option S)) (views : List (View D E)) (id : ℕ) (v : View D E) → get_elem? views id ≡ some v → IsLock log fits words homes views → IsLock log fits words homes (set views id v)
-  again words homes views id v at b = subst (λ l. IsLock log fits words homes l) (sym (set_again views id v at)) b
+  again : (words : List ℕ) (homes : List (Option S)) (views : List (View D E)) (id : ℕ) (v : View D E) → get_elem? views id ≡ some v → IsLock log fits top words homes views → IsLock log fits top words homes (set views id v)
+  again words homes views id v at b = subst (λ l. IsLock log fits top words homes l) (sym (set_again views id v at)) b
 
   -- while a seat has the lock it isn't free
   not-free : (s : State S (View D E)) (id : ℕ) (v : View D E) (b : Kept s) → get_elem? s.views id ≡ some v → v.locks ≡ true → IsTakenOut s.words s.homes
@@ -128,7 +129,7 @@ module _ {S D E : Type 0} (log : S → Log D E) (fits : S → Type 0) where
   -- what a step at the lock owes
   abbrev Owes : ℕ → Me S (View D E) → (ℕ → ℕ) → (ℕ → Me S (View D E) → Type 0) → List (View D E) → List ℕ → List (Option S) → Type 0
   Owes id me f then views words homes =
-      (w : View D E) × (a : Act S) × Valid homes me.1 a × IsLock log fits (set words 16 (f (slice_index words 16))) (homes_after homes me.1 a) (set views id w) × then (slice_index words 16) (w, carried_after me.1 a)
+      (w : View D E) × (a : Act S) × Valid homes me.1 a × IsLock log fits top (set words 16 (f (slice_index words 16))) (homes_after homes me.1 a) (set views id w) × then (slice_index words 16) (w, carried_after me.1 a)
 
   -- the word becomes the next one if it is the current one
   abbrev swapped : ℕ → ℕ → ℕ → ℕ
@@ -142,12 +143,12 @@ module _ {S D E : Type 0} (log : S → Log D E) (fits : S → Type 0) where
       → s.words ≡ words_of m → m ≢ current → Owes id me (swapped current next) (Takes me current) s.views s.words s.homes
   misses s id me m current next b at word other =
       let no : (m == current) ≡ false = ne_eqb m current other in
-      let kept : IsLock log fits (words_of m) s.homes (set s.views id me.0) = subst (λ (ws : List ℕ). IsLock log fits ws s.homes (set s.views id me.0)) word (again s.words s.homes s.views id me.0 at b) in
+      let kept : IsLock log fits top (words_of m) s.homes (set s.views id me.0) = subst (λ (ws : List ℕ). IsLock log fits top ws s.homes (set s.views id me.0)) word (again s.words s.homes s.views id me.0 at b) in
       subst (λ (ws : List ℕ). Owes id me (swapped current next) (Takes me current) s.views ws s.homes) (sym word) (
         me.0,
         keeps,
         tt,
-        subst (λ (c : Bool). IsLock log fits (words_of (either c next m)) s.homes (set s.views id me.0)) (sym no) kept,
+        subst (λ (c : Bool). IsLock log fits top (words_of (either c next m)) s.homes (set s.views id me.0)) (sym no) kept,
         subst (λ (c : Bool). MatchBool c (IsTaken log fits me me) (me ≡ me)) (sym no) refl,
       )
 
@@ -158,8 +159,9 @@ module _ {S D E : Type 0} (log : S → Log D E) (fits : S → Type 0) where
       let w = locked h me.0 in
       let q = first-stays s.views id b.first me.0 w b.at_first at refl in
       let yes : (f.mark == current) ≡ true = eq-eqb f.mark current same in
-      let taken : IsLock log fits (words_of (suc (suc mark))) (none ∷ []) (set s.views id w) = record {
+      let taken : IsLock log fits top (words_of (suc (suc mark))) (none ∷ []) (set s.views id w) = record {
         now = b.now;
+        headed = b.headed;
         owners = b.owners;
         long = b.long;
         holder = some id;
@@ -182,7 +184,7 @@ module _ {S D E : Type 0} (log : S → Log D E) (fits : S → Type 0) where
         w,
         takes 0 f.kept,
         refl,
-        subst (λ (c : Bool). IsLock log fits (words_of (either c (suc (suc mark)) f.mark)) (none ∷ []) (set s.views id w)) (sym yes) taken,
+        subst (λ (c : Bool). IsLock log fits top (words_of (either c (suc (suc mark)) f.mark)) (none ∷ []) (set s.views id w)) (sym yes) taken,
         subst (λ (c : Bool). MatchBool c (IsTaken log fits me (w, (0, f.kept) ∷ me.1)) ((w, (0, f.kept) ∷ me.1) ≡ me)) (sym yes) gets,
       )
 
@@ -203,12 +205,12 @@ module _ {S D E : Type 0} (log : S → Log D E) (fits : S → Type 0) where
       → IsFree log fits s.words s.homes b.now b.holder → Owes id me (swapped current next) (λ _ w. w ≡ me) s.views s.words s.homes
   marks-free s id me current next taken b at f =
       let no : (f.mark == current) ≡ false = ne_eqb f.mark current (λ e. absurd (omega (arith, f.small, taken, e))) in
-      let kept : IsLock log fits (words_of f.mark) s.homes (set s.views id me.0) = subst (λ (ws : List ℕ). IsLock log fits ws s.homes (set s.views id me.0)) f.word (again s.words s.homes s.views id me.0 at b) in
+      let kept : IsLock log fits top (words_of f.mark) s.homes (set s.views id me.0) = subst (λ (ws : List ℕ). IsLock log fits top ws s.homes (set s.views id me.0)) f.word (again s.words s.homes s.views id me.0 at b) in
       subst (λ (ws : List ℕ). Owes id me (swapped current next) (λ _ w. w ≡ me) s.views ws s.homes) (sym f.word) (
         me.0,
         keeps,
         tt,
-        subst (λ (c : Bool). IsLock log fits (words_of (either c next f.mark)) s.homes (set s.views id me.0)) (sym no) kept,
+        subst (λ (c : Bool). IsLock log fits top (words_of (either c next f.mark)) s.homes (set s.views id me.0)) (sym no) kept,
         refl,
       )
 
@@ -220,7 +222,7 @@ module _ {S D E : Type 0} (log : S → Log D E) (fits : S → Type 0) where
         me.0,
         keeps,
         tt,
-        exchanged (suc (suc t.mark)) current (suc (suc mark)) (λ (n : ℕ). IsLock log fits (words_of n) (none ∷ []) (set s.views id me.0))
+        exchanged (suc (suc t.mark)) current (suc (suc mark)) (λ (n : ℕ). IsLock log fits top (words_of n) (none ∷ []) (set s.views id me.0))
             (λ _. relock s.words (words_of (suc (suc mark))) s.homes (none ∷ []) (set s.views id me.0) kept (inr record { mark = mark; word = refl; away = refl }))
             (λ _. relock s.words (words_of (suc (suc t.mark))) s.homes (none ∷ []) (set s.views id me.0) kept (inr record { mark = t.mark; word = refl; away = refl })),
         refl,
@@ -233,7 +235,7 @@ module _ {S D E : Type 0} (log : S → Log D E) (fits : S → Type 0) where
 
   -- what is kept is put back, where the state but for the lock is right already
   puts-back : (s : State S (View D E)) (id : ℕ) (me : Me S (View D E)) (free : ℕ) (y : S) (w : View D E) (then : ℕ → Me S (View D E) → Type 0) → me.1 ≡ (0, y) ∷ [] → IsTakenOut s.words s.homes
-      → IsLock log fits (words_of free) (some y ∷ []) (set s.views id w) → ((n : ℕ) → then n (w, [])) → Owes id me (λ _. free) then s.views s.words s.homes
+      → IsLock log fits top (words_of free) (some y ∷ []) (set s.views id w) → ((n : ℕ) → then n (w, [])) → Owes id me (λ _. free) then s.views s.words s.homes
   puts-back s id me free y w then hands t after told =
       let here : Owes id (me.0, (0, y) ∷ []) (λ _. free) then s.views (words_of (suc (suc t.mark))) (none ∷ []) = (w, gives, tt, after, told (suc (suc t.mark))) in
       subst (λ (x : List ℕ × List (Option S) × List (ℕ × S)). Owes id (me.0, x.2) (λ _. free) then s.views x.0 x.1) (λ i. (sym t.word i, sym t.away i, sym hands i)) here
@@ -248,6 +250,7 @@ module _ {S D E : Type 0} (log : S → Log D E) (fits : S → Type 0) where
       let q = first-stays s.views id b.first me.0 w b.at_first at refl in
       puts-back s id me free turn.kept w (λ _ x. x ≡ (w, [])) turn.hands t record {
         now = b.now;
+        headed = b.headed;
         owners = b.owners;
         long = b.long;
         holder = none;
@@ -275,6 +278,7 @@ module _ {S D E : Type 0} (log : S → Log D E) (fits : S → Type 0) where
       let q = first-stays s.views id b.first me.0 w b.at_first at refl in
       puts-back s id me free turn.kept w (λ _ x. x ≡ (w, [])) turn.hands t record {
         now = now;
+        headed = b.headed;
         owners = owners;
         long = omega (arith, b.long, length-append b.owners (seat_tag id ∷ []), length-append b.now.entries (e ∷ []));
         holder = none;
@@ -300,9 +304,10 @@ module _ {S D E : Type 0} (log : S → Log D E) (fits : S → Type 0) where
       } (λ _. refl)
 
   -- a new seat
-  sits-at : (s : State S (View D E)) (b : Kept s) (w : View D E) → w.live ≡ true → w.locks ≡ false → w.own.made ≡ [] → IsBeginning w.own.seen b.now → IsLock log fits s.words s.homes (s.views ++ w ∷ [])
+  sits-at : (s : State S (View D E)) (b : Kept s) (w : View D E) → w.live ≡ true → w.locks ≡ false → w.own.made ≡ [] → IsBeginning w.own.seen b.now → IsLock log fits top s.words s.homes (s.views ++ w ∷ [])
   sits-at s b w live locks none_made behind = record {
     now = b.now;
+    headed = b.headed;
     owners = b.owners;
     long = b.long;
     holder = b.holder;
@@ -321,13 +326,13 @@ module _ {S D E : Type 0} (log : S → Log D E) (fits : S → Type 0) where
     lock = b.lock;
   }
 
-  pub sits : (slots : ℕ) → Enters Kept slots 16 (λ _ w. ◌≡◌ {A = Me S (View D E)} (w, []) (newcomer w.own.seen, []))
-  sits slots s b len small = (newcomer b.now, sits-at s b (newcomer b.now) refl refl refl (beginning-self b.now), refl)
+  pub sits : (slots : ℕ) → Enters Kept slots 16 (λ _ w. (◌≡◌ {A = Me S (View D E)} (w, []) (newcomer w.own.seen, [])) × (w.own.seen.head ≡ top))
+  sits slots s b len small = (newcomer b.now, sits-at s b (newcomer b.now) refl refl refl (beginning-self b.now), (refl, b.headed))
 
   pub issues : (id : ℕ) (v : View D E) → v.live ≡ true → Splits Kept id v v (newcomer v.own.seen)
   issues id v live s b at =
       let w = newcomer v.own.seen in
-      subst (λ l. IsLock log fits s.words s.homes (l ++ w ∷ [])) (sym (set_again s.views id v at)) (sits-at s b w refl refl refl ((b.seats id v at).behind live))
+      subst (λ l. IsLock log fits top s.words s.homes (l ++ w ∷ [])) (sym (set_again s.views id v at)) (sits-at s b w refl refl refl ((b.seats id v at).behind live))
 
   -- the first seat is told what another has seen and made
   tells-first : (d : D) (v : View D E) (other : ℕ) (w : View D E) → v.live ≡ true → w.live ≡ true → Joins Kept 0 v other w (told_of v w) (gone d)
@@ -346,6 +351,7 @@ module _ {S D E : Type 0} (log : S → Log D E) (fits : S → Type 0) where
       let lengths : length (set one other (gone d)) ≡ length s.views = length-set one other (gone d) ∙ length-set s.views 0 both in
       let inner = inside s.views other w was in record {
         now = b.now;
+        headed = b.headed;
         owners = owners;
         long = length-map b.owners (renamed a c) ∙ b.long;
         holder = b.holder;
@@ -391,7 +397,7 @@ module _ {S D E : Type 0} (log : S → Log D E) (fits : S → Type 0) where
         me.0,
         keeps,
         tt,
-        subst (λ ws. IsLock log fits ws s.homes (set s.views 0 me.0)) (sym (word-stays s b)) (again s.words s.homes s.views 0 me.0 at b),
+        subst (λ ws. IsLock log fits top ws s.homes (set s.views 0 me.0)) (sym (word-stays s b)) (again s.words s.homes s.views 0 me.0 at b),
         (refl, subst (λ h. (owners : List ℕ) × (length owners ≡ length h.entries) × AreTold h owners me.0.told) seen (b.owners, b.long, told)),
       )
 

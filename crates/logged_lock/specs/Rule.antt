@@ -3,10 +3,16 @@ use Rattle.std.specs.Prelude.{◌≡◌, ℕ, suc, ◌+◌, ◌<◌, ◌≤◌, 
 use mathlib.Core.Option.{Option, some, none}
 use lib.ListN.{get_elem?}
 use Rattle.atomic_table.specs.Table.{Me}
+use Rattle.atomic_table.specs.Seated.{TableId}
 use Rattle.logged_lock.specs.declared.views.Log.{Log}
 use Rattle.logged_lock.specs.declared.views.Account.{Account}
 use Rattle.logged_lock.specs.declared.views.View.{View}
 use Rattle.logged_lock.specs.Log.{with_entry, IsBeginning, owned, made_by, AreBehind}
+
+-- which lock it is, and the head of the log of what lies under it, which never changes
+pub record LockAt (D : Type 0) : Type 0 where
+  pub id : TableId
+  pub head : D
 
 -- the words of a lock whose word is this number: those around it are never used
 abbrev pub words_of : ℕ → List ℕ
@@ -75,9 +81,10 @@ pub record IsTakenOut {S : Type 0} (words : List ℕ) (homes : List (Option S)) 
   pub word : words ≡ words_of (suc (suc mark))
   pub away : homes ≡ none ∷ []
 
--- what holds of a lock at every moment
-pub record IsLock {S D E : Type 0} (log : S → Log D E) (fits : S → Type 0) (words : List ℕ) (homes : List (Option S)) (views : List (View D E)) : Type 0 where
+-- what holds at every moment of a lock over a log with this head
+pub record IsLock {S D E : Type 0} (log : S → Log D E) (fits : S → Type 0) (head : D) (words : List ℕ) (homes : List (Option S)) (views : List (View D E)) : Type 0 where
   pub now : Log D E
+  pub headed : now.head ≡ head
   pub owners : List ℕ
   pub long : length owners ≡ length now.entries
   pub holder : Option ℕ

@@ -46,7 +46,7 @@ fn is_open(word: u64, sleeps: u64) -> bool
     word == FREE || (word == LEFT && sleeps != 0)
 }
 
-/// A lock. Who has it has what lies under it. A contract sees which lock it is.
+/// A lock. Who has it has what lies under it. A contract sees which lock it is, and the head of the log, which never changes.
 #[derive(Drop)]
 pub struct LoggedLock<S: Logged<D, E>, D, E> {
     table: Table<S, View<D, E>, D, LockRule, Global>,
@@ -54,11 +54,11 @@ pub struct LoggedLock<S: Logged<D, E>, D, E> {
 
 impl<S: Logged<D, E>, D, E> Model for LoggedLock<S, D, E> {
     ghost use Rattle.std.specs.Prelude.{◌≡◌};
-    ghost use Rattle.atomic_table.specs.Seated.{TableId};
+    ghost use Rattle.logged_lock.specs.Rule.{LockAt};
 
-    ghost Value = { TableId };
+    ghost Value = { LockAt D };
 
-    ghost view = { λ l. l.table.shared.table_id };
+    ghost view = { λ l. record { id = l.table.shared.table_id; head = l.table.shared.key } };
 
     ghost invariant = { λ l. (l.table.shared.table_id.words ≡ 33) × (l.table.shared.table_id.slots ≡ 1) };
 }
@@ -72,7 +72,8 @@ impl<S: Logged<D, E>, D: Head, E> LoggedLock<S, D, E> {
     ) -> Result<(LoggedLock<S, D, E>, LockSeat<S, D, E>), AllocError>
         requires fits { S.fits kept }
         requires fresh { S.log kept ≡ start_of head.now }
-        ensures own { IfOk result (λ made. made.1.table_id ≡ made.0) }
+        ensures own { IfOk result (λ made. made.1.table_id ≡ made.0.id) }
+        ensures head { IfOk result (λ made. made.0.head ≡ head.now) }
         ensures first { IfOk result (λ made. made.1.id ≡ 0) }
         ensures seat { IfOk result (λ made. made.1.me ≡ (newcomer (start_of head.now), [])) }
     {
@@ -88,7 +89,7 @@ impl<S: Logged<D, E>, D: Head, E> LoggedLock<S, D, E> {
     fn take(&self, seat: &mut LockSeat<S, D, E>, current: u64, next: u64) -> bool
         requires free { current < 2 }
         requires taken { 2 ≤ next }
-        requires own { seat.old.table_id ≡ self.now }
+        requires own { seat.old.table_id ≡ self.now.id }
         requires idle { IsIdle seat.old.me }
         ensures same { (seat.new.table_id ≡ seat.old.table_id) × (seat.new.id ≡ seat.old.id) }
         ensures taken { MatchBool result (IsTaken S.log S.fits seat.old.me seat.new.me) (seat.new.me ≡ seat.old.me) }
@@ -102,7 +103,7 @@ impl<S: Logged<D, E>, D: Head, E> LoggedLock<S, D, E> {
     // Raises the word of a taken lock from this one to the next one, and says whether it was this one.
     fn mark(&self, seat: &mut LockSeat<S, D, E>, current: u64, next: u64) -> bool
         requires taken { (2 ≤ current) × (2 ≤ next) }
-        requires own { seat.old.table_id ≡ self.now }
+        requires own { seat.old.table_id ≡ self.now.id }
         ensures same { (seat.new.table_id ≡ seat.old.table_id) × (seat.new.id ≡ seat.old.id) × (seat.new.me ≡ seat.old.me) }
     {
         self.table
@@ -135,7 +136,7 @@ impl<S: Logged<D, E>, D: Head, E> LoggedLock<S, D, E> {
     // Sleeps while the word is this one, once it says that a thread may sleep, and gives the word afterwards.
     fn sleep<R: Wait>(&self, rt: &R, seat: &mut LockSeat<S, D, E>, word: u64, sleeps: u64) -> u64
         requires small { word ≤ 4 }
-        requires own { seat.old.table_id ≡ self.now }
+        requires own { seat.old.table_id ≡ self.now.id }
         ensures same { (seat.new.table_id ≡ seat.old.table_id) × (seat.new.id ≡ seat.old.id) × (seat.new.me ≡ seat.old.me) }
         ensures small { result ≤ 4 }
     {
@@ -153,7 +154,7 @@ impl<S: Logged<D, E>, D: Head, E> LoggedLock<S, D, E> {
 
     /// Takes the lock if it is free.
     pub fn try_lock(&self, seat: &mut LockSeat<S, D, E>) -> bool
-        requires own { seat.old.table_id ≡ self.now }
+        requires own { seat.old.table_id ≡ self.now.id }
         requires idle { IsIdle seat.old.me }
         ensures same { (seat.new.table_id ≡ seat.old.table_id) × (seat.new.id ≡ seat.old.id) }
         ensures taken { MatchBool result (IsTaken S.log S.fits seat.old.me seat.new.me) (seat.new.me ≡ seat.old.me) }
@@ -161,16 +162,15 @@ impl<S: Logged<D, E>, D: Head, E> LoggedLock<S, D, E> {
         self.take(seat, FREE, TAKEN)
     }
 
-    /// Takes the lock once it is free. A thread that waits looks at it for a while, and then sleeps until it is given back.
-    pub fn lock<R: Wait>(&self, rt: &R, seat: &mut LockSeat<S, D, E>)
-        requires own { seat.old.table_id ≡ self.now }
+    // Takes the lock once it is free. It looks at it for a while, and then sleeps until it is given back.
+    #[cold]
+    #[inline(never)]
+    fn wait<R: Wait>(&self, rt: &R, seat: &mut LockSeat<S, D, E>)
+        requires own { seat.old.table_id ≡ self.now.id }
         requires idle { IsIdle seat.old.me }
         ensures same { (seat.new.table_id ≡ seat.old.table_id) × (seat.new.id ≡ seat.old.id) }
         ensures taken { IsTaken S.log S.fits seat.old.me seat.new.me }
     {
-        if self.try_lock(seat) {
-            return;
-        }
         let mut word = self.spin();
         if word == FREE && self.try_lock(seat) {
             return;
@@ -190,6 +190,18 @@ impl<S: Logged<D, E>, D: Head, E> LoggedLock<S, D, E> {
         unreachable!()
     }
 
+    /// Takes the lock once it is free. A thread that waits looks at it for a while, and then sleeps until it is given back.
+    pub fn lock<R: Wait>(&self, rt: &R, seat: &mut LockSeat<S, D, E>)
+        requires own { seat.old.table_id ≡ self.now.id }
+        requires idle { IsIdle seat.old.me }
+        ensures same { (seat.new.table_id ≡ seat.old.table_id) × (seat.new.id ≡ seat.old.id) }
+        ensures taken { IsTaken S.log S.fits seat.old.me seat.new.me }
+    {
+        if !self.try_lock(seat) {
+            self.wait(rt, seat);
+        }
+    }
+
     // The word for a lock that is given back.
     fn next_word(&self) -> u64
         ensures { result < 2 }
@@ -206,7 +218,7 @@ impl<S: Logged<D, E>, D: Head, E> LoggedLock<S, D, E> {
 
     /// Gives the lock back with no entry.
     pub fn unlock(&self, seat: &mut LockSeat<S, D, E>)
-        requires own { seat.old.table_id ≡ self.now }
+        requires own { seat.old.table_id ≡ self.now.id }
         requires unchanged { HasLock S.log S.fits seat.old.me seat.old.me.0.own.seen }
         ensures same { (seat.new.table_id ≡ seat.old.table_id) × (seat.new.id ≡ seat.old.id) }
         ensures unlocked { seat.new.me ≡ (unlocked seat.old.me.0, []) }
@@ -218,7 +230,7 @@ impl<S: Logged<D, E>, D: Head, E> LoggedLock<S, D, E> {
 
     /// Gives the lock back with an entry, which is the seat's own from then on.
     pub fn unlock_with<P: NextEntry<E>>(&self, seat: &mut LockSeat<S, D, E>)
-        requires own { seat.old.table_id ≡ self.now }
+        requires own { seat.old.table_id ≡ self.now.id }
         requires longer { HasLock S.log S.fits seat.old.me (with_entry seat.old.me.0.own.seen P.entry) }
         ensures same { (seat.new.table_id ≡ seat.old.table_id) × (seat.new.id ≡ seat.old.id) }
         ensures unlocked { seat.new.me ≡ (unlocked_with P.entry seat.old.me.0, []) }
@@ -230,7 +242,8 @@ impl<S: Logged<D, E>, D: Head, E> LoggedLock<S, D, E> {
 
     /// A new seat, from which nothing was made, for who has none.
     pub fn guest(&self) -> LockSeat<S, D, E>
-        ensures own { result.table_id ≡ self.now }
+        ensures own { result.table_id ≡ self.now.id }
+        ensures head { result.me.0.own.seen.head ≡ self.now.head }
         ensures seat { result.me ≡ (newcomer result.me.0.own.seen, []) }
     {
         self.table.shared.load_new_seat::<Sits>(WORD).1
@@ -238,7 +251,7 @@ impl<S: Logged<D, E>, D: Head, E> LoggedLock<S, D, E> {
 
     /// A new seat, from which nothing was made, and which has seen what this one has seen.
     pub fn issue(&self, seat: &mut LockSeat<S, D, E>) -> LockSeat<S, D, E>
-        requires own { seat.old.table_id ≡ self.now }
+        requires own { seat.old.table_id ≡ self.now.id }
         requires live { seat.old.me.0.live ≡ true }
         ensures same { (seat.new.table_id ≡ seat.old.table_id) × (seat.new.id ≡ seat.old.id) × (seat.new.me ≡ seat.old.me) }
         ensures own { result.table_id ≡ seat.old.table_id }
@@ -249,7 +262,7 @@ impl<S: Logged<D, E>, D: Head, E> LoggedLock<S, D, E> {
 
     /// Lets the first seat know what another has seen and made, which is spent.
     pub fn tell(&self, first: &mut LockSeat<S, D, E>, other: LockSeat<S, D, E>)
-        requires own { (first.old.table_id ≡ self.now) × (other.table_id ≡ self.now) }
+        requires own { (first.old.table_id ≡ self.now.id) × (other.table_id ≡ self.now.id) }
         requires first { first.old.id ≡ 0 }
         requires live { first.old.me.0.live ≡ true }
         requires idle { IsIdle other.me }
@@ -262,7 +275,7 @@ impl<S: Logged<D, E>, D: Head, E> LoggedLock<S, D, E> {
     /// Shows what the log is made of, by the first seat, which has the lock. Where those that it was told of have made as many
     /// entries as the log has, the log is a merge of what they made.
     pub fn settle(&self, first: &mut LockSeat<S, D, E>)
-        requires own { first.old.table_id ≡ self.now }
+        requires own { first.old.table_id ≡ self.now.id }
         requires first { first.old.id ≡ 0 }
         requires locks { first.old.me.0.locks ≡ true }
         ensures same { (first.new.table_id ≡ first.old.table_id) × (first.new.id ≡ first.old.id) × (first.new.me ≡ first.old.me) }
@@ -275,14 +288,14 @@ impl<S: Logged<D, E>, D: Head, E> LoggedLock<S, D, E> {
 
     /// The table for `slot_mut` of a seat that has the lock, which lends what lies under it, in slot 0.
     pub fn table(&self) -> &Shared<S, View<D, E>, D, LockRule>
-        ensures { result.now.table_id ≡ self.now }
+        ensures { result.now.table_id ≡ self.now.id }
     {
         &self.table.shared
     }
 
     /// What lies under the lock, by the seat that has it, which gets this in its place.
     pub fn replace(&self, seat: &mut LockSeat<S, D, E>, kept: S) -> S
-        requires own { seat.old.table_id ≡ self.now }
+        requires own { seat.old.table_id ≡ self.now.id }
         requires locks { (old : S) × (seat.old.me.1 ≡ (0, old) ∷ []) }
         ensures same { (seat.new.table_id ≡ seat.old.table_id) × (seat.new.id ≡ seat.old.id) × (seat.new.me.0 ≡ seat.old.me.0) }
         ensures old { seat.old.me.1 ≡ (0, result) ∷ [] }

@@ -11,7 +11,7 @@ impl<D, E, S: Logged<D, E>> TableRule<S, View<D, E>, D> for LockRule {
     ghost use Rattle.logged_lock.specs.Log.{start_of};
     ghost use Rattle.logged_lock.specs.Rule.{IsLock, newcomer};
 
-    ghost holds = { λ _ s. IsLock S.log S.fits s.words s.homes s.views };
+    ghost holds = { λ d s. IsLock S.log S.fits d s.words s.homes s.views };
 
     ghost first = { λ d. newcomer (start_of d) };
 }
@@ -62,14 +62,14 @@ impl<S, D, E, P: NextEntry<E>> Play<S, View<D, E>> for LeavesWith<P> {
     ghost then = { λ _ before _ after. after ≡ (unlocked_with P.entry before.0, []) };
 }
 
-/// A new seat, from which nothing was made.
+/// A new seat, from which nothing was made. What it has seen has the head that the table was told.
 pub struct Sits;
 
 impl<S, D, E> Play<S, View<D, E>> for Sits {
     ghost use Rattle.std.specs.Prelude.{◌≡◌, []};
     ghost use Rattle.logged_lock.specs.Rule.{newcomer};
 
-    ghost then = { λ _ _ _ after. after ≡ (newcomer after.0.own.seen, []) };
+    ghost then = { λ _ before _ after. (after ≡ (newcomer after.0.own.seen, [])) × (after.0.own.seen.head ≡ before.0.own.seen.head) };
 }
 
 /// The first seat learns what the log is made of.

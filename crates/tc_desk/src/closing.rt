@@ -46,7 +46,7 @@ fn are_balanced<J: Journal>(
     first: &mut DeskSeat<J>,
     operators: &[DeskOperator],
 ) -> bool
-    requires own { first.old.table_id ≡ lock.now }
+    requires own { first.old.table_id ≡ lock.now.id }
     requires locks { HasLock (λ k. log_of k.desk) (λ k. IsSome k.desk) first.old.me first.old.me.0.own.seen }
     ensures same { (first.new.table_id ≡ first.old.table_id) × (first.new.id ≡ first.old.id) × (first.new.me.0 ≡ first.old.me.0) }
     ensures locks { HasLock (λ k. log_of k.desk) (λ k. IsSome k.desk) first.new.me first.old.me.0.own.seen }
@@ -58,9 +58,9 @@ fn are_balanced<J: Journal>(
 
 // Lets the first seat know what an operator has seen and made.
 fn tell_one<J: Journal>(lock: &DeskLock<J>, first: &mut DeskSeat<J>, operator: DeskOperator)
-    requires own { first.old.table_id ≡ lock.now }
+    requires own { first.old.table_id ≡ lock.now.id }
     requires first { (first.old.id ≡ 0) × (first.old.me.0.live ≡ true) }
-    requires ours { operator.lock ≡ lock.now }
+    requires ours { operator.lock ≡ lock.now.id }
     ensures first { (first.new.table_id ≡ first.old.table_id) × (first.new.id ≡ 0) × (first.new.me.1 ≡ first.old.me.1) }
     ensures told { first.new.me.0 ≡ told_all first.old.me.0 (operator.own ∷ []) }
 {
@@ -70,9 +70,9 @@ fn tell_one<J: Journal>(lock: &DeskLock<J>, first: &mut DeskSeat<J>, operator: D
 // The same of all operators, in their order.
 #[tactic(auto, using(crate::proofs::Told::told_next))]
 fn tell_all<J: Journal>(lock: &DeskLock<J>, first: &mut DeskSeat<J>, operators: Vec<DeskOperator>)
-    requires own { first.old.table_id ≡ lock.now }
+    requires own { first.old.table_id ≡ lock.now.id }
     requires first { (first.old.id ≡ 0) × (first.old.me.0.live ≡ true) }
-    requires ours { All (λ o. o.lock ≡ lock.now) operators.items }
+    requires ours { All (λ o. o.lock ≡ lock.now.id) operators.items }
     ensures first { (first.new.table_id ≡ first.old.table_id) × (first.new.id ≡ 0) × (first.new.me.1 ≡ first.old.me.1) }
     ensures told { first.new.me.0 ≡ told_all first.old.me.0 (accounts_of operators.items) }
 {
@@ -87,11 +87,11 @@ fn take_out<J: Journal>(
     mut first: DeskSeat<J>,
     operators: Vec<DeskOperator>,
 ) -> ChannelWith<J>
-    requires own { first.table_id ≡ lock }
+    requires own { first.table_id ≡ lock.id }
     requires first { first.id ≡ 0 }
     requires locks { HasLock (λ k. log_of k.desk) (λ k. IsSome k.desk) first.me first.me.0.own.seen }
     requires told { first.me.0.told ≡ [] }
-    requires ours { All (λ o. o.lock ≡ lock) operators.items }
+    requires ours { All (λ o. o.lock ≡ lock.id) operators.items }
     requires balanced { IsBalanced (accounts_of operators.items) first.me.0.own.seen.entries }
     ensures merge { IsMergeOf result.journal (accounts_of operators.items) }
     ensures settings { result.settings ≡ first.me.0.own.seen.head.settings }
@@ -131,10 +131,10 @@ impl<J: Journal> LockedDesk<J> {
         keeper: DeskKeeper,
         operators: Vec<DeskOperator>,
     ) -> Result<ChannelWith<J>, Unclosed<J>>
-        requires keeper { keeper.lock ≡ self }
-        requires ours { All (λ o. o.lock ≡ self) operators.items }
+        requires keeper { keeper.lock ≡ self.id }
+        requires ours { All (λ o. o.lock ≡ self.id) operators.items }
         ensures closed { IfOk result (IsClosed keeper operators.items) }
-        ensures kept { IfErr result (λ left. (left.desk ≡ self) × (left.keeper.lock ≡ self) × (left.operators.items ≡ operators.items)) }
+        ensures kept { IfErr result (λ left. (left.desk ≡ self) × (left.keeper.lock ≡ self.id) × (left.operators.items ≡ operators.items)) }
         ensures obstacle { IfErr result (λ left. IsObstacle keeper operators.items left.obstacle) }
     {
         let LockedDesk { lock } = self;

@@ -31,7 +31,7 @@ impl<J: Journal> Model for HeldDesk<J> {
 
     ghost view = { λ h. record { keeper = h.keeper.value; now = h.first.me.0.own.seen; told = h.first.me.0.told } };
 
-    ghost invariant = { λ h. (h.first.table_id ≡ h.lock) × (h.keeper.value.lock ≡ h.lock) × (h.first.id ≡ 0)
+    ghost invariant = { λ h. (h.first.table_id ≡ h.lock.id) × (h.keeper.value.lock ≡ h.lock.id) × (h.keeper.value.own.seen.head ≡ h.lock.head) × (h.first.id ≡ 0)
         × (h.first.me.0.own.seen.head ≡ h.keeper.value.own.seen.head)
         × (h.events ≡ min (length h.first.me.0.own.seen.entries) (2 ^ 64 - 1))
         × HasLock (λ k. log_of k.desk) (λ k. IsSome k.desk) h.first.me h.first.me.0.own.seen };

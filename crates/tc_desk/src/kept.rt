@@ -69,18 +69,6 @@ impl<J: Journal> KeptDesk<J> {
         desk.into_channel()
     }
 
-    // The desk does what the operation asks for.
-    pub(crate) fn operate<O: Operation<J>>(&mut self, operation: &O) -> Result<O::Answer, O::Fault>
-        requires { IsSome self.old.desk }
-        ensures there { IsSome self.new.desk }
-        ensures step { IsStep (O.event operation.now) (O.answers operation.now) (O.refuses operation.now) (log_of self.old.desk) result (log_of self.new.desk) }
-    {
-        let Some(desk) = &mut self.desk else {
-            unreachable!()
-        };
-        operation.run(desk)
-    }
-
     // The desk answers the question.
     pub(crate) fn answer<Q: Question<J>>(&mut self, question: &Q) -> Q::Answer
         requires { IsSome self.old.desk }

@@ -33,16 +33,17 @@ pub(crate) type DeskSeat<J> = LockSeat<KeptDesk<J>, DeskHead, Event>;
 
 pub(crate) type DeskBadge = Badge<View<DeskHead, Event>>;
 
-/// A desk behind a lock, which threads share. A contract sees which lock it is.
+/// A desk behind a lock, which threads share. A contract sees which lock it is, and what never changes of the desk.
 #[derive(Drop)]
 pub struct LockedDesk<J: Journal> {
     pub(crate) lock: DeskLock<J>,
 }
 
 impl<J: Journal> Model for LockedDesk<J> {
-    ghost use Rattle.atomic_table.specs.Seated.{TableId};
+    ghost use Rattle.logged_lock.specs.Rule.{LockAt};
+    ghost use Rattle.tc_desk.specs.Log.{Identity};
 
-    ghost Value = { TableId };
+    ghost Value = { LockAt Identity };
 
     ghost view = { λ d. d.lock };
 }
@@ -85,66 +86,34 @@ impl Model for DeskKeeper {
     ghost invariant = { λ k. IsResting k.badge.badge.views × ((view_in k.badge.badge.views).told ≡ []) × (k.badge.badge.id ≡ 0) };
 }
 
-// The desk does what the operation asks for, by the seat that has the lock.
-fn operate_at<J: Journal, O: Operation<J>>(
+// Takes the lock, does what the operation asks for, and gives the lock back: with the event where it is answered. An answer is
+// handed on as it is, since each match on it would copy it.
+fn operate_by<P: Occasion, J: Journal, O: Operation<J>, R: Wait>(
     lock: &DeskLock<J>,
-    seat: &mut DeskSeat<J>,
-    operation: &O,
-) -> Result<O::Answer, O::Fault>
-    requires own { seat.old.table_id ≡ lock.now }
-    requires locks { HasLock (λ k. log_of k.desk) (λ k. IsSome k.desk) seat.old.me seat.old.me.0.own.seen }
-    ensures same { (seat.new.table_id ≡ seat.old.table_id) × (seat.new.id ≡ seat.old.id) × (seat.new.me.0 ≡ seat.old.me.0) }
-    ensures step { (after : Moment) × HasLock (λ k. log_of k.desk) (λ k. IsSome k.desk) seat.new.me after
-        × IsStep (O.event operation.now) (O.answers operation.now) (O.refuses operation.now) seat.old.me.0.own.seen result after }
-{
-    let kept = seat.slot_mut(lock.table(), 0);
-    kept.operate(operation)
-}
-
-// Does what the operation asks for by the seat that has the lock, and gives the lock back: with the event where it is answered.
-fn operate_with<P: Occasion, J: Journal, O: Operation<J>>(
-    lock: &DeskLock<J>,
-    seat: &mut DeskSeat<J>,
+    rt: &R,
+    badge: &mut DeskBadge,
     operation: &O,
 ) -> Result<O::Answer, O::Fault>
     requires event { P.event ≡ O.event operation.now }
-    requires own { seat.old.table_id ≡ lock.now }
-    requires locks { HasLock (λ k. log_of k.desk) (λ k. IsSome k.desk) seat.old.me seat.old.me.0.own.seen }
-    ensures same { (seat.new.table_id ≡ seat.old.table_id) × (seat.new.id ≡ seat.old.id) }
-    ensures hands { seat.new.me.1 ≡ [] }
-    ensures moment { IsMoment seat.old.me.0.own.seen }
-    ensures done { MatchResult result
-        (λ answer. O.answers operation.now seat.old.me.0.own.seen answer × (seat.new.me.0 ≡ unlocked_with (O.event operation.now) seat.old.me.0))
-        (λ fault. O.refuses operation.now seat.old.me.0.own.seen fault × (seat.new.me.0 ≡ unlocked seat.old.me.0)) }
+    requires own { badge.old.table_id ≡ lock.now.id }
+    requires resting { IsResting badge.old.views }
+    ensures resting { IsResting badge.new.views }
+    ensures call { IsCall (O.event operation.now) (O.answers operation.now) (O.refuses operation.now) (at_lock badge.old.table_id badge.old.views) result (at_lock badge.new.table_id badge.new.views) }
 {
-    match operate_at(lock, seat, operation) {
-        Ok(answer) => {
-            lock.unlock_with::<Makes<P>>(seat);
-            Ok(answer)
-        }
-        Err(fault) => {
-            lock.unlock(seat);
-            Err(fault)
-        }
-    }
-}
-
-// Takes the lock, does what the operation asks for, and gives the lock back.
-fn operate_by<J: Journal, O: Operation<J>, R: Wait>(
-    lock: &DeskLock<J>,
-    rt: &R,
-    badge: DeskBadge,
-    operation: &O,
-) -> (DeskBadge, Result<O::Answer, O::Fault>)
-    requires own { badge.table_id ≡ lock.now }
-    requires resting { IsResting badge.views }
-    ensures resting { IsResting result.0.views }
-    ensures call { IsCall (O.event operation.now) (O.answers operation.now) (O.refuses operation.now) (at_lock badge.table_id badge.views) result.1 (at_lock result.0.table_id result.0.views) }
-{
-    let mut seat: DeskSeat<J> = badge.into_seat();
+    let mut seat: DeskSeat<J> = mem::replace(badge, Badge::blank()).into_seat();
     lock.lock(rt, &mut seat);
-    let answer = operate_with::<Brand, J, O>(lock, &mut seat, operation);
-    (seat.into_badge(), answer)
+    let kept = seat.slot_mut(lock.table(), 0);
+    let Some(desk) = &mut kept.desk else {
+        unreachable!()
+    };
+    let answer = operation.run(desk);
+    if answer.is_ok() {
+        lock.unlock_with::<Makes<P>>(&mut seat);
+    } else {
+        lock.unlock(&mut seat);
+    }
+    *badge = seat.into_badge();
+    answer
 }
 
 // The desk answers the question, by the seat that has the lock.
@@ -153,7 +122,7 @@ pub(crate) fn answer_at<J: Journal, Q: Question<J>>(
     seat: &mut DeskSeat<J>,
     question: &Q,
 ) -> Q::Answer
-    requires own { seat.old.table_id ≡ lock.now }
+    requires own { seat.old.table_id ≡ lock.now.id }
     requires locks { HasLock (λ k. log_of k.desk) (λ k. IsSome k.desk) seat.old.me seat.old.me.0.own.seen }
     ensures same { (seat.new.table_id ≡ seat.old.table_id) × (seat.new.id ≡ seat.old.id) × (seat.new.me.0 ≡ seat.old.me.0) }
     ensures asked { (after : Moment) × HasLock (λ k. log_of k.desk) (λ k. IsSome k.desk) seat.new.me after
@@ -170,7 +139,7 @@ fn ask_by<J: Journal, Q: Question<J>, R: Wait>(
     badge: DeskBadge,
     question: &Q,
 ) -> (DeskBadge, Q::Answer)
-    requires own { badge.table_id ≡ lock.now }
+    requires own { badge.table_id ≡ lock.now.id }
     requires resting { IsResting badge.views }
     ensures resting { IsResting result.0.views }
     ensures made { (view_in result.0.views).own.made ≡ (view_in badge.views).own.made }
@@ -185,7 +154,7 @@ fn ask_by<J: Journal, Q: Question<J>, R: Wait>(
 
 // A new seat, from the first one.
 fn issue_from<J: Journal>(lock: &DeskLock<J>, keeper: DeskBadge) -> (DeskBadge, DeskBadge)
-    requires own { keeper.table_id ≡ lock.now }
+    requires own { keeper.table_id ≡ lock.now.id }
     requires resting { IsResting keeper.views }
     ensures keeper { (result.0.table_id ≡ keeper.table_id) × (result.0.id ≡ keeper.id) × (result.0.views ≡ keeper.views) }
     ensures own { result.1.table_id ≡ keeper.table_id }
@@ -201,7 +170,7 @@ fn issue_from<J: Journal>(lock: &DeskLock<J>, keeper: DeskBadge) -> (DeskBadge, 
 impl DeskKeeper {
     /// A new operator, which has made nothing, and has seen what the keeper has seen.
     pub fn operator<J: Journal>(&mut self, desk: &LockedDesk<J>) -> DeskOperator
-        requires ours { self.old.lock ≡ desk.now }
+        requires ours { self.old.lock ≡ desk.now.id }
         ensures same { self.new ≡ self.old }
         ensures lock { result.lock ≡ self.old.lock }
         ensures seen { result.own.seen ≡ self.old.own.seen }
@@ -262,12 +231,10 @@ impl DeskOperator {
         rt: &R,
         operation: &O,
     ) -> Result<O::Answer, O::Fault>
-        requires ours { self.old.lock ≡ desk.now }
+        requires ours { self.old.lock ≡ desk.now.id }
         ensures call { IsCall (O.event operation.now) (O.answers operation.now) (O.refuses operation.now) self.old result self.new }
     {
-        let badge = mem::replace(&mut self.badge, Badge::blank());
-        let (badge, answer) = operate_by(&desk.lock, rt, badge, operation);
-        self.badge = badge;
+        let answer = operate_by::<Brand, J, O, R>(&desk.lock, rt, &mut self.badge, operation);
         if answer.is_ok() {
             let count: &mut u64 = &mut self.count;
             *count = count.saturating_add(1);
@@ -282,7 +249,7 @@ impl DeskOperator {
         rt: &R,
         question: &Q,
     ) -> Q::Answer
-        requires ours { self.old.lock ≡ desk.now }
+        requires ours { self.old.lock ≡ desk.now.id }
         ensures look { IsLook (Q.answers question.now) self.old result self.new }
     {
         let badge = mem::replace(&mut self.badge, Badge::blank());
@@ -298,7 +265,8 @@ impl<J: Journal> LockedDesk<J> {
         alloc: Global,
         settings: Settings,
     ) -> Result<(LockedDesk<J>, DeskKeeper), SettingsFault>
-        ensures keeper { IfOk result (λ made. made.1.lock ≡ made.0) }
+        ensures keeper { IfOk result (λ made. made.1.lock ≡ made.0.id) }
+        ensures head { IfOk result (λ made. made.1.own.seen.head ≡ made.0.head) }
         ensures settings { IfOk result (λ made. made.1.own.seen.head.settings ≡ settings) }
         ensures journal { IfOk result (λ made. made.1.own.seen.entries ≡ []) }
         ensures new { IfOk result (λ made. made.1.own.made ≡ []) }
@@ -313,10 +281,10 @@ impl<J: Journal> LockedDesk<J> {
         Ok((LockedDesk { lock }, DeskKeeper::of(first.into_badge())))
     }
 
-    /// The desk's answer to the question at a moment under the lock, for who has no operator. Of the desk no more is known then
-    /// than that its settings are allowed and its journal is lawful.
+    /// The desk's answer to the question at a moment under the lock, for who has no operator. Of that moment no more is known
+    /// than what never changes of the desk, and that its journal is lawful.
     pub fn ask_as_guest<Q: Question<J>, R: Wait>(&self, rt: &R, question: &Q) -> Q::Answer
-        ensures { (now : Moment) × IsMoment now × Q.answers question.now now result }
+        ensures { (now : Moment) × IsMoment now × (now.head ≡ self.now.head) × Q.answers question.now now result }
     {
         let badge = self.lock.guest().into_badge();
         let (_, answer) = ask_by(&self.lock, rt, badge, question);
@@ -329,7 +297,7 @@ impl<J: Journal> LockedDesk<J> {
         rt: &R,
         operator: &mut DeskOperator,
     ) -> Result<Delivery, ReleaseFault>
-        requires ours { operator.old.lock ≡ self.now }
+        requires ours { operator.old.lock ≡ self.now.id }
         ensures call { IsCall Event.Release IsReleased IsReleaseFault operator.old result operator.new }
     {
         operator.operate(self, rt, &Release)
@@ -342,7 +310,7 @@ impl<J: Journal> LockedDesk<J> {
         operator: &mut DeskOperator,
         frame: &Frame,
     ) -> Result<FrameReply, NoMemory>
-        requires ours { operator.old.lock ≡ self.now }
+        requires ours { operator.old.lock ≡ self.now.id }
         ensures call { IsCall (Event.Frame frame.now) (IsFramed frame.now) (IsFrameFault J.grows frame.now) operator.old result operator.new }
     {
         operator.operate(self, rt, &Framing { frame })
@@ -356,7 +324,7 @@ impl<J: Journal> LockedDesk<J> {
         operator: &mut DeskOperator,
         frame: &Frame,
     ) -> Result<(FrameReply, Watcher), NoMemory>
-        requires ours { operator.old.lock ≡ self.now }
+        requires ours { operator.old.lock ≡ self.now.id }
         ensures call { IsCall (Event.Frame frame.now) (IsFramedWatched frame.now) (λ _ _. ⊤) operator.old result operator.new }
     {
         operator.operate(self, rt, &WatchedFraming { frame })
@@ -369,7 +337,7 @@ impl<J: Journal> LockedDesk<J> {
         operator: &mut DeskOperator,
         apid: u16,
     ) -> Result<Vec<u8>, TakeFault>
-        requires ours { operator.old.lock ≡ self.now }
+        requires ours { operator.old.lock ≡ self.now.id }
         ensures call { IsCall (Event.Take apid) (λ m packet. IsTaken apid m packet.items) (IsTakeFault J.grows apid) operator.old result operator.new }
     {
         operator.operate(self, rt, &Taking { apid })
@@ -382,7 +350,7 @@ impl<J: Journal> LockedDesk<J> {
         operator: &mut DeskOperator,
         map: u8,
     ) -> Result<Vec<u8>, TakeUnitFault>
-        requires ours { operator.old.lock ≡ self.now }
+        requires ours { operator.old.lock ≡ self.now.id }
         ensures call { IsCall (Event.TakeUnit map) (λ m unit. IsUnitTaken map m unit.items) (IsTakeUnitFault J.grows map) operator.old result operator.new }
     {
         operator.operate(self, rt, &UnitTaking { map })
@@ -390,7 +358,7 @@ impl<J: Journal> LockedDesk<J> {
 
     /// A watcher of this desk's board, which has seen the channel as it is at a moment under the lock.
     pub fn watcher<R: Wait>(&self, rt: &R, operator: &mut DeskOperator) -> Result<Watcher, NoMemory>
-        requires ours { operator.old.lock ≡ self.now }
+        requires ours { operator.old.lock ≡ self.now.id }
         ensures look { IsLook (λ m answer. IfOk answer (HasSeen m (history_of m))) operator.old result operator.new }
     {
         operator.ask(self, rt, &Watching)
@@ -398,7 +366,7 @@ impl<J: Journal> LockedDesk<J> {
 
     /// FARM-1's components at a moment under the lock.
     pub fn report<R: Wait>(&self, rt: &R, operator: &mut DeskOperator) -> Report
-        requires ours { operator.old.lock ≡ self.now }
+        requires ours { operator.old.lock ≡ self.now.id }
         ensures look { IsLook IsReport operator.old result operator.new }
     {
         operator.ask(self, rt, &Reporting)
@@ -406,7 +374,7 @@ impl<J: Journal> LockedDesk<J> {
 
     /// The CLCW with these flags of the link, at a moment under the lock.
     pub fn clcw<R: Wait>(&self, rt: &R, operator: &mut DeskOperator, link: Link) -> u32
-        requires ours { operator.old.lock ≡ self.now }
+        requires ours { operator.old.lock ≡ self.now.id }
         ensures look { IsLook (IsClcw link) operator.old result operator.new }
     {
         operator.ask(self, rt, &WordMaking { link })

@@ -24,7 +24,7 @@ impl<J: Journal> Model for Post<J> {
 
     ghost view = { λ p. p.keeper };
 
-    ghost invariant = { λ p. p.keeper.lock ≡ p.desk };
+    ghost invariant = { λ p. (p.keeper.lock ≡ p.desk.id) × (p.keeper.own.seen.head ≡ p.desk.head) };
 }
 
 impl<J: Journal> Post<J> {
@@ -40,7 +40,8 @@ impl<J: Journal> Post<J> {
 
     /// The desk, for the calls of operators.
     pub fn desk(&self) -> &LockedDesk<J>
-        ensures { result.now ≡ self.now.lock }
+        ensures lock { result.now.id ≡ self.now.lock }
+        ensures head { result.now.head ≡ self.now.own.seen.head }
     {
         &self.desk
     }

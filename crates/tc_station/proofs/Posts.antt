@@ -1,17 +1,19 @@
 -- The posts of a station, and the operators that are issued from them.
 use Rattle.std.proofs.Common.{◌≡◌, ℕ, zero, suc, ◌+◌, ◌<◌, List, [], ◌∷◌, length, map, get_or, replicate, take, drop, ◌++◌, refl, sym, ap, ◌∙◌, subst, arith, All}
-use Rattle.std.specs.Prelude.{slice_get, Some}
+use Rattle.std.specs.Prelude.{◌==◌, position, slice_get, Some}
 use Rattle.std.proofs.lemmas.Grind.{common_steps}
 use Rattle.std.proofs.lemmas.List.{length-map, get_or-map}
+use Rattle.std.proofs.lemmas.Option.{slice_get_read}
 use Rattle.tc_channel.specs.declared.settings.Settings.{Settings}
 use Rattle.tc_channel.specs.Journal.{History}
 use Rattle.tc_desk.specs.{TableId}
 use Rattle.tc_desk.specs.Log.{AtLock, Identity}
 use Rattle.tc_desk.specs.Together.{AreClosed, AreOurs, AreSame, heads_of, locks_of, settings_of}
-use Rattle.tc_station.specs.Roster.{Roster}
+use Rattle.tc_station.specs.Roster.{Roster, IsDeskOf}
 use Rattle.tc_station.specs.StationSettings.{vcids_of}
 use Rattle.tc_station.specs.Tally.{AtStation, Tally, HasMadeNothing, IsOurs, KnowsDesks, arrival, counts_of, fresh, newcomer, tallies, tally}
 use Rattle.tc_station.specs.Together.{crews_of}
+use Rattle.tc_station.proofs.Called.{id-of}
 
 -- the settings are in the heads
 pub settings-heads : (posts : List AtLock) → settings_of posts ≡ map (λ (h : Identity). h.settings) (heads_of posts)
@@ -87,6 +89,17 @@ issued-heads n station vcids posts operators heads is = subst (All (KnowsDesks s
 pub lock-at : (desks posts : List AtLock) (place : ℕ) (post : AtLock) → locks_of desks ≡ locks_of posts → place < length posts → post ≡ get_or posts place post → get_or (locks_of desks) place post.lock ≡ post.lock
 lock-at desks posts place post same inside is =
     ap (λ (l : List TableId). get_or l place post.lock) same ∙ (get_or-map (λ (o : AtLock). o.lock) posts place post post.lock inside ∙ ap (λ (o : AtLock). o.lock) (sym is))
+
+-- what never changes of a station's desk is that of the channel with this id
+pub desk-of : (station : Roster) (posts : List AtLock) (place vcid : ℕ) (post : AtLock) → vcids_of (settings_of posts) ≡ station.vcids → heads_of posts ≡ station.heads → post ≡ get_or posts place post → position (λ v. v == vcid) station.vcids ≡ Some place
+    → (post.own.seen.head.settings.vcid ≡ vcid) × IsDeskOf station vcid post.own.seen.head
+desk-of station posts place vcid post ids heads is at =
+    let id = id-of station.vcids posts place vcid post ids is at in
+    let head : AtLock → Identity = λ o. o.own.seen.head in
+    let read : head post ≡ get_or (heads_of posts) place (head post) = ap head is ∙ sym (get_or-map head posts place post (head post) id.0) in
+    let inside : place < length (heads_of posts) = omega (arith, id.0, length-map posts head) in
+    let here = slice_get_read (heads_of posts) (length (heads_of posts)) place (head post) refl inside read in
+    (id.1, (place, at, ap (λ (l : List Identity). slice_get l place) (sym heads) ∙ here))
 
 -- what is seen of a station with these posts
 abbrev pub at_posts : ℕ → List ℕ → ℕ → List AtLock → Roster

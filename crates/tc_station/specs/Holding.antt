@@ -5,10 +5,11 @@ use Rattle.tc_channel.specs.declared.settings.Settings.{Settings}
 use Rattle.tc_channel.specs.declared.settings.QueueSetting.{QueueSetting}
 use Rattle.tc_channel.specs.declared.settings.MapSetting.{MapSetting}
 use Rattle.tc_channel.specs.declared.event.Event.{Event}
-use Rattle.tc_channel.specs.Run.{run}
+use Rattle.tc_channel.specs.Run.{IsLawful, run}
 use Rattle.tc_channel.specs.Reply.{buffered_fields, waiting_packets, waiting_units}
 use Rattle.tc_station.specs.Moments.{AtSomeMomentOf}
-use Rattle.tc_station.specs.Roster.{Roster}
+use Rattle.tc_desk.specs.Log.{Identity}
+use Rattle.tc_station.specs.Roster.{Roster, IsDeskOf}
 use Rattle.tc_station.specs.declared.holding.Holding.{Holding}
 use Rattle.tc_station.specs.declared.holding.QueueHolding.{QueueHolding}
 use Rattle.tc_station.specs.declared.holding.MapHolding.{MapHolding}
@@ -34,6 +35,11 @@ holding_of s journal = record {
 -- the channel with this id has come to this at some moment
 abbrev pub IsHolding : Roster → ℕ → Holding → Type 0
 IsHolding station vcid holding = Contains station.vcids vcid × AtSomeMomentOf vcid (λ s journal. holding ≡ holding_of s journal)
+
+-- the same at a lawful journal with the settings of this very channel
+abbrev pub IsHoldingOf : Roster → ℕ → Holding → Type 0
+IsHoldingOf station vcid holding =
+    (head : Identity) × (journal : List Event) × IsDeskOf station vcid head × IsLawful head.settings journal × (holding ≡ holding_of head.settings journal)
 
 abbrev pub IsHoldingFault : Roster → ℕ → HoldingFault → Type 0
 IsHoldingFault station vcid UnknownChannel = ¬ Contains station.vcids vcid

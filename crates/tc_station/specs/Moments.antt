@@ -1,5 +1,5 @@
--- What the calls of a station answer: the reply at some moment of a channel with the id that was asked for. Who has no operator
--- knows no more. Of an operator's call, `Call` says that it is a moment of the very channel behind this lock.
+-- What the calls of a station answer: the reply at some moment of a channel with the id that was asked for. Of an operator's call,
+-- `Call` says that it is a moment of the very channel behind this lock.
 use Rattle.std.specs.Prelude.{◌≡◌, ◌≢◌, [], ℕ, List, Contains, Some}
 use Rattle.tc_channel.specs.declared.settings.Settings.{Settings}
 use Rattle.tc_channel.specs.declared.event.Event.{Event}
@@ -10,7 +10,9 @@ use Rattle.tc_channel.specs.Settings.{IsAllowed}
 use Rattle.tc_channel.specs.Journal.{History, with_event}
 use Rattle.tc_channel.specs.Run.{IsLawful}
 use Rattle.tc_channel.specs.Reply.{frame_reply, release_reply, take_reply, unit_reply, buffered_fields}
-use Rattle.tc_station.specs.Roster.{Roster}
+use Rattle.tc_status.specs.Board.{Watching}
+use Rattle.tc_desk.specs.Log.{Identity}
+use Rattle.tc_station.specs.Roster.{Roster, IsDeskOf}
 use Rattle.tc_station.specs.Location.{IsLocated}
 
 -- the journal of a channel with this id at some moment
@@ -46,3 +48,7 @@ IsUnitTaken station vcid map_id unit =
 -- the watcher has seen a moment of a channel
 abbrev pub IsWatched : Roster → ℕ → History → Type 0
 IsWatched station vcid seen = Contains station.vcids vcid × (seen.settings.vcid ≡ vcid) × IsAllowed seen.settings × IsLawful seen.settings seen.journal
+
+-- the watcher reads the board of this very channel, and has seen a moment of a channel with its settings
+abbrev pub IsWatcherOf : Roster → ℕ → Watching → Type 0
+IsWatcherOf station vcid watcher = (head : Identity) × IsDeskOf station vcid head × (watcher.board ≡ head.board) × (watcher.seen.settings ≡ head.settings)

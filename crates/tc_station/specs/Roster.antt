@@ -1,6 +1,6 @@
 -- What a contract sees of a station: its spacecraft id, the ids of its virtual channels in order, and how many operators it has
 -- issued; and of the desk of each channel its lock, and what never changes of it.
-use Rattle.std.specs.Prelude.{◌≡◌, ◌==◌, ℕ, List, map, position, Some}
+use Rattle.std.specs.Prelude.{◌≡◌, ◌==◌, ℕ, List, map, position, slice_get, Some}
 use Rattle.tc_channel.specs.declared.settings.Settings.{Settings}
 use Rattle.tc_desk.specs.{TableId}
 use Rattle.tc_desk.specs.Log.{Identity, AtLock}
@@ -20,6 +20,10 @@ settings_in station = map (λ (h : Identity). h.settings) station.heads
 -- the channel with this id has this place
 abbrev pub IsPlace : Roster → ℕ → ℕ → Type 0
 IsPlace station vcid place = position (λ v. v == vcid) station.vcids ≡ Some place
+
+-- this never changes of the desk of the channel with this id
+abbrev pub IsDeskOf : Roster → ℕ → Identity → Type 0
+IsDeskOf station vcid head = (place : ℕ) × IsPlace station vcid place × (slice_get station.heads place ≡ Some head)
 
 -- what the keepers of its desks have seen
 abbrev pub ArePostsOf : Roster → List AtLock → Type 0

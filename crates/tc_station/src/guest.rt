@@ -10,23 +10,6 @@ use tc_channel::{Journal, NoMemory};
 use tc_desk::Question;
 use tc_status::DeskOf;
 
-/// The question, and for which channel it was answered, since who asks without an operator doesn't know that.
-#[derive(Drop)]
-pub(crate) struct Named<'a, Q> {
-    pub(crate) question: &'a Q,
-}
-
-impl<J: Journal, Q: Question<J>> Question<J> for Named<'_, Q> {
-    type Answer = (u8, Q::Answer);
-
-    ghost answers = { λ n m answer. (answer.0 ≡ m.head.settings.vcid) × Q.answers n.question.now m answer.1 };
-
-    fn ask(&self, desk: &mut DeskOf<J>) -> (u8, Q::Answer) {
-        let answer = self.question.ask(desk);
-        (desk.channel().settings().vcid, answer)
-    }
-}
-
 /// What the channel has come to.
 #[derive(Drop)]
 pub(crate) struct Summing {

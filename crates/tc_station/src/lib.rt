@@ -8,7 +8,7 @@
 //! An operator's call is answered from this channel's own journal, at a moment that goes on from all that the operator had seen
 //! there, and [`StationOf::close_together`] gives out channels whose journals are merges of what their operators made. A call of
 //! the [`Station`] without an operator promises less: what it answers is what FARM-1 and the queues answer at some lawful journal
-//! of a channel with the id that was asked for. [`Station::close`] ties the journals to the operators' counts, whosever they are.
+//! with this channel's settings. [`Station::close`] ties the journals to the operators' counts, whosever they are.
 //! A [`FlightStation`] does the same with journals that take no memory, and its close goes by the numbers of their events.
 #![tactic(auto)]
 

@@ -119,7 +119,7 @@ impl Operator {
         operation: &O,
     ) -> Result<O::Answer, O::Fault>
         requires place { position (λ v. v == vcid) self.old.vcids ≡ Some place }
-        requires lock { slice_index_or (locks_of self.old.desks) place desk.now ≡ desk.now }
+        requires lock { slice_index_or (locks_of self.old.desks) place desk.now.id ≡ desk.now.id }
         ensures call { IsCallAt place vcid (O.event operation.now) (O.answers operation.now) (O.refuses operation.now) self.old result self.new }
         ensures locks { locks_of self.new.desks ≡ locks_of self.old.desks }
         ensures counted { OnOk result (tally self.new ≡ counted vcid (tally self.old)) }

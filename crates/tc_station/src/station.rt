@@ -7,7 +7,7 @@ ghost use Rattle.tc_channel.specs.Reply.{BeginsWithBypassData, clcw};
 ghost use Rattle.tc_status.specs.Board.{IsBeginning};
 ghost use Rattle.tc_desk.specs.Call as at_desk;
 ghost use Rattle.tc_desk.specs.Together.{settings_of};
-ghost use Rattle.tc_station.specs.Roster.{IsPlace, settings_in};
+ghost use Rattle.tc_station.specs.Roster.{IsDeskOf, IsPlace, settings_in};
 ghost use Rattle.tc_station.specs.Tally.{HasMadeNothing, KnowsDesks, IsOurs, counted, fresh, newcomer, tally};
 ghost use Rattle.tc_station.specs.Call.{IsBringCall, IsCallAt, IsCallOn, IsNotBrought, IsNotBroughtWatched, IsNotReleased, IsNotTaken, IsReplied, IsRepliedWatched, IsUnitNotTaken};
 ghost use Rattle.tc_station.specs.Balance.{AreInBalance, IsNumberTold};
@@ -18,7 +18,7 @@ use crate::faults::{
     BringFault, CloseFault, FlightCloseFault, LocateFault, OperatorsFault, ReleaseRefused,
     StationFault, TakeRefused, TakeUnitRefused, WatcherFault,
 };
-use crate::guest::{Named, Passing, Summing};
+use crate::guest::{Passing, Summing};
 use crate::holding::{Holding, HoldingFault};
 use crate::operator::{Operator, place_of};
 use crate::work::Gate;
@@ -93,9 +93,9 @@ impl<J: Journal> Model for StationOf<J> {
 
 impl<J: Journal> StationOf<J> {
     ghost use Rattle.tc_station.specs.Location.{IsLocated, IsPlaced, IsLocateFault, IsBringFault};
-    ghost use Rattle.tc_station.specs.Moments.{AtSomeMomentOf, IsBrought, IsBroughtWatched, IsReleased, IsTaken, IsUnitTaken, IsWatched};
+    ghost use Rattle.tc_station.specs.Moments.{AtSomeMomentOf, IsBrought, IsBroughtWatched, IsReleased, IsTaken, IsUnitTaken, IsWatched, IsWatcherOf};
     ghost use Rattle.tc_station.specs.Faults.{IsReleaseRefused, IsTakeRefused, IsTakeUnitRefused, IsWatcherFault};
-    ghost use Rattle.tc_station.specs.Holding.{IsHolding, IsHoldingFault};
+    ghost use Rattle.tc_station.specs.Holding.{IsHolding, IsHoldingOf, IsHoldingFault};
     ghost use Rattle.tc_station.specs.Together.{AreClosedTogether, IsNotClosedTogether};
     ghost use Rattle.tc_desk.specs.Log.{Moment};
     ghost use Rattle.tc_desk.specs.Call.{IsMoment};
@@ -254,7 +254,8 @@ impl<J: Journal> StationOf<J> {
 
     /// A watcher of a channel's status, made under the channel's lock.
     pub fn watcher(&self, rt: &impl Wait, vcid: u8) -> Result<Watcher, WatcherFault>
-        ensures { MatchResult result (λ watcher. IsWatched self.now vcid watcher.seen) (IsWatcherFault self.now vcid) }
+        ensures answer { MatchResult result (λ watcher. IsWatched self.now vcid watcher.seen) (IsWatcherFault self.now vcid) }
+        ensures desk { IfOk result (IsWatcherOf self.now vcid) }
     {
         let Some(place) = place_of(&self.vcids, vcid) else {
             return Err(WatcherFault::UnknownChannel);
@@ -282,7 +283,8 @@ impl<J: Journal> StationOf<J> {
 
     /// What a channel has come to, read under its lock.
     pub fn holding(&self, rt: &impl Wait, vcid: u8) -> Result<Holding, HoldingFault>
-        ensures { MatchResult result (IsHolding self.now vcid) (IsHoldingFault self.now vcid) }
+        ensures answer { MatchResult result (IsHolding self.now vcid) (IsHoldingFault self.now vcid) }
+        ensures desk { IfOk result (IsHoldingOf self.now vcid) }
     {
         let Some(place) = place_of(&self.vcids, vcid) else {
             return Err(HoldingFault::UnknownChannel);
@@ -338,26 +340,18 @@ impl<J: Journal> StationOf<J> {
         operator.operate_at(self.desks[place].desk(), rt, place, vcid, operation)
     }
 
-    // The answer of the channel at this place, which has this id, to who has no operator. Of a desk such a one knows no more than
-    // its type until it answers, so it is asked for the id as well, and again if it were another's.
-    fn ask<A: Drop, Q: Question<J, Answer = A>, R: Wait>(
+    // The answer of the channel at this place, which has this id, to who has no operator.
+    fn ask<Q: Question<J>, R: Wait>(
         &self,
         rt: &R,
         place: usize,
         vcid: u8,
         question: &Q,
-    ) -> A
-        requires inside { place < length self.now.vcids }
-        ensures { (now : Moment) × IsMoment now × (now.head.settings.vcid ≡ vcid) × Q.answers question.now now result }
+    ) -> Q::Answer
+        requires place { IsPlace self.now vcid place }
+        ensures { (now : Moment) × IsMoment now × (now.head.settings.vcid ≡ vcid) × IsDeskOf self.now vcid now.head × Q.answers question.now now result }
     {
-        let desk = self.desks[place].desk();
-        for _ in rt.forever() {
-            let (id, answer) = desk.ask_as_guest(rt, &Named { question });
-            if id == vcid {
-                return answer;
-            }
-        }
-        unreachable!()
+        self.desks[place].desk().ask_as_guest(rt, question)
     }
 
     /// Passes the gate once, under the lock of the channel if there is one.

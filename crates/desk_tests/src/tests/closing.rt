@@ -9,7 +9,7 @@ use tc_desk::{DeskOperator, Obstacle, Unclosed};
 
 // One operator brings a frame, and another lets its data field out.
 fn bring_and_release(rt: &(impl Abort + Wait), manned: &mut Manned, other: &mut DeskOperator)
-    requires { other.old.lock ≡ manned.old.desk }
+    requires { other.old.lock ≡ manned.old.desk.id }
     ensures desk { manned.new.desk ≡ manned.old.desk }
     ensures other { other.new.lock ≡ other.old.lock }
 {
@@ -20,7 +20,7 @@ fn bring_and_release(rt: &(impl Abort + Wait), manned: &mut Manned, other: &mut 
 
 // Without the operator that brought the frame the desk isn't closed, and all is given back; with both it is.
 fn close_twice(rt: &impl Abort, alloc: Global, manned: Manned, other: DeskOperator)
-    requires { other.lock ≡ manned.desk }
+    requires { other.lock ≡ manned.desk.id }
 {
     let Manned {
         desk,

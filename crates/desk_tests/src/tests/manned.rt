@@ -17,8 +17,8 @@ pub(super) struct Manned {
     pub(super) desk: Locked,
     pub(super) keeper: DeskKeeper,
     pub(super) operator: DeskOperator,
-    ghost kept: { keeper.lock ≡ desk },
-    ghost ours: { operator.lock ≡ desk },
+    ghost kept: { keeper.lock ≡ desk.id },
+    ghost ours: { operator.lock ≡ desk.id },
 }
 
 impl Manned {
@@ -83,7 +83,7 @@ impl Manned {
 
     // Another operator of the same desk.
     pub(super) fn other(&mut self) -> DeskOperator
-        ensures other { result.lock ≡ self.new.desk }
+        ensures other { result.lock ≡ self.new.desk.id }
         ensures same { self.new.desk ≡ self.old.desk }
     {
         self.keeper.operator(&self.desk)

@@ -21,8 +21,8 @@ fn turn_frame(who: u8, turn: u8) -> [u8; 8] {
 
 // Brings this frame. Says whether it was answered.
 fn bring<R: Abort + Wait>(rt: &R, desk: &Locked, operator: &mut DeskOperator, octets: &[u8]) -> bool
-    requires { operator.old.lock ≡ desk.now }
-    ensures { operator.new.lock ≡ desk.now }
+    requires { operator.old.lock ≡ desk.now.id }
+    ensures { operator.new.lock ≡ desk.now.id }
 {
     let frame = read_frame(octets).expect(rt, "a frame");
     desk.frame(rt, operator, &frame).is_ok()
@@ -35,8 +35,8 @@ pub(super) fn bring_all<R: Abort + Wait>(
     operator: &mut DeskOperator,
     who: u8,
 ) -> bool
-    requires { operator.old.lock ≡ desk.now }
-    ensures { operator.new.lock ≡ desk.now }
+    requires { operator.old.lock ≡ desk.now.id }
+    ensures { operator.new.lock ≡ desk.now.id }
 {
     let mut done = true;
     for turn in 0..TURNS {
@@ -52,18 +52,18 @@ fn side_by_side<R: Threads + Abort + Wait + Sync>(
     one: &mut DeskOperator,
     two: &mut DeskOperator,
 ) -> bool
-    requires one { one.old.lock ≡ desk.now }
-    requires two { two.old.lock ≡ desk.now }
-    ensures one { one.new.lock ≡ desk.now }
-    ensures two { two.new.lock ≡ desk.now }
+    requires one { one.old.lock ≡ desk.now.id }
+    requires two { two.old.lock ≡ desk.now.id }
+    ensures one { one.new.lock ≡ desk.now.id }
+    ensures two { two.new.lock ≡ desk.now.id }
 {
     let mut first = || -> bool
-        requires { IsSync R.row × (one.now.lock ≡ desk.now) }
-        ensures { one.exit.now.lock ≡ desk.entry.now }
+        requires { IsSync R.row × (one.now.lock ≡ desk.now.id) }
+        ensures { one.exit.now.lock ≡ desk.entry.now.id }
     { bring_all(rt, desk, one, 1) };
     let mut second = || -> bool
-        requires { IsSync R.row × (two.now.lock ≡ desk.now) }
-        ensures { two.exit.now.lock ≡ desk.entry.now }
+        requires { IsSync R.row × (two.now.lock ≡ desk.now.id) }
+        ensures { two.exit.now.lock ≡ desk.entry.now.id }
     { bring_all(rt, desk, two, 2) };
     let (a, b) = join_mut(rt, &mut first, &mut second);
     a && b
@@ -75,8 +75,8 @@ fn work<R: Threads + Abort + Wait + Sync>(
     manned: &mut Manned,
     other: &mut DeskOperator,
 ) -> bool
-    requires { other.old.lock ≡ manned.old.desk }
-    ensures { other.new.lock ≡ manned.new.desk }
+    requires { other.old.lock ≡ manned.old.desk.id }
+    ensures { other.new.lock ≡ manned.new.desk.id }
 {
     side_by_side(rt, &manned.desk, &mut manned.operator, other)
 }
@@ -98,7 +98,7 @@ pub(super) fn check_frames(rt: &impl Abort, journal: &[Event], who: u8) {
 
 // Closes the desk with both operators.
 fn close_both(rt: &impl Abort, alloc: Global, manned: Manned, other: DeskOperator) -> Channel
-    requires { other.lock ≡ manned.desk }
+    requires { other.lock ≡ manned.desk.id }
 {
     let Manned {
         desk,

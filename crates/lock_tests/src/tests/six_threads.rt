@@ -122,10 +122,10 @@ fn work_by_four<R: Threads + Wait + Clock + Sync>(
 
 // The first seat learns what both have seen and made.
 fn tell_of_both(lock: &BookLock, first: &mut BookSeat, pair: Pair)
-    requires first { (first.old.table_id ≡ lock.now) × (first.old.id ≡ 0) × (first.old.me.0.live ≡ true) }
+    requires first { (first.old.table_id ≡ lock.now.id) × (first.old.id ≡ 0) × (first.old.me.0.live ≡ true) }
     requires one { IsAtRest lock.now pair.one.seat }
     requires two { IsAtRest lock.now pair.two.seat }
-    ensures first { (first.new.table_id ≡ lock.now) × (first.new.id ≡ 0) × (first.new.me.0.live ≡ true) }
+    ensures first { (first.new.table_id ≡ lock.now.id) × (first.new.id ≡ 0) × (first.new.me.0.live ≡ true) }
     ensures same { (first.new.me.0.locks ≡ first.old.me.0.locks) × (first.new.me.1 ≡ first.old.me.1) }
 {
     let Pair { one, two } = pair;

@@ -11,7 +11,7 @@ use std::sync::Wait;
 // Writes the number by a seat that has the book, and gives the lock back.
 fn write_with<P: Number>(lock: &BookLock, seat: &mut BookSeat, number: u32) -> bool
     requires number { P.number ≡ number }
-    requires own { seat.old.table_id ≡ lock.now }
+    requires own { seat.old.table_id ≡ lock.now.id }
     requires unchanged { HasLock log_of IsAny seat.old.me seat.old.me.0.own.seen }
     ensures rest { IsAtRest lock.now seat.new }
     ensures same { seat.new.id ≡ seat.old.id }

@@ -13,5 +13,5 @@ loop-operator-preserved g c =
       e.first.1 ∙ sym c.requires.first.0,
       e.first.2 ∙ i.4,
       e.told ∙ (ap (λ v. told_all v (c.in-Some.operator.own ∷ [])) i.5 ∙ told_next c.args.first.now.me.0 c.loop-operator.yielded c.in-Some.operator),
-      all_of_rest c.args.lock.now _ _ _ c.in-Some.ensures.steps.0 i.6,
+      all_of_rest c.args.lock.now.id _ _ _ c.in-Some.ensures.steps.0 i.6,
     )

@@ -8,4 +8,4 @@ invariant-loop-operator g l =
     (goal.iterator-loop-operator g).can_next l.operator-iterator × (goal.iterator-loop-operator g).is_finite l.operator-iterator
     × (l.first.table_id ≡ l.fn.first.table_id) × (l.first.id ≡ l.fn.first.id) × (l.first.me.1 ≡ l.fn.first.me.1)
     × (l.first.me.0 ≡ told_all l.fn.first.me.0 (accounts_of l.yielded))
-    × All (λ (o : AtLock). o.lock ≡ l.lock) l.operator-iterator.rest.items
+    × All (λ (o : AtLock). o.lock ≡ l.lock.id) l.operator-iterator.rest.items

@@ -2,4 +2,4 @@ use Rattle.std.proofs.Common.{◌≡◌}
 use Rattle.desk_tests.proofs.tests.threads.bring_all.Given as goal
 
 abbrev pub invariant-loop-turn : goal.invariant-loop-turn
-invariant-loop-turn g l = l.operator.lock ≡ l.desk
+invariant-loop-turn g l = l.operator.lock ≡ l.desk.id

@@ -2,4 +2,4 @@ use Rattle.lock_tests.specs.Book.{IsAtRest}
 use Rattle.lock_tests.proofs.tests.waiting.who_sleeps_is_woken.Given as goal
 
 abbrev pub invariant-loop-round : goal.invariant-loop-round
-invariant-loop-round g l = IsAtRest l.lock-inside.table.shared.table_id l.first × IsAtRest l.lock-inside.table.shared.table_id l.other
+invariant-loop-round g l = IsAtRest (record { id = l.lock-inside.table.shared.table_id; head = l.lock-inside.table.shared.key }) l.first × IsAtRest (record { id = l.lock-inside.table.shared.table_id; head = l.lock-inside.table.shared.key }) l.other

@@ -4,7 +4,7 @@ use Rattle.logged_lock.proofs.Steps.{the_word, settles}
 use Rattle.logged_lock.proofs.lock.LoggedLock.settle.Goals as goal
 
 pub load-requires : goal.load-requires
-load-requires g c = (search rules, the_word _ c.self.invariant.0, settles g.S.Logged.log g.S.Logged.fits _ _ _ c.requires.first c.requires.locks)
+load-requires g c = (search rules, the_word _ c.self.invariant.0, settles g.S.Logged.log g.S.Logged.fits _ _ _ _ c.requires.first c.requires.locks)
 
 pub returns-clause-merge : goal.returns-clause-merge
 returns-clause-merge g c = λ all.

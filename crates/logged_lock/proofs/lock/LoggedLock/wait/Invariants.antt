@@ -1,5 +1,5 @@
 use Rattle.std.proofs.Common.{◌≡◌, ◌≤◌}
-use Rattle.logged_lock.proofs.lock.LoggedLock.lock.Given as goal
+use Rattle.logged_lock.proofs.lock.LoggedLock.wait.Given as goal
 
 abbrev pub invariant-loop : goal.invariant-loop
 invariant-loop g l =
