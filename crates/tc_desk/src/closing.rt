@@ -1,5 +1,6 @@
 //! The close of a desk.
 
+ghost use Rattle.crossbeam_utils.specs.Padded.{padded_value};
 ghost use Rattle.std.specs.Prelude.{◌≡◌, ◌↔◌, ◌∷◌, [], All, true, min, length, ◌^◌, ◌-◌, IfOk, IfErr, IsTrue, IsSome};
 ghost use Rattle.logged_lock.specs.Log.{total_made, IsMergeOf, AreBehind};
 ghost use Rattle.logged_lock.specs.Rule.{HasLock, IsIdle};
@@ -47,9 +48,9 @@ fn are_balanced<J: Journal>(
     operators: &[DeskOperator],
 ) -> bool
     requires own { first.old.table_id ≡ lock.now.id }
-    requires locks { HasLock (λ k. log_of k.desk) (λ k. IsSome k.desk) first.old.me first.old.me.0.own.seen }
+    requires locks { HasLock (λ k. log_of (padded_value k.desk)) (λ k. IsSome (padded_value k.desk)) first.old.me first.old.me.0.own.seen }
     ensures same { (first.new.table_id ≡ first.old.table_id) × (first.new.id ≡ first.old.id) × (first.new.me.0 ≡ first.old.me.0) }
-    ensures locks { HasLock (λ k. log_of k.desk) (λ k. IsSome k.desk) first.new.me first.old.me.0.own.seen }
+    ensures locks { HasLock (λ k. log_of (padded_value k.desk)) (λ k. IsSome (padded_value k.desk)) first.new.me first.old.me.0.own.seen }
     ensures balanced { IsTrue result ↔ IsBalanced (accounts_of operators.now) first.old.me.0.own.seen.entries }
 {
     let events = answer_at(lock, first, &Counting);
@@ -89,7 +90,7 @@ fn take_out<J: Journal>(
 ) -> ChannelWith<J>
     requires own { first.table_id ≡ lock.id }
     requires first { first.id ≡ 0 }
-    requires locks { HasLock (λ k. log_of k.desk) (λ k. IsSome k.desk) first.me first.me.0.own.seen }
+    requires locks { HasLock (λ k. log_of (padded_value k.desk)) (λ k. IsSome (padded_value k.desk)) first.me first.me.0.own.seen }
     requires told { first.me.0.told ≡ [] }
     requires ours { All (λ o. o.lock ≡ lock.id) operators.items }
     requires balanced { IsBalanced (accounts_of operators.items) first.me.0.own.seen.entries }
@@ -100,7 +101,7 @@ fn take_out<J: Journal>(
 {
     tell_all(&lock, &mut first, operators);
     lock.settle(&mut first);
-    let kept = lock.replace(&mut first, KeptDesk { desk: None });
+    let kept = lock.replace(&mut first, KeptDesk::new(None));
     kept.into_channel()
 }
 

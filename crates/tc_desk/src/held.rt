@@ -1,5 +1,6 @@
 //! A desk whose lock its keeper has.
 
+ghost use Rattle.crossbeam_utils.specs.Padded.{padded_value};
 ghost use Rattle.std.specs.Prelude.{◌≡◌, [], ◌∷◌, ◌++◌, min, length, ◌^◌, ◌-◌, IfOk, IfErr, IsSome};
 ghost use Rattle.logged_lock.specs.Log.{IsBeginning, total_made, IsMergeOf, AreBehind};
 ghost use Rattle.logged_lock.specs.Rule.{HasLock};
@@ -24,6 +25,7 @@ pub(crate) struct HeldDesk<J: Journal> {
 
 impl<J: Journal> Model for HeldDesk<J> {
     ghost use Rattle.std.specs.Prelude.{◌≡◌, min, length, ◌^◌, ◌-◌, IsSome};
+    ghost use Rattle.crossbeam_utils.specs.Padded.{padded_value};
     ghost use Rattle.logged_lock.specs.Rule.{HasLock};
     ghost use Rattle.tc_desk.specs.Log.{AtHand, log_of};
 
@@ -34,7 +36,7 @@ impl<J: Journal> Model for HeldDesk<J> {
     ghost invariant = { λ h. (h.first.table_id ≡ h.lock.id) × (h.keeper.value.lock ≡ h.lock.id) × (h.keeper.value.own.seen.head ≡ h.lock.head) × (h.first.id ≡ 0)
         × (h.first.me.0.own.seen.head ≡ h.keeper.value.own.seen.head)
         × (h.events ≡ min (length h.first.me.0.own.seen.entries) (2 ^ 64 - 1))
-        × HasLock (λ k. log_of k.desk) (λ k. IsSome k.desk) h.first.me h.first.me.0.own.seen };
+        × HasLock (λ k. log_of (padded_value k.desk)) (λ k. IsSome (padded_value k.desk)) h.first.me h.first.me.0.own.seen };
 }
 
 impl<J: Journal> HeldDesk<J> {
@@ -116,7 +118,7 @@ impl<J: Journal> HeldDesk<J> {
             keeper: _,
         } = self;
         lock.settle(&mut first);
-        let kept = lock.replace(&mut first, KeptDesk { desk: None });
+        let kept = lock.replace(&mut first, KeptDesk::new(None));
         kept.into_channel()
     }
 }

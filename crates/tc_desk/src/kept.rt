@@ -1,11 +1,13 @@
 //! What lies under the lock of a desk.
 
 ghost use Rattle.std.specs.Prelude.{◌≡◌, Some, IsSome};
+ghost use Rattle.crossbeam_utils.specs.Padded.{padded_value};
 ghost use Rattle.tc_desk.specs.{TableId};
 ghost use Rattle.tc_desk.specs.Log.{identity_of, log_of};
-ghost use Rattle.tc_desk.specs.Call.{IsStep, IsAsked};
+ghost use Rattle.tc_desk.specs.Call.{IsAsked};
 
-use crate::operation::{Operation, Question};
+use crate::operation::Question;
+use crossbeam_utils::CachePadded;
 use logged_lock::{Head, Logged};
 use std::marker::Model;
 use std::snapshot::Snapshot;
@@ -43,41 +45,52 @@ impl DeskHead {
     }
 }
 
-/// A desk, until it is taken out.
+/// A desk, until it is taken out, with nothing else on its cache lines: threads at other desks don't slow this one down.
 #[derive(Drop)]
 pub struct KeptDesk<J: Journal> {
-    pub(crate) desk: Option<DeskOf<J>>,
+    pub(crate) desk: CachePadded<Option<DeskOf<J>>>,
 }
 
 impl<J: Journal> Logged<DeskHead, Event> for KeptDesk<J> {
     ghost use Rattle.std.specs.Prelude.{IsSome};
+    ghost use Rattle.crossbeam_utils.specs.Padded.{padded_value};
     ghost use Rattle.tc_desk.specs.Log.{log_of};
 
-    ghost log = { λ k. log_of k.desk };
+    ghost log = { λ k. log_of (padded_value k.desk) };
 
-    ghost fits = { λ k. IsSome k.desk };
+    ghost fits = { λ k. IsSome (padded_value k.desk) };
 }
 
 impl<J: Journal> KeptDesk<J> {
+    /// The place of this desk, or of none.
+    pub(crate) fn new(desk: Option<DeskOf<J>>) -> KeptDesk<J>
+        ensures { padded_value result.desk ≡ desk }
+    {
+        KeptDesk {
+            desk: CachePadded::new(desk),
+        }
+    }
+
     // The channel, out of the desk.
     pub(crate) fn into_channel(self) -> ChannelWith<J>
-        requires { IsSome self.desk }
-        ensures { (board : TableId) × (self.desk ≡ Some (record { channel = result; board = board })) }
+        requires { IsSome (padded_value self.desk) }
+        ensures { (board : TableId) × (padded_value self.desk ≡ Some (record { channel = result; board = board })) }
     {
         let KeptDesk { desk } = self;
-        let Some(desk) = desk else { unreachable!() };
+        let Some(desk) = desk.into_inner() else {
+            unreachable!()
+        };
         desk.into_channel()
     }
 
     // The desk answers the question.
     pub(crate) fn answer<Q: Question<J>>(&mut self, question: &Q) -> Q::Answer
-        requires { IsSome self.old.desk }
-        ensures there { IsSome self.new.desk }
-        ensures asked { IsAsked (Q.answers question.now) (log_of self.old.desk) result (log_of self.new.desk) }
+        requires { IsSome (padded_value self.old.desk) }
+        ensures there { IsSome (padded_value self.new.desk) }
+        ensures asked { IsAsked (Q.answers question.now) (log_of (padded_value self.old.desk)) result (log_of (padded_value self.new.desk)) }
     {
-        let Some(desk) = &mut self.desk else {
-            unreachable!()
-        };
+        let desk: &mut Option<DeskOf<J>> = &mut self.desk;
+        let Some(desk) = desk else { unreachable!() };
         question.ask(desk)
     }
 }

@@ -1,5 +1,6 @@
 //! The lock of a desk, and its operators.
 
+ghost use Rattle.crossbeam_utils.specs.Padded.{padded_value};
 ghost use Rattle.std.specs.Prelude.{◌≡◌, [], ◌∷◌, ⊤, true, IfOk, MatchResult, IsSome};
 ghost use Rattle.logged_lock.specs.Log.{start_of};
 ghost use Rattle.logged_lock.specs.Rule.{HasLock, unlocked, unlocked_with};
@@ -103,9 +104,8 @@ fn operate_by<P: Occasion, J: Journal, O: Operation<J>, R: Wait>(
     let mut seat: DeskSeat<J> = mem::replace(badge, Badge::blank()).into_seat();
     lock.lock(rt, &mut seat);
     let kept = seat.slot_mut(lock.table(), 0);
-    let Some(desk) = &mut kept.desk else {
-        unreachable!()
-    };
+    let desk: &mut Option<DeskOf<J>> = &mut kept.desk;
+    let Some(desk) = desk else { unreachable!() };
     let answer = operation.run(desk);
     if answer.is_ok() {
         lock.unlock_with::<Makes<P>>(&mut seat);
@@ -123,9 +123,9 @@ pub(crate) fn answer_at<J: Journal, Q: Question<J>>(
     question: &Q,
 ) -> Q::Answer
     requires own { seat.old.table_id ≡ lock.now.id }
-    requires locks { HasLock (λ k. log_of k.desk) (λ k. IsSome k.desk) seat.old.me seat.old.me.0.own.seen }
+    requires locks { HasLock (λ k. log_of (padded_value k.desk)) (λ k. IsSome (padded_value k.desk)) seat.old.me seat.old.me.0.own.seen }
     ensures same { (seat.new.table_id ≡ seat.old.table_id) × (seat.new.id ≡ seat.old.id) × (seat.new.me.0 ≡ seat.old.me.0) }
-    ensures asked { (after : Moment) × HasLock (λ k. log_of k.desk) (λ k. IsSome k.desk) seat.new.me after
+    ensures asked { (after : Moment) × HasLock (λ k. log_of (padded_value k.desk)) (λ k. IsSome (padded_value k.desk)) seat.new.me after
         × IsAsked (Q.answers question.now) seat.old.me.0.own.seen result after }
 {
     let kept = seat.slot_mut(lock.table(), 0);
@@ -274,7 +274,7 @@ impl<J: Journal> LockedDesk<J> {
     {
         let desk = DeskOf::new(alloc, settings)?;
         let head = DeskHead::of(&desk);
-        let kept = KeptDesk { desk: Some(desk) };
+        let kept = KeptDesk::new(Some(desk));
         let Ok((lock, first)) = DeskLock::new(alloc, kept, &head) else {
             return Err(SettingsFault::NoMemory);
         };

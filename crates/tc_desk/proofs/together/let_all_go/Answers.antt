@@ -12,3 +12,6 @@ loop-desk-preserved g c =
       (All-pop IsFresh _ _ (Some c.in-Some.desk) c.in-Some.ensures.items i.1).0,
       omega (arith, room, shorter, longer, same),
     )
+
+pub let_go-requires : goal.let_go-requires
+let_go-requires g c = (All-pop IsFresh _ _ (Some c.in-Some.desk) c.in-Some.ensures.items c.loop-desk.invariant.1).1.0

@@ -1,6 +1,18 @@
-use Rattle.std.proofs.Common.{rules}
+use Rattle.std.proofs.Common.{◌≡◌, sym, ap, ◌∙◌, subst, rules}
+use Rattle.tc_channel.specs.declared.event.Event.{Event}
+use Rattle.logged_lock.specs.Log.{IsMergeOf}
 use Rattle.tc_desk.proofs.Rows.{behind_at}
 use Rattle.tc_desk.proofs.held.HeldDesk.take_out.Goals as goal
 
 pub returns-clause-seen : goal.returns-clause-seen
 returns-clause-seen g c = behind_at c.args.self c.self.inside.first.me.0 (search rules) (search rules) c.settle.ensures.behind
+
+pub replace-kept-requires-clause-locks : goal.replace-kept-requires-clause-locks
+replace-kept-requires-clause-locks g c =
+    let locks = c.self.invariant.6 in
+    (locks.kept, ap (λ m. m.1) c.settle.ensures.same.2 ∙ locks.hands)
+
+pub returns-clause-merge : goal.returns-clause-merge
+returns-clause-merge g c =
+    let journal : c.into_channel.result.journal ≡ c.self.inside.first.me.0.own.seen.entries = search rules in
+    rw (← c.self.view_is) (λ all. subst (λ l. IsMergeOf l c.self.inside.first.me.0.told) (sym journal) (c.settle.ensures.merge all))
