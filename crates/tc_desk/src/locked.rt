@@ -1,12 +1,11 @@
 //! The lock of a desk, and its operators.
 
 ghost use Rattle.crossbeam_utils.specs.Padded.{padded_value};
-ghost use Rattle.std.specs.Prelude.{◌≡◌, [], ◌∷◌, ⊤, true, IfOk, MatchResult, IsSome};
-ghost use Rattle.logged_lock.specs.Log.{start_of};
-ghost use Rattle.logged_lock.specs.Rule.{HasLock, unlocked, unlocked_with};
+ghost use Rattle.std.specs.Prelude.{◌≡◌, [], ⊤, IfOk, MatchResult, IsSome};
+ghost use Rattle.logged_lock.specs.Rule.{HasLock};
 ghost use Rattle.tc_channel.specs.Settings.{IsAllowed, IsRefusal};
 ghost use Rattle.tc_desk.specs.Log.{Moment, IsResting, log_of, at_lock, view_in, count_of, history_of};
-ghost use Rattle.tc_desk.specs.Call.{IsMoment, IsStep, IsAsked, IsCall, IsLook, IsFramed, IsFrameFault, IsFramedWatched, IsReleased, IsReleaseFault, IsTaken, IsTakeFault, IsUnitTaken, IsTakeUnitFault, HasSeen, IsReport, IsClcw};
+ghost use Rattle.tc_desk.specs.Call.{IsMoment, IsAsked, IsCall, IsLook, IsFramed, IsFrameFault, IsFramedWatched, IsReleased, IsReleaseFault, IsTaken, IsTakeFault, IsUnitTaken, IsTakeUnitFault, HasSeen, IsReport, IsClcw};
 
 use crate::kept::{DeskHead, KeptDesk};
 use crate::operation::{

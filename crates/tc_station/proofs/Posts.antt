@@ -90,6 +90,11 @@ pub lock-at : (desks posts : List AtLock) (place : ℕ) (post : AtLock) → lock
 lock-at desks posts place post same inside is =
     ap (λ (l : List TableId). get_or l place post.lock) same ∙ (get_or-map (λ (o : AtLock). o.lock) posts place post post.lock inside ∙ ap (λ (o : AtLock). o.lock) (sym is))
 
+-- so an operator's desk of a place and the station's have one lock
+pub same-lock : (desks posts : List AtLock) (place : ℕ) (there post : AtLock) → locks_of desks ≡ locks_of posts → place < length desks → place < length posts → there ≡ get_or desks place there → post ≡ get_or posts place post → there.lock ≡ post.lock
+same-lock desks posts place there post same inside within is post_is =
+    ap (λ (o : AtLock). o.lock) is ∙ (sym (get_or-map (λ (o : AtLock). o.lock) desks place there post.lock inside) ∙ lock-at desks posts place post same within post_is)
+
 -- what never changes of a station's desk is that of the channel with this id
 pub desk-of : (station : Roster) (posts : List AtLock) (place vcid : ℕ) (post : AtLock) → vcids_of (settings_of posts) ≡ station.vcids → heads_of posts ≡ station.heads → post ≡ get_or posts place post → position (λ v. v == vcid) station.vcids ≡ Some place
     → (post.own.seen.head.settings.vcid ≡ vcid) × IsDeskOf station vcid post.own.seen.head

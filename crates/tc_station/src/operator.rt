@@ -1,23 +1,22 @@
 //! Operators: who makes operations on the channels of a station.
 
-ghost use Rattle.std.specs.Prelude.{◌≡◌, ◌==◌, ◌<◌, length, map, replicate, position, slice_index, slice_index_or, Some, IfOk, OnOk, OnErr, MatchOption, Contains};
-ghost use Rattle.tc_desk.specs.Together.{locks_of, settings_of};
+ghost use Rattle.std.specs.Prelude.{◌≡◌, ◌==◌, ◌<◌, length, map, position, slice_index, IfOk, MatchOption, Contains};
+ghost use Rattle.tc_desk.specs.Together.{settings_of};
 ghost use Rattle.tc_station.specs.StationSettings.{vcids_of};
-ghost use Rattle.tc_station.specs.Tally.{counted, count_in, tally, newcomer, arrival};
-ghost use Rattle.tc_station.specs.Call.{IsCallAt};
+ghost use Rattle.tc_station.specs.Tally.{count_in, tally, newcomer, arrival};
 
 use std::alloc::{AllocError, Global};
 use std::marker::Model;
-use std::sync::Wait;
 use tc_channel::{Journal, NoMemory};
-use tc_desk::{Crew, DeskOperator, LockedDesk, Operation, Post};
+use tc_desk::{Crew, DeskOperator, Post};
 
 /// Someone who makes operations on the channels of a station, and counts those that were answered, channel by channel.
 /// One thread has it at a time.
 #[derive(Drop)]
 pub struct Operator {
     vcids: Vec<u8>,
-    desks: Vec<DeskOperator>,
+    // a station makes its operations by them
+    pub(crate) desks: Vec<DeskOperator>,
 }
 
 impl Model for Operator {
@@ -107,24 +106,5 @@ impl Operator {
         ensures { result ≡ slice_index self.now.counts place }
     {
         self.desks[place].count()
-    }
-
-    /// The operation on the desk of the channel at this place, which has this id.
-    pub(crate) fn operate_at<J: Journal, O: Operation<J>, R: Wait>(
-        &mut self,
-        desk: &LockedDesk<J>,
-        rt: &R,
-        place: usize,
-        vcid: u8,
-        operation: &O,
-    ) -> Result<O::Answer, O::Fault>
-        requires place { position (λ v. v == vcid) self.old.vcids ≡ Some place }
-        requires lock { slice_index_or (locks_of self.old.desks) place desk.now.id ≡ desk.now.id }
-        ensures call { IsCallAt place vcid (O.event operation.now) (O.answers operation.now) (O.refuses operation.now) self.old result self.new }
-        ensures locks { locks_of self.new.desks ≡ locks_of self.old.desks }
-        ensures counted { OnOk result (tally self.new ≡ counted vcid (tally self.old)) }
-        ensures refused { OnErr result (tally self.new ≡ tally self.old) }
-    {
-        self.desks[place].operate(desk, rt, operation)
     }
 }

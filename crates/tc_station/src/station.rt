@@ -337,7 +337,8 @@ impl<J: Journal> StationOf<J> {
         ensures refused { OnErr result (tally operator.new ≡ tally operator.old) }
         ensures ours { IsOurs self.now operator.new }
     {
-        operator.operate_at(self.desks[place].desk(), rt, place, vcid, operation)
+        let desk = self.desks[place].desk();
+        operator.desks[place].operate(desk, rt, operation)
     }
 
     // The answer of the channel at this place, which has this id, to who has no operator.
