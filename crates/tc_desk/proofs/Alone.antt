@@ -1,9 +1,10 @@
 -- What one operator makes alone is all that there is.
-use Rattle.std.proofs.Common.{◌≡◌, ◌≢◌, ℕ, zero, suc, ◌+◌, ◌≤◌, cond, Bool, List, [], ◌∷◌, ◌++◌, length, refl, sym, ap, ◌∙◌, arith, eq-eqb, ne_eqb}
+use Rattle.std.proofs.Common.{◌≡◌, ◌≢◌, ℕ, zero, suc, ◌+◌, ◌≤◌, cond, Bool, List, [], ◌∷◌, ◌++◌, length, inl, inr, refl, sym, ap, ◌∙◌, arith, eq-eqb, ne_eqb}
+use Rattle.std.proofs.lemmas.Bool.Decides.{eqb_tells}
 use Rattle.std.proofs.lemmas.List.{length-append, nil_from_length, append-nil}
 use mathlib.Core.List.{IsPrefix}
 use Rattle.tc_channel.specs.declared.event.Event.{Event}
-use Rattle.logged_lock.specs.Log.{owned, IsBeginning, IsMergeOf}
+use Rattle.logged_lock.specs.Log.{owned, made_by, IsBeginning, IsMergeOf}
 use Rattle.tc_desk.specs.Log.{Moment, Own}
 use Rattle.tc_desk.specs.Call.{made, looked}
 use Rattle.tc_desk.specs.Alone.{placed, HasMadeAll, HasSeenItsOwn}
@@ -18,15 +19,22 @@ owned-own t at o os e es same = ap (λ (b : Bool). cond b ((at, e) ∷ owned t (
 owned-other : (t at o : ℕ) (os : List ℕ) (e : Event) (es : List Event) → o ≢ t → owned t at (o ∷ os) (e ∷ es) ≡ owned t (suc at) os es
 owned-other t at o os e es apart = ap (λ (b : Bool). cond b ((at, e) ∷ owned t (suc at) os es) (owned t (suc at) os es)) (ne_eqb o t apart)
 
--- where nobody else owns a place, the first owns all of them
-all-own : (at : ℕ) (os : List ℕ) (es : List Event) → length os ≡ length es → ((k : ℕ) → owned (suc k) at os es ≡ []) → owned 0 at os es ≡ placed at es
-all-own at [] [] len none = refl
-all-own at [] (e ∷ es) len none = absurd (omega arith)
-all-own at (o ∷ os) [] len none = absurd (omega arith)
-all-own at (zero ∷ os) (e ∷ es) len none =
-    let rest : (k : ℕ) → owned (suc k) (suc at) os es ≡ [] = λ k. sym (owned-other (suc k) at zero os e es (λ h. absurd (omega arith))) ∙ none k in
-    owned-own 0 at zero os e es refl ∙ ap (λ l. (at, e) ∷ l) (all-own (suc at) os es (omega arith) rest)
-all-own at (suc o ∷ os) (e ∷ es) len none = absurd (cons-not-nil (at, e) (owned (suc o) (suc at) os es) (sym (owned-own (suc o) at (suc o) os e es refl) ∙ none o))
+-- one place, where nobody but the k-th owns any
+own-step : (k at o : ℕ) (os : List ℕ) (e : Event) (es : List Event) → ((j : ℕ) → j ≢ k → owned j at (o ∷ os) (e ∷ es) ≡ [])
+    → (((j : ℕ) → j ≢ k → owned j (suc at) os es ≡ []) → owned k (suc at) os es ≡ placed (suc at) es) → owned k at (o ∷ os) (e ∷ es) ≡ placed at (e ∷ es)
+own-step k at o os e es none rest = elim (eqb_tells o k) [
+  | inl h ↦
+      let others : (j : ℕ) → j ≢ k → owned j (suc at) os es ≡ [] = λ j apart. sym (owned-other j at o os e es (λ same. apart (sym same ∙ h.1))) ∙ none j apart in
+      owned-own k at o os e es h.1 ∙ ap (λ l. (at, e) ∷ l) (rest others)
+  | inr h ↦ absurd (cons-not-nil (at, e) (owned o (suc at) os es) (sym (owned-own o at o os e es refl) ∙ none o h.1))
+]
+
+-- where nobody but the k-th owns a place, the k-th owns all of them
+all-own : (k at : ℕ) (os : List ℕ) (es : List Event) → length os ≡ length es → ((j : ℕ) → j ≢ k → owned j at os es ≡ []) → owned k at os es ≡ placed at es
+all-own k at [] [] len none = refl
+all-own k at [] (e ∷ es) len none = absurd (omega arith)
+all-own k at (o ∷ os) [] len none = absurd (omega arith)
+all-own k at (o ∷ os) (e ∷ es) len none = own-step k at o os e es none (all-own k (suc at) os es (omega arith))
 
 length-placed : (at : ℕ) (es : List Event) → length (placed at es) ≡ length es
 length-placed at [] = refl
@@ -55,13 +63,22 @@ whole-prefix xs ys p le =
     let none : p.0 ≡ [] = nil_from_length p.0 (omega (arith, count)) in
     sym (append-nil xs) ∙ (ap (λ l. xs ++ l) (sym none) ∙ p.1)
 
-pub only-maker : (own : Own) (journal : List Event) → HasSeenItsOwn own → IsBeginning own.seen (record { head = own.seen.head; entries = journal }) → IsMergeOf journal (own ∷ [])
-    → HasMadeAll own × (own.seen.entries ≡ journal)
-only-maker own journal its behind merge =
-    let all : own.made ≡ placed 0 journal = sym (merge.parts 0) ∙ all-own 0 merge.owners journal merge.long (λ k. merge.parts (suc k)) in
+-- where only one of several has made anything
+pub maker-alone : (makers : List Own) (k : ℕ) (own : Own) (journal : List Event) → made_by makers k ≡ own.made → ((j : ℕ) → j ≢ k → made_by makers j ≡ []) → HasSeenItsOwn own
+    → IsBeginning own.seen (record { head = own.seen.head; entries = journal }) → IsMergeOf journal makers → HasMadeAll own × (own.seen.entries ≡ journal)
+maker-alone makers k own journal mine none its behind merge =
+    let all : own.made ≡ placed 0 journal = sym mine ∙ (sym (merge.parts k) ∙ all-own k 0 merge.owners journal merge.long (λ j apart. merge.parts j ∙ none j apart)) in
     let count : length own.made ≡ length journal = ap (λ l. length l) all ∙ length-placed 0 journal in
     let seen : own.seen.entries ≡ journal = whole-prefix own.seen.entries journal behind.1 (omega (arith, count, its)) in
     (all ∙ ap (λ l. placed 0 l) (sym seen), seen)
+
+nobody-else : (own : Own) (j : ℕ) → j ≢ 0 → made_by (own ∷ []) j ≡ []
+nobody-else own zero apart = absurd (apart refl)
+nobody-else own (suc j) apart = refl
+
+pub only-maker : (own : Own) (journal : List Event) → HasSeenItsOwn own → IsBeginning own.seen (record { head = own.seen.head; entries = journal }) → IsMergeOf journal (own ∷ [])
+    → HasMadeAll own × (own.seen.entries ≡ journal)
+only-maker own journal its behind merge = maker-alone (own ∷ []) 0 own journal refl (nobody-else own) its behind merge
 
 -- it was answered at the moment that it had seen
 same-moment : (before : Own) (now : Moment) → HasSeenItsOwn before → IsBeginning before.seen now → before.made ≡ placed 0 now.entries → HasMadeAll before × (now ≡ before.seen)

@@ -7,6 +7,7 @@ use Rattle.std.proofs.lemmas.List.Sums.{sum_by_more, sum_by-cons}
 use Rattle.std.proofs.lemmas.List.Elements.{All-tail, All-head}
 use Rattle.std.proofs.lemmas.Option.{none-some, same_Some, slice_get_within, get_or_from_slice_get}
 use Rattle.logged_lock.specs.Log.{total_made, AreBehind, IsMergeOf}
+use Rattle.tc_channel.specs.declared.event.Event.{Event}
 use Rattle.tc_channel.specs.Journal.{History}
 use Rattle.tc_desk.specs.{TableId}
 use Rattle.tc_desk.specs.Log.{Own, Sight, Moment, AtLock, AtHand, accounts_of}
@@ -262,6 +263,7 @@ closed_one h operators c fresh balanced out =
     let now : h.now ≡ record { head = h.keeper.own.seen.head; entries = c.journal } = λ i. record { head = fresh.1.0 i; entries = sym out.journal i } in
     record {
       settings = out.settings;
+      balanced = subst (λ (journal : List Event). IsBalanced accounts journal) (sym out.journal) balanced;
       merge = subst (λ (t : List Own). IsMergeOf c.journal t) told (out.merge (ap (λ (t : List Own). total_made t) told ∙ balanced.0));
       seen = subst (λ (x : List Own × Moment). AreBehind x.0 x.1) (λ i. (told i, now i)) out.seen;
     }

@@ -11,10 +11,11 @@ use Rattle.tc_desk.specs.declared.closing.Obstacle.TheVariants.{Held, Unbalanced
 abbrev pub IsBalanced : List Own → List Event → Type 0
 IsBalanced makers journal = (total_made makers ≡ length journal) × (length journal < 2 ^ 64 - 1)
 
--- The journal of the closed channel is a merge of what these operators made, and what each of them had seen is a beginning of it,
--- with the settings of the desk and its board.
+-- The journal of the closed channel is a merge of what these operators made, with as many events as they have made, and what each of
+-- them had seen is a beginning of it, with the settings of the desk and its board.
 pub record IsClosed (keeper : AtLock) (operators : List AtLock) (closed : History) : Type 0 where
   pub settings : closed.settings ≡ keeper.own.seen.head.settings
+  pub balanced : IsBalanced (accounts_of operators) closed.journal
   pub merge : IsMergeOf closed.journal (accounts_of operators)
   pub seen : AreBehind (accounts_of operators) (record { head = keeper.own.seen.head; entries = closed.journal })
 

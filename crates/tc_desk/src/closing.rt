@@ -94,6 +94,7 @@ fn take_out<J: Journal>(
     requires told { first.me.0.told ≡ [] }
     requires ours { All (λ o. o.lock ≡ lock.id) operators.items }
     requires balanced { IsBalanced (accounts_of operators.items) first.me.0.own.seen.entries }
+    ensures balanced { IsBalanced (accounts_of operators.items) result.journal }
     ensures merge { IsMergeOf result.journal (accounts_of operators.items) }
     ensures settings { result.settings ≡ first.me.0.own.seen.head.settings }
     ensures journal { result.journal ≡ first.me.0.own.seen.entries }

@@ -1,8 +1,8 @@
 //! Laws over the definitions.
 
-ghost use Rattle.std.specs.Prelude.{List, ◌≡◌, [], ◌∷◌};
+ghost use Rattle.std.specs.Prelude.{ℕ, List, ◌≡◌, ◌≢◌, [], ◌∷◌};
 ghost use Rattle.tc_channel.specs.declared.event.Event.{Event};
-ghost use Rattle.logged_lock.specs.Log.{IsBeginning, IsMergeOf};
+ghost use Rattle.logged_lock.specs.Log.{IsBeginning, IsMergeOf, made_by};
 ghost use Rattle.tc_desk.specs.Log.{Moment, Own};
 ghost use Rattle.tc_desk.specs.Call.{made, looked};
 ghost use Rattle.tc_desk.specs.Alone.{HasMadeAll, HasSeenItsOwn};
@@ -11,6 +11,12 @@ ghost use Rattle.tc_desk.specs.Alone.{HasMadeAll, HasSeenItsOwn};
 pub fn the_only_operator_made_the_whole_journal()
     ensures { (own : Own) (journal : List Event) → HasSeenItsOwn own → IsBeginning own.seen (record { head = own.seen.head; entries = journal }) → IsMergeOf journal (own ∷ [])
         → HasMadeAll own × (own.seen.entries ≡ journal) }
+{}
+
+/// Where a journal is a merge of what several operators made, of which only one made anything, that one has made, and seen, all of it.
+pub fn the_only_maker_made_the_whole_journal()
+    ensures { (makers : List Own) (k : ℕ) (own : Own) (journal : List Event) → made_by makers k ≡ own.made → ((j : ℕ) → j ≢ k → made_by makers j ≡ []) → HasSeenItsOwn own
+        → IsBeginning own.seen (record { head = own.seen.head; entries = journal }) → IsMergeOf journal makers → HasMadeAll own × (own.seen.entries ≡ journal) }
 {}
 
 /// Where an operator has made all that it has seen after a call, it had before it, too, and was answered at just the moment that
