@@ -16,7 +16,7 @@ use Rattle.tc_station.specs.Call.{IsCallAt}
 use Rattle.tc_station.proofs.Counts.{raised-is}
 
 -- a list of what is read of each desk, with one desk in another's place
-same-set : {A : Type 0} (f : AtLock → A) (desks : List AtLock) (place : ℕ) (there next : AtLock) → there ≡ get_or desks place there → f next ≡ f there → map f (set desks place next) ≡ map f desks
+pub same-set : {A : Type 0} (f : AtLock → A) (desks : List AtLock) (place : ℕ) (there next : AtLock) → there ≡ get_or desks place there → f next ≡ f there → map f (set desks place next) ≡ map f desks
 same-set f desks place there next is same =
     map-set f desks place next
     ∙ (ap (λ x. set (map f desks) place x) (same ∙ ap f is)

@@ -1,6 +1,7 @@
 pub mod Distinct
 pub mod Counts
 pub mod Called
+pub mod Tried
 pub mod Posts
 pub mod Works
 pub mod Ordered

@@ -15,6 +15,7 @@ use Rattle.tc_station.specs.declared.work.Order.{Order}
 use Rattle.tc_station.specs.declared.work.Order.TheVariants.{Bring, Release, Take, TakeUnit}
 use Rattle.tc_station.specs.declared.work.Job.{Job}
 use Rattle.tc_station.specs.declared.work.WorkList.{WorkList}
+use Rattle.tc_station.specs.Tried.{IsListMade}
 use Rattle.tc_station.specs.Work.{IsTried, IsDone, AreDone, IsWorked, Shift, IsShift, IsTallyOf, AreWorked, lowest, brings_to, is_other, IsRaised, NoCountFalls}
 use Rattle.tc_station.proofs.Counts.{Between, between-both, between-none, between-one, between-other, raised-length, raised-here, raised-else, rises, for-located, for-nobody}
 
@@ -72,13 +73,13 @@ lower-none (Some x) = refl
 
 -- one list
 pub one-worked : (station : Roster) (lists : List WorkList) (ops : List AtStation) (l : WorkList) (o z : AtStation) (line : Option ℕ) → length lists ≡ 1 → length ops ≡ 1 → l ≡ get_or lists 0 l → o ≡ get_or ops 0 o
-    → IsTallyOf station (tally o) → IsOurs station z → IsWorked station l line (tally o) (tally z) → AreWorked station lists line ops (set ops 0 z)
-one-worked station (x ∷ []) (y ∷ []) l o z line e f p q fits ours worked =
-    (record { list = l; refused = line; before = o; after = z } ∷ [], ap (λ w. w ∷ []) p, ap (λ w. w ∷ []) q, refl, (record { ours = fits; kept = ours; worked = worked }, tt), lower-none line)
-one-worked station [] ops l o z line e f p q fits ours worked = absurd (omega arith)
-one-worked station (x ∷ (w ∷ ws)) ops l o z line e f p q fits ours worked = absurd (omega arith)
-one-worked station (x ∷ []) [] l o z line e f p q fits ours worked = absurd (omega arith)
-one-worked station (x ∷ []) (y ∷ (w ∷ ws)) l o z line e f p q fits ours worked = absurd (omega arith)
+    → IsTallyOf station (tally o) → IsOurs station z → IsWorked station l line (tally o) (tally z) → IsListMade station l line o z → AreWorked station lists line ops (set ops 0 z)
+one-worked station (x ∷ []) (y ∷ []) l o z line e f p q fits ours worked made =
+    (record { list = l; refused = line; before = o; after = z } ∷ [], ap (λ w. w ∷ []) p, ap (λ w. w ∷ []) q, refl, (record { ours = fits; kept = ours; worked = worked; made = made }, tt), lower-none line)
+one-worked station [] ops l o z line e f p q fits ours worked made = absurd (omega arith)
+one-worked station (x ∷ (w ∷ ws)) ops l o z line e f p q fits ours worked made = absurd (omega arith)
+one-worked station (x ∷ []) [] l o z line e f p q fits ours worked made = absurd (omega arith)
+one-worked station (x ∷ []) (y ∷ (w ∷ ws)) l o z line e f p q fits ours worked made = absurd (omega arith)
 
 pub moved-worked : (station : Roster) (fl gl : List WorkList) (a b : Option ℕ) (fo go : List AtStation) (z : List AtStation) → AreWorked station fl a fo z → fl ≡ gl → a ≡ b → fo ≡ go → AreWorked station gl b go z
 moved-worked station fl gl a b fo go z w p q r = (w.0, w.1 ∙ p, w.2 ∙ r, w.3, w.4, w.5 ∙ q)

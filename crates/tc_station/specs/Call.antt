@@ -1,5 +1,5 @@
 -- What the calls of operators do at the desks of a station.
-use Rattle.std.specs.Prelude.{◌≡◌, ◌⊎◌, ℕ, Bool, false, List, Some, Result, Err, slice_get, slice_set}
+use Rattle.std.specs.Prelude.{◌≡◌, ◌⊎◌, ℕ, Bool, false, List, Contains, Some, Result, Err, slice_get, slice_set}
 use Rattle.tc_channel.specs.declared.event.Event.{Event}
 use Rattle.tc_channel.specs.declared.event.Event.TheVariants.{Frame}
 use Rattle.tc_channel.specs.declared.reply.ReleaseFault.{ReleaseFault}
@@ -11,7 +11,7 @@ use Rattle.tc_desk.specs.Log.{Moment, AtLock}
 use Rattle.tc_desk.specs.Call.{IsCall, IsFramed, IsFramedWatched, IsReleaseFault, IsTakeFault, IsTakeUnitFault}
 use Rattle.tc_station.specs.Roster.{Roster, IsPlace}
 use Rattle.tc_station.specs.Tally.{AtStation}
-use Rattle.tc_station.specs.Location.{IsPlaced}
+use Rattle.tc_station.specs.Location.{IsPlaced, IsLocateFault}
 use Rattle.tc_station.specs.Faults.{release_refused, take_refused, take_unit_refused}
 use Rattle.tc_station.specs.declared.faults.LocateFault.{LocateFault}
 use Rattle.tc_station.specs.declared.faults.BringFault.{BringFault}
@@ -35,14 +35,14 @@ pub record IsCallAt {R F : Type 0} (place vcid : ℕ) (e : Event) (ok : Moment �
 abbrev pub IsCallOn : {R F : Type 0} → Roster → ℕ → Event → (Moment → R → Type 0) → (Moment → F → Type 0) → F → AtStation → Result R F → AtStation → Type 0
 IsCallOn {R = R} {F = F} station vcid e ok err unknown before result after =
     ((place : ℕ) × IsPlace station vcid place × IsCallAt place vcid e ok err before result after)
-    ⊎ ((result ≡ Err unknown) × (after ≡ before))
+    ⊎ (¬ Contains station.vcids vcid × (result ≡ Err unknown) × (after ≡ before))
 
 -- It brought the frame at the front of the octets to the desk of the channel that the frame names; or there is no such frame or
--- channel, and nothing happened.
+-- channel, as the answer says, and nothing happened.
 abbrev pub IsBringCall : {R : Type 0} → Roster → List ℕ → (ℕ → List ℕ → Moment → R → Type 0) → (List ℕ → Moment → BringFault → Type 0) → AtStation → Result R BringFault → AtStation → Type 0
 IsBringCall {R = R} station octets ok err before result after =
     ((place vcid : ℕ) × (frame : List ℕ) × IsPlaced station octets place vcid frame × IsCallAt place vcid (Frame frame) (ok vcid frame) (err frame) before result after)
-    ⊎ ((f : LocateFault) × (result ≡ Err (Locate f)) × (after ≡ before))
+    ⊎ ((f : LocateFault) × IsLocateFault station octets f × (result ≡ Err (Locate f)) × (after ≡ before))
 
 -- the reply to this frame, brought to the channel with this id
 abbrev pub IsReplied : ℕ → List ℕ → Moment → Brought → Type 0

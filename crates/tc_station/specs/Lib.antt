@@ -9,4 +9,5 @@ pub mod Faults
 pub mod Call
 pub mod Together
 pub mod Lowest
+pub mod Tried
 pub mod Work

@@ -6,6 +6,7 @@ use Rattle.tc_station.specs.Roster.{Roster}
 use Rattle.tc_station.specs.Tally.{Tally, AtStation, tally, counted, IsOurs}
 use Rattle.tc_station.specs.Lowest.{lower}
 use Rattle.tc_station.specs.Location.{IsLocated, IsLocateFault}
+use Rattle.tc_station.specs.Tried.{IsListMade}
 use Rattle.tc_station.specs.declared.faults.LocateFault.{LocateFault}
 use Rattle.tc_station.specs.declared.faults.WorkFault.{WorkFault}
 use Rattle.tc_station.specs.declared.faults.WorkFault.TheVariants.{NoMemory}
@@ -62,6 +63,7 @@ pub record IsShift (station : Roster) (s : Shift) : Type 0 where
   pub ours : IsTallyOf station (tally s.before)
   pub kept : IsOurs station s.after
   pub worked : IsWorked station s.list s.refused (tally s.before) (tally s.after)
+  pub made : IsListMade station s.list s.refused s.before s.after
 
 abbrev pub lowest : List Shift → Option ℕ
 lowest [] = None

@@ -58,6 +58,7 @@ impl<J: Journal + Send> StationOf<J>
 where
     J::Entry: Send,
 {
+    ghost use Rattle.tc_station.specs.Tried.{IsListMade, IsJobMade, HasMadeTheSame};
     ghost use Rattle.tc_station.specs.Work.{IsDone, MayWantMemory, IsWorked, AreManned, AreWorked, IsTallyOf, NoCountFalls, IsRaised, line_of};
 
     /// Does each list of jobs in a thread of its own, with the operator of its place. A refusal other than for memory is
@@ -168,6 +169,7 @@ where
         ensures tally { IsTallyOf self.now (tally operator.old) }
         ensures ours { IsOurs self.now operator.new }
         ensures worked { IsWorked self.now list.now result (tally operator.old) (tally operator.new) }
+        ensures made { IsListMade self.now list.now result operator.old operator.new }
     {
         self.pass(rt, gate, list.vcid);
         operator.has_a_count_for_each_channel();
@@ -192,6 +194,8 @@ where
         ensures done { OnOk result (IsDone self.now vcid order.now (tally operator.old) (tally operator.new)) }
         ensures refused { OnErr result (tally operator.new ≡ tally operator.old) }
         ensures wanting { OnErr result (MayWantMemory self.now vcid order.now) }
+        ensures made { OnOk result (IsJobMade self.now vcid order.now operator.old operator.new) }
+        ensures kept { OnErr result (HasMadeTheSame operator.old operator.new) }
     {
         match order {
             Order::Bring(octets) => match self.bring(rt, operator, octets) {

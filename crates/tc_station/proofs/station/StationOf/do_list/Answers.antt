@@ -1,6 +1,7 @@
 use Rattle.std.proofs.Common.{rules}
 use Rattle.tc_station.specs.Tally.{tally}
 use Rattle.tc_station.proofs.Works.{one-more}
+use Rattle.tc_station.proofs.Tried.{one-more-made}
 use Rattle.tc_station.proofs.station.StationOf.do_list.Goals as goal
 
 pub loop-job-preserved : goal.loop-job-preserved
@@ -10,4 +11,5 @@ loop-job-preserved g c =
     let done = c.in-Ok.ensures.done in (
       c.do_job.ensures.ours,
       one-more c.args.self.now c.args.list.now.vcid c.args.list.now.jobs c.loop-job.job-index c.job-item.result (tally c.args.operator.now) (tally c.loop-job.operator) (tally c.do_job.new.operator) (search rules) is i.1 done,
+      one-more-made c.args.self.now c.args.list.now.vcid c.args.list.now.jobs c.loop-job.job-index c.job-item.result c.args.operator.now c.loop-job.operator c.do_job.new.operator (search rules) is i.2 c.in-Ok.ensures.made,
     )

@@ -1,5 +1,6 @@
 use Rattle.std.proofs.Common.{take}
 use Rattle.tc_station.specs.Tally.{IsOurs, tally}
+use Rattle.tc_station.specs.Tried.{AreMade}
 use Rattle.tc_station.specs.Work.{AreDone}
 use Rattle.tc_station.proofs.station.StationOf.do_list.Given as goal
 
@@ -7,3 +8,4 @@ abbrev pub invariant-loop-job : goal.invariant-loop-job
 invariant-loop-job g l =
     IsOurs l.self l.operator
     × AreDone l.self l.list.vcid (take l.job-index l.list.jobs) (tally l.fn.operator) (tally l.operator)
+    × AreMade l.self l.list.vcid (take l.job-index l.list.jobs) l.fn.operator l.operator

@@ -1,5 +1,6 @@
 use Rattle.std.proofs.Common.{sym, subst, rules}
 use Rattle.tc_station.specs.Tally.{tally}
+use Rattle.tc_station.specs.Tried.{IsListMade}
 use Rattle.tc_station.specs.Work.{IsTallyOf, IsWorked}
 use Rattle.tc_station.proofs.Works.{one-worked}
 use Rattle.tc_station.proofs.station.StationOf.work_one.Goals as goal
@@ -14,3 +15,4 @@ returns g c =
     (subst (λ t. IsTallyOf c.args.self.now (tally t)) (sym c.index-operators-0.is) c.do_list.ensures.tally)
     c.do_list.ensures.ours
     (subst (λ t. IsWorked c.args.self.now l line (tally t) (tally z)) (sym c.index-operators-0.is) c.do_list.ensures.worked)
+    (subst (λ t. IsListMade c.args.self.now l line t z) (sym c.index-operators-0.is) c.do_list.ensures.made)

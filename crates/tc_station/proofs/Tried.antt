@@ -1,0 +1,103 @@
+-- What the jobs of a list make at the desks of a station.
+use Rattle.std.proofs.Common.{◌≡◌, ℕ, ◌+◌, ◌<◌, Bool, List, [], ◌∷◌, ◌++◌, length, map, take, get_or, Result, Ok, Err, refl, sym, ap, ◌∙◌, subst, inl, inr}
+use Rattle.std.proofs.lemmas.List.{take_more}
+use Rattle.std.proofs.lemmas.Option.{get_or_from_slice_get}
+use Rattle.tc_channel.specs.declared.event.Event.{Event}
+use Rattle.tc_channel.specs.declared.event.Event.TheVariants as events
+use Rattle.tc_channel.specs.declared.reply.ReleaseFault.{ReleaseFault}
+use Rattle.tc_channel.specs.declared.reply.ReleaseFault.TheVariants as release_faults
+use Rattle.tc_channel.specs.declared.reply.TakeFault.{TakeFault}
+use Rattle.tc_channel.specs.declared.reply.TakeFault.TheVariants as take_faults
+use Rattle.tc_channel.specs.declared.reply.TakeUnitFault.{TakeUnitFault}
+use Rattle.tc_channel.specs.declared.reply.TakeUnitFault.TheVariants as unit_faults
+use Rattle.tc_desk.specs.Log.{Moment, Own, AtLock}
+use Rattle.tc_desk.specs.Call.{IsReleaseFault, IsTakeFault, IsTakeUnitFault}
+use Rattle.tc_station.specs.Roster.{Roster}
+use Rattle.tc_station.specs.Tally.{AtStation}
+use Rattle.tc_station.specs.Faults.{release_refused, take_refused, take_unit_refused}
+use Rattle.tc_station.specs.Call.{IsCallAt, IsCallOn, IsBringCall, IsNotReleased, IsNotTaken, IsUnitNotTaken}
+use Rattle.tc_station.specs.declared.faults.BringFault.{BringFault}
+use Rattle.tc_station.specs.declared.faults.ReleaseRefused.{ReleaseRefused}
+use Rattle.tc_station.specs.declared.faults.ReleaseRefused.TheVariants as release_refusals
+use Rattle.tc_station.specs.declared.faults.TakeRefused.{TakeRefused}
+use Rattle.tc_station.specs.declared.faults.TakeRefused.TheVariants as take_refusals
+use Rattle.tc_station.specs.declared.faults.TakeUnitRefused.{TakeUnitRefused}
+use Rattle.tc_station.specs.declared.faults.TakeUnitRefused.TheVariants as unit_refusals
+use Rattle.tc_station.specs.declared.work.Order.TheVariants as orders
+use Rattle.tc_station.specs.declared.work.Job.{Job}
+use Rattle.tc_station.specs.Tried.{CanBeMade, CannotBeMade, IsTriedAt, IsTriedOn, IsJobMade, AreMade, HasMadeTheSame}
+use Rattle.tc_station.proofs.Called.{ok-call, err-call, same-set}
+
+-- a call at one desk that memory didn't refuse: its event was made where it could be
+pub tried-at : {R F : Type 0} (place vcid : ℕ) (e : Event) (ok : Moment → R → Type 0) (err : Moment → F → Type 0) (before after : AtStation) (r : Result R F) → ((m : Moment) (a : R) → ok m a → CanBeMade e m)
+    → ((m : Moment) (f : F) → r ≡ Err f → err m f → CannotBeMade e m) → IsCallAt place vcid e ok err before r after → IsTriedAt place vcid e before after
+tried-at place vcid e ok err before after (Ok a) can cannot c =
+    (Ok tt, ok-call place vcid e ok err (λ m _. CanBeMade e m) (λ m _. CannotBeMade e m) before after (Ok a) a tt c refl (λ m p. can m a p))
+tried-at place vcid e ok err before after (Err f) can cannot c =
+    (Err tt, err-call place vcid e ok err (λ m _. CanBeMade e m) (λ m _. CannotBeMade e m) before after (Err f) f tt c refl (λ m p. cannot m f refl p))
+
+-- the same at the desk of a channel, where the station has it
+pub tried-on : {R F : Type 0} (station : Roster) (vcid : ℕ) (e : Event) (ok : Moment → R → Type 0) (err : Moment → F → Type 0) (unknown : F) (before after : AtStation) (r : Result R F) → ((m : Moment) (a : R) → ok m a → CanBeMade e m)
+    → ((m : Moment) (f : F) → r ≡ Err f → err m f → CannotBeMade e m) → IsCallOn station vcid e ok err unknown before r after → IsTriedOn station vcid e before after
+tried-on station vcid e ok err unknown before after r can cannot (inl c) = inl (c.0, c.1, tried-at c.0 vcid e ok err before after r can cannot c.2)
+tried-on station vcid e ok err unknown before after r can cannot (inr c) = inr (c.0, c.2)
+
+-- octets that were brought, to a channel or to none
+pub brought : {R : Type 0} (station : Roster) (own : ℕ) (octets : List ℕ) (ok : ℕ → List ℕ → Moment → R → Type 0) (err : List ℕ → Moment → BringFault → Type 0) (before after : AtStation) (r : Result R BringFault)
+    → ((frame : List ℕ) (m : Moment) (f : BringFault) → r ≡ Err f → err frame m f → ⊥) → IsBringCall station octets ok err before r after → IsJobMade station own (orders.Bring octets) before after
+brought station own octets ok err before after r cannot (inl c) =
+    inl (c.0, c.1, c.2, c.3, tried-at c.0 c.1 (events.Frame c.2) (ok c.1 c.2) (err c.2) before after r (λ m a p. tt) (λ m f is p. cannot c.2 m f is p) c.4)
+brought station own octets ok err before after r cannot (inr c) = inr (c.0, c.1, c.3)
+
+-- what the station refuses otherwise than for memory can't be made
+release-empty : (m : Moment) (said : ReleaseRefused) (fault : ReleaseFault) → (said ≡ release_refusals.NoMemory → ⊥) → said ≡ release_refused fault → IsReleaseFault m fault → CannotBeMade events.Release m
+release-empty m said release_faults.Empty other is p = p
+release-empty m said release_faults.NoMemory other is p = absurd (other is)
+
+pub not-released : (m : Moment) (said : ReleaseRefused) → (said ≡ release_refusals.NoMemory → ⊥) → IsNotReleased m said → CannotBeMade events.Release m
+not-released m said other p = release-empty m said p.0 other p.1 p.2
+
+take-empty : (grows : Bool) (apid : ℕ) (m : Moment) (said : TakeRefused) (fault : TakeFault) → (said ≡ take_refusals.NoMemory → ⊥) → said ≡ take_refused fault → IsTakeFault grows apid m fault → CannotBeMade (events.Take apid) m
+take-empty grows apid m said take_faults.NoQueue other is p = inl p
+take-empty grows apid m said take_faults.Empty other is p = inr p
+take-empty grows apid m said take_faults.NoMemory other is p = absurd (other is)
+
+pub not-taken : (grows : Bool) (apid : ℕ) (m : Moment) (said : TakeRefused) → (said ≡ take_refusals.NoMemory → ⊥) → IsNotTaken grows apid m said → CannotBeMade (events.Take apid) m
+not-taken grows apid m said other p = take-empty grows apid m said p.0 other p.1 p.2
+
+unit-empty : (grows : Bool) (map_id : ℕ) (m : Moment) (said : TakeUnitRefused) (fault : TakeUnitFault) → (said ≡ unit_refusals.NoMemory → ⊥) → said ≡ take_unit_refused fault → IsTakeUnitFault grows map_id m fault
+    → CannotBeMade (events.TakeUnit map_id) m
+unit-empty grows map_id m said unit_faults.NoMap other is p = inl p
+unit-empty grows map_id m said unit_faults.Empty other is p = inr p
+unit-empty grows map_id m said unit_faults.NoMemory other is p = absurd (other is)
+
+pub unit-not-taken : (grows : Bool) (map_id : ℕ) (m : Moment) (said : TakeUnitRefused) → (said ≡ unit_refusals.NoMemory → ⊥) → IsUnitNotTaken grows map_id m said → CannotBeMade (events.TakeUnit map_id) m
+unit-not-taken grows map_id m said other p = unit-empty grows map_id m said p.0 other p.1 p.2
+
+-- what was refused made nothing
+refused-at : {R F : Type 0} (place vcid : ℕ) (e : Event) (ok : Moment → R → Type 0) (err : Moment → F → Type 0) (before after : AtStation) (f : F) → IsCallAt place vcid e ok err before (Err f) after → HasMadeTheSame before after
+refused-at place vcid e ok err before after f c =
+    ap (map (λ (d : AtLock). d.own.made)) c.others
+    ∙ same-set (λ (d : AtLock). d.own.made) before.desks place c.there c.next (sym (get_or_from_slice_get before.desks place c.there c.there c.was)) (ap (λ (o : Own). o.made) c.call.answer.1)
+
+pub refused-on : {R F : Type 0} (station : Roster) (vcid : ℕ) (e : Event) (ok : Moment → R → Type 0) (err : Moment → F → Type 0) (unknown : F) (before after : AtStation) (r : Result R F) (f : F) → r ≡ Err f
+    → IsCallOn station vcid e ok err unknown before r after → HasMadeTheSame before after
+refused-on station vcid e ok err unknown before after r f is (inl c) = refused-at c.0 vcid e ok err before after f (subst (λ x. IsCallAt c.0 vcid e ok err before x after) is c.2)
+refused-on station vcid e ok err unknown before after r f is (inr c) = ap (λ (o : AtStation). map (λ (d : AtLock). d.own.made) o.desks) c.2
+
+pub not-brought : {R : Type 0} (station : Roster) (octets : List ℕ) (ok : ℕ → List ℕ → Moment → R → Type 0) (err : List ℕ → Moment → BringFault → Type 0) (before after : AtStation) (r : Result R BringFault) (f : BringFault) → r ≡ Err f
+    → IsBringCall station octets ok err before r after → HasMadeTheSame before after
+not-brought station octets ok err before after r f is (inl c) =
+    refused-at c.0 c.1 (events.Frame c.2) (ok c.1 c.2) (err c.2) before after f (subst (λ x. IsCallAt c.0 c.1 (events.Frame c.2) (ok c.1 c.2) (err c.2) before x after) is c.4)
+not-brought station octets ok err before after r f is (inr c) = ap (λ (o : AtStation). map (λ (d : AtLock). d.own.made) o.desks) c.3
+
+-- one job more
+snoc : (station : Roster) (vcid : ℕ) (jobs : List Job) (job : Job) (a b c : AtStation) → AreMade station vcid jobs a b → IsJobMade station vcid job.order b c → AreMade station vcid (jobs ++ job ∷ []) a c
+snoc station vcid [] job a b c made here = (c, subst (λ o. IsJobMade station vcid job.order o c) made here, refl)
+snoc station vcid (j ∷ js) job a b c made here = (made.0, made.1, snoc station vcid js job made.0 b c made.2 here)
+
+pub one-more-made : (station : Roster) (vcid : ℕ) (jobs : List Job) (i : ℕ) (job : Job) (a b c : AtStation) → i < length jobs → job ≡ get_or jobs i job → AreMade station vcid (take i jobs) a b → IsJobMade station vcid job.order b c
+    → AreMade station vcid (take (i + 1) jobs) a c
+one-more-made station vcid jobs i job a b c lt is made here =
+    let more : take (i + 1) jobs ≡ take i jobs ++ job ∷ [] = take_more jobs i job lt ∙ ap (λ x. take i jobs ++ x ∷ []) (sym is) in
+    subst (λ js. AreMade station vcid js a c) (sym more) (snoc station vcid (take i jobs) job a b c made here)
