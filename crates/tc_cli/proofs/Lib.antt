@@ -1,4 +1,13 @@
-pub mod Parts
+pub mod Alone
+pub mod Answered
+pub mod Sessions
+pub mod Framed
+pub mod Happened
+pub mod Planned
+pub mod Joined
 pub mod Scripts
+pub mod Watching
 pub mod Written
 pub mod Stations
+pub mod Reported
+pub mod Determined

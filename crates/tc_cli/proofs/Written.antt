@@ -12,22 +12,25 @@ use Rattle.tc_channel.specs.declared.settings.MapSetting.{MapSetting}
 use Rattle.tc_channel.specs.declared.settings.QueueSetting.{QueueSetting}
 use Rattle.tc_station.specs.Balance.{IsNumberTold}
 use Rattle.tc_station.specs.Roster.{Roster}
-use Rattle.tc_station.specs.Tally.{AtStation, tally}
+use Rattle.tc_station.specs.Tally.{AtStation, IsOurs}
 use Rattle.tc_setup.specs.Phase.{Setup}
 use Rattle.tc_text.specs.Reading.{IsFirstLine, IsReadFault}
 use Rattle.tc_text.specs.declared.fault.Reason.{Reason}
 use Rattle.tc_text.specs.declared.fault.Reason.TheVariants.{NoMemory}
 use Rattle.tc_text.specs.declared.fault.ScriptFault.{ScriptFault}
 use Rattle.tc_text.specs.declared.fault.ScriptFault.TheVariants.{Line, Read, TooLong, Write, Unbalanced}
-use Rattle.tc_cli.specs.Manned.{Manned, outline}
+use Rattle.tc_cli.specs.Manned.{Manned}
 use Rattle.tc_cli.specs.Parallel.{AreWorkedChannels}
 use Rattle.tc_cli.specs.Printed.{answer_line}
-use Rattle.tc_cli.specs.Report.{AreBalanced, AreRising, channel_text, final_line, IsLawfulHistory, map_line, queue_line, report_text}
+use Rattle.tc_cli.specs.Progress.{Progress, IsPerformed}
+use Rattle.tc_cli.specs.Report.{AreRising, channel_text, final_line, IsClosedReport, IsLawfulHistory, IsReportOf, map_line, queue_line, report_text}
 use Rattle.tc_cli.specs.Script.{Leads, starts, goes_on, IsBadLine, IsReportFault}
-use Rattle.tc_cli.specs.Session.{Session, manned_for}
+use Rattle.tc_cli.specs.Session.{Session, IsFound, IsOperated}
 use Rattle.tc_cli.specs.Stage.{phase_of}
-use Rattle.tc_cli.specs.Written.{AreAnswers, at_first, one_more, IsLineAnswered, IsReportWritten, IsUnreported, IsWritten, IsWrittenInParallel, IsCutShort, answers_text, no_flags}
+use Rattle.tc_cli.specs.Written.{AreAnswers, at_first, one_more, IsLineAnswered, IsReport, IsReportWritten, IsUnreported, IsWritten, IsWrittenInParallel, IsCutShort, answers_text}
 use Rattle.tc_cli.specs.declared.answer.Answer.{Answer}
+use Rattle.tc_cli.proofs.Alone.{AloneLaws}
+use Rattle.tc_cli.proofs.Sessions.{progress_of, reported-alone}
 
 -- one element more is written
 pub one-more-written : {X : Type 0} (f : X → List ℕ) (xs : List X) (i : ℕ) (d : X) (a b c : Option (List ℕ)) → i < length xs
@@ -70,19 +73,19 @@ length-one-more : {X : Type 0} (xs : List X) (x : X) → length xs + 1 ≡ lengt
 length-one-more xs x = grind (arith, common_steps)
 
 -- lines that are answered are good
-pub answered-leads : (scid : ℕ) (script : List ℕ) (answers : List (Option Answer)) (session : Session) (rest : List ℕ) → AreAnswers scid script answers session rest
+pub answered-leads : (scid : ℕ) (script : List ℕ) (answers : List (Option Answer)) (session : Session) (rest : List ℕ) → AreAnswers (IsOperated scid) script answers session rest
     → Leads script (length answers) (phase_of session) rest
 answered-leads scid script answers session rest at_first = starts
-answered-leads scid script answers session rest (one_more {answers = before} {session = old} {answer = answer} leads next answered) =
+answered-leads scid script answers session rest (one_more {answers = before} {stage = old} {answer = answer} leads next answered) =
     let good = answered-leads scid script before old _ leads in
     subst (λ n. Leads script n (phase_of session) rest) (length-one-more before answer) (goes_on good next (answered.0, answered.1, answered.2))
 
 -- so many first lines were answered, and their answers written
 abbrev pub IsSoFar : ℕ → List ℕ → ℕ → Session → List ℕ → Option (List ℕ) → Option (List ℕ) → Type 0
 IsSoFar scid script count session rest old new =
-    (answers : List (Option Answer)) × AreAnswers scid script answers session rest × (count ≡ length answers) × Appends old new (answers_text answers)
+    (answers : List (Option Answer)) × AreAnswers (IsOperated scid) script answers session rest × (count ≡ length answers) × Appends old new (answers_text answers)
 
-pub none-so-far : (scid : ℕ) (script : List ℕ) (session : Session) (a : Option (List ℕ)) → AreAnswers scid script [] session script
+pub none-so-far : (scid : ℕ) (script : List ℕ) (session : Session) (a : Option (List ℕ)) → AreAnswers (IsOperated scid) script [] session script
     → IsSoFar scid script 0 session script a a
 none-so-far scid script session a leads = ([], leads, refl, Appends-nil a)
 
@@ -93,7 +96,7 @@ so-far-good scid script count session rest a b (answers, leads, is, text) =
 
 -- one line more
 pub one-more-so-far : (scid : ℕ) (script : List ℕ) (count : ℕ) (session new : Session) (rest line after : List ℕ) (answer : Option Answer) (a b c : Option (List ℕ))
-    → IsSoFar scid script count session rest a b → IsFirstLine rest line after → IsLineAnswered scid no_flags session line new answer → Appends b c (answer_line answer)
+    → IsSoFar scid script count session rest a b → IsFirstLine rest line after → IsLineAnswered (IsOperated scid) session line new answer → Appends b c (answer_line answer)
     → IsSoFar scid script (count + 1) new after a c
 one-more-so-far scid script count session new rest line after answer a b c (answers, leads, is, text) next answered more = (
   answers ++ answer ∷ [],
@@ -112,11 +115,12 @@ cut-short scid script count session rest line after reason a b (inr bad) (answer
     inr (answers, session, rest, line, after, leads, next, bad, ap (λ n. n + 1) is, text)
 
 -- the end of the script, and what comes of the report
-pub end-written : (reported : Result (Unit {0}) ScriptFault) (scid : ℕ) (script : List ℕ) (count : ℕ) (session : Session) (rest : List ℕ) (a b c : Option (List ℕ))
+pub end-written : (laws : AloneLaws) (reported : Result (Unit {0}) ScriptFault) (scid : ℕ) (script : List ℕ) (count : ℕ) (session : Session) (rest : List ℕ) (a b c : Option (List ℕ))
     → IsSoFar scid script count session rest a b → rest ≡ [] → OnOk reported (IsReportWritten scid session b c) → OnOk reported (IsWritten scid script a c)
-end-written (Err fault) scid script count session rest a b c so-far end written = tt
-end-written (Ok done) scid script count session rest a b c (answers, leads, is, text) end (report, of, more) =
-    (answers, session, report, rw end at leads, of, Appends-trans a b c _ _ text more)
+end-written laws (Err fault) scid script count session rest a b c so-far end written = tt
+end-written laws (Ok done) scid script count session rest a b c (answers, leads, is, text) end (report, of, more) =
+    let alone = reported-alone laws scid script answers session report (rw end at leads) of in
+    (answers, progress_of session, report, alone.0, alone.1, Appends-trans a b c _ _ text more)
 
 unreported : (scid : ℕ) (script : List ℕ) (count : ℕ) (session : Session) (rest : List ℕ) (a b c : Option (List ℕ))
     → IsSoFar scid script count session rest a b → rest ≡ [] → Keeps b c → IsUnreported scid script count a c
@@ -136,26 +140,31 @@ end-cut-short (Err fault) scid script count session rest a b c so-far end (inr (
 
 -- the report of the station of a session
 pub reported : (scid : ℕ) (session : Session) (manned : Manned) (station : Roster) (operator : AtStation) (operators : List AtStation) (channels shown : List History) (a b : Option (List ℕ))
-    → shown ≡ channels → manned ≡ manned_for scid session → outline station ≡ manned.station → tally operator ≡ manned.operator → operators ≡ operator ∷ []
-    → AreBalanced station.vcids operators channels → AreRising channels → All IsNumberTold channels → All IsLawfulHistory shown → Appends a b (report_text shown)
+    → shown ≡ channels → IsFound scid session manned → station ≡ manned.station → operator ≡ manned.operator → IsOurs station operator → operators ≡ operator ∷ []
+    → IsClosedReport station operators channels → All IsNumberTold channels → All IsLawfulHistory shown → Appends a b (report_text shown)
     → IsReportWritten scid session a b
-reported scid session manned station operator operators channels shown a b lent is place hand all balanced rising told lawful text =
-    let one = subst (λ vs. AreBalanced vs operators channels) (ap (λ (s : Roster). s.vcids) place) balanced in
-    let two = subst (λ os. AreBalanced manned.station.vcids os channels) all one in
-    let three = subst (λ (m : Manned). AreBalanced m.station.vcids (operator ∷ []) channels) is two in
-    let four = subst (λ (m : Manned). tally operator ≡ m.operator) is hand in
-    (report_text shown, inr (operator, channels, four, three, rising, told, subst (All IsLawfulHistory) lent lawful, ap report_text lent), text)
+reported scid session manned station operator operators channels shown a b lent found place hand ours all closed told lawful text =
+    let one = subst (λ (x : Roster × List AtStation). IsClosedReport x.0 x.1 channels) (λ i. (place i, (all ∙ ap (λ (o : AtStation). o ∷ []) hand) i)) closed in
+    let mine = subst (λ (x : Roster × AtStation). IsOurs x.0 x.1) (λ i. (place i, hand i)) ours in
+    let of : IsReportOf channels (report_text shown) = record { rising = closed.rising; told = told; lawful = subst (All IsLawfulHistory) lent lawful; written = ap report_text lent } in
+    (report_text shown, inr (manned, channels, found, mine, one, of), text)
 
--- what was read is the script, where the octets of the reader are known, and the report is that of its channels
-pub parallel-written : (flushed : Result (Unit {0}) ScriptFault) (known : Option (List ℕ)) (scid : ℕ) (script read : List ℕ) (channels shown : List History) (a b c : Option (List ℕ))
+-- the report of channels is that of a script where its lines are done in order
+abbrev pub IsReportInOrder : Type 0
+IsReportInOrder = (scid : ℕ) (script : List ℕ) (channels : List History) (text : List ℕ) → AreWorkedChannels scid script channels → IsReportOf channels text
+    → (answers : List (Option Answer)) × (progress : Progress) × AreAnswers (IsPerformed scid) script answers progress [] × IsReport scid progress text
+
+-- what was read is the script, where the octets of the reader are known, and the report is that of its lines in order
+pub parallel-written : IsReportInOrder → (flushed : Result (Unit {0}) ScriptFault) (known : Option (List ℕ)) (scid : ℕ) (script read : List ℕ) (channels shown : List History) (a b c : Option (List ℕ))
     → script ≡ read → IfSome known (λ octets. read ≡ octets) → shown ≡ channels → AreWorkedChannels scid script channels → AreRising channels → All IsNumberTold channels
     → All IsLawfulHistory shown → Appends a b (report_text shown) → Keeps b c → OnOk flushed (IfSome known (λ octets. IsWrittenInParallel scid octets a c))
-parallel-written (Err fault) known scid script read channels shown a b c whole is lent worked rising told lawful text kept = tt
-parallel-written (Ok done) None scid script read channels shown a b c whole is lent worked rising told lawful text kept = tt
-parallel-written (Ok done) (Some octets) scid script read channels shown a b c whole is lent worked rising told lawful text kept =
+parallel-written in-order (Err fault) known scid script read channels shown a b c whole is lent worked rising told lawful text kept = tt
+parallel-written in-order (Ok done) None scid script read channels shown a b c whole is lent worked rising told lawful text kept = tt
+parallel-written in-order (Ok done) (Some octets) scid script read channels shown a b c whole is lent worked rising told lawful text kept =
     let of-script = subst (λ s. AreWorkedChannels scid s channels) (whole ∙ is) worked in
-    let of-channels = subst (λ cs. Appends a b (report_text cs)) lent text in
-    (channels, of-script, rising, told, subst (All IsLawfulHistory) lent lawful, Appends-kept a b c _ of-channels kept)
+    let of : IsReportOf channels (report_text shown) = record { rising = rising; told = told; lawful = subst (All IsLawfulHistory) lent lawful; written = ap report_text lent } in
+    let one = in-order scid octets channels (report_text shown) of-script of in
+    (one.0, one.1, report_text shown, one.2, one.3, Appends-kept a b c _ text kept)
 
 -- no channel was set up
 pub not-reported : (scid : ℕ) (session : Session) (a : Option (List ℕ)) → phase_of session ≡ Setup [] → IsReportWritten scid session a a
@@ -163,7 +172,7 @@ not-reported scid session a none = ([], inl (none, refl), Appends-nil a)
 
 -- what was written stays
 written-kept : (scid : ℕ) (script : List ℕ) (a b c : Option (List ℕ)) → IsWritten scid script a b → Keeps b c → IsWritten scid script a c
-written-kept scid script a b c (answers, session, report, leads, of, text) kept = (answers, session, report, leads, of, Appends-kept a b c _ text kept)
+written-kept scid script a b c (answers, progress, report, leads, of, text) kept = (answers, progress, report, leads, of, Appends-kept a b c _ text kept)
 
 cut-short-kept : (scid : ℕ) (script : List ℕ) (a b c : Option (List ℕ)) (fault : ScriptFault) → IsCutShort scid script a b fault → Keeps b c → IsCutShort scid script a c fault
 cut-short-kept scid script a b c Read short kept = Keeps-trans a b c short kept

@@ -4,9 +4,13 @@ pub use Rattle.tc_setup.specs.Phase
 pub mod Stage
 pub mod Printed
 pub mod Script
-pub mod Manned
+pub mod Linked
+pub mod Rack
 pub mod Operation
+pub mod Manned
+pub mod Watched
 pub mod Session
+pub mod Progress
 pub mod Report
 pub mod Parting
 pub mod Parallel

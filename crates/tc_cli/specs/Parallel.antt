@@ -6,7 +6,7 @@ use Rattle.tc_text.specs.Reading.{IsFirstLine}
 use Rattle.tc_text.specs.Word.{words}
 use Rattle.tc_text.specs.Line.{line_of}
 use Rattle.tc_text.specs.declared.line.Line.{Line as Said}
-use Rattle.tc_cli.specs.Parting.{Parted, newly_parted, IsGiven, IsFrameGiven, IsWorkedOut}
+use Rattle.tc_cli.specs.Parting.{Parted, IsNewlyParted, IsGiven, IsFrameGiven, IsWorkedOut}
 use Rattle.tc_setup.specs.Instruction.{instruction_of}
 use Rattle.tc_setup.specs.Phase.{Setup, Does}
 use Rattle.tc_setup.specs.declared.instruction.Instruction.{Instruction}
@@ -19,12 +19,16 @@ abbrev pub Plan : Type 0
 Plan = Stage Parted
 
 -- the jobs that an operation finds: none of a new station where no operation came before
-abbrev pub parted_for : ℕ → Plan → Parted
-parted_for scid (SettingUp list) = newly_parted scid list
-parted_for scid (Operating parted) = parted
+abbrev pub ArePartedFor : ℕ → Plan → Parted → Type 0
+ArePartedFor scid (SettingUp list) found = IsNewlyParted scid list found
+ArePartedFor scid (Operating parted) found = found ≡ parted
+
+-- an operation begins with the jobs that it finds
+abbrev pub Begins : ℕ → Plan → Plan → Type 0
+Begins scid old new = (found : Parted) × ArePartedFor scid old found × (new ≡ Operating found)
 
 abbrev pub Parts : ℕ → (Parted → Parted → Type 0) → Plan → Plan → Type 0
-Parts scid Gives old new = (parted : Parted) × Gives (parted_for scid old) parted × (new ≡ Operating parted)
+Parts scid Gives old new = (found parted : Parted) × ArePartedFor scid old found × Gives found parted × (new ≡ Operating parted)
 
 -- the job of a line is given to its channel; a CLCW is no job, and neither is a blank line. What a line sets up is told by its phase
 abbrev pub IsParted : ℕ → ℕ → Plan → Instruction → Plan → Type 0
@@ -54,4 +58,4 @@ pub data AreParted (scid : ℕ) (script : List ℕ) : ℕ → Plan → List ℕ 
 abbrev pub AreWorkedChannels : ℕ → List ℕ → List History → Type 0
 AreWorkedChannels scid script channels =
     (count : ℕ) × (plan : Plan) × AreParted scid script count plan []
-    × (((phase_of plan ≡ Setup []) × (channels ≡ [])) ⊎ IsWorkedOut (parted_for scid plan) channels)
+    × (((phase_of plan ≡ Setup []) × (channels ≡ [])) ⊎ ((found : Parted) × ArePartedFor scid plan found × IsWorkedOut found channels))

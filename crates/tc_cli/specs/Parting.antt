@@ -1,20 +1,27 @@
 -- The jobs of a script, parted by the channels that they are for, and what workers made of them.
-use Rattle.std.specs.Prelude.{◌≡◌, ℕ, List, [], ◌∷◌, ◌++◌, ◌⊎◌, Any, length, map, replicate, slice_get, slice_set, Some, None}
+use Rattle.std.specs.Prelude.{◌≡◌, ℕ, List, [], ◌∷◌, ◌++◌, ◌⊎◌, All, Any, length, map, slice_get, slice_set, Some, None}
 use Rattle.tc_channel.specs.Journal.{History}
 use Rattle.tc_channel.specs.declared.settings.Settings.{Settings}
 use Rattle.tc_station.specs.Location.{IsLocated, IsLocateFault}
-use Rattle.tc_station.specs.Roster.{Roster}
-use Rattle.tc_station.specs.StationSettings.{vcids_of}
-use Rattle.tc_station.specs.Tally.{AtStation, fresh, tallies}
+use Rattle.tc_station.specs.Roster.{Roster, settings_in}
+use Rattle.tc_station.specs.StationSettings.{HaveDistinctVcids, vcids_of}
+use Rattle.tc_station.specs.Tally.{AtStation, HasMadeNothing, KnowsDesks}
 use Rattle.tc_station.specs.Work.{AreWorked}
 use Rattle.tc_station.specs.declared.faults.LocateFault.{LocateFault}
 use Rattle.tc_station.specs.declared.work.Job.{Job}
 use Rattle.tc_station.specs.declared.work.Order.TheVariants.{Bring}
 use Rattle.tc_station.specs.declared.work.WorkList.{WorkList}
-use Rattle.tc_cli.specs.Manned.{outline, outlined}
-use Rattle.tc_cli.specs.Report.{AreBalanced}
+use Rattle.tc_cli.specs.Report.{IsClosedReport}
 
--- the outline of a station that has issued no operator, and a list for each of its channels
+-- a station of these channels that has issued no operator
+pub record IsNewStation (scid : ℕ) (list : List Settings) (station : Roster) : Type 0 where
+  pub spacecraft : station.scid ≡ scid
+  pub vcids : station.vcids ≡ vcids_of list
+  pub settings : settings_in station ≡ list
+  pub issued : station.issued ≡ 0
+  pub distinct : HaveDistinctVcids list
+
+-- a station that has issued no operator, and a list for each of its channels
 pub record Parted : Type 0 where
   pub station : Roster
   pub lists : List WorkList
@@ -22,11 +29,9 @@ pub record Parted : Type 0 where
 abbrev pub empty_list : Settings → WorkList
 empty_list s = record { vcid = s.vcid; jobs = [] }
 
-abbrev pub newly_parted : ℕ → List Settings → Parted
-newly_parted scid list = record {
-  station = outlined scid (vcids_of list) 0;
-  lists = map empty_list list;
-}
+-- a new station, and an empty list for each of its channels
+abbrev pub IsNewlyParted : ℕ → List Settings → Parted → Type 0
+IsNewlyParted scid list parted = IsNewStation scid list parted.station × (parted.lists ≡ map empty_list list)
 
 abbrev pub with_job : WorkList → Job → WorkList
 with_job l job = record l { jobs = l.jobs ++ job ∷ [] }
@@ -51,11 +56,14 @@ IsFrameGiven line octets old new =
     ((vcid : ℕ) × (frame : List ℕ) × IsLocated old.station octets vcid frame × IsGiven vcid (record { line = line; order = Bring octets }) old new)
     ⊎ ((fault : LocateFault) × IsLocateFault old.station octets fault × (new ≡ old))
 
--- all jobs were done by as many new operators of a station with this outline, with whose counts the channels are in balance
-abbrev pub IsWorkedOut : Parted → List History → Type 0
-IsWorkedOut parted channels =
-    (station : Roster) × (befores operators : List AtStation)
-    × (outline station ≡ record parted.station { issued = length parted.lists })
-    × (tallies befores ≡ replicate (length parted.lists) (fresh parted.station.vcids))
-    × AreWorked station parted.lists None befores operators
-    × AreBalanced parted.station.vcids operators channels
+-- the station has issued an operator for each list, who has made nothing before; these did all jobs, and the station was closed
+-- together with them
+pub record IsWorkedOut (parted : Parted) (channels : List History) : Type 0 where
+  pub station : Roster
+  pub befores : List AtStation
+  pub operators : List AtStation
+  pub issued : station ≡ record parted.station { issued = length parted.lists }
+  pub nothing : All HasMadeNothing befores
+  pub knows : All (KnowsDesks station) befores
+  pub worked : AreWorked station parted.lists None befores operators
+  pub closed : IsClosedReport station operators channels

@@ -1,5 +1,5 @@
 -- The channels of a closed station, and the final report of them: docs/reference/scripts.md shows it, under "The final report".
-use Rattle.std.specs.Prelude.{◌≡◌, ℕ, List, ◌++◌, Option, Some, None, IsPermutation, codes, decimal, length, map}
+use Rattle.std.specs.Prelude.{◌≡◌, ℕ, List, ◌++◌, Option, Some, None, All, IsPermutation, codes, decimal, length}
 use Rattle.std.specs.List.{flat_map}
 use Rattle.std.specs.List.Sorted.{IsNonDecreasingBy}
 use Rattle.tc_channel.specs.Journal.{History}
@@ -9,8 +9,10 @@ use Rattle.tc_channel.specs.Settings.{IsAllowed}
 use Rattle.tc_channel.specs.declared.settings.QueueSetting.{QueueSetting}
 use Rattle.tc_channel.specs.declared.settings.MapSetting.{MapSetting}
 use Rattle.tc_status.specs.Board.{status_word}
-use Rattle.tc_station.specs.Balance.{AreInBalance}
+use Rattle.tc_station.specs.Balance.{IsNumberTold}
+use Rattle.tc_station.specs.Roster.{Roster}
 use Rattle.tc_station.specs.Tally.{AtStation}
+use Rattle.tc_station.specs.Together.{AreClosedTogether}
 use Rattle.tc_text.specs.Printed.{word_text}
 
 abbrev pub vcid_of : History → ℕ
@@ -23,10 +25,12 @@ AreRising channels = IsNonDecreasingBy vcid_of channels
 abbrev pub IsLawfulHistory : History → Type 0
 IsLawfulHistory channel = IsAllowed channel.settings × IsLawful channel.settings channel.journal
 
--- the channels of these ids, all of them, each in balance with the operators' counts, in any order
-abbrev pub AreBalanced : List ℕ → List AtStation → List History → Type 0
-AreBalanced vcids operators channels =
-    (there : List History) × IsPermutation there channels × (map vcid_of there ≡ vcids) × AreInBalance vcids operators there
+-- all channels of a station that was closed together with these operators, in rising id
+pub record IsClosedReport (station : Roster) (operators : List AtStation) (channels : List History) : Type 0 where
+  pub there : List History
+  pub closed : AreClosedTogether station operators there
+  pub all : IsPermutation there channels
+  pub rising : AreRising channels
 
 -- how much waits in a queue: `WORD VC ID N`; nothing where there is no such queue
 abbrev pub waiting_line : List ℕ → ℕ → ℕ → Option (List (List ℕ)) → List ℕ
@@ -59,3 +63,11 @@ channel_text channel =
 -- the lines of each channel, one channel after the other
 abbrev pub report_text : List History → List ℕ
 report_text channels = flat_map channel_text channels
+
+-- the text is the report of these channels, which come in rising id, and of which each has the journal of some lawful history, with
+-- fewer events than 2^64 - 1
+pub record IsReportOf (channels : List History) (text : List ℕ) : Type 0 where
+  pub rising : AreRising channels
+  pub told : All IsNumberTold channels
+  pub lawful : All IsLawfulHistory channels
+  pub written : text ≡ report_text channels

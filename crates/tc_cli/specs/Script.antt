@@ -10,8 +10,8 @@ use Rattle.tc_text.specs.declared.fault.Reason.{Reason}
 use Rattle.tc_text.specs.declared.fault.Reason.TheVariants.{NoMemory}
 use Rattle.tc_text.specs.declared.fault.ScriptFault.{ScriptFault}
 use Rattle.tc_text.specs.declared.fault.ScriptFault.TheVariants.{Line, Read, TooLong, Write, Unbalanced}
-use Rattle.tc_station.specs.declared.faults.FlightCloseFault.{FlightCloseFault}
-use Rattle.tc_station.specs.declared.faults.FlightCloseFault.TheVariants as flight
+use Rattle.tc_desk.specs.declared.together.Refusal.{Refusal}
+use Rattle.tc_desk.specs.declared.together.Refusal.TheVariants as refusals
 
 -- the line is good, and leads from the one phase to the other
 abbrev pub IsDone : Phase → List ℕ → Phase → Type 0
@@ -56,11 +56,11 @@ AreGoodBefore script number = IsGood script ⊎ ((before : ℕ) × (phase : Phas
 abbrev pub IsCloseFault : ℕ → ScriptFault → Type 0
 IsCloseFault lines fault = (fault ≡ Unbalanced) ⊎ (fault ≡ Line lines NoMemory)
 
--- what it is for a script of so many lines that its station isn't closed; operators that are missing leave it out of balance
-abbrev pub close_fault : ℕ → FlightCloseFault → ScriptFault
-close_fault lines (flight.Missing station operators) = Unbalanced
-close_fault lines (flight.Unbalanced channels operators) = Unbalanced
-close_fault lines (flight.NoMemory station operators) = Line lines NoMemory
+-- what it is for a script of so many lines that its station isn't closed; a lock that isn't free leaves it out of balance
+abbrev pub close_fault : ℕ → Refusal → ScriptFault
+close_fault lines refusals.NoMemory = Line lines NoMemory
+close_fault lines refusals.Held = Unbalanced
+close_fault lines refusals.Unbalanced = Unbalanced
 
 -- why a script of so many good lines gets no report, or not the whole of it
 abbrev pub IsReportFault : ℕ → ScriptFault → Type 0

@@ -1,44 +1,46 @@
 -- A script whose lines are done in order: the station that an operation finds, and what a line is answered.
-use Rattle.std.specs.Prelude.{◌≡◌, ◌⊎◌, ℕ, List, Option, Some, None, slice_index_or}
-use Rattle.tc_link.specs.declared.clcw.Link.{Link}
-use Rattle.tc_status.specs.Board.{no_flag}
-use Rattle.tc_station.specs.Roster.{Roster}
-use Rattle.tc_station.specs.StationSettings.{vcids_of}
-use Rattle.tc_cli.specs.Manned.{Manned, newly_manned, after_answer}
-use Rattle.tc_cli.specs.Operation.{IsFrameAnswer, IsReleaseAnswer, IsTakeAnswer, IsUnitAnswer, IsClcwAnswer}
+use Rattle.std.specs.Prelude.{◌≡◌, ◌⊎◌, ℕ, Option, Some, None}
+use Rattle.tc_cli.specs.Manned.{Manned, IsNewlyManned, AreAsCounted, IsMannedAnswer}
 use Rattle.tc_cli.specs.declared.answer.Answer.{Answer}
+use Rattle.tc_cli.specs.declared.operation.Operation.{Operation}
+use Rattle.tc_cli.specs.declared.operation.Operation.TheVariants as operations
+use Rattle.tc_cli.specs.declared.stage.Stage.{Stage}
+use Rattle.tc_cli.specs.declared.stage.Stage.TheVariants.{SettingUp, Operating}
 use Rattle.tc_setup.specs.declared.instruction.Instruction.{Instruction}
 use Rattle.tc_setup.specs.declared.instruction.Instruction.TheVariants.{Nothing, Channel, Add, Frame, Release, Take, Unit as TakeUnit, Clcw}
 use Rattle.tc_text.specs.declared.fault.Reason.{Reason}
 use Rattle.tc_text.specs.declared.fault.Reason.TheVariants.{NoMemory}
-use Rattle.tc_cli.specs.declared.stage.Stage.{Stage}
-use Rattle.tc_cli.specs.declared.stage.Stage.TheVariants.{SettingUp, Operating}
 
 abbrev pub Session : Type 0
 Session = Stage Manned
 
--- the station that operations find: a new one where none came before
-abbrev pub manned_for : ℕ → Session → Manned
-manned_for scid (SettingUp list) = newly_manned scid (vcids_of list)
-manned_for scid (Operating manned) = manned
+-- the station that operations find: the one that is there, or a new one where none came before
+abbrev pub IsFound : ℕ → Session → Manned → Type 0
+IsFound scid (SettingUp list) found = IsNewlyManned scid list found
+IsFound scid (Operating manned) found = found ≡ manned
 
--- what a refused line leaves: all as it was, or where memory was wanting the station made for it
+-- what a refused line leaves: all as it was, or where memory ran out the station with what its operator had counted
 abbrev pub IsLeft : ℕ → Reason → Session → Session → Type 0
-IsLeft scid reason old new = (new ≡ old) ⊎ ((reason ≡ NoMemory) × (new ≡ Operating (manned_for scid old)))
+IsLeft scid reason old new =
+    (new ≡ old)
+    ⊎ ((reason ≡ NoMemory) × (found after : Manned) × IsFound scid old found × AreAsCounted found after × (new ≡ Operating after))
 
--- an operation is answered at the station that it finds, and is counted
-abbrev pub IsOperated : ℕ → (Roster → Answer → Type 0) → Session → Session → Option Answer → Type 0
-IsOperated scid IsAnswer old new answer =
-    (a : Answer) × IsAnswer (manned_for scid old).station a × (answer ≡ Some a) × (new ≡ Operating (after_answer a (manned_for scid old)))
+-- an operation is answered at the station that it finds
+abbrev pub IsOperated : ℕ → Operation → Session → Answer → Session → Type 0
+IsOperated scid operation old answer new =
+    (found after : Manned) × IsFound scid old found × IsMannedAnswer operation found answer after × (new ≡ Operating after)
 
--- what a line is answered where these are the flags of the channels' links: an operation its answer, a CLCW with those of its channel,
--- and any other line nothing; a blank line leaves all as it is
-abbrev pub IsAnswered : ℕ → List Link → Session → Instruction → Session → Option Answer → Type 0
-IsAnswered scid links old Nothing new answer = (answer ≡ None) × (new ≡ old)
-IsAnswered scid links old (Channel settings) new answer = answer ≡ None
-IsAnswered scid links old (Add vcid addition) new answer = answer ≡ None
-IsAnswered scid links old (Frame octets) new answer = IsOperated scid (λ station. IsFrameAnswer station octets) old new answer
-IsAnswered scid links old (Release vcid) new answer = IsOperated scid (λ station. IsReleaseAnswer station vcid) old new answer
-IsAnswered scid links old (Take vcid apid) new answer = IsOperated scid (λ station. IsTakeAnswer station vcid apid) old new answer
-IsAnswered scid links old (TakeUnit vcid map_id) new answer = IsOperated scid (λ station. IsUnitAnswer station vcid map_id) old new answer
-IsAnswered scid links old (Clcw vcid) new answer = IsOperated scid (λ station. IsClcwAnswer station vcid (slice_index_or links vcid no_flag)) old new answer
+-- an operation is answered so, where this relates what was, the answer and what is then
+abbrev pub IsDoneSo : {O : Type 0} → (Operation → Stage O → Answer → Stage O → Type 0) → Operation → Stage O → Option Answer → Stage O → Type 0
+IsDoneSo Operates operation old answer new = (a : Answer) × Operates operation old a new × (answer ≡ Some a)
+
+-- what a line is answered: an operation its answer, and any other line nothing; a blank line leaves all as it is
+abbrev pub IsAnswered : {O : Type 0} → (Operation → Stage O → Answer → Stage O → Type 0) → Stage O → Instruction → Stage O → Option Answer → Type 0
+IsAnswered Operates old Nothing new answer = (answer ≡ None) × (new ≡ old)
+IsAnswered Operates old (Channel settings) new answer = answer ≡ None
+IsAnswered Operates old (Add vcid addition) new answer = answer ≡ None
+IsAnswered Operates old (Frame octets) new answer = IsDoneSo Operates (operations.Frame octets) old answer new
+IsAnswered Operates old (Release vcid) new answer = IsDoneSo Operates (operations.Release vcid) old answer new
+IsAnswered Operates old (Take vcid apid) new answer = IsDoneSo Operates (operations.Take vcid apid) old answer new
+IsAnswered Operates old (TakeUnit vcid map_id) new answer = IsDoneSo Operates (operations.Unit vcid map_id) old answer new
+IsAnswered Operates old (Clcw vcid) new answer = IsDoneSo Operates (operations.Clcw vcid) old answer new

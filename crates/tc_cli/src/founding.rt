@@ -1,9 +1,7 @@
 //! A station of the channels that a script has set up.
 
 ghost use Rattle.std.specs.Prelude.{◌≡◌, ◌≢◌, ◌≤◌, ◌⊎◌, [], length, map, IfOk, IfErr, OnOk};
-ghost use Rattle.tc_cli.specs.Manned.{outline, outlined};
-ghost use Rattle.tc_cli.specs.Parting.{empty_list};
-ghost use Rattle.tc_station.specs.StationSettings.{vcids_of};
+ghost use Rattle.tc_cli.specs.Parting.{empty_list, IsNewStation};
 
 use std::alloc::Global;
 use tc_channel::{Items, allowed_settings_have_no_fault};
@@ -18,7 +16,7 @@ pub(crate) fn found(
     configuration: Configuration,
 ) -> Result<FlightStation, Reason>
     requires { scid ≤ 1023 }
-    ensures station { IfOk result (λ station. outline station ≡ outlined scid (vcids_of configuration) 0) }
+    ensures station { IfOk result (IsNewStation scid configuration) }
     ensures some { OnOk result (configuration ≢ []) }
     ensures reason { IfErr result (λ reason. (reason ≡ Reason.NoMemory) ⊎ ((reason ≡ Reason.NoChannel) × (configuration ≡ []))) }
 {

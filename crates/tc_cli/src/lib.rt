@@ -9,6 +9,7 @@ mod answer;
 mod founding;
 mod laws;
 mod manned;
+mod operation;
 mod parallel;
 mod parting;
 mod report;
@@ -18,7 +19,10 @@ mod stage;
 mod watchers;
 
 pub use answer::{Answer, Refusal};
-pub use laws::the_lines_before_memory_ran_out_are_good;
+pub use laws::{
+    the_lines_before_memory_ran_out_are_good, what_a_script_does_follows_from_its_lines,
+};
+pub use operation::Operation;
 pub use parallel::parallel_script;
 pub use report::write_report;
 pub use script::run_script;

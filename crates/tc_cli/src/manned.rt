@@ -1,37 +1,24 @@
 //! A station with its operator, and what the operations of a script are answered.
 
 ghost use Rattle.std.specs.Prelude.{◌≡◌, IfOk, IfErr, OnOk, OnErr};
-ghost use Rattle.tc_cli.specs.Manned.{newly_manned, after_answer, outline};
-ghost use Rattle.tc_station.specs.Tally.{IsOurs, fresh, tally};
-ghost use Rattle.tc_cli.specs.Operation.{IsAnswerTo, IsFrameAnswer, IsReleaseAnswer, IsTakeAnswer, IsUnitAnswer, IsClcwAnswer};
+ghost use Rattle.tc_cli.specs.Linked.{IsReleaseAnswered, IsTakeAnswered, IsUnitAnswered};
+ghost use Rattle.tc_cli.specs.Manned.{AreAsCounted, IsBringAnswer, IsDeskAnswer, IsMannedAnswer, IsNewlyManned, IsWordAnswer};
+ghost use Rattle.tc_station.specs.Roster.{settings_in};
+ghost use Rattle.tc_station.specs.StationSettings.{vcids_of};
+ghost use Rattle.tc_station.specs.Tally.{HasMadeNothing, IsOurs, KnowsDesks, tally};
 
 use crate::answer::{Answer, Refusal};
+use crate::operation::Operation;
 use crate::watchers::Watchers;
 use std::alloc::Global;
 use std::marker::Model;
 use std::sync::Wait;
 use tc_channel::Octets;
-use tc_link::Link;
 use tc_station::{
     BringFault, FlightStation, Operator, OperatorsFault, ReleaseRefused, TakeRefused,
     TakeUnitRefused,
 };
 use tc_text::Reason;
-
-/// What a line has a station do.
-#[derive(Drop)]
-pub(crate) enum Operation {
-    /// To bring octets.
-    Frame(Octets),
-    /// To let the oldest data field out of the buffer of a channel.
-    Release(u8),
-    /// To take the oldest packet of a channel with an APID.
-    Take(u8, u16),
-    /// To take the oldest unit of a channel with a MAP.
-    Unit(u8, u8),
-    /// To report the CLCW of a channel, with these flags of its link.
-    Clcw(u8, Link),
-}
 
 /// A station with the one operator that it has issued, and a watcher for each channel.
 #[derive(Drop)]
@@ -43,14 +30,15 @@ pub(crate) struct MannedStation {
 
 impl Model for MannedStation {
     ghost use Rattle.std.specs.Prelude.{◌≡◌};
-    ghost use Rattle.tc_cli.specs.Manned.{Manned, outline};
-    ghost use Rattle.tc_station.specs.Tally.{IsOurs, tally};
+    ghost use Rattle.tc_cli.specs.Manned.{Manned};
+    ghost use Rattle.tc_cli.specs.Watched.{AreWatchedOf};
+    ghost use Rattle.tc_station.specs.Tally.{IsOurs};
 
     ghost Value = { Manned };
 
-    ghost view = { λ o. record { station = outline o.station; operator = tally o.operator } };
+    ghost view = { λ o. record { station = o.station; operator = o.operator } };
 
-    ghost invariant = { λ o. IsOurs o.station o.operator × (o.station.issued ≡ 1) × (o.watchers ≡ o.station.vcids) };
+    ghost invariant = { λ o. IsOurs o.station o.operator × (o.station.issued ≡ 1) × AreWatchedOf o.station o.watchers };
 }
 
 impl MannedStation {
@@ -64,7 +52,8 @@ impl MannedStation {
     ) -> Result<MannedStation, Reason>
         requires new { station.issued ≡ 0 }
         requires all { vcids.items ≡ station.vcids }
-        ensures manned { IfOk result (λ manned. manned ≡ newly_manned station.scid station.vcids) }
+        requires settings { vcids_of (settings_in station) ≡ station.vcids }
+        ensures manned { IfOk result (IsNewlyManned station.scid (settings_in station)) }
         ensures reason { IfErr result (λ reason. reason ≡ Reason.NoMemory) }
     {
         let operator = only_operator(&mut station)?;
@@ -78,10 +67,9 @@ impl MannedStation {
 
     /// The station and its operator, apart.
     pub(crate) fn into_parts(self) -> (FlightStation, Operator)
-        ensures station { outline result.0 ≡ self.station }
-        ensures operator { tally result.1 ≡ self.operator }
+        ensures station { result.0 ≡ self.station }
+        ensures operator { result.1 ≡ self.operator }
         ensures ours { IsOurs result.0 result.1 }
-        ensures one { result.0.issued ≡ 1 }
     {
         let MannedStation {
             station,
@@ -93,26 +81,25 @@ impl MannedStation {
 
     /// Does an operation.
     pub(crate) fn operate(&mut self, rt: &impl Wait, operation: Operation) -> Result<Answer, Reason>
-        ensures answer { IfOk result (IsAnswerTo operation self.old.station) }
-        ensures counted { IfOk result (λ answer. self.new ≡ after_answer answer self.old) }
+        ensures answer { IfOk result (λ answer. IsMannedAnswer operation self.old answer self.new) }
         ensures reason { IfErr result (λ reason. reason ≡ Reason.NoMemory) }
-        ensures refused { OnErr result (self.new ≡ self.old) }
+        ensures refused { OnErr result (AreAsCounted self.old self.new) }
     {
         match operation {
             Operation::Frame(octets) => self.bring(rt, octets.as_slice()),
             Operation::Release(vcid) => self.release(rt, vcid),
             Operation::Take(vcid, apid) => self.take(rt, vcid, apid),
             Operation::Unit(vcid, map) => self.unit(rt, vcid, map),
-            Operation::Clcw(vcid, link) => Ok(self.clcw(vcid, link)),
+            Operation::Clcw(vcid) => Ok(self.clcw(vcid)),
         }
     }
 
     // Brings octets to the channel that their frame names.
     fn bring(&mut self, rt: &impl Wait, octets: &[u8]) -> Result<Answer, Reason>
-        ensures answer { IfOk result (IsFrameAnswer self.old.station octets.now) }
-        ensures counted { IfOk result (λ answer. self.new ≡ after_answer answer self.old) }
+        ensures answer { IfOk result (λ answer. IsBringAnswer octets.now self.old answer self.new.operator) }
+        ensures station { self.new.station ≡ self.old.station }
         ensures reason { IfErr result (λ reason. reason ≡ Reason.NoMemory) }
-        ensures refused { OnErr result (self.new ≡ self.old) }
+        ensures counted { OnErr result (tally self.new.operator ≡ tally self.old.operator) }
     {
         match self.station.bring(rt, &mut self.operator, octets) {
             Ok(brought) => Ok(Answer::Frame {
@@ -126,10 +113,10 @@ impl MannedStation {
 
     // Releases the oldest data field of a channel's buffer.
     fn release(&mut self, rt: &impl Wait, vcid: u8) -> Result<Answer, Reason>
-        ensures answer { IfOk result (IsReleaseAnswer self.old.station vcid) }
-        ensures counted { IfOk result (λ answer. self.new ≡ after_answer answer self.old) }
+        ensures answer { IfOk result (λ answer. IsDeskAnswer vcid IsReleaseAnswered self.old answer self.new.operator) }
+        ensures station { self.new.station ≡ self.old.station }
         ensures reason { IfErr result (λ reason. reason ≡ Reason.NoMemory) }
-        ensures refused { OnErr result (self.new ≡ self.old) }
+        ensures counted { OnErr result (tally self.new.operator ≡ tally self.old.operator) }
     {
         match self.station.release(rt, &mut self.operator, vcid) {
             Ok(delivery) => Ok(Answer::Release { vcid, delivery }),
@@ -141,10 +128,10 @@ impl MannedStation {
 
     // Takes the oldest packet of a channel's queue.
     fn take(&mut self, rt: &impl Wait, vcid: u8, apid: u16) -> Result<Answer, Reason>
-        ensures answer { IfOk result (IsTakeAnswer self.old.station vcid apid) }
-        ensures counted { IfOk result (λ answer. self.new ≡ after_answer answer self.old) }
+        ensures answer { IfOk result (λ answer. IsDeskAnswer vcid (IsTakeAnswered apid) self.old answer self.new.operator) }
+        ensures station { self.new.station ≡ self.old.station }
         ensures reason { IfErr result (λ reason. reason ≡ Reason.NoMemory) }
-        ensures refused { OnErr result (self.new ≡ self.old) }
+        ensures counted { OnErr result (tally self.new.operator ≡ tally self.old.operator) }
     {
         match self.station.take(rt, &mut self.operator, vcid, apid) {
             Ok(packet) => Ok(Answer::Take {
@@ -161,10 +148,10 @@ impl MannedStation {
 
     // Takes the oldest unit of a channel's chosen MAP.
     fn unit(&mut self, rt: &impl Wait, vcid: u8, map: u8) -> Result<Answer, Reason>
-        ensures answer { IfOk result (IsUnitAnswer self.old.station vcid map) }
-        ensures counted { IfOk result (λ answer. self.new ≡ after_answer answer self.old) }
+        ensures answer { IfOk result (λ answer. IsDeskAnswer vcid (IsUnitAnswered map) self.old answer self.new.operator) }
+        ensures station { self.new.station ≡ self.old.station }
         ensures reason { IfErr result (λ reason. reason ≡ Reason.NoMemory) }
-        ensures refused { OnErr result (self.new ≡ self.old) }
+        ensures counted { OnErr result (tally self.new.operator ≡ tally self.old.operator) }
     {
         match self.station.take_unit(rt, &mut self.operator, vcid, map) {
             Ok(unit) => Ok(Answer::Unit {
@@ -179,12 +166,12 @@ impl MannedStation {
         }
     }
 
-    // Reports a channel's CLCW, by its watcher, with these flags of its link.
-    fn clcw(&mut self, vcid: u8, link: Link) -> Answer
-        ensures answer { IsClcwAnswer self.old.station vcid link result }
-        ensures counted { self.new ≡ after_answer result self.old }
+    // Reports a channel's CLCW, by its watcher.
+    fn clcw(&mut self, vcid: u8) -> Answer
+        ensures answer { IsWordAnswer vcid self.old result }
+        ensures same { self.new ≡ self.old }
     {
-        match self.watchers.watch(&self.station, vcid, link) {
+        match self.watchers.watch(&self.station, vcid) {
             Some(word) => Answer::Clcw { vcid, word },
             None => Answer::Refused(Refusal::UnknownChannel),
         }
@@ -194,8 +181,9 @@ impl MannedStation {
 // The first operator that a station issues.
 fn only_operator(station: &mut FlightStation) -> Result<Operator, Reason>
     requires { station.old.issued ≡ 0 }
-    ensures operator { IfOk result (λ operator. tally operator ≡ fresh station.old.vcids) }
-    ensures ours { IfOk result (IsOurs station.old) }
+    ensures new { IfOk result HasMadeNothing }
+    ensures knows { IfOk result (KnowsDesks station.new) }
+    ensures ours { IfOk result (IsOurs station.new) }
     ensures issued { OnOk result (station.new ≡ record station.old { issued = 1 }) }
     ensures reason { IfErr result (λ reason. reason ≡ Reason.NoMemory) }
 {

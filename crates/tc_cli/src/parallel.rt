@@ -2,7 +2,7 @@
 
 ghost use Rattle.std.specs.Prelude.{◌≡◌, ◌≢◌, ◌⊎◌, ◌≤◌, [], All, length, IfOk, IfErr, OnOk, IfSome};
 ghost use Rattle.std.specs.Io.KnownBytes.{Keeps};
-ghost use Rattle.tc_cli.specs.Parallel.{parted_for, AreParted, AreWorkedChannels, IsLineParted, IsParted, Parts};
+ghost use Rattle.tc_cli.specs.Parallel.{AreParted, ArePartedFor, AreWorkedChannels, Begins, IsLineParted, IsParted, Parts};
 ghost use Rattle.tc_cli.specs.Parting.{IsGiven, IsFrameGiven};
 ghost use Rattle.tc_setup.specs.Phase.{Does, IsBad, Setup};
 ghost use Rattle.tc_cli.specs.Report.{AreRising};
@@ -12,6 +12,7 @@ ghost use Rattle.tc_cli.specs.Written.{IsWrittenInParallel};
 ghost use Rattle.tc_station.specs.Balance.{IsNumberTold};
 ghost use Rattle.tc_text.specs.Reading.{limit};
 
+use crate::laws::the_workers_report_is_that_of_the_lines_in_order;
 use crate::parting::Parted;
 use crate::report::write_report;
 use crate::stage::Stage;
@@ -26,8 +27,8 @@ use tc_station::{Gate, Job, Order};
 use tc_text::{Reason, ScriptFault, next_line, parse_line, read_whole};
 
 /// Reads a script and checks each of its lines; then does its frames and releases, and what it takes, by one worker
-/// for each channel, and writes the final report alone. The script is read whole, and all its jobs are
-/// kept before the first one is done.
+/// for each channel, and writes the final report alone: the very report that `run_script` writes for it. The script is
+/// read whole, and all its jobs are kept before the first one is done.
 ///
 /// Each worker passes the gate once, while it holds its channel's lock. Where the octets of the reader
 /// are known, nothing is done unless each line is good, and a bad line that is told is the first one.
@@ -46,6 +47,7 @@ pub fn parallel_script<T: Threads + Wait + Sync, G: Gate + Sync, R: Read, W: Wri
     ensures written { OnOk result (IfSome (R.remaining reader.old) (λ script. IsWrittenInParallel scid script (W.contents writer.old) (W.contents writer.new))) }
     ensures kept { IfErr result (λ fault. (fault ≡ ScriptFault.Write) ⊎ Keeps (W.contents writer.old) (W.contents writer.new)) }
 {
+    the_workers_report_is_that_of_the_lines_in_order();
     let script = read_whole(alloc, reader)?;
     let channels = work_lines(rt, alloc, gate, scid, script.as_slice())?;
     match write_report(&channels, writer) {
@@ -209,7 +211,7 @@ impl Stage<Parted> {
     // Makes the station and its lists, where no operation came before.
     fn begin(&mut self, alloc: Global, scid: u16) -> Result<(), Reason>
         requires { scid ≤ 1023 }
-        ensures parted { OnOk result (self.new ≡ Stage.Operating (parted_for scid self.old)) }
+        ensures parted { OnOk result (Begins scid self.old self.new) }
         ensures some { OnOk result (phase_of self.old ≢ Setup []) }
         ensures reason { IfErr result (λ reason. (reason ≡ Reason.NoMemory) ⊎ ((reason ≡ Reason.NoChannel) × (phase_of self.old ≡ Setup []))) }
         ensures refused { IfErr result (λ reason. IsKept reason self.old self.new) }
@@ -228,7 +230,7 @@ impl Stage<Parted> {
     // The jobs so far, of a station made by what was set up where no operation came before.
     fn start(self, alloc: Global, scid: u16) -> Result<Parted, Reason>
         requires { scid ≤ 1023 }
-        ensures parted { IfOk result (λ parted. parted ≡ parted_for scid self) }
+        ensures parted { IfOk result (ArePartedFor scid self) }
         ensures some { OnOk result (phase_of self ≢ Setup []) }
         ensures reason { IfErr result (λ reason. (reason ≡ Reason.NoMemory) ⊎ ((reason ≡ Reason.NoChannel) × (phase_of self ≡ Setup []))) }
     {

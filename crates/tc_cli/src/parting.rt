@@ -1,7 +1,7 @@
 //! Jobs, parted by the channels that they are for, and done by a worker for each channel.
 
 ghost use Rattle.std.specs.Prelude.{◌≡◌, ◌≢◌, ◌≤◌, ◌⊎◌, [], All, IfOk, IfErr, OnOk, OnErr, MatchOption};
-ghost use Rattle.tc_cli.specs.Parting.{newly_parted, IsGiven, IsFrameGiven, IsListed, IsListAt, IsWorkedOut};
+ghost use Rattle.tc_cli.specs.Parting.{IsNewlyParted, IsGiven, IsFrameGiven, IsListed, IsListAt, IsWorkedOut};
 ghost use Rattle.tc_cli.specs.Report.{AreRising};
 ghost use Rattle.tc_cli.specs.Script.{IsWorkFault};
 ghost use Rattle.tc_station.specs.Balance.{IsNumberTold};
@@ -26,12 +26,11 @@ pub(crate) struct Parted {
 
 impl Model for Parted {
     ghost use Rattle.std.specs.Prelude.{◌≡◌, ◌≤◌, length};
-    ghost use Rattle.tc_cli.specs.Manned.{outline};
     ghost use Rattle.tc_cli.specs.Parting.{Parted};
 
     ghost Value = { Parted };
 
-    ghost view = { λ o. record { station = outline o.station; lists = o.lists.items } };
+    ghost view = { λ o. record { station = o.station; lists = o.lists.items } };
 
     ghost invariant = { λ o. (o.station.issued ≡ 0) × (length o.lists.items ≤ 64) };
 }
@@ -44,7 +43,7 @@ impl Parted {
         configuration: Configuration,
     ) -> Result<Parted, Reason>
         requires { scid ≤ 1023 }
-        ensures parted { IfOk result (λ parted. parted ≡ newly_parted scid configuration) }
+        ensures parted { IfOk result (IsNewlyParted scid configuration) }
         ensures some { OnOk result (configuration ≢ []) }
         ensures reason { IfErr result (λ reason. (reason ≡ Reason.NoMemory) ⊎ ((reason ≡ Reason.NoChannel) × (configuration ≡ []))) }
     {

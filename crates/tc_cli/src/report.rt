@@ -1,54 +1,53 @@
 //! The final report.
 
-ghost use Rattle.std.specs.Prelude.{◌≡◌, ◌≤◌, All, vec_len, IfOk, IfErr, OnOk};
+ghost use Rattle.std.specs.Prelude.{◌≡◌, All, IfOk, IfErr, OnOk};
 ghost use Rattle.std.specs.Io.KnownBytes.{Appends};
 ghost use Rattle.std.specs.List.{flat_map};
-ghost use Rattle.tc_cli.specs.Report.{AreRising, AreBalanced, IsLawfulHistory, report_text, channel_text, final_line, queue_line, map_line};
+ghost use Rattle.tc_cli.specs.Report.{AreRising, IsClosedReport, IsLawfulHistory, report_text, channel_text, final_line, queue_line, map_line};
 ghost use Rattle.tc_cli.specs.Script.{IsCloseFault, close_fault};
 ghost use Rattle.tc_station.specs.Balance.{IsNumberTold};
+ghost use Rattle.tc_station.specs.Tally.{IsOurs};
 
 use crate::watchers::NO_FLAGS;
 use std::io;
 use std::io::Write;
 use tc_channel::{FlightChannel, MapSetting, QueueSetting};
-use tc_station::{FlightCloseFault, FlightStation, Operator};
+use tc_station::{FlightStation, Operator, Refusal};
 use tc_text::{Reason, ScriptFault, WordDigits};
 
-/// Closes the station of a script with so many lines. The channels stand in rising virtual channel
-/// id, each in balance with the counts of the operators, and each tells the number of its events as it is.
+/// Closes the station of a script with so many lines, together with its operators. The channels come in rising virtual channel
+/// id, and each tells the number of its events as it is.
 pub(crate) fn close(
     station: FlightStation,
     operators: Vec<Operator>,
     lines: u32,
 ) -> Result<Vec<FlightChannel>, ScriptFault>
-    requires ours { All (λ o. o.vcids ≡ station.vcids) operators.items }
-    requires all { station.issued ≤ vec_len operators }
-    ensures rising { IfOk result (λ channels. AreRising channels.items) }
-    ensures balanced { IfOk result (λ channels. AreBalanced station.vcids operators.items channels.items) }
+    requires ours { All (IsOurs station) operators.items }
+    ensures closed { IfOk result (λ channels. IsClosedReport station operators.items channels.items) }
     ensures told { IfOk result (λ channels. All IsNumberTold channels.items) }
     ensures fault { IfErr result (IsCloseFault lines) }
 {
-    match station.close(operators) {
+    match station.close_together(operators) {
         Ok(mut channels) => {
             channels.sort_unstable_by_key(|channel| channel.settings().vcid);
             Ok(channels)
         }
-        Err(fault) => Err(fault_of(&fault, lines)),
+        Err(left) => Err(fault_of(left.refusal, lines)),
     }
 }
 
 // What it is for a script of so many lines that its station isn't closed.
-fn fault_of(fault: &FlightCloseFault, lines: u32) -> ScriptFault
-    ensures told { result ≡ close_fault lines fault.now }
+fn fault_of(refusal: Refusal, lines: u32) -> ScriptFault
+    ensures told { result ≡ close_fault lines refusal }
     ensures fault { IsCloseFault lines result }
 {
-    match fault {
-        FlightCloseFault::Missing(_, _) => ScriptFault::Unbalanced,
-        FlightCloseFault::Unbalanced(_, _) => ScriptFault::Unbalanced,
-        FlightCloseFault::NoMemory(_, _) => ScriptFault::Line {
+    match refusal {
+        Refusal::NoMemory => ScriptFault::Line {
             line: lines,
             reason: Reason::NoMemory,
         },
+        Refusal::Held => ScriptFault::Unbalanced,
+        Refusal::Unbalanced => ScriptFault::Unbalanced,
     }
 }
 

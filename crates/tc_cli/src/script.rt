@@ -3,7 +3,7 @@
 ghost use Rattle.std.specs.Prelude.{◌≡◌, ◌⊎◌, ◌≤◌, length, IfOk, IfErr, OnOk, IfSome};
 ghost use Rattle.tc_cli.specs.Script.{IsFault, IsGood, IsDone, IsBadLine, IsReportFault};
 ghost use Rattle.tc_text.specs.Reading.{limit};
-ghost use Rattle.tc_cli.specs.Session.{IsLeft};
+ghost use Rattle.tc_cli.specs.Session.{IsLeft, IsOperated};
 ghost use Rattle.tc_cli.specs.Stage.{phase_of};
 ghost use Rattle.std.specs.Io.KnownBytes.{Appends, Keeps};
 ghost use Rattle.tc_cli.specs.Printed.{answer_line};
@@ -13,11 +13,12 @@ use crate::answer::Answer;
 use crate::report::{close, write_report};
 use crate::session::Session;
 use crate::stage::Stage;
-use crate::watchers::{IDS, NO_FLAGS};
 use std::alloc::Global;
 use std::io::{Read, Write};
 use std::sync::Wait;
-use tc_link::Link;
+use tc_desk::{
+    one_alone_is_answered_after_its_own_events, the_only_operator_made_the_whole_journal,
+};
 use tc_setup::{Configuration, Instruction};
 use tc_text::{Reason, ScriptFault, next_line, parse_line, read_whole};
 
@@ -25,8 +26,9 @@ use tc_text::{Reason, ScriptFault, next_line, parse_line, read_whole};
 ///
 /// The script, of 1,048,576 octets at most, is read whole and kept before the first line is done.
 /// Where the octets of the reader are known, a script is done to its end only if each line is good,
-/// and a bad line that ends it is the first one. Where it ends early, the answers of the lines before are
-/// written alone, unless a write failed.
+/// and a bad line that ends it is the first one. Then each answer, and the report, is what the lines before make it; only a CLCW,
+/// which is read without its channel's lock, is one of some moment of this channel. Where it ends early, the answers of the lines
+/// before are written alone, unless a write failed.
 pub fn run_script<T: Wait, R: Read, W: Write>(
     rt: &T,
     alloc: Global,
@@ -62,14 +64,14 @@ fn run_lines<W: Write>(
     ensures written { OnOk result (IsWritten scid script.now (W.contents writer.old) (W.contents writer.new)) }
     ensures cut_short { IfErr result (IsCutShort scid script.now (W.contents writer.old) (W.contents writer.new)) }
 {
+    one_alone_is_answered_after_its_own_events();
+    the_only_operator_made_the_whole_journal();
     let mut session = Stage::SettingUp(Configuration::new(alloc));
-    // The program has no radio.
-    let links = [NO_FLAGS; IDS];
     let mut rest = script;
     let mut line = 0u32;
     while let Some((octets, after)) = next_line(rest) {
         line += 1;
-        let answer = match perform_line(rt, alloc, scid, &links, &mut session, octets) {
+        let answer = match perform_line(rt, alloc, scid, &mut session, octets) {
             Ok(answer) => answer,
             Err(reason) => return Err(ScriptFault::Line { line, reason }),
         };
@@ -83,18 +85,17 @@ fn perform_line(
     rt: &impl Wait,
     alloc: Global,
     scid: u16,
-    links: &[Link; IDS],
     session: &mut Session,
     octets: &[u8],
 ) -> Result<Option<Answer>, Reason>
     requires { scid ≤ 1023 }
     ensures done { OnOk result (IsDone (phase_of session.old) octets.now (phase_of session.new)) }
-    ensures answer { IfOk result (IsLineAnswered scid links.now session.old octets.now session.new) }
+    ensures answer { IfOk result (IsLineAnswered (IsOperated scid) session.old octets.now session.new) }
     ensures reason { IfErr result (λ reason. (reason ≡ Reason.NoMemory) ⊎ IsBadLine (phase_of session.old) octets.now reason) }
     ensures refused { IfErr result (λ reason. IsLeft scid reason session.old session.new) }
 {
     let said = parse_line(alloc, octets)?;
-    session.perform(rt, alloc, scid, links, Instruction::of(alloc, said))
+    session.perform(rt, alloc, scid, Instruction::of(alloc, said))
 }
 
 fn write_answer<W: Write>(answer: Option<Answer>, writer: &mut W) -> Result<(), ScriptFault>

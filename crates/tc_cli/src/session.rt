@@ -1,19 +1,18 @@
 //! A script whose lines are done in order: at the first operation its station is made.
 
 ghost use Rattle.std.specs.Prelude.{◌≡◌, ◌≢◌, ◌≤◌, ◌⊎◌, [], IfOk, IfErr, OnErr, OnOk};
-ghost use Rattle.tc_cli.specs.Operation.{IsAnswerTo};
+ghost use Rattle.tc_cli.specs.Manned.{Manned};
 ghost use Rattle.tc_setup.specs.Phase.{Does, IsBad, IsBadOperation, Operates, Setup};
-ghost use Rattle.tc_cli.specs.Session.{manned_for, IsAnswered, IsLeft, IsOperated};
+ghost use Rattle.tc_cli.specs.Session.{IsAnswered, IsDoneSo, IsFound, IsLeft, IsOperated};
 ghost use Rattle.tc_cli.specs.Stage.{phase_of};
 
 use crate::answer::Answer;
 use crate::founding::found;
-use crate::manned::{MannedStation, Operation};
+use crate::manned::MannedStation;
+use crate::operation::Operation;
 use crate::stage::Stage;
-use crate::watchers::IDS;
 use std::alloc::Global;
 use std::sync::Wait;
-use tc_link::Link;
 use tc_setup::Instruction;
 use tc_text::Reason;
 
@@ -21,19 +20,18 @@ use tc_text::Reason;
 pub(crate) type Session = Stage<MannedStation>;
 
 impl Stage<MannedStation> {
-    /// Does what a line asks for; an operation has an answer, a CLCW with the flags of its channel's link. A line that is refused
-    /// leaves all as it is; where memory is wanting for the first operation, the station may have been made.
+    /// Does what a line asks for; an operation has an answer. A line that is refused leaves all as it is, where memory runs out
+    /// for an operation as far as its operator has counted; for the first operation, the station may have been made.
     pub(crate) fn perform(
         &mut self,
         rt: &impl Wait,
         alloc: Global,
         scid: u16,
-        links: &[Link; IDS],
         instruction: Instruction,
     ) -> Result<Option<Answer>, Reason>
         requires { scid ≤ 1023 }
         ensures done { OnOk result (Does (phase_of self.old) instruction (phase_of self.new)) }
-        ensures answer { IfOk result (λ answer. IsAnswered scid links.now self.old instruction self.new answer) }
+        ensures answer { IfOk result (IsAnswered (IsOperated scid) self.old instruction self.new) }
         ensures reason { IfErr result (λ reason. (reason ≡ Reason.NoMemory) ⊎ IsBad (phase_of self.old) instruction reason) }
         ensures refused { IfErr result (λ reason. IsLeft scid reason self.old self.new) }
     {
@@ -57,10 +55,7 @@ impl Stage<MannedStation> {
                 let unit = Operation::Unit(vcid, map);
                 self.operate(rt, alloc, scid, unit)
             }
-            Instruction::Clcw(vcid) => {
-                let clcw = Operation::Clcw(vcid, links[usize::from(vcid)]);
-                self.operate(rt, alloc, scid, clcw)
-            }
+            Instruction::Clcw(vcid) => self.operate(rt, alloc, scid, Operation::Clcw(vcid)),
         }
     }
 
@@ -74,7 +69,7 @@ impl Stage<MannedStation> {
     ) -> Result<Option<Answer>, Reason>
         requires { scid ≤ 1023 }
         ensures done { OnOk result (Operates (phase_of self.old) (phase_of self.new)) }
-        ensures answer { IfOk result (IsOperated scid (IsAnswerTo operation) self.old self.new) }
+        ensures answer { IfOk result (λ answer. IsDoneSo (IsOperated scid) operation self.old answer self.new) }
         ensures reason { IfErr result (λ reason. (reason ≡ Reason.NoMemory) ⊎ IsBadOperation (phase_of self.old) reason) }
         ensures refused { IfErr result (λ reason. IsLeft scid reason self.old self.new) }
     {
@@ -89,7 +84,7 @@ impl Stage<MannedStation> {
     // is refused.
     fn begin(&mut self, rt: &impl Wait, alloc: Global, scid: u16) -> Result<(), Reason>
         requires { scid ≤ 1023 }
-        ensures manned { OnOk result (self.new ≡ Stage.Operating (manned_for scid self.old)) }
+        ensures manned { OnOk result ((found : Manned) × IsFound scid self.old found × (self.new ≡ Stage.Operating found)) }
         ensures some { OnOk result (phase_of self.old ≢ Setup []) }
         ensures reason { IfErr result (λ reason. (reason ≡ Reason.NoMemory) ⊎ ((reason ≡ Reason.NoChannel) × (phase_of self.old ≡ Setup []))) }
         ensures refused { OnErr result (self.new ≡ self.old) }
@@ -113,7 +108,7 @@ impl Stage<MannedStation> {
         scid: u16,
     ) -> Result<MannedStation, Reason>
         requires { scid ≤ 1023 }
-        ensures manned { IfOk result (λ manned. manned ≡ manned_for scid self) }
+        ensures manned { IfOk result (IsFound scid self) }
         ensures some { OnOk result (phase_of self ≢ Setup []) }
         ensures reason { IfErr result (λ reason. (reason ≡ Reason.NoMemory) ⊎ ((reason ≡ Reason.NoChannel) × (phase_of self ≡ Setup []))) }
     {

@@ -1,7 +1,10 @@
 //! A watcher for each channel of a station.
 
-ghost use Rattle.std.specs.Prelude.{◌≡◌, ◌<◌, All, Contains, length, map, slice_index, IfOk, IfErr, MatchOption};
-ghost use Rattle.tc_cli.specs.Operation.{IsStatusOf};
+ghost use Rattle.std.specs.Prelude.{◌≡◌, ◌<◌, ℕ, All, Contains, length, map, slice_get, slice_index, Some, IfOk, IfErr, MatchOption};
+ghost use Rattle.tc_channel.specs.declared.settings.Settings.{Settings};
+ghost use Rattle.tc_cli.specs.Manned.{IsSomeWord};
+ghost use Rattle.tc_cli.specs.Watched.{AreWatchedOf, IsWatchedOf};
+ghost use Rattle.tc_station.specs.StationSettings.{vcids_of};
 
 use std::alloc::Global;
 use std::marker::Model;
@@ -17,10 +20,7 @@ pub(crate) const NO_FLAGS: Link = Link {
     no_bit_lock: false,
 };
 
-/// How many virtual channel ids a line can name.
-pub(crate) const IDS: usize = 256;
-
-/// Virtual channel ids, each with a watcher. A contract sees the ids.
+/// Virtual channel ids, each with a watcher. A contract sees the settings of the channels.
 #[derive(Drop)]
 pub(crate) struct Watchers {
     vcids: Vec<u8>,
@@ -28,13 +28,15 @@ pub(crate) struct Watchers {
 }
 
 impl Model for Watchers {
-    ghost use Rattle.std.specs.Prelude.{◌≡◌, List, ℕ, map};
+    ghost use Rattle.std.specs.Prelude.{◌≡◌, List, map};
+    ghost use Rattle.tc_channel.specs.declared.settings.Settings.{Settings};
+    ghost use Rattle.tc_station.specs.StationSettings.{vcids_of};
 
-    ghost Value = { List ℕ };
+    ghost Value = { List Settings };
 
-    ghost view = { λ o. o.vcids.items };
+    ghost view = { λ o. map (λ w. w.seen.settings) o.watchers.items };
 
-    ghost invariant = { λ o. map (λ w. w.seen.settings.vcid) o.watchers.items ≡ o.vcids.items };
+    ghost invariant = { λ o. vcids_of (map (λ w. w.seen.settings) o.watchers.items) ≡ o.vcids.items };
 }
 
 impl Watchers {
@@ -46,20 +48,21 @@ impl Watchers {
         vcids: Vec<u8>,
     ) -> Result<Watchers, Reason>
         requires { vcids.items ≡ station.now.vcids }
-        ensures vcids { IfOk result (λ watchers. watchers ≡ vcids.items) }
+        ensures watched { IfOk result (AreWatchedOf station.now) }
         ensures reason { IfErr result (λ reason. reason ≡ Reason.NoMemory) }
     {
         let watchers = watch_each(rt, alloc, station, &vcids)?;
         Ok(Watchers { vcids, watchers })
     }
 
-    /// The CLCW of a channel with one of the ids, with these flags of its link.
-    pub(crate) fn watch(&mut self, station: &FlightStation, vcid: u8, link: Link) -> Option<u32>
-        ensures ids { self.new ≡ self.old }
-        ensures word { MatchOption result (¬ Contains self.old vcid) (λ word. Contains self.old vcid × IsStatusOf vcid link word) }
+    /// The CLCW of a channel with one of the ids, with no flag of its link.
+    pub(crate) fn watch(&mut self, station: &FlightStation, vcid: u8) -> Option<u32>
+        ensures same { self.new ≡ self.old }
+        ensures word { MatchOption result (¬ Contains (vcids_of self.old) vcid) (λ word.
+            (place : ℕ) × (s : Settings) × (slice_get self.old place ≡ Some s) × (s.vcid ≡ vcid) × IsSomeWord s word) }
     {
         let place = place_of(&self.vcids, vcid)?;
-        Some(station.watch(&mut self.watchers[place], link))
+        Some(station.watch(&mut self.watchers[place], NO_FLAGS))
     }
 }
 
@@ -71,7 +74,8 @@ fn watch_each(
     vcids: &[u8],
 ) -> Result<Vec<Watcher>, Reason>
     requires { All (Contains station.now.vcids) vcids.now }
-    ensures each { IfOk result (λ watchers. map (λ w. w.seen.settings.vcid) watchers.items ≡ vcids.now) }
+    ensures each { IfOk result (λ watchers. vcids_of (map (λ w. w.seen.settings) watchers.items) ≡ vcids.now) }
+    ensures own { IfOk result (λ watchers. All (IsWatchedOf station.now) (map (λ w. w.seen.settings) watchers.items)) }
     ensures reason { IfErr result (λ reason. reason ≡ Reason.NoMemory) }
 {
     let Ok(mut watchers) = Vec::with_capacity(alloc, vcids.len()) else {
@@ -85,7 +89,8 @@ fn watch_each(
 
 fn watch_one(rt: &impl Wait, station: &FlightStation, vcid: u8) -> Result<Watcher, Reason>
     requires { Contains station.now.vcids vcid }
-    ensures own { IfOk result (λ watcher. watcher.seen.settings.vcid ≡ vcid) }
+    ensures id { IfOk result (λ watcher. watcher.seen.settings.vcid ≡ vcid) }
+    ensures own { IfOk result (λ watcher. IsWatchedOf station.now watcher.seen.settings) }
     ensures reason { IfErr result (λ reason. reason ≡ Reason.NoMemory) }
 {
     match station.watcher(rt, vcid) {

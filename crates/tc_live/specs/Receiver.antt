@@ -17,10 +17,11 @@ use Rattle.tc_cli.specs.Stage.{phase_of}
 use Rattle.tc_cli.specs.declared.answer.Answer.{Answer}
 use Rattle.tc_cli.specs.declared.stage.Stage.{Stage}
 use Rattle.tc_cli.specs.declared.stage.Stage.TheVariants.{SettingUp, Operating}
-use Rattle.tc_rack.specs.Rack.{Racked, new_rack, IsLinkSet, IsReported}
-use Rattle.tc_rack.specs.Operation.{IsAnswerOf}
-use Rattle.tc_rack.specs.declared.operation.Operation.{Operation}
-use Rattle.tc_rack.specs.declared.operation.Operation.TheVariants as operations
+use Rattle.tc_cli.specs.Rack.{Racked, new_rack}
+use Rattle.tc_rack.specs.Rack.{IsLinkSet, IsReported}
+use Rattle.tc_cli.specs.Operation.{IsAnswerOf}
+use Rattle.tc_cli.specs.declared.operation.Operation.{Operation}
+use Rattle.tc_cli.specs.declared.operation.Operation.TheVariants as operations
 use Rattle.tc_live.specs.Check.{IsPassed, FailsCheck}
 use Rattle.tc_live.specs.declared.answer.LiveAnswer.{LiveAnswer}
 use Rattle.tc_live.specs.declared.answer.LiveAnswer.TheVariants as told

@@ -1,3 +1,1 @@
-pub mod Linked
 pub mod Rack
-pub mod Operation

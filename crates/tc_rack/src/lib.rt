@@ -5,8 +5,6 @@
 #![tactic(auto)]
 
 mod linked;
-mod operation;
 mod rack;
 
-pub use operation::Operation;
 pub use rack::Rack;

@@ -1,7 +1,7 @@
 //! A channel with the flags of its link, and what it is answered.
 
 ghost use Rattle.std.specs.Prelude.{◌≡◌, ◌≢◌, ◌⊎◌, IfOk, OnErr};
-ghost use Rattle.tc_rack.specs.Linked.{new_linked, later, IsFrameAnswered, IsReleaseAnswered, IsTakeAnswered, IsUnitAnswered, told_word};
+ghost use Rattle.tc_cli.specs.Linked.{new_linked, later, IsFrameAnswered, IsReleaseAnswered, IsTakeAnswered, IsUnitAnswered, told_word};
 ghost use Rattle.tc_station.specs.Holding.{holding_of};
 
 use std::alloc::Global;
@@ -27,7 +27,7 @@ pub(crate) struct LinkedChannel {
 }
 
 impl Model for LinkedChannel {
-    ghost use Rattle.tc_rack.specs.Linked.{Linked};
+    ghost use Rattle.tc_cli.specs.Linked.{Linked};
 
     ghost Value = { Linked };
 

@@ -1,6 +1,7 @@
 use Rattle.std.proofs.Common.{arith}
 use Rattle.tc_cli.specs.Stage.{phase_of}
 use Rattle.tc_cli.specs.Written.{at_first}
+use Rattle.tc_cli.proofs.Alone.{AloneLaws}
 use Rattle.tc_cli.proofs.Scripts.{first-bad, good-end, end-fault}
 use Rattle.tc_cli.proofs.Written.{none-so-far, one-more-so-far, so-far-good, cut-short, end-written, end-cut-short}
 use Rattle.tc_cli.proofs.script.run_lines.Goals as goal
@@ -28,7 +29,9 @@ returns-clause-good g c = good-end _ _ _ _ _ (so-far-good _ _ _ _ _ _ _ c.loop-o
 
 pub returns-clause-written : goal.returns-clause-written
 returns-clause-written g c =
-    end-written _ _ _ _ _ _ _ _ _ c.loop-octets.invariant.so_far c.in_default.ensures c.report.ensures.written
+    let alone = c.one_alone_is_answered_after_its_own_events.ensures in
+    let laws : AloneLaws = record { event = alone.event; look = alone.look; seen = alone.seen; whole = c.the_only_operator_made_the_whole_journal.ensures } in
+    end-written laws _ _ _ _ _ _ _ _ _ c.loop-octets.invariant.so_far c.in_default.ensures c.report.ensures.written
 
 pub returns-clause-cut_short : goal.returns-clause-cut_short
 returns-clause-cut_short g c =

@@ -1,13 +1,37 @@
-use Rattle.std.proofs.Common.{◌≡◌, length, arith}
+use Rattle.std.proofs.Common.{◌≡◌, ℕ, ◌+◌, List, Option, None, All, length, ap, ◌∙◌, subst, zero-add, arith}
 use Rattle.std.proofs.lemmas.Result.{IfOk-weaker}
-use Rattle.tc_cli.proofs.Parts.{worked-out}
+use Rattle.tc_channel.specs.Journal.{History}
+use Rattle.tc_station.specs.Roster.{Roster}
+use Rattle.tc_station.specs.Tally.{AtStation, HasMadeNothing, KnowsDesks}
+use Rattle.tc_station.specs.Work.{AreWorked}
+use Rattle.tc_station.specs.declared.work.WorkList.{WorkList}
+use Rattle.tc_cli.specs.Parting.{IsWorkedOut}
+use Rattle.tc_cli.specs.Report.{IsClosedReport}
 use Rattle.tc_cli.proofs.parting.Parted.work.Goals as goal
 
-pub close-requires-clause-ours : goal.close-requires-clause-ours
-close-requires-clause-ours g c = λ k d inside. (c.work.ensures.ours k d inside).0
+-- what was done by the operators of the station with so many of them
+worked-out : (station after : Roster) (lists given : List WorkList) (n : ℕ) (line : Option ℕ) (befores operators : List AtStation) (channels : List History)
+    → station.issued ≡ 0 → n ≡ length lists → given ≡ lists → after ≡ record station { issued = station.issued + n } → All HasMadeNothing befores → All (KnowsDesks after) befores → line ≡ None
+    → AreWorked after given line befores operators → IsClosedReport after operators channels → IsWorkedOut (record { station = station; lists = lists }) channels
+worked-out station after lists given n line befores operators channels none count same issued nothing knows all worked closed = record {
+  station = after;
+  befores = befores;
+  operators = operators;
+  issued = issued ∙ ap (λ (k : ℕ). record station { issued = k }) (ap (λ (m : ℕ). m + n) none ∙ (zero-add n ∙ count));
+  nothing = nothing;
+  knows = knows;
+  worked = subst (λ (x : List WorkList × Option ℕ). AreWorked after x.0 x.1 befores operators) (λ i. (same i, all i)) worked;
+  closed = closed;
+}
+
+pub close-requires : goal.close-requires
+close-requires g c = record { ours = c.work.ensures.ours }
+
+pub returns-in-Ok-work-clause-rising : goal.returns-in-Ok-work-clause-rising
+returns-in-Ok-work-clause-rising g c = IfOk-weaker c.close.result _ _ (λ channels closed. closed.rising) c.close.ensures.closed
 
 pub returns-in-Ok-work-clause-worked : goal.returns-in-Ok-work-clause-worked
 returns-in-Ok-work-clause-worked g c =
     let w = c.in-Ok-work.ensures.worked in
     let n : c.len.result ≡ length c.self.inside.lists.items = omega (arith, c.self.inside.lists.ok.0) in
-    rw (← c.self.view_is) (IfOk-weaker c.close.result _ _ (λ channels b. worked-out c.self.inside.station c.operators.new.self c.self.inside.lists.items c.deref.result.now c.len.result w.0 c.in-Ok.operators.items c.work.new.operators.items channels.items c.self.invariant.0 n c.deref.ensures.value c.in-Ok.ensures.issued c.in-Ok.ensures.fresh w.2 w.1 b) c.close.ensures.balanced)
+    rw (← c.self.view_is) (IfOk-weaker c.close.result _ _ (λ channels closed. worked-out c.self.inside.station c.operators.new.self c.self.inside.lists.items c.deref.result.now c.len.result w.0 c.in-Ok.operators.items c.work.new.operators.items channels.items c.self.invariant.0 n c.deref.ensures.value c.in-Ok.ensures.issued c.in-Ok.ensures.new c.in-Ok.ensures.heads w.2 w.1 closed) c.close.ensures.closed)

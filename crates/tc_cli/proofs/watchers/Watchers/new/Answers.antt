@@ -6,5 +6,5 @@ pub watch_each-requires : goal.watch_each-requires
 watch_each-requires g c =
     subst (All (Contains c.args.station.now.vcids)) (sym (c.deref.ensures.value ∙ c.requires)) (All-contains_itself c.args.station.now.vcids)
 
-pub returns-clause-vcids : goal.returns-clause-vcids
-returns-clause-vcids g c = search rules
+pub returns-clause-watched : goal.returns-clause-watched
+returns-clause-watched g c = search rules

@@ -2,7 +2,7 @@
 
 use tc_channel::Octets;
 
-/// What is asked of the channels of a rack.
+/// What is asked of the channels of a spacecraft.
 #[derive(Drop)]
 pub enum Operation {
     /// To bring octets.

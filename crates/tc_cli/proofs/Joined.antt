@@ -1,0 +1,233 @@
+-- The channels of a closed station whose lists were worked side by side: they are those of the lines in order, and so is their report.
+use Rattle.std.proofs.Common.{◌≡◌, ◌<◌, ℕ, zero, suc, ◌+◌, List, [], ◌∷◌, Bool, true, false, Option, None, Some, All, map, length, get_or, cond, inl, inr, refl, sym, ap, ◌∙◌, subst, arith, eq-eqb, ne_eqb, not}
+use mathlib.Core.Option.{some}
+use lib.ListN.{get_elem?}
+use Rattle.std.specs.Prelude.{◌≢◌, ◌==◌, AllPairs, IsPermutation, nat_lt, slice_get, slice_index_or}
+use Rattle.std.specs.List.{AllByRecursion, position_or_len}
+use Rattle.std.proofs.lemmas.Bool.{lt-ltb}
+use Rattle.std.proofs.lemmas.List.{length-map}
+use Rattle.std.proofs.lemmas.List.Elements.{All-head, All-tail}
+use Rattle.std.proofs.lemmas.Option.{get_or_from_slice_get, none-some, same_Some, slice_get_cases, slice_get_past, slice_get_within}
+use Rattle.logged_lock.specs.Log.{IsBeginning, made_by}
+use Rattle.tc_channel.specs.Journal.{History}
+use Rattle.tc_channel.specs.declared.event.Event.{Event}
+use Rattle.tc_channel.specs.declared.settings.Settings.{Settings}
+use Rattle.tc_desk.specs.Alone.{HasMadeAll, HasSeenItsOwn, placed}
+use Rattle.tc_desk.specs.Closing.{IsClosed}
+use Rattle.tc_desk.specs.Log.{AtLock, Identity, Own, accounts_of}
+use Rattle.tc_desk.specs.Together.{column, heads_of, nobody}
+use Rattle.tc_station.specs.Lowest.{lower}
+use Rattle.tc_station.specs.Roster.{Roster, IsPlace, settings_in}
+use Rattle.tc_station.specs.Tally.{AtStation, HasMadeNothing, KnowsDesks}
+use Rattle.tc_station.specs.Together.{AreClosedTogether, crews_of}
+use Rattle.tc_station.specs.Tried.{AreMade, IsListMade}
+use Rattle.tc_station.specs.Work.{Shift, IsShift, AreWorked, lowest}
+use Rattle.tc_station.specs.declared.work.WorkList.{WorkList}
+use Rattle.tc_cli.specs.Linked.{Linked, vcid_of}
+use Rattle.tc_cli.specs.Parallel.{AreWorkedChannels}
+use Rattle.tc_cli.specs.Parting.{Parted, IsWorkedOut}
+use Rattle.tc_cli.specs.Progress.{Progress, rack_for, IsPerformed}
+use Rattle.tc_cli.specs.Rack.{Racked, histories}
+use Rattle.tc_cli.specs.Report.{IsReportOf, report_text}
+use Rattle.tc_cli.specs.Written.{AreAnswers, IsReport}
+use Rattle.tc_cli.specs.declared.answer.Answer.{Answer}
+use Rattle.tc_cli.proofs.Happened.{HasSeen, IsWorkedAt, WorkLaws, desk_at, list-worked}
+use Rattle.tc_cli.proofs.Planned.{IsPlanned, all-planned, element, found-planned, mapped-at, matched-phase}
+
+-- ---- places
+
+first-place : (vs : List ℕ) (k v : ℕ) → slice_get vs k ≡ Some v → ((j : ℕ) → j < k → get_or vs j v ≢ v) → position_or_len (λ x. x == v) vs ≡ k
+first-place [] k v at apart = absurd (none-some v at)
+first-place (x ∷ vs) zero v at apart = ap (λ (b : Bool). cond (not b) (1 + position_or_len (λ y. y == v) vs) 0) (eq-eqb x v (same_Some x v at))
+first-place (x ∷ vs) (suc k) v at apart =
+    let e : (x == v) ≡ false = ne_eqb x v (apart 0 (omega arith)) in
+    ap (λ (b : Bool). cond (not b) (1 + position_or_len (λ y. y == v) vs) 0) e
+    ∙ omega (arith, first-place vs k v at (λ j lt. apart (suc j) (omega (arith, lt))))
+
+-- where no two ids are the same, each id has its place
+place-of : (station : Roster) (k v : ℕ) → AllPairs (λ (a b : ℕ). a ≢ b) station.vcids → slice_get station.vcids k ≡ Some v → IsPlace station v k
+place-of station k v distinct at =
+    let vs = station.vcids in
+    let inside = slice_get_within vs k v at in
+    let here : get_or vs k v ≡ v = get_or_from_slice_get vs k v v at in
+    let first = first-place vs k v at (λ j lt same. distinct j k v lt inside (same ∙ sym here)) in
+    let within : nat_lt (position_or_len (λ x. x == v) vs) (length vs) ≡ true = lt-ltb _ _ (omega (arith, first, inside)) in
+    ap (λ (b : Bool). cond b (Some (position_or_len (λ x. x == v) vs)) None) within ∙ ap (λ (n : ℕ). Some n) first
+
+-- ---- what each worker has made
+
+-- no list was refused, so each was made in full
+first-none : (a b : Option ℕ) → lower a b ≡ None → (a ≡ None) × (b ≡ None)
+first-none None b is = (refl, is)
+first-none (Some x) None is = absurd cc
+first-none (Some x) (Some y) is = absurd cc
+
+all-made : (station : Roster) (shifts : List Shift) → AllByRecursion (IsShift station) shifts → lowest shifts ≡ None → (k : ℕ) (x : Shift) → slice_get shifts k ≡ Some x
+    → AreMade station x.list.vcid x.list.jobs x.before x.after
+all-made station [] each none k x at = absurd (none-some x at)
+all-made station (s ∷ shifts) each none zero x at =
+    let both = first-none s.refused (lowest shifts) none in
+    let made : IsListMade station s.list None s.before s.after = subst (λ (r : Option ℕ). IsListMade station s.list r s.before s.after) both.0 each.0.made in
+    subst (λ (y : Shift). AreMade station y.list.vcid y.list.jobs y.before y.after) (same_Some s x at) made
+all-made station (s ∷ shifts) each none (suc k) x at = all-made station shifts each.1 (first-none s.refused (lowest shifts) none).1 k x at
+
+-- the k-th of the operators, as a maker of what was made at one desk
+maker-at : (ops : List AtStation) (place k : ℕ) (o : AtStation) → slice_get ops k ≡ Some o → made_by (accounts_of (column place (crews_of ops))) k ≡ (desk_at place o).own.made
+maker-at [] place k o at = absurd (none-some o at)
+maker-at (p ∷ ops) place zero o at = ap (λ (x : AtStation). (desk_at place x).own.made) (same_Some p o at)
+maker-at (p ∷ ops) place (suc k) o at = maker-at ops place k o at
+
+maker-past : (ops : List AtStation) (place k : ℕ) → slice_get ops k ≡ None → made_by (accounts_of (column place (crews_of ops))) k ≡ []
+maker-past [] place k at = refl
+maker-past (p ∷ ops) place zero at = absurd cc
+maker-past (p ∷ ops) place (suc k) at = maker-past ops place k at
+
+account-at : (ops : List AtStation) (place k : ℕ) (o : AtStation) → slice_get ops k ≡ Some o → get_elem? (accounts_of (column place (crews_of ops))) k ≡ some (desk_at place o).own
+account-at [] place k o at = absurd (none-some o at)
+account-at (p ∷ ops) place zero o at = ap (λ (x : AtStation). some (desk_at place x).own) (same_Some p o at)
+account-at (p ∷ ops) place (suc k) o at = account-at ops place k o at
+
+-- the settings that are known of the desk at a place
+desk-settings : (desks : List AtLock) (k : ℕ) (s : Settings) → slice_get (map (λ (h : Identity). h.settings) (heads_of desks)) k ≡ Some s
+    → (slice_index_or desks k nobody).own.seen.head.settings ≡ s
+desk-settings [] k s at = absurd (none-some s at)
+desk-settings (d ∷ desks) zero s at = same_Some d.own.seen.head.settings s at
+desk-settings (d ∷ desks) (suc k) s at = desk-settings desks k s at
+
+-- who has made nothing has made nothing at each desk
+nothing-at : (o : AtStation) (place : ℕ) → HasMadeNothing o → (desk_at place o).own.made ≡ []
+nothing-at o place nothing = at-desk o.desks place nothing where
+  at-desk : (desks : List AtLock) (k : ℕ) → All (λ (d : AtLock). d.own.made ≡ []) desks → (slice_index_or desks k nobody).own.made ≡ []
+  at-desk [] k none = refl
+  at-desk (d ∷ desks) zero none = All-head (λ (x : AtLock). x.own.made ≡ []) d desks none
+  at-desk (d ∷ desks) (suc k) none = at-desk desks k (All-tail (λ (x : AtLock). x.own.made ≡ []) d desks none)
+
+no-event : (own : Own) → HasMadeAll own → own.made ≡ [] → own.seen.entries ≡ []
+no-event own all none = none-placed own.seen.entries (sym all ∙ none) where
+  none-placed : (es : List Event) → placed 0 es ≡ [] → es ≡ []
+  none-placed [] is = refl
+  none-placed (e ∷ es) is = let l = ap (length {A = ℕ × Event}) is in absurd (omega arith)
+
+-- channels that are the same at each place
+same-channels : (closed : List History) (channels : List Linked) → length closed ≡ length channels
+    → ((k : ℕ) (h : History) (c : Linked) → slice_get closed k ≡ Some h → slice_get channels k ≡ Some c → h ≡ c.history) → closed ≡ map (λ (c : Linked). c.history) channels
+same-channels [] [] long each = refl
+same-channels [] (c ∷ cs) long each = absurd (omega arith)
+same-channels (h ∷ hs) [] long each = absurd (omega arith)
+same-channels (h ∷ hs) (c ∷ cs) long each =
+    let first = each 0 h c refl refl in
+    let rest = same-channels hs cs (omega arith) (λ k x y at here. each (suc k) x y at here) in
+    λ i. first i ∷ rest i
+
+-- ---- a plan that was worked out
+
+-- a station that has issued operators has the same plan
+issued-planned : (parted : Parted) (station : Roster) (n : ℕ) (rack : Racked) → station ≡ record parted.station { issued = n } → IsPlanned parted rack → IsPlanned (record parted { station = station }) rack
+issued-planned parted station n rack issued planned =
+    subst (λ (s : Roster). IsPlanned (record parted { station = s }) rack) (sym issued)
+    (record {
+      spacecraft = planned.spacecraft;
+      ids = planned.ids;
+      lists = planned.lists;
+      settings = planned.settings;
+      distinct = planned.distinct;
+      jobs = planned.jobs;
+    })
+
+module _ (laws : WorkLaws) (station : Roster) (lists : List WorkList) (rack : Racked) (planned : IsPlanned (record { station = station; lists = lists }) rack) where
+  -- a worker and its list
+  shift-worked : (shifts : List Shift) → map (λ (s : Shift). s.list) shifts ≡ lists → AllByRecursion (IsShift station) shifts → lowest shifts ≡ None → (k : ℕ) (x : Shift) (c : Linked)
+      → slice_get shifts k ≡ Some x → slice_get rack.channels k ≡ Some c → IsWorkedAt c.history.settings k [] c.history.journal x.before x.after
+  shift-worked shifts same each none k x c at here =
+      let list : slice_get lists k ≡ Some x.list = ap (λ (l : List WorkList). slice_get l k) (sym same) ∙ mapped-at (λ (s : Shift). s.list) shifts k x at in
+      let id : slice_get station.vcids k ≡ Some x.list.vcid = ap (λ (l : List ℕ). slice_get l k) (sym planned.lists) ∙ mapped-at (λ (l : WorkList). l.vcid) lists k x.list list in
+      list-worked laws station k x.list.vcid x.list.jobs c.history.settings [] c.history.journal x.before x.after
+      (place-of station k x.list.vcid planned.distinct id) (planned.jobs k x.list c list here) (all-made station shifts each none k x at)
+
+  -- the channel of a list, once it is closed
+  one-closed : (shifts : List Shift) (befores ops : List AtStation) → map (λ (s : Shift). s.list) shifts ≡ lists → map (λ (s : Shift). s.before) shifts ≡ befores → map (λ (s : Shift). s.after) shifts ≡ ops
+      → AllByRecursion (IsShift station) shifts → lowest shifts ≡ None → All HasMadeNothing befores → All (KnowsDesks station) befores
+      → (k : ℕ) (c : Linked) (x : Shift) (post : AtLock) (h : History) → slice_get rack.channels k ≡ Some c → slice_get shifts k ≡ Some x
+      → post.own.seen.head.settings ≡ c.history.settings → IsClosed post (column k (crews_of ops)) h → h ≡ c.history
+  one-closed shifts befores ops of-lists of-befores of-ops each none nothing knows k c x post h here at settings closed =
+      let makers = accounts_of (column k (crews_of ops)) in
+      let op-at : (i : ℕ) (y : Shift) → slice_get shifts i ≡ Some y → slice_get ops i ≡ Some y.after =
+      λ i y is. ap (λ (l : List AtStation). slice_get l i) (sym of-ops) ∙ mapped-at (λ (s : Shift). s.after) shifts i y is in
+      let before-at : (i : ℕ) (y : Shift) → slice_get shifts i ≡ Some y → slice_get befores i ≡ Some y.before =
+      λ i y is. ap (λ (l : List AtStation). slice_get l i) (sym of-befores) ∙ mapped-at (λ (s : Shift). s.before) shifts i y is in
+      let nothing-before : (i : ℕ) (y : Shift) → slice_get shifts i ≡ Some y → HasMadeNothing y.before =
+      λ i y is. subst HasMadeNothing (get_or_from_slice_get befores i y.before y.before (before-at i y is)) (nothing i y.before (slice_get_within befores i y.before (before-at i y is))) in
+      let knows-before : KnowsDesks station x.before =
+      subst (KnowsDesks station) (get_or_from_slice_get befores k x.before x.before (before-at k x at)) (knows k x.before (slice_get_within befores k x.before (before-at k x at))) in
+      let long : length shifts ≡ length rack.channels =
+      sym (length-map shifts (λ (s : Shift). s.list)) ∙ (ap (length {A = WorkList}) of-lists
+      ∙ (sym (length-map lists (λ (l : WorkList). l.vcid)) ∙ (ap (length {A = ℕ}) (planned.lists ∙ sym planned.ids) ∙ length-map rack.channels vcid_of))) in
+      let elsewhere : (i : ℕ) → i ≢ k → made_by makers i ≡ [] = λ i apart. elim (slice_get_cases shifts i).1 [
+        | inl there ↦
+            let y = there.0 in
+            let channel = element rack.channels i (omega (arith, there.1, long)) in
+            let worked = shift-worked shifts of-lists each none i y channel.0 there.2 channel.1 in
+            maker-at ops k i y.after (op-at i y there.2) ∙ (worked.elsewhere k (λ e. apart (sym e)) ∙ nothing-at y.before k (nothing-before i y there.2))
+        | inr past ↦
+            let long-ops : length ops ≡ length shifts = ap (length {A = AtStation}) (sym of-ops) ∙ length-map shifts (λ (s : Shift). s.after) in
+            maker-past ops k i (slice_get_past ops i (omega (arith, past.0, long-ops)))
+      ] in
+      let worked = shift-worked shifts of-lists each none k x c at here in
+      let before = desk_at k x.before in
+      let own = (desk_at k x.after).own in
+      let no-made : before.own.made ≡ [] = nothing-at x.before k (nothing-before k x at) in
+      let its : HasSeenItsOwn before.own = let count = ap (length {A = ℕ × Event}) no-made in omega (arith, count) in
+      let after = worked.here its in
+      let behind : IsBeginning own.seen (record { head = post.own.seen.head; entries = h.journal }) = closed.seen k own (account-at ops k k x.after (op-at k x at)) in
+      let whole = laws.maker makers k own h.journal (maker-at ops k k x.after (op-at k x at)) elsewhere after.0 (refl, behind.1) closed.merge in
+      let start = after.1 whole.0 in
+      let of-station : slice_get (settings_in station) k ≡ Some c.history.settings =
+      ap (λ (l : List Settings). slice_get l k) (sym planned.settings) ∙ mapped-at (λ (y : Linked). y.history.settings) rack.channels k c here in
+      let known : slice_get (map (λ (i : Identity). i.settings) (heads_of x.before.desks)) k ≡ Some c.history.settings =
+      ap (λ (l : List Identity). slice_get (map (λ (i : Identity). i.settings) l) k) knows-before ∙ of-station in
+      let seen : HasSeen c.history.settings [] before = (desk-settings x.before.desks k c.history.settings known, no-event before.own start.0 no-made) in
+      let journal : h.journal ≡ c.history.journal = sym whole.1 ∙ (start.1 seen).1 in
+      let same : h.settings ≡ c.history.settings = closed.settings ∙ settings in
+      λ i. record { settings = same i; journal = journal i }
+
+  -- all channels
+  all-closed : (befores ops : List AtStation) (closed : List History) → All HasMadeNothing befores → All (KnowsDesks station) befores → AreWorked station lists None befores ops
+      → AreClosedTogether station ops closed → closed ≡ histories rack
+  all-closed befores ops closed nothing knows (shifts, of-lists, of-befores, of-ops, each, none) (posts, posted, all) =
+      let head : AtLock → Identity = λ d. d.own.seen.head in
+      let settings : Identity → Settings = λ d. d.settings in
+      let long-posts : length posts ≡ length station.heads = sym (length-map posts head) ∙ ap (length {A = Identity}) posted.1 in
+      let long-heads : length station.heads ≡ length rack.channels =
+      sym (length-map station.heads settings) ∙ (ap (length {A = Settings}) (sym planned.settings) ∙ length-map rack.channels (λ (c : Linked). c.history.settings)) in
+      let long-shifts : length shifts ≡ length rack.channels =
+      sym (length-map shifts (λ (s : Shift). s.list)) ∙ (ap (length {A = WorkList}) of-lists
+      ∙ (sym (length-map lists (λ (l : WorkList). l.vcid)) ∙ (ap (length {A = ℕ}) (planned.lists ∙ sym planned.ids) ∙ length-map rack.channels vcid_of))) in
+      same-channels closed rack.channels (all.as_many ∙ (long-posts ∙ long-heads)) (λ k h c at here.
+      let inside = slice_get_within rack.channels k c here in
+      let shift = element shifts k (omega (arith, inside, long-shifts)) in
+      let post = element posts k (omega (arith, inside, long-posts, long-heads)) in
+      let of-station : slice_get (settings_in station) k ≡ Some c.history.settings =
+      ap (λ (l : List Settings). slice_get l k) (sym planned.settings) ∙ mapped-at (λ (y : Linked). y.history.settings) rack.channels k c here in
+      let known : slice_get (map (λ (i : Identity). i.settings) (heads_of posts)) k ≡ Some c.history.settings =
+      ap (λ (l : List Identity). slice_get (map (λ (i : Identity). i.settings) l) k) posted.1 ∙ of-station in
+      let own : post.0.own.seen.head.settings ≡ c.history.settings =
+      ap (λ (d : AtLock). d.own.seen.head.settings) (sym (get_or_from_slice_get posts k post.0 nobody post.1)) ∙ desk-settings posts k c.history.settings known in
+      one-closed shifts befores ops of-lists of-befores of-ops each none nothing knows k c shift.0 post.0 h here shift.1 own (all.each k post.0 h post.1 at))
+
+-- the channels that workers have made are those of the lines in order
+worked-channels : WorkLaws → (parted : Parted) (rack : Racked) (channels : List History) → IsPlanned parted rack → IsWorkedOut parted channels → IsPermutation (histories rack) channels
+worked-channels laws parted rack channels planned out =
+    let issued = issued-planned parted out.station (length parted.lists) rack out.issued planned in
+    let same = all-closed laws out.station parted.lists rack issued out.befores out.operators out.closed.there out.nothing out.knows out.worked out.closed.closed in
+    subst (λ (l : List History). IsPermutation l channels) same out.closed.all
+
+-- their report is that of the script
+pub worked-report : WorkLaws → (scid : ℕ) (script : List ℕ) (channels : List History) (text : List ℕ) → AreWorkedChannels scid script channels → IsReportOf channels text
+    → (answers : List (Option Answer)) × (progress : Progress) × AreAnswers (IsPerformed scid) script answers progress [] × IsReport scid progress text
+worked-report laws scid script channels text (count, plan, parted, inl (none, empty)) of =
+    let lines = all-planned scid script count plan [] parted in
+    (lines.0, lines.1, lines.2, inl (sym (matched-phase plan lines.1 lines.3) ∙ none, of.written ∙ ap report_text empty))
+worked-report laws scid script channels text (count, plan, parted, inr (found, for, out)) of =
+    let lines = all-planned scid script count plan [] parted in
+    let planned = found-planned scid plan lines.1 found lines.3 for in
+    (lines.0, lines.1, lines.2, inr (channels, worked-channels laws found (rack_for scid lines.1) channels planned out, of))
