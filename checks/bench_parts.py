@@ -97,16 +97,21 @@ def until(true: Callable[[], object], seconds: float = PATIENCE) -> bool:
     return True
 
 
-def read_all(link: socket.socket) -> bytes:
-    """All that comes until the other end closes."""
-    octets = b""
+def read_on(link: socket.socket, octets: bytearray) -> None:
+    """Reads all that comes until the other end closes, and adds it piece by piece, as another thread may look at it."""
     link.settimeout(PATIENCE)
     try:
         while more := link.recv(1 << 16):
             octets += more
     except ConnectionResetError:
         pass
-    return octets
+
+
+def read_all(link: socket.socket) -> bytes:
+    """All that comes until the other end closes."""
+    octets = bytearray()
+    read_on(link, octets)
+    return bytes(octets)
 
 
 def read_count(link: socket.socket, count: int) -> bytes:

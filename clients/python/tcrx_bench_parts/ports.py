@@ -163,7 +163,7 @@ class Hub:
         """Closes all connections; one that doesn't read what is there for it is cut off after some seconds."""
         for port in self.ports:
             for connection in list(port.open):
-                connection.transport.close()
+                connection.finish()
         until = time.monotonic() + seconds
         while any(port.open for port in self.ports) and time.monotonic() < until:
             await asyncio.sleep(0.01)
@@ -246,6 +246,10 @@ class Connection(asyncio.BufferedProtocol):
     def last_words(self, why: str) -> bytes:
         """What is written before the connection is closed."""
         return f"tcrx-bench: {why}\n".encode("ascii", errors="replace")
+
+    def finish(self) -> None:
+        """Closes the connection once the other end has read what was written to it."""
+        self.transport.close()
 
     def leave(self) -> None:
         """Closes the connection, where it isn't over."""
@@ -441,9 +445,14 @@ class Reader(Connection):
             self.hub.loop.call_soon(self._write)
 
     def _write(self) -> None:
-        """Writes all that is kept, in one go."""
+        """Writes what is kept, unless the reader still has to read what came before."""
         self.called = False
-        if self.kept and not self.paused and not self.transport.is_closing():
+        if not self.paused:
+            self._hand_over()
+
+    def _hand_over(self) -> None:
+        """Writes all that is kept, in one go."""
+        if self.kept and not self.transport.is_closing():
             self.port.count("sent", len(self.kept))
             octets = b"".join(self.kept)
             self.kept.clear()
@@ -453,6 +462,11 @@ class Reader(Connection):
     def resume_writing(self) -> None:
         super().resume_writing()
         self._write()
+
+    def finish(self) -> None:
+        """What is kept is written first, so that a slow reader has the newest at last, if it reads on."""
+        self._hand_over()
+        super().finish()
 
     def connection_lost(self, exc: Optional[Exception]) -> None:
         """What it didn't read is lost."""
