@@ -4,6 +4,7 @@ pub mod Sessions
 pub mod Framed
 pub mod Happened
 pub mod Planned
+pub mod Numbered
 pub mod Joined
 pub mod Scripts
 pub mod Watching

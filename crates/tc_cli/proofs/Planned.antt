@@ -65,12 +65,12 @@ same-set f [] k x y at same = absurd (none-some x at)
 same-set {X} {Y} f (z ∷ xs) zero x y at same = ap (λ (a : Y). a ∷ map f xs) (same ∙ ap f (sym (same_Some z x at)))
 same-set {X} {Y} f (z ∷ xs) (suc k) x y at same = ap (λ (l : List Y). f z ∷ l) (same-set f xs k x y at same)
 
-set-there : {X : Type 0} (xs : List X) (k : ℕ) (x y : X) → slice_get xs k ≡ Some x → slice_get (slice_set xs k y) k ≡ Some y
+pub set-there : {X : Type 0} (xs : List X) (k : ℕ) (x y : X) → slice_get xs k ≡ Some x → slice_get (slice_set xs k y) k ≡ Some y
 set-there [] k x y at = absurd (none-some x at)
 set-there (z ∷ xs) zero x y at = refl
 set-there (z ∷ xs) (suc k) x y at = set-there xs k x y at
 
-set-elsewhere : {X : Type 0} (xs : List X) (k j : ℕ) (y : X) → j ≢ k → slice_get (slice_set xs k y) j ≡ slice_get xs j
+pub set-elsewhere : {X : Type 0} (xs : List X) (k j : ℕ) (y : X) → j ≢ k → slice_get (slice_set xs k y) j ≡ slice_get xs j
 set-elsewhere [] k j y apart = refl
 set-elsewhere (z ∷ xs) zero zero y apart = absurd (apart refl)
 set-elsewhere (z ∷ xs) zero (suc j) y apart = refl

@@ -4,7 +4,7 @@ use Rattle.std.proofs.lemmas.Bool.{cases_lt}
 use Rattle.std.specs.Prelude.{OnOk, IfErr}
 use Rattle.tc_setup.specs.Phase.{Phase, Setup}
 use Rattle.tc_cli.specs.Parallel.{Plan, AreParted, none_parted, one_parted}
-use Rattle.tc_cli.specs.Script.{Leads, starts, goes_on, AreFirstGood, AreGoodBefore, IsBadLine, IsFault, IsFirstBad, IsGood, IsReportFault, IsWorkFault}
+use Rattle.tc_cli.specs.Script.{Leads, starts, goes_on, AreFirstGood, IsReached, IsBadLine, IsFault, IsFirstBad, IsGood, IsReportFault}
 use Rattle.tc_cli.specs.Stage.{phase_of}
 use Rattle.tc_text.specs.Reading.{IsFirstLine, IsReadFault, limit}
 use Rattle.tc_text.specs.declared.fault.Reason.{Reason}
@@ -15,8 +15,8 @@ use Rattle.tc_text.specs.declared.fault.ScriptFault.TheVariants.{Line, Read, Too
 -- a bad line after good ones is the first bad one; out of memory, the lines before are good
 pub first-bad : (script rest line after : List ℕ) (before : ℕ) (phase : Phase) (reason : Reason)
     → (reason ≡ NoMemory) ⊎ IsBadLine phase line reason → Leads script before phase rest → IsFirstLine rest line after → length script ≤ limit
-    → ((reason ≡ NoMemory) × AreGoodBefore script (before + 1)) ⊎ ((length script ≤ limit) × IsFirstBad script (before + 1) reason)
-first-bad script rest line after before phase reason (inl memory) leads next within = inl (memory, inr (before, phase, rest, leads, omega arith))
+    → ((reason ≡ NoMemory) × IsReached script (before + 1)) ⊎ ((length script ≤ limit) × IsFirstBad script (before + 1) reason)
+first-bad script rest line after before phase reason (inl memory) leads next within = inl (memory, inr (before, phase, rest, line, after, leads, next, refl))
 first-bad script rest line after before phase reason (inr bad) leads next within = inr (
   within,
   record {
@@ -46,7 +46,7 @@ end-fault (Err fault) script rest count phase leads end within (inl write) = sub
 end-fault (Err fault) script rest count phase leads end within (inr (inl unbalanced)) =
     subst (IsFault script) (sym unbalanced) (within, (count, phase, rw end at leads))
 end-fault (Err fault) script rest count phase leads end within (inr (inr memory)) =
-    subst (IsFault script) (sym memory) (inl (refl, inl (count, phase, rw end at leads)))
+    subst (IsFault script) (sym memory) (inl (refl, inl (phase, rest, leads)))
 
 -- lines that give their jobs are good
 pub parted-leads : (scid : ℕ) (script : List ℕ) (count : ℕ) (plan : Plan) (rest : List ℕ) → AreParted scid script count plan rest → Leads script count (phase_of plan) rest
@@ -54,22 +54,20 @@ parted-leads scid script count plan rest none_parted = starts
 parted-leads scid script count plan rest (one_parted {count = before} {plan = old} leads next parted) =
     goes_on (parted-leads scid script before old _ leads) next (parted.0, parted.1, parted.2)
 
+pub parted-reached : (scid : ℕ) (script : List ℕ) (count : ℕ) (plan : Plan) → AreParted scid script count plan [] → IsReached script count
+parted-reached scid script count plan parted = inl (phase_of plan, [], parted-leads scid script count plan [] parted)
+
 -- why a script isn't read: no line comes before that
 pub read-fault : (known : Option (List ℕ)) (fault : ScriptFault) → IsReadFault known fault → IfSome known (λ script. IsFault script fault)
 read-fault None fault why = tt
 read-fault (Some script) Read why = tt
 read-fault (Some script) TooLong why = why
-read-fault (Some script) (Line number reason) why = inl (why.1, inr (0, Setup [], script, starts, omega (arith, why.0)))
+read-fault (Some script) (Line number reason) why = inl (why.1, inl (Setup [], script, subst (λ (n : ℕ). Leads script n (Setup []) script) (sym why.0) starts))
 read-fault (Some script) Write why = absurd why
 read-fault (Some script) Unbalanced why = absurd why
 
--- why the jobs of a good script aren't all done
-pub work-fault : (script : List ℕ) (fault : ScriptFault) → IsGood script → length script ≤ limit → IsWorkFault fault → IsFault script fault
-work-fault script fault good within (inl unbalanced) = subst (IsFault script) (sym unbalanced) (within, good)
-work-fault script fault good within (inr memory) = subst (IsFault script) (sym memory.1) (inl (refl, inl good))
-
 -- of good first lines, the first of them are good
-first-good : (script : List ℕ) (count : ℕ) (phase : Phase) (rest : List ℕ) (less : ℕ) → Leads script count phase rest → less ≤ count → AreFirstGood script less
+pub first-good : (script : List ℕ) (count : ℕ) (phase : Phase) (rest : List ℕ) (less : ℕ) → Leads script count phase rest → less ≤ count → AreFirstGood script less
 first-good script count phase rest less starts le =
     let none : 0 ≡ less = omega (arith, le) in
     (Setup [], script, subst (λ n. Leads script n (Setup []) script) none starts)
@@ -83,9 +81,9 @@ first-good script count phase rest less (goes_on {count = before} {phase = old} 
         (phase, rest, subst (λ n. Leads script n phase rest) all (goes_on leads next done))
 
 -- the lines before the one at which memory ran out
-pub good-before : (script : List ℕ) (number count : ℕ) → IsFault script (Line number NoMemory) → count < number → IsGood script ⊎ AreFirstGood script count
-good-before script number count (inl (memory, inl good)) lt = inl good
-good-before script number count (inl (memory, inr (before, phase, rest, leads, le))) lt =
-    inr (first-good script before phase rest count leads (omega (arith, le, lt)))
+pub good-before : (script : List ℕ) (number count : ℕ) → IsFault script (Line number NoMemory) → count < number → AreFirstGood script count
+good-before script number count (inl (memory, inl (phase, rest, leads))) lt = first-good script number phase rest count leads (omega (arith, lt))
+good-before script number count (inl (memory, inr (before, phase, rest, line, after, leads, next, is))) lt =
+    first-good script before phase rest count leads (omega (arith, is, lt))
 good-before script number count (inr (within, bad)) lt =
-    inr (first-good script bad.before bad.phase bad.rest count bad.leads (omega (arith, bad.number_is, lt)))
+    first-good script bad.before bad.phase bad.rest count bad.leads (omega (arith, bad.number_is, lt))

@@ -11,7 +11,11 @@ use Rattle.tc_station.specs.declared.faults.LocateFault.{LocateFault}
 use Rattle.tc_station.specs.declared.work.Job.{Job}
 use Rattle.tc_station.specs.declared.work.Order.TheVariants.{Bring}
 use Rattle.tc_station.specs.declared.work.WorkList.{WorkList}
+use Rattle.tc_text.specs.declared.fault.Reason.TheVariants.{NoMemory}
+use Rattle.tc_text.specs.declared.fault.ScriptFault.{ScriptFault}
+use Rattle.tc_text.specs.declared.fault.ScriptFault.TheVariants.{Line}
 use Rattle.tc_cli.specs.Report.{IsClosedReport}
+use Rattle.tc_cli.specs.Script.{IsCloseFault}
 
 -- a station of these channels that has issued no operator
 pub record IsNewStation (scid : ℕ) (list : List Settings) (station : Roster) : Type 0 where
@@ -67,3 +71,11 @@ pub record IsWorkedOut (parted : Parted) (channels : List History) : Type 0 wher
   pub knows : All (KnowsDesks station) befores
   pub worked : AreWorked station parted.lists None befores operators
   pub closed : IsClosedReport station operators channels
+
+-- one of these jobs is of the line with this number
+abbrev pub IsJobLine : List WorkList → ℕ → Type 0
+IsJobLine lists line = Any (λ (l : WorkList). Any (λ (job : Job). job.line ≡ line) l.jobs) lists
+
+-- why the jobs of a script of so many lines aren't all done, or their station isn't closed in balance
+abbrev pub IsWorkFault : ℕ → List WorkList → ScriptFault → Type 0
+IsWorkFault lines lists fault = IsCloseFault lines fault ⊎ ((line : ℕ) × IsJobLine lists line × (fault ≡ Line line NoMemory))

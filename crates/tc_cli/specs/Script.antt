@@ -48,9 +48,11 @@ IsGood script = (count : ℕ) × (phase : Phase) × Leads script count phase []
 abbrev pub AreFirstGood : List ℕ → ℕ → Type 0
 AreFirstGood script count = (phase : Phase) × (rest : List ℕ) × Leads script count phase rest
 
--- the lines before the one with this number are good, or all are
-abbrev pub AreGoodBefore : List ℕ → ℕ → Type 0
-AreGoodBefore script number = IsGood script ⊎ ((before : ℕ) × (phase : Phase) × (rest : List ℕ) × Leads script before phase rest × (number ≤ before + 1))
+-- the line with this number was reached: so many first lines are good, or those before it are, and it is there. Before the first it is 0
+abbrev pub IsReached : List ℕ → ℕ → Type 0
+IsReached script number =
+    AreFirstGood script number
+    ⊎ ((before : ℕ) × (phase : Phase) × (rest line after : List ℕ) × Leads script before phase rest × IsFirstLine rest line after × (number ≡ before + 1))
 
 -- why the station of a script of so many lines isn't closed in balance
 abbrev pub IsCloseFault : ℕ → ScriptFault → Type 0
@@ -66,14 +68,10 @@ close_fault lines refusals.Unbalanced = Unbalanced
 abbrev pub IsReportFault : ℕ → ScriptFault → Type 0
 IsReportFault lines fault = (fault ≡ Write) ⊎ IsCloseFault lines fault
 
--- why jobs aren't all done, or their station isn't closed in balance
-abbrev pub IsWorkFault : ScriptFault → Type 0
-IsWorkFault fault = (fault ≡ Unbalanced) ⊎ ((line : ℕ) × (fault ≡ Line line NoMemory))
-
 -- why a script with these octets ends early
 abbrev pub IsFault : List ℕ → ScriptFault → Type 0
 IsFault script Read = Unit {0}
 IsFault script TooLong = limit < length script
-IsFault script (Line number reason) = ((reason ≡ NoMemory) × AreGoodBefore script number) ⊎ ((length script ≤ limit) × IsFirstBad script number reason)
+IsFault script (Line number reason) = ((reason ≡ NoMemory) × IsReached script number) ⊎ ((length script ≤ limit) × IsFirstBad script number reason)
 IsFault script Write = length script ≤ limit
 IsFault script Unbalanced = (length script ≤ limit) × IsGood script

@@ -1,12 +1,12 @@
 //! Laws over the definitions.
 
 ghost use Rattle.std.specs.List.{AllZip};
-ghost use Rattle.std.specs.Prelude.{◌≡◌, ◌⊎◌, ◌<◌, ℕ, [], List, Option};
+ghost use Rattle.std.specs.Prelude.{◌≡◌, ◌<◌, ℕ, [], List, Option};
 ghost use Rattle.tc_channel.specs.Journal.{History};
 ghost use Rattle.tc_cli.specs.Parallel.{AreWorkedChannels};
 ghost use Rattle.tc_cli.specs.Progress.{Progress, AgreeBesidesWords, IsPerformed};
 ghost use Rattle.tc_cli.specs.Report.{IsReportOf};
-ghost use Rattle.tc_cli.specs.Script.{AreFirstGood, IsFault, IsGood};
+ghost use Rattle.tc_cli.specs.Script.{AreFirstGood, IsFault};
 ghost use Rattle.tc_cli.specs.Written.{AreAnswers, IsReport};
 ghost use Rattle.tc_cli.specs.declared.answer.Answer.{Answer};
 ghost use Rattle.tc_text.specs.declared.fault.Reason.TheVariants.{NoMemory};
@@ -15,10 +15,9 @@ ghost use Rattle.tc_text.specs.declared.fault.ScriptFault.TheVariants.{Line};
 use tc_desk::{one_alone_is_answered_after_its_own_events, the_only_maker_made_the_whole_journal};
 use tc_link::each_input_begins_with_one_frame_at_most;
 
-/// Where memory ran out at a line, each number of lines below that line's is the number of some first lines that are good, unless the
-/// script has fewer, which are all good.
+/// Where memory ran out at a line, each number of lines below that line's is the number of some first lines, which are good.
 pub fn the_lines_before_memory_ran_out_are_good()
-    ensures { (script : List ℕ) (number count : ℕ) → IsFault script (Line number NoMemory) → count < number → IsGood script ⊎ AreFirstGood script count }
+    ensures { (script : List ℕ) (number count : ℕ) → IsFault script (Line number NoMemory) → count < number → AreFirstGood script count }
 {}
 
 /// What a script does follows from its lines: two ways through all of them lead to the same channels with the same journals, and have the

@@ -1,10 +1,10 @@
 //! Jobs, parted by the channels that they are for, and done by a worker for each channel.
 
 ghost use Rattle.std.specs.Prelude.{◌≡◌, ◌≢◌, ◌≤◌, ◌⊎◌, [], All, IfOk, IfErr, OnOk, OnErr, MatchOption};
-ghost use Rattle.tc_cli.specs.Parting.{IsNewlyParted, IsGiven, IsFrameGiven, IsListed, IsListAt, IsWorkedOut};
+ghost use Rattle.tc_cli.specs.Parting.{IsNewlyParted, IsGiven, IsFrameGiven, IsListed, IsListAt, IsWorkedOut, IsWorkFault};
 ghost use Rattle.tc_cli.specs.Report.{AreRising};
-ghost use Rattle.tc_cli.specs.Script.{IsWorkFault};
 ghost use Rattle.tc_station.specs.Balance.{IsNumberTold};
+ghost use Rattle.tc_station.specs.Work.{line_of};
 
 use crate::founding::{found, lists_for};
 use crate::report::close;
@@ -94,7 +94,7 @@ impl Parted {
         ensures rising { IfOk result (λ channels. AreRising channels.items) }
         ensures told { IfOk result (λ channels. All IsNumberTold channels.items) }
         ensures worked { IfOk result (λ channels. IsWorkedOut self channels.items) }
-        ensures fault { IfErr result IsWorkFault }
+        ensures fault { IfErr result (IsWorkFault lines self.lists) }
     {
         let Parted { mut station, lists } = self;
         let mut operators = match station.operators(lists.len() as u16) {
@@ -104,7 +104,7 @@ impl Parted {
         };
         match station.work(rt, gate, &mut operators, &lists) {
             Ok(()) => close(station, operators, lines),
-            Err(WorkFault::NoMemory { line }) => Err(no_memory(line)),
+            Err(fault) => Err(refused(fault)),
         }
     }
 }
@@ -114,6 +114,15 @@ fn place_of(lists: &[WorkList], vcid: u8) -> Option<usize>
     ensures { MatchOption result (¬ IsListed lists.now vcid) (λ place. (l : WorkList) × IsListAt lists.now vcid place l) }
 {
     lists.iter().position(|list| list.vcid == vcid)
+}
+
+// What it is for a script that memory was refused for a job.
+fn refused(fault: WorkFault) -> ScriptFault
+    ensures { result ≡ ScriptFault.Line (line_of fault) Reason.NoMemory }
+{
+    match fault {
+        WorkFault::NoMemory { line } => no_memory(line),
+    }
 }
 
 fn no_memory(line: u32) -> ScriptFault

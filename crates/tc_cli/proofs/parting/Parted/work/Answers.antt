@@ -1,12 +1,15 @@
-use Rattle.std.proofs.Common.{◌≡◌, ℕ, ◌+◌, List, Option, None, All, length, ap, ◌∙◌, subst, zero-add, arith}
+use Rattle.std.proofs.Common.{◌≡◌, ℕ, ◌+◌, List, Option, None, Some, Result, All, length, ap, ◌∙◌, subst, zero-add, inr, arith}
+use Rattle.std.specs.Prelude.{MatchResult}
 use Rattle.std.proofs.lemmas.Result.{IfOk-weaker}
 use Rattle.tc_channel.specs.Journal.{History}
 use Rattle.tc_station.specs.Roster.{Roster}
 use Rattle.tc_station.specs.Tally.{AtStation, HasMadeNothing, KnowsDesks}
-use Rattle.tc_station.specs.Work.{AreWorked}
+use Rattle.tc_station.specs.Work.{AreWorked, line_of}
+use Rattle.tc_station.specs.declared.faults.WorkFault.{WorkFault}
 use Rattle.tc_station.specs.declared.work.WorkList.{WorkList}
-use Rattle.tc_cli.specs.Parting.{IsWorkedOut}
+use Rattle.tc_cli.specs.Parting.{IsJobLine, IsWorkedOut}
 use Rattle.tc_cli.specs.Report.{IsClosedReport}
+use Rattle.tc_cli.proofs.Numbered.{refused-line}
 use Rattle.tc_cli.proofs.parting.Parted.work.Goals as goal
 
 -- what was done by the operators of the station with so many of them
@@ -35,3 +38,11 @@ returns-in-Ok-work-clause-worked g c =
     let w = c.in-Ok-work.ensures.worked in
     let n : c.len.result ≡ length c.self.inside.lists.items = omega (arith, c.self.inside.lists.ok.0) in
     rw (← c.self.view_is) (IfOk-weaker c.close.result _ _ (λ channels closed. worked-out c.self.inside.station c.operators.new.self c.self.inside.lists.items c.deref.result.now c.len.result w.0 c.in-Ok.operators.items c.work.new.operators.items channels.items c.self.invariant.0 n c.deref.ensures.value c.in-Ok.ensures.issued c.in-Ok.ensures.new c.in-Ok.ensures.heads w.2 w.1 closed) c.close.ensures.closed)
+
+pub returns-in-Err-clause-fault : goal.returns-in-Err-clause-fault
+returns-in-Err-clause-fault g c =
+    let w = c.work.ensures.worked in
+    let list = subst (λ (ls : List WorkList). AreWorked c.operators.new.self ls w.0 c.in-Ok.operators.items c.work.new.operators.items) c.deref.ensures.value w.1 in
+    let line = subst (λ (r : Result (Unit {0}) WorkFault). MatchResult r (λ _. w.0 ≡ None) (λ fault. w.0 ≡ Some (line_of fault))) c.in-Err.is w.2 in
+    let job : IsJobLine c.args.self.lists (line_of c.in-Err.fault) = rw (← c.self.view_is) (refused-line c.operators.new.self c.self.inside.lists.items w.0 (line_of c.in-Err.fault) c.in-Ok.operators.items c.work.new.operators.items list line) in
+    inr (line_of c.in-Err.fault, job, c.refused.ensures)

@@ -1,0 +1,176 @@
+-- Jobs have the numbers of lines of their script, so where memory runs out at one of them a line was reached.
+use Rattle.std.proofs.Common.{◌≡◌, ◌≤◌, ℕ, zero, suc, ◌+◌, List, [], ◌∷◌, ◌++◌, ◌⊎◌, Option, None, Some, map, length, inl, inr, refl, sym, ap, ◌∙◌, subst, arith}
+use Rattle.std.specs.List.{AllByRecursion}
+use Rattle.std.specs.Prelude.{Any, min, slice_get, slice_set}
+use Rattle.std.proofs.lemmas.Bool.{cases_lt}
+use Rattle.std.proofs.lemmas.Bool.Decides.{eqb_tells}
+use Rattle.std.proofs.lemmas.Option.{get_or_from_slice_get, none-some, same_Some, slice_get_within}
+use Rattle.tc_channel.specs.declared.settings.Settings.{Settings}
+use Rattle.tc_setup.specs.Instruction.{instruction_of}
+use Rattle.tc_setup.specs.Phase.{Setup, Does}
+use Rattle.tc_setup.specs.declared.instruction.Instruction.{Instruction}
+use Rattle.tc_setup.specs.declared.instruction.Instruction.TheVariants.{Nothing, Channel, Add, Frame, Release, Take, Unit as TakeUnit, Clcw}
+use Rattle.tc_station.specs.Lowest.{lower}
+use Rattle.tc_station.specs.Roster.{Roster}
+use Rattle.tc_station.specs.Tally.{AtStation, Tally}
+use Rattle.tc_station.specs.Work.{AreWorked, IsShift, IsWorked, Shift, lowest}
+use Rattle.tc_station.specs.declared.work.Job.{Job}
+use Rattle.tc_station.specs.declared.work.Order.TheVariants as orders
+use Rattle.tc_station.specs.declared.work.WorkList.{WorkList}
+use Rattle.tc_text.specs.Reading.{limit}
+use Rattle.tc_text.specs.declared.fault.ScriptFault.{ScriptFault}
+use Rattle.tc_cli.specs.Parallel.{Plan, AreParted, none_parted, one_parted, ArePartedFor, IsParted, Parts}
+use Rattle.tc_cli.specs.Parting.{Parted, IsGiven, IsFrameGiven, IsJobLine, IsWorkFault, empty_list, with_job}
+use Rattle.tc_cli.specs.Script.{IsFault}
+use Rattle.tc_cli.specs.Stage.{phase_of}
+use Rattle.tc_cli.specs.declared.stage.Stage.TheVariants.{SettingUp, Operating}
+use Rattle.tc_cli.proofs.Planned.{element, set-elsewhere, set-there}
+use Rattle.tc_cli.proofs.Scripts.{first-good, parted-leads}
+
+-- ---- a job that was refused for memory
+
+any-here : {X : Type 0} (P : X → Type 0) (xs : List X) (k : ℕ) (x : X) → slice_get xs k ≡ Some x → P x → Any P xs
+any-here P xs k x at holds = (k, x, slice_get_within xs k x at, get_or_from_slice_get xs k x x at, holds)
+
+lower-either : (a b : Option ℕ) (n : ℕ) → lower a b ≡ Some n → (a ≡ Some n) ⊎ (b ≡ Some n)
+lower-either None b n is = inr is
+lower-either (Some a) None n is = inl is
+lower-either (Some a) (Some b) n is =
+    let least : min a b ≡ n = same_Some (min a b) n is in
+    elim (cases_lt a b) [
+      | inl lt ↦ let same : a ≡ n = omega (arith, lt, least) in inl (ap Some same)
+      | inr ge ↦ let same : b ≡ n = omega (arith, ge, least) in inr (ap Some same)
+    ]
+
+worked-line : (station : Roster) (l : WorkList) (refused : Option ℕ) (before after : Tally) (n : ℕ) → IsWorked station l refused before after → refused ≡ Some n
+    → Any (λ (job : Job). job.line ≡ n) l.jobs
+worked-line station l None before after n worked is = absurd (none-some n is)
+worked-line station l (Some line) before after n (k, job, at, number, wanting, done) is =
+    any-here (λ (j : Job). j.line ≡ n) l.jobs k job at (number ∙ same_Some line n is)
+
+shift-line : (station : Roster) (shifts : List Shift) (n : ℕ) → AllByRecursion (IsShift station) shifts → lowest shifts ≡ Some n
+    → IsJobLine (map (λ (s : Shift). s.list) shifts) n
+shift-line station [] n all is = absurd (none-some n is)
+shift-line station (s ∷ ss) n all is = elim (lower-either s.refused (lowest ss) n is) [
+  | inl here ↦ (0, s.list, omega arith, refl, worked-line station s.list s.refused _ _ n all.0.worked here)
+  | inr there ↦ let later = shift-line station ss n all.1 there in (suc later.0, later.1, omega (arith, later.2), later.3, later.4)
+]
+
+-- the line that workers name is one of their jobs'
+pub refused-line : (station : Roster) (lists : List WorkList) (line : Option ℕ) (n : ℕ) (befores afters : List AtStation)
+    → AreWorked station lists line befores afters → line ≡ Some n → IsJobLine lists n
+refused-line station lists line n befores afters (shifts, are, before, after, all, least) is =
+    subst (λ (ls : List WorkList). IsJobLine ls n) are (shift-line station shifts n all (least ∙ is))
+
+-- ---- the numbers of jobs
+
+-- no job of these lists has a greater number
+abbrev AreNumbered : ℕ → List WorkList → Type 0
+AreNumbered count lists = (place n : ℕ) (l : WorkList) (job : Job) → slice_get lists place ≡ Some l → slice_get l.jobs n ≡ Some job → job.line ≤ count
+
+abbrev IsNumbered : ℕ → Plan → Type 0
+IsNumbered count (SettingUp list) = Unit {0}
+IsNumbered count (Operating parted) = AreNumbered count parted.lists
+
+one-more : (count : ℕ) (plan : Plan) → IsNumbered count plan → IsNumbered (count + 1) plan
+one-more count (SettingUp list) numbered = tt
+one-more count (Operating parted) numbered = λ place n l job at there. omega (arith, numbered place n l job at there)
+
+new-numbered : (count : ℕ) (list : List Settings) → AreNumbered count (map empty_list list)
+new-numbered count [] place n l job at there = absurd (none-some l at)
+new-numbered count (s ∷ list) zero n l job at there =
+    absurd (none-some job (ap (λ (x : WorkList). slice_get x.jobs n) (same_Some (empty_list s) l at) ∙ there))
+new-numbered count (s ∷ list) (suc place) n l job at there = new-numbered count list place n l job at there
+
+found-numbered : (scid count : ℕ) (plan : Plan) (found : Parted) → IsNumbered count plan → ArePartedFor scid plan found → AreNumbered count found.lists
+found-numbered scid count (SettingUp list) found numbered new = subst (AreNumbered count) (sym new.1) (new-numbered count list)
+found-numbered scid count (Operating parted) found numbered same = subst (λ (p : Parted). AreNumbered count p.lists) (sym same) numbered
+
+-- a job of a list that another one was given to
+old-or-last : (jobs : List Job) (last job : Job) (n : ℕ) → slice_get (jobs ++ last ∷ []) n ≡ Some job → (slice_get jobs n ≡ Some job) ⊎ (last ≡ job)
+old-or-last [] last job zero at = inr (same_Some last job at)
+old-or-last [] last job (suc n) at = absurd (none-some job at)
+old-or-last (x ∷ jobs) last job zero at = inl at
+old-or-last (x ∷ jobs) last job (suc n) at = old-or-last jobs last job n at
+
+given-numbered : (count vcid : ℕ) (given : Job) (found parted : Parted) → given.line ≡ count + 1 → AreNumbered count found.lists → IsGiven vcid given found parted
+    → AreNumbered (count + 1) parted.lists
+given-numbered count vcid given found parted number numbered (inl (place, l, (at, id), is)) other n x job here there =
+    let set : slice_get (slice_set found.lists place (with_job l given)) other ≡ Some x = ap (λ (p : Parted). slice_get p.lists other) (sym is) ∙ here in
+    elim (eqb_tells other place) [
+      | inl h ↦
+          let first = ap (λ (k : ℕ). slice_get (slice_set found.lists place (with_job l given)) k) h.1 ∙ set-there found.lists place l (with_job l given) at in
+          let list : with_job l given ≡ x = same_Some (with_job l given) x (sym first ∙ set) in
+          elim (old-or-last l.jobs given job n (ap (λ (y : WorkList). slice_get y.jobs n) list ∙ there)) [
+            | inl old ↦ omega (arith, numbered place n l job at old)
+            | inr last ↦ omega (arith, ap (λ (j : Job). j.line) last, number)
+          ]
+      | inr h ↦ omega (arith, numbered other n x job (sym (set-elsewhere found.lists place other (with_job l given) h.1) ∙ set) there)
+    ]
+given-numbered count vcid given found parted number numbered (inr (none, is)) other n x job here there =
+    omega (arith, numbered other n x job (ap (λ (p : Parted). slice_get p.lists other) (sym is) ∙ here) there)
+
+frame-numbered : (count : ℕ) (octets : List ℕ) (found parted : Parted) → AreNumbered count found.lists → IsFrameGiven (count + 1) octets found parted
+    → AreNumbered (count + 1) parted.lists
+frame-numbered count octets found parted numbered (inl (vcid, frame, located, given)) =
+    given-numbered count vcid (record { line = count + 1; order = orders.Bring octets }) found parted refl numbered given
+frame-numbered count octets found parted numbered (inr (fault, why, is)) =
+    subst (λ (p : Parted). AreNumbered (count + 1) p.lists) (sym is) (one-more count (Operating found) numbered)
+
+parts-numbered : (scid count : ℕ) (Gives : Parted → Parted → Type 0) (old new : Plan) → IsNumbered count old → Parts scid Gives old new
+    → ((found parted : Parted) → AreNumbered count found.lists → Gives found parted → AreNumbered (count + 1) parted.lists) → IsNumbered (count + 1) new
+parts-numbered scid count Gives old new numbered (found, parted, for, gives, is) each =
+    subst (IsNumbered (count + 1)) (sym is) (each found parted (found-numbered scid count old found numbered for) gives)
+
+order-numbered : (scid count vcid : ℕ) (given : Job) (old new : Plan) → given.line ≡ count + 1 → IsNumbered count old → Parts scid (IsGiven vcid given) old new → IsNumbered (count + 1) new
+order-numbered scid count vcid given old new number numbered parts =
+    parts-numbered scid count (IsGiven vcid given) old new numbered parts (λ found parted. given-numbered count vcid given found parted number)
+
+setup-numbered : (count : ℕ) (new : Plan) (list : List Settings) → phase_of new ≡ Setup list → IsNumbered count new
+setup-numbered count (SettingUp there) list is = tt
+setup-numbered count (Operating parted) list is = absurd cc
+
+line-numbered : (scid count : ℕ) (instruction : Instruction) (old new : Plan) → IsNumbered count old → Does (phase_of old) instruction (phase_of new)
+    → IsParted scid (count + 1) old instruction new → IsNumbered (count + 1) new
+line-numbered scid count Nothing old new numbered does same = subst (IsNumbered (count + 1)) (sym same) (one-more count old numbered)
+line-numbered scid count (Channel settings) old new numbered (before, list, was, adds, is) parted = setup-numbered (count + 1) new list is
+line-numbered scid count (Add vcid addition) old new numbered (before, list, was, adds, is) parted = setup-numbered (count + 1) new list is
+line-numbered scid count (Frame octets) old new numbered does parts =
+    parts-numbered scid count (IsFrameGiven (count + 1) octets) old new numbered parts (frame-numbered count octets)
+line-numbered scid count (Release vcid) old new numbered does parts =
+    order-numbered scid count vcid (record { line = count + 1; order = orders.Release }) old new refl numbered parts
+line-numbered scid count (Take vcid apid) old new numbered does parts =
+    order-numbered scid count vcid (record { line = count + 1; order = orders.Take apid }) old new refl numbered parts
+line-numbered scid count (TakeUnit vcid map_id) old new numbered does parts =
+    order-numbered scid count vcid (record { line = count + 1; order = orders.TakeUnit map_id }) old new refl numbered parts
+line-numbered scid count (Clcw vcid) old new numbered does parts =
+    parts-numbered scid count (λ before after. after ≡ before) old new numbered parts
+    (λ found parted within is. subst (λ (p : Parted). AreNumbered (count + 1) p.lists) (sym is) (one-more count (Operating found) within))
+
+all-numbered : (scid : ℕ) (script : List ℕ) (count : ℕ) (plan : Plan) (rest : List ℕ) → AreParted scid script count plan rest → IsNumbered count plan
+all-numbered scid script count plan rest none_parted = tt
+all-numbered scid script count plan rest (one_parted {count = before} {plan = old} leads next parted) =
+    line-numbered scid before (instruction_of parted.0) old plan (all-numbered scid script before old _ leads) parted.2 parted.3
+
+any-at : {X : Type 0} (P : X → Type 0) (xs : List X) → Any P xs → (k : ℕ) × (x : X) × (slice_get xs k ≡ Some x) × P x
+any-at {X} P xs (k, x, lt, is, holds) =
+    let there = element xs k lt in
+    let same : there.0 ≡ x = sym (get_or_from_slice_get xs k there.0 x there.1) ∙ is in
+    (k, x, there.1 ∙ ap (λ (y : X). Some y) same, holds)
+
+job-within : (count : ℕ) (lists : List WorkList) (line : ℕ) → AreNumbered count lists → IsJobLine lists line → line ≤ count
+job-within count lists line numbered job =
+    let list = any-at (λ (l : WorkList). Any (λ (j : Job). j.line ≡ line) l.jobs) lists job in
+    let one = any-at (λ (j : Job). j.line ≡ line) list.1.jobs list.3 in
+    omega (arith, numbered list.0 one.0 list.1 one.1 list.2 one.2, one.3)
+
+-- why the jobs of a good script aren't all done
+pub work-fault : (scid : ℕ) (script : List ℕ) (count : ℕ) (plan : Plan) (found : Parted) (fault : ScriptFault) → AreParted scid script count plan [] → ArePartedFor scid plan found
+    → length script ≤ limit → IsWorkFault count found.lists fault → IsFault script fault
+work-fault scid script count plan found fault parted for within (inl (inl unbalanced)) =
+    subst (IsFault script) (sym unbalanced) (within, (count, phase_of plan, parted-leads scid script count plan [] parted))
+work-fault scid script count plan found fault parted for within (inl (inr memory)) =
+    subst (IsFault script) (sym memory) (inl (refl, inl (phase_of plan, [], parted-leads scid script count plan [] parted)))
+work-fault scid script count plan found fault parted for within (inr (line, job, memory)) =
+    let le = job-within count found.lists line (found-numbered scid count plan found (all-numbered scid script count plan [] parted) for) job in
+    subst (IsFault script) (sym memory) (inl (refl, inl (first-good script count (phase_of plan) [] line (parted-leads scid script count plan [] parted) le)))
