@@ -10,71 +10,16 @@ import subprocess
 import sys
 import tempfile
 import time
-from collections import Counter
-from contextlib import contextmanager
 from itertools import zip_longest
 from pathlib import Path
-from typing import Any, Callable, Dict, Iterator, List, Tuple
+from typing import Any, Callable, Dict, List, Tuple
 
 sys.dont_write_bytecode = True
-TOP = Path(__file__).resolve().parent.parent
-# Seconds after which something that doesn't end counts as failed: one wait, and one check as a whole.
-PATIENCE, LONGEST = 60, 600
-counted: Counter[bool] = Counter()
-begun: List[subprocess.Popen[bytes]] = []
+# pylint: disable-next=wrong-import-position  # it is next to this file, and leaves no compiled file there
+from comparing import PATIENCE, TOP, begun, same, tell  # noqa: E402
+
 PROGRAM = TOP / "clients/python/tcrx_bench.py"
 SETUP = "channel 1 10 8 0\nqueue 1 5 16\n"
-
-
-def tell(good: object, what: str) -> None:
-    """Counts a comparison, and names it where it failed."""
-    counted[bool(good)] += 1
-    if not good:
-        print(f"bench: {what}")
-
-
-def same(answer: object, wanted: object, what: str) -> None:
-    """Compares an answer with what is wanted."""
-    tell(answer == wanted, f"{what}: {answer!r}, and not {wanted!r}")
-
-
-class Stuck(BaseException):
-    """A check doesn't end. It is no `Exception`, so that nothing else takes it for an answer."""
-
-
-def give_up(*_: object) -> None:
-    """Ends a check that doesn't end."""
-    raise Stuck
-
-
-@contextmanager
-def limited() -> Iterator[None]:
-    """Ends what takes too long."""
-    signal.signal(signal.SIGALRM, give_up)
-    signal.alarm(LONGEST)
-    try:
-        yield
-    finally:
-        signal.alarm(0)
-
-
-def attempt(check: Callable[..., None], *given: object, keep: bool = False) -> None:
-    """Does a check, and counts as failed what ends it early. What it began is ended, unless it is to be kept."""
-    try:
-        with limited():
-            check(*given)
-    except (Exception, Stuck) as fault:  # pylint: disable=broad-exception-caught  # whichever comes counts
-        tell(False, f"{check.__name__} ended with {fault!r}")
-    for child in [] if keep else begun:
-        if child.poll() is None:
-            child.kill()
-            child.wait()
-
-
-def close(what: str, skipped: str = "") -> int:
-    """Prints the closing line; the status."""
-    print(f"{what}: {counted[True]} comparisons passed, {counted[False]} failed{skipped}")
-    return 1 if counted[False] or not (counted[True] or skipped) else 0
 
 
 def programs(words: List[str]) -> List[Path]:

@@ -24,7 +24,8 @@ from typing import Any, Callable, Dict, List, Tuple, Type
 
 sys.dont_write_bytecode = True
 # pylint: disable=wrong-import-position  # they leave no bytecode, and the client is found by client_parts
-from client_parts import NOTHING, ONE, TOP, UNLOCK, counted, frame, packet, raises, same, tell, whole  # noqa: E402
+from comparing import TOP, close, good_cases, tell  # noqa: E402
+from client_parts import NOTHING, ONE, UNLOCK, frame, packet, raises, same, whole  # noqa: E402
 import tcrx  # noqa: E402
 import tcrx_channel  # noqa: E402
 from tcrx import (Brought, Channel, Clcw, Delivery, Ended, Event, Final, NotSetUp, NotStarted, Outcome, Packet, Refusal, Refused,  # noqa: E402
@@ -32,7 +33,7 @@ from tcrx import (Brought, Channel, Clcw, Delivery, Ended, Event, Final, NotSetU
 from tcrx_channel import BadSettings, Frame, NoMemory, read_frame, storage  # noqa: E402
 # pylint: enable=wrong-import-position
 
-DATA, HEADER = TOP / "crates/conformance/data", TOP / "c/tcrx.h"
+HEADER = TOP / "c/tcrx.h"
 SETTINGS: Dict[str, Any] = {"width": 10, "buffer": 4, "first": 0, "queues": {5: 4, 9: 2}, "maps": {2: 3}}
 
 
@@ -125,15 +126,12 @@ class Script:
 
 def check_cases() -> None:
     """Every answer and the final report of each case."""
-    rows = [line.split(" ") for line in (DATA / "index").read_text().splitlines()]
-    cases = [(row[0], int(row[1])) for row in rows if len(row) == 2]
-    for name, scid in cases:
-        text = (DATA / f"{name}.script").read_bytes().decode(errors="replace")
-        printed, stored = Script(scid).run(text), (DATA / f"{name}.out").read_text()
+    for case in good_cases():
+        printed, stored = Script(int(case.scid)).run(case.script.decode(errors="replace")), case.answers.decode()
         wrong = next((pair for pair in zip(printed.split("\n"), stored.split("\n")) if pair[0] != pair[1]), None)
-        tell(printed == stored, f"case {name}: {wrong}")
-    tell(len(cases) >= 158, f"{len(cases)} cases")
-    print(f"channel in Python: {len(cases)} conformance cases")
+        tell(printed == stored, f"case {case.name}: {wrong}")
+    tell(len(good_cases()) >= 158, f"{len(good_cases())} cases")
+    print(f"channel in Python: {len(good_cases())} conformance cases")
 
 
 # --- Answers ---
@@ -389,8 +387,7 @@ def main() -> int:
     check_threads()
     check_fork()
     check_growths(refusing)
-    print(f"channel in Python {sys.version_info.major}.{sys.version_info.minor}: {counted[True]} passed, {counted[False]} failed")
-    return 1 if counted[False] or not counted[True] else 0
+    return close(f"channel in Python {sys.version_info.major}.{sys.version_info.minor}")
 
 
 if __name__ == "__main__":

@@ -2,35 +2,23 @@
 started beside the test."""
 from __future__ import annotations
 
-import signal
 import subprocess
 import sys
-from collections import Counter
 from collections.abc import Sequence
 from pathlib import Path
-from typing import Any, Callable, NoReturn
+from typing import Any, Callable
 
 sys.dont_write_bytecode = True
-TOP = Path(__file__).resolve().parent.parent
+# pylint: disable=wrong-import-position  # they leave no bytecode, and the client is found by the path below
+from comparing import TOP, begun, tell  # noqa: E402
+
 CLIENT = TOP / "clients/python/tcrx.py"
 sys.path.insert(0, str(CLIENT.parent))
-# pylint: disable-next=wrong-import-position  # it is found by the path above
 from tcrx import Clcw, Delivery  # noqa: E402
 
-# Seconds after which something that doesn't end counts as failed: one wait, and one check as a whole.
-PATIENCE, LONGEST = 60, 900
 NOTHING = Delivery(0, 0, False)
-counted: Counter[bool] = Counter()
-begun: list[subprocess.Popen[Any]] = []
 # Starts a receiver, whose answers are compared as they are, of whatever type.
 Start = Callable[..., Any]
-
-
-def tell(good: object, what: str) -> None:
-    """Counts a comparison, and names it where it failed."""
-    counted[bool(good)] += 1
-    if not good:
-        print(f"client: {what}")
 
 
 def same(answer: object, wanted: object, what: str) -> None:
@@ -96,33 +84,3 @@ def word(channel: int, flags: int, farm_b: int, report: int) -> Clcw:
 
 
 # --- Checks ---
-
-class Stuck(BaseException):
-    """A check doesn't end. It is no `Exception`, so that nothing else takes it for an answer."""
-
-
-def give_up(*_: object) -> None:
-    """Ends a check that lasts too long."""
-    raise Stuck
-
-
-def attempt(check: Callable[..., None], *given: object) -> None:
-    """Does a check, and counts as failed what ends it early."""
-    signal.setitimer(signal.ITIMER_REAL, LONGEST, PATIENCE)
-    try:
-        check(*given)
-    except (Exception, Stuck) as fault:  # pylint: disable=broad-exception-caught  # whichever it is, it counts
-        tell(False, f"{check.__name__} ended with {fault!r}")
-    finally:
-        signal.setitimer(signal.ITIMER_REAL, 0)
-        for child in begun:
-            if child.poll() is None:
-                child.kill()
-                child.wait()
-        begun.clear()
-
-
-def close(told: str = "") -> NoReturn:
-    """Prints the closing line, and ends with the status."""
-    print(f"{counted[True]} comparisons of the client passed, {counted[False]} failed{told}")
-    sys.exit(1 if counted[False] or not counted[True] else 0)

@@ -1,0 +1,99 @@
+"""What the checks in Python share: comparisons, which are counted, what ends in time, the conformance cases, and a check's last line."""
+from __future__ import annotations
+
+import signal
+import subprocess
+import sys
+from collections import Counter
+from pathlib import Path
+from typing import Any, Callable, List, NamedTuple
+
+TOP = Path(__file__).resolve().parent.parent
+DATA = TOP / "crates/conformance/data"
+NAME = Path(sys.argv[0]).stem
+# Seconds after which something that doesn't end counts as failed: one wait, and one check as a whole.
+PATIENCE, LONGEST = 60, 900
+counted: Counter[bool] = Counter()
+# What was left out, since a program isn't installed.
+skipped: List[str] = []
+# What was tried a second time, since a clock or another program was in it.
+tried_again: List[str] = []
+# Programs beside the check, which are killed where it leaves them behind.
+begun: List[subprocess.Popen[Any]] = []
+
+
+class Case(NamedTuple):
+    """A script of the conformance program, and how it is to end."""
+
+    name: str
+    scid: str
+    # The text of the fault; empty where the script runs to its end.
+    fault: str
+
+    @property
+    def script(self) -> bytes:
+        """Its lines."""
+        return (DATA / f"{self.name}.script").read_bytes()
+
+    @property
+    def answers(self) -> bytes:
+        """What is printed, line by line and at the end."""
+        return (DATA / f"{self.name}.out").read_bytes()
+
+
+def cases() -> List[Case]:
+    """All conformance cases, as the index lists them."""
+    lines = (DATA / "index").read_text(encoding="utf-8").splitlines()
+    return [Case(*[*line.split(" ", 2), ""][:3]) for line in lines]
+
+
+def good_cases() -> List[Case]:
+    """Those that run to their end."""
+    return [case for case in cases() if not case.fault]
+
+
+def tell(good: object, what: str, why: str = "") -> None:
+    """Counts a comparison, and names it where it failed, with what shows why."""
+    counted[bool(good)] += 1
+    if not good:
+        print(f"{NAME}: WRONG: {what}{': ' if why else ''}{why[-800:]}", flush=True)
+
+
+def same(found: object, wanted: object, what: str) -> None:
+    """Compares a value with what is wanted, and shows both where they differ."""
+    tell(found == wanted, f"{what}: {found!r}, and not {wanted!r}")
+
+
+class Stuck(BaseException):
+    """A check doesn't end. It is no `Exception`, so that nothing else takes it for an answer."""
+
+
+def give_up(*_: object) -> None:
+    """Ends a check that lasts too long."""
+    raise Stuck
+
+
+def attempt(check: Callable[..., None], *given: object, keep: bool = False) -> None:
+    """Runs a part of a check, and counts as failed what ends it early. What it began is ended, unless it is to be kept."""
+    signal.signal(signal.SIGALRM, give_up)
+    signal.setitimer(signal.ITIMER_REAL, LONGEST, PATIENCE)
+    try:
+        check(*given)
+    except (Exception, Stuck) as fault:  # pylint: disable=broad-exception-caught  # whichever comes counts
+        tell(False, f"{check.__name__} ended with {fault!r}")
+    finally:
+        signal.setitimer(signal.ITIMER_REAL, 0)
+        for child in [] if keep else begun:
+            if child.poll() is None:
+                child.kill()
+                child.wait()
+        if not keep:
+            begun.clear()
+
+
+def close(of: str = "") -> int:
+    """Prints the last line: how many comparisons passed, how many failed, and what was tried again or left out. The status."""
+    again = f"; tried a second time: {', '.join(tried_again)}" if tried_again else ""
+    left = f"; skipped, as it isn't installed: {', '.join(skipped)}" if skipped else ""
+    print(f"{of or NAME}: {counted[True]} passed, {counted[False]} failed{again}{left}")
+    return 1 if counted[False] or not (counted[True] or skipped) else 0
