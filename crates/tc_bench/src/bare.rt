@@ -1,13 +1,13 @@
 //! A channel by itself, of each form.
 
+use crate::score::Score;
 use crate::station::APID;
-use bench_parts::Score;
 use std::alloc::Global;
 use tc_channel::{ChannelWith, Delivery, FrameReply, Journal, Settings};
 use tc_fixed::FixedChannel;
 use tc_link::Frame;
 
-/// What rounds do to a channel. `None`, and false, stand for a refusal.
+/// What rounds do to a channel. `None` stands for a refusal.
 pub(crate) trait Bare: Drop {
     /// The channel of these settings.
     fn made(alloc: Global, settings: Settings) -> Option<Self>;
@@ -19,7 +19,7 @@ pub(crate) trait Bare: Drop {
     fn let_out(&mut self) -> Option<Delivery>;
 
     /// Takes the oldest packet, and adds it to the score. Where it can be read in its room, it is, and then dropped.
-    fn add_taken(&mut self, score: &mut Score) -> bool;
+    fn add_taken(&mut self, score: &mut Score) -> Option<()>;
 
     /// How many events its journal has.
     fn count(&self) -> u64;
@@ -50,12 +50,9 @@ impl<J: Journal> Bare for ChannelWith<J> {
         self.release().ok()
     }
 
-    fn add_taken(&mut self, score: &mut Score) -> bool {
-        let Ok(packet) = self.take(APID) else {
-            return false;
-        };
-        add(&packet, score);
-        true
+    fn add_taken(&mut self, score: &mut Score) -> Option<()> {
+        add(&self.take(APID).ok()?, score);
+        Some(())
     }
 
     fn count(&self) -> u64 {
@@ -76,12 +73,13 @@ impl Bare for FixedChannel {
         self.release().ok()
     }
 
-    fn add_taken(&mut self, score: &mut Score) -> bool {
-        let Some(octets) = self.oldest(APID) else {
-            return false;
-        };
-        add(octets, score);
-        self.drop_oldest(APID)
+    fn add_taken(&mut self, score: &mut Score) -> Option<()> {
+        add(self.oldest(APID)?, score);
+        if self.drop_oldest(APID) {
+            Some(())
+        } else {
+            None
+        }
     }
 
     fn count(&self) -> u64 {

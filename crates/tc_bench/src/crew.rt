@@ -2,9 +2,9 @@
 
 ghost use Rattle.tc_station.specs.Tally.{IsOurs};
 
+use crate::score::Score;
 use crate::station::{APID, new_station};
 use anyhow::{Result, anyhow};
-use bench_parts::Score;
 use std::alloc::Global;
 use std::sync::Wait;
 use tc_channel::Channel;

@@ -1,8 +1,8 @@
 //! What comes to a bare channel in each round.
 
+use crate::sender::SCID;
 use crate::station::APID;
 use anyhow::Result;
-use bench_parts::SCID;
 use std::alloc::Global;
 use tc_channel::Octets;
 use tc_link::{Header, write_frame};

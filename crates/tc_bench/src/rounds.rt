@@ -1,10 +1,12 @@
 //! Rounds on a bare channel, of whatever form.
 
 use crate::bare::Bare;
+use crate::command_line::{Form, Load};
 use crate::loads::{PACKETS, full, segments};
+use crate::score::Score;
+use crate::sender::{Sender, Sent};
 use crate::station::{APID, settings};
 use anyhow::{Result, anyhow};
-use bench_parts::{Form, Load, Score, Sender, Sent};
 use std::alloc::Global;
 use tc_channel::{Channel, FlightChannel, Items, Octets, QueueSetting};
 use tc_fixed::FixedChannel;
@@ -31,7 +33,7 @@ pub(crate) fn print<R: AllocGlobal + Print>(
 
 fn play<B: Bare>(alloc: Global, load: Load, count: u32) -> Result<u64> {
     let mut settings = settings(alloc, 1)?;
-    if load == Load::Packets {
+    if let Load::Packets = load {
         let queue = QueueSetting {
             apid: APID,
             capacity: CAPACITY,
@@ -48,7 +50,7 @@ fn play<B: Bare>(alloc: Global, load: Load, count: u32) -> Result<u64> {
         Load::Packets => packets(&mut channel, full(alloc)?.as_slice(), count, &mut score),
         Load::Segments => in_segments(&mut channel, &segments(alloc)?, count, &mut score),
     };
-    if !done {
+    if done.is_none() {
         return Err(anyhow!("a call was refused"));
     }
     score.add(channel.count());
@@ -56,81 +58,66 @@ fn play<B: Bare>(alloc: Global, load: Load, count: u32) -> Result<u64> {
 }
 
 // Frames are taken in, their data fields released, and their packets taken.
-fn sequenced<B: Bare>(channel: &mut B, sender: &Sender, count: u32, score: &mut Score) -> bool {
+fn sequenced<B: Bare>(
+    channel: &mut B,
+    sender: &Sender,
+    count: u32,
+    score: &mut Score,
+) -> Option<()> {
     for number in 0..count {
-        if !bring(
-            channel,
-            sender.octets(Sent::Sequenced((number % 256) as u8)),
-            score,
-        ) {
-            return false;
-        }
-        let Some(delivery) = channel.let_out() else {
-            return false;
-        };
-        score.add_delivery(delivery);
-        if !channel.add_taken(score) {
-            return false;
-        }
+        let octets = sender.octets(Sent::Sequenced((number % 256) as u8));
+        bring(channel, octets, score)?;
+        score.add_delivery(channel.let_out()?);
+        channel.add_taken(score)?;
     }
-    true
+    Some(())
 }
 
 // Frames that bypass the window are taken in, and their packets taken.
-fn bypassing<B: Bare>(channel: &mut B, sender: &Sender, count: u32, score: &mut Score) -> bool {
+fn bypassing<B: Bare>(
+    channel: &mut B,
+    sender: &Sender,
+    count: u32,
+    score: &mut Score,
+) -> Option<()> {
     for number in 0..count {
-        if !bring(
-            channel,
-            sender.octets(Sent::Bypassing((number % 256) as u8)),
-            score,
-        ) {
-            return false;
-        }
-        if !channel.add_taken(score) {
-            return false;
-        }
+        let octets = sender.octets(Sent::Bypassing((number % 256) as u8));
+        bring(channel, octets, score)?;
+        channel.add_taken(score)?;
     }
-    true
+    Some(())
 }
 
 // A frame that is full of small packets is taken in, and each of them taken.
-fn packets<B: Bare>(channel: &mut B, frame: &[u8], count: u32, score: &mut Score) -> bool {
+fn packets<B: Bare>(channel: &mut B, frame: &[u8], count: u32, score: &mut Score) -> Option<()> {
     for _ in 0..count {
-        if !bring(channel, frame, score) {
-            return false;
-        }
+        bring(channel, frame, score)?;
         for _ in 0..PACKETS {
-            if !channel.add_taken(score) {
-                return false;
-            }
+            channel.add_taken(score)?;
         }
     }
-    true
+    Some(())
 }
 
 // The segments of the largest packet are taken in, and it is taken.
-fn in_segments<B: Bare>(channel: &mut B, frames: &[Octets], count: u32, score: &mut Score) -> bool {
+fn in_segments<B: Bare>(
+    channel: &mut B,
+    frames: &[Octets],
+    count: u32,
+    score: &mut Score,
+) -> Option<()> {
     for _ in 0..count {
         for frame in frames {
-            if !bring(channel, frame.as_slice(), score) {
-                return false;
-            }
+            bring(channel, frame.as_slice(), score)?;
         }
-        if !channel.add_taken(score) {
-            return false;
-        }
+        channel.add_taken(score)?;
     }
-    true
+    Some(())
 }
 
-// Whether a frame was read, and accepted.
-fn bring<B: Bare>(channel: &mut B, octets: &[u8], score: &mut Score) -> bool {
-    let Ok(frame) = read_frame(octets) else {
-        return false;
-    };
-    let Some(reply) = channel.bring(&frame) else {
-        return false;
-    };
+// Takes in a frame that must be accepted.
+fn bring<B: Bare>(channel: &mut B, octets: &[u8], score: &mut Score) -> Option<()> {
+    let reply = channel.bring(&read_frame(octets).ok()?)?;
     score.add_reply(1, reply);
-    reply.act.accepted
+    if reply.act.accepted { Some(()) } else { None }
 }

@@ -1,11 +1,11 @@
 //! The scores of the load.
 
 use crate::crew::{Crew, NO_FLAG};
-use crate::round::{make_rounds, senders};
+use crate::score::Score;
+use crate::sender::{Sender, Sent, second};
 use crate::station::APID;
 use crate::workers::work;
 use anyhow::{Result, anyhow};
-use bench_parts::{Score, Sender};
 use std::alloc::Global;
 use std::sync::Wait;
 use std::thread::Threads;
@@ -27,6 +27,44 @@ pub(crate) fn print<R: Threads + Wait + Sync + AllocGlobal + Print>(rt: &R) -> R
 
 fn print_score(rt: &impl Print, what: &str, score: u64) -> Result<()> {
     println!(rt; "{what} {score:016x}")?;
+    Ok(())
+}
+
+// A sender for each of the virtual channels, in their order.
+fn senders(alloc: Global, vcids: &[u8]) -> Result<Vec<Sender>> {
+    let mut senders = Vec::with_capacity(alloc, vcids.len())?;
+    for vcid in vcids {
+        senders.push(Sender::new(alloc, *vcid)?)?;
+    }
+    Ok(senders)
+}
+
+// Brings the frame with this number, which is the next one, and a second; reads the status; releases and takes.
+fn make_round(
+    rt: &impl Wait,
+    crew: &mut Crew,
+    sender: &Sender,
+    number: u8,
+    score: &mut Score,
+) -> Result<()> {
+    crew.bring(rt, sender.octets(Sent::Sequenced(number)), score)?;
+    crew.bring(rt, sender.octets(second(number)), score)?;
+    crew.status(rt, sender.vcid, score)?;
+    crew.release(rt, sender.vcid, score)?;
+    crew.take(rt, sender.vcid, score)
+}
+
+// Such a round for each sender in turn.
+fn make_rounds(
+    rt: &impl Wait,
+    crew: &mut Crew,
+    senders: &[Sender],
+    number: u8,
+    score: &mut Score,
+) -> Result<()> {
+    for sender in senders {
+        make_round(rt, crew, sender, number, score)?;
+    }
     Ok(())
 }
 

@@ -1,10 +1,7 @@
 //! The stations that are loaded.
 
-ghost use Rattle.std.specs.Prelude.{◌≡◌, IfOk};
-ghost use Rattle.tc_station.specs.StationSettings.{vcids_of};
-
+use crate::sender::SCID;
 use anyhow::Result;
-use bench_parts::SCID;
 use std::alloc::{AllocError, Global};
 use tc_channel::{Items, QueueSetting, Settings};
 use tc_station::Station;
@@ -13,9 +10,7 @@ use tc_station::Station;
 pub(crate) const APID: u16 = 5;
 
 /// A window of 10, a buffer of four data fields, V(R) 0 first, and a queue of 16 packets.
-pub(crate) fn settings(alloc: Global, vcid: u8) -> Result<Settings, AllocError>
-    ensures { IfOk result (λ s. s.vcid ≡ vcid) }
-{
+pub(crate) fn settings(alloc: Global, vcid: u8) -> Result<Settings, AllocError> {
     let queue = QueueSetting {
         apid: APID,
         capacity: 16,
@@ -31,9 +26,7 @@ pub(crate) fn settings(alloc: Global, vcid: u8) -> Result<Settings, AllocError>
     })
 }
 
-fn settings_of(alloc: Global, vcids: &[u8]) -> Result<Vec<Settings>, AllocError>
-    ensures { IfOk result (λ list. vcids_of list.items ≡ vcids.now) }
-{
+fn settings_of(alloc: Global, vcids: &[u8]) -> Result<Vec<Settings>, AllocError> {
     let mut list = Vec::with_capacity(alloc, vcids.len())?;
     for vcid in vcids {
         list.push(settings(alloc, *vcid)?)?;
@@ -42,8 +35,6 @@ fn settings_of(alloc: Global, vcids: &[u8]) -> Result<Vec<Settings>, AllocError>
 }
 
 /// A station with these virtual channels.
-pub(crate) fn new_station(alloc: Global, vcids: &[u8]) -> Result<Station>
-    ensures { IfOk result (λ station. station.vcids ≡ vcids.now) }
-{
+pub(crate) fn new_station(alloc: Global, vcids: &[u8]) -> Result<Station> {
     Ok(Station::new(alloc, SCID, settings_of(alloc, vcids)?)?)
 }

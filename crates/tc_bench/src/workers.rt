@@ -3,9 +3,9 @@
 ghost use Rattle.std.specs.Prelude.{◌≡◌, All, length};
 ghost use Rattle.tc_station.specs.Tally.{IsOurs};
 
+use crate::sender::{Sender, Sent, second};
 use crate::station::{APID, new_station};
 use anyhow::Result;
-use bench_parts::{Sender, Sent, second};
 use std::alloc::{AllocError, Global};
 use std::sync::Wait;
 use std::thread::Threads;
@@ -62,7 +62,7 @@ fn work_list(alloc: Global, sender: &Sender, rounds: u32) -> Result<WorkList, Al
         add_round(alloc, &mut jobs, sender, number)?;
     }
     Ok(WorkList {
-        vcid: sender.vcid(),
+        vcid: sender.vcid,
         jobs: Items::from(jobs),
     })
 }

@@ -1,10 +1,8 @@
 //! The command line.
 
-ghost use Rattle.std.specs.Prelude.{◌≡◌, ◌<◌, length};
-
 /// What becomes of a channel's journal, and when the channel asks for memory.
-#[derive(Clone, Copy, Debug, PartialEq, Eq)]
-pub enum Form {
+#[derive(Clone, Copy)]
+pub(crate) enum Form {
     /// The journal is kept in memory.
     Kept,
     /// The journal takes no memory.
@@ -14,8 +12,8 @@ pub enum Form {
 }
 
 /// What comes to a bare channel in each round, and is taken.
-#[derive(Clone, Copy, Debug, PartialEq, Eq)]
-pub enum Load {
+#[derive(Clone, Copy)]
+pub(crate) enum Load {
     /// A Type-AD frame of 13 octets, which is released, and its packet.
     Sequenced,
     /// A Type-BD frame of 13 octets, and its packet.
@@ -27,29 +25,18 @@ pub enum Load {
 }
 
 /// What a command line asks for.
-#[derive(Clone, Copy, Debug, PartialEq, Eq)]
-pub enum Action {
+#[derive(Clone, Copy)]
+pub(crate) enum Action {
     /// Do the load, and print its scores.
     Scores,
-    /// Print how many frames a second threads get answered.
-    Threads,
-    /// Print what a read of a status costs.
-    Status,
-    /// Print what a round on a station costs beside what its parts cost alone.
-    Parts,
     /// Make so many rounds of a load on a channel of this form, and print what they add up to.
     Rounds(Form, Load, u32),
 }
 
 /// What the words ask for, the program's name first.
-pub fn judge(words: &[String]) -> Option<Action>
-    ensures alone { length words.now < 2 → result ≡ Some Action.Scores }
-    ensures two { length words.now ≡ 3 → result ≡ None }
-    ensures many { 5 < length words.now → result ≡ None }
-{
+pub(crate) fn judge(words: &[String]) -> Option<Action> {
     match words {
         [] | [_] => Some(Action::Scores),
-        [_, word] => named(word.as_str()),
         [_, word, form, count] => rounds(word.as_str(), form.as_str(), "sequenced", count.as_str()),
         [_, word, form, count, load] => {
             rounds(word.as_str(), form.as_str(), load.as_str(), count.as_str())
@@ -66,26 +53,12 @@ fn rounds(word: &str, form: &str, load: &str, count: &str) -> Option<Action> {
         ("rounds", "rooms") => Form::Rooms,
         _ => return None,
     };
-    Some(Action::Rounds(form, load_named(load)?, count.parse().ok()?))
-}
-
-// The load that a word names.
-fn load_named(word: &str) -> Option<Load> {
-    match word {
-        "sequenced" => Some(Load::Sequenced),
-        "bypassing" => Some(Load::Bypassing),
-        "packets" => Some(Load::Packets),
-        "segments" => Some(Load::Segments),
-        _ => None,
-    }
-}
-
-// The one that a word names.
-fn named(word: &str) -> Option<Action> {
-    match word {
-        "threads" => Some(Action::Threads),
-        "status" => Some(Action::Status),
-        "parts" => Some(Action::Parts),
-        _ => None,
-    }
+    let load = match load {
+        "sequenced" => Load::Sequenced,
+        "bypassing" => Load::Bypassing,
+        "packets" => Load::Packets,
+        "segments" => Load::Segments,
+        _ => return None,
+    };
+    Some(Action::Rounds(form, load, count.parse().ok()?))
 }

@@ -1,4 +1,0 @@
-pub mod Score
-pub mod Sent
-pub mod Round
-pub mod Median
