@@ -243,26 +243,21 @@ fn make<F: Form>(filler: &mut Filler<F>, call: &Call) -> Result<()> {
     match call {
         Call::Frame(kind, field, items) => filler.bring(*kind, field, *items),
         Call::Release(items) => filler.release(*items),
-        Call::Take(count) => take(filler, *count),
-        Call::TakeUnit(count) => take_units(filler, *count),
+        Call::Take(count) => {
+            for _ in 0..*count {
+                filler.channel.take_packet(APID)?;
+            }
+            Ok(())
+        }
+        Call::TakeUnit(count) => {
+            for _ in 0..*count {
+                filler.channel.take_whole(CHOSEN)?;
+            }
+            Ok(())
+        }
         Call::Clcw => {
             let _ = filler.channel.word();
             Ok(())
         }
     }
-}
-
-// Takes so many packets, or so many units.
-fn take<F: Form>(filler: &mut Filler<F>, count: u16) -> Result<()> {
-    for _ in 0..count {
-        filler.channel.take_packet(APID)?;
-    }
-    Ok(())
-}
-
-fn take_units<F: Form>(filler: &mut Filler<F>, count: u16) -> Result<()> {
-    for _ in 0..count {
-        filler.channel.take_whole(CHOSEN)?;
-    }
-    Ok(())
 }

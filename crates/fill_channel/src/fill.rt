@@ -34,11 +34,7 @@ pub(crate) fn print_limited<R: AllocGlobal + Print>(rt: &R) -> Result<()> {
     let limits = Limits { others: 0, maps };
     println!(rt; "storage {}", storage_with_limits(&settings, &limits))?;
     let channel = FixedChannel::with_limits(rt.alloc(), settings, limits)?;
-    println!(rt; "made")?;
-    let mut filler = Filler { channel, ns: 0 };
-    play(&mut filler, &limited_rows(&LIMITED))?;
-    println!(rt; "full")?;
-    Ok(())
+    print_rows(rt, channel, &limited_rows(&LIMITED))
 }
 
 // Makes the channel and fills it, with a line after each.
@@ -47,21 +43,18 @@ fn print_full<F: Form, R: AllocGlobal + Print>(
     plan: &Plan,
     settings: Settings,
 ) -> Result<()> {
+    let channel = F::made(rt.alloc(), settings)?;
     if plan.segmented {
-        print_rows::<F, R>(rt, settings, &segmented_rows(plan))
+        print_rows(rt, channel, &segmented_rows(plan))
     } else {
-        print_rows::<F, R>(rt, settings, &plain_rows(plan))
+        print_rows(rt, channel, &plain_rows(plan))
     }
 }
 
-/// Makes a channel and brings it these rows, with a line after each.
-pub(crate) fn print_rows<F: Form, R: AllocGlobal + Print>(
-    rt: &R,
-    settings: Settings,
-    rows: &[Row],
-) -> Result<()> {
-    let mut filler: Filler<F> = Filler::new(rt.alloc(), settings)?;
+/// Brings these rows to a channel that was just made, with a line before and after.
+pub(crate) fn print_rows<F: Form>(rt: &impl Print, channel: F, rows: &[Row]) -> Result<()> {
     println!(rt; "made")?;
+    let mut filler = Filler { channel, ns: 0 };
     play(&mut filler, rows)?;
     println!(rt; "full")?;
     Ok(())

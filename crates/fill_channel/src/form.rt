@@ -1,16 +1,11 @@
 //! The forms of a channel: by where it keeps its journal, and by when it asks for memory.
 
-use crate::seen::{call_clcw, call_drop_oldest_unit, call_new, call_take};
+use crate::seen::{NO_FLAG, call_clcw, call_drop_oldest_unit, call_new, call_take};
 use anyhow::{Result, anyhow};
 use std::alloc::Global;
 use tc_channel::{ChannelWith, Delivery, FrameReply, Journal, Settings};
 use tc_fixed::FixedChannel;
-use tc_link::{Frame, Link};
-
-const NO_FLAG: Link = Link {
-    no_rf: false,
-    no_bit_lock: false,
-};
+use tc_link::Frame;
 
 // The most octets of a packet or a unit that is taken here.
 const TAKEN: usize = 1_024;

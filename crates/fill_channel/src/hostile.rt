@@ -5,8 +5,9 @@ use crate::fill::print_rows;
 use crate::filler::{Items, NOTHING, ONE, Way};
 use crate::plan::MANY;
 use crate::rows::{Piece, Row};
+use crate::seen::call_new;
 use anyhow::Result;
-use tc_fixed::{FixedChannel, storage};
+use tc_fixed::storage;
 
 // One item finds no room.
 const DROPPED: Items = (0, 1);
@@ -54,5 +55,5 @@ static ROWS: [Row; 16] = [
 pub(crate) fn print<R: AllocGlobal + Print>(rt: &R) -> Result<()> {
     let settings = MANY.settings(rt.alloc())?;
     println!(rt; "storage {}", storage(&settings))?;
-    print_rows::<FixedChannel, R>(rt, settings, &ROWS)
+    print_rows(rt, call_new(rt.alloc(), settings)?, &ROWS)
 }

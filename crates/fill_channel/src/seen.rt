@@ -7,7 +7,7 @@ use tc_channel::{Delivery, FrameReply, Settings, SettingsFault};
 use tc_fixed::{FixedChannel, NoUnitTaken, NothingReleased, NothingTaken};
 use tc_link::{Frame, Link, Report};
 
-const NO_FLAG: Link = Link {
+pub(crate) const NO_FLAG: Link = Link {
     no_rf: false,
     no_bit_lock: false,
 };

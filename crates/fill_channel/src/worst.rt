@@ -11,11 +11,6 @@ use crate::seen::{
     call_oldest, call_oldest_unit, call_queued, call_release, call_report, call_take,
     call_take_unit, call_units,
 };
-use crate::worst::Before::{Ended, Full, Nothing, Opened, Waiting};
-use crate::worst::Call::{
-    Buffered, Clcw, DropOldest, DropOldestUnit, Events, Frame, Oldest, OldestUnit, Queued, Release,
-    Report, Take, TakeUnit, Units,
-};
 use anyhow::{Result, anyhow};
 use std::alloc::Global;
 use tc_channel::Delivery;
@@ -61,74 +56,6 @@ const WHOLE_END: Field = Field {
     header: Some(LAST | CHOSEN),
     ..PACKET_END
 };
-
-// What comes before the call.
-#[derive(Clone, Copy)]
-enum Before {
-    Nothing,
-    // A data field is buffered.
-    Waiting(Field),
-    // All segments of a largest unit but this one are brought in this way.
-    Opened(Way, Field),
-    // The same, and this one is buffered.
-    Ended(Field),
-    // A largest packet is queued for the last application, and a largest unit for the last chosen MAP.
-    Full,
-}
-
-// A call: a frame of this kind, a release, or a call of the last queues.
-#[derive(Clone, Copy)]
-enum Call {
-    Frame(Kind, Field),
-    Release,
-    Take,
-    TakeUnit,
-    DropOldest,
-    DropOldestUnit,
-    Oldest,
-    OldestUnit,
-    Queued,
-    Units,
-    Clcw,
-    Report,
-    Buffered,
-    Events,
-}
-
-// Each call with its name.
-static CALLS: [(&str, Before, Call); 19] = [
-    ("frame_buffered", Nothing, Frame(Kind::Next, FIRST_FIELD)),
-    (
-        "frame_field",
-        Nothing,
-        Frame(Kind::Bypassing, PACKETS_FIELD),
-    ),
-    (
-        "frame_packets",
-        Opened(Way::Bypassing, PACKETS_END),
-        Frame(Kind::Bypassing, PACKETS_END),
-    ),
-    (
-        "frame_whole",
-        Opened(Way::Bypassing, WHOLE_END),
-        Frame(Kind::Bypassing, WHOLE_END),
-    ),
-    ("release_field", Waiting(PACKETS_FIELD), Release),
-    ("release_packets", Ended(PACKETS_END), Release),
-    ("release_whole", Ended(WHOLE_END), Release),
-    ("take", Full, Take),
-    ("take_unit", Full, TakeUnit),
-    ("drop_oldest", Full, DropOldest),
-    ("drop_oldest_unit", Full, DropOldestUnit),
-    ("oldest", Full, Oldest),
-    ("oldest_unit", Full, OldestUnit),
-    ("queued", Full, Queued),
-    ("units", Full, Units),
-    ("clcw", Full, Clcw),
-    ("report", Full, Report),
-    ("buffered", Full, Buffered),
-    ("events", Full, Events),
-];
 
 // A channel, its last application, and room for what is taken.
 #[derive(Drop)]
@@ -196,23 +123,6 @@ impl Caller {
         self.filler.pass(Way::Bypassing, &last, ONE)
     }
 
-    // What comes before the call.
-    fn prepare(&mut self, before: &Before) -> Result<()> {
-        match before {
-            Before::Nothing => Ok(()),
-            Before::Waiting(field) => self.buffer(field),
-            Before::Opened(way, last) => self.open(*way, last),
-            Before::Ended(last) => {
-                self.open(Way::Released, last)?;
-                self.buffer(last)
-            }
-            Before::Full => {
-                self.queue_largest(&PACKET_END)?;
-                self.queue_largest(&WHOLE_END)
-            }
-        }
-    }
-
     // Brings a frame by the call that is seen; how many items came to queues, with those that found no room.
     fn bring(&mut self, kind: Kind, field: &Field) -> Result<u64> {
         let octets = octets_of(kind, self.filler.ns, &self.own(field));
@@ -220,30 +130,58 @@ impl Caller {
         Ok(items(&reply.delivery))
     }
 
-    // Makes the call that is seen; what it answers, as a number.
-    fn make(&mut self, call: &Call) -> Result<u64> {
-        let count = match call {
-            Call::Frame(kind, field) => return self.bring(*kind, field),
-            Call::Release => return Ok(items(&call_release(&mut self.filler.channel)?)),
-            Call::Take => call_take(&mut self.filler.channel, self.apid, &mut self.taken)?,
-            Call::TakeUnit => call_take_unit(&mut self.filler.channel, CHOSEN, &mut self.taken)?,
-            Call::DropOldest => number(call_drop_oldest(&mut self.filler.channel, self.apid)),
-            Call::DropOldestUnit => number(call_drop_oldest_unit(&mut self.filler.channel, CHOSEN)),
-            Call::Oldest => length(call_oldest(&self.filler.channel, self.apid)),
-            Call::OldestUnit => length(call_oldest_unit(&self.filler.channel, CHOSEN)),
-            Call::Queued => call_queued(&self.filler.channel, self.apid).unwrap_or(0),
-            Call::Units => call_units(&self.filler.channel, CHOSEN).unwrap_or(0),
-            Call::Clcw => call_clcw(&self.filler.channel) as usize,
-            Call::Report => usize::from(call_report(&self.filler.channel).farm_b),
-            Call::Buffered => call_buffered(&self.filler.channel),
-            Call::Events => return Ok(call_events(&self.filler.channel)),
-        };
-        Ok(count as u64)
+    // The same with the last segment, behind the others.
+    fn bring_last(&mut self, last: &Field) -> Result<u64> {
+        self.open(Way::Bypassing, last)?;
+        self.bring(Kind::Bypassing, last)
     }
 
-    fn answer(&mut self, before: &Before, call: &Call) -> Result<u64> {
-        self.prepare(before)?;
-        self.make(call)
+    // Buffers a field, and releases it by the call that is seen.
+    fn release(&mut self, field: &Field) -> Result<u64> {
+        self.buffer(field)?;
+        Ok(items(&call_release(&mut self.filler.channel)?))
+    }
+
+    fn release_last(&mut self, last: &Field) -> Result<u64> {
+        self.open(Way::Released, last)?;
+        self.release(last)
+    }
+
+    // Makes the call with this name; what it answers, as a number.
+    fn answer(&mut self, name: &str) -> Result<u64> {
+        match name {
+            "frame_buffered" => self.bring(Kind::Next, &FIRST_FIELD),
+            "frame_field" => self.bring(Kind::Bypassing, &PACKETS_FIELD),
+            "frame_packets" => self.bring_last(&PACKETS_END),
+            "frame_whole" => self.bring_last(&WHOLE_END),
+            "release_field" => self.release(&PACKETS_FIELD),
+            "release_packets" => self.release_last(&PACKETS_END),
+            "release_whole" => self.release_last(&WHOLE_END),
+            _ => self.answer_full(name),
+        }
+    }
+
+    // The same where a largest packet is queued for the last application, and a largest unit for the last chosen MAP.
+    fn answer_full(&mut self, name: &str) -> Result<u64> {
+        self.queue_largest(&PACKET_END)?;
+        self.queue_largest(&WHOLE_END)?;
+        let channel = &mut self.filler.channel;
+        let count = match name {
+            "take" => call_take(channel, self.apid, &mut self.taken)?,
+            "take_unit" => call_take_unit(channel, CHOSEN, &mut self.taken)?,
+            "drop_oldest" => number(call_drop_oldest(channel, self.apid)),
+            "drop_oldest_unit" => number(call_drop_oldest_unit(channel, CHOSEN)),
+            "oldest" => length(call_oldest(channel, self.apid)),
+            "oldest_unit" => length(call_oldest_unit(channel, CHOSEN)),
+            "queued" => call_queued(channel, self.apid).unwrap_or(0),
+            "units" => call_units(channel, CHOSEN).unwrap_or(0),
+            "clcw" => call_clcw(channel) as usize,
+            "report" => usize::from(call_report(channel).farm_b),
+            "buffered" => call_buffered(channel),
+            "events" => call_events(channel) as usize,
+            _ => return Err(anyhow!("no such call: {name}")),
+        };
+        Ok(count as u64)
     }
 }
 
@@ -260,31 +198,18 @@ fn length(octets: Option<&[u8]>) -> usize {
     octets.unwrap_or(&[]).len()
 }
 
-// What comes before the call with this name, and the call.
-fn named(word: &str) -> Option<(Before, Call)> {
-    for (name, before, call) in &CALLS {
-        if *name == word {
-            return Some((*before, *call));
-        }
-    }
-    None
-}
-
 /// Makes a call on a channel of so many queues, as it costs most, and prints what it answers.
 pub(crate) fn print<R: AllocGlobal + Print>(rt: &R, word: &str, queues: &str) -> Result<()> {
     let Ok(queues) = queues.parse::<u16>() else {
         return Err(anyhow!("no number of queues: {queues}"));
     };
-    let Some((before, call)) = named(word) else {
-        return Err(anyhow!("no such call: {word}"));
-    };
-    let answer = answer_of(rt.alloc(), queues, &before, &call)?;
+    let answer = answer_of(rt.alloc(), queues, word)?;
     println!(rt; "{word} {answer}")?;
     Ok(())
 }
 
 // The caller, and with it the channel, is let go at one place alone: each is proved for itself.
-fn answer_of(alloc: Global, queues: u16, before: &Before, call: &Call) -> Result<u64> {
+fn answer_of(alloc: Global, queues: u16, name: &str) -> Result<u64> {
     let mut caller = Caller::new(alloc, queues)?;
-    caller.answer(before, call)
+    caller.answer(name)
 }
