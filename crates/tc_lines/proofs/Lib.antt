@@ -1,2 +1,5 @@
 mod Parts
 mod Lines
+mod Words
+mod Numbers
+mod Encoded

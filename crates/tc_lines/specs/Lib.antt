@@ -1,2 +1,5 @@
 pub mod Reading
 pub mod Answering
+pub mod Word
+pub mod Number
+pub mod Printed

@@ -1,4 +1,2 @@
-mod Numbers
 mod Segments
-mod Encoded
 pub mod Written

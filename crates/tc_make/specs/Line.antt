@@ -5,7 +5,7 @@ use Rattle.hex.specs.Hex.{decode_of}
 use Rattle.tc_link.specs.declared.command.Command.TheVariants.{Unlock, SetVr}
 use Rattle.tc_packet.specs.declared.segment.Part.TheVariants.{Unsegmented}
 use Rattle.tc_packet.specs.declared.segment.Segment.{Segment}
-use Rattle.tc_make.specs.Number.{number_of}
+use Rattle.tc_lines.specs.Number.{number_of}
 use Rattle.tc_make.specs.declared.fault.Reason.{Reason}
 use Rattle.tc_make.specs.declared.fault.Reason.TheVariants.{UnknownCommand, WordCount, BadNumber, BadHex}
 use Rattle.tc_link.specs.declared.frame.Header.{Header}

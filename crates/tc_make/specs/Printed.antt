@@ -1,8 +1,6 @@
 -- What lines are answered, as text: docs/reference/tcmake.md shows it.
 use Rattle.std.specs.Prelude.{ℕ, Bool, true, false, ◌==◌, if◌then◌else◌, List, [], ◌∷◌, ◌++◌, length, codes, decimal}
-use Rattle.std.specs.Int.{from_bool}
 use Rattle.std.specs.List.{flat_map}
-use Rattle.hex.specs.Hex.{encode_lower}
 use Rattle.tc_link.specs.declared.clcw.ClcwFields.{ClcwFields}
 use Rattle.tc_link.specs.declared.command.Command.TheVariants.{Unlock, SetVr}
 use Rattle.tc_link.specs.declared.command.Kind.{Kind}
@@ -17,17 +15,10 @@ use Rattle.tc_packet.specs.declared.packet.Packet.{Packet}
 use Rattle.tc_packet.specs.declared.segment.Part.{Part}
 use Rattle.tc_packet.specs.declared.segment.Part.TheVariants.{First, Continuing, Last, Unsegmented}
 use Rattle.tc_packet.specs.declared.segment.Segment.{Segment}
+pub use Rattle.tc_lines.specs.Printed.{octets_text, flag_text}
 use Rattle.tc_make.specs.declared.explaining.Explanation.{Explanation}
 use Rattle.tc_make.specs.declared.fault.Reason.{Reason}
 use Rattle.tc_make.specs.declared.fault.Reason.TheVariants.{UnknownCommand, WordCount, BadNumber, BadHex, BadScid, BadVcid, BadMap, BadApid, BadCount, BadSize, NoData, TooMuchData, BadClcw, NoMemory}
-
--- octets: two hexadecimal digits for each, in lower case
-abbrev pub octets_text : List ℕ → List ℕ
-octets_text octets = encode_lower octets
-
--- a flag: 1 where it is set, and 0 where it isn't
-abbrev pub flag_text : Bool → List ℕ
-flag_text flag = decimal (from_bool flag)
 
 -- why nothing is made of a line
 abbrev pub reason_text : Reason → List ℕ

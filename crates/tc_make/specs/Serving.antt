@@ -4,7 +4,7 @@ use Rattle.tc_lines.specs.Answering as lines
 use Rattle.tc_lines.specs.declared.answering.ServingFault.{ServingFault}
 use Rattle.tc_make.specs.Answer.{IsAnswer}
 use Rattle.tc_make.specs.Line.{line_of}
-use Rattle.tc_make.specs.Word.{words}
+use Rattle.tc_lines.specs.Word.{words}
 use Rattle.tc_make.specs.declared.ending.Ending.{Ending}
 
 -- how many octets a line may have, without its line feed

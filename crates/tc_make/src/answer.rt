@@ -7,7 +7,7 @@ ghost use Rattle.tc_link.specs.Frame.{IsWhole};
 ghost use Rattle.tc_make.specs.Line.{line_of};
 ghost use Rattle.tc_make.specs.Parts.{count_of};
 ghost use Rattle.tc_make.specs.Parting.{parting_reason_of};
-ghost use Rattle.tc_make.specs.Word.{words as words_of};
+ghost use Rattle.tc_lines.specs.Word.{words as words_of};
 
 use crate::ending::Ending;
 use crate::explained::{write_clcw, write_explained};

@@ -9,11 +9,12 @@ ghost use Rattle.tc_make.specs.Printed.{frame_fault_text, kind_text, fields_text
 use crate::ending::Ending;
 use crate::explaining::{Explanation, explain};
 use crate::fault::Reason;
-use crate::printed::{Digits, write_bad, write_named, write_refused, write_some};
+use crate::printed::{write_bad, write_named, write_refused, write_some};
 use std::alloc::Global;
 use std::io;
 use std::io::Write;
 use tc_fecf::{FieldFault, without_field};
+use tc_lines::Digits;
 use tc_link::{ClcwFields, Command, FrameFault, Header, Kind, read_clcw};
 use tc_packet::{Packet, Part, Segment, next_packet, read_segment};
 

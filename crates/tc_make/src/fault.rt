@@ -5,6 +5,7 @@ ghost use Rattle.tc_make.specs.Printed.{reason_text};
 
 use std::error::Error;
 use std::fmt;
+use tc_lines::BadNumber;
 
 /// Why nothing is made of a line. Where several apply, the first of this list is told; but want of memory is told as soon
 /// as it is met, and a frame that has no room for its frame error control field is told last.
@@ -73,3 +74,13 @@ impl fmt::Display for Reason {
 }
 
 impl Error for Reason {}
+
+impl From<BadNumber> for Reason {
+    ghost use Rattle.tc_make.specs.declared.fault.Reason.{Reason};
+
+    ghost from_gives = { λ fault reason. reason ≡ Reason.BadNumber };
+
+    fn from(_: BadNumber) -> Reason {
+        Reason::BadNumber
+    }
+}

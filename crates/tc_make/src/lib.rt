@@ -15,7 +15,6 @@ mod fault;
 mod frames;
 mod laws;
 mod line;
-mod number;
 mod octets;
 mod packets;
 mod parting;

@@ -2,14 +2,14 @@
 
 ghost use Rattle.std.specs.Prelude.{◌≡◌, ◌⊎◌, map, IfOk, IfErr, IsErr, MatchResult};
 ghost use Rattle.hex.specs.Hex.{decode_of};
-ghost use Rattle.tc_make.specs.Word.{is_separator as is_separator_octet, words as words_of};
+ghost use Rattle.tc_lines.specs.Word.{words as words_of};
 ghost use Rattle.tc_make.specs.Line.{line_of, packet_of, ad_of, bd_of, unlock_of, setvr_of, segments_of, explain_of, clcw_of, segment_of, stream_of, sizing_of, framed_of, parted_of, ad_header as ad_header_of, bd_header as bd_header_of, is_comment as is_comment_word};
 
 use crate::fault::Reason;
-use crate::number::{large_number, small_number};
 use crate::octets::Octets;
 use hex::FromHexError;
 use std::alloc::{AllocError, Global};
+use tc_lines::{is_separator, large_number, small_number};
 use tc_link::{Command, Header};
 use tc_packet::{Part, Segment};
 
@@ -105,12 +105,6 @@ fn words(alloc: Global, line: &[u8]) -> Result<Vec<&[u8]>, AllocError>
     line.split(|octet| is_separator(*octet))
         .filter(|word| !word.is_empty())
         .collect(alloc)
-}
-
-fn is_separator(octet: u8) -> bool
-    ensures { result ≡ is_separator_octet octet }
-{
-    octet == b' ' || octet == b'\t' || octet == b'\r'
 }
 
 fn is_comment(word: &[u8]) -> bool

@@ -1,4 +1,1 @@
-pub mod Encoded
 mod Lines
-mod Numbers
-mod Words

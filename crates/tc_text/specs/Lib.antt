@@ -1,5 +1,5 @@
-pub mod Word
-pub mod Number
+pub use Rattle.tc_lines.specs.Word
+pub use Rattle.tc_lines.specs.Number
 pub mod Line
 pub mod LiveLine
 pub mod Reason

@@ -1,7 +1,7 @@
 -- What a line says to a live receiver, by its words.
 use Rattle.std.specs.Prelude.{ℕ, Bool, true, false, ◌==◌, List, [], ◌∷◌, codes, Some, None, Result, Ok, Err, if◌then◌else◌}
 use Rattle.tc_text.specs.Line.{is, line_of, three_of}
-use Rattle.tc_text.specs.Number.{number_of}
+use Rattle.tc_lines.specs.Number.{number_of}
 use Rattle.tc_text.specs.declared.fault.Reason.{Reason}
 use Rattle.tc_text.specs.declared.fault.Reason.TheVariants.{WordCount, BadNumber}
 use Rattle.tc_text.specs.declared.line.Line.{Line}

@@ -1,16 +1,12 @@
 -- What answers, reasons and faults are printed as: docs/reference/scripts.md shows them, under "Answers" and "Faults".
-use Rattle.std.specs.Prelude.{ℕ, Bool, ◌==◌, if◌then◌else◌, List, ◌++◌, length, codes, decimal}
-use Rattle.std.specs.Int.{from_bool, to_be_bytes, w32}
-use Rattle.hex.specs.Hex.{encode_lower}
+use Rattle.std.specs.Prelude.{ℕ, ◌==◌, if◌then◌else◌, List, ◌++◌, length, codes, decimal}
+use Rattle.std.specs.Int.{to_be_bytes, w32}
 use Rattle.tc_channel.specs.declared.reply.Delivery.{Delivery}
+pub use Rattle.tc_lines.specs.Printed.{octets_text, flag_text}
 use Rattle.tc_text.specs.declared.fault.Reason.{Reason}
 use Rattle.tc_text.specs.declared.fault.Reason.TheVariants.{UnknownCommand, WordCount, BadNumber, BadHex, TooLate, NoChannel, DoubleChannel, UnknownChannel, BadVcid, BadWindow, BadBuffer, BadApid, DoubleApid, BadCapacity, NoMemory, BadOption, BadMap, DoubleMap, BadUnits, PlainMap}
 use Rattle.tc_text.specs.declared.fault.ScriptFault.{ScriptFault}
 use Rattle.tc_text.specs.declared.fault.ScriptFault.TheVariants as faults
-
--- octets: two hexadecimal digits for each, in lower case
-abbrev pub octets_text : List ℕ → List ℕ
-octets_text octets = encode_lower octets
 
 -- a unit: its octets, or a mark of its own where it has none
 abbrev pub unit_text : List ℕ → List ℕ
@@ -19,10 +15,6 @@ unit_text octets = if length octets == 0 then codes "-" else octets_text octets
 -- a control word: its four octets, the most significant first
 abbrev pub word_text : ℕ → List ℕ
 word_text word = octets_text (to_be_bytes w32 word)
-
--- a flag: 1 where it is set, and 0 where it isn't
-abbrev pub flag_text : Bool → List ℕ
-flag_text flag = decimal (from_bool flag)
 
 -- what became of a unit: `queued Q dropped D rest R`
 abbrev pub delivery_text : Delivery → List ℕ

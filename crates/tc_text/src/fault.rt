@@ -7,6 +7,7 @@ ghost use Rattle.tc_text.specs.Reason.{reason_of};
 use std::error::Error;
 use std::fmt;
 use tc_channel::SettingsFault;
+use tc_lines::BadNumber;
 
 /// Why a line is bad. Where several apply, the first of this list is told; but a bad option comes right before
 /// what is too late, and want of memory is told as soon as it is met.
@@ -93,6 +94,16 @@ impl fmt::Display for Reason {
 }
 
 impl Error for Reason {}
+
+impl From<BadNumber> for Reason {
+    ghost use Rattle.tc_text.specs.declared.fault.Reason.{Reason};
+
+    ghost from_gives = { λ fault reason. reason ≡ Reason.BadNumber };
+
+    fn from(_: BadNumber) -> Reason {
+        Reason::BadNumber
+    }
+}
 
 impl From<SettingsFault> for Reason {
     ghost from_gives = { λ fault reason. reason ≡ reason_of fault };

@@ -17,6 +17,7 @@ pub use fault::{Reason, ScriptFault};
 pub use line::{Line, parse_line};
 pub use live::{LiveLine, parse_live_line};
 pub use noticing::Noticing;
-pub use printed::{Delivered, Digits, UnitDigits, WordDigits};
+pub use printed::{Delivered, UnitDigits, WordDigits};
 pub use reading::{MAX_OCTETS, next_line, read_whole};
 pub use spacecraft::SpacecraftId;
+pub use tc_lines::Digits;

@@ -1,17 +1,15 @@
 //! Lines of a script.
 
 ghost use Rattle.std.specs.Prelude.{◌≡◌, ◌⊎◌, option_map, IfOk, IfErr, MatchResult};
-ghost use Rattle.tc_text.specs.Word.{words};
+ghost use Rattle.tc_lines.specs.Word.{words};
 ghost use Rattle.tc_text.specs.Line.{line_of, channel_of, segmented_of, queue_of, map_of, frame_of, release_of, take_of, unit_of, clcw_of};
 
 use crate::fault::Reason;
-use crate::word::{
-    large_number, last_argument, next_argument, next_word, no_more, small_number, three_arguments,
-    two_arguments,
-};
+use crate::word::{last_argument, next_argument, no_more, three_arguments, two_arguments};
 use hex::FromHexError;
 use std::alloc::Global;
 use tc_channel::Octets;
+use tc_lines::{large_number, next_word, small_number};
 
 /// What a line says.
 #[derive(Debug, Drop, PartialEq, Eq)]

@@ -1,13 +1,14 @@
 //! Lines of a live receiver: those of a script, and two more.
 
 ghost use Rattle.std.specs.Prelude.{◌≡◌, ◌⊎◌, IfOk, IfErr, MatchResult};
-ghost use Rattle.tc_text.specs.Word.{words};
+ghost use Rattle.tc_lines.specs.Word.{words};
 ghost use Rattle.tc_text.specs.LiveLine.{live_line_of, link_of, report_of, flag_of};
 
 use crate::fault::Reason;
 use crate::line::{Line, parse_line};
-use crate::word::{next_argument, next_word, no_more, small_number, three_arguments};
+use crate::word::{next_argument, no_more, three_arguments};
 use std::alloc::Global;
+use tc_lines::{next_word, small_number};
 use tc_link::Link;
 
 /// What a line says to a live receiver.

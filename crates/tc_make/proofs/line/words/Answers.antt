@@ -2,7 +2,7 @@ use Rattle.std.proofs.Common.{rules, tests, ap, ◌∙◌}
 use Rattle.std.specs.Slice.Iter.{split_rest, split_done, split_callee}
 use Rattle.std.proofs.lemmas.Iterator.Consumers.{YieldsList-from_filter, map_from_collect}
 use Rattle.std.proofs.lemmas.Iterator.Splits.{YieldsList-from_slice_split}
-use Rattle.tc_make.specs.Word.{is_separator, is_filled, words}
+use Rattle.tc_lines.specs.Word.{is_separator, is_filled, words}
 use Rattle.tc_make.proofs.line.words.Goals as goal
 
 pub returns : goal.returns

@@ -1,6 +1,6 @@
 use Rattle.std.proofs.Common.{◌≡◌, ◌∷◌, refl, ◌∙◌, ap}
 use Rattle.std.proofs.lemmas.Result.{err_from_is_err_and}
-use Rattle.tc_text.specs.Word.{words}
+use Rattle.tc_lines.specs.Word.{words}
 use Rattle.tc_text.specs.Line.{three_of}
 use Rattle.tc_text.proofs.Lines.{three-more}
 use Rattle.tc_text.proofs.word.three_arguments.Goals as goal

@@ -1,0 +1,91 @@
+-- The first word of octets: separators, then what stands before the next separator.
+use Rattle.std.proofs.Common.{rules, ◌≡◌, ℕ, ◌<◌, Bool, true, false, not, cond, List, [], ◌∷◌, length, take, drop, filter, refl, sym, ◌∙◌, ap, arith}
+use Rattle.std.specs.List.{slice_split, onto_first, take_while}
+use Rattle.std.proofs.lemmas.List.Splits.{slice_split-cons_yes, slice_split-cons_no}
+use Rattle.std.proofs.lemmas.List.Sums.{take_while-cons}
+use Rattle.tc_lines.specs.Word.{is_separator, is_filled, words}
+
+pub words-separator : (x : ℕ) (xs : List ℕ) → is_separator x ≡ true → words (x ∷ xs) ≡ words xs
+unfolding words
+words-separator x xs e = ap (filter is_filled) (slice_split-cons_yes is_separator x xs e)
+
+-- separators in front make no word
+pub words-gap : (xs : List ℕ) → words (drop (length (take_while is_separator xs)) xs) ≡ words xs
+words-gap [] = refl
+words-gap (x ∷ xs) = rw take_while-cons (at (words-gap xs) (is_separator x) refl)
+  where
+    at : words (drop (length (take_while is_separator xs)) xs) ≡ words xs → (b : Bool) → is_separator x ≡ b → words (drop (length (cond b (x ∷ take_while is_separator xs) [])) (x ∷ xs)) ≡ words (x ∷ xs)
+    at h true e = h ∙ sym (words-separator x xs e)
+    at h false e = refl
+
+abbrev pub is_inner : ℕ → Bool
+is_inner octet = not (is_separator octet)
+
+-- after the separators in front a word starts, unless nothing is left
+pub word-starts : (xs : List ℕ) → 0 < length (drop (length (take_while is_separator xs)) xs)
+    → 0 < length (take_while is_inner (drop (length (take_while is_separator xs)) xs))
+word-starts [] = λ h. h
+word-starts (x ∷ xs) = rw take_while-cons (at (word-starts xs) (is_separator x) refl)
+  where
+    at : (0 < length (drop (length (take_while is_separator xs)) xs) → 0 < length (take_while is_inner (drop (length (take_while is_separator xs)) xs)))
+        → (b : Bool) → is_separator x ≡ b → 0 < length (drop (length (cond b (x ∷ take_while is_separator xs) [])) (x ∷ xs))
+        → 0 < length (take_while is_inner (drop (length (cond b (x ∷ take_while is_separator xs) [])) (x ∷ xs)))
+    at more true e h = more h
+    at more false e h = rw (take_while-cons, e) (omega arith)
+
+-- the first piece, and the words of what follows it
+pub record HasFirst (xs : List ℕ) (n : ℕ) (rest : List (List ℕ)) : Type 0 where
+  pub pieces : slice_split is_separator xs ≡ take n xs ∷ rest
+  pub more : words (drop n xs) ≡ filter is_filled rest
+
+pub first-piece : (xs : List ℕ) → (rest : List (List ℕ)) × HasFirst xs (length (take_while is_inner xs)) rest
+unfolding words
+first-piece [] = ([], record { pieces = refl; more = refl })
+first-piece (x ∷ xs) = rw take_while-cons (at (is_separator x) refl (first-piece xs))
+  where
+    at : (b : Bool) → is_separator x ≡ b
+        → (rest : List (List ℕ)) × HasFirst xs (length (take_while is_inner xs)) rest
+        → (rest : List (List ℕ)) × HasFirst (x ∷ xs) (length (cond (not b) (x ∷ take_while is_inner xs) [])) rest
+    at true e h = (
+      slice_split is_separator xs,
+      record {
+        pieces = slice_split-cons_yes is_separator x xs e;
+        more = words-separator x xs e;
+      },
+    )
+    at false e h = (
+      h.0,
+      record {
+        pieces = slice_split-cons_no is_separator x xs e ∙ ap (onto_first x) h.1.pieces;
+        more = h.1.more;
+      },
+    )
+
+pub filter-filled : (first : List ℕ) (rest : List (List ℕ)) → 0 < length first → filter is_filled (first ∷ rest) ≡ first ∷ filter is_filled rest
+filter-filled [] rest h = absurd (omega arith)
+filter-filled (x ∷ xs) rest h = refl
+
+pub words-first : (xs : List ℕ) → 0 < length (take_while is_inner xs)
+    → words xs ≡ take (length (take_while is_inner xs)) xs ∷ words (drop (length (take_while is_inner xs)) xs)
+unfolding words
+words-first xs h =
+    let p = first-piece xs in
+    let filled : 0 < length (take (length (take_while is_inner xs)) xs) = search (rules, h) in
+    ap (filter is_filled) p.1.pieces ∙ filter-filled _ p.0 filled ∙ ap (λ w. take (length (take_while is_inner xs)) xs ∷ w) (sym p.1.more)
+
+pub words-none : (xs : List ℕ) → length xs ≡ 0 → words xs ≡ []
+unfolding words
+words-none [] h = refl
+words-none (x ∷ xs) h = absurd (omega arith)
+
+-- the first word of octets, where the separators in front were left out
+pub words-split : (octets rest word after : List ℕ) (g n : ℕ)
+    → g ≡ length (take_while is_separator octets) → rest ≡ drop g octets → 0 < length rest
+    → n ≡ length (take_while is_inner rest) → word ≡ take n rest → after ≡ drop n rest
+    → (0 < n) × (words octets ≡ word ∷ words after)
+words-split octets rest word after g n eg er h en ew ea =
+    let at : rest ≡ drop (length (take_while is_separator octets)) octets = rw eg at er in
+    let starts : 0 < length (take_while is_inner rest) = rw at (word-starts octets (rw at at h)) in
+    let gap : words octets ≡ words rest = sym (words-gap octets) ∙ sym (ap words at) in
+    let first : words rest ≡ word ∷ words after = rw (ew, ea, en) (words-first rest starts) in
+    (rw en starts, gap ∙ first)

@@ -1,6 +1,0 @@
-use Rattle.std.proofs.Common.{◌≡◌, ◌+◌, ◌≤◌, ◌^◌, take}
-use Rattle.tc_make.specs.Number.{spelled}
-use Rattle.tc_make.proofs.number.decimal.Given as goal
-
-abbrev pub invariant-loop-digit : goal.invariant-loop-digit
-invariant-loop-digit l = (l.number ≡ spelled (take l.digit-index l.word)) × (l.number + 1 ≤ 10 ^ l.digit-index)
