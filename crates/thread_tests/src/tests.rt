@@ -4,52 +4,26 @@ mod six_threads;
 mod together;
 
 ghost use Rattle.std.specs.Prelude.{◌≡◌, ◌∷◌, [], All};
-ghost use Rattle.tc_station.specs.StationSettings.{vcids_of};
 
 use std::alloc::Global;
 use std::process::Abort;
 use std::sync::Wait;
-use tc_channel::{Channel, Items, QueueSetting, Settings};
-use tc_link::Link;
+use tc_channel::{Channel, Event, Items};
 use tc_station::{CloseFault, Operator, Station};
-
-const NO_FLAG: Link = Link {
-    no_rf: false,
-    no_bit_lock: false,
+use test_parts::{
+    NO_FLAG, WANTED, Wanted, ad_frame, is_frame, list_of, octets_of, offer, settings,
 };
 
-// A channel with the window 10, V(R) 0 first and one queue, of this capacity for APID 5, and no chosen MAP.
-fn settings(rt: &impl Abort, alloc: Global, vcid: u8, buffer: u8, capacity: u16) -> Settings
-    ensures { result.vcid ≡ vcid }
-{
-    let queue = QueueSetting { apid: 5, capacity };
-    let queues = Vec::from_slice(alloc, &[queue]).expect(rt, "queues");
-    Settings {
-        vcid,
-        width: 10,
-        buffer,
-        first: 0,
-        segmented: true,
-        queues: Items::from(queues),
-        maps: Items::from(Vec::new(alloc)),
-    }
-}
-
-// A station for spacecraft 42.
-fn new_station(rt: &impl Abort, alloc: Global, list: Vec<Settings>) -> Station
-    ensures { result.vcids ≡ vcids_of list.items }
-{
-    Station::new(alloc, 42, list).expect(rt, "a station")
-}
-
-// A station with virtual channels 1 and 2, which have buffers of this capacity and queues of one packet.
+// A station for spacecraft 42 with virtual channels 1 and 2, which have buffers of this capacity and queues of one packet.
 fn station_of_two(rt: &impl Abort, alloc: Global, buffer: u8) -> Station
     ensures { result.vcids ≡ 1 ∷ 2 ∷ [] }
 {
-    let first = settings(rt, alloc, 1, buffer, 1);
-    let second = settings(rt, alloc, 2, buffer, 1);
+    let first = Wanted { buffer, ..WANTED };
+    let second = Wanted { vcid: 2, ..first };
+    let first = settings(rt, alloc, &first);
+    let second = settings(rt, alloc, &second);
     let list = vec![in alloc; first, second].expect(rt, "a list");
-    new_station(rt, alloc, list)
+    Station::new(alloc, 42, list).expect(rt, "a station")
 }
 
 fn closed(rt: &impl Abort, station: Station, operators: Vec<Operator>) -> Vec<Channel>

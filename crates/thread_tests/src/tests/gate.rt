@@ -6,7 +6,6 @@ ghost use Rattle.tc_station.specs.Tally.{IsOurs};
 use super::*;
 use std::sync::atomic::{AtomicBool, Ordering};
 use std::thread::{Threads, join, yield_now};
-use tc_channel::Octets;
 use tc_station::{Gate, Job, Order, WorkList};
 use tc_status::Watcher;
 
@@ -73,25 +72,22 @@ fn comes_true(flag: &AtomicBool, turns: u32) -> bool {
     false
 }
 
-// One job: to bring this frame.
-fn list_of_one(rt: &impl Abort, alloc: Global, vcid: u8, octets: &[u8]) -> WorkList {
-    let octets = Octets::copied(alloc, octets).expect(rt, "octets");
+// One job: to unlock the channel, by a frame with this third octet.
+fn unlock(rt: &impl Abort, alloc: Global, vcid: u8, third: u8) -> WorkList {
+    let octets = [0x30, 0x2a, third, 0x05, 0x00, 0x00];
     let job = Job {
-        line: u32::from(vcid),
-        order: Order::Bring(octets),
+        line: 1,
+        order: Order::Bring(octets_of(rt, alloc, &octets)),
     };
     WorkList {
         vcid,
-        jobs: Items::from(vec![in alloc; job].expect(rt, "jobs")),
+        jobs: Items::from(list_of(rt, alloc, job)),
     }
 }
 
 // An Unlock for each channel.
 fn two_unlocks(rt: &impl Abort, alloc: Global) -> [WorkList; 2] {
-    [
-        list_of_one(rt, alloc, 1, &[0x30, 0x2a, 0x04, 0x05, 0x00, 0x00]),
-        list_of_one(rt, alloc, 2, &[0x30, 0x2a, 0x08, 0x05, 0x00, 0x00]),
-    ]
+    [unlock(rt, alloc, 1, 0x04), unlock(rt, alloc, 2, 0x08)]
 }
 
 // A station with channels 1 and 2, and two operators.
@@ -132,14 +128,6 @@ fn workers_of_two_channels_meet(rt: HostRuntime) {
     assert_eq!(rt; channels.len(), 2);
     assert_eq!(rt; channels[0].journal().len(), 1);
     assert_eq!(rt; channels[1].journal().len(), 1);
-}
-
-#[test]
-fn who_passes_alone_says_so(rt: HostRuntime) {
-    let gate = Meeting::new(1_000);
-    gate.pass(1);
-    assert!(rt; gate.came() == (true, false));
-    assert!(rt; gate.has_run_out());
 }
 
 // Who passes for channel 1 says that it is inside, and then waits until it is told something, for so many turns at most. Others wait

@@ -7,18 +7,6 @@ use super::*;
 use std::thread::{Threads, join_mut};
 use tc_station::ReleaseRefused;
 
-// The third octet of the frames for virtual channels 1 and 2.
-pub(super) const TO_CHANNEL_1: u8 = 0x04;
-
-pub(super) const TO_CHANNEL_2: u8 = 0x08;
-
-// The AD frame of 13 octets with this third octet and this N(S) that carries one packet.
-pub(super) fn ad_frame(third: u8, ns: u8) -> [u8; 13] {
-    [
-        0x00, 0x2a, third, 0x0c, ns, 0xc0, 0x10, 0x05, 0xc0, 0x00, 0x00, 0x00, 0xaa,
-    ]
-}
-
 // Whether the frame was not refused.
 fn bring(rt: &impl Wait, station: &Station, operator: &mut Operator, frame: &[u8]) -> bool
     requires { IsOurs station.now operator.old }
@@ -38,19 +26,12 @@ fn release(rt: &impl Wait, station: &Station, operator: &mut Operator, vcid: u8)
     }
 }
 
-// Brings the frame with this third octet and this N(S), and releases its channel.
-fn turn(
-    rt: &impl Wait,
-    station: &Station,
-    operator: &mut Operator,
-    channel: (u8, u8),
-    ns: u8,
-) -> bool
+// Brings the channel's frame with this N(S), and releases the channel.
+fn turn(rt: &impl Wait, station: &Station, operator: &mut Operator, vcid: u8, ns: u8) -> bool
     requires { IsOurs station.now operator.old }
     ensures { IsOurs station.now operator.new }
 {
-    let (third, vcid) = channel;
-    let brought = bring(rt, station, operator, &ad_frame(third, ns));
+    let brought = bring(rt, station, operator, &ad_frame(vcid, ns));
     let released = release(rt, station, operator, vcid);
     brought && released
 }
@@ -63,8 +44,8 @@ fn take_turns(rt: &impl Wait, station: &Station, operator: &mut Operator) -> boo
     let mut done = true;
     for number in 0..300u16 {
         let ns = (number % 256) as u8;
-        let first = turn(rt, station, operator, (TO_CHANNEL_1, 1), ns);
-        let second = turn(rt, station, operator, (TO_CHANNEL_2, 2), ns);
+        let first = turn(rt, station, operator, 1, ns);
+        let second = turn(rt, station, operator, 2, ns);
         done = done && first && second;
     }
     done
@@ -116,7 +97,7 @@ fn two_operators_on_one_station(rt: HostRuntime) {
     assert!(rt; share(&rt, &station, &mut one, &mut two));
     let first = counted_by_both(&one, &two, 1);
     let second = counted_by_both(&one, &two, 2);
-    let others = vec![in rt.alloc(); one].expect(&rt, "a list");
+    let others = list_of(&rt, rt.alloc(), one);
     let channels = close(&rt, station, others, two);
     assert_eq!(rt; channels.len(), 2);
     check_journal(&rt, &channels[0], 1, first);

@@ -7,27 +7,26 @@ ghost use Rattle.std.specs.Prelude.{◌≡◌, ◌∷◌, [], All};
 ghost use Rattle.std.specs.Thread.{IsSync};
 ghost use Rattle.tc_station.specs.Tally.{IsOurs};
 
-use super::sharing::{TO_CHANNEL_1, ad_frame};
 use super::*;
 use std::thread::{Threads, for_each_mut, join, join_mut, yield_now};
-use tc_channel::{Delivery, Event, FrameReply};
-use tc_link::{read_clcw, read_frame};
+use tc_channel::{Delivery, FrameReply};
+use tc_link::read_clcw;
 use tc_station::{ReleaseRefused, TakeRefused};
 use tc_status::Watcher;
 
-// A station with virtual channel 1.
+// Virtual channel 1 with room for 64 fields, and a queue of capacity 256 for APID 5.
+const CHANNEL: Wanted<'static> = Wanted {
+    buffer: 64,
+    queues: &[(5, 256)],
+    ..WANTED
+};
+
+// A station with that channel.
 fn station_of_one(rt: &impl Abort, alloc: Global) -> Station
     ensures { result.vcids ≡ 1 ∷ [] }
 {
-    let list = vec![in alloc; settings_of_the_channel(rt, alloc)].expect(rt, "a list");
-    new_station(rt, alloc, list)
-}
-
-// Room for 64 fields, and a queue of capacity 256 for APID 5.
-fn settings_of_the_channel(rt: &impl Abort, alloc: Global) -> Settings
-    ensures { result.vcid ≡ 1 }
-{
-    settings(rt, alloc, 1, 64, 256)
+    let list = list_of(rt, alloc, settings(rt, alloc, &CHANNEL));
+    Station::new(alloc, 42, list).expect(rt, "a station")
 }
 
 // What an operator does over and over.
@@ -92,7 +91,7 @@ impl Worker {
         requires { IsOurs station.now self.old.operator }
         ensures { IsOurs station.now self.new.operator }
     {
-        let octets = ad_frame(TO_CHANNEL_1, ns);
+        let octets = ad_frame(1, ns);
         match station.bring(rt, &mut self.operator, &octets) {
             Ok(brought) => self.note(Answer::Frame(brought.reply)),
             Err(_) => false,
@@ -239,11 +238,6 @@ fn counted(rt: &impl Abort, workers: &[Worker]) -> u64 {
     sum
 }
 
-fn take_in(rt: &impl Abort, channel: &mut Channel, octets: &[u8]) -> FrameReply {
-    let frame = read_frame(octets).expect(rt, "a frame");
-    channel.frame(&frame).expect(rt, "a reply")
-}
-
 fn let_out(rt: &impl Abort, channel: &mut Channel) -> Delivery {
     channel.release().expect(rt, "a delivery")
 }
@@ -255,7 +249,9 @@ fn take(rt: &impl Abort, channel: &mut Channel, apid: u16) -> Vec<u8> {
 // What a channel answers to an event.
 fn answer_to(rt: &impl Abort, channel: &mut Channel, event: &Event) -> Answer {
     match event {
-        Event::Frame(octets) => Answer::Frame(take_in(rt, channel, octets.as_slice())),
+        Event::Frame(octets) => {
+            Answer::Frame(offer(rt, channel, octets.as_slice()).expect(rt, "a reply"))
+        }
         Event::Release => Answer::Release(let_out(rt, channel)),
         Event::Take(apid) => Answer::Packet(take(rt, channel, *apid)),
         Event::TakeUnit(_) => panic!(rt; "a unit, which nobody takes"),
@@ -271,8 +267,7 @@ fn check_alike(rt: &impl Abort, channel: &Channel, closed: &Channel) {
 
 // What a new channel answers to the events of the closed one's journal. It is then as the closed one.
 fn answers_again(rt: &impl Abort, alloc: Global, closed: &Channel) -> Vec<Answer> {
-    let settings = settings_of_the_channel(rt, alloc);
-    let mut channel = Channel::new(alloc, settings).expect(rt, "a channel");
+    let mut channel = Channel::new(alloc, settings(rt, alloc, &CHANNEL)).expect(rt, "a channel");
     let mut answers = Vec::new(alloc);
     for event in closed.journal() {
         let answer = answer_to(rt, &mut channel, event);
@@ -315,13 +310,6 @@ fn check_as_often(rt: &impl Abort, all: &[Answer], one: &[Answer], two: &[Answer
     }
 }
 
-pub(super) fn is_frame(event: &Event, frame: &[u8]) -> bool {
-    match event {
-        Event::Frame(octets) => octets.as_slice() == frame,
-        _ => false,
-    }
-}
-
 // The journal has this frame twice.
 fn check_frame(rt: &impl Abort, journal: &[Event], frame: &[u8]) {
     let mut times: u32 = 0;
@@ -336,7 +324,7 @@ fn check_frame(rt: &impl Abort, journal: &[Event], frame: &[u8]) {
 // Each frame was brought by both bringers.
 fn check_frames(rt: &impl Abort, journal: &[Event]) {
     for ns in 0..200u8 {
-        check_frame(rt, journal, &ad_frame(TO_CHANNEL_1, ns));
+        check_frame(rt, journal, &ad_frame(1, ns));
     }
 }
 

@@ -4,11 +4,13 @@ ghost use Rattle.std.specs.Prelude.{All};
 ghost use Rattle.tc_station.specs.Tally.{IsOurs};
 
 use super::gate::{do_lists, new_crew};
-use super::sharing::{TO_CHANNEL_1, TO_CHANNEL_2};
-use super::six_threads::is_frame;
 use super::*;
-use tc_channel::{Event, Octets};
 use tc_station::{FreeGate, Job, Order, WorkList};
+
+// The third octet of the frames for virtual channels 1 and 2.
+const TO_CHANNEL_1: u8 = 0x04;
+
+const TO_CHANNEL_2: u8 = 0x08;
 
 // How many frames each worker brings to each channel.
 const FRAMES: u8 = 200;
@@ -21,7 +23,7 @@ fn frame(third: u8, worker: u8, number: u8) -> [u8; 8] {
 fn bring(rt: &impl Abort, alloc: Global, octets: &[u8]) -> Job {
     Job {
         line: 1,
-        order: Order::Bring(Octets::copied(alloc, octets).expect(rt, "octets")),
+        order: Order::Bring(octets_of(rt, alloc, octets)),
     }
 }
 

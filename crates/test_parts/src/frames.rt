@@ -1,0 +1,123 @@
+//! Frames of spacecraft 42, and what they are answered.
+
+use crate::growths::octets_of;
+use std::alloc::Global;
+use std::process::Abort;
+use tc_channel::{ChannelWith, Delivery, Event, FrameReply, Journal, NoMemory};
+use tc_link::{Act, Link, read_frame};
+
+/// A link without flags.
+pub const NO_FLAG: Link = Link {
+    no_rf: false,
+    no_bit_lock: false,
+};
+
+/// A packet of APID 5.
+pub const PACKET: [u8; 7] = [0x10, 0x05, 0xc0, 0x00, 0x00, 0x00, 0xaa];
+
+/// The Type-AD frame with N(S) 0 for virtual channel 1 that carries `PACKET`.
+pub const FRAME: [u8; 13] = [
+    0x00, 0x2a, 0x04, 0x0c, 0x00, 0xc0, 0x10, 0x05, 0xc0, 0x00, 0x00, 0x00, 0xaa,
+];
+
+/// As `FRAME`, with N(S) 1.
+pub const NEXT: [u8; 13] = [
+    0x00, 0x2a, 0x04, 0x0c, 0x01, 0xc0, 0x10, 0x05, 0xc0, 0x00, 0x00, 0x00, 0xaa,
+];
+
+/// `PACKET` in a Type-BD frame.
+pub const BD_PACKET: [u8; 13] = [
+    0x20, 0x2a, 0x04, 0x0c, 0x00, 0xc0, 0x10, 0x05, 0xc0, 0x00, 0x00, 0x00, 0xaa,
+];
+
+/// A unit of MAP 3.
+pub const UNIT: [u8; 2] = [0xaa, 0xbb];
+
+/// The Type-AD frame with N(S) 0 for virtual channel 1 that carries `UNIT` on MAP 3.
+pub const AD_UNIT: [u8; 8] = [0x00, 0x2a, 0x04, 0x07, 0x00, 0xc3, 0xaa, 0xbb];
+
+/// The same by Type-BD.
+pub const BD_UNIT: [u8; 8] = [0x20, 0x2a, 0x04, 0x07, 0x00, 0xc3, 0xaa, 0xbb];
+
+/// An Unlock for virtual channel 1.
+pub const UNLOCK: [u8; 6] = [0x30, 0x2a, 0x04, 0x05, 0x00, 0x00];
+
+/// No unit was ended.
+pub const NOTHING: Delivery = Delivery {
+    queued: 0,
+    dropped: 0,
+    rest: false,
+};
+
+/// One packet was queued, and nothing was left; or one whole unit was.
+pub const ONE: Delivery = Delivery {
+    queued: 1,
+    dropped: 0,
+    rest: false,
+};
+
+/// The reply to a Type-AD frame that is accepted and buffered.
+pub const BUFFERED: FrameReply = FrameReply {
+    act: Act {
+        event: 1,
+        accepted: true,
+    },
+    delivery: NOTHING,
+};
+
+/// The reply to a Type-AD frame for whose field there is no room.
+pub const NO_ROOM: FrameReply = FrameReply {
+    act: Act {
+        event: 2,
+        accepted: false,
+    },
+    delivery: NOTHING,
+};
+
+/// The reply to a Type-AD frame that comes again.
+pub const BEHIND: FrameReply = FrameReply {
+    act: Act {
+        event: 4,
+        accepted: false,
+    },
+    delivery: NOTHING,
+};
+
+/// The reply to a Type-BD frame whose packet or unit is queued.
+pub const DELIVERED: FrameReply = FrameReply {
+    act: Act {
+        event: 6,
+        accepted: true,
+    },
+    delivery: ONE,
+};
+
+/// `FRAME`, for this virtual channel and with this N(S).
+pub fn ad_frame(vcid: u8, ns: u8) -> [u8; 13] {
+    let third = vcid.wrapping_mul(4);
+    [
+        0x00, 0x2a, third, 0x0c, ns, 0xc0, 0x10, 0x05, 0xc0, 0x00, 0x00, 0x00, 0xaa,
+    ]
+}
+
+/// The event of a frame with these octets. One growth may be refused.
+pub fn frame_event(rt: &impl Abort, alloc: Global, octets: &[u8]) -> Event {
+    Event::Frame(octets_of(rt, alloc, octets))
+}
+
+/// Whether the event is of a frame with these octets.
+pub fn is_frame(event: &Event, frame: &[u8]) -> bool {
+    match event {
+        Event::Frame(octets) => octets.as_slice() == frame,
+        _ => false,
+    }
+}
+
+/// What a channel answers to the frame at the front of these octets.
+pub fn offer<J: Journal>(
+    rt: &impl Abort,
+    channel: &mut ChannelWith<J>,
+    octets: &[u8],
+) -> Result<FrameReply, NoMemory> {
+    channel.frame(&read_frame(octets).expect(rt, "a frame"))
+}

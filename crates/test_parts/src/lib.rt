@@ -1,0 +1,18 @@
+//! What tests of several crates share: frames and replies, settings made of data, growths that are refused once, and streams that
+//! fail.
+#![tactic(auto)]
+
+mod frames;
+mod growths;
+mod streams;
+mod wanted;
+
+pub use frames::{
+    AD_UNIT, BD_PACKET, BD_UNIT, BEHIND, BUFFERED, DELIVERED, FRAME, NEXT, NO_FLAG, NO_ROOM,
+    NOTHING, ONE, PACKET, UNIT, UNLOCK, ad_frame, frame_event, is_frame, offer,
+};
+pub use growths::{
+    check_item, check_texts, copied, is_answered, is_taken, list_of, note, octets_of, room,
+};
+pub use streams::{Failing, Watched};
+pub use wanted::{WANTED, Wanted, settings};
