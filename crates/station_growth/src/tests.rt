@@ -5,89 +5,33 @@ mod desk;
 mod station;
 mod work;
 
-ghost use Rattle.std.specs.Prelude.{◌≡◌, ◌∷◌, [], All, length};
+ghost use Rattle.std.specs.Prelude.{◌≡◌, All, length};
 ghost use Rattle.tc_station.specs.Tally.{IsOurs};
 
 use std::alloc::Global;
 use std::process::Abort;
-use tc_channel::{
-    Channel, Delivery, Event, FrameReply, Items, MapSetting, Octets, QueueSetting, Settings,
-};
-use tc_link::{Act, Link};
+use tc_channel::{Channel, Delivery, Event, FrameReply, Items, Settings};
+use tc_link::Act;
 use tc_station::{CloseFault, Operator, OperatorsFault, Refusal, Station, StationFault};
-
-// No unit was ended.
-const NOTHING: Delivery = Delivery {
-    queued: 0,
-    dropped: 0,
-    rest: false,
+use test_parts::{
+    AD_UNIT, BD_UNIT, BEHIND, BUFFERED, DELIVERED, FRAME, NEXT, NO_FLAG, NO_ROOM, ONE, PACKET,
+    UNIT, UNLOCK, WANTED, Wanted, frame_event, is_answered, is_taken, list_of, note, octets_of,
+    room, settings,
 };
 
-// One packet was queued, and nothing was left; or one whole unit was.
-const ONE: Delivery = Delivery {
-    queued: 1,
-    dropped: 0,
-    rest: false,
+// Virtual channel 1 with a queue of capacity 2 for APID 5, and one for MAP 3.
+const CHANNEL: Wanted<'static> = Wanted {
+    queues: &[(5, 2)],
+    maps: &[(3, 2)],
+    ..WANTED
 };
 
-const NO_FLAG: Link = Link {
-    no_rf: false,
-    no_bit_lock: false,
-};
-
-const PACKET: [u8; 7] = [0x10, 0x05, 0xc0, 0x00, 0x00, 0x00, 0xaa];
-
-// The AD frame with N(S) 0 for spacecraft 42 and virtual channel 1 that carries `PACKET`.
-const FRAME: [u8; 13] = [
-    0x00, 0x2a, 0x04, 0x0c, 0x00, 0xc0, 0x10, 0x05, 0xc0, 0x00, 0x00, 0x00, 0xaa,
-];
-
-// As `FRAME`, with N(S) 1.
-const NEXT: [u8; 13] = [
-    0x00, 0x2a, 0x04, 0x0c, 0x01, 0xc0, 0x10, 0x05, 0xc0, 0x00, 0x00, 0x00, 0xaa,
-];
-
-// A BD frame for the same channel with two packets.
+// A BD frame for the same channel with two packets, and its reply.
 const TWO_PACKETS: [u8; 20] = [
     0x20, 0x2a, 0x04, 0x13, 0x00, 0xc0, 0x10, 0x05, 0xc0, 0x00, 0x00, 0x00, 0xaa, 0x10, 0x05, 0xc0,
     0x01, 0x00, 0x00, 0xbb,
 ];
 
-const UNIT: [u8; 3] = [0xaa, 0xbb, 0xcc];
-
-// The AD frame with N(S) 0 for virtual channel 1 that carries `UNIT` on MAP 3, and a BD frame that does.
-const AD_UNIT: [u8; 9] = [0x00, 0x2a, 0x04, 0x08, 0x00, 0xc3, 0xaa, 0xbb, 0xcc];
-
-const BD_UNIT: [u8; 9] = [0x20, 0x2a, 0x04, 0x08, 0x00, 0xc3, 0xaa, 0xbb, 0xcc];
-
-// The reply to a frame that is accepted and buffered.
-const BUFFERED: FrameReply = FrameReply {
-    act: Act {
-        event: 1,
-        accepted: true,
-    },
-    delivery: NOTHING,
-};
-
-// The reply to a frame that finds no room.
-const NO_ROOM: FrameReply = FrameReply {
-    act: Act {
-        event: 2,
-        accepted: false,
-    },
-    delivery: NOTHING,
-};
-
-// The reply to a frame that comes again.
-const BEHIND: FrameReply = FrameReply {
-    act: Act {
-        event: 4,
-        accepted: false,
-    },
-    delivery: NOTHING,
-};
-
-// The reply to `TWO_PACKETS`.
 const BYPASSED: FrameReply = FrameReply {
     act: Act {
         event: 6,
@@ -100,67 +44,31 @@ const BYPASSED: FrameReply = FrameReply {
     },
 };
 
-// The reply to `BD_UNIT`.
-const BYPASSED_UNIT: FrameReply = FrameReply {
-    act: Act {
-        event: 6,
-        accepted: true,
-    },
-    delivery: ONE,
-};
-
-// These items. One growth may be refused.
-fn copied<T: Copy>(rt: &impl Abort, alloc: Global, items: &[T]) -> Vec<T> {
-    match Vec::from_slice(alloc, items) {
-        Ok(copy) => copy,
-        Err(_) => Vec::from_slice(alloc, items).expect(rt, "a copy"),
-    }
+// A call, and what a frame is answered. In a table it stands between the name that it is told by where memory was wanting, and the
+// CLCW after it.
+#[derive(Clone, Copy)]
+enum Call<'a> {
+    Frame(&'a [u8], FrameReply),
+    FrameWatched(&'a [u8], FrameReply),
+    Release,
+    Take,
+    TakeUnit(&'a [u8]),
 }
 
-// Virtual channel 1: the window 10, one buffered field, V(R) 0 first, a queue of capacity 2 for APID 5, and one for MAP 3. One
-// growth may be refused.
-fn settings(rt: &impl Abort, alloc: Global) -> Settings {
-    let queue = QueueSetting {
-        apid: 5,
-        capacity: 2,
-    };
-    let map = MapSetting {
-        map: 3,
-        capacity: 2,
-    };
-    Settings {
-        vcid: 1,
-        width: 10,
-        buffer: 1,
-        first: 0,
-        segmented: true,
-        queues: Items::from(copied(rt, alloc, &[queue])),
-        maps: Items::from(copied(rt, alloc, &[map])),
+// The event of a call that was answered. One growth may be refused.
+fn event_of(rt: &impl Abort, alloc: Global, call: Call) -> Event {
+    match call {
+        Call::Frame(octets, _) => frame_event(rt, alloc, octets),
+        Call::FrameWatched(octets, _) => frame_event(rt, alloc, octets),
+        Call::Release => Event::Release,
+        Call::Take => Event::Take(5),
+        Call::TakeUnit(_) => Event::TakeUnit(3),
     }
-}
-
-// An empty list with room for two items. One growth may be refused.
-fn room<T: Drop>(rt: &impl Abort, alloc: Global) -> Vec<T>
-    ensures { result.items ≡ [] }
-{
-    match Vec::with_capacity(alloc, 2) {
-        Ok(list) => list,
-        Err(_) => Vec::with_capacity(alloc, 2).expect(rt, "a list"),
-    }
-}
-
-// A list of this item alone. One growth may be refused.
-fn list_of<T: Drop>(rt: &impl Abort, alloc: Global, item: T) -> Vec<T>
-    ensures { result.items ≡ item ∷ [] }
-{
-    let mut list = room(rt, alloc);
-    list.push(item).expect(rt, "room");
-    list
 }
 
 // The settings alone, as a station takes them.
 fn list_of_settings(rt: &impl Abort, alloc: Global) -> Vec<Settings> {
-    list_of(rt, alloc, settings(rt, alloc))
+    list_of(rt, alloc, settings(rt, alloc, &CHANNEL))
 }
 
 fn station_once(rt: &impl Abort, alloc: Global) -> Result<Station, StationFault> {
@@ -202,22 +110,6 @@ fn new_crew(rt: &(impl Abort + Print), alloc: Global) -> (Station, Vec<Operator>
     let mut station = new_station(rt, alloc);
     let operators = new_operators(rt, &mut station, 1);
     (station, operators)
-}
-
-// Octets on the heap. One growth may be refused.
-fn octets_of(rt: &impl Abort, alloc: Global, octets: &[u8]) -> Octets {
-    match Octets::copied(alloc, octets) {
-        Ok(copy) => copy,
-        Err(_) => Octets::copied(alloc, octets).expect(rt, "octets"),
-    }
-}
-
-// Appends to a journal. One growth may be refused.
-fn note(rt: &impl Abort, journal: &mut Vec<Event>, event: Event) {
-    if journal.reserve(1).is_err() {
-        journal.reserve(1).expect(rt, "room");
-    }
-    journal.push(event).expect(rt, "room");
 }
 
 // There are so many operators, each of which has counted this of channel 1.

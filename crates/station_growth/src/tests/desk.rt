@@ -1,5 +1,7 @@
 //! Calls of a desk.
 
+ghost use Rattle.std.specs.Prelude.{◌≡◌};
+
 use super::*;
 use tc_channel::{NoMemory, ReleaseFault, SettingsFault, TakeFault, TakeUnitFault};
 use tc_link::{Report, read_frame};
@@ -16,15 +18,18 @@ struct Told {
     units: Option<usize>,
 }
 
-// A call of a desk, and what a frame is answered. In a table it stands between the name that it is told by where memory was
-// wanting, and the CLCW after it.
-#[derive(Clone, Copy)]
-enum Call<'a> {
-    Frame(&'a [u8], FrameReply),
-    Release,
-    Take,
-    TakeUnit,
-}
+// The reply to a frame whose unit finds no room.
+const DROPPED: FrameReply = FrameReply {
+    act: Act {
+        event: 6,
+        accepted: true,
+    },
+    delivery: Delivery {
+        queued: 0,
+        dropped: 1,
+        rest: false,
+    },
+};
 
 // A desk and a watcher of its board, and the journal that its channel must have.
 #[derive(Drop)]
@@ -35,40 +40,26 @@ struct Short {
     journal: Vec<Event>,
 }
 
-fn desk_once(rt: &impl Abort, alloc: Global) -> Result<Desk, SettingsFault> {
-    Desk::new(alloc, settings(rt, alloc))
+fn desk_once(rt: &impl Abort, alloc: Global, wanted: &Wanted) -> Result<Desk, SettingsFault> {
+    Desk::new(alloc, settings(rt, alloc, wanted))
 }
 
-fn new_desk(rt: &(impl Abort + Print), alloc: Global) -> Desk {
-    match desk_once(rt, alloc) {
+fn new_desk(rt: &(impl Abort + Print), alloc: Global, wanted: &Wanted) -> Desk {
+    match desk_once(rt, alloc, wanted) {
         Ok(desk) => desk,
         Err(SettingsFault::NoMemory) => {
             let _ = println!(rt; "refused: Desk::new");
-            desk_once(rt, alloc).expect(rt, "a desk")
+            desk_once(rt, alloc, wanted).expect(rt, "a desk")
         }
         Err(_) => panic!(rt; "another refusal"),
     }
 }
 
-// A watcher takes no memory.
-fn new_watcher(rt: &impl Abort, desk: &mut Desk) -> Watcher {
-    desk.watcher().expect(rt, "a watcher")
-}
-
-// The event of a call that was answered. One growth may be refused.
-fn event_of(rt: &impl Abort, alloc: Global, call: Call) -> Event {
-    match call {
-        Call::Frame(octets, _) => Event::Frame(octets_of(rt, alloc, octets)),
-        Call::Release => Event::Release,
-        Call::Take => Event::Take(5),
-        Call::TakeUnit => Event::TakeUnit(3),
-    }
-}
-
 impl Short {
-    fn new(rt: &(impl Abort + Print), alloc: Global) -> Short {
-        let mut desk = new_desk(rt, alloc);
-        let watcher = new_watcher(rt, &mut desk);
+    fn new(rt: &(impl Abort + Print), alloc: Global, wanted: &Wanted) -> Short {
+        let mut desk = new_desk(rt, alloc, wanted);
+        // A watcher takes no memory.
+        let watcher = desk.watcher().expect(rt, "a watcher");
         Short {
             alloc,
             desk,
@@ -105,69 +96,31 @@ impl Short {
         assert_eq!(rt; self.watcher.read(), word);
     }
 
-    fn release(&mut self) -> Result<Delivery, ReleaseFault> {
-        self.desk.release()
-    }
-
-    fn take(&mut self) -> Result<Vec<u8>, TakeFault> {
-        self.desk.take(5)
-    }
-
-    fn take_unit(&mut self) -> Result<Vec<u8>, TakeUnitFault> {
-        self.desk.take_unit(3)
-    }
-
     // Each of these says whether the call was answered, as it must be, or memory was wanting.
-    fn frame_is_answered(&mut self, rt: &impl Abort, octets: &[u8], expected: FrameReply) -> bool {
+    fn frame(&mut self, rt: &impl Abort, octets: &[u8], reply: FrameReply) -> bool {
         let frame = read_frame(octets).expect(rt, "a frame");
-        match self.desk.frame(&frame) {
-            Ok(reply) => {
-                assert!(rt; reply == expected);
-                true
-            }
-            Err(NoMemory) => false,
-        }
+        is_answered(rt, self.desk.frame(&frame), &reply, NoMemory)
     }
 
-    fn release_is_answered(&mut self, rt: &impl Abort) -> bool {
-        match self.release() {
-            Ok(delivery) => {
-                assert!(rt; delivery == ONE);
-                true
-            }
-            Err(ReleaseFault::NoMemory) => false,
-            Err(_) => panic!(rt; "another refusal"),
-        }
+    fn release(&mut self, rt: &impl Abort) -> bool {
+        is_answered(rt, self.desk.release(), &ONE, ReleaseFault::NoMemory)
     }
 
-    fn take_is_answered(&mut self, rt: &impl Abort) -> bool {
-        match self.take() {
-            Ok(packet) => {
-                assert!(rt; packet.as_slice() == PACKET.as_slice());
-                true
-            }
-            Err(TakeFault::NoMemory) => false,
-            Err(_) => panic!(rt; "another refusal"),
-        }
+    fn take(&mut self, rt: &impl Abort) -> bool {
+        is_taken(rt, self.desk.take(5), &PACKET, TakeFault::NoMemory)
     }
 
-    fn take_of_a_unit_is_answered(&mut self, rt: &impl Abort) -> bool {
-        match self.take_unit() {
-            Ok(unit) => {
-                assert!(rt; unit.as_slice() == UNIT.as_slice());
-                true
-            }
-            Err(TakeUnitFault::NoMemory) => false,
-            Err(_) => panic!(rt; "another refusal"),
-        }
+    fn take_unit(&mut self, rt: &impl Abort, unit: &[u8]) -> bool {
+        is_taken(rt, self.desk.take_unit(3), unit, TakeUnitFault::NoMemory)
     }
 
     fn is_answered(&mut self, rt: &impl Abort, call: Call) -> bool {
         match call {
-            Call::Frame(octets, reply) => self.frame_is_answered(rt, octets, reply),
-            Call::Release => self.release_is_answered(rt),
-            Call::Take => self.take_is_answered(rt),
-            Call::TakeUnit => self.take_of_a_unit_is_answered(rt),
+            Call::Frame(octets, reply) => self.frame(rt, octets, reply),
+            Call::FrameWatched(octets, reply) => self.frame(rt, octets, reply),
+            Call::Release => self.release(rt),
+            Call::Take => self.take(rt),
+            Call::TakeUnit(unit) => self.take_unit(rt, unit),
         }
     }
 
@@ -192,85 +145,150 @@ impl Short {
         }
     }
 
-    fn check_packets(&mut self, rt: &impl Abort, packets: usize) {
-        assert!(rt; self.told().packets == Some(packets));
+    // So many packets and units are left.
+    fn check_left(&mut self, rt: &impl Abort, packets: usize, units: usize) {
+        let told = self.told();
+        assert!(rt; told.packets == Some(packets));
+        assert!(rt; told.units == Some(units));
     }
 
     // Nothing is left to release or to take, and nothing is noted of the refusals.
     fn check_empty(&mut self, rt: &impl Abort) {
         let told = self.told();
-        assert!(rt; self.take().err() == Some(TakeFault::Empty));
-        assert!(rt; self.take_unit().err() == Some(TakeUnitFault::Empty));
-        assert!(rt; self.release() == Err(ReleaseFault::Empty));
+        assert!(rt; self.desk.take(5).err() == Some(TakeFault::Empty));
+        assert!(rt; self.desk.take_unit(3).err() == Some(TakeUnitFault::Empty));
+        assert!(rt; self.desk.take_unit(4).err() == Some(TakeUnitFault::NoMap));
+        assert!(rt; self.desk.release() == Err(ReleaseFault::Empty));
         self.check(rt, told)
     }
 }
 
-// Makes the first calls at a new desk, which leave nothing, and then the others, which leave so many packets.
-fn check_calls(
-    rt: &(impl Abort + Print),
-    alloc: Global,
-    first: &[(&str, Call, u32)],
-    then: &[(&str, Call, u32)],
-    packets: usize,
-) {
-    let mut short = Short::new(rt, alloc);
-    short.play(rt, first);
-    short.check_empty(rt);
-    short.play(rt, then);
-    short.check_packets(rt, packets);
-}
+// The third frame finds no room.
+const THIRD: [u8; 13] = [
+    0x00, 0x2a, 0x04, 0x0c, 0x02, 0xc0, 0x10, 0x05, 0xc0, 0x00, 0x00, 0x00, 0xaa,
+];
+
+const ONE_PACKET: [(&str, Call<'static>, u32); 3] = [
+    (
+        "Desk::frame, event 1",
+        Call::Frame(&FRAME, BUFFERED),
+        0x01040001,
+    ),
+    ("Desk::release, a packet", Call::Release, 0x01040001),
+    ("Desk::take", Call::Take, 0x01040001),
+];
+
+const MORE_PACKETS: [(&str, Call<'static>, u32); 5] = [
+    (
+        "Desk::frame, event 6",
+        Call::Frame(&TWO_PACKETS, BYPASSED),
+        0x01040201,
+    ),
+    ("Desk::take", Call::Take, 0x01040201),
+    (
+        "Desk::frame, event 1",
+        Call::Frame(&NEXT, BUFFERED),
+        0x01040202,
+    ),
+    (
+        "Desk::frame, event 2",
+        Call::Frame(&THIRD, NO_ROOM),
+        0x01041a02,
+    ),
+    ("Desk::release, a packet", Call::Release, 0x01040a02),
+];
 
 // The journal grows with the first event and with the fifth, which is a take: it makes no other growth.
 #[test]
 fn growth_of_each_call_of_a_desk(rt: HostRuntime) {
-    let mut third = NEXT;
-    third[4] = 2;
-    let first = [
-        (
-            "Desk::frame, event 1",
-            Call::Frame(&FRAME, BUFFERED),
-            0x01040001,
-        ),
-        ("Desk::release, a packet", Call::Release, 0x01040001),
-        ("Desk::take", Call::Take, 0x01040001),
-    ];
-    let then = [
-        (
-            "Desk::frame, event 6",
-            Call::Frame(&TWO_PACKETS, BYPASSED),
-            0x01040201,
-        ),
-        ("Desk::take", Call::Take, 0x01040201),
-        (
-            "Desk::frame, event 1",
-            Call::Frame(&NEXT, BUFFERED),
-            0x01040202,
-        ),
-        (
-            "Desk::frame, event 2",
-            Call::Frame(&third, NO_ROOM),
-            0x01041a02,
-        ),
-        ("Desk::release, a packet", Call::Release, 0x01040a02),
-    ];
-    check_calls(&rt, rt.alloc(), &first, &then, 2)
+    let mut short = Short::new(&rt, rt.alloc(), &CHANNEL);
+    short.play(&rt, &ONE_PACKET);
+    short.check_empty(&rt);
+    short.play(&rt, &MORE_PACKETS);
+    short.check_left(&rt, 2, 0);
 }
+
+const UNITS: [(&str, Call<'static>, u32); 5] = [
+    (
+        "Desk::frame, event 1, whole unit",
+        Call::Frame(&AD_UNIT, BUFFERED),
+        0x01040001,
+    ),
+    ("Desk::release, a whole unit", Call::Release, 0x01040001),
+    (
+        "Desk::frame, event 6, whole unit",
+        Call::Frame(&BD_UNIT, DELIVERED),
+        0x01040201,
+    ),
+    ("Desk::take_unit", Call::TakeUnit(&UNIT), 0x01040201),
+    ("Desk::take_unit", Call::TakeUnit(&UNIT), 0x01040201),
+];
 
 // The fifth event is the take of a unit, which makes no other growth.
 #[test]
 fn growth_of_each_call_of_a_desk_on_a_chosen_map(rt: HostRuntime) {
-    let bypassed = Call::Frame(&BD_UNIT, BYPASSED_UNIT);
-    let calls = [
-        (
-            "Desk::frame, event 1, whole unit",
-            Call::Frame(&AD_UNIT, BUFFERED),
-            0x01040001,
-        ),
-        ("Desk::release, a whole unit", Call::Release, 0x01040001),
-        ("Desk::frame, event 6, whole unit", bypassed, 0x01040201),
-        ("Desk::take_unit", Call::TakeUnit, 0x01040201),
-        ("Desk::take_unit", Call::TakeUnit, 0x01040201),
-    ];
-    check_calls(&rt, rt.alloc(), &calls, &[], 0)
+    let mut short = Short::new(&rt, rt.alloc(), &CHANNEL);
+    short.play(&rt, &UNITS);
+    short.check_empty(&rt);
+}
+
+fn bring(rt: &impl Abort, desk: &mut Desk, octets: &[u8])
+    ensures { desk.new.board ≡ desk.old.board }
+{
+    let frame = read_frame(octets).expect(rt, "a frame");
+    assert!(rt; desk.frame(&frame) == Ok(BUFFERED));
+}
+
+// A watcher that was made before its first frame.
+#[test]
+fn a_watcher_that_met_its_desk_reads_the_frame(rt: HostRuntime) {
+    let mut desk = new_desk(&rt, rt.alloc(), &WANTED);
+    let mut watcher = desk.watcher().expect(&rt, "a watcher");
+    let before = watcher.read();
+    bring(&rt, &mut desk, &FRAME);
+    desk.meet(&mut watcher);
+    assert!(rt; (before, watcher.read()) == (0x01040000, 0x01040001));
+}
+
+const ONE_UNIT: Wanted<'static> = Wanted {
+    maps: &[(3, 1)],
+    ..WANTED
+};
+
+// A unit of three octets, one of none, and one that is a packet.
+const LONGER: [u8; 9] = [0x00, 0x2a, 0x04, 0x08, 0x00, 0xc3, 0xaa, 0xbb, 0xcc];
+
+const EMPTY: [u8; 6] = [0x20, 0x2a, 0x04, 0x05, 0x00, 0xc3];
+
+const PACKET_UNIT: [u8; 13] = [
+    0x20, 0x2a, 0x04, 0x0c, 0x00, 0xc3, 0x10, 0x05, 0xc0, 0x00, 0x00, 0x00, 0xaa,
+];
+
+const A_UNIT: [(&str, Call<'static>, u32); 4] = [
+    ("a unit", Call::Frame(&LONGER, BUFFERED), 0x01040001),
+    ("release", Call::Release, 0x01040001),
+    ("no room", Call::Frame(&BD_UNIT, DROPPED), 0x01040201),
+    ("take", Call::TakeUnit(&[0xaa, 0xbb, 0xcc]), 0x01040201),
+];
+
+const NO_OCTETS: [(&str, Call<'static>, u32); 2] = [
+    ("no octets", Call::Frame(&EMPTY, DELIVERED), 0x01040401),
+    ("take", Call::TakeUnit(&[]), 0x01040401),
+];
+
+const A_PACKET: [(&str, Call<'static>, u32); 1] = [(
+    "a packet",
+    Call::Frame(&PACKET_UNIT, DELIVERED),
+    0x01040601,
+)];
+
+#[test]
+fn units_from_a_desk(rt: HostRuntime) {
+    let mut short = Short::new(&rt, rt.alloc(), &ONE_UNIT);
+    short.play(&rt, &A_UNIT);
+    short.check_empty(&rt);
+    short.play(&rt, &NO_OCTETS);
+    short.check_empty(&rt);
+    short.play(&rt, &A_PACKET);
+    short.check_left(&rt, 0, 1);
 }

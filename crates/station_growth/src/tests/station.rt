@@ -7,17 +7,6 @@ use std::sync::Wait;
 use tc_station::{BringFault, Brought, ReleaseRefused, TakeRefused, TakeUnitRefused};
 use tc_status::Watcher;
 
-// A call of a station, and what a frame is answered. In a table it stands between the name that it is told by where memory was
-// wanting, and the CLCW after it.
-#[derive(Clone, Copy)]
-enum Call<'a> {
-    Bring(&'a [u8], FrameReply),
-    BringWatched(&'a [u8], FrameReply),
-    Release,
-    Take,
-    TakeUnit,
-}
-
 // A station of one channel with one operator and one watcher, and the journal that the channel must have.
 #[derive(Drop)]
 struct Short {
@@ -32,17 +21,6 @@ struct Short {
 // A watcher takes no memory.
 fn new_watcher(rt: &(impl Wait + Abort), station: &Station) -> Watcher {
     station.watcher(rt, 1).expect(rt, "a watcher")
-}
-
-// The event of a call that was answered. One growth may be refused.
-fn event_of(rt: &impl Abort, alloc: Global, call: Call) -> Event {
-    match call {
-        Call::Bring(frame, _) => Event::Frame(octets_of(rt, alloc, frame)),
-        Call::BringWatched(frame, _) => Event::Frame(octets_of(rt, alloc, frame)),
-        Call::Release => Event::Release,
-        Call::Take => Event::Take(5),
-        Call::TakeUnit => Event::TakeUnit(3),
-    }
 }
 
 impl Short {
@@ -75,14 +53,13 @@ impl Short {
 
     // Each of these says whether the call was answered, as it must be, or memory was wanting.
     fn bring(&mut self, rt: &(impl Wait + Abort), frame: &[u8], reply: FrameReply) -> bool {
-        match self.station.bring(rt, &mut self.operator, frame) {
-            Ok(brought) => {
-                assert!(rt; brought == Brought { vcid: 1, reply });
-                true
-            }
-            Err(BringFault::NoMemory) => false,
-            Err(_) => panic!(rt; "another refusal"),
-        }
+        let brought = self.station.bring(rt, &mut self.operator, frame);
+        is_answered(
+            rt,
+            brought,
+            &Brought { vcid: 1, reply },
+            BringFault::NoMemory,
+        )
     }
 
     fn bring_watched(
@@ -98,51 +75,35 @@ impl Short {
                 assert_eq!(rt; own.read(), word);
                 true
             }
-            Err(BringFault::NoMemory) => false,
-            Err(_) => panic!(rt; "another refusal"),
+            Err(fault) => {
+                assert!(rt; fault == BringFault::NoMemory);
+                false
+            }
         }
     }
 
     fn release(&mut self, rt: &(impl Wait + Abort)) -> bool {
-        match self.station.release(rt, &mut self.operator, 1) {
-            Ok(delivery) => {
-                assert!(rt; delivery == ONE);
-                true
-            }
-            Err(ReleaseRefused::NoMemory) => false,
-            Err(_) => panic!(rt; "another refusal"),
-        }
+        let delivery = self.station.release(rt, &mut self.operator, 1);
+        is_answered(rt, delivery, &ONE, ReleaseRefused::NoMemory)
     }
 
     fn take(&mut self, rt: &(impl Wait + Abort)) -> bool {
-        match self.station.take(rt, &mut self.operator, 1, 5) {
-            Ok(packet) => {
-                assert!(rt; packet.as_slice() == PACKET.as_slice());
-                true
-            }
-            Err(TakeRefused::NoMemory) => false,
-            Err(_) => panic!(rt; "another refusal"),
-        }
+        let packet = self.station.take(rt, &mut self.operator, 1, 5);
+        is_taken(rt, packet, &PACKET, TakeRefused::NoMemory)
     }
 
-    fn take_unit(&mut self, rt: &(impl Wait + Abort)) -> bool {
-        match self.station.take_unit(rt, &mut self.operator, 1, 3) {
-            Ok(unit) => {
-                assert!(rt; unit.as_slice() == UNIT.as_slice());
-                true
-            }
-            Err(TakeUnitRefused::NoMemory) => false,
-            Err(_) => panic!(rt; "another refusal"),
-        }
+    fn take_unit(&mut self, rt: &(impl Wait + Abort), unit: &[u8]) -> bool {
+        let taken = self.station.take_unit(rt, &mut self.operator, 1, 3);
+        is_taken(rt, taken, unit, TakeUnitRefused::NoMemory)
     }
 
     fn is_answered(&mut self, rt: &(impl Wait + Abort), call: Call, word: u32) -> bool {
         match call {
-            Call::Bring(frame, reply) => self.bring(rt, frame, reply),
-            Call::BringWatched(frame, reply) => self.bring_watched(rt, frame, reply, word),
+            Call::Frame(frame, reply) => self.bring(rt, frame, reply),
+            Call::FrameWatched(frame, reply) => self.bring_watched(rt, frame, reply, word),
             Call::Release => self.release(rt),
             Call::Take => self.take(rt),
-            Call::TakeUnit => self.take_unit(rt),
+            Call::TakeUnit(unit) => self.take_unit(rt, unit),
         }
     }
 
@@ -214,65 +175,74 @@ fn growth_of_a_close_together(rt: HostRuntime) {
     assert_eq!(rt; channels.len(), 1);
 }
 
+const PACKETS: [(&str, Call<'static>, u32); 7] = [
+    ("bring, event 1", Call::Frame(&FRAME, BUFFERED), 0x01040001),
+    ("bring, event 2", Call::Frame(&NEXT, NO_ROOM), 0x01041801),
+    ("bring, event 4", Call::Frame(&FRAME, BEHIND), 0x01041801),
+    ("Station::release, a packet", Call::Release, 0x01040801),
+    ("Station::take", Call::Take, 0x01040801),
+    (
+        "bring, event 6",
+        Call::Frame(&TWO_PACKETS, BYPASSED),
+        0x01040a01,
+    ),
+    ("Station::take", Call::Take, 0x01040a01),
+];
+
 // The journal grows with the first event and with the fifth, which is a take: it makes no other growth.
 #[test]
 fn growth_of_each_call_of_a_station(rt: HostRuntime) {
-    let calls = [
-        ("bring, event 1", Call::Bring(&FRAME, BUFFERED), 0x01040001),
-        ("bring, event 2", Call::Bring(&NEXT, NO_ROOM), 0x01041801),
-        ("bring, event 4", Call::Bring(&FRAME, BEHIND), 0x01041801),
-        ("Station::release, a packet", Call::Release, 0x01040801),
-        ("Station::take", Call::Take, 0x01040801),
-        (
-            "bring, event 6",
-            Call::Bring(&TWO_PACKETS, BYPASSED),
-            0x01040a01,
-        ),
-        ("Station::take", Call::Take, 0x01040a01),
-    ];
-    check_calls(&rt, rt.alloc(), &calls)
+    check_calls(&rt, rt.alloc(), &PACKETS)
 }
+
+const WATCHED: [(&str, Call<'static>, u32); 6] = [
+    (
+        "bring_watched, event 1",
+        Call::FrameWatched(&FRAME, BUFFERED),
+        0x01040001,
+    ),
+    (
+        "bring_watched, event 2",
+        Call::FrameWatched(&NEXT, NO_ROOM),
+        0x01041801,
+    ),
+    ("Station::release, a packet", Call::Release, 0x01040801),
+    ("Station::take", Call::Take, 0x01040801),
+    (
+        "bring_watched, event 4",
+        Call::FrameWatched(&FRAME, BEHIND),
+        0x01040801,
+    ),
+    (
+        "bring_watched, event 6",
+        Call::FrameWatched(&TWO_PACKETS, BYPASSED),
+        0x01040a01,
+    ),
+];
 
 #[test]
 fn growth_of_watched_frames(rt: HostRuntime) {
-    let bypassed = Call::BringWatched(&TWO_PACKETS, BYPASSED);
-    let calls = [
-        (
-            "bring_watched, event 1",
-            Call::BringWatched(&FRAME, BUFFERED),
-            0x01040001,
-        ),
-        (
-            "bring_watched, event 2",
-            Call::BringWatched(&NEXT, NO_ROOM),
-            0x01041801,
-        ),
-        ("Station::release, a packet", Call::Release, 0x01040801),
-        ("Station::take", Call::Take, 0x01040801),
-        (
-            "bring_watched, event 4",
-            Call::BringWatched(&FRAME, BEHIND),
-            0x01040801,
-        ),
-        ("bring_watched, event 6", bypassed, 0x01040a01),
-    ];
-    check_calls(&rt, rt.alloc(), &calls)
+    check_calls(&rt, rt.alloc(), &WATCHED)
 }
+
+const UNITS: [(&str, Call<'static>, u32); 5] = [
+    (
+        "bring, event 1, whole unit",
+        Call::Frame(&AD_UNIT, BUFFERED),
+        0x01040001,
+    ),
+    ("Station::release, a whole unit", Call::Release, 0x01040001),
+    (
+        "bring, event 6, whole unit",
+        Call::Frame(&BD_UNIT, DELIVERED),
+        0x01040201,
+    ),
+    ("Station::take_unit", Call::TakeUnit(&UNIT), 0x01040201),
+    ("Station::take_unit", Call::TakeUnit(&UNIT), 0x01040201),
+];
 
 // The fifth event is the take of a unit, which makes no other growth.
 #[test]
 fn growth_of_each_call_on_a_chosen_map(rt: HostRuntime) {
-    let bypassed = Call::Bring(&BD_UNIT, BYPASSED_UNIT);
-    let calls = [
-        (
-            "bring, event 1, whole unit",
-            Call::Bring(&AD_UNIT, BUFFERED),
-            0x01040001,
-        ),
-        ("Station::release, a whole unit", Call::Release, 0x01040001),
-        ("bring, event 6, whole unit", bypassed, 0x01040201),
-        ("Station::take_unit", Call::TakeUnit, 0x01040201),
-        ("Station::take_unit", Call::TakeUnit, 0x01040201),
-    ];
-    check_calls(&rt, rt.alloc(), &calls)
+    check_calls(&rt, rt.alloc(), &UNITS)
 }

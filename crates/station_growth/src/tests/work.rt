@@ -8,8 +8,6 @@ use std::sync::Wait;
 use std::thread::Threads;
 use tc_station::{FreeGate, Job, Order, WorkFault, WorkList};
 
-const UNLOCK: [u8; 6] = [0x30, 0x2a, 0x04, 0x05, 0x00, 0x00];
-
 // A job that brings an Unlock to virtual channel 1. One growth may be refused.
 fn unlock(rt: &impl Abort, alloc: Global, line: u32) -> Job {
     Job {
@@ -20,7 +18,7 @@ fn unlock(rt: &impl Abort, alloc: Global, line: u32) -> Job {
 
 // Two Unlocks, on lines 5 and 6. One growth may be refused.
 fn two_unlocks(rt: &impl Abort, alloc: Global) -> WorkList {
-    let mut jobs = room(rt, alloc);
+    let mut jobs = room(rt, alloc, 2);
     jobs.push(unlock(rt, alloc, 5)).expect(rt, "room");
     jobs.push(unlock(rt, alloc, 6)).expect(rt, "room");
     WorkList {
