@@ -6,7 +6,7 @@ ghost use Rattle.tc_station.specs.Tally.{IsOurs};
 
 use super::*;
 use std::sync::Wait;
-use tc_station::{BringFault, ReleaseRefused, TakeRefused, TakeUnitRefused};
+use tc_station::{BringFault, ReleaseRefused, TakeRefused};
 use tc_status::Watcher;
 
 // A station for spacecraft 42, with one operator.
@@ -88,25 +88,13 @@ impl Manned {
         assert!(rt; taken.err() == Some(refused));
     }
 
-    pub(super) fn take_unit(
-        &mut self,
-        rt: &(impl Abort + Wait),
-        vcid: u8,
-        map: u8,
-        answer: Result<&[u8], TakeUnitRefused>,
-    ) {
-        let taken = self.station.take_unit(rt, &mut self.operator, vcid, map);
-        assert!(rt; taken.as_deref().ok() == answer.ok());
-        assert!(rt; taken.err() == answer.err());
-    }
-
     pub(super) fn watcher(&self, rt: &(impl Abort + Wait), vcid: u8) -> Watcher {
         self.station.watcher(rt, vcid).expect(rt, "a watcher")
     }
 
-    // The watcher reads this, with these flags of the link.
-    pub(super) fn watch(&self, rt: &impl Abort, watcher: &mut Watcher, link: Link, word: u32) {
-        assert_eq!(rt; self.station.watch(watcher, link), word);
+    // The watcher reads this.
+    pub(super) fn watch(&self, rt: &impl Abort, watcher: &mut Watcher, word: u32) {
+        assert_eq!(rt; self.station.watch(watcher, NO_FLAG), word);
     }
 
     // The operator has counted so many operations on this channel.
@@ -115,11 +103,9 @@ impl Manned {
     }
 }
 
-// A station of channels 1 and 2, with room for 64 data fields each.
+// A station of channels 1 and 2.
 pub(super) fn two_channels(rt: &impl Abort, alloc: Global) -> Manned
     ensures { result.station.vcids ≡ 1 ∷ 2 ∷ [] }
 {
-    let first = settings_with_room(rt, alloc, 1);
-    let second = settings_with_room(rt, alloc, 2);
-    Manned::by(rt, alloc, list_of_two(rt, alloc, first, second))
+    Manned::by(rt, alloc, settings_of_two(rt, alloc))
 }

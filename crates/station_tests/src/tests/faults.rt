@@ -7,24 +7,12 @@ use tc_station::{
     WorkFault,
 };
 
-fn check_text(rt: &impl Abort, alloc: Global, fault: &impl std::fmt::Display, text: &str) {
-    assert_eq!(rt;
-        fault.to_string(alloc).expect(rt, "an answer").as_str(),
-        text
-    );
-}
-
-// Each fault with its text.
-fn check_texts<F: std::fmt::Display>(rt: &impl Abort, alloc: Global, texts: &[(F, &str)]) {
-    for (fault, text) in texts {
-        check_text(rt, alloc, fault, text);
-    }
-}
+const UNKNOWN: &str = "the station has no such virtual channel";
 
 #[test]
-fn faults_of_settings_have_texts(rt: HostRuntime) {
+fn faults_of_settings_and_of_octets_have_texts(rt: HostRuntime) {
     let alloc = rt.alloc();
-    for (fault, text) in [
+    let settings = [
         (StationFault::BadScid, "the spacecraft id is over 1023"),
         (StationFault::NoChannel, "there is no virtual channel"),
         (
@@ -36,32 +24,23 @@ fn faults_of_settings_have_texts(rt: HostRuntime) {
             "virtual channel 64: bad virtual channel identifier",
         ),
         (StationFault::NoMemory, "no memory"),
-    ] {
-        check_text(&rt, alloc, &fault, text);
-    }
-}
-
-#[test]
-fn faults_of_octets_have_texts(rt: HostRuntime) {
-    let alloc = rt.alloc();
-    for (fault, text) in [
+    ];
+    check_texts(&rt, alloc, settings.as_slice());
+    let places = [
         (LocateFault::Frame(FrameFault::Short), "fewer than 5 octets"),
         (
             LocateFault::OtherSpacecraft,
             "the frame is for another spacecraft",
         ),
-        (
-            LocateFault::UnknownChannel,
-            "the station has no such virtual channel",
-        ),
-    ] {
-        check_text(&rt, alloc, &fault, text);
-        check_text(&rt, alloc, &BringFault::Locate(fault), text);
-    }
-    check_text(&rt, alloc, &BringFault::NoMemory, "no memory")
+        (LocateFault::UnknownChannel, UNKNOWN),
+    ];
+    check_texts(&rt, alloc, places.as_slice());
+    let frames = [
+        (BringFault::Locate(LocateFault::UnknownChannel), UNKNOWN),
+        (BringFault::NoMemory, "no memory"),
+    ];
+    check_texts(&rt, alloc, frames.as_slice())
 }
-
-const UNKNOWN: &str = "the station has no such virtual channel";
 
 #[test]
 fn faults_of_operations_have_texts(rt: HostRuntime) {
@@ -108,8 +87,15 @@ fn check_takes(rt: &impl Abort, alloc: Global) {
     check_texts(rt, alloc, units.as_slice());
 }
 
-fn check_close_text(rt: &impl Abort, alloc: Global, fault: CloseFault, text: &str) {
-    check_text(rt, alloc, &fault, text);
+// A close is refused with this text.
+fn check_close_text<F: std::fmt::Display + Drop>(
+    rt: &impl Abort,
+    alloc: Global,
+    fault: F,
+    text: &str,
+) {
+    let written = fault.to_string(alloc).expect(rt, "an answer");
+    assert_eq!(rt; written.as_str(), text);
 }
 
 #[test]
@@ -120,13 +106,12 @@ fn faults_of_operators_have_texts(rt: HostRuntime) {
         (OperatorsFault::NoMemory, "no memory"),
     ];
     check_texts(&rt, alloc, issuing.as_slice());
-    let refused = WorkFault::NoMemory { line: 12 };
-    check_text(&rt, alloc, &refused, "line 12: no memory");
-    let Manned { station, operator } = Manned::new(&rt, alloc, &[1]);
+    let refused = [(WorkFault::NoMemory { line: 12 }, "line 12: no memory")];
+    check_texts(&rt, alloc, refused.as_slice());
+    let station = new_station(&rt, alloc, settings_of(&rt, alloc, &[1]));
     let missing = CloseFault::Missing(station, Vec::new(alloc));
     check_close_text(&rt, alloc, missing, "an operator is missing");
-    let operators = vec![in alloc; operator].expect(&rt, "a list");
-    let unbalanced = CloseFault::Unbalanced(Vec::new(alloc), operators);
+    let unbalanced = CloseFault::Unbalanced(Vec::new(alloc), Vec::new(alloc));
     let text = "the operators' counts and the journals differ";
     check_close_text(&rt, alloc, unbalanced, text);
     let station = new_station(&rt, alloc, settings_of(&rt, alloc, &[1]));
@@ -139,18 +124,14 @@ fn station_in_flight(rt: &impl Abort, alloc: Global) -> FlightStation {
     FlightStation::new(alloc, 42, list).expect(rt, "a station")
 }
 
-fn check_flight_text(rt: &impl Abort, alloc: Global, fault: FlightCloseFault, text: &str) {
-    check_text(rt, alloc, &fault, text);
-}
-
 #[test]
 fn faults_of_a_close_in_flight_have_texts(rt: HostRuntime) {
     let alloc = rt.alloc();
     let missing = FlightCloseFault::Missing(station_in_flight(&rt, alloc), Vec::new(alloc));
-    check_flight_text(&rt, alloc, missing, "an operator is missing");
+    check_close_text(&rt, alloc, missing, "an operator is missing");
     let no_memory = FlightCloseFault::NoMemory(station_in_flight(&rt, alloc), Vec::new(alloc));
-    check_flight_text(&rt, alloc, no_memory, "no memory");
+    check_close_text(&rt, alloc, no_memory, "no memory");
     let unbalanced = FlightCloseFault::Unbalanced(Vec::new(alloc), Vec::new(alloc));
     let text = "the operators' counts and the numbers of events differ";
-    check_flight_text(&rt, alloc, unbalanced, text)
+    check_close_text(&rt, alloc, unbalanced, text)
 }

@@ -37,13 +37,17 @@ fn check_holding(rt: &(impl Abort + Wait), crew: &Manned, report: Report, held: 
 #[test]
 fn a_channel_tells_what_it_has_come_to(rt: HostRuntime) {
     let alloc = rt.alloc();
-    let settings = settings_with_a_map(&rt, alloc);
-    let list = vec![in alloc; settings].expect(&rt, "a list");
+    let wanted = Wanted {
+        queues: &[(5, 2)],
+        maps: &[(3, 1)],
+        ..WANTED
+    };
+    let list = list_of(&rt, alloc, settings(&rt, alloc, &wanted));
     let mut crew = Manned::by(&rt, alloc, list);
     crew.bring(&rt, &FRAME, Ok(BROUGHT));
     check_holding(&rt, &crew, open(1, 0), [1, 0, 0]);
     crew.release(&rt, 1, Ok(ONE));
-    crew.bring(&rt, &UNIT_FRAME, Ok(UNIT_BROUGHT));
+    crew.bring(&rt, &BD_UNIT, Ok(UNIT_BROUGHT));
     check_holding(&rt, &crew, open(1, 1), [0, 1, 1]);
     let unknown = crew.station.holding(&rt, 2);
     assert_eq!(rt; unknown.err(), Some(HoldingFault::UnknownChannel));

@@ -78,7 +78,7 @@ fn octets_for_no_channel(rt: HostRuntime) {
         &OTHER_SPACECRAFT,
         LocateFault::OtherSpacecraft,
     );
-    check_unplaced(&rt, &mut crew, &OTHER_CHANNEL, LocateFault::UnknownChannel);
+    check_unplaced(&rt, &mut crew, &ad_frame(2, 0), LocateFault::UnknownChannel);
     check_unplaced(&rt, &mut crew, &OTHER_BOTH, LocateFault::OtherSpacecraft);
     let short = LocateFault::Frame(FrameFault::Short);
     check_unplaced(&rt, &mut crew, &FRAME[..3], short);

@@ -5,60 +5,47 @@ use super::*;
 use std::sync::Wait;
 use std::sync::atomic::{AtomicU32, Ordering};
 use std::thread::Threads;
-use tc_channel::Event;
-use tc_station::{FreeGate, Gate};
+use tc_channel::Items;
+use tc_station::{Gate, Job, Order, WorkList};
 
-const UNLOCK: [u8; 6] = [0x30, 0x2a, 0x04, 0x05, 0x00, 0x00];
-
-// A job that brings an Unlock to virtual channel 1.
-fn unlock(rt: &impl Abort, alloc: Global, line: u32) -> Job {
-    job(line, order(rt, alloc, &UNLOCK))
+// A job that brings octets, on line 1.
+fn bring(rt: &impl Abort, alloc: Global, octets: &[u8]) -> Order {
+    Order::Bring(octets_of(rt, alloc, octets))
 }
 
-// Lists on channels 1, 2 and 9, of which the last isn't there. Before its Unlock each asks for what is refused: the first for a
-// release of an empty buffer, octets that are no frame, and a packet of an application without a queue; the second for a packet
-// where none waits, and for a unit of a MAP that isn't chosen; the third for a release and a unit of no channel.
-fn first_list(rt: &impl Abort, alloc: Global) -> WorkList {
-    let release = job(2, Order::Release);
-    let short = job(2, order(rt, alloc, &UNLOCK[..3]));
-    let take = job(2, Order::Take(6));
-    let unlock = unlock(rt, alloc, 3);
-    list_for(
-        1,
-        vec![in alloc; release, short, take, unlock].expect(rt, "jobs"),
-    )
+// An order that is refused or not, and then an Unlock of virtual channel 1.
+fn list_for(rt: &impl Abort, alloc: Global, vcid: u8, order: Order) -> WorkList {
+    let first = Job { line: 1, order };
+    let unlock = Job {
+        line: 2,
+        order: bring(rt, alloc, &UNLOCK),
+    };
+    WorkList {
+        vcid,
+        jobs: Items::from(vec![in alloc; first, unlock].expect(rt, "jobs")),
+    }
 }
 
-fn second_list(rt: &impl Abort, alloc: Global) -> WorkList {
-    let take = job(4, Order::Take(5));
-    let take_unit = job(4, Order::TakeUnit(3));
-    let unlock = unlock(rt, alloc, 5);
-    list_for(
-        2,
-        vec![in alloc; take, take_unit, unlock].expect(rt, "jobs"),
-    )
-}
-
-fn third_list(rt: &impl Abort, alloc: Global) -> WorkList {
-    let release = job(6, Order::Release);
-    let take_unit = job(6, Order::TakeUnit(3));
-    let unlock = unlock(rt, alloc, 7);
-    list_for(
-        9,
-        vec![in alloc; release, take_unit, unlock].expect(rt, "jobs"),
-    )
-}
-
-fn three_lists(rt: &impl Abort, alloc: Global) -> [WorkList; 3] {
+// Channel 9 isn't there. What is asked for before an Unlock is refused: a release of an empty buffer and one of no channel, octets
+// that are no frame, a packet of an application without a queue, one where none waits, and a unit of a MAP that isn't chosen. The
+// last list has no jobs.
+fn seven_lists(rt: &impl Abort, alloc: Global) -> [WorkList; 7] {
     [
-        first_list(rt, alloc),
-        second_list(rt, alloc),
-        third_list(rt, alloc),
+        list_for(rt, alloc, 1, Order::Release),
+        list_for(rt, alloc, 9, Order::Release),
+        list_for(rt, alloc, 1, bring(rt, alloc, &UNLOCK[..3])),
+        list_for(rt, alloc, 1, Order::Take(6)),
+        list_for(rt, alloc, 2, Order::Take(5)),
+        list_for(rt, alloc, 2, Order::TakeUnit(3)),
+        WorkList {
+            vcid: 2,
+            jobs: Items::from(Vec::new(alloc)),
+        },
     ]
 }
 
 // Does the lists to their end.
-pub(super) fn do_lists<R: Threads + Wait + Sync + Abort, G: Gate + Sync>(
+fn do_lists<R: Threads + Wait + Sync + Abort, G: Gate + Sync>(
     rt: &R,
     gate: &G,
     station: &Station,
@@ -67,33 +54,9 @@ pub(super) fn do_lists<R: Threads + Wait + Sync + Abort, G: Gate + Sync>(
 )
     requires as_many { length operators.old.items ≡ length lists.now }
     requires ours { All (IsOurs station.now) operators.old.items }
-    ensures { All (IsOurs station.now) operators.new.items }
 {
     let done = station.work(rt, gate, operators, lists);
     assert!(rt; done == Ok(()));
-}
-
-// Each event of these channels is this one.
-fn check_each_event(rt: &impl Abort, channels: &[Channel], event: &Event) {
-    for channel in channels {
-        for noted in channel.journal() {
-            assert!(rt; *noted == *event);
-        }
-    }
-}
-
-#[test]
-fn refusals_are_passed_over(rt: HostRuntime) {
-    let alloc = rt.alloc();
-    let lists = three_lists(&rt, alloc);
-    let mut station = new_station(&rt, alloc, settings_of(&rt, alloc, &[1, 2]));
-    let mut operators = new_operators(&rt, &mut station, 3);
-    do_lists(&rt, &FreeGate, &station, &mut operators, &lists);
-    check_counts(&rt, &operators, 3, &[(1, Some(1)), (2, Some(0))]);
-    let channels = closed(&rt, station, operators);
-    check_events(&rt, &channels, &[3, 0]);
-    let unlock = Event::Frame(Octets::copied(alloc, &UNLOCK).expect(&rt, "octets"));
-    check_each_event(&rt, &channels, &unlock);
 }
 
 // Counts how often it is passed for channel 1, 2 and 9, and for any other.
@@ -137,19 +100,17 @@ impl Counting {
     }
 }
 
-// The worker of a list without jobs, too.
+// The worker of a list without jobs, too. Refusals are passed over.
 #[test]
 fn each_worker_passes_the_gate_once(rt: HostRuntime) {
     let alloc = rt.alloc();
-    let lists = [
-        first_list(&rt, alloc),
-        second_list(&rt, alloc),
-        third_list(&rt, alloc),
-        list_for(2, Vec::new(alloc)),
-    ];
+    let lists = seven_lists(&rt, alloc);
     let mut station = new_station(&rt, alloc, settings_of(&rt, alloc, &[1, 2]));
-    let mut operators = new_operators(&rt, &mut station, 4);
+    let mut operators = new_operators(&rt, &mut station, 7);
     let gate = Counting::new();
     do_lists(&rt, &gate, &station, &mut operators, &lists);
-    assert_eq!(rt; gate.counts(), [1, 2, 1, 0]);
+    assert_eq!(rt; gate.counts(), [3, 3, 1, 0]);
+    for operator in operators.iter().take(6) {
+        assert!(rt; operator.count(1) == Some(1));
+    }
 }
