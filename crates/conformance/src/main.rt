@@ -3,21 +3,22 @@
 //!
 //! The file `index` has a line for each case, in the order of their names: the name, the spacecraft
 //! id, and the text of the fault with which the script ends, if it does. `NAME.script` is the script,
-//! `NAME.out` what it is answered line by line, by a station and by channels in rooms alike, and `NAME.parallel.out`
-//! what is reported of it where each channel has a worker. Scripts at the limit of their size are made here. The file
+//! `NAME.out` what it is answered line by line, by a station and by channels of each form alike, with the final report
+//! that is also made where each channel has a worker. Scripts at the limit of their size are made here. The file
 //! `clcws` has words that another program built, each with what it says; each is a case, too.
 #![tactic(auto)]
 
 ghost use Rattle.std.specs.Prelude.{◌≤◌};
 
 mod clcws;
+mod form;
+mod lone;
 mod outcome;
 mod replay;
-mod rooms;
 
 use anyhow::{Context, Result, anyhow};
-use cases::{Case, compare, large_cases, parse_case};
-use outcome::{Command, perform};
+use cases::{Case, compare, large_cases, parse_case, report_of};
+use outcome::{COMMANDS, Command, perform};
 use std::fs;
 use std::process::ExitCode;
 use std::rt::Files;
@@ -35,12 +36,12 @@ fn main(rt: HostRuntime) -> ExitCode {
     }
 }
 
-/// How many cases were done, how many of them agree, and how many were done on channels in rooms as well.
+/// How many cases were done, how many of them agree, and how many are scripts.
 #[derive(Clone, Copy, Debug)]
 struct Tally {
     cases: u32,
     agreeing: u32,
-    in_rooms: u32,
+    scripts: u32,
 }
 
 impl Tally {
@@ -51,10 +52,9 @@ impl Tally {
         }
     }
 
-    // A case that is a script is done each way.
     fn count_script(&mut self, agrees: bool) {
         self.count(agrees);
-        self.in_rooms = self.in_rooms.saturating_add(1);
+        self.scripts = self.scripts.saturating_add(1);
     }
 }
 
@@ -63,7 +63,7 @@ fn check_all<R: Files + AllocGlobal + Print + Threads + Wait + Sync>(rt: &R) -> 
     let mut tally = Tally {
         cases: 0,
         agreeing: 0,
-        in_rooms: 0,
+        scripts: 0,
     };
     check_index(rt, &mut tally)?;
     check_large(rt, &mut tally)?;
@@ -71,10 +71,10 @@ fn check_all<R: Files + AllocGlobal + Print + Threads + Wait + Sync>(rt: &R) -> 
     let Tally {
         cases,
         agreeing,
-        in_rooms,
+        scripts,
     } = tally;
     println!(rt; "{agreeing} of {cases} cases agree")?;
-    println!(rt; "{in_rooms} of them are scripts, each done on channels in rooms as well")?;
+    println!(rt; "{scripts} of them are scripts, each done five ways")?;
     Ok(agreeing == cases)
 }
 
@@ -94,14 +94,7 @@ fn check_index<R: Files + AllocGlobal + Print + Threads + Wait + Sync>(
         last = case.name.as_bytes();
         let script = read(rt, format!(in rt.alloc(); "{}.script", case.name)?)?;
         let answers = read(rt, format!(in rt.alloc(); "{}.out", case.name)?)?;
-        let report = read(rt, format!(in rt.alloc(); "{}.parallel.out", case.name)?)?;
-        let agrees = agrees_each_way(
-            rt,
-            &case,
-            script.as_slice(),
-            answers.as_slice(),
-            report.as_slice(),
-        )?;
+        let agrees = agrees_each_way(rt, &case, script.as_slice(), answers.as_slice())?;
         tally.count_script(agrees);
     }
     Ok(())
@@ -124,7 +117,7 @@ fn check_large<R: AllocGlobal + Print + Threads + Wait + Sync>(
             scid: 42,
             fault: large.fault,
         };
-        let agrees = agrees_each_way(rt, &case, large.script.as_slice(), b"", b"")?;
+        let agrees = agrees_each_way(rt, &case, large.script.as_slice(), b"")?;
         tally.count_script(agrees);
     }
     Ok(())
@@ -142,21 +135,25 @@ fn check_clcws<R: Files + AllocGlobal + Print>(rt: &R, tally: &mut Tally) -> Res
     Ok(())
 }
 
-// Whether a script leads to these answers where it is done line by line, on a station and on channels in rooms, and to this report
-// where each channel has a worker.
+// Whether a script leads to these answers where it is done line by line, on a station and on channels of each form, and to
+// the report among them where each channel has a worker.
 fn agrees_each_way<R: AllocGlobal + Print + Threads + Wait + Sync>(
     rt: &R,
     case: &Case,
     script: &[u8],
     answers: &[u8],
-    report: &[u8],
 ) -> Result<bool>
     requires { case.now.scid ≤ 1023 }
 {
-    let runs = agrees(rt, case, Command::Run, script, answers)?;
-    let works = agrees(rt, case, Command::Parallel, script, report)?;
-    let in_rooms = agrees(rt, case, Command::Rooms, script, answers)?;
-    Ok(runs && works && in_rooms)
+    let mut all = true;
+    for command in COMMANDS {
+        let expected = match command {
+            Command::Parallel => report_of(answers, case.fault),
+            _ => answers,
+        };
+        all &= agrees(rt, case, command, script, expected)?;
+    }
+    Ok(all)
 }
 
 // Whether a script leads to what it is to lead to. Where it doesn't, it is told.

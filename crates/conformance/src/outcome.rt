@@ -2,11 +2,13 @@
 
 ghost use Rattle.std.specs.Prelude.{◌≤◌};
 
-use crate::replay::replay_in_rooms;
+use crate::form::InRooms;
+use crate::replay::replay;
 use std::alloc::{AllocError, Global};
 use std::fmt;
 use std::sync::Wait;
 use std::thread::Threads;
+use tc_channel::{Channel, FlightChannel};
 use tc_cli::{parallel_script, run_script};
 use tc_station::FreeGate;
 
@@ -24,16 +26,28 @@ pub(crate) enum Command {
     Run,
     /// With a worker for each channel, and the final report alone.
     Parallel,
-    /// As `Run`, on channels in rooms in place of a station.
+    /// As `Run`, on channels in place of a station: each with its journal in memory, without one, or in rooms.
+    Alone,
+    Flight,
     Rooms,
 }
+
+pub(crate) const COMMANDS: [Command; 5] = [
+    Command::Run,
+    Command::Parallel,
+    Command::Alone,
+    Command::Flight,
+    Command::Rooms,
+];
 
 impl fmt::Display for Command {
     fn fmt<W: fmt::Write>(&self, f: &mut fmt::Formatter<W>) -> fmt::Result {
         f.write_str(match self {
             Command::Run => "run",
             Command::Parallel => "parallel",
-            Command::Rooms => "rooms",
+            Command::Alone => "alone",
+            Command::Flight => "in flight",
+            Command::Rooms => "in rooms",
         })
     }
 }
@@ -55,7 +69,9 @@ pub(crate) fn perform<T: Threads + Wait + Sync>(
         Command::Parallel => {
             parallel_script(rt, alloc, &FreeGate, scid, &mut reader, &mut answers)
         }
-        Command::Rooms => replay_in_rooms(alloc, scid, &mut reader, &mut answers),
+        Command::Alone => replay::<Channel, _, _>(alloc, scid, &mut reader, &mut answers),
+        Command::Flight => replay::<FlightChannel, _, _>(alloc, scid, &mut reader, &mut answers),
+        Command::Rooms => replay::<InRooms, _, _>(alloc, scid, &mut reader, &mut answers),
     };
     let fault = match done {
         Ok(()) => String::new(alloc),

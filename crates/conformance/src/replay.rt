@@ -1,6 +1,7 @@
-//! A script on channels in rooms, line by line, as `run` runs it on a station.
+//! A script on channels without a station, line by line, as `run` runs it on a station.
 
-use crate::rooms::Rooms;
+use crate::form::Form;
+use crate::lone::Lone;
 use std::alloc::Global;
 use std::io::{Read, Write};
 use tc_channel::Settings;
@@ -10,29 +11,29 @@ use tc_text::{Reason, ScriptFault, next_line, parse_line, read_whole};
 
 /// How far a script has come. The channels are made at the first operation.
 #[derive(Drop)]
-enum Progress {
+enum Progress<C: Form> {
     SettingUp(Configuration),
-    Operating(Rooms),
+    Operating(Lone<C>),
 }
 
-/// Reads a script and does its lines on channels in rooms. Writes the answers, and then the final report.
-pub(crate) fn replay_in_rooms<R: Read, W: Write>(
+/// Reads a script and does its lines on channels of a form. Writes the answers, and then the final report.
+pub(crate) fn replay<C: Form, R: Read, W: Write>(
     alloc: Global,
     scid: u16,
     reader: &mut R,
     writer: &mut W,
 ) -> Result<(), ScriptFault> {
     let script = read_whole(alloc, reader)?;
-    let mut progress = Progress::SettingUp(Configuration::new(alloc));
+    let mut progress: Progress<C> = Progress::SettingUp(Configuration::new(alloc));
     let lines = replay_lines(alloc, scid, &mut progress, script.as_slice(), writer)?;
     report(alloc, scid, &mut progress, writer, lines)
 }
 
 // Does the lines, and says how many there are.
-fn replay_lines<W: Write>(
+fn replay_lines<C: Form, W: Write>(
     alloc: Global,
     scid: u16,
-    progress: &mut Progress,
+    progress: &mut Progress<C>,
     script: &[u8],
     writer: &mut W,
 ) -> Result<u32, ScriptFault> {
@@ -47,10 +48,10 @@ fn replay_lines<W: Write>(
 }
 
 // Does a line, and writes its answer where it has one.
-fn replay_line<W: Write>(
+fn replay_line<C: Form, W: Write>(
     alloc: Global,
     scid: u16,
-    progress: &mut Progress,
+    progress: &mut Progress<C>,
     octets: &[u8],
     writer: &mut W,
     line: u32,
@@ -63,10 +64,10 @@ fn replay_line<W: Write>(
 }
 
 // What a line is answered: an operation its answer, and any other line nothing.
-fn answer_of(
+fn answer_of<C: Form>(
     alloc: Global,
     scid: u16,
-    progress: &mut Progress,
+    progress: &mut Progress<C>,
     octets: &[u8],
 ) -> Result<Option<Answer>, Reason> {
     match Instruction::of(alloc, parse_line(alloc, octets)?) {
@@ -83,7 +84,7 @@ fn answer_of(
     }
 }
 
-impl Progress {
+impl<C: Form> Progress<C> {
     fn add_channel(&mut self, settings: Settings) -> Result<(), Reason> {
         match self {
             Progress::SettingUp(list) => list.add_channel(settings),
@@ -112,7 +113,7 @@ impl Progress {
     ) -> Result<Answer, Reason> {
         self.begin(alloc, scid)?;
         match self {
-            Progress::Operating(rooms) => answer_to(alloc, rooms, operation),
+            Progress::Operating(channels) => answer_to(alloc, channels, operation),
             Progress::SettingUp(_) => Err(Reason::NoChannel),
         }
     }
@@ -120,8 +121,8 @@ impl Progress {
     // Makes the channels that were set up, where no operation came before.
     fn begin(&mut self, alloc: Global, scid: u16) -> Result<(), Reason> {
         if let Progress::SettingUp(list) = self {
-            let rooms = rooms_of(alloc, scid, list)?;
-            *self = Progress::Operating(rooms);
+            let channels = channels_of(alloc, scid, list)?;
+            *self = Progress::Operating(channels);
         }
         Ok(())
     }
@@ -129,36 +130,42 @@ impl Progress {
     // Writes what the channels have come to, if they are made.
     fn report<W: Write>(&self, writer: &mut W) -> Result<(), ScriptFault> {
         match self {
-            Progress::Operating(rooms) => rooms.report(writer).map_err(|_| ScriptFault::Write),
+            Progress::Operating(channels) => channels
+                .report(writer)
+                .map_err(|_| ScriptFault::Write),
             Progress::SettingUp(_) => Ok(()),
         }
     }
 }
 
 // The channels that were set up, if there are any.
-fn rooms_of(alloc: Global, scid: u16, list: &Configuration) -> Result<Rooms, Reason> {
+fn channels_of<C: Form>(alloc: Global, scid: u16, list: &Configuration) -> Result<Lone<C>, Reason> {
     if list.channels().is_empty() {
         return Err(Reason::NoChannel);
     }
-    Rooms::new(alloc, scid, list.copy(alloc)?.into_channels())
+    Lone::new(alloc, scid, list.copy(alloc)?.into_channels())
 }
 
-fn answer_to(alloc: Global, rooms: &mut Rooms, operation: Instruction) -> Result<Answer, Reason> {
+fn answer_to<C: Form>(
+    alloc: Global,
+    channels: &mut Lone<C>,
+    operation: Instruction,
+) -> Result<Answer, Reason> {
     match operation {
-        Instruction::Frame(octets) => Ok(rooms.bring(octets.as_slice())),
-        Instruction::Release(vcid) => Ok(rooms.release(vcid)),
-        Instruction::Take(vcid, apid) => rooms.take(alloc, vcid, apid),
-        Instruction::Unit(vcid, map) => rooms.unit(alloc, vcid, map),
-        Instruction::Clcw(vcid) => Ok(rooms.clcw(vcid)),
+        Instruction::Frame(octets) => channels.bring(octets.as_slice()),
+        Instruction::Release(vcid) => channels.release(vcid),
+        Instruction::Take(vcid, apid) => channels.take(alloc, vcid, apid),
+        Instruction::Unit(vcid, map) => channels.unit(alloc, vcid, map),
+        Instruction::Clcw(vcid) => channels.clcw(vcid),
         _ => Err(Reason::UnknownCommand),
     }
 }
 
 // The report at the end of a script with so many lines. Where no channel was set up there is none.
-fn report<W: Write>(
+fn report<C: Form, W: Write>(
     alloc: Global,
     scid: u16,
-    progress: &mut Progress,
+    progress: &mut Progress<C>,
     writer: &mut W,
     lines: u32,
 ) -> Result<(), ScriptFault> {

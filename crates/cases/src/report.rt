@@ -1,0 +1,12 @@
+//! The final report of a script, as the last of its answers.
+
+/// The report that ends these answers, which begins with the first word `final`. A script that ends with a fault has none.
+pub fn report_of<'a>(answers: &'a [u8], fault: &str) -> &'a [u8] {
+    let found = answers
+        .windows(5)
+        .position(|five| five == b"final".as_slice());
+    match found {
+        Some(start) if fault.is_empty() => answers.get(start..).unwrap_or(b""),
+        _ => b"",
+    }
+}
