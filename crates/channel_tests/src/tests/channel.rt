@@ -1,13 +1,11 @@
 mod faults;
 mod growth;
-mod maps;
-mod packets;
 mod queues;
 mod run;
+mod told;
 
 use run::{Run, Step};
 use std::alloc::Global;
-use std::fmt::Debug;
 use std::process::Abort;
 use tc_channel::{
     Channel, Delivery, Event, FrameReply, Items, MapSetting, NoMemory, Octets, QueueSetting,
@@ -125,18 +123,12 @@ fn settings(rt: &impl Abort, alloc: Global, wanted: &Wanted<'_>) -> Settings {
     }
 }
 
-// A channel by settings that make one; where memory may be refused, that is printed, and it is made again.
-fn new_channel(
-    rt: &(impl Abort + Print),
-    alloc: Global,
-    wanted: &Wanted<'_>,
-    refusable: bool,
-) -> Channel {
+// A channel by settings that make one; where memory is refused, that is printed, and it is made again.
+fn new_channel(rt: &(impl Abort + Print), alloc: Global, wanted: &Wanted<'_>) -> Channel {
     match Channel::new(alloc, settings(rt, alloc, wanted)) {
         Ok(channel) => channel,
         Err(fault) => {
             let _ = println!(rt; "refused: Channel::new");
-            assert!(rt; refusable);
             assert_eq!(rt; fault, SettingsFault::NoMemory);
             Channel::new(alloc, settings(rt, alloc, wanted)).expect(rt, "a channel")
         }
@@ -146,17 +138,6 @@ fn new_channel(
 // What a channel answers to the frame at the front of these octets.
 fn offer(rt: &impl Abort, channel: &mut Channel, octets: &[u8]) -> Result<FrameReply, NoMemory> {
     channel.frame(&read_frame(octets).expect(rt, "a frame"))
-}
-
-// A packet or a unit was taken, or the take was refused.
-fn check_item<E: Debug + Drop + PartialEq>(
-    rt: &impl Abort,
-    answer: Result<Vec<u8>, E>,
-    item: Option<&[u8]>,
-    fault: Option<E>,
-) {
-    assert_eq!(rt; answer.as_deref().ok(), item);
-    assert_eq!(rt; answer.err(), fault);
 }
 
 // Settings have this fault, or none, and make no channel because of it, or make one.

@@ -37,6 +37,29 @@ fn each_fault_of_settings(rt: HostRuntime) {
     }
 }
 
+// With segment headers or without, these MAPs and capacities, and the fault of such settings.
+static FAULTS_OF_MAPS: [(bool, &[(u8, u16)], Option<SettingsFault>); 7] = [
+    (true, &[(63, 256), (0, 1)], None),
+    (false, &[], None),
+    (true, &[(64, 0), (64, 0)], Some(SettingsFault::BadMap)),
+    (false, &[(3, 0), (3, 1)], Some(SettingsFault::DoubleMap)),
+    (false, &[(3, 0)], Some(SettingsFault::BadUnits)),
+    (true, &[(3, 257)], Some(SettingsFault::BadUnits)),
+    (false, &[(3, 1)], Some(SettingsFault::PlainMap)),
+];
+
+#[test]
+fn each_fault_of_maps(rt: HostRuntime) {
+    for &(segmented, maps, fault) in &FAULTS_OF_MAPS {
+        let wanted = Wanted {
+            segmented,
+            maps,
+            ..WANTED
+        };
+        check_fault(&rt, rt.alloc(), &wanted, fault)
+    }
+}
+
 fn check_text<T: Display>(rt: &impl Abort, alloc: Global, fault: &T, text: &str) {
     let written = fault.to_string(alloc).expect(rt, "an answer");
     assert_eq!(rt; written.as_str(), text);

@@ -49,10 +49,10 @@ static EACH_CALL: [Step<'static>; 9] = [
     Ad(0, ACCEPTED),
     Clcw(0x01040001),
     Holds(1, 0),
-    Release(Ok(ONE)),
+    Release,
     Clcw(0x01040001),
     Holds(0, 1),
-    Take(5, Ok(&PACKET)),
+    Take(5, &PACKET),
     Clcw(0x01040001),
     Holds(0, 0),
 ];
@@ -103,16 +103,16 @@ static UNITS_OF_TWO_PACKETS: [Step<'static>; 15] = [
     Frame(&TWO_PACKETS, BYPASSED, TWO),
     Clcw(0x01040200),
     Holds(0, 2),
-    Take(5, Ok(&PACKET)),
-    Take(5, Ok(&SECOND)),
+    Take(5, &PACKET),
+    Take(5, &SECOND),
     Clcw(0x01040200),
     Holds(0, 0),
     Frame(&TWO_APIDS, ACCEPTED, NOTHING),
     ReleaseOf("two packets", TWO),
     Clcw(0x01040201),
     Holds(0, 1),
-    Take(7, Ok(&SECOND_APID)),
-    Take(5, Ok(&PACKET)),
+    Take(7, &SECOND_APID),
+    Take(5, &PACKET),
     Clcw(0x01040201),
     Holds(0, 0),
 ];
@@ -129,15 +129,15 @@ const LAST_PART: [u8; 10] = [0x00, 0x2a, 0x04, 0x09, 0x02, 0x80, 0x00, 0x00, 0x0
 
 static TWO_SEGMENTS: [Step<'static>; 10] = [
     Ad(0, ACCEPTED),
-    Release(Ok(ONE)),
+    Release,
     Frame(&FIRST_PART, ACCEPTED, NOTHING),
     ReleaseOf("first segment", NOTHING),
     Frame(&LAST_PART, ACCEPTED, NOTHING),
     ReleaseOf("two segments", ONE),
     Clcw(0x01040003),
     Holds(0, 2),
-    Take(5, Ok(&PACKET)),
-    Take(5, Ok(&PACKET)),
+    Take(5, &PACKET),
+    Take(5, &PACKET),
 ];
 
 #[test]
@@ -162,8 +162,8 @@ static PLAIN_FIELDS: [Step<'static>; 11] = [
     ReleaseOf("plain field", ONE),
     Clcw(0x01040201),
     Holds(0, 2),
-    Take(5, Ok(&PACKET)),
-    Take(5, Ok(&PACKET)),
+    Take(5, &PACKET),
+    Take(5, &PACKET),
     Clcw(0x01040201),
     Holds(0, 0),
 ];
@@ -188,8 +188,8 @@ static CHOSEN_MAP: [Step<'static>; 11] = [
     ReleaseOf("two segments of a chosen MAP", ONE),
     Clcw(0x01040202),
     Holds(0, 0),
-    TakeUnit(3, Ok(&[0xaa, 0xbb])),
-    TakeUnit(3, Ok(&[0xcc, 0xdd])),
+    TakeUnit(3, &[0xaa, 0xbb]),
+    TakeUnit(3, &[0xcc, 0xdd]),
     Clcw(0x01040202),
     Holds(0, 0),
 ];
@@ -201,7 +201,7 @@ fn growth_of_units_of_a_chosen_map(rt: HostRuntime) {
 
 static TAKE_OF_A_UNIT: [Step<'static>; 2] = [
     Frame(&WHOLE_BD, BYPASSED, ONE),
-    TakeUnit(3, Ok(&[0xaa, 0xbb])),
+    TakeUnit(3, &[0xaa, 0xbb]),
 ];
 
 // So many frames that are discarded come before, so that the journal grows in a take of a unit once.
