@@ -5,15 +5,9 @@
  *                          in each channel's buffer, and skips all others; it tells no delivery
  *   answers clcws          tells the fields of each line's first word, where it is a CLCW, and writes it again
  */
-#include "../tcrx.h"
+#include "script.h"
 
-#include <inttypes.h>
 #include <stdbool.h>
-#include <stdio.h>
-#include <stdlib.h>
-#include <string.h>
-
-enum { CHANNELS = 64, MOST_LINE = 1 << 20 };
 
 typedef struct {
     bool there;
@@ -22,18 +16,6 @@ typedef struct {
 } channel;
 
 static channel channels[CHANNELS];
-static char line[MOST_LINE + 2];
-static uint8_t octets[MOST_LINE / 2];
-
-static unsigned number(void) {
-    const char *word = strtok(NULL, " \t\r\n");
-    return word == NULL ? 0 : (unsigned)strtoul(word, NULL, 10);
-}
-
-static void fail(const char *what, tcrx_status status) {
-    printf("%s: status %" PRIu32 "\n", what, status);
-    exit(1);
-}
 
 static void set_up(void) {
     const unsigned vcid = number(), width = number(), size = number(), first = number();
@@ -45,27 +27,6 @@ static void set_up(void) {
     channels[vcid].farm = started.farm;
     channels[vcid].size = size;
     channels[vcid].buffered = 0;
-}
-
-static const char *refusal(tcrx_status status) {
-    switch (status) {
-    case TCRX_SHORT: return "short";
-    case TCRX_BAD_VERSION: return "version";
-    case TCRX_SPARE: return "spare";
-    case TCRX_LENGTH_SMALL: return "length";
-    case TCRX_TRUNCATED: return "truncated";
-    default: return "by another status";
-    }
-}
-
-static size_t read_octets(void) {
-    const char *digits = strtok(NULL, " \t\r\n");
-    size_t count = 0;
-    for (; digits != NULL && digits[2 * count] != '\0'; count++) {
-        const char pair[3] = {digits[2 * count], digits[2 * count + 1], '\0'};
-        octets[count] = (uint8_t)strtoul(pair, NULL, 16);
-    }
-    return count;
 }
 
 static void bring(unsigned scid) {

@@ -6,10 +6,9 @@
  */
 #define _POSIX_C_SOURCE 200809L
 #include "../tcrx.h"
+#include "expecting.h"
 
 #include <signal.h>
-#include <stdbool.h>
-#include <stdio.h>
 #include <string.h>
 #include <sys/wait.h>
 #include <unistd.h>
@@ -27,14 +26,6 @@ enum { OCTETS = 100001, BLOCKS = 400, PROCESSES = 1000 };
 TCRX_STATIC_STORAGE(OCTETS);
 
 static struct { uint8_t *at; size_t count; } blocks[BLOCKS];
-static uint64_t state;
-
-static size_t below(size_t end) {
-    state ^= state << 13;
-    state ^= state >> 7;
-    state ^= state << 17;
-    return (size_t)(state >> 11) % end;
-}
 
 /* Fills the array with blocks; whether each was as it must be. */
 static bool fill(void) {

@@ -10,15 +10,11 @@
  * Where it is compiled with SEALED, it is linked with tcrx_static.c, and the storage is sealed once all channels are made: a request
  * for memory by any call after that ends it.
  */
-#include "../tcrx.h"
+#include "script.h"
 
-#include <inttypes.h>
 #include <stdbool.h>
-#include <stdio.h>
-#include <stdlib.h>
-#include <string.h>
 
-enum { CHANNELS = 64, MOST_LINE = 1 << 20, MOST_ENTRIES = 2048, MOST_OCTETS = 70000 };
+enum { MOST_ENTRIES = 2048, MOST_OCTETS = 70000 };
 
 typedef struct {
     bool there;
@@ -36,22 +32,7 @@ TCRX_STATIC_STORAGE(SEALED);
 
 static receiver receivers[CHANNELS];
 static bool made;
-static char line[MOST_LINE + 2];
-static uint8_t octets[MOST_LINE / 2], taken[MOST_OCTETS];
-
-static void fail(const char *what, tcrx_status status) {
-    printf("%s: status %" PRIu32 "\n", what, status);
-    exit(1);
-}
-
-static const char *word(void) {
-    return strtok(NULL, " \t\r\n");
-}
-
-static unsigned number(void) {
-    const char *digits = word();
-    return digits == NULL ? 0 : (unsigned)strtoul(digits, NULL, 10);
-}
+static uint8_t taken[MOST_OCTETS];
 
 static receiver *find(unsigned vcid) {
     return vcid < CHANNELS && receivers[vcid].there ? &receivers[vcid] : NULL;
@@ -65,7 +46,7 @@ static void set_up(const char *what) {
     receiver *at = &receivers[vcid];
     if (strcmp(what, "channel") == 0) {
         const unsigned width = number(), buffer = number(), first = number();
-        const tcrx_settings settings = {(uint8_t)vcid, (uint8_t)width, (uint8_t)buffer, (uint8_t)first, word() == NULL ? 1 : 0};
+        const tcrx_settings settings = {(uint8_t)vcid, (uint8_t)width, (uint8_t)buffer, (uint8_t)first, next_word() == NULL ? 1 : 0};
         const tcrx_channel none = TCRX_HOLDS_NONE;
         at->there = true;
         at->held = none;
@@ -121,7 +102,7 @@ static size_t octets_for[CHANNELS];
 
 static void find_limits(void) {
     while (next_line()) {
-        const char *what = strtok(line, " \t\r\n"), *digits = what != NULL && strcmp(what, "frame") == 0 ? word() : NULL;
+        const char *what = strtok(line, " \t\r\n"), *digits = what != NULL && strcmp(what, "frame") == 0 ? next_word() : NULL;
         if (digits != NULL && strlen(digits) > 5) {
             const char third[3] = {digits[4], digits[5], '\0'};
             octets_for[strtoul(third, NULL, 16) >> 2] += strlen(digits) / 2;
@@ -157,30 +138,6 @@ static void make_all(void) {
     }
 #endif
     made = true;
-}
-
-static const char *refusal(tcrx_status status) {
-    switch (status) {
-    case TCRX_SHORT: return "short";
-    case TCRX_BAD_VERSION: return "version";
-    case TCRX_SPARE: return "spare";
-    case TCRX_LENGTH_SMALL: return "length";
-    case TCRX_TRUNCATED: return "truncated";
-    case TCRX_NO_QUEUE: return "no queue";
-    case TCRX_NO_MAP: return "no map";
-    case TCRX_EMPTY: return "empty";
-    default: return "by another status";
-    }
-}
-
-static size_t read_octets(void) {
-    const char *digits = word();
-    size_t count = 0;
-    for (; digits != NULL && digits[2 * count] != '\0'; count++) {
-        const char pair[3] = {digits[2 * count], digits[2 * count + 1], '\0'};
-        octets[count] = (uint8_t)strtoul(pair, NULL, 16);
-    }
-    return count;
 }
 
 static void bring(unsigned scid) {

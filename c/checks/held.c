@@ -5,24 +5,10 @@
  * Where it is compiled with LIMITED, channels without limits have units of 16 octets, for machines that are slow.
  */
 #include "../tcrx.h"
+#include "expecting.h"
 
-#include <stdbool.h>
-#include <stdio.h>
 #include <stdlib.h>
 #include <string.h>
-
-static unsigned long passed, failed;
-
-static void expect(bool good, const char *what, unsigned long place) {
-    if (good) {
-        passed += 1;
-        return;
-    }
-    failed += 1;
-    if (failed <= 20) {
-        printf("%s, case %lu\n", what, place);
-    }
-}
 
 static const tcrx_settings good_settings = {63, 254, 64, 255, 1};
 static const tcrx_queue good_queues[] = {{0, 1}, {2046, 256}};
@@ -236,6 +222,5 @@ int main(void) {
     check_rooms(&channel);
     expect(tcrx_channel_free(&channel) == TCRX_DONE, "a channel freed", 0);
     check_none(&channel, TCRX_NO_CHANNEL, 2);
-    printf("%lu answers of refused calls of a channel as they must be, %lu otherwise\n", passed, failed);
-    return failed == 0 && passed > 0 ? 0 : 1;
+    return close_with("answers of refused calls of a channel");
 }

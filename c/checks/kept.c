@@ -7,10 +7,8 @@
  * last line says how many things were as they must be.
  */
 #include "../tcrx.h"
+#include "expecting.h"
 
-#include <stdbool.h>
-#include <stdio.h>
-#include <stdlib.h>
 #include <string.h>
 
 enum { ROOM = 256, LONGEST = 1018, PACKET = 7, UNIT = 2 * ROOM * PACKET };
@@ -31,16 +29,6 @@ void *__wrap_malloc(size_t count) {
 void __wrap_free(void *at) {
     given_back += 1;
     __real_free(at);
-}
-
-static unsigned long passed, failed;
-
-static void expect(bool good, const char *what, unsigned long place) {
-    passed += good ? 1 : 0;
-    failed += good ? 0 : 1;
-    if (!good && failed <= 20) {
-        printf("%s, %lu\n", what, place);
-    }
 }
 
 static const tcrx_settings settings = {1, 10, 4, 0, 1};
@@ -141,6 +129,5 @@ int main(void) {
     check_full();
     expect(asked == made && given_back == before, "blocks that are asked for or given back by a call", asked - made);
     expect(tcrx_channel_free(&channel) == TCRX_DONE && asked == given_back, "what is left", asked - given_back);
-    printf("%lu things that a channel holds as they must be, %lu otherwise\n", passed, failed);
-    return failed == 0 && passed > 0 ? 0 : 1;
+    return close_with("things that a channel holds");
 }

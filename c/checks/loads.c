@@ -10,10 +10,8 @@
  * other sizes; `comb`, small packets between large ones, of which the large ones go.
  */
 #include "../tcrx.h"
+#include "expecting.h"
 
-#include <inttypes.h>
-#include <stdbool.h>
-#include <stdio.h>
 #include <stdlib.h>
 #include <string.h>
 
@@ -40,15 +38,6 @@ static plan with;
 static uint8_t next_ns;
 static uint64_t calls, wrong;
 static uint8_t unit[MOST_PACKET], taken[MOST_PACKET];
-
-/* A number below `end`, by Marsaglia's shifts. */
-static size_t below(size_t end) {
-    static uint64_t state = UINT64_C(88172645463325252);
-    state ^= state << 13;
-    state ^= state >> 7;
-    state ^= state << 17;
-    return (size_t)(state >> 11) % end;
-}
 
 static void count(tcrx_status status) {
     calls += 1;

@@ -3,24 +3,10 @@
  * its status, leave what the caller has, and do no more. The last line says how many were as they must be.
  */
 #include "../tcrx.h"
+#include "expecting.h"
 
-#include <stdbool.h>
-#include <stdio.h>
 #include <stdlib.h>
 #include <string.h>
-
-static unsigned long passed, failed;
-
-static void expect(bool good, const char *what, unsigned long place) {
-    if (good) {
-        passed += 1;
-        return;
-    }
-    failed += 1;
-    if (failed <= 20) {
-        printf("%s, case %lu\n", what, place);
-    }
-}
 
 static bool is_same(tcrx_farm a, tcrx_farm b) {
     return a.width == b.width && a.state == b.state && a.vr == b.vr && a.farm_b == b.farm_b && a.lockout == b.lockout
@@ -291,6 +277,5 @@ int main(void) {
     check_reading();
     check_writing();
     check_texts();
-    printf("%lu answers of refused and bounded calls as they must be, %lu otherwise\n", passed, failed);
-    return failed == 0 && passed > 0 ? 0 : 1;
+    return close_with("answers of refused and bounded calls");
 }

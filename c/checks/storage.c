@@ -8,11 +8,7 @@
  * The memory is that of tcrx_memory.c, whose calls of malloc and free the linker leads here: by --wrap=malloc and --wrap=free.
  */
 #include "../tcrx.h"
-
-#include <inttypes.h>
-#include <stdbool.h>
-#include <stdio.h>
-#include <stdlib.h>
+#include "expecting.h"
 
 enum { MOST_QUEUES = 2047, MOST_MAPS = 64, LARGEST = 65542, OWN = 256, MADE = 2000000 };
 
@@ -56,24 +52,6 @@ typedef struct {
     tcrx_limit limits[MOST_MAPS + 1];
     size_t limit_count;
 } plan;
-
-static unsigned long passed, failed;
-
-static void expect(bool good, const char *what, uint64_t place) {
-    passed += good ? 1 : 0;
-    failed += good ? 0 : 1;
-    if (!good && failed <= 20) {
-        printf("%s, case %" PRIu64 "\n", what, place);
-    }
-}
-
-static size_t below(size_t end) {
-    static uint64_t state = UINT64_C(88172645463325252);
-    state ^= state << 13;
-    state ^= state >> 7;
-    state ^= state << 17;
-    return (size_t)(state >> 11) % end;
-}
 
 /* The limit of a MAP, the largest of all, and all of them together. */
 static uint32_t limit_of(const plan *p, unsigned map) {
@@ -284,6 +262,5 @@ int main(int count, char **words) {
     check_named();
     check_nothing();
     for (uint64_t place = 0; place < 20000; place++) check_any(place);
-    printf("%lu answers about storage as they must be, %lu otherwise\n", passed, failed);
-    return failed == 0 && passed > 0 ? 0 : 1;
+    return close_with("answers about storage");
 }
