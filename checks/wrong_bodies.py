@@ -5,6 +5,7 @@ A wrong body is added to such a copy next to the right one, as a function of its
 edit changes are given away. checks/refuse_edits says why, and tries them.
 """
 import re
+from collections import Counter
 from dataclasses import dataclass, field, replace
 from functools import cached_property
 from pathlib import Path
@@ -53,6 +54,23 @@ unsafe extern "C" {
 
 class Fault(Exception):
     """Why something can't be tried."""
+
+
+def exits_of(text: str) -> Counter[str]:
+    """How many exits of each kind a text has, as far as it shows."""
+    return Counter(EXIT.findall(text))
+
+
+def fault_of_alike(old: str, new: str, alike: str) -> str:
+    """Why a text is no control for an edit, or nothing: it is to have the exits of the new text, which the old one hasn't, and another
+    value."""
+    if alike == new:
+        return "is the 'new:' text itself"
+    if exits_of(alike) == exits_of(old):
+        return "has the exits of the 'old:' text"
+    if exits_of(alike) != exits_of(new):
+        return "hasn't the exits of the 'new:' text"
+    return ""
 
 
 def module_of(file: str) -> list[str]:
@@ -323,6 +341,9 @@ class Crate:
                 raise Fault(f"{path.name}: an 'old:' text stands in {file} {found} times, and not once")
         if not edit.changes:
             raise Fault(f"{path.name}: it changes nothing")
+        faults = [fault_of_alike(*edit.changes[at][1:], alike) for at, alike in edit.alikes.items()]
+        if any(faults):
+            raise Fault(f"{path.name}: its '{ALIKE.strip()}' text {max(faults)}")
         edit.function = self.edited_function(edit)
         clauses = self.clauses_of(edit.function) if edit.function else []
         if edit.turned and clauses and edit.turned not in (*clauses, *NO_CLAUSE):
