@@ -6,11 +6,11 @@ use Rattle.std.proofs.lemmas.List.{map-append, reverse-append, reverse-reverse, 
 use Rattle.std.proofs.lemmas.List.Sums.{sum_by_more, sum_by-cons}
 use Rattle.std.proofs.lemmas.List.Elements.{All-tail, All-head}
 use Rattle.std.proofs.lemmas.Option.{none-some, same_Some, slice_get_within, get_or_from_slice_get}
-use Rattle.logged_lock.specs.Log.{total_made, AreBehind, IsMergeOf}
+use Rattle.logged_lock.specs.Log.{total_made, AreBehind, IsBeginning, IsMergeOf}
 use Rattle.tc_channel.specs.declared.event.Event.{Event}
 use Rattle.tc_channel.specs.Journal.{History}
 use Rattle.tc_desk.specs.{TableId}
-use Rattle.tc_desk.specs.Log.{Own, Sight, Moment, AtLock, AtHand, accounts_of}
+use Rattle.tc_desk.specs.Log.{Own, Sight, Moment, AtLock, AtHand, accounts_of, told_at}
 use Rattle.tc_desk.specs.Closing.{IsBalanced, IsClosed}
 use Rattle.tc_desk.specs.declared.together.Refusal.{Refusal}
 use Rattle.tc_desk.specs.declared.together.Refusal.TheVariants.{Unbalanced}
@@ -189,19 +189,15 @@ row_at (x ∷ hs) [] place h is at = let l = ap (λ (y : List TableId). length y
 row_at (x ∷ hs) (o ∷ os) zero h is at = ap (λ (y : AtHand). Some (told_one y o)) (same_Some x h at)
 row_at (x ∷ hs) (o ∷ os) (suc place) h is at = row_at hs os place h (ap (λ (y : List TableId). drop 1 y) is) at
 
--- what the keeper of a desk is told in all
-abbrev told_at : AtHand → List Own → AtHand
-told_at h accounts = record { keeper = h.keeper; now = h.now; told = h.told ++ accounts }
-
 rows_at : (hs : List AtHand) (rows : List (List AtLock)) (place : ℕ) (h : AtHand) → AreOurs (keepers_of hs) rows → slice_get hs place ≡ Some h
     → slice_get (told_rows hs rows) place ≡ Some (told_at h (accounts_of (column place rows)))
-rows_at hs [] place h ours at = at ∙ ap (λ (t : List Own). Some (record { keeper = h.keeper; now = h.now; told = t })) (sym (append-nil h.told))
+rows_at hs [] place h ours at = at ∙ ap (λ (t : List Own). Some (record { desk = h.desk; keeper = h.keeper; now = h.now; told = t })) (sym (append-nil h.told))
 rows_at hs (row ∷ rows) place h ours at =
     let own = (get_or row place nobody).own in
     let first = row_at hs row place h (All-head (λ (crew : List AtLock). locks_of crew ≡ locks_of (keepers_of hs)) row rows ours) at in
     let rest : AreOurs (keepers_of hs) rows = All-tail (λ (crew : List AtLock). locks_of crew ≡ locks_of (keepers_of hs)) row rows ours in
     rows_at (told_row hs row) rows place (told_one h (get_or row place nobody)) (ours_after hs row rows rest) first
-    ∙ ap (λ (t : List Own). Some (record { keeper = h.keeper; now = h.now; told = t })) (append_assoc h.told (own ∷ []) (accounts_of (column place rows)))
+    ∙ ap (λ (t : List Own). Some (record { desk = h.desk; keeper = h.keeper; now = h.now; told = t })) (append_assoc h.told (own ∷ []) (accounts_of (column place rows)))
 
 keeper_at : (hs : List AtHand) (place : ℕ) (post : AtLock) → slice_get (keepers_of hs) place ≡ Some post → (h : AtHand) × (slice_get hs place ≡ Some h) × (h.keeper ≡ post)
 keeper_at [] place post at = absurd (none-some _ at)
@@ -256,11 +252,12 @@ settings_out [] (d ∷ cs) all = absurd all
 settings_out (g ∷ hs) [] all = absurd all
 settings_out (g ∷ hs) (d ∷ cs) all = λ i. all.0.settings i ∷ settings_out hs cs all.1 i
 
-closed_one : (h : AtHand) (operators : List AtLock) (c : History) → IsFresh h → IsBalanced (accounts_of operators) h.now.entries → IsOut (told_at h (accounts_of operators)) c → IsClosed h.keeper operators c
-closed_one h operators c fresh balanced out =
+pub closed_one : (h : AtHand) (operators : List AtLock) (c : History) → h.told ≡ [] → IsBeginning h.keeper.own.seen h.now → IsBalanced (accounts_of operators) h.now.entries
+    → IsOut (told_at h (accounts_of operators)) c → IsClosed h.keeper operators c
+closed_one h operators c none later balanced out =
     let accounts = accounts_of operators in
-    let told : h.told ++ accounts ≡ accounts = ap (λ (t : List Own). t ++ accounts) fresh.0 in
-    let now : h.now ≡ record { head = h.keeper.own.seen.head; entries = c.journal } = λ i. record { head = fresh.1.0 i; entries = sym out.journal i } in
+    let told : h.told ++ accounts ≡ accounts = ap (λ (t : List Own). t ++ accounts) none in
+    let now : h.now ≡ record { head = h.keeper.own.seen.head; entries = c.journal } = λ i. record { head = later.0 i; entries = sym out.journal i } in
     record {
       settings = out.settings;
       balanced = subst (λ (journal : List Event). IsBalanced accounts journal) (sym out.journal) balanced;
@@ -282,7 +279,7 @@ closed_all posts rows held told closed moments ours balanced all is =
           let inside = slice_get_within held place h found.1 in
           let fresh : IsFresh h = subst IsFresh (get_or_from_slice_get held place h h found.1) (moments.1 place h inside) in
           subst (λ (p : AtLock). IsClosed p (column place rows) channel) found.2
-          (closed_one h (column place rows) channel fresh (balanced place h found.1) (out_at (told_rows held rows) closed place _ channel out (rows_at held rows place h ours_held found.1) there));
+          (closed_one h (column place rows) channel fresh.0 fresh.1 (balanced place h found.1) (out_at (told_rows held rows) closed place _ channel out (rows_at held rows place h ours_held found.1) there));
     }
 
 -- desks that aren't balanced are a refusal

@@ -1,21 +1,20 @@
--- What the first seat learns of operators, one after the other.
+-- What a keeper learns of operators, one after the other.
 use Rattle.std.proofs.Common.{◌≡◌, ◌<◌, ◌≤◌, ◌+◌, ℕ, suc, List, [], ◌∷◌, ◌++◌, length, take, get_or, min, refl, sym, ap, subst, ◌∙◌, append_assoc, arith}
 use Rattle.std.specs.Prelude.{◌^◌, ◌-◌, All}
 use Rattle.tc_desk.specs.{TableId}
 use Rattle.std.specs.List.{sum_by}
 use Rattle.std.proofs.lemmas.List.{take_all}
 use Rattle.std.proofs.lemmas.List.Sums.{sum_by_more, sum_by-cons}
-use Rattle.logged_lock.specs.Log.{total_made, AreBehind}
-use Rattle.tc_channel.specs.declared.event.Event.{Event}
-use Rattle.tc_desk.specs.Log.{Own, Sight, Moment, AtLock, accounts_of, told_all}
+use Rattle.logged_lock.specs.Log.{total_made}
+use Rattle.tc_desk.specs.Log.{Own, AtLock, AtHand, accounts_of, told_at}
 
 pub accounts-more : (os : List AtLock) (o : AtLock) → accounts_of (os ++ o ∷ []) ≡ accounts_of os ++ o.own ∷ []
 accounts-more [] o = refl
 accounts-more (x ∷ os) o = ap (λ (l : List Own). x.own ∷ l) (accounts-more os o)
 
--- the first seat was told of one more
-pub told_next : (v : Sight) (os : List AtLock) (o : AtLock) → told_all (told_all v (accounts_of os)) (o.own ∷ []) ≡ told_all v (accounts_of (os ++ o ∷ []))
-told_next v os o = λ i. record { live = v.live; locks = v.locks; own = v.own; told = (append_assoc v.told (accounts_of os) (o.own ∷ []) ∙ ap (λ (l : List Own). v.told ++ l) (sym (accounts-more os o))) i }
+-- the keeper was told of one more
+pub told_next : (h : AtHand) (os : List AtLock) (o : AtLock) → told_at (told_at h (accounts_of os)) (o.own ∷ []) ≡ told_at h (accounts_of (os ++ o ∷ []))
+told_next h os o = ap (λ (t : List Own). record { desk = h.desk; keeper = h.keeper; now = h.now; told = t }) (append_assoc h.told (accounts_of os) (o.own ∷ []) ∙ ap (λ (l : List Own). h.told ++ l) (sym (accounts-more os o)))
 
 -- how many events they have made in all
 pub total-sum : (os : List AtLock) → total_made (accounts_of os) ≡ sum_by (λ (o : AtLock). length o.own.made) os
@@ -40,10 +39,3 @@ all_counted os i total end so = so ∙ ap (λ (m : ℕ). min m most) (ap (λ (l 
 -- what is so of all is so of the rest
 pub all_of_rest : (lock : TableId) (l : List AtLock) (o : AtLock) (rest : List AtLock) → l ≡ o ∷ rest → All (λ (x : AtLock). x.lock ≡ lock) l → All (λ (x : AtLock). x.lock ≡ lock) rest
 all_of_rest lock l o rest is all = λ k d lt. subst (All (λ (x : AtLock). x.lock ≡ lock)) is all (suc k) d (omega arith)
-
--- what the first seat has learned is behind what it has seen
-pub behind_all : (v w : Sight) (makers : List Own) (journal : List Event) → v.told ≡ [] → w ≡ told_all v makers → AreBehind w.told w.own.seen → journal ≡ v.own.seen.entries → AreBehind makers (record { head = v.own.seen.head; entries = journal })
-behind_all v w makers journal none all behind is =
-    let told : w.told ≡ makers = ap (λ (x : Sight). x.told) all ∙ ap (λ (l : List Own). l ++ makers) none in
-    let seen : w.own.seen ≡ record { head = v.own.seen.head; entries = journal } = ap (λ (x : Sight). x.own.seen) all ∙ (λ i. record { head = v.own.seen.head; entries = sym is i }) in
-    subst (λ (x : List Own × Moment). AreBehind x.0 x.1) (λ i. (told i, seen i)) behind

@@ -9,7 +9,7 @@ use Rattle.logged_lock.specs.declared.views.Log.{Log}
 use Rattle.logged_lock.specs.declared.views.Account.{Account}
 use Rattle.logged_lock.specs.declared.views.View.{View}
 use Rattle.logged_lock.specs.Log.{start_of}
-use Rattle.logged_lock.specs.Rule.{gone}
+use Rattle.logged_lock.specs.Rule.{LockAt, gone}
 use Rattle.tc_status.specs.Desk.{AtDesk}
 
 -- what never changes of a desk: the settings of its channel, and the board on which it is published
@@ -76,12 +76,13 @@ count_of own = min (length own.made) (2 ^ 64 - 1)
 abbrev pub accounts_of : List AtLock → List Own
 accounts_of operators = map (λ (o : AtLock). o.own) operators
 
--- the first seat, once it was told what these have seen and made
-abbrev pub told_all : Sight → List Own → Sight
-told_all v accounts = record { live = v.live; locks = v.locks; own = v.own; told = v.told ++ accounts }
-
 -- a desk whose lock its keeper has: the keeper before, the desk as it is, and what the keeper was told of operators
 pub record AtHand : Type 0 where
+  pub desk : LockAt Identity
   pub keeper : AtLock
   pub now : Moment
   pub told : List Own
+
+-- the same, once the keeper was told what these have seen and made, too
+abbrev pub told_at : AtHand → List Own → AtHand
+told_at h accounts = record { desk = h.desk; keeper = h.keeper; now = h.now; told = h.told ++ accounts }

@@ -1,12 +1,12 @@
 -- When desks are closed together, and what their channels are to those who worked at them.
-use Rattle.std.specs.Prelude.{◌≡◌, ℕ, List, [], ◌∷◌, ◌++◌, length, map, slice_get, slice_index_or, Some, All}
+use Rattle.std.specs.Prelude.{◌≡◌, ℕ, List, [], ◌∷◌, length, map, slice_get, slice_index_or, Some, All}
 use Rattle.std.specs.List.{AllZip}
 use Rattle.tc_desk.specs.{TableId}
 use Rattle.tc_channel.specs.Journal.{History}
 use Rattle.tc_channel.specs.declared.settings.Settings.{Settings}
 use Rattle.logged_lock.specs.Log.{IsBeginning, total_made, IsMergeOf, AreBehind}
 use Rattle.logged_lock.specs.Rule.{gone}
-use Rattle.tc_desk.specs.Log.{AtLock, AtHand, Identity, nowhere, accounts_of}
+use Rattle.tc_desk.specs.Log.{AtLock, AtHand, Identity, nowhere, accounts_of, told_at}
 use Rattle.tc_desk.specs.Closing.{IsBalanced, IsClosed}
 use Rattle.tc_desk.specs.declared.together.Refusal.{Refusal}
 use Rattle.tc_desk.specs.declared.together.Refusal.TheVariants.{NoMemory, Held, Unbalanced}
@@ -42,9 +42,9 @@ pub record AreClosed (posts : List AtLock) (crews : List (List AtLock)) (closed 
 abbrev pub keepers_of : List AtHand → List AtLock
 keepers_of list = map (λ (h : AtHand). h.keeper) list
 
--- the desk goes on from what its keeper had seen, to which nothing was told
+-- the desk is its keeper's, and goes on from what its keeper had seen, to which nothing was told
 abbrev pub IsFresh : AtHand → Type 0
-IsFresh h = (h.told ≡ []) × IsBeginning h.keeper.own.seen h.now
+IsFresh h = (h.told ≡ []) × IsBeginning h.keeper.own.seen h.now × (h.keeper.own.seen.head ≡ h.desk.head)
 
 -- these moments of the desks: each a later one than its keeper has seen
 abbrev pub AreMoments : List AtLock → List AtHand → Type 0
@@ -62,7 +62,7 @@ IsRefusal posts crews Unbalanced = (held : List AtHand) × AreMoments posts held
 
 -- the keeper was told of one operator more
 abbrev pub told_one : AtHand → AtLock → AtHand
-told_one h o = record { keeper = h.keeper; now = h.now; told = h.told ++ o.own ∷ [] }
+told_one h o = told_at h (o.own ∷ [])
 
 -- the keepers were told of the operators of one crew
 abbrev pub told_row : List AtHand → List AtLock → List AtHand

@@ -1,15 +1,13 @@
 //! A desk whose lock its keeper has.
 
-ghost use Rattle.crossbeam_utils.specs.Padded.{padded_value};
-ghost use Rattle.std.specs.Prelude.{◌≡◌, [], ◌∷◌, ◌++◌, min, length, ◌^◌, ◌-◌, IfOk, IfErr, IsSome};
+ghost use Rattle.std.specs.Prelude.{◌≡◌, [], ◌∷◌, ◌↔◌, min, length, ◌^◌, ◌-◌, IfOk, IfErr, IsTrue, List};
 ghost use Rattle.logged_lock.specs.Log.{IsBeginning, total_made, IsMergeOf, AreBehind};
-ghost use Rattle.logged_lock.specs.Rule.{HasLock};
-ghost use Rattle.tc_desk.specs.Log.{AtLock, AtHand, log_of};
+ghost use Rattle.tc_desk.specs.Log.{Own, told_at};
+ghost use Rattle.tc_desk.specs.Closing.{IsBalanced};
 
 use crate::kept::KeptDesk;
 use crate::locked::{DeskKeeper, DeskLock, DeskOperator, DeskSeat, LockedDesk, answer_at};
 use crate::operation::Counting;
-use crate::post::Post;
 use std::marker::Model;
 use std::snapshot::Snapshot;
 use tc_channel::{ChannelWith, Journal};
@@ -31,9 +29,9 @@ impl<J: Journal> Model for HeldDesk<J> {
 
     ghost Value = { AtHand };
 
-    ghost view = { λ h. record { keeper = h.keeper.value; now = h.first.me.0.own.seen; told = h.first.me.0.told } };
+    ghost view = { λ h. record { desk = h.lock; keeper = h.keeper.value; now = h.first.me.0.own.seen; told = h.first.me.0.told } };
 
-    ghost invariant = { λ h. (h.first.table_id ≡ h.lock.id) × (h.keeper.value.lock ≡ h.lock.id) × (h.keeper.value.own.seen.head ≡ h.lock.head) × (h.first.id ≡ 0)
+    ghost invariant = { λ h. (h.first.table_id ≡ h.lock.id) × (h.keeper.value.lock ≡ h.lock.id) × (h.first.id ≡ 0)
         × (h.first.me.0.own.seen.head ≡ h.keeper.value.own.seen.head)
         × (h.events ≡ min (length h.first.me.0.own.seen.entries) (2 ^ 64 - 1))
         × HasLock (λ k. log_of (padded_value k.desk)) (λ k. IsSome (padded_value k.desk)) h.first.me h.first.me.0.own.seen };
@@ -41,24 +39,22 @@ impl<J: Journal> Model for HeldDesk<J> {
 
 impl<J: Journal> HeldDesk<J> {
     /// Takes the lock if it is free.
-    pub(crate) fn hold(post: Post<J>) -> Result<HeldDesk<J>, Post<J>>
-        ensures keeper { IfOk result (λ held. held.keeper ≡ post) }
+    pub(crate) fn hold(
+        desk: LockedDesk<J>,
+        keeper: DeskKeeper,
+    ) -> Result<HeldDesk<J>, (LockedDesk<J>, DeskKeeper)>
+        requires { keeper.lock ≡ desk.id }
+        ensures desk { IfOk result (λ held. held.desk ≡ desk) }
+        ensures keeper { IfOk result (λ held. held.keeper ≡ keeper) }
         ensures told { IfOk result (λ held. held.told ≡ []) }
-        ensures later { IfOk result (λ held. IsBeginning post.own.seen held.now) }
-        ensures refused { IfErr result (λ left. left ≡ post) }
+        ensures later { IfOk result (λ held. IsBeginning held.keeper.own.seen held.now) }
+        ensures refused { IfErr result (λ left. (left.0 ≡ desk) × (left.1 ≡ keeper)) }
     {
-        let Post {
-            desk: LockedDesk { lock },
-            keeper,
-        } = post;
+        let LockedDesk { lock } = desk;
         let snapshot = Snapshot::of(&keeper);
         let mut first: DeskSeat<J> = keeper.into_badge().into_seat();
         if !lock.try_lock(&mut first) {
-            let keeper = DeskKeeper::of(first.into_badge());
-            return Err(Post {
-                desk: LockedDesk { lock },
-                keeper,
-            });
+            return Err((LockedDesk { lock }, DeskKeeper::of(first.into_badge())));
         }
         let events = answer_at(&lock, &mut first, &Counting);
         Ok(HeldDesk {
@@ -70,10 +66,12 @@ impl<J: Journal> HeldDesk<J> {
     }
 
     /// Gives the lock back.
-    pub(crate) fn let_go(self) -> Post<J>
+    pub(crate) fn let_go(self) -> (LockedDesk<J>, DeskKeeper)
         requires { self.told ≡ [] }
-        ensures lock { result.lock ≡ self.keeper.lock }
-        ensures head { result.own.seen.head ≡ self.keeper.own.seen.head }
+        ensures desk { result.0 ≡ self.desk }
+        ensures own { result.1.lock ≡ self.desk.id }
+        ensures lock { result.1.lock ≡ self.keeper.lock }
+        ensures head { result.1.own.seen.head ≡ self.keeper.own.seen.head }
     {
         let HeldDesk {
             lock,
@@ -82,23 +80,20 @@ impl<J: Journal> HeldDesk<J> {
             keeper: _,
         } = self;
         lock.unlock(&mut first);
-        Post {
-            desk: LockedDesk { lock },
-            keeper: DeskKeeper::of(first.into_badge()),
-        }
+        (LockedDesk { lock }, DeskKeeper::of(first.into_badge()))
     }
 
-    /// How many events the journal has; where they are more than 2^64 - 1, that number.
-    pub(crate) fn events(&self) -> u64
-        ensures { result ≡ min (length self.now.now.entries) (2 ^ 64 - 1) }
+    /// Whether the journal has as many events as this count, which 2^64 - 1 or more of them don't have.
+    pub(crate) fn is_balanced(&self, count: u64) -> bool
+        ensures { (makers : List Own) → count ≡ min (total_made makers) (2 ^ 64 - 1) → (IsTrue result ↔ IsBalanced makers self.now.now.entries) }
     {
-        self.events
+        self.events != u64::MAX && self.events == count
     }
 
     /// Lets the keeper know what an operator has seen and made.
     pub(crate) fn tell(&mut self, operator: DeskOperator)
         requires { operator.lock ≡ self.old.keeper.lock }
-        ensures { self.new ≡ record self.old { told = self.old.told ++ operator.own ∷ [] } }
+        ensures { self.new ≡ told_at self.old (operator.own ∷ []) }
     {
         self.lock
             .tell(&mut self.first, operator.into_badge().into_seat());

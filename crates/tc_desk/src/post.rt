@@ -1,8 +1,7 @@
 //! A desk that threads share, with the keeper of its lock.
 
-ghost use Rattle.std.specs.Prelude.{◌≡◌, [], ◌∷◌, IfOk, MatchResult};
+ghost use Rattle.std.specs.Prelude.{◌≡◌, [], IfOk, MatchResult};
 ghost use Rattle.tc_channel.specs.Settings.{IsAllowed, IsRefusal};
-ghost use Rattle.tc_desk.specs.Log.{AtLock};
 
 use crate::locked::{DeskKeeper, DeskOperator, LockedDesk};
 use std::alloc::Global;

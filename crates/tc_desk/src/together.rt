@@ -3,7 +3,6 @@
 ghost use Rattle.std.specs.Prelude.{◌≡◌, ◌≢◌, ◌<◌, ◌≤◌, ◌+◌, ◌-◌, ◌^◌, ◌++◌, ◌↔◌, [], All, true, min, length, map, reverse, IfOk, IfErr, IsTrue, vec_len, vec_capacity};
 ghost use Rattle.logged_lock.specs.Log.{total_made};
 ghost use Rattle.tc_desk.specs.Log.{accounts_of};
-ghost use Rattle.tc_desk.specs.Closing.{IsBalanced};
 ghost use Rattle.tc_desk.specs.Together.{AreOurs, AreClosed, AreBalanced, AreMoments, AreOut, AreSame, IsFresh, IsRefusal, column, keepers_of, locks_of, settings_of, told_row, told_rows};
 
 use crate::held::HeldDesk;
@@ -73,6 +72,29 @@ fn rooms<J: Journal>(
     Ok((room, hands))
 }
 
+// Takes the lock of this desk if it is free.
+fn hold<J: Journal>(post: Post<J>) -> Result<HeldDesk<J>, Post<J>>
+    ensures keeper { IfOk result (λ held. held.keeper ≡ post) }
+    ensures fresh { IfOk result IsFresh }
+    ensures refused { IfErr result (λ left. left ≡ post) }
+{
+    let Post { desk, keeper } = post;
+    match HeldDesk::hold(desk, keeper) {
+        Ok(held) => Ok(held),
+        Err((desk, keeper)) => Err(Post { desk, keeper }),
+    }
+}
+
+// Gives it back.
+fn let_go<J: Journal>(held: HeldDesk<J>) -> Post<J>
+    requires { IsFresh held }
+    ensures lock { result.lock ≡ held.keeper.lock }
+    ensures head { result.own.seen.head ≡ held.keeper.own.seen.head }
+{
+    let (desk, keeper) = held.let_go();
+    Post { desk, keeper }
+}
+
 // Takes the locks, beginning with the last desk, as long as they are free. What is held comes in that order.
 fn hold_all<J: Journal>(posts: &mut Vec<Post<J>>, held: &mut Vec<HeldDesk<J>>) -> bool
     requires empty { held.old.items ≡ [] }
@@ -83,7 +105,7 @@ fn hold_all<J: Journal>(posts: &mut Vec<Post<J>>, held: &mut Vec<HeldDesk<J>>) -
     ensures room { vec_len posts.new + vec_len held.new ≤ vec_capacity posts.new }
 {
     while let Some(post) = posts.pop() {
-        let desk = match HeldDesk::hold(post) {
+        let desk = match hold(post) {
             Ok(desk) => desk,
             Err(post) => {
                 posts.push_reserved(post);
@@ -102,7 +124,7 @@ fn let_all_go<J: Journal>(posts: &mut Vec<Post<J>>, mut held: Vec<HeldDesk<J>>)
     ensures { AreSame (posts.old.items ++ reverse (keepers_of held.items)) posts.new.items }
 {
     while let Some(desk) = held.pop() {
-        posts.push_reserved(desk.let_go());
+        posts.push_reserved(let_go(desk));
     }
 }
 
@@ -118,22 +140,13 @@ fn count_at<C: Crew>(crews: &[C], place: usize) -> u64
     total
 }
 
-// Whether the operators at this desk, which is at this place, have made as many events as its journal has.
-fn is_balanced<J: Journal, C: Crew>(desk: &HeldDesk<J>, crews: &[C], place: usize) -> bool
-    requires { All (λ crew. place < length (C.at_desks crew)) crews.now }
-    ensures { IsTrue result ↔ IsBalanced (accounts_of (column place (map C.at_desks crews.now))) desk.now.now.entries }
-{
-    let events = desk.events();
-    events != u64::MAX && events == count_at(crews, place)
-}
-
-// The same of all desks.
+// Whether the operators at each of these desks have made as many events as its journal has.
 fn are_balanced<J: Journal, C: Crew>(held: &[HeldDesk<J>], crews: &[C]) -> bool
     requires { AreOurs (keepers_of held.now) (map C.at_desks crews.now) }
     ensures { IsTrue result ↔ AreBalanced held.now (map C.at_desks crews.now) }
 {
     for (place, desk) in held.iter().enumerate() {
-        if !is_balanced(desk, crews, place) {
+        if !desk.is_balanced(count_at(crews, place)) {
             return false;
         }
     }

@@ -6,15 +6,15 @@ use Rattle.tc_desk.specs.Together.{column}
 use Rattle.tc_desk.proofs.Rows.{inside_all}
 use Rattle.tc_desk.proofs.together.are_balanced.Goals as goal
 
-pub is_balanced-requires : goal.is_balanced-requires
-is_balanced-requires g c = inside_all g.C.Crew.at_desks c.args.held.now c.args.crews.now c.loop-place.place c.requires c.loop-place-test.true
+pub count_at-requires : goal.count_at-requires
+count_at-requires g c = inside_all g.C.Crew.at_desks c.args.held.now c.args.crews.now c.loop-place.place c.requires c.loop-place-test.true
 
 pub loop-place-preserved : goal.loop-place-preserved
 loop-place-preserved g c =
     let i = c.loop-place.place in
     let here = c.index-held-place.result in
     let accounts = accounts_of (column i (map g.C.Crew.at_desks c.args.crews.now)) in
-    let good : IsBalanced accounts here.now.entries = c.is_balanced.ensures.0 (search rules) in
+    let good : IsBalanced accounts here.now.entries = (c.is_balanced.ensures accounts (search rules)).0 (search rules) in
     below_more _ _ c.loop-place.invariant
     (λ h e. subst (λ (x : AtHand). IsBalanced accounts x.now.entries) (c.index-held-place.is ∙ get_or_from_slice_get c.args.held.now i h here e) good)
 

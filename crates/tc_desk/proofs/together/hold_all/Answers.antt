@@ -1,7 +1,5 @@
 use Rattle.std.proofs.Common.{All, subst, sym, arith}
 use Rattle.std.proofs.lemmas.List.Elements.{All-push}
-use Rattle.logged_lock.specs.Log.{IsBeginning}
-use Rattle.tc_desk.specs.Log.{AtLock}
 use Rattle.tc_desk.specs.Together.{IsFresh}
 use Rattle.tc_desk.proofs.Rows.{held_step}
 use Rattle.tc_desk.proofs.together.hold_all.Goals as goal
@@ -9,12 +7,11 @@ use Rattle.tc_desk.proofs.together.hold_all.Goals as goal
 pub loop-post-preserved : goal.loop-post-preserved
 loop-post-preserved g c =
     let i = c.loop-post.invariant in
-    let fresh : IsFresh c.in-Ok.desk = (c.in-Ok.ensures.told, subst (λ (k : AtLock). IsBeginning k.own.seen c.in-Ok.desk.now) (sym c.in-Ok.ensures.keeper) c.in-Ok.ensures.later) in
     let shorter = c.in-Some.ensures.cases in let kept = c.in-Some.ensures.capacity in let longer = c.push_reserved-in-Some.ensures.len in let same = c.push_reserved-in-Some.ensures.capacity in
     let one = i.2 in let two = i.3 in (
       held_step c.args.posts.now.items c.loop-post.posts.items c.pop.new.self.items c.loop-post.held.items c.push_reserved-in-Some.new.self.items c.in-Some.post c.in-Ok.desk
           c.in-Some.ensures.items c.push_reserved-in-Some.ensures.items c.in-Ok.ensures.keeper i.0,
-      subst (All IsFresh) (sym c.push_reserved-in-Some.ensures.items) (All-push IsFresh c.loop-post.held.items c.in-Ok.desk i.1 fresh),
+      subst (All IsFresh) (sym c.push_reserved-in-Some.ensures.items) (All-push IsFresh c.loop-post.held.items c.in-Ok.desk i.1 c.in-Ok.ensures.fresh),
       omega (arith, one, shorter, kept, longer),
       omega (arith, two, shorter, longer, same),
     )

@@ -14,4 +14,4 @@ loop-desk-preserved g c =
     )
 
 pub let_go-requires : goal.let_go-requires
-let_go-requires g c = (All-pop IsFresh _ _ (Some c.in-Some.desk) c.in-Some.ensures.items c.loop-desk.invariant.1).1.0
+let_go-requires g c = (All-pop IsFresh _ _ (Some c.in-Some.desk) c.in-Some.ensures.items c.loop-desk.invariant.1).1

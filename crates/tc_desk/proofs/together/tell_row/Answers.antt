@@ -4,7 +4,7 @@ use Rattle.tc_desk.specs.Log.{AtLock, AtHand}
 use Rattle.tc_desk.proofs.together.tell_row.Goals as goal
 
 some_desk : AtLock → AtHand
-some_desk o = record { keeper = o; now = o.own.seen; told = [] }
+some_desk o = record { desk = record { id = o.lock; head = o.own.seen.head }; keeper = o; now = o.own.seen; told = [] }
 
 pub loop-operator-init : goal.loop-operator-init
 loop-operator-init g c = (refl, are_at c.args.held.now c.args.operators.items c.requires)
