@@ -1,7 +1,7 @@
 //! The desk of a channel, behind a lock that remembers.
 //!
 //! Several threads share a [`LockedDesk`], each with a [`DeskOperator`] of its own, which the desk's
-//! [`DeskKeeper`] makes. Contracts see which lock that is, and what each operator has seen of the channel's journal and made of
+//! [`DeskKeeper`] makes, and does an [`Operation`] or asks a [`Question`] by it. Contracts see which lock that is, and what each operator has seen of the channel's journal and made of
 //! it: so each call is answered by this very channel's journal, and [`LockedDesk::close`] gives out a channel whose journal is a
 //! merge of what its operators made. Each call takes the lock once, and waits while another has it.
 #![tactic(auto)]
@@ -24,7 +24,8 @@ pub use laws::{
 };
 pub use locked::{DeskKeeper, DeskOperator, LockedDesk};
 pub use operation::{
-    Framing, Operation, Question, Release, Taking, UnitTaking, WatchedFraming, Watching,
+    Framing, Operation, Question, Release, Reporting, Taking, UnitTaking, WatchedFraming, Watching,
+    WordMaking,
 };
 pub use post::Post;
 pub use together::{Crew, LeftOpen, Refusal, close_together, take_out_together};

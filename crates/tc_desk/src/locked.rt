@@ -1,17 +1,14 @@
 //! The lock of a desk, and its operators.
 
 ghost use Rattle.crossbeam_utils.specs.Padded.{padded_value};
-ghost use Rattle.std.specs.Prelude.{◌≡◌, [], ⊤, IfOk, MatchResult, IsSome};
+ghost use Rattle.std.specs.Prelude.{◌≡◌, [], IfOk, MatchResult, IsSome};
 ghost use Rattle.logged_lock.specs.Rule.{HasLock};
 ghost use Rattle.tc_channel.specs.Settings.{IsAllowed, IsRefusal};
-ghost use Rattle.tc_desk.specs.Log.{Moment, IsResting, log_of, at_lock, view_in, count_of, history_of};
-ghost use Rattle.tc_desk.specs.Call.{IsMoment, IsAsked, IsCall, IsLook, IsFramed, IsFrameFault, IsFramedWatched, IsReleased, IsReleaseFault, IsTaken, IsTakeFault, IsUnitTaken, IsTakeUnitFault, HasSeen, IsReport, IsClcw};
+ghost use Rattle.tc_desk.specs.Log.{Moment, IsResting, log_of, at_lock, view_in, count_of};
+ghost use Rattle.tc_desk.specs.Call.{IsMoment, IsAsked, IsCall, IsLook};
 
 use crate::kept::{DeskHead, KeptDesk};
-use crate::operation::{
-    Framing, Makes, Occasion, Operation, Question, Release, Reporting, Taking, UnitTaking,
-    WatchedFraming, Watching, WordMaking,
-};
+use crate::operation::{Makes, Occasion, Operation, Question};
 use crate::resident::ResidentBadge;
 use atomic_table::Badge;
 use crossbeam_utils::CachePadded;
@@ -20,12 +17,8 @@ use std::alloc::Global;
 use std::marker::{Brand, Model};
 use std::mem;
 use std::sync::Wait;
-use tc_channel::{
-    Delivery, Event, FrameReply, Journal, NoMemory, ReleaseFault, Settings, SettingsFault,
-    TakeFault, TakeUnitFault,
-};
-use tc_link::{Frame, Link, Report};
-use tc_status::{DeskOf, Watcher};
+use tc_channel::{Event, Journal, Settings, SettingsFault};
+use tc_status::DeskOf;
 
 pub(crate) type DeskLock<J> = LoggedLock<KeptDesk<J>, DeskHead, Event>;
 
@@ -223,7 +216,7 @@ impl DeskOperator {
         badge
     }
 
-    /// The operation on the desk, by this operator, under the lock. An answer counts.
+    /// The operation on the desk, by this operator, under the lock. An answer counts. It allocates no more than the operation.
     pub fn operate<J: Journal, O: Operation<J>, R: Wait>(
         &mut self,
         desk: &LockedDesk<J>,
@@ -288,94 +281,5 @@ impl<J: Journal> LockedDesk<J> {
         let badge = self.lock.guest().into_badge();
         let (_, answer) = ask_by(&self.lock, rt, badge, question);
         answer
-    }
-
-    /// The channel lets the oldest data field out of its buffer, under the lock.
-    pub fn release<R: Wait>(
-        &self,
-        rt: &R,
-        operator: &mut DeskOperator,
-    ) -> Result<Delivery, ReleaseFault>
-        requires ours { operator.old.lock ≡ self.now.id }
-        ensures call { IsCall Event.Release IsReleased IsReleaseFault operator.old result operator.new }
-    {
-        operator.operate(self, rt, &Release)
-    }
-
-    /// The channel takes a frame in, under the lock. No more is allocated than by the channel, here and in the next four calls.
-    pub fn frame<R: Wait>(
-        &self,
-        rt: &R,
-        operator: &mut DeskOperator,
-        frame: &Frame,
-    ) -> Result<FrameReply, NoMemory>
-        requires ours { operator.old.lock ≡ self.now.id }
-        ensures call { IsCall (Event.Frame frame.now) (IsFramed frame.now) (IsFrameFault J.grows frame.now) operator.old result operator.new }
-    {
-        operator.operate(self, rt, &Framing { frame })
-    }
-
-    /// The same, and a watcher of this desk's board, which has seen the channel take the frame. So all that it reads is of that
-    /// moment or later ones.
-    pub fn frame_watched<R: Wait>(
-        &self,
-        rt: &R,
-        operator: &mut DeskOperator,
-        frame: &Frame,
-    ) -> Result<(FrameReply, Watcher), NoMemory>
-        requires ours { operator.old.lock ≡ self.now.id }
-        ensures call { IsCall (Event.Frame frame.now) (IsFramedWatched frame.now) (λ _ _. ⊤) operator.old result operator.new }
-    {
-        operator.operate(self, rt, &WatchedFraming { frame })
-    }
-
-    /// The channel gives the oldest packet of the queue with this APID, under the lock.
-    pub fn take<R: Wait>(
-        &self,
-        rt: &R,
-        operator: &mut DeskOperator,
-        apid: u16,
-    ) -> Result<Vec<u8>, TakeFault>
-        requires ours { operator.old.lock ≡ self.now.id }
-        ensures call { IsCall (Event.Take apid) (λ m packet. IsTaken apid m packet.items) (IsTakeFault J.grows apid) operator.old result operator.new }
-    {
-        operator.operate(self, rt, &Taking { apid })
-    }
-
-    /// The channel gives the oldest unit of this chosen MAP, under the lock.
-    pub fn take_unit<R: Wait>(
-        &self,
-        rt: &R,
-        operator: &mut DeskOperator,
-        map: u8,
-    ) -> Result<Vec<u8>, TakeUnitFault>
-        requires ours { operator.old.lock ≡ self.now.id }
-        ensures call { IsCall (Event.TakeUnit map) (λ m unit. IsUnitTaken map m unit.items) (IsTakeUnitFault J.grows map) operator.old result operator.new }
-    {
-        operator.operate(self, rt, &UnitTaking { map })
-    }
-
-    /// A watcher of this desk's board, which has seen the channel as it is at a moment under the lock.
-    pub fn watcher<R: Wait>(&self, rt: &R, operator: &mut DeskOperator) -> Result<Watcher, NoMemory>
-        requires ours { operator.old.lock ≡ self.now.id }
-        ensures look { IsLook (λ m answer. IfOk answer (HasSeen m (history_of m))) operator.old result operator.new }
-    {
-        operator.ask(self, rt, &Watching)
-    }
-
-    /// FARM-1's components at a moment under the lock.
-    pub fn report<R: Wait>(&self, rt: &R, operator: &mut DeskOperator) -> Report
-        requires ours { operator.old.lock ≡ self.now.id }
-        ensures look { IsLook IsReport operator.old result operator.new }
-    {
-        operator.ask(self, rt, &Reporting)
-    }
-
-    /// The CLCW with these flags of the link, at a moment under the lock.
-    pub fn clcw<R: Wait>(&self, rt: &R, operator: &mut DeskOperator, link: Link) -> u32
-        requires ours { operator.old.lock ≡ self.now.id }
-        ensures look { IsLook (IsClcw link) operator.old result operator.new }
-    {
-        operator.ask(self, rt, &WordMaking { link })
     }
 }

@@ -215,7 +215,7 @@ impl<J: Journal> Question<J> for Watching {
 
 /// FARM-1's components.
 #[derive(Drop)]
-pub(crate) struct Reporting;
+pub struct Reporting;
 
 impl<J: Journal> Question<J> for Reporting {
     ghost use Rattle.tc_desk.specs.Call.{IsReport};
@@ -231,8 +231,8 @@ impl<J: Journal> Question<J> for Reporting {
 
 /// The CLCW with these flags of the link.
 #[derive(Drop)]
-pub(crate) struct WordMaking {
-    pub(crate) link: Link,
+pub struct WordMaking {
+    pub link: Link,
 }
 
 impl<J: Journal> Question<J> for WordMaking {

@@ -1,11 +1,11 @@
 //! The close of a desk, with all operators and without one.
 
-ghost use Rattle.std.specs.Prelude.{◌≡◌, ◌∷◌, [], All};
+ghost use Rattle.std.specs.Prelude.{◌≡◌};
 
 use super::manned::{Manned, closed, list_of};
 use super::*;
 use std::sync::Wait;
-use tc_desk::{DeskOperator, Obstacle, Unclosed};
+use tc_desk::{DeskOperator, Obstacle, Release, Unclosed};
 
 // One operator brings a frame, and another lets its data field out.
 fn bring_and_release(rt: &(impl Abort + Wait), manned: &mut Manned, other: &mut DeskOperator)
@@ -14,7 +14,7 @@ fn bring_and_release(rt: &(impl Abort + Wait), manned: &mut Manned, other: &mut 
     ensures other { other.new.lock ≡ other.old.lock }
 {
     assert!(rt; manned.frame(rt, &FRAME) == Ok(BUFFERED));
-    let released = manned.desk.release(rt, other);
+    let released = other.operate(&manned.desk, rt, &Release);
     assert!(rt; released == Ok(ONE));
 }
 

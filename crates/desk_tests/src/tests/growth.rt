@@ -20,14 +20,14 @@ fn new_manned(rt: &(impl Abort + Print), alloc: Global) -> Manned {
 // The call was refused after this CLCW, which is still there.
 fn note(rt: &(impl Abort + Print + Wait), manned: &mut Manned, call: &str, word: u32) {
     assert_eq!(rt; manned.clcw(rt), word);
-    let _ = println!(rt; "refused: LockedDesk::{call}");
+    let _ = println!(rt; "refused: operate, {call}");
 }
 
 fn frame(rt: &(impl Abort + Print + Wait), manned: &mut Manned) {
     match manned.frame(rt, &FRAME) {
         Ok(reply) => assert!(rt; reply == BUFFERED),
         Err(NoMemory) => {
-            note(rt, manned, "frame", 0x01040000);
+            note(rt, manned, "Framing", 0x01040000);
             assert!(rt; manned.frame(rt, &FRAME) == Ok(BUFFERED));
         }
     }
@@ -37,7 +37,7 @@ fn unit_frame(rt: &(impl Abort + Print + Wait), manned: &mut Manned) {
     match manned.frame_watched(rt, &UNIT_FRAME) {
         Ok((reply, _)) => assert!(rt; reply == UNIT_KEPT),
         Err(NoMemory) => {
-            note(rt, manned, "frame_watched", 0x01040001);
+            note(rt, manned, "WatchedFraming", 0x01040001);
             assert!(rt; manned.frame(rt, &UNIT_FRAME) == Ok(UNIT_KEPT));
         }
     }
@@ -47,7 +47,7 @@ fn release(rt: &(impl Abort + Print + Wait), manned: &mut Manned) {
     match manned.release(rt) {
         Ok(delivery) => assert!(rt; delivery == ONE),
         Err(ReleaseFault::NoMemory) => {
-            note(rt, manned, "release", 0x01040001);
+            note(rt, manned, "Release", 0x01040001);
             assert!(rt; manned.release(rt) == Ok(ONE));
         }
         Err(ReleaseFault::Empty) => panic!(rt; "another refusal"),
@@ -58,7 +58,7 @@ fn take(rt: &(impl Abort + Print + Wait), manned: &mut Manned, word: u32) {
     match manned.take(rt, 5) {
         Ok(packet) => assert_eq!(rt; packet.as_slice(), PACKET.as_slice()),
         Err(TakeFault::NoMemory) => {
-            note(rt, manned, "take", word);
+            note(rt, manned, "Taking", word);
             assert!(rt; manned.take(rt, 5).is_ok());
         }
         Err(_) => panic!(rt; "another refusal"),
@@ -69,7 +69,7 @@ fn take_unit(rt: &(impl Abort + Print + Wait), manned: &mut Manned) {
     match manned.take_unit(rt, 3) {
         Ok(unit) => assert_eq!(rt; unit.as_slice(), UNIT.as_slice()),
         Err(TakeUnitFault::NoMemory) => {
-            note(rt, manned, "take_unit", 0x01040201);
+            note(rt, manned, "UnitTaking", 0x01040201);
             assert!(rt; manned.take_unit(rt, 3).is_ok());
         }
         Err(_) => panic!(rt; "another refusal"),

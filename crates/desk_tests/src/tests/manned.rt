@@ -1,11 +1,14 @@
 //! A desk, its keeper and an operator.
 
-ghost use Rattle.std.specs.Prelude.{◌≡◌, ◌∷◌, [], All, IfOk};
+ghost use Rattle.std.specs.Prelude.{◌≡◌, ◌∷◌, []};
 
 use super::*;
 use std::sync::Wait;
 use tc_channel::{Channel, Kept, NoMemory, ReleaseFault, SettingsFault, TakeFault, TakeUnitFault};
-use tc_desk::{DeskKeeper, DeskOperator, LockedDesk, Unclosed};
+use tc_desk::{
+    DeskKeeper, DeskOperator, Framing, LockedDesk, Release, Reporting, Taking, Unclosed,
+    UnitTaking, WatchedFraming, Watching, WordMaking,
+};
 use tc_link::{Report, read_frame};
 use tc_status::Watcher;
 
@@ -45,7 +48,8 @@ impl Manned {
         ensures { self.new.desk ≡ self.old.desk }
     {
         let frame = read_frame(octets).expect(rt, "a frame");
-        self.desk.frame(rt, &mut self.operator, &frame)
+        let framing = Framing { frame: &frame };
+        self.operator.operate(&self.desk, rt, &framing)
     }
 
     pub(super) fn frame_watched(
@@ -54,31 +58,33 @@ impl Manned {
         octets: &[u8],
     ) -> Result<(FrameReply, Watcher), NoMemory> {
         let frame = read_frame(octets).expect(rt, "a frame");
-        self.desk.frame_watched(rt, &mut self.operator, &frame)
+        let framing = WatchedFraming { frame: &frame };
+        self.operator.operate(&self.desk, rt, &framing)
     }
 
     pub(super) fn release(&mut self, rt: &impl Wait) -> Result<Delivery, ReleaseFault> {
-        self.desk.release(rt, &mut self.operator)
+        self.operator.operate(&self.desk, rt, &Release)
     }
 
     pub(super) fn take(&mut self, rt: &impl Wait, apid: u16) -> Result<Vec<u8>, TakeFault> {
-        self.desk.take(rt, &mut self.operator, apid)
+        self.operator.operate(&self.desk, rt, &Taking { apid })
     }
 
     pub(super) fn take_unit(&mut self, rt: &impl Wait, map: u8) -> Result<Vec<u8>, TakeUnitFault> {
-        self.desk.take_unit(rt, &mut self.operator, map)
+        self.operator.operate(&self.desk, rt, &UnitTaking { map })
     }
 
     pub(super) fn watcher(&mut self, rt: &impl Wait) -> Result<Watcher, NoMemory> {
-        self.desk.watcher(rt, &mut self.operator)
+        self.operator.ask(&self.desk, rt, &Watching)
     }
 
     pub(super) fn report(&mut self, rt: &impl Wait) -> Report {
-        self.desk.report(rt, &mut self.operator)
+        self.operator.ask(&self.desk, rt, &Reporting)
     }
 
     pub(super) fn clcw(&mut self, rt: &impl Wait) -> u32 {
-        self.desk.clcw(rt, &mut self.operator, NO_FLAG)
+        self.operator
+            .ask(&self.desk, rt, &WordMaking { link: NO_FLAG })
     }
 
     // Another operator of the same desk.

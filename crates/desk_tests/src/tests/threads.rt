@@ -1,6 +1,6 @@
 //! Two threads with an operator each.
 
-ghost use Rattle.std.specs.Prelude.{◌≡◌, ◌∷◌, [], All};
+ghost use Rattle.std.specs.Prelude.{◌≡◌};
 ghost use Rattle.std.specs.Thread.{IsSync};
 
 use super::manned::{Locked, Manned, closed};
@@ -8,7 +8,7 @@ use super::*;
 use std::sync::Wait;
 use std::thread::{Threads, join_mut};
 use tc_channel::Channel;
-use tc_desk::DeskOperator;
+use tc_desk::{DeskOperator, Framing};
 use tc_link::read_frame;
 
 // How many frames each of them brings.
@@ -25,16 +25,13 @@ fn bring<R: Abort + Wait>(rt: &R, desk: &Locked, operator: &mut DeskOperator, oc
     ensures { operator.new.lock ≡ desk.now.id }
 {
     let frame = read_frame(octets).expect(rt, "a frame");
-    desk.frame(rt, operator, &frame).is_ok()
+    operator
+        .operate(desk, rt, &Framing { frame: &frame })
+        .is_ok()
 }
 
 // Brings the frames of all turns, one after the other. Says whether each was answered.
-pub(super) fn bring_all<R: Abort + Wait>(
-    rt: &R,
-    desk: &Locked,
-    operator: &mut DeskOperator,
-    who: u8,
-) -> bool
+fn bring_all<R: Abort + Wait>(rt: &R, desk: &Locked, operator: &mut DeskOperator, who: u8) -> bool
     requires { operator.old.lock ≡ desk.now.id }
     ensures { operator.new.lock ≡ desk.now.id }
 {
@@ -82,7 +79,7 @@ fn work<R: Threads + Abort + Wait + Sync>(
 }
 
 // Of the frames of the journal those of one thread are all that it brought, in their order.
-pub(super) fn check_frames(rt: &impl Abort, journal: &[Event], who: u8) {
+fn check_frames(rt: &impl Abort, journal: &[Event], who: u8) {
     let mut turn = 0u8;
     for event in journal {
         if let Event::Frame(octets) = event {

@@ -1,15 +1,15 @@
 //! The close of two desks at once, with all who have an operator at each, and without one of them.
 
-ghost use Rattle.std.specs.Prelude.{◌≡◌, ◌∷◌, [], All, map};
-ghost use Rattle.std.specs.Thread.{IsSync};
+ghost use Rattle.std.specs.Prelude.{◌≡◌, ◌∷◌, [], map};
 ghost use Rattle.tc_desk.specs.Together.{AreOurs, AreSame, locks_of};
 
-use super::threads::{bring_all, check_frames};
 use super::*;
 use std::sync::Wait;
-use std::thread::{Threads, join_mut};
 use tc_channel::{Channel, Kept, SettingsFault};
-use tc_desk::{DeskOperator, LeftOpen, Post, Refusal, close_together, take_out_together};
+use tc_desk::{
+    DeskOperator, Framing, LeftOpen, Post, Refusal, Release, Taking, UnitTaking, close_together,
+    take_out_together,
+};
 use tc_link::read_frame;
 
 type Desk = Post<Kept>;
@@ -80,11 +80,11 @@ fn bring(
     ensures { operator.new.lock ≡ operator.old.lock }
 {
     let frame = read_frame(octets).expect(rt, "a frame");
-    match desk.desk().frame(rt, operator, &frame) {
+    let framing = Framing { frame: &frame };
+    match operator.operate(desk.desk(), rt, &framing) {
         Ok(reply) => reply,
-        Err(_) => desk
-            .desk()
-            .frame(rt, operator, &frame)
+        Err(_) => operator
+            .operate(desk.desk(), rt, &framing)
             .expect(rt, "a reply"),
     }
 }
@@ -93,9 +93,11 @@ fn release(rt: &(impl Abort + Wait), desk: &Desk, operator: &mut DeskOperator) -
     requires { operator.old.lock ≡ desk.now.lock }
     ensures { operator.new.lock ≡ operator.old.lock }
 {
-    match desk.desk().release(rt, operator) {
+    match operator.operate(desk.desk(), rt, &Release) {
         Ok(delivery) => delivery,
-        Err(_) => desk.desk().release(rt, operator).expect(rt, "a delivery"),
+        Err(_) => operator
+            .operate(desk.desk(), rt, &Release)
+            .expect(rt, "a delivery"),
     }
 }
 
@@ -103,9 +105,12 @@ fn take_unit(rt: &(impl Abort + Wait), desk: &Desk, operator: &mut DeskOperator)
     requires { operator.old.lock ≡ desk.now.lock }
     ensures { operator.new.lock ≡ operator.old.lock }
 {
-    match desk.desk().take_unit(rt, operator, 3) {
+    let taking = UnitTaking { map: 3 };
+    match operator.operate(desk.desk(), rt, &taking) {
         Ok(unit) => unit,
-        Err(_) => desk.desk().take_unit(rt, operator, 3).expect(rt, "a unit"),
+        Err(_) => operator
+            .operate(desk.desk(), rt, &taking)
+            .expect(rt, "a unit"),
     }
 }
 
@@ -246,9 +251,10 @@ fn go_on(rt: &(impl Abort + Wait), posts: &[Desk], other: &mut Worker)
     let [first, _] = posts else {
         panic!(rt; "not two desks")
     };
-    let packet = first
-        .desk()
-        .take(rt, &mut other.first, 5)
+    let taking = Taking { apid: 5 };
+    let packet = other
+        .first
+        .operate(first.desk(), rt, &taking)
         .expect(rt, "a packet");
     assert_eq!(rt; packet.as_slice(), PACKET.as_slice());
 }
@@ -298,62 +304,6 @@ fn desks_that_were_not_closed_go_on(rt: HostRuntime) {
         assert!(rt; first.journal() == taken.as_slice());
         let unit = [frame_event(&rt, alloc, &OTHER_FRAME), Event::TakeUnit(3)];
         assert!(rt; second.journal() == unit.as_slice());
-    }
-}
-
-// One brings its frames to both desks, all to the first one before the second. Says whether each was answered.
-fn bring_to_both<R: Abort + Wait>(rt: &R, desks: &Desks, worker: &mut Worker, who: u8) -> bool
-    requires first { worker.old.first.lock ≡ desks.now.first.lock }
-    requires second { worker.old.second.lock ≡ desks.now.second.lock }
-    ensures first { worker.new.first.lock ≡ worker.old.first.lock }
-    ensures second { worker.new.second.lock ≡ worker.old.second.lock }
-{
-    let done = bring_all(rt, desks.first.desk(), &mut worker.first, who);
-    bring_all(rt, desks.second.desk(), &mut worker.second, who) && done
-}
-
-// Both do so, each in a thread of its own. Says whether each frame was answered.
-fn side_by_side<R: Threads + Abort + Wait + Sync>(
-    rt: &R,
-    desks: &Desks,
-    one: &mut Worker,
-    other: &mut Worker,
-) -> bool
-    requires one { (one.old.first.lock ≡ desks.now.first.lock) × (one.old.second.lock ≡ desks.now.second.lock) }
-    requires other { (other.old.first.lock ≡ desks.now.first.lock) × (other.old.second.lock ≡ desks.now.second.lock) }
-    ensures one { (one.new.first.lock ≡ one.old.first.lock) × (one.new.second.lock ≡ one.old.second.lock) }
-    ensures other { (other.new.first.lock ≡ other.old.first.lock) × (other.new.second.lock ≡ other.old.second.lock) }
-{
-    let mut first = || -> bool
-        requires { IsSync R.row × (one.now.first.lock ≡ desks.now.first.lock) × (one.now.second.lock ≡ desks.now.second.lock) }
-        ensures { (one.exit.now.first.lock ≡ desks.entry.now.first.lock) × (one.exit.now.second.lock ≡ desks.entry.now.second.lock) }
-    { bring_to_both(rt, desks, one, 1) };
-    let mut second = || -> bool
-        requires { IsSync R.row × (other.now.first.lock ≡ desks.now.first.lock) × (other.now.second.lock ≡ desks.now.second.lock) }
-        ensures { (other.exit.now.first.lock ≡ desks.entry.now.first.lock) × (other.exit.now.second.lock ≡ desks.entry.now.second.lock) }
-    { bring_to_both(rt, desks, other, 2) };
-    let (a, b) = join_mut(rt, &mut first, &mut second);
-    a && b
-}
-
-#[test]
-fn two_threads_work_at_two_desks(rt: HostRuntime) {
-    let alloc = rt.alloc();
-    let mut desks = Desks::new(&rt, alloc);
-    let mut one = desks.worker();
-    let mut other = desks.worker();
-    assert!(rt; side_by_side(&rt, &desks, &mut one, &mut other));
-    let posts = posts_of(&rt, alloc, desks);
-    let crews = list_of(
-        &rt,
-        alloc,
-        crew_of(&rt, alloc, one),
-        crew_of(&rt, alloc, other),
-    );
-    for channel in &closed(&rt, alloc, posts, crews) {
-        assert_eq!(rt; channel.journal().len(), 500);
-        check_frames(&rt, channel.journal(), 1);
-        check_frames(&rt, channel.journal(), 2);
     }
 }
 
