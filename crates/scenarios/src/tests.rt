@@ -1,5 +1,4 @@
 mod alone;
-mod in_rooms;
 mod longest;
 mod replay;
 mod rows;

@@ -6,10 +6,8 @@ ghost use Rattle.tc_station.specs.Tally.{IsOurs};
 use super::alone::{Alone, Answer};
 use super::texts::text_of;
 use super::*;
-use tc_channel::{
-    Channel, ChannelWith, Delivery, Event, FlightChannel, Kept, MapSetting, Octets, Unkept,
-};
-use tc_station::{BringFault, Brought, ReleaseRefused, TakeRefused, TakeUnitRefused};
+use tc_channel::{Channel, ChannelWith, Delivery, Event, FlightChannel, Kept, Octets, Unkept};
+use tc_station::{BringFault, Brought, ReleaseRefused, TakeRefused};
 use tc_text::{Line, parse_line};
 
 // What is done on virtual channel 1 of stations and of channels with this width, buffer and first V(R): lines of a script, and what
@@ -30,49 +28,9 @@ enum Bringing {
     Watched,
 }
 
-// How units reach the channels.
-#[derive(Clone, Copy)]
-enum Form {
-    // By segments, and their packets are queued.
-    Segmented,
-    // On channel 1 each data field is one.
-    Plain,
-    // By segments, and both channels deliver those of MAP 3 whole, to a queue of one unit.
-    Chosen,
-}
-
-// A queue for one unit of MAP 3.
-fn chosen(rt: &impl Abort, alloc: Global) -> Items<MapSetting> {
-    let map = MapSetting {
-        map: 3,
-        capacity: 1,
-    };
-    Items::from(Vec::from_slice(alloc, &[map]).expect(rt, "maps"))
-}
-
-// Settings of channel 1 in this form.
-fn first_settings(rt: &impl Abort, alloc: Global, form: Form, shape: (u8, u8, u8)) -> Settings {
-    let mut settings = settings(rt, alloc, 1, shape);
-    match form {
-        Form::Segmented => {}
-        Form::Plain => settings.segmented = false,
-        Form::Chosen => settings.maps = chosen(rt, alloc),
-    }
-    settings
-}
-
-// Settings of channel 2: its first V(R) is 100, and its data fields always have segment headers.
-fn second_settings(
-    rt: &impl Abort,
-    alloc: Global,
-    form: Form,
-    (width, buffer, _): (u8, u8, u8),
-) -> Settings {
-    let mut settings = settings(rt, alloc, 2, (width, buffer, 100));
-    if let Form::Chosen = form {
-        settings.maps = chosen(rt, alloc);
-    }
-    settings
+// Settings of channel 2: its first V(R) is 100.
+fn second_settings(rt: &impl Abort, alloc: Global, (width, buffer, _): (u8, u8, u8)) -> Settings {
+    settings(rt, alloc, 2, (width, buffer, 100))
 }
 
 // A station for spacecraft 42 with virtual channels 2 and 1, in this order, and one operator.
@@ -149,17 +107,12 @@ impl<J: Journal> Crew<J> {
         self.station.take(rt, &mut self.operator, vcid, apid)
     }
 
-    fn take_unit(&mut self, rt: &impl Wait, vcid: u8, map: u8) -> Result<Vec<u8>, TakeUnitRefused> {
-        self.station.take_unit(rt, &mut self.operator, vcid, map)
-    }
-
     // What the operation of a line is answered on a channel.
     fn ask(&mut self, rt: &(impl Wait + Abort), vcid: u8, line: &Line) -> Answer {
         match line {
             Line::Frame(octets) => Answer::Frame(self.bring(rt, octets.as_slice())),
             Line::Release(_) => Answer::Release(self.release(rt, vcid)),
             Line::Take(_, apid) => Answer::Take(*apid, self.take(rt, vcid, *apid)),
-            Line::Unit(_, map) => Answer::TakeUnit(*map, self.take_unit(rt, vcid, *map)),
             Line::Clcw(_) => Answer::Clcw(status_of(&self.station, rt, vcid)),
             _ => panic!(rt; "a line that is no operation"),
         }
@@ -209,7 +162,7 @@ fn ask_both<J: Journal>(
 
 // The station tells of a channel what the one that stands alone tells.
 fn check_word<J: Journal>(rt: &(impl Wait + Abort), crew: &Crew<J>, alone: &Alone) {
-    let word = alone.clcw(rt);
+    let word = alone.clcw();
     assert!(rt; status_of(&crew.station, rt, alone.vcid()) == Some(word));
 }
 
@@ -234,7 +187,6 @@ fn event_of(rt: &impl Abort, alloc: Global, line: &Line) -> Option<Event> {
         Line::Frame(octets) => event_of_frame(rt, alloc, octets.as_slice()),
         Line::Release(_) => Some(Event::Release),
         Line::Take(_, apid) => Some(Event::Take(*apid)),
-        Line::Unit(_, map) => Some(Event::TakeUnit(*map)),
         _ => None,
     }
 }
@@ -278,21 +230,11 @@ struct Replay {
 
 impl Replay {
     // Channel 1 has this shape. Channel 2 has the same, but for its first V(R).
-    fn new(rt: &impl Abort, alloc: Global, form: Form, shape: (u8, u8, u8)) -> Replay {
-        let first = (
-            first_settings(rt, alloc, form, shape),
-            first_settings(rt, alloc, form, shape),
-            first_settings(rt, alloc, form, shape),
-        );
-        let second = (
-            second_settings(rt, alloc, form, shape),
-            second_settings(rt, alloc, form, shape),
-            second_settings(rt, alloc, form, shape),
-        );
+    fn new(rt: &impl Abort, alloc: Global, shape: (u8, u8, u8)) -> Replay {
         Replay {
             alloc,
-            first: Alone::new(rt, alloc, first),
-            second: Alone::new(rt, alloc, second),
+            first: Alone::new(rt, alloc, settings(rt, alloc, 1, shape)),
+            second: Alone::new(rt, alloc, second_settings(rt, alloc, shape)),
             journal: Vec::new(alloc),
         }
     }
@@ -329,7 +271,7 @@ impl Replay {
     }
 
     fn check_journal(&self, rt: &impl Abort, name: &str) {
-        let alike = self.first.kept.journal() == self.journal.as_slice();
+        let alike = self.first.channel.journal() == self.journal.as_slice();
         assert!(rt; alike, "{name}: the journal differs");
     }
 
@@ -379,20 +321,19 @@ impl Replay {
 fn new_crew<J: Journal>(
     rt: &impl Abort,
     alloc: Global,
-    form: Form,
     bringing: Bringing,
     shape: (u8, u8, u8),
 ) -> Crew<J> {
-    let first = first_settings(rt, alloc, form, shape);
-    let second = second_settings(rt, alloc, form, shape);
+    let first = settings(rt, alloc, 1, shape);
+    let second = second_settings(rt, alloc, shape);
     let list = vec![in alloc; second, first].expect(rt, "a list");
     Crew::new(rt, alloc, bringing, list)
 }
 
 // Plays a row on a station whose channels keep their journals, and closes it.
-fn play_kept(rt: &(impl Wait + Abort), alloc: Global, form: Form, bringing: Bringing, row: &Row) {
-    let mut crew: Crew<Kept> = new_crew(rt, alloc, form, bringing, row.shape);
-    let mut replay = Replay::new(rt, alloc, form, row.shape);
+fn play_kept(rt: &(impl Wait + Abort), alloc: Global, bringing: Bringing, row: &Row) {
+    let mut crew: Crew<Kept> = new_crew(rt, alloc, bringing, row.shape);
+    let mut replay = Replay::new(rt, alloc, row.shape);
     replay.play(rt, &mut crew, row);
     let channels = crew.close(rt, alloc);
     replay.check_journals(rt, &channels);
@@ -400,34 +341,20 @@ fn play_kept(rt: &(impl Wait + Abort), alloc: Global, form: Form, bringing: Brin
 }
 
 // The same on a station in flight.
-fn play_flight(rt: &(impl Wait + Abort), alloc: Global, form: Form, bringing: Bringing, row: &Row) {
-    let mut crew: Crew<Unkept> = new_crew(rt, alloc, form, bringing, row.shape);
-    let mut replay = Replay::new(rt, alloc, form, row.shape);
+fn play_flight(rt: &(impl Wait + Abort), alloc: Global, bringing: Bringing, row: &Row) {
+    let mut crew: Crew<Unkept> = new_crew(rt, alloc, bringing, row.shape);
+    let mut replay = Replay::new(rt, alloc, row.shape);
     replay.play(rt, &mut crew, row);
     let channels = crew.close(rt, alloc);
     replay.check_closed(rt, channels);
 }
 
 // Plays each row, with frames that are brought in each manner.
-fn play_in(rt: &(impl Wait + Abort), alloc: Global, form: Form, rows: &[Row]) {
+pub(super) fn play_rows(rt: &(impl Wait + Abort), alloc: Global, rows: &[Row]) {
     for row in rows {
         for bringing in [Bringing::Plain, Bringing::Watched] {
-            play_kept(rt, alloc, form, bringing, row);
-            play_flight(rt, alloc, form, bringing, row);
+            play_kept(rt, alloc, bringing, row);
+            play_flight(rt, alloc, bringing, row);
         }
     }
-}
-
-pub(super) fn play_rows(rt: &(impl Wait + Abort), alloc: Global, rows: &[Row]) {
-    play_in(rt, alloc, Form::Segmented, rows)
-}
-
-// The same, where data fields of channel 1 have no segment header.
-pub(super) fn play_plain_rows(rt: &(impl Wait + Abort), alloc: Global, rows: &[Row]) {
-    play_in(rt, alloc, Form::Plain, rows)
-}
-
-// The same, where both channels deliver the units of MAP 3 whole.
-pub(super) fn play_chosen_rows(rt: &(impl Wait + Abort), alloc: Global, rows: &[Row]) {
-    play_in(rt, alloc, Form::Chosen, rows)
 }

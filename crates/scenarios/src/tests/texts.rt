@@ -5,7 +5,7 @@ use super::*;
 use std::alloc::AllocError;
 use tc_channel::{Delivery, FrameReply};
 use tc_link::FrameFault;
-use tc_station::{BringFault, LocateFault, ReleaseRefused, TakeRefused, TakeUnitRefused};
+use tc_station::{BringFault, LocateFault, ReleaseRefused, TakeRefused};
 
 // A fault that no line of a script meets here.
 const OTHER: &str = "for another reason";
@@ -16,10 +16,8 @@ pub(super) fn text_of(alloc: Global, answer: &Answer) -> Result<String, AllocErr
         Answer::Frame(Err(fault)) => text_of_refusal(alloc, why_not_brought(*fault)),
         Answer::Release(Ok(delivery)) => text_of_release(alloc, delivery),
         Answer::Release(Err(fault)) => text_of_refusal(alloc, why_not_released(*fault)),
-        Answer::Take(apid, Ok(packet)) => text_of_item(alloc, "take", *apid, packet),
+        Answer::Take(apid, Ok(packet)) => text_of_packet(alloc, *apid, packet),
         Answer::Take(_, Err(fault)) => text_of_refusal(alloc, why_not_taken(*fault)),
-        Answer::TakeUnit(map, Ok(unit)) => text_of_item(alloc, "unit", u16::from(*map), unit),
-        Answer::TakeUnit(_, Err(fault)) => text_of_refusal(alloc, why_no_unit(*fault)),
         Answer::Clcw(word) => text_of_word(alloc, *word),
     }
 }
@@ -47,13 +45,9 @@ fn text_of_release(alloc: Global, delivery: &Delivery) -> Result<String, AllocEr
     format!(in alloc; "release 1 {delivery}")
 }
 
-// A unit may have no octets.
-fn text_of_item(alloc: Global, what: &str, key: u16, octets: &[u8]) -> Result<String, AllocError> {
-    if octets.is_empty() {
-        return format!(in alloc; "{what} 1 {key} -");
-    }
+fn text_of_packet(alloc: Global, apid: u16, octets: &[u8]) -> Result<String, AllocError> {
     let digits = hex::encode(alloc, octets)?;
-    format!(in alloc; "{what} 1 {key} {digits}")
+    format!(in alloc; "take 1 {apid} {digits}")
 }
 
 fn text_of_word(alloc: Global, word: Option<u32>) -> Result<String, AllocError> {
@@ -91,14 +85,6 @@ fn why_not_taken(fault: TakeRefused) -> &'static str {
     match fault {
         TakeRefused::NoQueue => "no queue",
         TakeRefused::Empty => "empty",
-        _ => OTHER,
-    }
-}
-
-fn why_no_unit(fault: TakeUnitRefused) -> &'static str {
-    match fault {
-        TakeUnitRefused::NoMap => "no map",
-        TakeUnitRefused::Empty => "empty",
         _ => OTHER,
     }
 }
