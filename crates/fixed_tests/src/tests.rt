@@ -5,18 +5,13 @@ mod rooms;
 mod run;
 mod storage;
 
-use run::{Run, Step, play};
+use run::{Run, Step};
 use std::alloc::{AllocError, Global};
 use std::fmt::Display;
 use std::process::Abort;
 use tc_channel::{Delivery, FrameReply, Items, MapSetting, QueueSetting, Settings, SettingsFault};
 use tc_fixed::{FixedChannel, Limits, LimitsFault, NoUnitTaken, NothingReleased, NothingTaken};
-use tc_link::{Act, Link, read_frame};
-
-const NO_FLAG: Link = Link {
-    no_rf: false,
-    no_bit_lock: false,
-};
+use tc_link::{Act, read_frame};
 
 // No unit was ended.
 const NOTHING: Delivery = Delivery {

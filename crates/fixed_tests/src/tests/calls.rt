@@ -1,67 +1,7 @@
-//! What each call answers. The words are those of CCSDS 232.0-B, 4.2: virtual channel 1, COP 1, and then the flags, FARM-B and the
-//! report value.
+//! Calls that no script reaches, and what each answers.
 
-use super::Step::{Counts, DropOldest, DropUnit, Frame, Lends, Release, Take, TakeUnit, Word};
+use super::Step::{Counts, DropOldest, DropUnit, Frame, Lends, Take, TakeUnit};
 use super::*;
-
-const UNLOCK: [u8; 6] = [0x30, 0x2a, 0x04, 0x05, 0x00, 0x00];
-
-// `FIRST` with N(S) 1 and 100.
-const SECOND: [u8; 13] = [
-    0x00, 0x2a, 0x04, 0x0c, 1, 0xc0, 0x10, 0x05, 0xc0, 0x00, 0x00, 0x00, 0xaa,
-];
-
-const FAR: [u8; 13] = [
-    0x00, 0x2a, 0x04, 0x0c, 100, 0xc0, 0x10, 0x05, 0xc0, 0x00, 0x00, 0x00, 0xaa,
-];
-
-// A frame in lockout, Unlock, and a frame without room (events 5, 7 and 2).
-const FAR_AWAY: FrameReply = FrameReply {
-    act: Act {
-        event: 5,
-        accepted: false,
-    },
-    delivery: NOTHING,
-};
-
-const UNLOCKED: FrameReply = FrameReply {
-    act: Act {
-        event: 7,
-        accepted: false,
-    },
-    delivery: NOTHING,
-};
-
-const NO_ROOM: FrameReply = FrameReply {
-    act: Act {
-        event: 2,
-        accepted: false,
-    },
-    delivery: NOTHING,
-};
-
-static FRAMES: [Step<'static>; 13] = [
-    Frame(&FAR, FAR_AWAY),
-    Word(0x0104_2000),
-    Frame(&UNLOCK, UNLOCKED),
-    Word(0x0104_0200),
-    Frame(&FIRST, BUFFERED),
-    Frame(&SECOND, NO_ROOM),
-    Word(0x0104_1a01),
-    Counts(1, Some(0), Some(0), 4),
-    Release(Ok(ONE)),
-    Word(0x0104_0a01),
-    Release(Err(NothingReleased::Empty)),
-    Take(5, 16, Ok(&PACKET)),
-    Counts(0, Some(0), Some(0), 6),
-];
-
-// A channel in lockout, which Unlock lets go on; a field that waits keeps the next one out until it is released.
-#[test]
-fn frames_releases_and_words(rt: HostRuntime) {
-    let settings = settings(rt.alloc()).expect(&rt, "settings");
-    play(&rt, rt.alloc(), settings, &FRAMES)
-}
 
 // Another packet in a Type-BD frame, a third one, and units of MAP 3: of an octet, of none, and of two.
 const OTHER: [u8; 7] = [0x10, 0x05, 0xc0, 0x01, 0x00, 0x00, 0xbb];
@@ -82,16 +22,6 @@ const DROPPED: FrameReply = FrameReply {
         queued: 0,
         dropped: 1,
         rest: false,
-    },
-    ..PASSED
-};
-
-// No packet begins with these octets.
-const ALL_REST: FrameReply = FrameReply {
-    delivery: Delivery {
-        queued: 0,
-        dropped: 0,
-        rest: true,
     },
     ..PASSED
 };
@@ -135,65 +65,9 @@ static QUEUES: [Step<'static>; 32] = [
 #[test]
 fn packets_and_units_in_their_queues(rt: HostRuntime) {
     let settings = settings(rt.alloc()).expect(&rt, "settings");
-    play(&rt, rt.alloc(), settings, &QUEUES)
-}
-
-// A packet in three segments on MAP 0, by Type-BD, and octets of MAP 1 and of Type-AD in between.
-static SEGMENTS: [Step<'static>; 12] = [
-    Frame(
-        &[0x20, 0x2a, 0x04, 0x08, 0x00, 0x40, 0x10, 0x05, 0xc0],
-        PASSED,
-    ),
-    Frame(&[0x20, 0x2a, 0x04, 0x07, 0x00, 0x41, 0x77, 0x77], PASSED),
-    Frame(
-        &[0x00, 0x2a, 0x04, 0x08, 0x00, 0x40, 0x10, 0x05, 0xc0],
-        BUFFERED,
-    ),
-    Release(Ok(NOTHING)),
-    Frame(
-        &[0x20, 0x2a, 0x04, 0x08, 0x00, 0x00, 0x01, 0x00, 0x01],
-        PASSED,
-    ),
-    Frame(&[0x20, 0x2a, 0x04, 0x07, 0x00, 0x80, 0xaa, 0xbb], DELIVERED),
-    Take(5, 16, Ok(&[0x10, 0x05, 0xc0, 0x01, 0x00, 0x01, 0xaa, 0xbb])),
-    Frame(
-        &[
-            0x00, 0x2a, 0x04, 0x0a, 0x01, 0x80, 0x02, 0x00, 0x01, 0xcc, 0xdd,
-        ],
-        BUFFERED,
-    ),
-    Release(Ok(ONE)),
-    Take(5, 16, Ok(&[0x10, 0x05, 0xc0, 0x02, 0x00, 0x01, 0xcc, 0xdd])),
-    // No run is open any more.
-    Frame(&[0x20, 0x2a, 0x04, 0x06, 0x00, 0x80, 0xff], PASSED),
-    Counts(0, Some(0), Some(0), 11),
-];
-
-#[test]
-fn segments_of_three_streams(rt: HostRuntime) {
-    let settings = settings(rt.alloc()).expect(&rt, "settings");
-    play(&rt, rt.alloc(), settings, &SEGMENTS)
-}
-
-// A packet that is a whole data field, and the field of `FIRST`, whose first octet makes it no packet.
-static PLAIN: [Step<'static>; 6] = [
-    Frame(
-        &[
-            0x00, 0x2a, 0x04, 0x0b, 0x00, 0x10, 0x05, 0xc0, 0x00, 0x00, 0x00, 0xaa,
-        ],
-        BUFFERED,
-    ),
-    Release(Ok(ONE)),
-    Take(5, 16, Ok(&PACKET)),
-    Frame(&BYPASSED, ALL_REST),
-    DropUnit(3, false),
-    Counts(0, Some(0), None, 4),
-];
-
-#[test]
-fn fields_without_segment_headers(rt: HostRuntime) {
-    let settings = plain_settings(rt.alloc()).expect(&rt, "settings");
-    play(&rt, rt.alloc(), settings, &PLAIN)
+    Run::new(rt.alloc(), settings)
+        .expect(&rt, "a channel")
+        .play(&rt, &QUEUES)
 }
 
 #[test]

@@ -12,7 +12,7 @@ static EACH_CALL: [Step<'static>; 8] = [
     Frame(&BYPASSED, DELIVERED),
     Frame(&WHOLE, DELIVERED),
     Frame(&WHOLE, DELIVERED),
-    Release(Ok(ONE)),
+    Release(ONE),
     Take(5, 16, Ok(&PACKET)),
     TakeUnit(3, 16, Ok(&[0xaa, 0xbb])),
     DropUnit(3, true),

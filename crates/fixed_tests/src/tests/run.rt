@@ -4,14 +4,12 @@ use super::*;
 
 pub enum Step<'a> {
     Frame(&'a [u8], FrameReply),
-    Release(Result<Delivery, NothingReleased>),
+    Release(Delivery),
     // Into so many octets, 16 at most.
     Take(u16, usize, Result<&'a [u8], NothingTaken>),
     TakeUnit(u8, usize, Result<&'a [u8], NoUnitTaken>),
     DropOldest(u16, bool),
     DropUnit(u8, bool),
-    // The CLCW with both link flags 0.
-    Word(u32),
     // The oldest packet for APID 5, and the oldest unit of MAP 3.
     Lends(Option<&'a [u8]>, Option<&'a [u8]>),
     // How many data fields, packets for APID 5 and units of MAP 3 wait, and how many events there are.
@@ -108,7 +106,7 @@ impl Run {
     fn step(&mut self, rt: &impl Abort, step: &Step<'_>) {
         match *step {
             Step::Frame(octets, expected) => self.frame(rt, octets, expected),
-            Step::Release(expected) => assert_eq!(rt; self.channel.release(), expected),
+            Step::Release(expected) => assert_eq!(rt; self.channel.release(), Ok(expected)),
             Step::Take(apid, room, expected) => self.take(rt, apid, room, expected),
             Step::TakeUnit(map, room, expected) => self.take_unit(rt, map, room, expected),
             Step::DropOldest(apid, expected) => assert_eq!(rt;
@@ -118,7 +116,6 @@ impl Run {
             Step::DropUnit(map, expected) => {
                 assert_eq!(rt; self.channel.drop_oldest_unit(map), expected)
             }
-            Step::Word(word) => assert_eq!(rt; self.channel.clcw(NO_FLAG), word),
             Step::Lends(packet, unit) => self.check_lent(rt, packet, unit),
             Step::Counts(buffered, queued, units, events) => {
                 self.check_counts(rt, buffered, queued, units, events)
@@ -132,11 +129,4 @@ impl Run {
             self.step(rt, step)
         }
     }
-}
-
-// Each step in turn, on a new channel.
-pub fn play(rt: &impl Abort, alloc: Global, settings: Settings, steps: &[Step<'_>]) {
-    Run::new(alloc, settings)
-        .expect(rt, "a channel")
-        .play(rt, steps)
 }
