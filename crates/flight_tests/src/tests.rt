@@ -1,5 +1,5 @@
 mod growth;
-mod rows;
+mod lending;
 mod station;
 mod twins;
 

@@ -10,9 +10,9 @@ fn growth_of_a_flight_channel(rt: HostRuntime) {
 
 static EACH_CALL: [Step<'static>; 5] = [
     Frame(&FIRST, BUFFERED),
-    Release(Ok(ONE)),
+    Release(ONE),
     Events(2),
-    Take(5, Ok(&PACKET)),
+    Take(5, &PACKET),
     Events(3),
 ];
 
@@ -28,8 +28,8 @@ static BYPASSED_FRAMES: [Step<'static>; 6] = [
     Frame(&BYPASSED, DELIVERED),
     Frame(&WHOLE, DELIVERED),
     Events(2),
-    Take(5, Ok(&PACKET)),
-    TakeUnit(3, Ok(&[0xaa, 0xbb])),
+    Take(5, &PACKET),
+    TakeUnit(3, &[0xaa, 0xbb]),
     Events(4),
 ];
 

@@ -1,16 +1,13 @@
 //! A channel that keeps its journal, and one that keeps none, which are asked alike and must answer alike.
 
 use super::*;
-use std::fmt::Debug;
 
 // What is done to both channels, and what both answer.
 pub enum Step<'a> {
     Frame(&'a [u8], FrameReply),
-    Release(Result<Delivery, ReleaseFault>),
-    Take(u16, Result<&'a [u8], TakeFault>),
-    TakeUnit(u8, Result<&'a [u8], TakeUnitFault>),
-    // The word of the channel without a journal, with both link flags 0.
-    Word(u32),
+    Release(Delivery),
+    Take(u16, &'a [u8]),
+    TakeUnit(u8, &'a [u8]),
     // The oldest packet for APID 5, and the oldest unit of MAP 3.
     Lends(Option<&'a [u8]>, Option<&'a [u8]>),
     // So many events, and the same of all else that is told.
@@ -76,17 +73,6 @@ fn check_lent<J: Journal>(
     assert_eq!(rt; channel.oldest_unit(3), unit);
     assert_eq!(rt; channel.oldest(6), None);
     assert_eq!(rt; channel.oldest_unit(4), None);
-}
-
-// Of an item that was taken, or of a refusal.
-fn check_item<E: Debug + Drop + PartialEq>(
-    rt: &impl Abort,
-    answer: Result<Vec<u8>, E>,
-    item: Option<&[u8]>,
-    fault: Option<E>,
-) {
-    assert_eq!(rt; answer.as_deref().ok(), item);
-    assert_eq!(rt; answer.err(), fault);
 }
 
 // What the channel that keeps its journal answers, where one growth may be refused.
@@ -161,7 +147,7 @@ impl Twins {
         assert_eq!(rt; (kept, flight), (Ok(expected), Ok(expected)));
     }
 
-    fn release(&mut self, rt: &(impl Abort + Print), expected: Result<Delivery, ReleaseFault>) {
+    fn release(&mut self, rt: &(impl Abort + Print), expected: Delivery) {
         let mut kept = release(&mut self.kept);
         if kept == Err(ReleaseFault::NoMemory) {
             kept = release(&mut self.kept);
@@ -173,20 +159,22 @@ impl Twins {
             self.check_refused(rt, &told);
             flight = release(&mut self.flight);
         }
-        assert_eq!(rt; (kept, flight), (expected, expected));
+        assert_eq!(rt; (kept, flight), (Ok(expected), Ok(expected)));
     }
 
     // The take of the channel without a journal wants no memory, so it is never refused for it.
-    fn take(&mut self, rt: &impl Abort, apid: u16, expected: Result<&[u8], TakeFault>) {
-        let (item, fault) = (expected.ok(), expected.err());
-        check_item(rt, take_kept(&mut self.kept, apid), item, fault);
-        check_item(rt, take(&mut self.flight, apid), item, fault)
+    fn take(&mut self, rt: &impl Abort, apid: u16, packet: &[u8]) {
+        let kept = take_kept(&mut self.kept, apid);
+        assert_eq!(rt; kept.as_deref().ok(), Some(packet));
+        let flight = take(&mut self.flight, apid);
+        assert_eq!(rt; flight.as_deref().ok(), Some(packet));
     }
 
-    fn take_unit(&mut self, rt: &impl Abort, map: u8, expected: Result<&[u8], TakeUnitFault>) {
-        let (item, fault) = (expected.ok(), expected.err());
-        check_item(rt, take_unit_kept(&mut self.kept, map), item, fault);
-        check_item(rt, take_unit(&mut self.flight, map), item, fault)
+    fn take_unit(&mut self, rt: &impl Abort, map: u8, unit: &[u8]) {
+        let kept = take_unit_kept(&mut self.kept, map);
+        assert_eq!(rt; kept.as_deref().ok(), Some(unit));
+        let flight = take_unit(&mut self.flight, map);
+        assert_eq!(rt; flight.as_deref().ok(), Some(unit));
     }
 
     // Both lend this packet and this unit.
@@ -195,17 +183,12 @@ impl Twins {
         check_lent(rt, &self.flight, packet, unit)
     }
 
-    fn word(&self, rt: &impl Abort, word: u32) {
-        assert_eq!(rt; self.flight.clcw(NO_FLAG), word);
-    }
-
     fn step(&mut self, rt: &(impl Abort + Print), step: &Step<'_>) {
         match *step {
             Step::Frame(octets, expected) => self.frame(rt, octets, expected),
             Step::Release(expected) => self.release(rt, expected),
-            Step::Take(apid, expected) => self.take(rt, apid, expected),
-            Step::TakeUnit(map, expected) => self.take_unit(rt, map, expected),
-            Step::Word(word) => self.word(rt, word),
+            Step::Take(apid, packet) => self.take(rt, apid, packet),
+            Step::TakeUnit(map, unit) => self.take_unit(rt, map, unit),
             Step::Lends(packet, unit) => self.lends(rt, packet, unit),
             Step::Events(events) => self.check(rt, events),
         }
