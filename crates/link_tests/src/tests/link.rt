@@ -101,67 +101,6 @@ fn farm_1_goes_on_from_its_components(rt: HostRuntime) {
     check_rows(&rt, &mut farm, &rows)
 }
 
-fn first_act(rt: &impl Abort, width: u8, octets: &[u8]) -> Act {
-    let frame = read_frame(octets).expect(rt, "a frame");
-    arrive(&mut Farm::new(window(rt, width), 0), kind(&frame), true)
-}
-
-// Widths of the window, sequence numbers, and the events of their frames.
-static FIRST_EVENTS: [(u8, u8, u8); 7] = [
-    (254, 0x7e, 3),
-    (254, 0x7f, 5),
-    (254, 0x80, 5),
-    (254, 0x81, 4),
-    (2, 0x01, 5),
-    (2, 0xff, 4),
-    (2, 0xfe, 5),
-];
-
-#[test]
-fn the_widest_and_the_narrowest_window(rt: HostRuntime) {
-    for &(width, ns, event) in &FIRST_EVENTS {
-        let act = first_act(&rt, width, &ad_frame(ns));
-        assert_eq!(rt; act, discarded(event), "width {width}, N(S) {ns}");
-    }
-}
-
-// Octets of no frame. But for the last ones they are what `ad_frame(0)` begins with, or that with another first octet.
-static FAULTS: [(&[u8], FrameFault); 6] = [
-    (
-        &[
-            0x00, 0x2a, 0x04, 0x0c, 0x00, 0xc0, 0x10, 0x05, 0xc0, 0x00, 0x00, 0x00,
-        ],
-        FrameFault::Truncated,
-    ),
-    (&[0x00, 0x2a, 0x04], FrameFault::Short),
-    (
-        &[
-            0x40, 0x2a, 0x04, 0x0c, 0x00, 0xc0, 0x10, 0x05, 0xc0, 0x00, 0x00, 0x00, 0xaa,
-        ],
-        FrameFault::Version,
-    ),
-    (
-        &[
-            0x04, 0x2a, 0x04, 0x0c, 0x00, 0xc0, 0x10, 0x05, 0xc0, 0x00, 0x00, 0x00, 0xaa,
-        ],
-        FrameFault::Spare,
-    ),
-    (
-        &[
-            0x44, 0x2a, 0x04, 0x0c, 0x00, 0xc0, 0x10, 0x05, 0xc0, 0x00, 0x00, 0x00, 0xaa,
-        ],
-        FrameFault::Version,
-    ),
-    (&[0x00, 0x2a, 0x04, 0x04, 0x00], FrameFault::LengthSmall),
-];
-
-#[test]
-fn each_fault_of_octets(rt: HostRuntime) {
-    for (octets, fault) in &FAULTS {
-        assert_eq!(rt; read_frame(octets).err(), Some(*fault));
-    }
-}
-
 fn check_text<T: Display>(rt: &impl Abort, alloc: Global, fault: &T, text: &str) {
     let written = fault.to_string(alloc).expect(rt, "an answer");
     assert_eq!(rt; written.as_str(), text);

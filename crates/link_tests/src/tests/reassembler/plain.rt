@@ -26,20 +26,6 @@ fn check_plain(rt: &impl Abort, alloc: Global, rows: &[(&[u8], Option<&[u8]>)]) 
     assert!(rt; !reassembler.segmented());
 }
 
-// What would be a first, a continuing, a last and an unsegmented segment with a header: no octet is one here.
-static FIELDS: [(&[u8], Option<&[u8]>); 5] = [
-    (b"\x40\x10\x05", Some(b"\x40\x10\x05")),
-    (b"\x00\xc0\x00", Some(b"\x00\xc0\x00")),
-    (b"\x80\x00\x00\xaa", Some(b"\x80\x00\x00\xaa")),
-    (b"\xc0\x01", Some(b"\xc0\x01")),
-    (b"\x1f", Some(b"\x1f")),
-];
-
-#[test]
-fn takes_each_field_as_a_unit(rt: HostRuntime) {
-    check_plain(&rt, rt.alloc(), &FIELDS)
-}
-
 fn zeros(rt: &impl Abort, alloc: Global, count: usize) -> Vec<u8> {
     let zeros = vec![in alloc; 0; count];
     zeros.expect(rt, "octets")

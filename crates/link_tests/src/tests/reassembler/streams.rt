@@ -1,69 +1,13 @@
-//! Rows of fields with the units that they end, and long streams against the definition.
+//! Units at the limit, and long streams against the definition.
 
 ghost use Rattle.std.specs.Prelude.{◌<◌};
 
 use super::*;
 
-type Row<'a> = (Service, &'a [u8], Option<&'a [u8]>);
-
-// On a new reassembler each field ends the unit beside it, or none.
-fn check_row(rt: &impl Abort, alloc: Global, row: &[Row<'_>]) {
-    let mut watched = Watched::new(rt, alloc);
-    for (service, field, expected) in row {
-        let unit = watched.push(rt, *service, field);
-        assert_eq!(rt; unit.as_deref(), *expected);
-    }
-}
-
 // On a new reassembler the field ends this unit, or none.
 fn check_alone(rt: &impl Abort, alloc: Global, field: &[u8], expected: Option<&[u8]>) {
     let unit = Watched::new(rt, alloc).push(rt, Service::Ad, field);
     assert_eq!(rt; unit.as_deref(), expected);
-}
-
-const FIRST: Row<'static> = (Service::Ad, b"\x40\x10\x05\xc0", None);
-
-const LAST: Row<'static> = (
-    Service::Ad,
-    b"\x80\x01\x00\x01\xaa\xbb",
-    Some(b"\x10\x05\xc0\x01\x00\x01\xaa\xbb"),
-);
-
-static SERVICES_APART: [Row<'static>; 3] = [FIRST, (Service::Bd, b"\x80\xff", None), LAST];
-
-static MAPS_APART: [Row<'static>; 3] = [
-    FIRST,
-    (Service::Ad, b"\x81\x01\x00\x01\xaa\xbb", None),
-    LAST,
-];
-
-static TWO_SEGMENTS: [Row<'static>; 2] = [FIRST, LAST];
-
-#[test]
-fn keeps_the_services_and_the_maps_apart(rt: HostRuntime) {
-    check_row(&rt, rt.alloc(), &SERVICES_APART);
-    check_row(&rt, rt.alloc(), &MAPS_APART);
-    check_row(&rt, rt.alloc(), &TWO_SEGMENTS)
-}
-
-static FIRST_AGAIN: [Row<'static>; 3] = [
-    (Service::Ad, b"\x40\x01", None),
-    (Service::Ad, b"\x40\x02", None),
-    (Service::Ad, b"\x80\x03", Some(b"\x02\x03")),
-];
-
-static UNSEGMENTED: [Row<'static>; 3] = [
-    (Service::Ad, b"\x40\x01", None),
-    (Service::Ad, b"\xc0\x05", Some(b"\x05")),
-    (Service::Ad, b"\x80\x03", None),
-];
-
-#[test]
-fn drops_what_belongs_to_no_run(rt: HostRuntime) {
-    check_row(&rt, rt.alloc(), &FIRST_AGAIN);
-    check_row(&rt, rt.alloc(), &UNSEGMENTED);
-    check_alone(&rt, rt.alloc(), b"\x80\xaa", None);
-    check_alone(&rt, rt.alloc(), b"\xc0", Some(b""))
 }
 
 // The octets, and so many zeros after them.
