@@ -3,30 +3,30 @@ mod parallel;
 mod streams;
 mod texts;
 
-use std::io::Write;
+use std::io::{Read, Write};
 use std::sync::Wait;
 use std::thread::Threads;
 use tc_cli::{ScriptFault, parallel_script, run_script};
 use tc_station::FreeGate;
 
-// A script of spacecraft 42. The call that has the contract stands here alone, for any script.
-fn run<T: Wait + AllocGlobal, W: Write>(
-    rt: &T,
-    script: &[u8],
-    writer: &mut W,
-) -> Result<(), ScriptFault> {
-    let mut reader = script;
-    run_script(rt, rt.alloc(), 42, &mut reader, writer)
+// How a script is run.
+#[derive(Clone, Copy)]
+enum Way {
+    InOrder,
+    InParallel,
 }
 
-// The same in parallel.
-fn run_in_parallel<T: Threads + Wait + Sync + AllocGlobal, W: Write>(
+// A script of spacecraft 42. The calls that have the contracts are here alone, for any script.
+fn run<T: Threads + Wait + Sync + AllocGlobal, R: Read, W: Write>(
     rt: &T,
-    script: &[u8],
+    way: Way,
+    reader: &mut R,
     writer: &mut W,
 ) -> Result<(), ScriptFault> {
-    let mut reader = script;
-    parallel_script(rt, rt.alloc(), &FreeGate, 42, &mut reader, writer)
+    match way {
+        Way::InOrder => run_script(rt, rt.alloc(), 42, reader, writer),
+        Way::InParallel => parallel_script(rt, rt.alloc(), &FreeGate, 42, reader, writer),
+    }
 }
 
 /// A frame that becomes a packet, and one that finds no room.

@@ -1,12 +1,13 @@
 //! Calls that take memory. With ample memory each answers at once; with one growth refused each
 //! leaves what stood before, and then answers the same.
 
-use super::{ANSWERS, REPORT, SCRIPT, UNITS, UNITS_ANSWERS, UNITS_REPORT, run, run_in_parallel};
+use super::{ANSWERS, REPORT, SCRIPT, UNITS, UNITS_ANSWERS, UNITS_REPORT, Way, run};
 use std::alloc::Global;
 use std::process::Abort;
 use std::sync::Wait;
 use std::thread::Threads;
 use tc_cli::{Line, Reason, ScriptFault, parse_line};
+use test_parts::{UNLOCK, room};
 
 /// A line, read at once or after a growth was refused.
 fn parsed<T: Abort + Print>(rt: &T, alloc: Global, text: &[u8]) -> Line {
@@ -22,18 +23,9 @@ fn parsed<T: Abort + Print>(rt: &T, alloc: Global, text: &[u8]) -> Line {
 
 #[test]
 fn parse_line_growth(rt: HostRuntime) {
-    let unlock = [0x30, 0x2a, 0x04, 0x05, 0, 0];
     match parsed(&rt, rt.alloc(), b"frame 302a04050000") {
-        Line::Frame(octets) => assert_eq!(rt; octets.as_slice(), unlock.as_slice()),
+        Line::Frame(octets) => assert_eq!(rt; octets.as_slice(), UNLOCK.as_slice()),
         _ => panic!(rt; "the line isn't read"),
-    }
-}
-
-/// Room for the answers, so that the writer takes no memory later.
-fn room<T: Abort>(rt: &T, alloc: Global) -> Vec<u8> {
-    match Vec::with_capacity(alloc, 1000) {
-        Ok(room) => room,
-        Err(_) => Vec::with_capacity(alloc, 1000).expect(rt, "memory"),
     }
 }
 
@@ -61,19 +53,20 @@ fn check_refused<T: Abort>(
 
 /// A script whose first lines, so many of them, set up channels, is done to its end, at once or after a
 /// growth was refused.
-fn check_script<T: Abort + Print + Wait + AllocGlobal>(
+fn check_script<T: Abort + Print + Threads + Wait + Sync + AllocGlobal>(
     rt: &T,
     script: &str,
     expected: &str,
     setups: u32,
     lines: u32,
 ) {
-    let mut answers = room(rt, rt.alloc());
-    if let Err(fault) = run(rt, script.as_bytes(), &mut answers) {
+    // So the writer takes no memory later.
+    let mut answers = room(rt, rt.alloc(), 1000);
+    if let Err(fault) = run(rt, Way::InOrder, &mut script.as_bytes(), &mut answers) {
         let _ = println!(rt; "refused: run_script, {fault}");
         check_refused(rt, fault, answers.as_slice(), expected, setups, lines);
         answers.clear();
-        let done = run(rt, script.as_bytes(), &mut answers);
+        let done = run(rt, Way::InOrder, &mut script.as_bytes(), &mut answers);
         assert_eq!(rt; done, Ok(()));
     }
     assert_eq!(rt; answers.as_slice(), expected.as_bytes());
@@ -107,8 +100,8 @@ fn check_parallel<R: Threads + Wait + Sync + Abort + Print + AllocGlobal>(
     first: u32,
     last: u32,
 ) {
-    let mut found = room(rt, rt.alloc());
-    if let Err(fault) = run_in_parallel(rt, script.as_bytes(), &mut found) {
+    let mut found = room(rt, rt.alloc(), 1000);
+    if let Err(fault) = run(rt, Way::InParallel, &mut script.as_bytes(), &mut found) {
         let ScriptFault::Line { line, reason } = fault else {
             panic!(rt; "another fault");
         };
@@ -116,7 +109,7 @@ fn check_parallel<R: Threads + Wait + Sync + Abort + Print + AllocGlobal>(
         assert_eq!(rt; reason, Reason::NoMemory);
         assert!(rt; line == 0 || (first <= line && line <= last));
         assert!(rt; found.is_empty());
-        let done = run_in_parallel(rt, script.as_bytes(), &mut found);
+        let done = run(rt, Way::InParallel, &mut script.as_bytes(), &mut found);
         assert_eq!(rt; done, Ok(()));
     }
     assert_eq!(rt; found.as_slice(), report.as_bytes());

@@ -1,10 +1,10 @@
 //! The text of each reason and each fault.
 
-use std::test::Fail;
 use tc_cli::{Reason, ScriptFault};
+use test_parts::check_texts;
 
 #[test]
-fn reasons(rt: HostRuntime) -> Result<(), Fail> {
+fn reasons(rt: HostRuntime) {
     for (reason, text) in [
         (Reason::UnknownCommand, "line 7: unknown command"),
         (Reason::WordCount, "line 7: wrong number of words"),
@@ -27,22 +27,18 @@ fn reasons(rt: HostRuntime) -> Result<(), Fail> {
         (Reason::BadUnits, "line 7: bad units"),
         (Reason::PlainMap, "line 7: map on plain channel"),
     ] {
-        let found = ScriptFault::Line { line: 7, reason }.to_string(rt.alloc())?;
-        assert_eq!(rt; found.as_str(), text);
+        let fault = [(ScriptFault::Line { line: 7, reason }, text)];
+        check_texts(&rt, rt.alloc(), fault.as_slice());
     }
-    Ok(())
 }
 
 #[test]
-fn faults(rt: HostRuntime) -> Result<(), Fail> {
-    for (fault, text) in [
+fn faults(rt: HostRuntime) {
+    let faults = [
         (ScriptFault::Read, "line 0: cannot read"),
         (ScriptFault::TooLong, "line 0: too long"),
         (ScriptFault::Write, "line 0: cannot write"),
         (ScriptFault::Unbalanced, "line 0: unbalanced"),
-    ] {
-        let found = fault.to_string(rt.alloc())?;
-        assert_eq!(rt; found.as_str(), text);
-    }
-    Ok(())
+    ];
+    check_texts(&rt, rt.alloc(), faults.as_slice());
 }
