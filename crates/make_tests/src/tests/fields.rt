@@ -91,24 +91,3 @@ fn each_refusal(rt: HostRuntime) {
         );
     }
 }
-
-#[test]
-fn the_text_of_each_fault(rt: HostRuntime) {
-    for (fault, text) in [
-        (
-            FieldFault::NoFrame(FrameFault::Short),
-            "no frame: fewer than 5 octets",
-        ),
-        (FieldFault::Fill, "octets after the frame"),
-        (FieldFault::TooLong, "more than 1,022 octets"),
-        (FieldFault::TooShort, "fewer than 8 octets"),
-        (
-            FieldFault::WrongSum,
-            "the frame error control field is wrong",
-        ),
-        (FieldFault::NoMemory, "no memory"),
-    ] {
-        let told = fault.to_string(rt.alloc()).expect(&rt, "a text");
-        assert_eq!(rt; told.as_str(), text);
-    }
-}

@@ -1,28 +1,10 @@
 //! Streams of lines: those that fail, lines that are too long, and octets after the last line feed.
 
 use std::io;
-use std::io::{BufReader, ErrorKind, Read, Write};
+use std::io::{BufReader, ErrorKind, Read};
 use std::test::Fail;
 use tc_make::{Ending, MAX_LINE, ServingFault, answer_lines};
-
-/// Gives a few octets a read, and fails once it has none left.
-#[derive(Drop)]
-struct Failing<'a> {
-    rest: &'a [u8],
-}
-
-impl Read for Failing<'_> {
-    fn read(&mut self, buf: &mut [u8]) -> io::Result<usize> {
-        if self.rest.is_empty() {
-            return Err(io::Error::from(ErrorKind::Other));
-        }
-        let count = self.rest.len().min(buf.len()).min(3);
-        let (given, rest) = self.rest.split_at(count);
-        buf[..count].copy_from_slice(given);
-        self.rest = rest;
-        Ok(count)
-    }
-}
+use test_parts::{Failing, Watched};
 
 /// Gives a thousand octets a read, and is interrupted before each read.
 #[derive(Drop)]
@@ -45,67 +27,27 @@ impl Read for Interrupted<'_> {
     }
 }
 
-/// Keeps what is written. It fails at a write or at a flush, and counts the flushes.
-#[derive(Drop)]
-struct Watched {
-    kept: Vec<u8>,
-    writes: u32,
-    fails_at: u32,
-    flushes: u32,
-    fails_to_flush: bool,
-}
-
-impl Write for Watched {
-    fn write(&mut self, buf: &[u8]) -> io::Result<usize> {
-        self.writes = self.writes.saturating_add(1);
-        if self.writes == self.fails_at {
-            return Err(io::Error::from(ErrorKind::Other));
-        }
-        self.kept.extend_from_slice(buf)?;
-        Ok(buf.len())
-    }
-
-    fn flush(&mut self) -> io::Result<()> {
-        self.flushes = self.flushes.saturating_add(1);
-        if self.fails_to_flush {
-            return Err(io::Error::from(ErrorKind::Other));
-        }
-        Ok(())
-    }
-}
-
-fn new_watched(alloc: std::alloc::Global, fails_at: u32, fails_to_flush: bool) -> Watched {
-    Watched {
-        kept: Vec::new(alloc),
-        writes: 0,
-        fails_at,
-        flushes: 0,
-        fails_to_flush,
-    }
-}
-
 #[test]
 fn lines_are_answered_and_flushed_one_by_one(rt: HostRuntime) -> Result<(), Fail> {
     let mut reader = b"packet 5 0 aa\nno\n\nunlock 42 1".as_slice();
-    let mut writer = new_watched(rt.alloc(), 0, false);
+    let mut writer = Watched::new(rt.alloc(), 0, false);
     let served = answer_lines(rt.alloc(), Ending::DataField, &mut reader, &mut writer);
     assert_eq!(rt; served, Ok(()));
     let text = b"packet 1005c0000000aa\nbad unknown command\nframe 302a04050000\n".as_slice();
-    assert!(rt; writer.kept.as_slice() == text);
-    assert_eq!(rt; writer.flushes, 4);
+    assert!(rt; writer.kept() == text);
+    assert_eq!(rt; writer.flushes(), 4);
     Ok(())
 }
 
 #[test]
 fn a_read_fails_after_a_line(rt: HostRuntime) -> Result<(), Fail> {
-    let failing = Failing {
-        rest: b"unlock 42 1\nunlock 42".as_slice(),
-    };
+    // It has 21 octets, and the read after them fails.
+    let failing = Failing::new(b"unlock 42 1\nunlock 42".as_slice(), 3, 8);
     let mut reader = BufReader::new(rt.alloc(), failing)?;
-    let mut writer = new_watched(rt.alloc(), 0, false);
+    let mut writer = Watched::new(rt.alloc(), 0, false);
     let served = answer_lines(rt.alloc(), Ending::DataField, &mut reader, &mut writer);
     assert_eq!(rt; served, Err(ServingFault::Read));
-    assert!(rt; writer.kept.as_slice() == b"frame 302a04050000\n".as_slice());
+    assert!(rt; writer.kept() == b"frame 302a04050000\n".as_slice());
     Ok(())
 }
 
@@ -118,12 +60,12 @@ fn lines_come_in_parts(rt: HostRuntime) -> Result<(), Fail> {
         was_interrupted: false,
     };
     let mut reader = BufReader::new(rt.alloc(), parts)?;
-    let mut writer = new_watched(rt.alloc(), 0, false);
+    let mut writer = Watched::new(rt.alloc(), 0, false);
     let served = answer_lines(rt.alloc(), Ending::DataField, &mut reader, &mut writer);
     assert_eq!(rt; served, Ok(()));
     let text = b"bad too long\nframe 302a04050000\nframe 302a04050000\n".as_slice();
-    assert!(rt; writer.kept.as_slice() == text);
-    assert_eq!(rt; writer.flushes, 3);
+    assert!(rt; writer.kept() == text);
+    assert_eq!(rt; writer.flushes(), 3);
     Ok(())
 }
 
@@ -131,7 +73,7 @@ fn lines_come_in_parts(rt: HostRuntime) -> Result<(), Fail> {
 fn a_write_or_a_flush_fails(rt: HostRuntime) -> Result<(), Fail> {
     for (fails_at, fails_to_flush) in [(1, false), (2, false), (0, true)] {
         let mut reader = b"unlock 42 1\n".as_slice();
-        let mut writer = new_watched(rt.alloc(), fails_at, fails_to_flush);
+        let mut writer = Watched::new(rt.alloc(), fails_at, fails_to_flush);
         let served = answer_lines(rt.alloc(), Ending::DataField, &mut reader, &mut writer);
         assert_eq!(rt; served, Err(ServingFault::Write));
     }
@@ -151,10 +93,10 @@ fn a_line_is_too_long(rt: HostRuntime) -> Result<(), Fail> {
             lines.extend_from_slice(b"\nunlock 42 1\n")?;
         }
         let mut reader = lines.as_slice();
-        let mut writer = new_watched(rt.alloc(), 0, false);
+        let mut writer = Watched::new(rt.alloc(), 0, false);
         let served = answer_lines(rt.alloc(), Ending::DataField, &mut reader, &mut writer);
         assert_eq!(rt; served, Ok(()));
-        assert!(rt; writer.kept.as_slice() == text.as_bytes(), "{length}");
+        assert!(rt; writer.kept() == text.as_bytes(), "{length}");
     }
     Ok(())
 }

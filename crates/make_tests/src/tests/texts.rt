@@ -1,0 +1,52 @@
+//! The text of each reason and each fault.
+
+use tc_fecf::FieldFault;
+use tc_link::FrameFault;
+use tc_make::{Reason, ServingFault};
+use test_parts::check_texts;
+
+#[test]
+fn reasons_of_bad_lines(rt: HostRuntime) {
+    let reasons = [
+        (Reason::UnknownCommand, "unknown command"),
+        (Reason::WordCount, "wrong number of words"),
+        (Reason::BadNumber, "bad number"),
+        (Reason::BadHex, "bad hex"),
+        (Reason::BadScid, "bad spacecraft"),
+        (Reason::BadVcid, "bad channel"),
+        (Reason::BadMap, "bad map"),
+        (Reason::BadApid, "bad application"),
+        (Reason::BadCount, "bad count"),
+        (Reason::BadSize, "bad size"),
+        (Reason::NoData, "no data"),
+        (Reason::TooMuchData, "too much data"),
+        (Reason::BadClcw, "bad clcw"),
+        (Reason::NoMemory, "no memory"),
+    ];
+    check_texts(&rt, rt.alloc(), reasons.as_slice());
+}
+
+#[test]
+fn faults_of_streams_and_of_fields(rt: HostRuntime) {
+    let streams = [
+        (ServingFault::Read, "cannot read"),
+        (ServingFault::Write, "cannot write"),
+        (ServingFault::NoMemory, "no memory"),
+    ];
+    check_texts(&rt, rt.alloc(), streams.as_slice());
+    let fields = [
+        (
+            FieldFault::NoFrame(FrameFault::Short),
+            "no frame: fewer than 5 octets",
+        ),
+        (FieldFault::Fill, "octets after the frame"),
+        (FieldFault::TooLong, "more than 1,022 octets"),
+        (FieldFault::TooShort, "fewer than 8 octets"),
+        (
+            FieldFault::WrongSum,
+            "the frame error control field is wrong",
+        ),
+        (FieldFault::NoMemory, "no memory"),
+    ];
+    check_texts(&rt, rt.alloc(), fields.as_slice());
+}
