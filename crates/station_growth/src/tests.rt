@@ -58,8 +58,8 @@ enum Call<'a> {
 // The event of a call that was answered. One growth may be refused.
 fn event_of(rt: &impl Abort, alloc: Global, call: Call) -> Event {
     match call {
-        Call::Frame(octets, _) => frame_event(rt, alloc, octets),
-        Call::FrameWatched(octets, _) => frame_event(rt, alloc, octets),
+        Call::Frame(octets, _) => frame_event(alloc, octets).expect(rt, "an event"),
+        Call::FrameWatched(octets, _) => frame_event(alloc, octets).expect(rt, "an event"),
         Call::Release => Event::Release,
         Call::Take => Event::Take(5),
         Call::TakeUnit(_) => Event::TakeUnit(3),
@@ -68,7 +68,7 @@ fn event_of(rt: &impl Abort, alloc: Global, call: Call) -> Event {
 
 // The settings alone, as a station takes them.
 fn list_of_settings(rt: &impl Abort, alloc: Global) -> Vec<Settings> {
-    list_of(rt, alloc, settings(rt, alloc, &CHANNEL))
+    list_of(alloc, settings(alloc, &CHANNEL).expect(rt, "settings")).expect(rt, "a list")
 }
 
 fn station_once(rt: &impl Abort, alloc: Global) -> Result<Station, StationFault> {

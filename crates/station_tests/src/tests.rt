@@ -18,7 +18,7 @@ use tc_channel::{Channel, Delivery, Settings};
 use tc_station::{Brought, Operator, Station};
 use test_parts::{
     BD_UNIT, BUFFERED, DELIVERED, FRAME, NEXT, NO_FLAG, ONE, UNLOCK, WANTED, Wanted, ad_frame,
-    check_texts, list_of, octets_of, settings,
+    have_texts, list_of, octets_of, settings,
 };
 
 // `FRAME` for spacecraft 43, and for it and virtual channel 2.
@@ -45,7 +45,7 @@ const UNIT_BROUGHT: Brought = Brought {
 fn settings_for(rt: &impl Abort, alloc: Global, vcid: u8) -> Settings
     ensures { result.vcid ≡ vcid }
 {
-    settings(rt, alloc, &Wanted { vcid, ..WANTED })
+    settings(alloc, &Wanted { vcid, ..WANTED }).expect(rt, "settings")
 }
 
 // Settings for each of these virtual channels.
@@ -68,8 +68,8 @@ fn settings_of_two(rt: &impl Abort, alloc: Global) -> Vec<Settings>
         ..WANTED
     };
     let second = Wanted { vcid: 2, ..first };
-    let first = settings(rt, alloc, &first);
-    let second = settings(rt, alloc, &second);
+    let first = settings(alloc, &first).expect(rt, "settings");
+    let second = settings(alloc, &second).expect(rt, "settings");
     vec![in alloc; first, second].expect(rt, "a list")
 }
 

@@ -1,8 +1,7 @@
 //! Frames of spacecraft 42, and what they are answered.
 
 use crate::growths::octets_of;
-use std::alloc::Global;
-use std::process::Abort;
+use std::alloc::{AllocError, Global};
 use tc_channel::{ChannelWith, Delivery, Event, FrameReply, Journal, NoMemory};
 use tc_link::{Act, Link, read_frame};
 
@@ -101,8 +100,8 @@ pub fn ad_frame(vcid: u8, ns: u8) -> [u8; 13] {
 }
 
 /// The event of a frame with these octets. One growth may be refused.
-pub fn frame_event(rt: &impl Abort, alloc: Global, octets: &[u8]) -> Event {
-    Event::Frame(octets_of(rt, alloc, octets))
+pub fn frame_event(alloc: Global, octets: &[u8]) -> Result<Event, AllocError> {
+    Ok(Event::Frame(octets_of(alloc, octets)?))
 }
 
 /// Whether the event is of a frame with these octets.
@@ -113,11 +112,11 @@ pub fn is_frame(event: &Event, frame: &[u8]) -> bool {
     }
 }
 
-/// What a channel answers to the frame at the front of these octets.
+/// What a channel answers to the frame at the front of these octets, if there is one.
 pub fn offer<J: Journal>(
-    rt: &impl Abort,
     channel: &mut ChannelWith<J>,
     octets: &[u8],
-) -> Result<FrameReply, NoMemory> {
-    channel.frame(&read_frame(octets).expect(rt, "a frame"))
+) -> Option<Result<FrameReply, NoMemory>> {
+    let frame = read_frame(octets).ok()?;
+    Some(channel.frame(&frame))
 }

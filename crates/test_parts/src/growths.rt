@@ -1,105 +1,93 @@
 //! Lists whose making one refused growth doesn't stop, and what calls answered.
 
-ghost use Rattle.std.specs.Prelude.{◌≡◌, ◌∷◌, []};
+ghost use Rattle.std.specs.Prelude.{◌≡◌, ◌∷◌, [], IfOk};
 
-use std::alloc::Global;
-use std::fmt::{Debug, Display};
-use std::process::Abort;
+use std::alloc::{AllocError, Global};
+use std::fmt::Display;
 use tc_channel::{Event, Octets};
 
 /// An empty list with room for so many items. One growth may be refused.
-pub fn room<T>(rt: &impl Abort, alloc: Global, count: usize) -> Vec<T>
-    ensures { result.items ≡ [] }
+pub fn room<T>(alloc: Global, count: usize) -> Result<Vec<T>, AllocError>
+    ensures { IfOk result (λ list. list.items ≡ []) }
 {
     match Vec::with_capacity(alloc, count) {
-        Ok(list) => list,
-        Err(_) => Vec::with_capacity(alloc, count).expect(rt, "room"),
+        Ok(list) => Ok(list),
+        Err(_) => Vec::with_capacity(alloc, count),
     }
 }
 
 /// A list of this item alone. One growth may be refused.
-pub fn list_of<T: Drop>(rt: &impl Abort, alloc: Global, item: T) -> Vec<T>
-    ensures { result.items ≡ item ∷ [] }
+pub fn list_of<T: Drop>(alloc: Global, item: T) -> Result<Vec<T>, AllocError>
+    ensures { IfOk result (λ list. list.items ≡ item ∷ []) }
 {
-    let mut list = room(rt, alloc, 1);
-    list.push(item).expect(rt, "room");
-    list
+    let mut list = room(alloc, 1)?;
+    list.push(item)?;
+    Ok(list)
 }
 
 /// These items. One growth may be refused.
-pub fn copied<T: Copy>(rt: &impl Abort, alloc: Global, items: &[T]) -> Vec<T> {
+pub fn copied<T: Copy>(alloc: Global, items: &[T]) -> Result<Vec<T>, AllocError> {
     match Vec::from_slice(alloc, items) {
-        Ok(copy) => copy,
-        Err(_) => Vec::from_slice(alloc, items).expect(rt, "a copy"),
+        Ok(copy) => Ok(copy),
+        Err(_) => Vec::from_slice(alloc, items),
     }
 }
 
 /// Octets on the heap. One growth may be refused.
-pub fn octets_of(rt: &impl Abort, alloc: Global, octets: &[u8]) -> Octets {
-    Octets::from(copied(rt, alloc, octets))
+pub fn octets_of(alloc: Global, octets: &[u8]) -> Result<Octets, AllocError> {
+    Ok(Octets::from(copied(alloc, octets)?))
 }
 
 /// Appends to a journal. One growth may be refused.
-pub fn note(rt: &impl Abort, journal: &mut Vec<Event>, event: Event) {
+pub fn note(journal: &mut Vec<Event>, event: Event) -> Result<(), AllocError> {
     if journal.reserve(1).is_err() {
-        journal.reserve(1).expect(rt, "room");
+        journal.reserve(1)?;
     }
-    journal.push(event).expect(rt, "an event");
+    journal.push(event)?;
+    Ok(())
 }
 
-/// Whether a call was answered, as it must be. Else it must have been refused so.
+/// Whether a call was answered, as it must be, or refused so. Nothing where it was neither.
 pub fn is_answered<T: Drop + PartialEq, E: Drop + PartialEq>(
-    rt: &impl Abort,
     answer: Result<T, E>,
     expected: &T,
     no_memory: E,
-) -> bool {
+) -> Option<bool> {
     match answer {
-        Ok(found) => {
-            assert!(rt; found == *expected, "another answer");
-            true
-        }
-        Err(fault) => {
-            assert!(rt; fault == no_memory, "another refusal");
-            false
-        }
+        Ok(found) if found == *expected => Some(true),
+        Err(fault) if fault == no_memory => Some(false),
+        _ => None,
     }
 }
 
-/// Whether a packet or a unit was taken, as it must be. Else the take must have been refused so.
+/// Whether a packet or a unit was taken, as it must be, or the take was refused so. Nothing where it was neither.
 pub fn is_taken<E: Drop + PartialEq>(
-    rt: &impl Abort,
     answer: Result<Vec<u8>, E>,
     item: &[u8],
     no_memory: E,
-) -> bool {
+) -> Option<bool> {
     match answer {
-        Ok(found) => {
-            assert!(rt; found.as_slice() == item, "another item");
-            true
-        }
-        Err(fault) => {
-            assert!(rt; fault == no_memory, "another refusal");
-            false
-        }
+        Ok(found) if found.as_slice() == item => Some(true),
+        Err(fault) if fault == no_memory => Some(false),
+        _ => None,
     }
 }
 
-/// A packet or a unit was taken, or the take was refused.
-pub fn check_item<E: Debug + Drop + PartialEq>(
-    rt: &impl Abort,
+/// Whether a packet or a unit was taken, or the take refused, as it must be.
+pub fn has_item<E: Drop + PartialEq>(
     answer: Result<Vec<u8>, E>,
     item: Option<&[u8]>,
     fault: Option<E>,
-) {
-    assert_eq!(rt; answer.as_deref().ok(), item);
-    assert_eq!(rt; answer.err(), fault);
+) -> bool {
+    match answer {
+        Ok(found) => item == Some(found.as_slice()),
+        Err(found) => fault == Some(found),
+    }
 }
 
-/// Each of these has its text.
-pub fn check_texts<F: Display>(rt: &impl Abort, alloc: Global, texts: &[(F, &str)]) {
-    for (fault, text) in texts {
-        let written = fault.to_string(alloc).expect(rt, "an answer");
-        assert_eq!(rt; written.as_str(), *text);
-    }
+/// Whether each fault has its text.
+pub fn have_texts<F: Display>(alloc: Global, texts: &[(F, &str)]) -> bool {
+    texts.iter().all(|(fault, text)| fault
+        .to_string(alloc)
+        .is_ok_and(|written| written.as_str() == *text))
 }

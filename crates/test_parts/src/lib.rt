@@ -12,7 +12,7 @@ pub use frames::{
     NOTHING, ONE, PACKET, UNIT, UNLOCK, ad_frame, frame_event, is_frame, offer,
 };
 pub use growths::{
-    check_item, check_texts, copied, is_answered, is_taken, list_of, note, octets_of, room,
+    copied, has_item, have_texts, is_answered, is_taken, list_of, note, octets_of, room,
 };
 pub use streams::{Failing, Watched};
 pub use wanted::{WANTED, Wanted, settings};

@@ -1,10 +1,9 @@
 //! Settings made of data.
 
-ghost use Rattle.std.specs.Prelude.{◌≡◌};
+ghost use Rattle.std.specs.Prelude.{◌≡◌, IfOk};
 
 use crate::growths::room;
-use std::alloc::Global;
-use std::process::Abort;
+use std::alloc::{AllocError, Global};
 use tc_channel::{Items, MapSetting, QueueSetting, Settings};
 
 /// Settings as data.
@@ -37,35 +36,33 @@ pub const WANTED: Wanted<'static> = Wanted {
     maps: &[],
 };
 
-fn queues_of(rt: &impl Abort, alloc: Global, wanted: &[(u16, u16)]) -> Items<QueueSetting> {
-    let mut queues = room(rt, alloc, wanted.len());
+fn queues_of(alloc: Global, wanted: &[(u16, u16)]) -> Result<Items<QueueSetting>, AllocError> {
+    let mut queues = room(alloc, wanted.len())?;
     for &(apid, capacity) in wanted {
-        let queue = QueueSetting { apid, capacity };
-        queues.push(queue).expect(rt, "a queue");
+        queues.push(QueueSetting { apid, capacity })?;
     }
-    Items::from(queues)
+    Ok(Items::from(queues))
 }
 
-fn maps_of(rt: &impl Abort, alloc: Global, wanted: &[(u8, u16)]) -> Items<MapSetting> {
-    let mut maps = room(rt, alloc, wanted.len());
+fn maps_of(alloc: Global, wanted: &[(u8, u16)]) -> Result<Items<MapSetting>, AllocError> {
+    let mut maps = room(alloc, wanted.len())?;
     for &(map, capacity) in wanted {
-        let map = MapSetting { map, capacity };
-        maps.push(map).expect(rt, "a MAP");
+        maps.push(MapSetting { map, capacity })?;
     }
-    Items::from(maps)
+    Ok(Items::from(maps))
 }
 
 /// These settings. One growth may be refused.
-pub fn settings(rt: &impl Abort, alloc: Global, wanted: &Wanted<'_>) -> Settings
-    ensures { result.vcid ≡ wanted.now.vcid }
+pub fn settings(alloc: Global, wanted: &Wanted<'_>) -> Result<Settings, AllocError>
+    ensures { IfOk result (λ settings. settings.vcid ≡ wanted.now.vcid) }
 {
-    Settings {
+    Ok(Settings {
         vcid: wanted.vcid,
         width: wanted.width,
         buffer: wanted.buffer,
         first: wanted.first,
         segmented: wanted.segmented,
-        queues: queues_of(rt, alloc, wanted.queues),
-        maps: maps_of(rt, alloc, wanted.maps),
-    }
+        queues: queues_of(alloc, wanted.queues)?,
+        maps: maps_of(alloc, wanted.maps)?,
+    })
 }

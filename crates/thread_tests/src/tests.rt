@@ -20,8 +20,8 @@ fn station_of_two(rt: &impl Abort, alloc: Global, buffer: u8) -> Station
 {
     let first = Wanted { buffer, ..WANTED };
     let second = Wanted { vcid: 2, ..first };
-    let first = settings(rt, alloc, &first);
-    let second = settings(rt, alloc, &second);
+    let first = settings(alloc, &first).expect(rt, "settings");
+    let second = settings(alloc, &second).expect(rt, "settings");
     let list = vec![in alloc; first, second].expect(rt, "a list");
     Station::new(alloc, 42, list).expect(rt, "a station")
 }

@@ -4,7 +4,7 @@ use super::receiver;
 use std::io::BufReader;
 use std::test::Fail;
 use tc_live::{FrameCheck, ServingFault, answer_lines};
-use test_parts::{Failing, Watched, check_texts};
+use test_parts::{Failing, Watched, have_texts};
 
 #[test]
 fn lines_are_answered_and_flushed_one_by_one(rt: HostRuntime) -> Result<(), Fail> {
@@ -53,5 +53,5 @@ fn faults_have_texts(rt: HostRuntime) {
         (ServingFault::NoMemory, "no memory"),
         (ServingFault::Unbalanced, "unbalanced"),
     ];
-    check_texts(&rt, rt.alloc(), faults.as_slice());
+    assert!(&rt; have_texts(rt.alloc(), faults.as_slice()));
 }

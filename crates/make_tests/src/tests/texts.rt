@@ -3,7 +3,7 @@
 use tc_fecf::FieldFault;
 use tc_link::FrameFault;
 use tc_make::{Reason, ServingFault};
-use test_parts::check_texts;
+use test_parts::have_texts;
 
 #[test]
 fn reasons_of_bad_lines(rt: HostRuntime) {
@@ -23,7 +23,7 @@ fn reasons_of_bad_lines(rt: HostRuntime) {
         (Reason::BadClcw, "bad clcw"),
         (Reason::NoMemory, "no memory"),
     ];
-    check_texts(&rt, rt.alloc(), reasons.as_slice());
+    assert!(&rt; have_texts(rt.alloc(), reasons.as_slice()));
 }
 
 #[test]
@@ -33,7 +33,7 @@ fn faults_of_streams_and_of_fields(rt: HostRuntime) {
         (ServingFault::Write, "cannot write"),
         (ServingFault::NoMemory, "no memory"),
     ];
-    check_texts(&rt, rt.alloc(), streams.as_slice());
+    assert!(&rt; have_texts(rt.alloc(), streams.as_slice()));
     let fields = [
         (
             FieldFault::NoFrame(FrameFault::Short),
@@ -48,5 +48,5 @@ fn faults_of_streams_and_of_fields(rt: HostRuntime) {
         ),
         (FieldFault::NoMemory, "no memory"),
     ];
-    check_texts(&rt, rt.alloc(), fields.as_slice());
+    assert!(&rt; have_texts(rt.alloc(), fields.as_slice()));
 }

@@ -61,7 +61,7 @@ fn check_script<T: Abort + Print + Threads + Wait + Sync + AllocGlobal>(
     lines: u32,
 ) {
     // So the writer takes no memory later.
-    let mut answers = room(rt, rt.alloc(), 1000);
+    let mut answers = room(rt.alloc(), 1000).expect(rt, "room");
     if let Err(fault) = run(rt, Way::InOrder, &mut script.as_bytes(), &mut answers) {
         let _ = println!(rt; "refused: run_script, {fault}");
         check_refused(rt, fault, answers.as_slice(), expected, setups, lines);
@@ -100,7 +100,7 @@ fn check_parallel<R: Threads + Wait + Sync + Abort + Print + AllocGlobal>(
     first: u32,
     last: u32,
 ) {
-    let mut found = room(rt, rt.alloc(), 1000);
+    let mut found = room(rt.alloc(), 1000).expect(rt, "room");
     if let Err(fault) = run(rt, Way::InParallel, &mut script.as_bytes(), &mut found) {
         let ScriptFault::Line { line, reason } = fault else {
             panic!(rt; "another fault");

@@ -1,7 +1,7 @@
 //! The text of each reason and each fault.
 
 use tc_cli::{Reason, ScriptFault};
-use test_parts::check_texts;
+use test_parts::have_texts;
 
 #[test]
 fn reasons(rt: HostRuntime) {
@@ -28,7 +28,7 @@ fn reasons(rt: HostRuntime) {
         (Reason::PlainMap, "line 7: map on plain channel"),
     ] {
         let fault = [(ScriptFault::Line { line: 7, reason }, text)];
-        check_texts(&rt, rt.alloc(), fault.as_slice());
+        assert!(&rt; have_texts(rt.alloc(), fault.as_slice()));
     }
 }
 
@@ -40,5 +40,5 @@ fn faults(rt: HostRuntime) {
         (ScriptFault::Write, "line 0: cannot write"),
         (ScriptFault::Unbalanced, "line 0: unbalanced"),
     ];
-    check_texts(&rt, rt.alloc(), faults.as_slice());
+    assert!(&rt; have_texts(rt.alloc(), faults.as_slice()));
 }

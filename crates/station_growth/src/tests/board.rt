@@ -8,7 +8,7 @@ use tc_link::read_frame;
 use tc_status::{Publisher, Watcher, meet};
 
 fn channel_once(rt: &impl Abort, alloc: Global) -> Result<Channel, SettingsFault> {
-    Channel::new(alloc, settings(rt, alloc, &WANTED))
+    Channel::new(alloc, settings(alloc, &WANTED).expect(rt, "settings"))
 }
 
 fn new_channel(rt: &impl Abort, alloc: Global) -> Channel {

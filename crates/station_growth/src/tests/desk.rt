@@ -41,7 +41,7 @@ struct Short {
 }
 
 fn desk_once(rt: &impl Abort, alloc: Global, wanted: &Wanted) -> Result<Desk, SettingsFault> {
-    Desk::new(alloc, settings(rt, alloc, wanted))
+    Desk::new(alloc, settings(alloc, wanted).expect(rt, "settings"))
 }
 
 fn new_desk(rt: &(impl Abort + Print), alloc: Global, wanted: &Wanted) -> Desk {
@@ -99,19 +99,31 @@ impl Short {
     // Each of these says whether the call was answered, as it must be, or memory was wanting.
     fn frame(&mut self, rt: &impl Abort, octets: &[u8], reply: FrameReply) -> bool {
         let frame = read_frame(octets).expect(rt, "a frame");
-        is_answered(rt, self.desk.frame(&frame), &reply, NoMemory)
+        is_answered(self.desk.frame(&frame), &reply, NoMemory).expect(
+            rt,
+            "the answer, or the refusal",
+        )
     }
 
     fn release(&mut self, rt: &impl Abort) -> bool {
-        is_answered(rt, self.desk.release(), &ONE, ReleaseFault::NoMemory)
+        is_answered(self.desk.release(), &ONE, ReleaseFault::NoMemory).expect(
+            rt,
+            "the answer, or the refusal",
+        )
     }
 
     fn take(&mut self, rt: &impl Abort) -> bool {
-        is_taken(rt, self.desk.take(5), &PACKET, TakeFault::NoMemory)
+        is_taken(self.desk.take(5), &PACKET, TakeFault::NoMemory).expect(
+            rt,
+            "the item, or the refusal",
+        )
     }
 
     fn take_unit(&mut self, rt: &impl Abort, unit: &[u8]) -> bool {
-        is_taken(rt, self.desk.take_unit(3), unit, TakeUnitFault::NoMemory)
+        is_taken(self.desk.take_unit(3), unit, TakeUnitFault::NoMemory).expect(
+            rt,
+            "the item, or the refusal",
+        )
     }
 
     fn is_answered(&mut self, rt: &impl Abort, call: Call) -> bool {
@@ -133,7 +145,7 @@ impl Short {
             assert!(rt; self.is_answered(rt, call), "{name}");
         }
         let event = event_of(rt, self.alloc, call);
-        note(rt, &mut self.journal, event);
+        note(&mut self.journal, event).expect(rt, "room");
         self.check_journal(rt);
         self.check_word(rt, word);
     }

@@ -54,11 +54,9 @@ impl Short {
     // Each of these says whether the call was answered, as it must be, or memory was wanting.
     fn bring(&mut self, rt: &(impl Wait + Abort), frame: &[u8], reply: FrameReply) -> bool {
         let brought = self.station.bring(rt, &mut self.operator, frame);
-        is_answered(
+        is_answered(brought, &Brought { vcid: 1, reply }, BringFault::NoMemory).expect(
             rt,
-            brought,
-            &Brought { vcid: 1, reply },
-            BringFault::NoMemory,
+            "the answer, or the refusal",
         )
     }
 
@@ -84,17 +82,20 @@ impl Short {
 
     fn release(&mut self, rt: &(impl Wait + Abort)) -> bool {
         let delivery = self.station.release(rt, &mut self.operator, 1);
-        is_answered(rt, delivery, &ONE, ReleaseRefused::NoMemory)
+        is_answered(delivery, &ONE, ReleaseRefused::NoMemory).expect(
+            rt,
+            "the answer, or the refusal",
+        )
     }
 
     fn take(&mut self, rt: &(impl Wait + Abort)) -> bool {
         let packet = self.station.take(rt, &mut self.operator, 1, 5);
-        is_taken(rt, packet, &PACKET, TakeRefused::NoMemory)
+        is_taken(packet, &PACKET, TakeRefused::NoMemory).expect(rt, "the item, or the refusal")
     }
 
     fn take_unit(&mut self, rt: &(impl Wait + Abort), unit: &[u8]) -> bool {
         let taken = self.station.take_unit(rt, &mut self.operator, 1, 3);
-        is_taken(rt, taken, unit, TakeUnitRefused::NoMemory)
+        is_taken(taken, unit, TakeUnitRefused::NoMemory).expect(rt, "the item, or the refusal")
     }
 
     fn is_answered(&mut self, rt: &(impl Wait + Abort), call: Call, word: u32) -> bool {
@@ -116,7 +117,7 @@ impl Short {
             assert!(rt; self.is_answered(rt, call, word), "{name}");
         }
         let event = event_of(rt, self.alloc, call);
-        note(rt, &mut self.journal, event);
+        note(&mut self.journal, event).expect(rt, "room");
         self.check(rt, word);
     }
 
@@ -136,7 +137,7 @@ impl Short {
             watcher: _,
             journal,
         } = self;
-        let operators = list_of(rt, alloc, operator);
+        let operators = list_of(alloc, operator).expect(rt, "a list");
         let channels = closed(rt, station, operators);
         assert_eq!(rt; channels.len(), 1);
         assert!(rt; channels[0].journal() == journal.as_slice());

@@ -12,13 +12,13 @@ use tc_station::{FreeGate, Job, Order, WorkFault, WorkList};
 fn unlock(rt: &impl Abort, alloc: Global, line: u32) -> Job {
     Job {
         line,
-        order: Order::Bring(octets_of(rt, alloc, &UNLOCK)),
+        order: Order::Bring(octets_of(alloc, &UNLOCK).expect(rt, "octets")),
     }
 }
 
 // Two Unlocks, on lines 5 and 6. One growth may be refused.
 fn two_unlocks(rt: &impl Abort, alloc: Global) -> WorkList {
-    let mut jobs = room(rt, alloc, 2);
+    let mut jobs = room(alloc, 2).expect(rt, "room");
     jobs.push(unlock(rt, alloc, 5)).expect(rt, "room");
     jobs.push(unlock(rt, alloc, 6)).expect(rt, "room");
     WorkList {

@@ -23,6 +23,6 @@ fn an_operator_of_another_station_is_out_of_balance(rt: HostRuntime) {
     let mut crew = two_channels(&rt, alloc);
     crew.bring(&rt, &FRAME, Ok(BROUGHT));
     let other = two_channels(&rt, alloc);
-    let operators = list_of(&rt, alloc, other.operator);
+    let operators = list_of(alloc, other.operator).expect(&rt, "a list");
     check_unbalanced(&rt, crew.station, operators)
 }

@@ -25,7 +25,7 @@ fn faults_of_settings_and_of_octets_have_texts(rt: HostRuntime) {
         ),
         (StationFault::NoMemory, "no memory"),
     ];
-    check_texts(&rt, alloc, settings.as_slice());
+    assert!(&rt; have_texts(alloc, settings.as_slice()));
     let places = [
         (LocateFault::Frame(FrameFault::Short), "fewer than 5 octets"),
         (
@@ -34,12 +34,12 @@ fn faults_of_settings_and_of_octets_have_texts(rt: HostRuntime) {
         ),
         (LocateFault::UnknownChannel, UNKNOWN),
     ];
-    check_texts(&rt, alloc, places.as_slice());
+    assert!(&rt; have_texts(alloc, places.as_slice()));
     let frames = [
         (BringFault::Locate(LocateFault::UnknownChannel), UNKNOWN),
         (BringFault::NoMemory, "no memory"),
     ];
-    check_texts(&rt, alloc, frames.as_slice())
+    assert!(&rt; have_texts(alloc, frames.as_slice()))
 }
 
 #[test]
@@ -49,18 +49,18 @@ fn faults_of_operations_have_texts(rt: HostRuntime) {
         (WatcherFault::UnknownChannel, UNKNOWN),
         (WatcherFault::NoMemory, "no memory"),
     ];
-    check_texts(&rt, alloc, watching.as_slice());
+    assert!(&rt; have_texts(alloc, watching.as_slice()));
     let holding = [
         (HoldingFault::UnknownChannel, UNKNOWN),
         (HoldingFault::NoMemory, "no memory"),
     ];
-    check_texts(&rt, alloc, holding.as_slice());
+    assert!(&rt; have_texts(alloc, holding.as_slice()));
     let releases = [
         (ReleaseRefused::UnknownChannel, UNKNOWN),
         (ReleaseRefused::Empty, "the buffer is empty"),
         (ReleaseRefused::NoMemory, "no memory"),
     ];
-    check_texts(&rt, alloc, releases.as_slice());
+    assert!(&rt; have_texts(alloc, releases.as_slice()));
     check_takes(&rt, alloc);
 }
 
@@ -74,7 +74,7 @@ fn check_takes(rt: &impl Abort, alloc: Global) {
         (TakeRefused::Empty, "the queue is empty"),
         (TakeRefused::NoMemory, "no memory"),
     ];
-    check_texts(rt, alloc, takes.as_slice());
+    assert!(rt; have_texts(alloc, takes.as_slice()));
     let units = [
         (TakeUnitRefused::UnknownChannel, UNKNOWN),
         (
@@ -84,7 +84,7 @@ fn check_takes(rt: &impl Abort, alloc: Global) {
         (TakeUnitRefused::Empty, "the queue is empty"),
         (TakeUnitRefused::NoMemory, "no memory"),
     ];
-    check_texts(rt, alloc, units.as_slice());
+    assert!(rt; have_texts(alloc, units.as_slice()));
 }
 
 // A close is refused with this text.
@@ -105,9 +105,9 @@ fn faults_of_operators_have_texts(rt: HostRuntime) {
         (OperatorsFault::TooMany, "more than 65535 operators"),
         (OperatorsFault::NoMemory, "no memory"),
     ];
-    check_texts(&rt, alloc, issuing.as_slice());
+    assert!(&rt; have_texts(alloc, issuing.as_slice()));
     let refused = [(WorkFault::NoMemory { line: 12 }, "line 12: no memory")];
-    check_texts(&rt, alloc, refused.as_slice());
+    assert!(&rt; have_texts(alloc, refused.as_slice()));
     let station = new_station(&rt, alloc, settings_of(&rt, alloc, &[1]));
     let missing = CloseFault::Missing(station, Vec::new(alloc));
     check_close_text(&rt, alloc, missing, "an operator is missing");

@@ -42,7 +42,9 @@ fn a_channel_tells_what_it_has_come_to(rt: HostRuntime) {
         maps: &[(3, 1)],
         ..WANTED
     };
-    let list = list_of(&rt, alloc, settings(&rt, alloc, &wanted));
+    let list = list_of(alloc, settings(alloc, &wanted).expect(&rt, "settings")).expect(
+        &rt, "a list",
+    );
     let mut crew = Manned::by(&rt, alloc, list);
     crew.bring(&rt, &FRAME, Ok(BROUGHT));
     check_holding(&rt, &crew, open(1, 0), [1, 0, 0]);

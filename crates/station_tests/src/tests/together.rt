@@ -43,7 +43,7 @@ fn refused(
     requires { IsOurs station operator }
     ensures { (result.0 ≡ station) × (result.1 ≡ operator) }
 {
-    let operators = list_of(rt, alloc, operator);
+    let operators = list_of(alloc, operator).expect(rt, "a list");
     match station.close_together(operators) {
         Ok(_) => panic!(rt; "closed"),
         Err(

@@ -10,7 +10,7 @@ use tc_station::{Gate, Job, Order, WorkList};
 
 // A job that brings octets, on line 1.
 fn bring(rt: &impl Abort, alloc: Global, octets: &[u8]) -> Order {
-    Order::Bring(octets_of(rt, alloc, octets))
+    Order::Bring(octets_of(alloc, octets).expect(rt, "octets"))
 }
 
 // An order that is refused or not, and then an Unlock of virtual channel 1.

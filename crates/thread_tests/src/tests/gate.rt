@@ -77,11 +77,11 @@ fn unlock(rt: &impl Abort, alloc: Global, vcid: u8, third: u8) -> WorkList {
     let octets = [0x30, 0x2a, third, 0x05, 0x00, 0x00];
     let job = Job {
         line: 1,
-        order: Order::Bring(octets_of(rt, alloc, &octets)),
+        order: Order::Bring(octets_of(alloc, &octets).expect(rt, "octets")),
     };
     WorkList {
         vcid,
-        jobs: Items::from(list_of(rt, alloc, job)),
+        jobs: Items::from(list_of(alloc, job).expect(rt, "a list")),
     }
 }
 

@@ -97,7 +97,7 @@ fn two_operators_on_one_station(rt: HostRuntime) {
     assert!(rt; share(&rt, &station, &mut one, &mut two));
     let first = counted_by_both(&one, &two, 1);
     let second = counted_by_both(&one, &two, 2);
-    let others = list_of(&rt, rt.alloc(), one);
+    let others = list_of(rt.alloc(), one).expect(&rt, "a list");
     let channels = close(&rt, station, others, two);
     assert_eq!(rt; channels.len(), 2);
     check_journal(&rt, &channels[0], 1, first);

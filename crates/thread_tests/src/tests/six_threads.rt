@@ -25,7 +25,9 @@ const CHANNEL: Wanted<'static> = Wanted {
 fn station_of_one(rt: &impl Abort, alloc: Global) -> Station
     ensures { result.vcids ≡ 1 ∷ [] }
 {
-    let list = list_of(rt, alloc, settings(rt, alloc, &CHANNEL));
+    let list = list_of(alloc, settings(alloc, &CHANNEL).expect(rt, "settings")).expect(
+        rt, "a list",
+    );
     Station::new(alloc, 42, list).expect(rt, "a station")
 }
 
@@ -250,7 +252,11 @@ fn take(rt: &impl Abort, channel: &mut Channel, apid: u16) -> Vec<u8> {
 fn answer_to(rt: &impl Abort, channel: &mut Channel, event: &Event) -> Answer {
     match event {
         Event::Frame(octets) => {
-            Answer::Frame(offer(rt, channel, octets.as_slice()).expect(rt, "a reply"))
+            Answer::Frame(
+                offer(channel, octets.as_slice())
+                    .expect(rt, "a frame")
+                    .expect(rt, "a reply"),
+            )
         }
         Event::Release => Answer::Release(let_out(rt, channel)),
         Event::Take(apid) => Answer::Packet(take(rt, channel, *apid)),
@@ -267,7 +273,10 @@ fn check_alike(rt: &impl Abort, channel: &Channel, closed: &Channel) {
 
 // What a new channel answers to the events of the closed one's journal. It is then as the closed one.
 fn answers_again(rt: &impl Abort, alloc: Global, closed: &Channel) -> Vec<Answer> {
-    let mut channel = Channel::new(alloc, settings(rt, alloc, &CHANNEL)).expect(rt, "a channel");
+    let mut channel = Channel::new(alloc, settings(alloc, &CHANNEL).expect(rt, "settings")).expect(
+        rt,
+        "a channel",
+    );
     let mut answers = Vec::new(alloc);
     for event in closed.journal() {
         let answer = answer_to(rt, &mut channel, event);

@@ -23,7 +23,7 @@ fn frame(third: u8, worker: u8, number: u8) -> [u8; 8] {
 fn bring(rt: &impl Abort, alloc: Global, octets: &[u8]) -> Job {
     Job {
         line: 1,
-        order: Order::Bring(octets_of(rt, alloc, octets)),
+        order: Order::Bring(octets_of(alloc, octets).expect(rt, "octets")),
     }
 }
 
