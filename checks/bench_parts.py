@@ -14,9 +14,7 @@ from itertools import zip_longest
 from pathlib import Path
 from typing import Any, Callable, Dict, List, Tuple
 
-sys.dont_write_bytecode = True
-# pylint: disable-next=wrong-import-position  # it is next to this file, and leaves no compiled file there
-from comparing import PATIENCE, TOP, begun, same, tell  # noqa: E402
+from comparing import PATIENCE, TOP, begun, run, same, tell
 
 PROGRAM = TOP / "clients/python/tcrx_bench.py"
 SETUP = "channel 1 10 8 0\nqueue 1 5 16\n"
@@ -192,7 +190,7 @@ def words_sent(log: Path) -> List[str]:
 
 def run_tcrx(tcrx: Path, script: str, scid: int = 42) -> str:
     """What `tcrx run` prints for a script."""
-    ran = run([tcrx, "run", "--scid", str(scid)], script)
+    ran = run(tcrx, "run", "--scid", scid, given=script)
     return ran.stdout + ran.stderr
 
 
@@ -205,12 +203,7 @@ def same_lines(answer: str, wanted: str, what: str) -> None:
 
 def replay(bench: Bench, tclive: Path) -> subprocess.CompletedProcess[str]:
     """A run of --replay over a log."""
-    return run([sys.executable, PROGRAM, "--replay", bench.log, "--program", tclive])
-
-
-def run(words: List[Any], given: str = "") -> subprocess.CompletedProcess[str]:
-    """A run of a command to its end."""
-    return subprocess.run(words, input=given, capture_output=True, text=True, timeout=PATIENCE, check=False)
+    return run(sys.executable, PROGRAM, "--replay", bench.log, "--program", tclive)
 
 
 def replays(bench: Bench, tclive: Path, tcrx: Path, what: str) -> None:

@@ -22,16 +22,13 @@ from functools import partial
 from pathlib import Path
 from typing import Any, Callable, Dict, List, Tuple, Type
 
-sys.dont_write_bytecode = True
-# pylint: disable=wrong-import-position  # they leave no bytecode, and the client is found by client_parts
-from comparing import TOP, close, good_cases, tell  # noqa: E402
-from client_parts import NOTHING, ONE, UNLOCK, frame, packet, raises, same, whole  # noqa: E402
-import tcrx  # noqa: E402
-import tcrx_channel  # noqa: E402
-from tcrx import (Brought, Channel, Clcw, Delivery, Ended, Event, Final, NotSetUp, NotStarted, Outcome, Packet, Refusal, Refused,  # noqa: E402
+from comparing import TOP, close, good_cases, run, tell
+from client_parts import NOTHING, ONE, UNLOCK, frame, packet, raises, same, whole
+import tcrx
+import tcrx_channel
+from tcrx import (Brought, Channel, Clcw, Delivery, Ended, Event, Final, NotSetUp, NotStarted, Outcome, Packet, Refusal, Refused,
                   Released, Report, State, Unit)
-from tcrx_channel import BadSettings, Frame, NoMemory, read_frame, storage  # noqa: E402
-# pylint: enable=wrong-import-position
+from tcrx_channel import BadSettings, Frame, NoMemory, read_frame, storage
 
 HEADER = TOP / "c/tcrx.h"
 SETTINGS: Dict[str, Any] = {"width": 10, "buffer": 4, "first": 0, "queues": {5: 4, 9: 2}, "maps": {2: 3}}
@@ -238,8 +235,7 @@ def check_ends() -> None:
     except KeyError:
         raises(Ended, other.release, "a channel that an exception left")
     left = "from tcrx import Channel; channel = Channel(1, width=10, buffer=2, first=0); kept = [channel]; kept.append(kept); print('ended')"
-    ran = subprocess.run([sys.executable, "-c", left], env={**os.environ, "PYTHONPATH": str(TOP / "clients/python")}, capture_output=True, text=True,
-                         check=False)
+    ran = run(sys.executable, "-c", left, names={"PYTHONPATH": str(TOP / "clients/python")})
     same((ran.returncode, ran.stdout, ran.stderr), (0, "ended\n", ""), "a channel that is open when Python ends")
 
 

@@ -8,12 +8,11 @@ from collections.abc import Sequence
 from pathlib import Path
 from typing import Any, Callable
 
-sys.dont_write_bytecode = True
-# pylint: disable=wrong-import-position  # they leave no bytecode, and the client is found by the path below
-from comparing import TOP, begun, tell  # noqa: E402
+from comparing import TOP, begun, tell
 
 CLIENT = TOP / "clients/python/tcrx.py"
 sys.path.insert(0, str(CLIENT.parent))
+# pylint: disable-next=wrong-import-position  # the client is found by the path above
 from tcrx import Clcw, Delivery  # noqa: E402
 
 NOTHING = Delivery(0, 0, False)

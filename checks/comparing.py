@@ -1,13 +1,16 @@
-"""What the checks in Python share: comparisons, which are counted, what ends in time, the conformance cases, and a check's last line."""
+"""What the checks in Python share: comparisons, which are counted, runs that end in time, the conformance cases, and a check's last line."""
 from __future__ import annotations
 
+import os
 import signal
 import subprocess
 import sys
 from collections import Counter
 from pathlib import Path
-from typing import Any, Callable, List, NamedTuple
+from typing import Any, Callable, Dict, List, Mapping, NamedTuple, Optional
 
+# What is imported after this file leaves no compiled files.
+sys.dont_write_bytecode = True
 TOP = Path(__file__).resolve().parent.parent
 DATA = TOP / "crates/conformance/data"
 NAME = Path(sys.argv[0]).stem
@@ -62,6 +65,13 @@ def tell(good: object, what: str, why: str = "") -> None:
 def same(found: object, wanted: object, what: str) -> None:
     """Compares a value with what is wanted, and shows both where they differ."""
     tell(found == wanted, f"{what}: {found!r}, and not {wanted!r}")
+
+
+def run(*words: object, given: str = "", names: Optional[Mapping[str, str]] = None, **more: Any) -> subprocess.CompletedProcess[str]:
+    """A run of a command to its end, at the top unless it is said, over a text and with further names in the environment."""
+    rules: Dict[str, Any] = {"cwd": TOP, "stdout": subprocess.PIPE, "stderr": subprocess.PIPE, "timeout": LONGEST, **more}
+    environment = {**os.environ, **(names or {})}
+    return subprocess.run([str(word) for word in words], input=given, text=True, env=environment, check=False, **rules)
 
 
 class Stuck(BaseException):

@@ -1,0 +1,51 @@
+# shellcheck shell=bash
+# What the checks in Bash share, which read it at the top of the tree: a folder for what is made, comparisons, which are counted, what
+# is to be seen of a program that ended, and a check's last line. A check may say anew what `start` starts and what `show` shows.
+work=$(mktemp -d)
+trap 'rm -rf "$work"' EXIT
+passed=0
+failed=0
+
+# Counts a comparison: a title, and a command that must end well. Where it doesn't, what it printed is shown, with what there is to show.
+tell() {
+  if "${@:2}" >"$work/said" 2>&1; then
+    passed=$((passed + 1))
+  else
+    failed=$((failed + 1))
+    echo "$0: WRONG: $1"
+    tail -n 20 "$work/said"
+    show
+  fi
+}
+show() { :; }
+refuses() { ! "$@"; }
+
+# The last line: how many of what passed, and what was skipped. The status.
+close() {
+  echo "$passed $1 passed, $failed failed${2:+; skipped: $2}"
+  [ "$failed" = 0 ] && [ "$passed" -gt 0 ]
+}
+
+# Starts the program with these words. Where `to` names a file, standard output goes there, and none of it is left.
+start() {
+  status=0
+  : >"$work/out"
+  "${program:?}" "$@" >"${to:-$work/out}" 2>"$work/error" || status=$?
+}
+show_ended() {
+  echo "status ${status:-none}, and on standard output and standard error:"
+  cat "$work/out" "$work/error"
+}
+
+# What a program ended with: its status and both texts, to the octet; nothing on standard error, or these words among others; help with
+# these words; and for a bad command line status 2, nothing on standard output and a text on standard error.
+has_ended_with() { [ "$status" = "$1" ] && cmp -s "$work/out" <(printf %s "$2") && cmp -s "$work/error" <(printf %s "$3"); }
+silent() { [ ! -s "$work/error" ]; }
+says() { grep -qF -- "$1" "$work/error"; }
+has_helped() { [ "$status" = 0 ] && grep -qF -- "$1" "$work/out" && silent; }
+has_refused() { [ "$status" = 2 ] && [ ! -s "$work/out" ] && ! silent; }
+
+# Starts the program with the words that follow what it must end with.
+ends_with() { start "${@:4}" && tell "${program##*/} ${*:4}" has_ended_with "${@:1:3}"; }
+helps() { start "${@:2}" </dev/null && tell "${program##*/} ${*:2}, with $1" has_helped "$1"; }
+is_refused() { start "$@" </dev/null && tell "${program##*/} $*" has_refused; }
