@@ -24,56 +24,57 @@ fn note(rt: &(impl Abort + Print + Wait), manned: &mut Manned, call: &str, word:
 }
 
 fn frame(rt: &(impl Abort + Print + Wait), manned: &mut Manned) {
-    match manned.frame(rt, &FRAME) {
-        Ok(reply) => assert!(rt; reply == BUFFERED),
-        Err(NoMemory) => {
-            note(rt, manned, "Framing", 0x01040000);
-            assert!(rt; manned.frame(rt, &FRAME) == Ok(BUFFERED));
-        }
+    if !is_answered(rt, manned.frame(rt, &FRAME), &BUFFERED, NoMemory) {
+        note(rt, manned, "Framing", 0x01040000);
+        assert!(rt; manned.frame(rt, &FRAME) == Ok(BUFFERED));
     }
 }
 
+// The watcher that sees the channel take the unit reads its CLCW.
 fn unit_frame(rt: &(impl Abort + Print + Wait), manned: &mut Manned) {
-    match manned.frame_watched(rt, &UNIT_FRAME) {
-        Ok((reply, _)) => assert!(rt; reply == UNIT_KEPT),
+    match manned.frame_watched(rt, &BD_UNIT) {
+        Ok((reply, mut own)) => {
+            assert!(rt; reply == DELIVERED);
+            assert_eq!(rt; own.read(), 0x01040201);
+        }
         Err(NoMemory) => {
             note(rt, manned, "WatchedFraming", 0x01040001);
-            assert!(rt; manned.frame(rt, &UNIT_FRAME) == Ok(UNIT_KEPT));
+            assert!(rt; manned.frame(rt, &BD_UNIT) == Ok(DELIVERED));
         }
     }
 }
 
 fn release(rt: &(impl Abort + Print + Wait), manned: &mut Manned) {
-    match manned.release(rt) {
-        Ok(delivery) => assert!(rt; delivery == ONE),
-        Err(ReleaseFault::NoMemory) => {
-            note(rt, manned, "Release", 0x01040001);
-            assert!(rt; manned.release(rt) == Ok(ONE));
-        }
-        Err(ReleaseFault::Empty) => panic!(rt; "another refusal"),
+    if !is_answered(rt, manned.release(rt), &ONE, ReleaseFault::NoMemory) {
+        note(rt, manned, "Release", 0x01040001);
+        assert!(rt; manned.release(rt) == Ok(ONE));
     }
 }
 
 fn take(rt: &(impl Abort + Print + Wait), manned: &mut Manned, word: u32) {
-    match manned.take(rt, 5) {
-        Ok(packet) => assert_eq!(rt; packet.as_slice(), PACKET.as_slice()),
-        Err(TakeFault::NoMemory) => {
-            note(rt, manned, "Taking", word);
-            assert!(rt; manned.take(rt, 5).is_ok());
-        }
-        Err(_) => panic!(rt; "another refusal"),
+    if !is_taken(rt, manned.take(rt, 5), &PACKET, TakeFault::NoMemory) {
+        note(rt, manned, "Taking", word);
+        assert!(rt; manned.take(rt, 5).is_ok());
     }
 }
 
 fn take_unit(rt: &(impl Abort + Print + Wait), manned: &mut Manned) {
-    match manned.take_unit(rt, 3) {
-        Ok(unit) => assert_eq!(rt; unit.as_slice(), UNIT.as_slice()),
-        Err(TakeUnitFault::NoMemory) => {
-            note(rt, manned, "UnitTaking", 0x01040201);
-            assert!(rt; manned.take_unit(rt, 3).is_ok());
-        }
-        Err(_) => panic!(rt; "another refusal"),
+    if !is_taken(rt, manned.take_unit(rt, 3), &UNIT, TakeUnitFault::NoMemory) {
+        note(rt, manned, "UnitTaking", 0x01040201);
+        assert!(rt; manned.take_unit(rt, 3).is_ok());
     }
+}
+
+// The journal has what was made, in its order.
+fn check_journal(rt: &impl Abort, alloc: Global, journal: &[Event]) {
+    let expected = [
+        frame_event(rt, alloc, &FRAME),
+        Event::Release,
+        Event::Take(5),
+        frame_event(rt, alloc, &BD_UNIT),
+        Event::TakeUnit(3),
+    ];
+    assert!(rt; journal == expected.as_slice());
 }
 
 #[test]
@@ -84,9 +85,11 @@ fn growth_of_a_locked_desk(rt: HostRuntime) {
     take(&rt, &mut manned, 0x01040001);
     unit_frame(&rt, &mut manned);
     take_unit(&rt, &mut manned);
+    // A watcher takes no memory.
+    let mut late = manned.watcher(&rt).expect(&rt, "a watcher");
+    assert_eq!(rt; late.read(), 0x01040201);
     assert_eq!(rt; manned.operator.count(), 5);
-    let channel = close(&rt, rt.alloc(), manned);
-    assert_eq!(rt; channel.journal().len(), 5);
+    check_journal(&rt, rt.alloc(), close(&rt, rt.alloc(), manned).journal());
 }
 
 // The take is the event for which the journal grows a second time.

@@ -1,15 +1,15 @@
 //! A desk, its keeper and an operator.
 
-ghost use Rattle.std.specs.Prelude.{◌≡◌, ◌∷◌, []};
+ghost use Rattle.std.specs.Prelude.{◌≡◌};
 
 use super::*;
 use std::sync::Wait;
 use tc_channel::{Channel, Kept, NoMemory, ReleaseFault, SettingsFault, TakeFault, TakeUnitFault};
 use tc_desk::{
-    DeskKeeper, DeskOperator, Framing, LockedDesk, Release, Reporting, Taking, Unclosed,
-    UnitTaking, WatchedFraming, Watching, WordMaking,
+    DeskKeeper, DeskOperator, Framing, LockedDesk, Release, Taking, Unclosed, UnitTaking,
+    WatchedFraming, Watching, WordMaking,
 };
-use tc_link::{Report, read_frame};
+use tc_link::read_frame;
 use tc_status::Watcher;
 
 pub(super) type Locked = LockedDesk<Kept>;
@@ -26,7 +26,7 @@ pub(super) struct Manned {
 
 impl Manned {
     pub(super) fn try_new(rt: &impl Abort, alloc: Global) -> Result<Manned, SettingsFault> {
-        let (desk, mut keeper) = Locked::new(alloc, settings(rt, alloc))?;
+        let (desk, mut keeper) = Locked::new(alloc, settings(rt, alloc, &CHANNEL))?;
         let operator = keeper.operator(&desk);
         Ok(Manned {
             desk,
@@ -44,9 +44,7 @@ impl Manned {
         &mut self,
         rt: &(impl Abort + Wait),
         octets: &[u8],
-    ) -> Result<FrameReply, NoMemory>
-        ensures { self.new.desk ≡ self.old.desk }
-    {
+    ) -> Result<FrameReply, NoMemory> {
         let frame = read_frame(octets).expect(rt, "a frame");
         let framing = Framing { frame: &frame };
         self.operator.operate(&self.desk, rt, &framing)
@@ -78,10 +76,6 @@ impl Manned {
         self.operator.ask(&self.desk, rt, &Watching)
     }
 
-    pub(super) fn report(&mut self, rt: &impl Wait) -> Report {
-        self.operator.ask(&self.desk, rt, &Reporting)
-    }
-
     pub(super) fn clcw(&mut self, rt: &impl Wait) -> u32 {
         self.operator
             .ask(&self.desk, rt, &WordMaking { link: NO_FLAG })
@@ -94,18 +88,6 @@ impl Manned {
     {
         self.keeper.operator(&self.desk)
     }
-}
-
-// A list of this operator alone. One growth may be refused.
-pub(super) fn list_of(rt: &impl Abort, alloc: Global, operator: DeskOperator) -> Vec<DeskOperator>
-    ensures { result.items ≡ operator ∷ [] }
-{
-    let mut list = match Vec::with_capacity(alloc, 1) {
-        Ok(list) => list,
-        Err(_) => Vec::with_capacity(alloc, 1).expect(rt, "a list"),
-    };
-    list.push(operator).expect(rt, "room");
-    list
 }
 
 // Closes the desk with its one operator.

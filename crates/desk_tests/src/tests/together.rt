@@ -1,38 +1,32 @@
-//! The close of two desks at once, with all who have an operator at each, and without one of them.
+//! The close of two desks at once, with all who have an operator at each.
 
 ghost use Rattle.std.specs.Prelude.{◌≡◌, ◌∷◌, [], map};
-ghost use Rattle.tc_desk.specs.Together.{AreOurs, AreSame, locks_of};
+ghost use Rattle.tc_desk.specs.Together.{AreOurs};
 
 use super::*;
 use std::sync::Wait;
 use tc_channel::{Channel, Kept, SettingsFault};
 use tc_desk::{
-    DeskOperator, Framing, LeftOpen, Post, Refusal, Release, Taking, UnitTaking, close_together,
-    take_out_together,
+    DeskOperator, Framing, Post, Refusal, Release, UnitTaking, close_together, take_out_together,
 };
 use tc_link::read_frame;
 
 type Desk = Post<Kept>;
 
-// As `UNIT_FRAME`, for virtual channel 2.
+// As `BD_UNIT`, for virtual channel 2.
 const OTHER_FRAME: [u8; 8] = [0x20, 0x2a, 0x08, 0x07, 0x00, 0xc3, 0xaa, 0xbb];
 
 // A desk for this virtual channel, whose settings are else those of virtual channel 1. One growth may be refused.
 fn new_desk(rt: &(impl Abort + Print), alloc: Global, vcid: u8) -> Desk {
-    match Desk::new(alloc, settings_of(rt, alloc, vcid)) {
+    let wanted = Wanted { vcid, ..CHANNEL };
+    match Desk::new(alloc, settings(rt, alloc, &wanted)) {
         Ok(desk) => desk,
         Err(SettingsFault::NoMemory) => {
             let _ = println!(rt; "refused: Post::new");
-            Desk::new(alloc, settings_of(rt, alloc, vcid)).expect(rt, "a desk")
+            Desk::new(alloc, settings(rt, alloc, &wanted)).expect(rt, "a desk")
         }
         Err(_) => panic!(rt; "another refusal"),
     }
-}
-
-fn settings_of(rt: &impl Abort, alloc: Global, vcid: u8) -> Settings {
-    let mut settings = settings(rt, alloc);
-    settings.vcid = vcid;
-    settings
 }
 
 // Two desks, of virtual channels 1 and 2.
@@ -124,28 +118,19 @@ fn work(rt: &(impl Abort + Wait), desks: &Desks, one: &mut Worker, other: &mut W
 {
     assert!(rt; bring(rt, &desks.first, &mut one.first, &FRAME) == BUFFERED);
     assert!(rt; release(rt, &desks.first, &mut other.first) == ONE);
-    assert!(rt; bring(rt, &desks.second, &mut other.second, &OTHER_FRAME) == UNIT_KEPT);
+    assert!(rt; bring(rt, &desks.second, &mut other.second, &OTHER_FRAME) == DELIVERED);
     let unit = take_unit(rt, &desks.second, &mut one.second);
     assert_eq!(rt; unit.as_slice(), UNIT.as_slice());
 }
 
 // A list of two. One growth may be refused.
-fn list_of<T: Drop>(rt: &impl Abort, alloc: Global, first: T, second: T) -> Vec<T>
+fn list_of_two<T: Drop>(rt: &impl Abort, alloc: Global, first: T, second: T) -> Vec<T>
     ensures { result.items ≡ first ∷ second ∷ [] }
 {
-    let mut list = room_for_two(rt, alloc);
+    let mut list = room(rt, alloc, 2);
     list.push(first).expect(rt, "room");
     list.push(second).expect(rt, "room");
     list
-}
-
-fn room_for_two<T>(rt: &impl Abort, alloc: Global) -> Vec<T>
-    ensures { result.items ≡ [] }
-{
-    match Vec::with_capacity(alloc, 2) {
-        Ok(list) => list,
-        Err(_) => Vec::with_capacity(alloc, 2).expect(rt, "a list"),
-    }
 }
 
 // The two desks in their order, and one's operators in the same. One growth may be refused.
@@ -153,14 +138,14 @@ fn posts_of(rt: &impl Abort, alloc: Global, desks: Desks) -> Vec<Desk>
     ensures { result.items ≡ desks.first ∷ desks.second ∷ [] }
 {
     let Desks { first, second } = desks;
-    list_of(rt, alloc, first, second)
+    list_of_two(rt, alloc, first, second)
 }
 
 fn crew_of(rt: &impl Abort, alloc: Global, worker: Worker) -> Vec<DeskOperator>
     ensures { result.items ≡ worker.first ∷ worker.second ∷ [] }
 {
     let Worker { first, second } = worker;
-    list_of(rt, alloc, first, second)
+    list_of_two(rt, alloc, first, second)
 }
 
 // Closes the desks. One growth may be refused: all is given back, and the desks are closed then.
@@ -218,65 +203,6 @@ fn check_counts(rt: &impl Abort, worker: &Worker) {
     assert_eq!(rt; worker.second.count(), 1);
 }
 
-// Without the other's crew the desks aren't closed, and all is given back.
-fn refused(
-    rt: &impl Abort,
-    alloc: Global,
-    posts: Vec<Desk>,
-    crew: Vec<DeskOperator>,
-) -> (Vec<Desk>, Vec<Vec<DeskOperator>>)
-    requires { locks_of crew.items ≡ locks_of posts.items }
-    ensures posts { AreSame posts.items result.0.items }
-    ensures crews { map (λ crew. crew.items) result.1.items ≡ crew.items ∷ [] }
-{
-    let crews = vec![in alloc; crew].expect(rt, "a list");
-    let Err(left) = close_together(alloc, posts, crews) else {
-        panic!(rt; "closed without a crew")
-    };
-    let LeftOpen {
-        posts,
-        crews,
-        refusal,
-    } = left;
-    assert!(rt; refusal == Refusal::Unbalanced);
-    (posts, crews)
-}
-
-// At the first of the desks that were given back the other takes the packet.
-fn go_on(rt: &(impl Abort + Wait), posts: &[Desk], other: &mut Worker)
-    requires { locks_of posts.now ≡ other.old.first.lock ∷ other.old.second.lock ∷ [] }
-    ensures first { other.new.first.lock ≡ other.old.first.lock }
-    ensures second { other.new.second.lock ≡ other.old.second.lock }
-{
-    let [first, _] = posts else {
-        panic!(rt; "not two desks")
-    };
-    let taking = Taking { apid: 5 };
-    let packet = other
-        .first
-        .operate(first.desk(), rt, &taking)
-        .expect(rt, "a packet");
-    assert_eq!(rt; packet.as_slice(), PACKET.as_slice());
-}
-
-// Closes the desks, which the one's crew can't close alone, with both, once the other has gone on.
-fn close_twice(
-    rt: &(impl Abort + Print + Wait),
-    alloc: Global,
-    desks: Desks,
-    one: Worker,
-    mut other: Worker,
-) -> Vec<Channel>
-    requires one { (one.first.lock ≡ desks.first.lock) × (one.second.lock ≡ desks.second.lock) }
-    requires other { (other.first.lock ≡ desks.first.lock) × (other.second.lock ≡ desks.second.lock) }
-{
-    let posts = posts_of(rt, alloc, desks);
-    let (posts, mut crews) = refused(rt, alloc, posts, crew_of(rt, alloc, one));
-    go_on(rt, &posts, &mut other);
-    crews.push(crew_of(rt, alloc, other)).expect(rt, "room");
-    closed(rt, alloc, posts, crews)
-}
-
 // Two desks and two who have worked at both.
 fn worked(rt: &(impl Abort + Print + Wait), alloc: Global) -> (Desks, Worker, Worker)
     ensures one { (result.1.first.lock ≡ result.0.first.lock) × (result.1.second.lock ≡ result.0.second.lock) }
@@ -290,31 +216,13 @@ fn worked(rt: &(impl Abort + Print + Wait), alloc: Global) -> (Desks, Worker, Wo
 }
 
 #[test]
-fn desks_that_were_not_closed_go_on(rt: HostRuntime) {
-    let alloc = rt.alloc();
-    let (desks, one, other) = worked(&rt, alloc);
-    let channels = close_twice(&rt, alloc, desks, one, other);
-    assert_eq!(rt; channels.len(), 2);
-    if let [first, second] = channels.as_slice() {
-        let taken = [
-            frame_event(&rt, alloc, &FRAME),
-            Event::Release,
-            Event::Take(5),
-        ];
-        assert!(rt; first.journal() == taken.as_slice());
-        let unit = [frame_event(&rt, alloc, &OTHER_FRAME), Event::TakeUnit(3)];
-        assert!(rt; second.journal() == unit.as_slice());
-    }
-}
-
-#[test]
 fn growth_of_desks_closed_together(rt: HostRuntime) {
     let alloc = rt.alloc();
     let (desks, one, other) = worked(&rt, alloc);
     check_counts(&rt, &one);
     check_counts(&rt, &other);
     let posts = posts_of(&rt, alloc, desks);
-    let crews = list_of(
+    let crews = list_of_two(
         &rt,
         alloc,
         crew_of(&rt, alloc, one),
