@@ -24,7 +24,10 @@ fn note(rt: &(impl Abort + Print + Wait), manned: &mut Manned, call: &str, word:
 }
 
 fn frame(rt: &(impl Abort + Print + Wait), manned: &mut Manned) {
-    if !is_answered(rt, manned.frame(rt, &FRAME), &BUFFERED, NoMemory) {
+    if !is_answered(manned.frame(rt, &FRAME), &BUFFERED, NoMemory).expect(
+        rt,
+        "the answer, or the refusal",
+    ) {
         note(rt, manned, "Framing", 0x01040000);
         assert!(rt; manned.frame(rt, &FRAME) == Ok(BUFFERED));
     }
@@ -45,21 +48,30 @@ fn unit_frame(rt: &(impl Abort + Print + Wait), manned: &mut Manned) {
 }
 
 fn release(rt: &(impl Abort + Print + Wait), manned: &mut Manned) {
-    if !is_answered(rt, manned.release(rt), &ONE, ReleaseFault::NoMemory) {
+    if !is_answered(manned.release(rt), &ONE, ReleaseFault::NoMemory).expect(
+        rt,
+        "the answer, or the refusal",
+    ) {
         note(rt, manned, "Release", 0x01040001);
         assert!(rt; manned.release(rt) == Ok(ONE));
     }
 }
 
 fn take(rt: &(impl Abort + Print + Wait), manned: &mut Manned, word: u32) {
-    if !is_taken(rt, manned.take(rt, 5), &PACKET, TakeFault::NoMemory) {
+    if !is_taken(manned.take(rt, 5), &PACKET, TakeFault::NoMemory).expect(
+        rt,
+        "the item, or the refusal",
+    ) {
         note(rt, manned, "Taking", word);
         assert!(rt; manned.take(rt, 5).is_ok());
     }
 }
 
 fn take_unit(rt: &(impl Abort + Print + Wait), manned: &mut Manned) {
-    if !is_taken(rt, manned.take_unit(rt, 3), &UNIT, TakeUnitFault::NoMemory) {
+    if !is_taken(manned.take_unit(rt, 3), &UNIT, TakeUnitFault::NoMemory).expect(
+        rt,
+        "the item, or the refusal",
+    ) {
         note(rt, manned, "UnitTaking", 0x01040201);
         assert!(rt; manned.take_unit(rt, 3).is_ok());
     }
@@ -68,10 +80,10 @@ fn take_unit(rt: &(impl Abort + Print + Wait), manned: &mut Manned) {
 // The journal has what was made, in its order.
 fn check_journal(rt: &impl Abort, alloc: Global, journal: &[Event]) {
     let expected = [
-        frame_event(rt, alloc, &FRAME),
+        frame_event(alloc, &FRAME).expect(rt, "an event"),
         Event::Release,
         Event::Take(5),
-        frame_event(rt, alloc, &BD_UNIT),
+        frame_event(alloc, &BD_UNIT).expect(rt, "an event"),
         Event::TakeUnit(3),
     ];
     assert!(rt; journal == expected.as_slice());

@@ -26,7 +26,10 @@ pub(super) struct Manned {
 
 impl Manned {
     pub(super) fn try_new(rt: &impl Abort, alloc: Global) -> Result<Manned, SettingsFault> {
-        let (desk, mut keeper) = Locked::new(alloc, settings(rt, alloc, &CHANNEL))?;
+        let (desk, mut keeper) = Locked::new(
+            alloc,
+            settings(alloc, &CHANNEL).expect(rt, "settings"),
+        )?;
         let operator = keeper.operator(&desk);
         Ok(Manned {
             desk,
@@ -97,7 +100,7 @@ pub(super) fn close(rt: &impl Abort, alloc: Global, manned: Manned) -> Channel {
         keeper,
         operator,
     } = manned;
-    let operators = list_of(rt, alloc, operator);
+    let operators = list_of(alloc, operator).expect(rt, "a list");
     closed(rt, desk.close(keeper, operators))
 }
 

@@ -19,11 +19,11 @@ const OTHER_FRAME: [u8; 8] = [0x20, 0x2a, 0x08, 0x07, 0x00, 0xc3, 0xaa, 0xbb];
 // A desk for this virtual channel, whose settings are else those of virtual channel 1. One growth may be refused.
 fn new_desk(rt: &(impl Abort + Print), alloc: Global, vcid: u8) -> Desk {
     let wanted = Wanted { vcid, ..CHANNEL };
-    match Desk::new(alloc, settings(rt, alloc, &wanted)) {
+    match Desk::new(alloc, settings(alloc, &wanted).expect(rt, "settings")) {
         Ok(desk) => desk,
         Err(SettingsFault::NoMemory) => {
             let _ = println!(rt; "refused: Post::new");
-            Desk::new(alloc, settings(rt, alloc, &wanted)).expect(rt, "a desk")
+            Desk::new(alloc, settings(alloc, &wanted).expect(rt, "settings")).expect(rt, "a desk")
         }
         Err(_) => panic!(rt; "another refusal"),
     }
@@ -127,7 +127,7 @@ fn work(rt: &(impl Abort + Wait), desks: &Desks, one: &mut Worker, other: &mut W
 fn list_of_two<T: Drop>(rt: &impl Abort, alloc: Global, first: T, second: T) -> Vec<T>
     ensures { result.items ≡ first ∷ second ∷ [] }
 {
-    let mut list = room(rt, alloc, 2);
+    let mut list = room(alloc, 2).expect(rt, "room");
     list.push(first).expect(rt, "room");
     list.push(second).expect(rt, "room");
     list
@@ -188,10 +188,16 @@ fn taken_out(rt: &(impl Abort + Print), alloc: Global, posts: Vec<Desk>) -> Vec<
 fn check_channels(rt: &impl Abort, alloc: Global, channels: &[Channel]) {
     assert_eq!(rt; channels.len(), 2);
     if let [first, second] = channels {
-        let released = [frame_event(rt, alloc, &FRAME), Event::Release];
+        let released = [
+            frame_event(alloc, &FRAME).expect(rt, "an event"),
+            Event::Release,
+        ];
         assert!(rt; first.journal() == released.as_slice());
         assert_eq!(rt; first.clcw(NO_FLAG), 0x01040001);
-        let taken = [frame_event(rt, alloc, &OTHER_FRAME), Event::TakeUnit(3)];
+        let taken = [
+            frame_event(alloc, &OTHER_FRAME).expect(rt, "an event"),
+            Event::TakeUnit(3),
+        ];
         assert!(rt; second.journal() == taken.as_slice());
         assert_eq!(rt; second.clcw(NO_FLAG), 0x01080200);
     }
