@@ -5,7 +5,6 @@ use SettingsFault::{
     BadApid, BadBuffer, BadCapacity, BadMap, BadUnits, BadVcid, BadWindow, DoubleApid, DoubleMap,
     PlainMap,
 };
-use std::fmt::Display;
 
 // A virtual channel, a window, a buffer, APIDs and capacities, and the fault of such settings.
 static FAULTS: [(u8, u8, u8, &[(u16, u16)], Option<SettingsFault>); 12] = [
@@ -60,11 +59,6 @@ fn each_fault_of_maps(rt: HostRuntime) {
     }
 }
 
-fn check_text<T: Display>(rt: &impl Abort, alloc: Global, fault: &T, text: &str) {
-    let written = fault.to_string(alloc).expect(rt, "an answer");
-    assert_eq!(rt; written.as_str(), text);
-}
-
 static TEXTS: [(SettingsFault, &str); 11] = [
     (BadVcid, "bad virtual channel identifier"),
     (BadWindow, "bad window width"),
@@ -110,17 +104,10 @@ static TAKE_UNIT_TEXTS: [(TakeUnitFault, &str); 3] = [
 
 #[test]
 fn the_text_of_each_fault(rt: HostRuntime) {
-    for (fault, text) in &TEXTS {
-        check_text(&rt, rt.alloc(), fault, text)
-    }
-    for (fault, text) in &RELEASE_TEXTS {
-        check_text(&rt, rt.alloc(), fault, text)
-    }
-    for (fault, text) in &TAKE_TEXTS {
-        check_text(&rt, rt.alloc(), fault, text)
-    }
-    for (fault, text) in &TAKE_UNIT_TEXTS {
-        check_text(&rt, rt.alloc(), fault, text)
-    }
-    check_text(&rt, rt.alloc(), &NoMemory, "no memory")
+    let alloc = rt.alloc();
+    assert!(rt; have_texts(alloc, &TEXTS));
+    assert!(rt; have_texts(alloc, &RELEASE_TEXTS));
+    assert!(rt; have_texts(alloc, &TAKE_TEXTS));
+    assert!(rt; have_texts(alloc, &TAKE_UNIT_TEXTS));
+    assert!(rt; have_texts(alloc, &[(NoMemory, "no memory")]));
 }

@@ -22,7 +22,7 @@ const PLAIN: Wanted<'static> = Wanted {
 fn play_after(rt: &(impl Abort + Print), alloc: Global, earlier: usize, steps: &[Step<'_>]) {
     let mut run = Run::growing(rt, alloc, &GROWING);
     for _ in 0..earlier {
-        run.play(rt, &[Ad(0xff, REPEATED)])
+        run.play(rt, &[Ad(0xff, BEHIND)])
     }
     run.play(rt, steps)
 }
@@ -46,7 +46,7 @@ fn growth_of_settings_that_are_copied(rt: HostRuntime) {
 }
 
 static EACH_CALL: [Step<'static>; 9] = [
-    Ad(0, ACCEPTED),
+    Ad(0, BUFFERED),
     Clcw(0x01040001),
     Holds(1, 0),
     Release,
@@ -66,11 +66,11 @@ fn growth_of_each_call_of_a_channel(rt: HostRuntime) {
 }
 
 static WITHOUT_ROOM: [Step<'static>; 7] = [
-    Ad(0, ACCEPTED),
+    Ad(0, BUFFERED),
     Ad(1, NO_ROOM),
     Clcw(0x01041801),
     Holds(1, 0),
-    Ad(0, REPEATED),
+    Ad(0, BEHIND),
     Clcw(0x01041801),
     Holds(1, 0),
 ];
@@ -81,6 +81,11 @@ fn growth_of_a_frame_without_room(rt: HostRuntime) {
 }
 
 const TWO: Delivery = Delivery { queued: 2, ..ONE };
+
+const DELIVERED_TWO: FrameReply = FrameReply {
+    delivery: TWO,
+    ..DELIVERED
+};
 
 // A BD frame with two packets for APID 5.
 const TWO_PACKETS: [u8; 20] = [
@@ -100,14 +105,14 @@ const SECOND: [u8; 7] = [0x10, 0x05, 0xc0, 0x01, 0x00, 0x00, 0xbb];
 const SECOND_APID: [u8; 7] = [0x10, 0x07, 0xc0, 0x01, 0x00, 0x00, 0xbb];
 
 static UNITS_OF_TWO_PACKETS: [Step<'static>; 15] = [
-    Frame(&TWO_PACKETS, BYPASSED, TWO),
+    Frame(&TWO_PACKETS, DELIVERED_TWO),
     Clcw(0x01040200),
     Holds(0, 2),
     Take(5, &PACKET),
     Take(5, &SECOND),
     Clcw(0x01040200),
     Holds(0, 0),
-    Frame(&TWO_APIDS, ACCEPTED, NOTHING),
+    Frame(&TWO_APIDS, BUFFERED),
     ReleaseOf("two packets", TWO),
     Clcw(0x01040201),
     Holds(0, 1),
@@ -128,11 +133,11 @@ const FIRST_PART: [u8; 9] = [0x00, 0x2a, 0x04, 0x08, 0x01, 0x40, 0x10, 0x05, 0xc
 const LAST_PART: [u8; 10] = [0x00, 0x2a, 0x04, 0x09, 0x02, 0x80, 0x00, 0x00, 0x00, 0xaa];
 
 static TWO_SEGMENTS: [Step<'static>; 10] = [
-    Ad(0, ACCEPTED),
+    Ad(0, BUFFERED),
     Release,
-    Frame(&FIRST_PART, ACCEPTED, NOTHING),
+    Frame(&FIRST_PART, BUFFERED),
     ReleaseOf("first segment", NOTHING),
-    Frame(&LAST_PART, ACCEPTED, NOTHING),
+    Frame(&LAST_PART, BUFFERED),
     ReleaseOf("two segments", ONE),
     Clcw(0x01040003),
     Holds(0, 2),
@@ -155,10 +160,10 @@ const PLAIN_AD: [u8; 12] = [
 ];
 
 static PLAIN_FIELDS: [Step<'static>; 11] = [
-    Frame(&PLAIN_BD, BYPASSED, ONE),
+    Frame(&PLAIN_BD, DELIVERED),
     Clcw(0x01040200),
     Holds(0, 1),
-    Frame(&PLAIN_AD, ACCEPTED, NOTHING),
+    Frame(&PLAIN_AD, BUFFERED),
     ReleaseOf("plain field", ONE),
     Clcw(0x01040201),
     Holds(0, 2),
@@ -173,22 +178,20 @@ fn growth_of_a_plain_channel(rt: HostRuntime) {
     Run::growing(&rt, rt.alloc(), &PLAIN).play(&rt, &PLAIN_FIELDS)
 }
 
-// A unit of MAP 3 in a BD frame, and one in two AD frames.
-const WHOLE_BD: [u8; 8] = [0x20, 0x2a, 0x04, 0x07, 0x00, 0xc3, 0xaa, 0xbb];
-
+// A unit of MAP 3 in two AD frames.
 const FIRST_AD: [u8; 7] = [0x00, 0x2a, 0x04, 0x06, 0x00, 0x43, 0xcc];
 
 const LAST_AD: [u8; 7] = [0x00, 0x2a, 0x04, 0x06, 0x01, 0x83, 0xdd];
 
 static CHOSEN_MAP: [Step<'static>; 11] = [
-    Frame(&WHOLE_BD, BYPASSED, ONE),
-    Frame(&FIRST_AD, ACCEPTED, NOTHING),
+    Frame(&BD_UNIT, DELIVERED),
+    Frame(&FIRST_AD, BUFFERED),
     ReleaseOf("first segment of a chosen MAP", NOTHING),
-    Frame(&LAST_AD, ACCEPTED, NOTHING),
+    Frame(&LAST_AD, BUFFERED),
     ReleaseOf("two segments of a chosen MAP", ONE),
     Clcw(0x01040202),
     Holds(0, 0),
-    TakeUnit(3, &[0xaa, 0xbb]),
+    TakeUnit(3, &UNIT),
     TakeUnit(3, &[0xcc, 0xdd]),
     Clcw(0x01040202),
     Holds(0, 0),
@@ -199,10 +202,7 @@ fn growth_of_units_of_a_chosen_map(rt: HostRuntime) {
     play_after(&rt, rt.alloc(), 0, &CHOSEN_MAP)
 }
 
-static TAKE_OF_A_UNIT: [Step<'static>; 2] = [
-    Frame(&WHOLE_BD, BYPASSED, ONE),
-    TakeUnit(3, &[0xaa, 0xbb]),
-];
+static TAKE_OF_A_UNIT: [Step<'static>; 2] = [Frame(&BD_UNIT, DELIVERED), TakeUnit(3, &UNIT)];
 
 // So many frames that are discarded come before, so that the journal grows in a take of a unit once.
 #[test]

@@ -4,7 +4,7 @@ use super::*;
 
 // A channel with 64 queues of capacity 1, each with the APID that is how many queues come after it.
 fn channel_of_queues(rt: &(impl Abort + Print), alloc: Global) -> Channel {
-    let mut queues = room(rt, alloc, 64);
+    let mut queues = room(alloc, 64).expect(rt, "room");
     for after in (0..64).rev() {
         queues.push((after, 1)).expect(rt, "a queue");
     }
@@ -42,7 +42,7 @@ static PACKETS: [(u8, u8, u8); 20] = [
 
 // A BD frame of one unit of `PACKETS` and an octet.
 fn long_frame(rt: &impl Abort, alloc: Global) -> Vec<u8> {
-    let mut frame = room(rt, alloc, 147);
+    let mut frame = room(alloc, 147).expect(rt, "room");
     frame
         .extend_from_slice(&[0x20, 0x2a, 0x04, 146, 0x00, 0xc0])
         .expect(rt, "a header");

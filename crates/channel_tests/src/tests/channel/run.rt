@@ -5,9 +5,9 @@ use super::*;
 // What is done to a channel, and what it answers.
 pub enum Step<'a> {
     // The frame of `ad_frame` with this N(S).
-    Ad(u8, Act),
+    Ad(u8, FrameReply),
     // A frame without fill.
-    Frame(&'a [u8], Act, Delivery),
+    Frame(&'a [u8], FrameReply),
     // Of a unit of one packet.
     Release,
     // Of a unit of this kind, which names the release where it is refused memory.
@@ -70,28 +70,22 @@ impl Run {
         assert_eq!(rt; tell(&self.channel), *told);
     }
 
-    // The journal must have one event more. One growth may be refused.
+    // The journal must have one event more.
     fn note(&mut self, rt: &impl Abort, event: Event) {
-        if self.journal.reserve(1).is_err() {
-            self.journal.reserve(1).expect(rt, "room");
-        }
-        self.journal.push(event).expect(rt, "an event");
+        note(&mut self.journal, event).expect(rt, "an event")
     }
 
-    fn frame(&mut self, rt: &(impl Abort + Print), octets: &[u8], act: Act, delivery: Delivery) {
+    fn frame(&mut self, rt: &(impl Abort + Print), octets: &[u8], reply: FrameReply) {
         let told = tell(&self.channel);
         let mut answer = offer(rt, &mut self.channel, octets);
         if answer.is_err() {
-            let _ = println!(rt; "refused: frame, event {}", act.event);
+            let _ = println!(rt; "refused: frame, event {}", reply.act.event);
             self.check_refused(rt, &told);
             answer = offer(rt, &mut self.channel, octets);
         }
-        assert_eq!(rt; answer, Ok(FrameReply { act, delivery }));
-        let copy = match Octets::copied(self.alloc, octets) {
-            Ok(copy) => copy,
-            Err(_) => Octets::copied(self.alloc, octets).expect(rt, "a copy"),
-        };
-        self.note(rt, Event::Frame(copy))
+        assert_eq!(rt; answer, Ok(reply));
+        let event = frame_event(self.alloc, octets).expect(rt, "an event");
+        self.note(rt, event)
     }
 
     fn release(&mut self, rt: &(impl Abort + Print), unit: &str, expected: Delivery) {
@@ -134,8 +128,8 @@ impl Run {
 
     fn step(&mut self, rt: &(impl Abort + Print), step: &Step<'_>) {
         match *step {
-            Step::Ad(ns, act) => self.frame(rt, &ad_frame(ns), act, NOTHING),
-            Step::Frame(octets, act, delivery) => self.frame(rt, octets, act, delivery),
+            Step::Ad(ns, reply) => self.frame(rt, &ad_frame(1, ns), reply),
+            Step::Frame(octets, reply) => self.frame(rt, octets, reply),
             Step::Release => self.release(rt, "one packet", ONE),
             Step::ReleaseOf(unit, delivery) => self.release(rt, unit, delivery),
             Step::Take(apid, packet) => self.take(rt, apid, packet),
@@ -156,8 +150,3 @@ impl Run {
         }
     }
 }
-
-const NO_FLAG: Link = Link {
-    no_rf: false,
-    no_bit_lock: false,
-};
