@@ -9,7 +9,7 @@ fn growth_of_a_flight_channel(rt: HostRuntime) {
 }
 
 static EACH_CALL: [Step<'static>; 5] = [
-    Frame(&FIRST, BUFFERED),
+    Frame(&FRAME, BUFFERED),
     Release(ONE),
     Events(2),
     Take(5, &PACKET),
@@ -21,15 +21,12 @@ fn growth_of_each_call_of_a_flight_channel(rt: HostRuntime) {
     play(&rt, rt.alloc(), &EACH_CALL)
 }
 
-// A unit of MAP 3 in a Type-BD frame.
-const WHOLE: [u8; 8] = [0x20, 0x2a, 0x04, 0x07, 0x00, 0xc3, 0xaa, 0xbb];
-
 static BYPASSED_FRAMES: [Step<'static>; 6] = [
-    Frame(&BYPASSED, DELIVERED),
-    Frame(&WHOLE, DELIVERED),
+    Frame(&BD_PACKET, DELIVERED),
+    Frame(&BD_UNIT, DELIVERED),
     Events(2),
     Take(5, &PACKET),
-    TakeUnit(3, &[0xaa, 0xbb]),
+    TakeUnit(3, &UNIT),
     Events(4),
 ];
 

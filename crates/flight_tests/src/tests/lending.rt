@@ -16,7 +16,7 @@ const UNIT_2: [u8; 7] = [0x20, 0x2a, 0x04, 0x06, 0x00, 0xc3, 2];
 
 static LENT: [Step<'static>; 18] = [
     Lends(None, None),
-    Frame(&BYPASSED, DELIVERED),
+    Frame(&BD_PACKET, DELIVERED),
     Lends(Some(&PACKET), None),
     Frame(&OTHER_BYPASSED, DELIVERED),
     Lends(Some(&PACKET), None),

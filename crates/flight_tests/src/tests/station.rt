@@ -11,8 +11,6 @@ use tc_station::{
     FlightCloseFault, FlightStation, FreeGate, Job, Operator, Order, ReleaseRefused, WorkList,
 };
 
-const UNLOCK: [u8; 6] = [0x30, 0x2a, 0x04, 0x05, 0x00, 0x00];
-
 // A station of virtual channel 1 with one operator, in a list as `close` takes it. One growth may be refused.
 fn new_crew(rt: &(impl Abort + Print), alloc: Global) -> (FlightStation, Vec<Operator>)
     ensures vcids { result.0.vcids ≡ 1 ∷ [] }
@@ -33,24 +31,12 @@ fn new_crew(rt: &(impl Abort + Print), alloc: Global) -> (FlightStation, Vec<Ope
     (station, operators)
 }
 
-// An empty list with room for one channel's settings. One growth may be refused.
-fn room_for_one(rt: &impl Abort, alloc: Global) -> Vec<Settings>
-    ensures { result.items ≡ [] }
-{
-    match Vec::with_capacity(alloc, 1) {
-        Ok(list) => list,
-        Err(_) => Vec::with_capacity(alloc, 1).expect(rt, "a list"),
-    }
-}
-
 // One growth may be refused.
 fn list_of_settings(rt: &impl Abort, alloc: Global) -> Vec<Settings>
     ensures { vcids_of result.items ≡ 1 ∷ [] }
 {
-    let mut list = room_for_one(rt, alloc);
-    list.push(settings(alloc).expect(rt, "settings"))
-        .expect(rt, "a list");
-    list
+    let settings = settings(alloc).expect(rt, "settings");
+    list_of(alloc, settings).expect(rt, "a list")
 }
 
 // What is answered to octets, where no memory is refused.
@@ -100,7 +86,7 @@ fn three_events(rt: &(impl Abort + Wait), station: &FlightStation, operator: &mu
     requires { IsOurs station.now operator.old }
     ensures { IsOurs station.now operator.new }
 {
-    assert_eq!(rt; bring(rt, station, operator, &FIRST), Some(BUFFERED));
+    assert_eq!(rt; bring(rt, station, operator, &FRAME), Some(BUFFERED));
     check_word(rt, station, 0x0104_0001);
     assert_eq!(rt; release(rt, station, operator), Ok(ONE));
     assert_eq!(rt; release(rt, station, operator), Err(ReleaseRefused::Empty));
@@ -145,7 +131,7 @@ fn a_station_in_flight(rt: HostRuntime) {
 fn an_operator_of_another_flight_is_out_of_balance(rt: HostRuntime) {
     let (station, mut operators) = new_crew(&rt, rt.alloc());
     let (other, others) = new_crew(&rt, rt.alloc());
-    let brought = bring(&rt, &station, &mut operators[0], &FIRST);
+    let brought = bring(&rt, &station, &mut operators[0], &FRAME);
     assert_eq!(rt; brought, Some(BUFFERED));
     match other.close(operators) {
         Err(FlightCloseFault::Unbalanced(channels, operators)) => {
@@ -212,7 +198,7 @@ fn close(
     }
 }
 
-// Brings `BYPASSED` as the second event of the channel; a refused frame leaves the count as it was.
+// Brings `BD_PACKET` as the second event of the channel; a refused frame leaves the count as it was.
 fn bring_bypassed(
     rt: &(impl Abort + Print + Wait),
     station: &FlightStation,
@@ -221,10 +207,10 @@ fn bring_bypassed(
     requires { IsOurs station.now operator.old }
     ensures { IsOurs station.now operator.new }
 {
-    if bring(rt, station, operator, &BYPASSED).is_none() {
+    if bring(rt, station, operator, &BD_PACKET).is_none() {
         let _ = println!(rt; "refused: FlightStation::bring");
         assert_eq!(rt; operator.count(1), Some(1));
-        let brought = bring(rt, station, operator, &BYPASSED);
+        let brought = bring(rt, station, operator, &BD_PACKET);
         assert_eq!(rt; brought, Some(DELIVERED));
     }
 }
@@ -247,7 +233,7 @@ fn four_events(rt: &(impl Abort + Print + Wait), station: &FlightStation, operat
     requires { IsOurs station.now operator.old }
     ensures { IsOurs station.now operator.new }
 {
-    assert_eq!(rt; bring(rt, station, operator, &FIRST), Some(BUFFERED));
+    assert_eq!(rt; bring(rt, station, operator, &FRAME), Some(BUFFERED));
     bring_bypassed(rt, station, operator);
     release_again(rt, station, operator);
     take_packet(rt, station, operator)

@@ -47,7 +47,7 @@ fn offer<J: Journal>(
     channel: &mut ChannelWith<J>,
     octets: &[u8],
 ) -> Result<FrameReply, NoMemory> {
-    channel.frame(&read_frame(octets).expect(rt, "a frame"))
+    test_parts::offer(channel, octets).expect(rt, "a frame")
 }
 
 fn release<J: Journal>(channel: &mut ChannelWith<J>) -> Result<Delivery, ReleaseFault> {
