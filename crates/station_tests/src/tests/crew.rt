@@ -6,7 +6,7 @@ ghost use Rattle.tc_station.specs.Tally.{IsOurs};
 
 use super::*;
 use std::sync::Wait;
-use tc_station::{BringFault, ReleaseRefused, TakeRefused};
+use tc_station::{BringFault, ReleaseRefused, TakeRefused, TakeUnitRefused};
 use tc_status::Watcher;
 
 // A station for spacecraft 42, with one operator.
@@ -85,6 +85,16 @@ impl Manned {
         refused: TakeRefused,
     ) {
         let taken = self.station.take(rt, &mut self.operator, vcid, apid);
+        assert!(rt; taken.err() == Some(refused));
+    }
+
+    pub(super) fn refuse_take_unit(
+        &mut self,
+        rt: &(impl Abort + Wait),
+        vcid: u8,
+        refused: TakeUnitRefused,
+    ) {
+        let taken = self.station.take_unit(rt, &mut self.operator, vcid, 3);
         assert!(rt; taken.err() == Some(refused));
     }
 

@@ -4,7 +4,7 @@ use tc_channel::SettingsFault;
 use tc_link::FrameFault;
 use tc_station::{
     BringFault, LocateFault, OperatorsFault, ReleaseRefused, StationFault, TakeRefused,
-    WatcherFault,
+    TakeUnitRefused, WatcherFault,
 };
 
 fn check_fault(rt: &impl Abort, alloc: Global, scid: u16, vcids: &[u8], expected: StationFault) {
@@ -93,6 +93,8 @@ fn operations_on_no_channel_and_on_none_there(rt: HostRuntime) {
     crew.refuse_take(&rt, 2, 5, TakeRefused::UnknownChannel);
     crew.refuse_take(&rt, 1, 6, TakeRefused::NoQueue);
     crew.refuse_take(&rt, 1, 5, TakeRefused::Empty);
+    crew.refuse_take_unit(&rt, 2, TakeUnitRefused::UnknownChannel);
+    crew.refuse_take_unit(&rt, 1, TakeUnitRefused::NoMap);
     let unknown = crew.station.watcher(&rt, 2);
     assert_eq!(rt; unknown.err(), Some(WatcherFault::UnknownChannel));
     crew.check_count(&rt, 1, Some(0));
