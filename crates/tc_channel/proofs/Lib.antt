@@ -23,6 +23,7 @@ pub mod Eras
 pub mod Faults
 pub mod Growth
 pub mod Given
+pub mod Through
 pub mod Apart
 pub mod Words
 pub mod Examples

@@ -7,6 +7,7 @@ pub mod Run
 pub mod Reply
 pub mod Era
 pub mod Given
+pub mod Through
 pub mod Laws
 pub mod HeldQueues
 pub mod Channel

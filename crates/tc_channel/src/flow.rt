@@ -1,13 +1,17 @@
 //! Laws on what leaves a channel: it is what came in, in order.
 
-ghost use Rattle.std.specs.Prelude.{◌≡◌, ℕ, List, Some, map, take};
+ghost use Rattle.std.specs.Prelude.{◌≡◌, ◌≤◌, ◌∷◌, ℕ, List, [], Some, length, map, take};
 ghost use Rattle.tc_packet.specs.declared.Service.{Service};
+ghost use Rattle.tc_packet.specs.Reassembly.{Passed};
 ghost use Rattle.tc_channel.specs.declared.settings.Settings.{Settings};
 ghost use Rattle.tc_channel.specs.declared.event.Event.{Event};
-ghost use Rattle.tc_channel.specs.ChannelState.{Accepted, Queue, first_state_within, queue_of};
+ghost use Rattle.tc_channel.specs.ChannelState.{Accepted, Queue, first_state_within, no_limits, queue_of};
+ghost use Rattle.tc_channel.specs.Examples as example;
 ghost use Rattle.tc_channel.specs.Run.{run_within, IsLawfulWithin};
 ghost use Rattle.tc_channel.specs.Reply.{take_reply_within, unit_reply_within};
 ghost use Rattle.tc_channel.specs.Given.{oldest_in, packets_given, units_given, fields_passed};
+ghost use Rattle.tc_channel.specs.Era.{IsEraWithin, ComesFromWithin};
+ghost use Rattle.tc_channel.specs.Through.{IsPartOf, packets_made, units_made, sent_from};
 
 /// The data fields of Type-AD that were passed to reassembly are the accepted ones, each once and in order, as far as they were
 /// released.
@@ -25,4 +29,43 @@ pub fn what_was_admitted_is_given_in_order()
         → units_given s map_id (first_state_within limits s) journal ≡ take q.taken q.admitted }
     ensures packet { (limits : ℕ → ℕ) (s : Settings) (journal : List Event) (apid : ℕ) → take_reply_within limits s journal apid ≡ oldest_in apid (run_within limits s journal).queues }
     ensures unit { (limits : ℕ → ℕ) (s : Settings) (journal : List Event) (map_id : ℕ) → unit_reply_within limits s journal map_id ≡ oldest_in map_id (run_within limits s journal).units }
+{}
+
+/// All that a packet queue ever admitted are packets that the data fields make that were passed to reassembly, in their order, of which
+/// some may be left out: those for which there was no room. Where it admitted as many as they make, none is left out. The same holds of
+/// the units of a chosen MAP.
+pub fn what_was_passed_on_is_admitted_in_order()
+    ensures packets { (limits : ℕ → ℕ) (s : Settings) (journal : List Event) (apid : ℕ) (q : Queue) → queue_of apid (run_within limits s journal).queues ≡ Some q
+        → IsPartOf q.admitted (packets_made limits s apid (run_within limits s journal).passed) }
+    ensures units { (limits : ℕ → ℕ) (s : Settings) (journal : List Event) (map_id : ℕ) (q : Queue) → queue_of map_id (run_within limits s journal).units ≡ Some q
+        → IsPartOf q.admitted (units_made limits s map_id (run_within limits s journal).passed) }
+    ensures whole { (one other : List (List ℕ)) → IsPartOf one other → length other ≤ length one → one ≡ other }
+{}
+
+/// From a sender to what was taken. A sender numbers its Type-AD frames on from the channel's first V(R), with the data fields `sent`, and
+/// none comes 256 numbers or more early or late; frames may be lost, come several times and out of order. Then, after any lawful journal
+/// in which no Set V(R) was obeyed, the AD fields that were passed to reassembly are the first that were sent, as many as were released;
+/// and all packets of an application that takes gave are, in their order, packets that those fields, and the BD fields between
+/// them, make; some may be left out, for which a queue had no room. The same holds of the units of a chosen MAP.
+pub fn what_was_sent_is_given_in_order()
+    ensures fields { (limits : ℕ → ℕ) (s : Settings) (journal : List Event) (x : ℕ) (sent : ℕ → List ℕ) → IsLawfulWithin limits s journal
+        → IsEraWithin limits s journal [] journal x → ComesFromWithin limits s [] journal x sent
+        → fields_passed Service.Ad (run_within limits s journal).passed ≡ sent_from sent 0 (run_within limits s journal).released }
+    ensures packets { (limits : ℕ → ℕ) (s : Settings) (journal : List Event) (x : ℕ) (sent : ℕ → List ℕ) (apid : ℕ) (q : Queue) → IsLawfulWithin limits s journal
+        → IsEraWithin limits s journal [] journal x → ComesFromWithin limits s [] journal x sent → queue_of apid (run_within limits s journal).queues ≡ Some q
+        → (passed : List Passed) × (fields_passed Service.Ad passed ≡ sent_from sent 0 (run_within limits s journal).released)
+        × IsPartOf (packets_given s apid (first_state_within limits s) journal) (packets_made limits s apid passed) }
+    ensures units { (limits : ℕ → ℕ) (s : Settings) (journal : List Event) (x : ℕ) (sent : ℕ → List ℕ) (map_id : ℕ) (q : Queue) → IsLawfulWithin limits s journal
+        → IsEraWithin limits s journal [] journal x → ComesFromWithin limits s [] journal x sent → queue_of map_id (run_within limits s journal).units ≡ Some q
+        → (passed : List Passed) × (fields_passed Service.Ad passed ≡ sent_from sent 0 (run_within limits s journal).released)
+        × IsPartOf (units_given s map_id (first_state_within limits s) journal) (units_made limits s map_id passed) }
+{}
+
+/// What data fields make, worked out by hand: a packet in two segments, for its own application alone; and none where the two came by
+/// different services.
+pub fn passed_fields_make_so()
+    ensures two_segments { packets_made no_limits (example.buffer_of 2) 5 (record { service = Service.Ad; field = 0x40 ∷ 0x10 ∷ 0x05 ∷ 0xc0 ∷ [] } ∷ record { service = Service.Ad; field = 0x80 ∷ 0x01 ∷ 0x00 ∷ 0x01 ∷ 0xaa ∷ 0xbb ∷ [] } ∷ [])
+        ≡ (0x10 ∷ 0x05 ∷ 0xc0 ∷ 0x01 ∷ 0x00 ∷ 0x01 ∷ 0xaa ∷ 0xbb ∷ []) ∷ [] }
+    ensures other_application { packets_made no_limits (example.buffer_of 2) 6 (record { service = Service.Ad; field = 0x40 ∷ 0x10 ∷ 0x05 ∷ 0xc0 ∷ [] } ∷ record { service = Service.Ad; field = 0x80 ∷ 0x01 ∷ 0x00 ∷ 0x01 ∷ 0xaa ∷ 0xbb ∷ [] } ∷ []) ≡ [] }
+    ensures services_apart { packets_made no_limits (example.buffer_of 2) 5 (record { service = Service.Ad; field = 0x40 ∷ 0x10 ∷ 0x05 ∷ 0xc0 ∷ [] } ∷ record { service = Service.Bd; field = 0x80 ∷ 0x01 ∷ 0x00 ∷ 0x01 ∷ 0xaa ∷ 0xbb ∷ [] } ∷ []) ≡ [] }
 {}

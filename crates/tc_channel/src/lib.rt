@@ -37,7 +37,11 @@ pub use answered::{
 };
 pub use channel::{Channel, ChannelWith, FlightChannel};
 pub use event::Event;
-pub use flow::{what_was_accepted_is_passed_on_in_order, what_was_admitted_is_given_in_order};
+pub use flow::{
+    passed_fields_make_so, what_was_accepted_is_passed_on_in_order,
+    what_was_admitted_is_given_in_order, what_was_passed_on_is_admitted_in_order,
+    what_was_sent_is_given_in_order,
+};
 pub use items::{Items, Octets};
 pub use journal::Journal;
 pub use kept::Kept;

@@ -1,6 +1,6 @@
 //! Laws over the definitions.
 
-ghost use Rattle.std.specs.Prelude.{ℕ, List, ◌≡◌, ◌≢◌, [], ◌∷◌};
+ghost use Rattle.std.specs.Prelude.{ℕ, List, ◌≡◌, ◌≢◌, [], ◌∷◌, length, take, slice_get, Some};
 ghost use Rattle.tc_channel.specs.declared.event.Event.{Event};
 ghost use Rattle.logged_lock.specs.Log.{IsBeginning, IsMergeOf, made_by};
 ghost use Rattle.tc_desk.specs.Log.{Moment, Own};
@@ -25,4 +25,12 @@ pub fn one_alone_is_answered_after_its_own_events()
     ensures event { (before : Own) (now : Moment) (e : Event) → HasSeenItsOwn before → IsBeginning before.seen now → HasMadeAll (made e now before) → HasMadeAll before × (now ≡ before.seen) }
     ensures look { (before : Own) (now : Moment) → HasSeenItsOwn before → IsBeginning before.seen now → HasMadeAll (looked now before) → HasMadeAll before × (now ≡ before.seen) }
     ensures seen { (before : Own) (now : Moment) (e : Event) → HasSeenItsOwn before → IsBeginning before.seen now → HasSeenItsOwn (made e now before) × HasSeenItsOwn (looked now before) }
+{}
+
+/// An event that an operator made is at its place in each later journal of the desk, and the moment at which the call was answered is
+/// that journal's beginning before it. So by [`DeskOperator::operate`] and the close each answer is the model's at a beginning of the
+/// closed journal.
+pub fn each_event_stands_at_its_place()
+    ensures { (before : Own) (now : Moment) (e : Event) (closed : Moment) → IsBeginning (made e now before).seen closed
+        → (slice_get closed.entries (length now.entries) ≡ Some e) × (now ≡ record { head = closed.head; entries = take (length now.entries) closed.entries }) }
 {}

@@ -1,0 +1,237 @@
+-- What queues admit is what the passed data fields make, in order, of which some may be left out.
+use Rattle.std.proofs.Common.{◌≡◌, ℕ, zero, suc, ◌+◌, ◌≤◌, Bool, true, false, cond, eqb, ◌&&◌, List, [], ◌∷◌, ◌++◌, length, map, filter, take, drop, Option, Some, None, refl, sym, ap, subst, ◌∙◌, inl, inr, append_assoc, arith}
+use Rattle.std.specs.Prelude.{nat_lt, is_some, slice_get}
+use Rattle.std.proofs.lemmas.List.{append-nil}
+use Rattle.tc_link.specs.Farm.{accepts}
+use Rattle.tc_packet.specs.declared.Service.{Service}
+use Rattle.tc_packet.specs.declared.Service.TheVariants.{Ad, Bd}
+use Rattle.tc_packet.specs.Reassembly.{Passed, stream, unit_ended}
+use Rattle.tc_channel.specs.declared.settings.Settings.{Settings}
+use Rattle.tc_channel.specs.declared.settings.MapSetting.{MapSetting}
+use Rattle.tc_channel.specs.declared.settings.QueueSetting.{QueueSetting}
+use Rattle.tc_channel.specs.declared.event.Event.{Event}
+use Rattle.tc_channel.specs.declared.event.Event.TheVariants.{Frame, Release, Take, TakeUnit}
+use Rattle.tc_channel.specs.ChannelState.{ChannelState, Accepted, Queue, first_state_within, empty_queue, empty_unit_queue, buffer, queue_of}
+use Rattle.tc_channel.specs.Admission.{is_for, is_of_map, map_of, is_chosen, packets_offered, units_offered, room_of, with_share, with_shares}
+use Rattle.tc_channel.specs.Run.{step, row_of, passed_on, unit_of, taken_from, first_of, run_within, IsLawfulWithin}
+use Rattle.tc_channel.specs.Given.{packets_given, units_given, fields_passed}
+use Rattle.tc_channel.specs.Era.{IsEraWithin, ComesFromWithin}
+use Rattle.tc_channel.specs.Through.{IsPartOf, unit_made, is_chosen_by, packets_ended, units_ended, all_made, packets_made, units_made, sent_from}
+use Rattle.tc_channel.proofs.Runs.{run-push}
+use Rattle.tc_channel.proofs.Plain.{run-segmented, run-limit}
+use Rattle.tc_channel.proofs.StateQueues.{keys, kept-either, unit-keys-stay}
+use Rattle.tc_channel.proofs.Given.{found-key, found-shared, found-taken, packets-in-order, units-in-order, fields-in-order, released-within}
+use Rattle.tc_channel.proofs.Eras.{all-sent}
+
+-- parts of lists
+
+part-skip : (xs : List (List ℕ)) (y : List ℕ) (ys : List (List ℕ)) → IsPartOf xs ys → IsPartOf xs (y ∷ ys)
+part-skip [] y ys h = tt
+part-skip (x ∷ xs) y ys h = inr h
+
+part-append : (xs ys us vs : List (List ℕ)) → IsPartOf xs ys → IsPartOf us vs → IsPartOf (xs ++ us) (ys ++ vs)
+part-append [] [] us vs h k = k
+part-append [] (y ∷ ys) us vs h k = part-skip us y (ys ++ vs) (part-append [] ys us vs tt k)
+part-append (x ∷ xs) [] us vs h k = absurd h
+part-append (x ∷ xs) (y ∷ ys) us vs (inl p) k = inl (p.0, part-append xs ys us vs p.1 k)
+part-append (x ∷ xs) (y ∷ ys) us vs (inr p) k = inr (part-append (x ∷ xs) ys us vs p k)
+
+part-first : (n : ℕ) (xs : List (List ℕ)) → IsPartOf (take n xs) xs
+part-first zero xs = tt
+part-first (suc n) [] = tt
+part-first (suc n) (x ∷ xs) = inl (refl, part-first n xs)
+
+part-take : (n : ℕ) (xs ys : List (List ℕ)) → IsPartOf xs ys → IsPartOf (take n xs) ys
+part-take zero xs ys h = tt
+part-take (suc n) [] ys h = tt
+part-take (suc n) (x ∷ xs) [] h = absurd h
+part-take (suc n) (x ∷ xs) (y ∷ ys) (inl p) = inl (p.0, part-take n xs ys p.1)
+part-take (suc n) (x ∷ xs) (y ∷ ys) (inr p) = inr (part-take (suc n) (x ∷ xs) ys p)
+
+part-length : (xs ys : List (List ℕ)) → IsPartOf xs ys → length xs ≤ length ys
+part-length [] ys h = omega arith
+part-length (x ∷ xs) [] h = absurd h
+part-length (x ∷ xs) (y ∷ ys) (inl p) = omega (arith, part-length xs ys p.1)
+part-length (x ∷ xs) (y ∷ ys) (inr p) = omega (arith, part-length (x ∷ xs) ys p)
+
+-- a part that is as long as the whole is the whole
+pub part-whole : (xs ys : List (List ℕ)) → IsPartOf xs ys → length ys ≤ length xs → xs ≡ ys
+part-whole [] [] h le = refl
+part-whole [] (y ∷ ys) h le = absurd (omega arith)
+part-whole (x ∷ xs) [] h le = absurd h
+part-whole (x ∷ xs) (y ∷ ys) (inl p) le = rw (p.0, part-whole xs ys p.1 (omega arith)) refl
+part-whole (x ∷ xs) (y ∷ ys) (inr p) le = absurd (let n = part-length (x ∷ xs) ys p in omega arith)
+
+-- one more data field
+
+made-push : (Ended : List Passed → Passed → List (List ℕ)) (before ps : List Passed) (p : Passed) → all_made Ended before (ps ++ p ∷ []) ≡ all_made Ended before ps ++ Ended (before ++ ps) p
+made-push Ended before [] p = append-nil (Ended before p) ∙ ap (λ (l : List Passed). Ended l p) (sym (append-nil before))
+made-push Ended before (r ∷ ps) p =
+    ap (λ (l : List (List ℕ)). Ended before r ++ l) (made-push Ended (before ++ r ∷ []) ps p ∙ ap (λ (l : List Passed). all_made Ended (before ++ r ∷ []) ps ++ Ended l p) (append_assoc before (r ∷ []) ps))
+    ∙ sym (append_assoc (Ended before r) (all_made Ended (before ++ r ∷ []) ps) (Ended (before ++ r ∷ ps) p))
+
+-- the chosen MAPs are those of the settings
+
+some-by-keys : (key : ℕ) (ps qs : List Queue) → keys ps ≡ keys qs → is_some (queue_of key ps) ≡ is_some (queue_of key qs)
+some-by-keys key [] [] e = refl
+some-by-keys key [] (q ∷ qs) e = absurd cc
+some-by-keys key (p ∷ ps) [] e = absurd cc
+some-by-keys key (p ∷ ps) (q ∷ qs) e =
+    let head : p.key ≡ q.key = cc in
+    let tail : keys ps ≡ keys qs = cc in
+    subst (λ (k : ℕ). is_some (cond (eqb k key) (Some p) (queue_of key ps)) ≡ is_some (cond (eqb q.key key) (Some q) (queue_of key qs))) (sym head) (by (eqb q.key key) (some-by-keys key ps qs tail))
+  where
+    by : (t : Bool) → is_some (queue_of key ps) ≡ is_some (queue_of key qs) → is_some (cond t (Some p) (queue_of key ps)) ≡ is_some (cond t (Some q) (queue_of key qs))
+    by true ih = refl
+    by false ih = ih
+
+keys-at-first : (limits : ℕ → ℕ) (c : Settings) → keys (map empty_unit_queue c.maps) ≡ map (λ (m : MapSetting). m.map) c.maps
+unfolding run_within
+keys-at-first limits c = unit-keys-stay limits c []
+
+run-chosen : (limits : ℕ → ℕ) (c : Settings) (journal : List Event) (field : List ℕ) → is_chosen (run_within limits c journal) field ≡ is_chosen_by c field
+run-chosen limits c journal field = some-by-keys (map_of field) (run_within limits c journal).units (map empty_unit_queue c.maps) (unit-keys-stay limits c journal ∙ sym (keys-at-first limits c))
+
+-- what never changes of a state
+record IsOf (limits : ℕ → ℕ) (c : Settings) (b : ChannelState) : Type 0 where
+  segmented : b.segmented ≡ c.segmented
+  limit : b.limit ≡ limits
+  chosen : (field : List ℕ) → is_chosen b field ≡ is_chosen_by c field
+
+run-is-of : (limits : ℕ → ℕ) (c : Settings) (journal : List Event) → IsOf limits c (run_within limits c journal)
+run-is-of limits c journal = record { segmented = run-segmented limits c journal; limit = run-limit limits c journal; chosen = run-chosen limits c journal }
+
+unit-is : (limits : ℕ → ℕ) (c : Settings) (b : ChannelState) (service : Service) (field : List ℕ) → IsOf limits c b → unit_of b service field ≡ unit_made limits c b.passed (record { service = service; field = field })
+unit-is limits c b service field is = rw (is.segmented, is.limit) refl
+
+-- the queue with this key admitted part of what the passed fields make
+record Admits (key : ℕ) (Ended : List Passed → Passed → List (List ℕ)) (qs : List Queue) (passed : List Passed) : Type 0 where
+  each : (q : Queue) → queue_of key qs ≡ Some q → IsPartOf q.admitted (all_made Ended [] passed)
+
+admits-shared : (key : ℕ) (Ended : List Passed → Passed → List (List ℕ)) (wanted : ℕ → List ℕ → Bool) (items : List (List ℕ)) (qs : List Queue) (passed : List Passed) (p : Passed)
+    → filter (wanted key) items ≡ Ended passed p → Admits key Ended qs passed → Admits key Ended (with_shares wanted items qs) (passed ++ p ∷ [])
+admits-shared key Ended wanted items qs passed p same h = record {
+  each = λ new e.
+      let found = found-shared key wanted items qs new e in
+      let old = found.0 in
+      let its : old.key ≡ key = found-key key qs old found.1 in
+      let was : IsPartOf old.admitted (all_made Ended [] passed) = h.each old found.1 in
+      let more : IsPartOf (take (room_of old) (filter (wanted old.key) items)) (Ended passed p) =
+      subst (λ (l : List (List ℕ)). IsPartOf (take (room_of old) l) (Ended passed p)) (sym (ap (λ (k : ℕ). filter (wanted k) items) its ∙ same)) (part-first (room_of old) (Ended passed p)) in
+      rw (found.2, made-push Ended [] passed p) (part-append old.admitted (all_made Ended [] passed) (take (room_of old) (filter (wanted old.key) items)) (Ended passed p) was more);
+}
+
+taken-admitted : (key : ℕ) (q : Queue) → (taken_from key q).admitted ≡ q.admitted
+taken-admitted key q = by (eqb q.key key && nat_lt q.taken (length q.admitted)) where
+  by : (t : Bool) → (cond t (record q { taken = q.taken + 1 }) q).admitted ≡ q.admitted
+  by true = refl
+  by false = refl
+
+admits-taken : (key other : ℕ) (Ended : List Passed → Passed → List (List ℕ)) (qs : List Queue) (passed : List Passed) → Admits key Ended qs passed → Admits key Ended (map (taken_from other) qs) passed
+admits-taken key other Ended qs passed h = record {
+  each = λ new e.
+      let found = found-taken key other qs new e in
+      rw (found.2, taken-admitted other found.0) (h.each found.0 found.1);
+}
+
+-- a state whose queue with this APID, and whose unit queue of this MAP, are so
+record Carries (limits : ℕ → ℕ) (c : Settings) (apid map_id : ℕ) (b : ChannelState) : Type 0 where
+  packets : Admits apid (packets_ended limits c apid) b.queues b.passed
+  units : Admits map_id (units_ended limits c map_id) b.units b.passed
+
+passed-carries : (limits : ℕ → ℕ) (c : Settings) (apid map_id : ℕ) (b : ChannelState) (service : Service) (field : List ℕ) → IsOf limits c b → Carries limits c apid map_id b → Carries limits c apid map_id (passed_on service field b)
+unfolding passed_on
+passed-carries limits c apid map_id b service field is h =
+    let p : Passed = record { service = service; field = field } in
+    let unit = unit-is limits c b service field is in
+    record {
+      packets = admits-shared apid (packets_ended limits c apid) is_for (packets_offered (unit_of b service field) (is_chosen b field)) b.queues b.passed p (rw (unit, is.chosen field) refl) h.packets;
+      units = admits-shared map_id (units_ended limits c map_id) (is_of_map (map_of field)) (units_offered (unit_of b service field) (is_chosen b field)) b.units b.passed p (rw (unit, is.chosen field) refl) h.units;
+    }
+
+step-carries : (limits : ℕ → ℕ) (c : Settings) (apid map_id : ℕ) (b : ChannelState) (e : Event) → IsOf limits c b → Carries limits c apid map_id b → Carries limits c apid map_id (step c b e)
+unfolding passed_on
+step-carries limits c apid map_id b (Frame octets) is h =
+    let left = kept-either (λ x. Carries limits c apid map_id x) (row_of c b octets) (accepts (row_of c b octets) b.report) octets b h (record { packets = h.packets; units = h.units }) (passed-carries limits c apid map_id b Bd (drop 5 octets) is h) in
+    record { packets = left.packets; units = left.units }
+step-carries limits c apid map_id b Release is h = let left = passed-carries limits c apid map_id b Ad (first_of (buffer b)) is h in record { packets = left.packets; units = left.units }
+step-carries limits c apid map_id b (Take other) is h = record { packets = admits-taken apid other (packets_ended limits c apid) b.queues b.passed h.packets; units = h.units }
+step-carries limits c apid map_id b (TakeUnit other) is h = record { packets = h.packets; units = admits-taken map_id other (units_ended limits c map_id) b.units b.passed h.units }
+
+-- by events from the first on
+from-first : (P : List Event → Type 0) (push : (j : List Event) (e : Event) → P j → P (j ++ e ∷ [])) (done rest : List Event) → P done → P (done ++ rest)
+from-first P push done [] h = rw (append-nil done) h
+from-first P push done (e ∷ rest) h = subst P (append_assoc done (e ∷ []) rest) (from-first P push (done ++ e ∷ []) rest (push done e h))
+
+none-admitted : (key : ℕ) (Ended : List Passed → Passed → List (List ℕ)) (qs : List Queue) → ((q : Queue) → queue_of key qs ≡ Some q → q.admitted ≡ []) → Admits key Ended qs []
+none-admitted key Ended qs none = record { each = λ q e. rw (none q e) tt }
+
+-- what takes gave at no event: nothing, and so nothing was admitted before the first take
+first-carries : (limits : ℕ → ℕ) (c : Settings) (apid map_id : ℕ) → Carries limits c apid map_id (run_within limits c [])
+unfolding run_within
+first-carries limits c apid map_id = record {
+  packets = none-admitted apid (packets_ended limits c apid) (map empty_queue c.queues) (empties c.queues);
+  units = none-admitted map_id (units_ended limits c map_id) (map empty_unit_queue c.maps) (empty-units c.maps);
+} where
+  empties : (qs : List QueueSetting) (q : Queue) → queue_of apid (map empty_queue qs) ≡ Some q → q.admitted ≡ []
+  empties [] q e = absurd cc
+  empties (s ∷ qs) q e = by (eqb s.apid apid) (empties qs q) e where
+    by : (t : Bool) → (queue_of apid (map empty_queue qs) ≡ Some q → q.admitted ≡ []) → cond t (Some (empty_queue s)) (queue_of apid (map empty_queue qs)) ≡ Some q → q.admitted ≡ []
+    by true later e = let is : empty_queue s ≡ q = cc in rw (← is) refl
+    by false later e = later e
+
+  empty-units : (ms : List MapSetting) (q : Queue) → queue_of map_id (map empty_unit_queue ms) ≡ Some q → q.admitted ≡ []
+  empty-units [] q e = absurd cc
+  empty-units (m ∷ ms) q e = by (eqb m.map map_id) (empty-units ms q) e where
+    by : (t : Bool) → (queue_of map_id (map empty_unit_queue ms) ≡ Some q → q.admitted ≡ []) → cond t (Some (empty_unit_queue m)) (queue_of map_id (map empty_unit_queue ms)) ≡ Some q → q.admitted ≡ []
+    by true later e = let is : empty_unit_queue m ≡ q = cc in rw (← is) refl
+    by false later e = later e
+
+run-carries : (limits : ℕ → ℕ) (c : Settings) (apid map_id : ℕ) (journal : List Event) → Carries limits c apid map_id (run_within limits c journal)
+run-carries limits c apid map_id journal =
+    from-first (λ (j : List Event). Carries limits c apid map_id (run_within limits c j)) (λ j e h. rw (run-push limits c j e) (step-carries limits c apid map_id (run_within limits c j) e (run-is-of limits c j) h)) [] journal (first-carries limits c apid map_id)
+
+pub packets-are-made : (limits : ℕ → ℕ) (c : Settings) (journal : List Event) (apid : ℕ) (q : Queue) → queue_of apid (run_within limits c journal).queues ≡ Some q → IsPartOf q.admitted (packets_made limits c apid (run_within limits c journal).passed)
+packets-are-made limits c journal apid q e = let h = run-carries limits c apid 0 journal in h.packets.each q e
+
+pub units-are-made : (limits : ℕ → ℕ) (c : Settings) (journal : List Event) (map_id : ℕ) (q : Queue) → queue_of map_id (run_within limits c journal).units ≡ Some q → IsPartOf q.admitted (units_made limits c map_id (run_within limits c journal).passed)
+units-are-made limits c journal map_id q e = let h = run-carries limits c 0 map_id journal in h.units.each q e
+
+-- what was sent, as far as it was released
+
+sent-fields : (sent : ℕ → List ℕ) (k n : ℕ) (xs : List Accepted) → ((i : ℕ) (a : Accepted) → slice_get xs i ≡ Some a → a.field ≡ sent (k + i)) → n ≤ length xs
+    → map (λ (a : Accepted). a.field) (take n xs) ≡ sent_from sent k n
+sent-fields sent k zero xs each le = refl
+sent-fields sent k (suc n) [] each le = absurd (omega arith)
+sent-fields sent k (suc n) (x ∷ xs) each le =
+    let here : x.field ≡ sent k = each 0 x refl ∙ ap sent (omega arith) in
+    let later = sent-fields sent (suc k) n xs (λ i a is. each (suc i) a is ∙ ap sent (omega arith)) (omega arith) in
+    rw (here, later) refl
+
+pub passed-as-sent : (limits : ℕ → ℕ) (c : Settings) (journal : List Event) (x : ℕ) (sent : ℕ → List ℕ) → IsLawfulWithin limits c journal → IsEraWithin limits c journal [] journal x → ComesFromWithin limits c [] journal x sent
+    → fields_passed Ad (run_within limits c journal).passed ≡ sent_from sent 0 (run_within limits c journal).released
+unfolding run_within
+passed-as-sent limits c journal x sent lawful era comes =
+    let all = all-sent limits c journal [] journal x sent era comes in
+    fields-in-order limits c journal lawful
+    ∙ sent-fields sent 0 (run_within limits c journal).released (run_within limits c journal).accepted (λ i a is. all i a is ∙ ap sent (omega arith)) (released-within limits c journal lawful)
+
+pub packets-as-sent : (limits : ℕ → ℕ) (c : Settings) (journal : List Event) (x : ℕ) (sent : ℕ → List ℕ) (apid : ℕ) (q : Queue) → IsLawfulWithin limits c journal → IsEraWithin limits c journal [] journal x → ComesFromWithin limits c [] journal x sent
+    → queue_of apid (run_within limits c journal).queues ≡ Some q
+    → (passed : List Passed) × (fields_passed Ad passed ≡ sent_from sent 0 (run_within limits c journal).released)
+    × IsPartOf (packets_given c apid (first_state_within limits c) journal) (packets_made limits c apid passed)
+packets-as-sent limits c journal x sent apid q lawful era comes has = (
+  (run_within limits c journal).passed,
+  passed-as-sent limits c journal x sent lawful era comes,
+  rw (packets-in-order limits c journal apid q has) (part-take q.taken q.admitted (packets_made limits c apid (run_within limits c journal).passed) (packets-are-made limits c journal apid q has)),
+)
+
+pub units-as-sent : (limits : ℕ → ℕ) (c : Settings) (journal : List Event) (x : ℕ) (sent : ℕ → List ℕ) (map_id : ℕ) (q : Queue) → IsLawfulWithin limits c journal → IsEraWithin limits c journal [] journal x → ComesFromWithin limits c [] journal x sent
+    → queue_of map_id (run_within limits c journal).units ≡ Some q
+    → (passed : List Passed) × (fields_passed Ad passed ≡ sent_from sent 0 (run_within limits c journal).released)
+    × IsPartOf (units_given c map_id (first_state_within limits c) journal) (units_made limits c map_id passed)
+units-as-sent limits c journal x sent map_id q lawful era comes has = (
+  (run_within limits c journal).passed,
+  passed-as-sent limits c journal x sent lawful era comes,
+  rw (units-in-order limits c journal map_id q has) (part-take q.taken q.admitted (units_made limits c map_id (run_within limits c journal).passed) (units-are-made limits c journal map_id q has)),
+)
