@@ -289,10 +289,6 @@ sent-at sent n [] h i a e = absurd cc
 sent-at sent n (b ∷ xs) h zero a e = let q : b ≡ a = cc in rw (← q) (h.0 ∙ ap sent (omega arith))
 sent-at sent n (b ∷ xs) h (suc i) a e = sent-at sent (n + 1) xs h.1 i a e ∙ ap sent (omega arith)
 
--- only Type-AD frames come by E1
-not-ad : (o : Option Command) (width vr : ℕ) (room : Bool) → frame_row width vr (control_kind o) room ≡ E1 → ⊥
-not-ad o width vr room e = no_command o width vr room e
-
 flags-at_E1 : (width vr ns : ℕ) (bypass control room : Bool) (field : List ℕ) → frame_row width vr (kind_by bypass control ns field) room ≡ E1 → (bypass ≡ false) × (control ≡ false)
 flags-at_E1 width vr ns false false room field e = (refl, refl)
 flags-at_E1 width vr ns true false room field e = absurd cc

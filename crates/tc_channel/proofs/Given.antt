@@ -22,14 +22,14 @@ use Rattle.tc_channel.proofs.StateQueues.{kept-either, taken-key}
 
 -- the queue that is found by a key
 
-found-key : (key : ℕ) (qs : List Queue) (q : Queue) → queue_of key qs ≡ Some q → q.key ≡ key
+pub found-key : (key : ℕ) (qs : List Queue) (q : Queue) → queue_of key qs ≡ Some q → q.key ≡ key
 found-key key [] q e = absurd cc
 found-key key (p ∷ qs) q e = elim (eqb_tells p.key key) [
   | inl h ↦ let is : p ≡ q = (let t = h.0 in cc) in ap (λ (x : Queue). x.key) (sym is) ∙ h.1
   | inr h ↦ found-key key qs q (let t = h.0 in cc)
 ]
 
-found-shared : (key : ℕ) (wanted : ℕ → List ℕ → Bool) (items : List (List ℕ)) (qs : List Queue) (new : Queue) → queue_of key (with_shares wanted items qs) ≡ Some new
+pub found-shared : (key : ℕ) (wanted : ℕ → List ℕ → Bool) (items : List (List ℕ)) (qs : List Queue) (new : Queue) → queue_of key (with_shares wanted items qs) ≡ Some new
     → (old : Queue) × (queue_of key qs ≡ Some old) × (new ≡ with_share wanted items old)
 found-shared key wanted items [] new e = absurd cc
 found-shared key wanted items (p ∷ qs) new e = by (eqb p.key key) (found-shared key wanted items qs new) e where
@@ -39,7 +39,7 @@ found-shared key wanted items (p ∷ qs) new e = by (eqb p.key key) (found-share
   by true later e = (p, refl, cc)
   by false later e = later e
 
-found-taken : (key other : ℕ) (qs : List Queue) (new : Queue) → queue_of key (map (taken_from other) qs) ≡ Some new → (old : Queue) × (queue_of key qs ≡ Some old) × (new ≡ taken_from other old)
+pub found-taken : (key other : ℕ) (qs : List Queue) (new : Queue) → queue_of key (map (taken_from other) qs) ≡ Some new → (old : Queue) × (queue_of key qs ≡ Some old) × (new ≡ taken_from other old)
 found-taken key other [] new e = absurd cc
 found-taken key other (p ∷ qs) new e =
     by (eqb p.key key) (found-taken key other qs new) (subst (λ k. cond (eqb k key) (Some (taken_from other p)) (queue_of key (map (taken_from other) qs)) ≡ Some new) (taken-key other p) e) where
@@ -210,3 +210,7 @@ run_from-passed c b (e ∷ es) steps h = run_from-passed c (step c b e) es steps
 pub fields-in-order : (limits : ℕ → ℕ) (c : Settings) (journal : List Event) → IsLawfulWithin limits c journal → fields_passed Ad (run_within limits c journal).passed ≡ map (λ (a : Accepted). a.field) (take (run_within limits c journal).released (run_within limits c journal).accepted)
 unfolding run_within IsLawfulWithin
 fields-in-order limits c journal lawful = let h = run_from-passed c (first_state_within limits c) journal lawful (record { fields = refl; released = omega arith }) in h.fields
+
+pub released-within : (limits : ℕ → ℕ) (c : Settings) (journal : List Event) → IsLawfulWithin limits c journal → (run_within limits c journal).released ≤ length (run_within limits c journal).accepted
+unfolding run_within IsLawfulWithin
+released-within limits c journal lawful = let h = run_from-passed c (first_state_within limits c) journal lawful (record { fields = refl; released = omega arith }) in h.released

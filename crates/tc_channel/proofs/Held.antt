@@ -29,8 +29,7 @@ use Rattle.tc_channel.proofs.StateQueues.{kept-either, queues-kept, units-kept}
 use Rattle.tc_channel.proofs.Filled.{filled-drop, first-filled, state-filled}
 use Rattle.tc_channel.proofs.Runs.{run-push, lawful-push}
 use Rattle.tc_channel.proofs.Plain.{run-limit}
-use Rattle.tc_channel.proofs.Sound.{HaveEntries, state-sound, frame-enters, room-at_E1}
-use Rattle.std.proofs.lemmas.Bool.Decides.{nat_tests}
+use Rattle.tc_channel.proofs.Sound.{HaveEntries, state-sound, frame-enters}
 
 abbrev IsCounted : ChannelState → Type 0
 IsCounted b = b.released ≤ length b.accepted
@@ -121,26 +120,6 @@ frame-keeps {limits} {c} {j} {i} later made p unit kind octets row act entries k
       queues = rw pushed queues.0;
       units = rw pushed queues.1;
     }
-
--- a buffered field goes where there is room
-pub room-for : {limits : ℕ → ℕ} {c : Settings} {j : List Event} {i : Inside} (octets : List ℕ) (row : Row)
-    → HoldsWithin limits c j i → row ≡ row_of c (run_within limits c j) octets → number_of row ≡ 1 → length i.ring.items < i.ring.capacity
-room-for {limits} {c} {j} {i} octets row k row_is one =
-    let room = room-at_E1 c (run_within limits c j) octets (sym row_is ∙ only_E1 row one) in
-    let fields : length i.ring.items ≡ length (buffer (run_within limits c j)) = ap length k.fields in
-    rw (k.capacity, fields) (grind (arith, nat_tests))
-  where
-    only_E1 : (row : Row) → number_of row ≡ 1 → row ≡ E1
-    only_E1 E1 e = refl
-    only_E1 E2 e = absurd (omega arith)
-    only_E1 E3 e = absurd (omega arith)
-    only_E1 E4 e = absurd (omega arith)
-    only_E1 E5 e = absurd (omega arith)
-    only_E1 E6 e = absurd (omega arith)
-    only_E1 E7 e = absurd (omega arith)
-    only_E1 (E8 x) e = absurd (omega arith)
-    only_E1 E9 e = absurd (omega arith)
-    only_E1 E10 e = absurd (omega arith)
 
 buffer-released : (c : Settings) (b : ChannelState) → buffer (step c b Release) ≡ drop 1 (buffer b)
 unfolding passed_on

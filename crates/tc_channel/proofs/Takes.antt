@@ -1,6 +1,6 @@
 -- A packet or a unit is taken.
 use Rattle.std.proofs.Common.{◌≡◌, ◌≢◌, ℕ, zero, suc, ◌+◌, ◌<◌, Bool, true, false, cond, eqb, List, [], ◌∷◌, ◌++◌, length, map, take, drop, get_or, Option, Some, None, refl, sym, ap, ◌∙◌, inl, inr, arith}
-use Rattle.std.specs.Prelude.{nat_lt, option_map, slice_get, IsSome}
+use Rattle.std.specs.Prelude.{nat_lt, option_map, slice_get}
 use Rattle.std.specs.Option.{option_and_then}
 use Rattle.std.specs.List.{AllByRecursion}
 use Rattle.std.proofs.lemmas.List.{drop-drop, length-drop}
@@ -147,15 +147,6 @@ popped-at key (v ∷ ws) zero w is lt e =
     let same : eqb v.key key ≡ true = eq-eqb v.key key (ap (λ (x : HeldQueue). x.key) (sym is) ∙ e) in
     rw same (ap (λ (x : HeldQueue). shorter x ∷ ws) is)
 popped-at key (v ∷ ws) (suc i) w is lt e = ap (λ (x : List HeldQueue). v ∷ x) (popped-at key ws i w is (omega arith) e)
-
--- the oldest item of a queue is the oldest of its items
-pub oldest-is : (o : Option HeldQueue) → option_and_then (λ (w : HeldQueue). slice_get w.ring.items 0) o ≡ oldest (option_map (λ (w : HeldQueue). w.ring.items) o)
-oldest-is None = refl
-oldest-is (Some w) = refl
-
-pub has-first : (xs : List (List ℕ)) → 0 < length xs → IsSome (slice_get xs 0)
-has-first [] some = absurd (omega arith)
-has-first (x ∷ xs) some = refl
 
 pub same-keys : (qs : List Queue) → keys_of (map held qs) ≡ keys qs
 same-keys [] = refl

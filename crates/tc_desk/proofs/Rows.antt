@@ -176,11 +176,6 @@ row_step {X} at hs next first rest more x os whole rest_is os_is is before ours 
           (ours_after hs (at x) (map at more) (All-tail (λ (crew : List AtLock). locks_of crew ≡ locks_of (keepers_of hs)) (at x) (map at more) all)),
     )
 
-pub ours_first : {X : Type 0} (at : X → List AtLock) (hs : List AtHand) (rest more : List X) (x : X) (os : List AtLock) → rest ≡ x ∷ more → os ≡ at x → AreOurs (keepers_of hs) (map at rest) → locks_of os ≡ locks_of (keepers_of hs)
-ours_first {X} at hs rest more x os rest_is os_is ours =
-    let all : AreOurs (keepers_of hs) (at x ∷ map at more) = subst (λ (l : List X). AreOurs (keepers_of hs) (map at l)) rest_is ours in
-    ap locks_of os_is ∙ All-head (λ (crew : List AtLock). locks_of crew ≡ locks_of (keepers_of hs)) (at x) (map at more) all
-
 -- ---- the desk at a place
 
 row_at : (hs : List AtHand) (os : List AtLock) (place : ℕ) (h : AtHand) → locks_of os ≡ locks_of (keepers_of hs) → slice_get hs place ≡ Some h → slice_get (told_row hs os) place ≡ Some (told_one h (get_or os place nobody))

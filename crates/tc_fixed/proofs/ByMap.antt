@@ -1,5 +1,5 @@
 -- The limits of MAPs, and how large rooms are by them.
-use Rattle.std.proofs.Common.{◌≡◌, ◌≢◌, ℕ, zero, suc, ◌+◌, ◌-◌, ◌<◌, ◌≤◌, Bool, true, false, cond, eqb, List, [], ◌∷◌, length, get_or, replicate, refl, sym, ap, subst, ◌∙◌, inl, inr, arith}
+use Rattle.std.proofs.Common.{◌≡◌, ◌≢◌, ℕ, zero, suc, ◌+◌, ◌-◌, ◌<◌, ◌≤◌, Bool, true, false, cond, eqb, List, [], ◌∷◌, length, get_or, refl, sym, ap, subst, ◌∙◌, inl, inr, arith}
 use Rattle.std.specs.Prelude.{max, min, nat_lt}
 use Rattle.std.specs.List.{AllByRecursion, Contains}
 use Rattle.std.proofs.Math.ListN.{set}
@@ -14,7 +14,6 @@ use Rattle.tc_channel.specs.Memory.{largest_item}
 use Rattle.tc_rooms.specs.Runs.{Store, limit_at}
 use Rattle.tc_fixed.specs.Channel.{AreSmall, HaveLimits}
 use Rattle.tc_fixed.specs.Limits.{AreLimits, AreMapsApart, HaveOctets, item_size, largest_in, largest_limit, limit_in, limit_of}
-use Rattle.tc_fixed.specs.Storage.{limits_below}
 use Rattle.tc_fixed.specs.declared.limits.Limits.{Limits}
 use Rattle.tc_fixed.specs.declared.limits.MapLimit.{MapLimit}
 
@@ -48,10 +47,6 @@ limit-small (m ∷ ms) others map_id all small = by (eqb m.map map_id) (limit-sm
 
 pub each-small : (limits : Limits) (map_id : ℕ) → HaveOctets limits.maps → limits.others ≤ 65542 → limit_of limits map_id ≤ 65542
 each-small limits map_id all small = limit-small limits.maps limits.others map_id all small
-
--- where no MAP is listed, each has the limit of the others
-pub all-others : (limits : Limits) (map_id : ℕ) → limits.maps ≡ [] → limit_of limits map_id ≡ limits.others
-all-others limits map_id is = rw is refl
 
 -- a place is that of a stream
 pub place-split : (place : ℕ) → place < 128 → (service : Service) × (map_id : ℕ) × (map_id < 64) × (place ≡ place_of service map_id)
@@ -103,16 +98,8 @@ small-set [] i n all one = tt
 small-set (m ∷ ns) zero n all one = (one, all.1)
 small-set (m ∷ ns) (suc i) n all one = (all.0, small-set ns i n all.1 one)
 
-pub small-zeros : (count : ℕ) → AllByRecursion (λ (m : ℕ). m ≤ 65542) (replicate count 0)
-small-zeros zero = tt
-small-zeros (suc count) = (omega arith, small-zeros count)
-
 pub table-next : (f : ℕ → ℕ) (ns : List ℕ) (i n : ℕ) → i < length ns → n ≡ f i → ((k : ℕ) → k < i → get_or ns k 0 ≡ f k) → (k : ℕ) → k < i + 1 → get_or (set ns i n) k 0 ≡ f k
 table-next f ns i n inside is below k lt = elim (cases_eq k i) [
   | inl last ↦ rw last (get_or-set_same ns i n 0 inside ∙ is)
   | inr other ↦ get_or-set_other ns i k n 0 other ∙ below k (omega arith)
 ]
-
--- one more MAP
-pub below-next : (limits : Limits) (i : ℕ) → limits_below limits (i + 1) ≡ limits_below limits i + limit_of limits i
-below-next limits i = let e : i + 1 ≡ suc i = omega arith in rw e refl

@@ -1,5 +1,5 @@
 -- What waits in the queues, and what is taken from them.
-use Rattle.std.proofs.Common.{◌≡◌, ◌≢◌, ℕ, ◌<◌, ◌≤◌, List, [], ◌∷◌, ◌++◌, length, drop, Option, Some, None, refl, sym, ap, ◌∙◌, arith}
+use Rattle.std.proofs.Common.{◌≡◌, ◌≢◌, ℕ, ◌<◌, ◌≤◌, List, [], ◌∷◌, ◌++◌, length, drop, Option, Some, None, refl, sym, ap, ◌∙◌}
 use Rattle.std.specs.Prelude.{slice_get, option_map}
 use Rattle.std.specs.Option.{option_and_then}
 use Rattle.tc_channel.specs.HeldQueues.{queue_for, items_for}
@@ -58,14 +58,6 @@ waits key ws w item found first =
 pub none-over : (room : ℕ) (o : Option (List ℕ)) → o ≡ None → IsOver room o → ⊥
 none-over room None none over = over
 none-over room (Some item) none over = absurd cc
-
-pub fits-not-over : (room : ℕ) (o : Option (List ℕ)) (item : List ℕ) → o ≡ Some item → length item ≤ room → IsOver room o → ⊥
-fits-not-over room None item is le over = over
-fits-not-over room (Some other) item is le over = let e : length other ≡ length item = (let same : other ≡ item = cc in ap length same) in absurd (omega arith)
-
-pub is-over : (room : ℕ) (o : Option (List ℕ)) (item : List ℕ) → o ≡ Some item → room < length item → IsOver room o
-is-over room None item is lt = absurd cc
-is-over room (Some other) item is lt = let e : length other ≡ length item = (let same : other ≡ item = cc in ap length same) in omega arith
 
 -- an item was copied to the front
 pub laid : (o : Option (List ℕ)) (item old new : List ℕ) (count : ℕ) → o ≡ Some item → count ≡ length item → new ≡ item ++ drop (length item) old → IsLaid o count old new

@@ -12,7 +12,7 @@ use Rattle.tc_channel.specs.HeldQueues.{keys_of, AreDistinct, room_in, share, lo
 use Rattle.tc_channel.specs.declared.queues.HeldQueue.{HeldQueue}
 use Rattle.tc_channel.specs.declared.reply.Delivery.{Delivery}
 use Rattle.tc_channel.proofs.Copies.{put-set, put_all-push, length-put_all, longer-fits}
-use Rattle.tc_channel.proofs.Passes.{NoneFor, none-on, full-on, copy-on, as-many, under-way, all-shared}
+use Rattle.tc_channel.proofs.Passes.{NoneFor, none-on, full-on, copy-on, as-many, all-shared}
 use Rattle.tc_channel.proofs.Takes.{popped-at}
 use Rattle.tc_channel.proofs.Wholes.{take-nil, takes-one, takes-none, packets-planned, whole-planned, nothing-planned}
 use Rattle.tc_rooms.specs.Rooms.{slotted}
@@ -42,10 +42,6 @@ pub same-sizes : (qs : List FixedQueue) (i : ℕ) (q next : FixedQueue) → i < 
 same-sizes [] i q next inside is same = refl
 same-sizes (r ∷ qs) zero q next inside is same = ap (λ (n : ℕ). n ∷ room_sizes qs) (same ∙ ap (λ (x : FixedQueue). x.slots.size) is)
 same-sizes (r ∷ qs) (suc i) q next inside is same = ap (λ (x : List ℕ). r.slots.size ∷ x) (same-sizes qs i q next (omega arith) is same)
-
--- before the first packet
-pub at-start : (base : List HeldQueue) (all : List (List ℕ)) → IsOnItsWay base all all 0 base
-at-start base all = record { made = []; free = map room_in base; way = under-way base all [] (map room_in base) refl refl; now_is = refl; count = refl }
 
 -- no queue takes the packet
 pub way-none : (base now : List HeldQueue) (p : List ℕ) (left all : List (List ℕ)) (n : ℕ) → NoneFor p (keys_of now) → IsOnItsWay base (p ∷ left) all n now → IsOnItsWay base left all (n + 0) now

@@ -48,10 +48,6 @@ none-so-far limit a kept none = record {
   over_is = sym (le-ltb limit 0 (omega arith));
 }
 
--- no more than a line may have is kept
-pub kept-within : (limit : ℕ) (line kept : List ℕ) → kept ≡ take limit line → length kept ≤ limit
-kept-within limit line kept is = grind (arith, common_steps)
-
 kept-more : (limit : ℕ) (line kept octets : List ℕ) → kept ≡ take limit line → take limit (kept ++ octets) ≡ take limit (line ++ octets)
 kept-more limit line kept octets is = ap (λ l. take limit (l ++ octets)) is ∙ at (cases_lt limit (length line))
   where

@@ -37,9 +37,6 @@ pieces-joined (field ∷ fields) size rest each =
     ap (λ (xs : List ℕ). xs ++ joined_bodies fields) first ∙ ap (λ (xs : List ℕ). take size rest ++ xs) later ∙ take-more size (length fields * size) rest
     ∙ ap (λ (n : ℕ). take n rest) more
 
-only-part : part_at 0 1 ≡ Unsegmented
-only-part = refl
-
 first-part : (count : ℕ) → 2 ≤ count → part_at 0 count ≡ First
 first-part count more = grind (arith, nat_tests)
 

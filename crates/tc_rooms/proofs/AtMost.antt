@@ -4,7 +4,7 @@ use Rattle.std.proofs.lemmas.Bool.{le-leb, lt-leb, leb-true, leb-false}
 use Rattle.std.proofs.lemmas.List.{length-append}
 use Rattle.tc_packet.specs.declared.segment.Part.{Part}
 use Rattle.tc_packet.specs.declared.segment.Part.TheVariants.{First, Continuing, Last, Unsegmented}
-use Rattle.tc_packet.specs.Reassembly.{at_most, IsWithinLimit, bounded, extended, ended_by}
+use Rattle.tc_packet.specs.Reassembly.{at_most, bounded, extended, ended_by}
 use Rattle.tc_packet.specs.Runs.{next_run}
 use Rattle.tc_rooms.specs.Runs.{IsAtMost}
 
@@ -53,21 +53,11 @@ ended-at_most n Continuing run body small = refl
 ended-at_most n Last run body small = at_most-extended n run body small
 ended-at_most n Unsegmented run body small = refl
 
--- the largest unit is a limit that leaves what is within it
-pub at_most-largest : (o : Option (List ℕ)) → IsWithinLimit o → at_most 65542 o ≡ o
-at_most-largest None within = refl
-at_most-largest (Some octets) within = at_most-some 65542 octets within
-
 -- one more body in a room
 pub grown : (n : ℕ) (octets body : List ℕ) → n ≤ 65542 → length octets ≤ n → length body ≤ n - length octets → at_most n (extended (Some octets) body) ≡ Some (octets ++ body)
 grown n octets body small within fits =
     let l = length-append octets body in
     at_most-bounded n (octets ++ body) small ∙ at_most-some n (octets ++ body) (omega arith)
-
-pub overgrown : (n : ℕ) (octets body : List ℕ) → n ≤ 65542 → length octets ≤ n → n - length octets < length body → at_most n (extended (Some octets) body) ≡ None
-overgrown n octets body small within long =
-    let l = length-append octets body in
-    at_most-bounded n (octets ++ body) small ∙ at_most-none n (octets ++ body) (omega arith)
 
 pub opened : (n : ℕ) (body : List ℕ) → n ≤ 65542 → length body ≤ n → at_most n (bounded body) ≡ Some body
 opened n body small fits = at_most-bounded n body small ∙ at_most-some n body fits

@@ -3,12 +3,12 @@ use Rattle.std.proofs.Common.{◌≡◌, ◌≢◌, ℕ, zero, suc, ◌<◌, ◌
 use Rattle.std.specs.Prelude.{slice_get, option_map, if◌then◌else◌}
 use Rattle.std.specs.List.{AllByRecursion}
 use Rattle.std.proofs.Math.ListN.{set}
-use Rattle.std.proofs.lemmas.List.{length-map, length-set, map-set, get_or-map, get_or-set_same, get_or-set_other, set-get_or}
+use Rattle.std.proofs.lemmas.List.{length-map, map-set, get_or-map, get_or-set_same, get_or-set_other, set-get_or}
 use Rattle.tc_packet.specs.declared.segment.Part.{Part}
 use Rattle.tc_packet.specs.Segment.{header_of, body_of}
 use Rattle.tc_packet.specs.Reassembly.{at_most, bounded, run_at, run_left, open_run, unit_at, unit_ended, ended_by}
 use Rattle.tc_packet.specs.Runs.{next_run}
-use Rattle.tc_rooms.specs.Runs.{open_in, open_runs, sizes_of, limit_at, told, ended_by_stream, unit_in, Store, IsStore, LeaveWithin, IsThere, IsAtMost}
+use Rattle.tc_rooms.specs.Runs.{open_in, open_runs, sizes_of, limit_at, told, ended_by_stream, unit_in, Store, LeaveWithin, IsAtMost}
 use Rattle.tc_rooms.specs.declared.runs.Told.{Told}
 use Rattle.tc_rooms.specs.declared.runs.Ended.{Ended}
 use Rattle.tc_rooms.specs.declared.runs.Told.TheVariants as tolds
@@ -37,11 +37,6 @@ pub all-at : (P : Run → Type 0) (runs : List Run) (i : ℕ) (run : Run) → Al
 all-at P [] i run all inside is = absurd (omega arith)
 all-at P (r ∷ runs) zero run all inside is = rw is all.0
 all-at P (r ∷ runs) (suc i) run all inside is = all-at P runs i run all.1 (omega arith) is
-
-pub all-set : (P : Run → Type 0) (runs : List Run) (i : ℕ) (next : Run) → AllByRecursion P runs → P next → AllByRecursion P (set runs i next)
-all-set P [] i next all one = tt
-all-set P (r ∷ runs) zero next all one = (one, all.1)
-all-set P (r ∷ runs) (suc i) next all one = (all.0, all-set P runs i next all.1 one)
 
 pub here : (runs : List Run) (i : ℕ) (next : Run) → i < length runs → slice_get (set runs i next) i ≡ Some next
 here [] i next inside = absurd (omega arith)
@@ -164,32 +159,7 @@ passed-within {store} {i} {place} {run} {next} {t} {part} {field} {body} old p s
     subst (λ (m : ℕ). IsAtMost m (unit_in (ended_by_stream t i) (with_run store i next) field)) (sym n ∙ ap (λ (x : Store). limit_at x place) seen)
     (subst (IsAtMost run.room.size) (sym unit) (at_most-within run.room.size (ended_by part (open_in run) body)))
 
-pub passed-there : {store : Store} {i place : ℕ} {run next : Run} {t : Told} {part : Part} {field body : List ℕ} → IsPassed store i place run next t part field body → 0 < length field → IsThere (ended_by_stream t i) (with_run store i next) field
-passed-there {store} {i} {place} {run} {next} {t} {part} {field} p some = by t where
-  by : (t : Told) → IsThere (ended_by_stream t i) (with_run store i next) field
-  by tolds.Nothing = tt
-  by tolds.Body = omega arith
-  by tolds.Whole = let inside = p.inside in omega (arith, length-set store.runs i next)
-
--- the rooms after one run was written
-pub passed-store : {store : Store} {i place : ℕ} {run next : Run} {t : Told} {part : Part} {field body : List ℕ} → IsPassed store i place run next t part field body → IsStore store → length next.room.octets ≤ next.room.size → IsStore (with_run store i next)
-passed-store {store} {i} {place} {run} {next} p kept fits = record {
-  streams = λ on. length-set store.runs i next ∙ kept.streams on;
-  plain = λ off. length-set store.runs i next ∙ kept.plain off;
-  limits = all-set (λ (r : Run). r.room.size ≤ 65542) store.runs i next kept.limits (let small = p.small in let same = p.same_size in omega arith);
-  plain_limit = kept.plain_limit;
-  within = all-set (λ (r : Run). length r.room.octets ≤ r.room.size) store.runs i next kept.within fits;
-}
-
 -- where fields have no segment header
 pub plain-unit : (store : Store) (e : Ended) (limit place : ℕ) (fields : List (List ℕ)) (field : List ℕ) → store.segmented ≡ false → limit ≡ store.plain_limit → unit_in e store field ≡ at_most limit (bounded field)
     → unit_in e store field ≡ at_most (limit_at store place) (unit_ended store.segmented fields field)
 plain-unit store e limit place fields field off is unit = unit ∙ rw (off, is) refl
-
-pub plain-run : (store : Store) (place : ℕ) (fields : List (List ℕ)) (field : List ℕ) → store.segmented ≡ false → LeaveWithin fields store place → LeaveWithin (fields ++ field ∷ []) store place
-plain-run store place fields field off left = let left' : None ≡ run_at (map open_in store.runs) place = rw off at left in rw off left'
-
-pub plain-within : (store : Store) (e : Ended) (limit place : ℕ) (field : List ℕ) → store.segmented ≡ false → limit ≡ store.plain_limit → unit_in e store field ≡ at_most limit (bounded field) → IsAtMost (limit_at store place) (unit_in e store field)
-plain-within store e limit place field off is unit =
-    let n : limit ≡ limit_at store place = rw off is in
-    subst (λ (m : ℕ). IsAtMost m (unit_in e store field)) n (subst (IsAtMost limit) (sym unit) (at_most-within limit (bounded field)))

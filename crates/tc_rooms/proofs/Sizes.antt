@@ -1,33 +1,18 @@
 -- Rooms of one size.
-use Rattle.std.proofs.Common.{◌≡◌, ℕ, zero, suc, ◌+◌, ◌≤◌, ◌<◌, ◌-◌, ◌%◌, Bool, true, false, get_or, refl, Result, Ok, Err, if◌then◌else◌, length, List, [], ◌∷◌, ◌++◌, drop, map, replicate, ap, ◌∙◌, Option, Some, None, arith}
+use Rattle.std.proofs.Common.{◌≡◌, ℕ, ◌+◌, ◌≤◌, ◌<◌, ◌-◌, ◌%◌, Bool, true, false, get_or, refl, Result, Ok, Err, if◌then◌else◌, length, List, [], ◌∷◌, ◌++◌, replicate, ap, ◌∙◌, Some, arith}
 use Rattle.std.specs.Prelude.{slice_get, IfOk}
-use Rattle.std.proofs.lemmas.List.{map_push, length-append, get_or-replicate, replicate-append-replicate}
+use Rattle.std.proofs.lemmas.List.{length-append, get_or-replicate}
 use Rattle.circular_buffer.specs.Buffer.{Buffer, buffer, keep_last}
 use Rattle.tc_rooms.specs.Rooms.{Laid, HaveSize, AreSlots}
-use Rattle.tc_rooms.specs.Runs.{open_in, AreWithin}
-use Rattle.tc_rooms.specs.declared.runs.Run.{Run}
 
 pub size-push : (n : ℕ) (rooms : List Laid) (room : Laid) → HaveSize n rooms → room.size ≡ n → HaveSize n (rooms ++ room ∷ [])
 size-push n [] room all one = (one, tt)
 size-push n (r ∷ rooms) room all one = (all.0, size-push n rooms room all.1 one)
 
-pub size-drop : (k n : ℕ) (rooms : List Laid) → HaveSize n rooms → HaveSize n (drop k rooms)
-size-drop zero n rooms all = all
-size-drop (suc k) n [] all = all
-size-drop (suc k) n (r ∷ rooms) all = size-drop k n rooms all.1
-
 -- all but the last, and the last
 pub size-before : (n : ℕ) (rooms : List Laid) (room : Laid) → HaveSize n (rooms ++ room ∷ []) → HaveSize n rooms × (room.size ≡ n)
 size-before n [] room all = (tt, all.0)
 size-before n (r ∷ rooms) room all = let later = size-before n rooms room all.1 in ((all.0, later.0), later.1)
-
--- one more room with no run in it
-pub closed-push : (runs : List Run) (run : Run) (n : ℕ) → map open_in runs ≡ replicate n None → open_in run ≡ None → map open_in (runs ++ run ∷ []) ≡ replicate (n + 1) None
-closed-push runs run n are closed = map_push open_in runs run ∙ ap (λ (x : List (Option (List ℕ))). x ++ open_in run ∷ []) are ∙ ap (λ (x : Option (List ℕ)). replicate n None ++ x ∷ []) closed ∙ replicate-append-replicate n 1 None
-
-pub within-push : (runs : List Run) (run : Run) → AreWithin runs → length run.room.octets ≤ run.room.size → AreWithin (runs ++ run ∷ [])
-within-push [] run all one = (one, tt)
-within-push (r ∷ runs) run all one = (all.0, within-push runs run all.1 one)
 
 -- what follows for a value follows where there is one
 pub if-ok : {A E : Type 0} (P Q : A → Type 0) (r : Result A E) → ((x : A) → P x → Q x) → IfOk r P → IfOk r Q

@@ -1,11 +1,10 @@
 -- Settings looked at one after the other.
-use Rattle.std.proofs.Common.{◌≡◌, ◌≢◌, ℕ, ◌+◌, ◌<◌, List, length, take, get_or, sym, ap, ◌∙◌, inl, inr, subst, arith}
-use Rattle.std.specs.Prelude.{All, Any}
+use Rattle.std.proofs.Common.{◌≡◌, ◌≢◌, ℕ, ◌+◌, ◌<◌, List, length, take, get_or, sym, ap, ◌∙◌, inl, inr, arith}
+use Rattle.std.specs.Prelude.{Any}
 use Rattle.std.proofs.lemmas.Bool.{cases_eq}
 use Rattle.std.proofs.lemmas.List.{get_or-take, get_or_default, length-take}
 use Rattle.tc_channel.specs.declared.settings.Settings.{Settings}
 use Rattle.tc_channel.specs.Settings.{IsAllowed}
-use Rattle.tc_station.specs.StationSettings.{HaveDistinctVcids}
 
 -- the first i entries have distinct ids
 abbrev pub DistinctBelow : List Settings → ℕ → Type 0
@@ -21,22 +20,6 @@ distinct-more list i s lt is none below j k e jk ki same = elim (cases_eq k i) [
   | inr other ↦ below j k e jk (omega arith) same
 ]
 
-pub distinct-taken : (list : List Settings) (i : ℕ) → DistinctBelow list i → HaveDistinctVcids (take i list)
-distinct-taken list i below j k d jk kl same =
-    let ki : k < i = omega (arith, length-take i list) in
-    below j k d jk ki (ap (λ (t : Settings). t.vcid) (sym (get_or-take i list j d (omega arith))) ∙ same ∙ ap (λ (t : Settings). t.vcid) (get_or-take i list k d ki))
-
 -- the first i entries make channels
 abbrev pub AllowedBelow : List Settings → ℕ → Type 0
 AllowedBelow list i = (k : ℕ) (d : Settings) → k < i → IsAllowed (get_or list k d)
-
-pub allowed-more : (list : List Settings) (i : ℕ) (s : Settings) → i < length list → s ≡ get_or list i s → IsAllowed s → AllowedBelow list i → AllowedBelow list (i + 1)
-allowed-more list i s lt is here below k d ki = elim (cases_eq k i) [
-  | inl last ↦ subst IsAllowed (is ∙ (sym (get_or_default list i d s lt) ∙ ap (λ n. get_or list n d) (sym last))) here
-  | inr other ↦ below k d (omega arith)
-]
-
-pub allowed-taken : (list : List Settings) (i : ℕ) → AllowedBelow list i → All IsAllowed (take i list)
-allowed-taken list i below k d kl =
-    let ki : k < i = omega (arith, length-take i list) in
-    subst IsAllowed (sym (get_or-take i list k d ki)) (below k d ki)

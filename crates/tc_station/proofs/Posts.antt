@@ -23,9 +23,6 @@ settings-heads (p ∷ ps) = ap (λ (l : List Settings). p.own.seen.head.settings
 pub same-settings : (old new : List AtLock) → heads_of new ≡ heads_of old → settings_of new ≡ settings_of old
 same-settings old new same = settings-heads new ∙ (ap (map (λ (h : Identity). h.settings)) same ∙ sym (settings-heads old))
 
-pub as-many-posts : (posts : List AtLock) → length (settings_of posts) ≡ length posts
-as-many-posts posts = length-map posts (λ (o : AtLock). o.own.seen.head.settings)
-
 -- posts that were given back are the station's
 pub length-same : (old new : List AtLock) → AreSame old new → length new ≡ length old
 length-same old new same = sym (length-map new (λ (o : AtLock). o.lock)) ∙ (ap (length {A = TableId}) same.0 ∙ length-map old (λ (o : AtLock). o.lock))

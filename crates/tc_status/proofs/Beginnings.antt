@@ -3,7 +3,7 @@ use Rattle.std.proofs.Common.{List, [], ◌∷◌, ◌++◌, refl, ap, sym, ◌�
 use Rattle.std.proofs.lemmas.List.{append-nil}
 use mathlib.Core.List.{IsPrefix}
 use Rattle.tc_channel.specs.declared.event.Event.{Event}
-use Rattle.tc_channel.specs.Journal.{History, with_event}
+use Rattle.tc_channel.specs.Journal.{History}
 use Rattle.tc_status.specs.Board.{IsBeginning}
 
 prefix-self : (es : List Event) → IsPrefix es es
@@ -17,7 +17,3 @@ beginning-self h = (refl, prefix-self h.journal)
 
 pub beginning-trans : (a b c : History) → IsBeginning a b → IsBeginning b c → IsBeginning a c
 beginning-trans a b c p q = (q.0 ∙ p.0, prefix-trans a.journal b.journal c.journal p.1 q.1)
-
--- for a crate above: a channel that answered one more event may be published
-pub beginning-with_event : (h : History) (e : Event) → IsBeginning h (with_event h e)
-beginning-with_event h e = (refl, (e ∷ [], refl))
