@@ -1,109 +1,170 @@
-//! Filling a channel.
+//! Filling a channel, by rows of like things. A key is an application or a MAP.
 
-use crate::field::{FIRST, LARGEST_FIELD, LAST, PACKETS};
-use crate::filler::{Filler, NOTHING, ONE, Way};
+use crate::filler::{
+    CONTINUING, DROPPED, FIRST, Filler, Items, Kind, LAST, NOTHING, ONE, PACKETS, UNSEGMENTED,
+    segment,
+};
 use crate::form::Form;
 use crate::plan::{LIMITED, Plan};
-use crate::rows::{Piece, Row, play};
 use anyhow::Result;
-use tc_channel::{FlightChannel, Items, Settings};
-use tc_fixed::{FixedChannel, Limits, MapLimit, storage, storage_with_limits};
+use tc_fixed::{FixedChannel, Limits, MapLimit, storage_with_limits};
 
-/// Makes the channel in flight of a plan, tells the bound of its memory, and fills it, with a line before and after each.
-pub(crate) fn print<R: AllocGlobal + Print>(rt: &R, plan: &Plan) -> Result<()> {
-    let settings = plan.settings(rt.alloc())?;
-    println!(rt; "bound {}", settings.memory_bound())?;
-    print_full::<FlightChannel, R>(rt, plan, settings)
+/// What a row brings for a key.
+#[derive(Clone, Copy)]
+pub(crate) enum Piece {
+    /// The largest packet that a data field without a segment header has, for the application.
+    Plain(Kind),
+    /// An unsegmented packet of seven octets for the application.
+    Packet,
+    /// A segment on the MAP with these sequence flags, and so many octets.
+    Segment(Kind, u8, u16),
+    /// A run of as many octets as the largest unit, which is left open on the MAP.
+    Run(Kind),
+    /// The largest packet for the application, with all its segments.
+    LargestPacket,
+    /// The largest unit on the MAP, with all its segments.
+    LargestUnit,
 }
 
-/// The same with the channel in rooms, of which it tells what its making asks for.
-pub(crate) fn print_fixed<R: AllocGlobal + Print>(rt: &R, plan: &Plan) -> Result<()> {
-    let settings = plan.settings(rt.alloc())?;
-    println!(rt; "storage {}", storage(&settings))?;
-    print_full::<FixedChannel, R>(rt, plan, settings)
+/// A piece for each of the keys in turn, the first of which and their number is given; how many in all; and how many items of each are
+/// queued and dropped.
+pub(crate) type Row = (Piece, (u16, u16), u16, Items);
+
+// A unit of one segment; segments of Type-BD that begin a unit, go on and end one; and a first one that waits in the buffer.
+const UNIT: Piece = Piece::Segment(Kind::Bypassing, UNSEGMENTED, 7);
+
+const BEGUN: Piece = Piece::Segment(Kind::Bypassing, FIRST, 1_018);
+
+const GONE_ON: Piece = Piece::Segment(Kind::Bypassing, CONTINUING, 1);
+
+const ENDED: Piece = Piece::Segment(Kind::Bypassing, LAST, 0);
+
+const BUFFERED: Piece = Piece::Segment(Kind::Next, FIRST, 1_018);
+
+/// What fills the queues and the buffer of the plain channel.
+pub(crate) static PLAIN_ROWS: [Row; 2] = [
+    (Piece::Plain(Kind::Bypassing), (0, 2), 8, ONE),
+    (Piece::Plain(Kind::Next), (0, 1), 4, NOTHING),
+];
+
+/// Frames of a sender who means harm, for the channel of `MANY`: 70 queues of two packets, and three chosen MAPs of three units. Each
+/// is answered as the model says, whatever came before.
+pub(crate) static HOSTILE_ROWS: [Row; 16] = [
+    // A thousand first segments over 16 MAPs: each begins the run of its MAP anew, and none ends.
+    (BEGUN, (0, 16), 1_000, NOTHING),
+    // Packets for queues that are empty and then full, and for none, and units likewise.
+    (Piece::Packet, (0, 70), 140, ONE),
+    (Piece::Packet, (0, 70), 140, DROPPED),
+    (Piece::Packet, (70, 1), 1, DROPPED),
+    (UNIT, (0, 3), 9, ONE),
+    (UNIT, (0, 3), 9, DROPPED),
+    // On each MAP of each service a run of as many octets as a unit may have; then one octet more, which drops it, and an end, which
+    // ends nothing.
+    (Piece::Run(Kind::Released), (0, 64), 64, NOTHING),
+    (Piece::Run(Kind::Bypassing), (0, 64), 64, NOTHING),
+    (GONE_ON, (0, 64), 64, NOTHING),
+    (ENDED, (0, 64), 64, NOTHING),
+    (
+        Piece::Segment(Kind::Released, CONTINUING, 1),
+        (0, 64),
+        64,
+        NOTHING,
+    ),
+    // A run of as many octets as a unit may have, whose end finds its queue full, and a run that is never ended.
+    (Piece::Run(Kind::Bypassing), (0, 1), 1, NOTHING),
+    (ENDED, (0, 1), 1, DROPPED),
+    (Piece::Run(Kind::Bypassing), (63, 1), 1, NOTHING),
+    (ENDED, (63, 1), 1, DROPPED),
+    (BEGUN, (63, 1), 1, NOTHING),
+];
+
+// What fills the queues with these packets and largest units, opens a run on each MAP of each service, fills the buffer, and makes
+// units that find no room. Where the last are of runs that are beyond their limits, they end nothing.
+fn filling_rows(plan: &Plan, packet: Piece, ended: Items) -> [Row; 8] {
+    let (queues, packets) = plan.queues;
+    let packets = queues.saturating_mul(packets);
+    let maps = u16::from(plan.maps.0);
+    let units = maps.saturating_mul(plan.maps.1);
+    [
+        (packet, (0, queues), packets, ONE),
+        (Piece::LargestUnit, (0, maps), units, ONE),
+        (Piece::Run(Kind::Released), (0, 64), 64, NOTHING),
+        (Piece::Run(Kind::Bypassing), (0, 64), 64, NOTHING),
+        (BUFFERED, (63, 1), u16::from(plan.buffer), NOTHING),
+        (ENDED, (0, 1), 1, ended),
+        (ENDED, (63, 1), 1, ended),
+        (Piece::Packet, (0, 1), 1, DROPPED),
+    ]
 }
 
-/// The same of a channel within limits: of 1,024 octets for the MAP of packets, and of none for each other MAP.
+/// What fills a channel with segment headers by largest packets and units.
+pub(crate) fn largest_rows(plan: &Plan) -> [Row; 8] {
+    filling_rows(plan, Piece::LargestPacket, DROPPED)
+}
+
+/// Makes the channel of a plan, tells the memory that it takes, and brings it these rows, with a line before and after.
+pub(crate) fn print<F: Form, R: AllocGlobal + Print>(
+    rt: &R,
+    plan: &Plan,
+    rows: &[Row],
+) -> Result<()> {
+    let settings = plan.settings(rt.alloc())?;
+    let (name, octets) = F::memory(&settings);
+    println!(rt; "{name} {octets}")?;
+    print_rows(rt, F::made(rt.alloc(), settings)?, rows)
+}
+
+/// The same of a channel in rooms within limits: of 1,024 octets for the MAP of packets, and of none for each other MAP.
 pub(crate) fn print_limited<R: AllocGlobal + Print>(rt: &R) -> Result<()> {
     let settings = LIMITED.settings(rt.alloc())?;
     let limit = MapLimit {
         map: PACKETS,
         octets: 1_024,
     };
-    let maps = Items::from(Vec::from_slice(rt.alloc(), &[limit])?);
+    let maps = Vec::from_slice(rt.alloc(), &[limit])?.into();
     let limits = Limits { others: 0, maps };
     println!(rt; "storage {}", storage_with_limits(&settings, &limits))?;
     let channel = FixedChannel::with_limits(rt.alloc(), settings, limits)?;
-    print_rows(rt, channel, &limited_rows(&LIMITED))
+    print_rows(rt, channel, &filling_rows(&LIMITED, Piece::Packet, NOTHING))
 }
 
-// Makes the channel and fills it, with a line after each.
-fn print_full<F: Form, R: AllocGlobal + Print>(
-    rt: &R,
-    plan: &Plan,
-    settings: Settings,
-) -> Result<()> {
-    let channel = F::made(rt.alloc(), settings)?;
-    if plan.segmented {
-        print_rows(rt, channel, &segmented_rows(plan))
-    } else {
-        print_rows(rt, channel, &plain_rows(plan))
-    }
-}
-
-/// Brings these rows to a channel that was just made, with a line before and after.
-pub(crate) fn print_rows<F: Form>(rt: &impl Print, channel: F, rows: &[Row]) -> Result<()> {
+fn print_rows<F: Form>(rt: &impl Print, channel: F, rows: &[Row]) -> Result<()> {
     println!(rt; "made")?;
-    let mut filler = Filler { channel, ns: 0 };
-    play(&mut filler, rows)?;
+    let mut filler = Filler::new(channel);
+    for row in rows {
+        play(&mut filler, *row)?;
+    }
     println!(rt; "full")?;
     Ok(())
 }
 
-// What fills the queues and the buffer of a plain channel.
-fn plain_rows(plan: &Plan) -> [Row; 2] {
-    let packets = plan.queues.saturating_mul(plan.packets);
-    let buffer = u16::from(plan.buffer);
-    [
-        (Piece::Plain(Way::Bypassing), (0, plan.queues), packets, ONE),
-        (Piece::Plain(Way::Buffered), (0, 1), buffer, NOTHING),
-    ]
+fn play<F: Form>(filler: &mut Filler<F>, (piece, (first, keys), count, items): Row) -> Result<()> {
+    for turn in 0..count {
+        let key = first.wrapping_add(turn % keys.max(1));
+        bring_piece(filler, piece, key, items)?;
+    }
+    Ok(())
 }
 
-// What fills the queues with largest packets and units, opens a run on each MAP of each service, fills the buffer, and makes units that
-// find no room.
-fn segmented_rows(plan: &Plan) -> [Row; 7] {
-    let packets = plan.queues.saturating_mul(plan.packets);
-    let maps = u16::from(plan.maps);
-    let units = maps.saturating_mul(plan.units);
-    let first = Piece::Segment(Way::Buffered, FIRST, LARGEST_FIELD);
-    let last = Piece::Segment(Way::Bypassing, LAST, 1);
-    let map = u16::from(PACKETS);
-    [
-        (Piece::LargestPacket, (0, plan.queues), packets, ONE),
-        (Piece::LargestUnit, (0, maps), units, ONE),
-        (Piece::Run(Way::Released), (0, 64), 64, NOTHING),
-        (Piece::Run(Way::Bypassing), (0, 64), 64, NOTHING),
-        (first, (map, 1), u16::from(plan.buffer), NOTHING),
-        (last, (0, 1), 1, (0, 1)),
-        (last, (map, 1), 1, (0, 1)),
-    ]
-}
-
-// What fills the queues with packets, brings runs that are beyond their limits to each MAP of each service, fills the buffer, and makes
-// units that find no room.
-fn limited_rows(plan: &Plan) -> [Row; 7] {
-    let packets = plan.queues.saturating_mul(plan.packets);
-    let first = Piece::Segment(Way::Buffered, FIRST, LARGEST_FIELD);
-    let last = Piece::Segment(Way::Bypassing, LAST, 1);
-    let map = u16::from(PACKETS);
-    [
-        (Piece::Packet, (0, plan.queues), packets, ONE),
-        (Piece::Run(Way::Released), (0, 64), 64, NOTHING),
-        (Piece::Run(Way::Bypassing), (0, 64), 64, NOTHING),
-        (first, (map, 1), u16::from(plan.buffer), NOTHING),
-        (last, (0, 1), 1, NOTHING),
-        (last, (map, 1), 1, NOTHING),
-        (Piece::Packet, (0, 1), 1, (0, 1)),
-    ]
+fn bring_piece<F: Form>(
+    filler: &mut Filler<F>,
+    piece: Piece,
+    key: u16,
+    items: Items,
+) -> Result<()> {
+    let map = (key % 64) as u8;
+    filler.apid = match piece {
+        Piece::Plain(_) | Piece::Packet | Piece::LargestPacket => key,
+        _ => 0,
+    };
+    match piece {
+        Piece::Plain(kind) => filler.bring(kind, (None, 1_012, 1_019), items),
+        Piece::Packet => filler.bring(Kind::Bypassing, (Some(UNSEGMENTED | PACKETS), 0, 7), items),
+        Piece::Segment(kind, flags, count) => {
+            filler.bring(kind, segment(flags | map, count), items)
+        }
+        Piece::Run(kind) => filler.open(kind, map),
+        Piece::LargestPacket => filler.bring_largest(PACKETS, items),
+        Piece::LargestUnit => filler.bring_largest(map, items),
+    }
 }

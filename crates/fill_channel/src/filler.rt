@@ -1,11 +1,31 @@
 //! A channel, and what is brought to it.
 
-use crate::field::{CONTINUING, FIRST, Field, Kind, LARGEST_FIELD, LAST, octets_of, segment};
 use crate::form::Form;
 use anyhow::{Result, anyhow};
-use std::alloc::Global;
-use tc_channel::{Delivery, FrameReply, Settings};
-use tc_link::{Act, Frame, read_frame};
+use tc_channel::{Delivery, FrameReply};
+use tc_link::{Act, read_frame};
+
+/// The sequence flags of a segment header (CCSDS 232.0-B, 4.1.3.2.2), its two highest bits.
+pub(crate) const CONTINUING: u8 = 0x00;
+
+pub(crate) const FIRST: u8 = 0x40;
+
+pub(crate) const LAST: u8 = 0x80;
+
+pub(crate) const UNSEGMENTED: u8 = 0xc0;
+
+/// A MAP that no plan chooses: packets go on it.
+pub(crate) const PACKETS: u8 = 63;
+
+/// The most octets of a unit in one segment.
+pub(crate) const BODY: u16 = 1_018;
+
+/// The number in the length field of a packet that is the largest unit.
+pub(crate) const LARGEST: u16 = 0xffff;
+
+/// A data field: its segment header, if it has one; the number in the length field of each packet of its unit; and how many octets
+/// of the unit it has.
+pub(crate) type Field = (Option<u8>, u16, u16);
 
 /// How many items of a unit are queued, and how many dropped.
 pub(crate) type Items = (u32, u32);
@@ -14,20 +34,21 @@ pub(crate) const NOTHING: Items = (0, 0);
 
 pub(crate) const ONE: Items = (1, 0);
 
-/// How a data field comes to a channel.
-#[derive(Clone, Copy)]
-pub(crate) enum Way {
-    /// By a Type-AD frame, into the buffer.
-    Buffered,
-    /// By a Type-AD frame and its release.
-    Released,
-    /// By a Type-BD frame.
-    Bypassing,
-}
+pub(crate) const DROPPED: Items = (0, 1);
 
-/// The frame at the front of the octets.
-pub(crate) fn frame_in(octets: &[u8]) -> Result<Frame<'_>> {
-    Ok(read_frame(octets)?)
+/// Kinds of frames, by what FARM-1 makes of them (CCSDS 232.0-B, 4.1.2.3).
+#[derive(Clone, Copy)]
+pub(crate) enum Kind {
+    /// The Type-AD frame that is expected, for which there is room.
+    Next,
+    /// The same, which is then released.
+    Released,
+    /// A Type-AD frame with the N(S) of the one before, which is discarded.
+    Again,
+    /// A Type-BD frame.
+    Bypassing,
+    /// The control command Unlock.
+    Unlock,
 }
 
 fn delivery_of((queued, dropped): Items) -> Delivery {
@@ -38,47 +59,100 @@ fn delivery_of((queued, dropped): Items) -> Delivery {
     }
 }
 
-// Fails where a frame of this kind is answered otherwise than by its event of FARM-1's table, with so many items.
-fn check_reply(kind: Kind, items: Items, reply: FrameReply) -> Result<()> {
-    let (event, accepted) = match kind {
-        Kind::Next => (1, true),
-        Kind::Again => (4, false),
-        Kind::Bypassing => (6, true),
-        Kind::Unlock => (7, false),
+// What a frame of this kind is answered by FARM-1's table, with so many items.
+fn reply_of(kind: Kind, items: Items) -> FrameReply {
+    let (event, accepted, items) = match kind {
+        Kind::Next => (1, true, items),
+        Kind::Released => (1, true, NOTHING),
+        Kind::Again => (4, false, items),
+        Kind::Bypassing => (6, true, items),
+        Kind::Unlock => (7, false, items),
     };
-    let wanted = FrameReply {
+    FrameReply {
         act: Act { event, accepted },
         delivery: delivery_of(items),
-    };
-    if reply == wanted {
-        Ok(())
-    } else {
-        Err(anyhow!("answered {reply:?}"))
     }
 }
 
-/// A channel, and the N(S) of its next Type-AD frame.
+/// A segment that has the front of the largest packet.
+pub(crate) fn segment(header: u8, count: u16) -> Field {
+    (Some(header), LARGEST, count)
+}
+
+/// A channel, the N(S) of its next Type-AD frame, the application whose packets are brought, and the place in their unit at which a
+/// data field begins.
 #[derive(Drop)]
 pub(crate) struct Filler<F: Form> {
     pub(crate) channel: F,
     pub(crate) ns: u8,
+    pub(crate) apid: u16,
+    pub(crate) from: usize,
 }
 
 impl<F: Form> Filler<F> {
-    /// The channel of these settings, whose V(R) is 0 first.
-    pub(crate) fn new(alloc: Global, settings: Settings) -> Result<Filler<F>> {
-        let channel = F::made(alloc, settings)?;
-        Ok(Filler { channel, ns: 0 })
+    /// A channel whose V(R) is 0.
+    pub(crate) fn new(channel: F) -> Filler<F> {
+        Filler {
+            channel,
+            ns: 0,
+            apid: 0,
+            from: 0,
+        }
+    }
+
+    // The octet at this place of a data field's part of its unit. Those after the headers of packets are 0.
+    fn octet(&self, length: u16, place: usize) -> u8 {
+        let [first, second] = (self.apid % 2_048).to_be_bytes();
+        let [fifth, sixth] = length.to_be_bytes();
+        match self.from.wrapping_add(place) % (7 + usize::from(length)) {
+            0 => 0x10 | first,
+            1 => second,
+            2 => 0xc0,
+            4 => fifth,
+            5 => sixth,
+            _ => 0,
+        }
+    }
+
+    /// The octets of a frame of this kind for spacecraft 42 and virtual channel 1; fill comes after it.
+    pub(crate) fn octets(&self, kind: Kind, (header, length, count): Field) -> [u8; 1024] {
+        let (flags, ns) = match kind {
+            Kind::Next | Kind::Released => (0x00, self.ns),
+            Kind::Again => (0x00, self.ns.wrapping_sub(1)),
+            Kind::Bypassing => (0x20, 0),
+            Kind::Unlock => (0x30, 0),
+        };
+        let front = if header.is_some() { 6 } else { 5 };
+        let end = (front + usize::from(count)).min(1_024);
+        let mut octets = [0; 1024];
+        octets[0] = flags;
+        octets[1] = 42;
+        octets[2] = 4 + ((end - 1) / 256) as u8;
+        octets[3] = ((end - 1) % 256) as u8;
+        octets[4] = ns;
+        octets[5] = header.unwrap_or(0);
+        for (place, octet) in octets[front..end].iter_mut().enumerate() {
+            *octet = self.octet(length, place);
+        }
+        octets
     }
 
     /// Brings a frame, of whose unit so many items must be queued and dropped.
-    pub(crate) fn bring(&mut self, kind: Kind, field: &Field, items: Items) -> Result<()> {
-        let octets = octets_of(kind, self.ns, field);
-        let reply = self.channel.bring(&frame_in(&octets)?)?;
-        if let Kind::Next = kind {
-            self.ns = self.ns.wrapping_add(1);
+    pub(crate) fn bring(&mut self, kind: Kind, field: Field, items: Items) -> Result<()> {
+        let octets = self.octets(kind, field);
+        let reply = self.channel.bring(&read_frame(&octets)?)?;
+        if reply != reply_of(kind, items) {
+            return Err(anyhow!("answered {reply:?}"));
         }
-        check_reply(kind, items, reply)
+        match kind {
+            Kind::Next => self.ns = self.ns.wrapping_add(1),
+            Kind::Released => {
+                self.ns = self.ns.wrapping_add(1);
+                self.release(items)?;
+            }
+            _ => {}
+        }
+        Ok(())
     }
 
     /// Releases a data field, of whose unit so many items must be queued and dropped.
@@ -91,32 +165,19 @@ impl<F: Form> Filler<F> {
         }
     }
 
-    /// Brings a data field in this way.
-    pub(crate) fn pass(&mut self, way: Way, field: &Field, items: Items) -> Result<()> {
-        match way {
-            Way::Buffered => self.bring(Kind::Next, field, items),
-            Way::Released => {
-                self.bring(Kind::Next, field, NOTHING)?;
-                self.release(items)
-            }
-            Way::Bypassing => self.bring(Kind::Bypassing, field, items),
-        }
-    }
-
     /// Opens a run that has as many octets as the largest unit, and whose room was doubled once too often: six octets and then as
     /// many as a segment has make 1,024, of which the largest unit is 64 times as many and six more.
-    pub(crate) fn open(&mut self, way: Way, map: u8, apid: u16) -> Result<()> {
-        self.pass(way, &segment(FIRST | map, apid, 7), NOTHING)?;
+    pub(crate) fn open(&mut self, kind: Kind, map: u8) -> Result<()> {
+        self.bring(kind, segment(FIRST | map, 6), NOTHING)?;
         for _ in 0..64 {
-            let next = segment(CONTINUING | map, apid, LARGEST_FIELD);
-            self.pass(way, &next, NOTHING)?;
+            self.bring(kind, segment(CONTINUING | map, BODY), NOTHING)?;
         }
-        self.pass(way, &segment(CONTINUING | map, apid, 385), NOTHING)
+        self.bring(kind, segment(CONTINUING | map, 384), NOTHING)
     }
 
-    /// The largest unit on a MAP, which must be queued. Its last segment has no octet of its own.
-    pub(crate) fn queue_largest(&mut self, map: u8, apid: u16) -> Result<()> {
-        self.open(Way::Bypassing, map, apid)?;
-        self.pass(Way::Bypassing, &segment(LAST | map, apid, 1), ONE)
+    /// Brings the largest unit on a MAP. Its last segment has no octet of its own.
+    pub(crate) fn bring_largest(&mut self, map: u8, items: Items) -> Result<()> {
+        self.open(Kind::Bypassing, map)?;
+        self.bring(Kind::Bypassing, segment(LAST | map, 0), items)
     }
 }

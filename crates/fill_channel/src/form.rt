@@ -4,14 +4,14 @@ use crate::seen::{NO_FLAG, call_clcw, call_drop_oldest_unit, call_new, call_take
 use anyhow::{Result, anyhow};
 use std::alloc::Global;
 use tc_channel::{ChannelWith, Delivery, FrameReply, Journal, Settings};
-use tc_fixed::FixedChannel;
+use tc_fixed::{FixedChannel, storage};
 use tc_link::Frame;
-
-// The most octets of a packet or a unit that is taken here.
-const TAKEN: usize = 1_024;
 
 /// What is done to a channel of whatever form.
 pub(crate) trait Form: Drop {
+    /// What bounds the memory of a channel of these settings, and how many octets it is.
+    fn memory(settings: &Settings) -> (&'static str, u64);
+
     /// The channel of these settings.
     fn made(alloc: Global, settings: Settings) -> Result<Self>;
 
@@ -32,6 +32,10 @@ pub(crate) trait Form: Drop {
 }
 
 impl<J: Journal> Form for ChannelWith<J> {
+    fn memory(settings: &Settings) -> (&'static str, u64) {
+        ("bound", settings.memory_bound())
+    }
+
     fn made(alloc: Global, settings: Settings) -> Result<ChannelWith<J>> {
         Ok(ChannelWith::new(alloc, settings)?)
     }
@@ -62,6 +66,10 @@ impl<J: Journal> Form for ChannelWith<J> {
 // What `worst` makes once, for another program to see, is made here by the same functions, but for frames and releases: those come
 // before it, too.
 impl Form for FixedChannel {
+    fn memory(settings: &Settings) -> (&'static str, u64) {
+        ("storage", storage(settings))
+    }
+
     fn made(alloc: Global, settings: Settings) -> Result<FixedChannel> {
         Ok(call_new(alloc, settings)?)
     }
@@ -75,8 +83,7 @@ impl Form for FixedChannel {
     }
 
     fn take_packet(&mut self, apid: u16) -> Result<()> {
-        let mut octets = [0; TAKEN];
-        call_take(self, apid, &mut octets)?;
+        call_take(self, apid, &mut [0; 1_024])?;
         Ok(())
     }
 

@@ -9,73 +9,46 @@
 #![tactic(auto)]
 
 mod calls;
-mod field;
 mod fill;
 mod filler;
 mod form;
-mod hostile;
 mod plan;
-mod rows;
 mod seen;
 mod worst;
 
-use anyhow::Result;
+use anyhow::{Result, anyhow};
+use fill::{HOSTILE_ROWS, PLAIN_ROWS, largest_rows};
 use plan::{MANY, ONE, PLAIN};
 use std::env;
-use std::env::Env;
-use std::process::ExitCode;
 use tc_channel::{Channel, FlightChannel};
 use tc_fixed::FixedChannel;
 
-/// The exit status of a bad command line.
-const BAD_COMMAND_LINE: u8 = 2;
-
-fn main(rt: HostRuntime) -> ExitCode {
-    match words(&rt) {
-        Ok(words) => obey(&rt, words.as_slice()),
-        Err(error) => {
-            let _ = eprintln!(rt; "{error:#}");
-            ExitCode::from(BAD_COMMAND_LINE)
+fn main(rt: HostRuntime) -> Result<()> {
+    let words: Vec<String> = env::args(&rt)?.collect(rt.alloc())?;
+    match words.as_slice() {
+        [_, word] => obey(&rt, word.as_str()),
+        [_, word, call, queues] if word.as_str() == "fixed_worst" => {
+            worst::print(&rt, call.as_str(), queues.as_str())
         }
+        _ => obey(&rt, ""),
     }
 }
 
-// The words of the command line.
-fn words<R: Env + AllocGlobal>(rt: &R) -> Result<Vec<String>> {
-    Ok(env::args(rt)?.collect(rt.alloc())?)
-}
-
-fn obey<R: AllocGlobal + Print + Eprint>(rt: &R, words: &[String]) -> ExitCode {
-    let (word, call, queues) = match words {
-        [_, word] => (word.as_str(), "", ""),
-        [_, word, call, queues] => (word.as_str(), call.as_str(), queues.as_str()),
-        _ => ("", "", ""),
-    };
-    let done = match word {
-        "plain" => fill::print(rt, &PLAIN),
-        "one" => fill::print(rt, &ONE),
-        "many" => fill::print(rt, &MANY),
+fn obey<R: AllocGlobal + Print>(rt: &R, word: &str) -> Result<()> {
+    match word {
+        "plain" => fill::print::<FlightChannel, R>(rt, &PLAIN, &PLAIN_ROWS),
+        "one" => fill::print::<FlightChannel, R>(rt, &ONE, &largest_rows(&ONE)),
+        "many" => fill::print::<FlightChannel, R>(rt, &MANY, &largest_rows(&MANY)),
         "calls" => calls::print::<FlightChannel, R>(rt),
         "kept" => calls::print::<Channel, R>(rt),
-        "fixed_plain" => fill::print_fixed(rt, &PLAIN),
-        "fixed_one" => fill::print_fixed(rt, &ONE),
-        "fixed_many" => fill::print_fixed(rt, &MANY),
+        "fixed_plain" => fill::print::<FixedChannel, R>(rt, &PLAIN, &PLAIN_ROWS),
+        "fixed_one" => fill::print::<FixedChannel, R>(rt, &ONE, &largest_rows(&ONE)),
+        "fixed_many" => fill::print::<FixedChannel, R>(rt, &MANY, &largest_rows(&MANY)),
+        "fixed_hostile" => fill::print::<FixedChannel, R>(rt, &MANY, &HOSTILE_ROWS),
         "fixed_limited" => fill::print_limited(rt),
         "fixed_calls" => calls::print::<FixedChannel, R>(rt),
-        "fixed_hostile" => hostile::print(rt),
-        "fixed_worst" => worst::print(rt, call, queues),
-        _ => {
-            let _ = eprintln!(rt;
-                "usage: fill_channel [fixed_](plain | one | many | calls) | kept | fixed_limited | fixed_hostile | fixed_worst CALL QUEUES"
-            );
-            return ExitCode::from(BAD_COMMAND_LINE);
-        }
-    };
-    match done {
-        Ok(()) => ExitCode::SUCCESS,
-        Err(error) => {
-            let _ = eprintln!(rt; "{error:#}");
-            ExitCode::FAILURE
-        }
+        _ => Err(anyhow!(
+            "usage: fill_channel [fixed_](plain | one | many | calls), kept, fixed_limited, fixed_hostile, fixed_worst CALL QUEUES"
+        )),
     }
 }

@@ -84,13 +84,3 @@ pub(crate) fn call_clcw(channel: &FixedChannel) -> u32 {
 pub(crate) fn call_report(channel: &FixedChannel) -> Report {
     channel.report()
 }
-
-#[inline(never)]
-pub(crate) fn call_buffered(channel: &FixedChannel) -> usize {
-    channel.buffered()
-}
-
-#[inline(never)]
-pub(crate) fn call_events(channel: &FixedChannel) -> u64 {
-    channel.events()
-}

@@ -8,6 +8,7 @@ mod work;
 ghost use Rattle.std.specs.Prelude.{◌≡◌, All, length};
 ghost use Rattle.tc_station.specs.Tally.{IsOurs};
 
+use self::Call::{Frame, Release, Take, TakeUnit};
 use std::alloc::Global;
 use std::process::Abort;
 use tc_channel::{Channel, Delivery, Event, FrameReply, Items, Settings};
@@ -26,11 +27,13 @@ const CHANNEL: Wanted<'static> = Wanted {
     ..WANTED
 };
 
-// A BD frame for the same channel with two packets, and its reply.
+// A BD frame for the same channel with `PACKET` and another one, and its reply.
 const TWO_PACKETS: [u8; 20] = [
     0x20, 0x2a, 0x04, 0x13, 0x00, 0xc0, 0x10, 0x05, 0xc0, 0x00, 0x00, 0x00, 0xaa, 0x10, 0x05, 0xc0,
     0x01, 0x00, 0x00, 0xbb,
 ];
+
+const OTHER: [u8; 7] = [0x10, 0x05, 0xc0, 0x01, 0x00, 0x00, 0xbb];
 
 const BYPASSED: FrameReply = FrameReply {
     act: Act {
@@ -44,26 +47,51 @@ const BYPASSED: FrameReply = FrameReply {
     },
 };
 
-// A call, and what a frame is answered. In a table it stands between the name that it is told by where memory was wanting, and the
-// CLCW after it.
+// A call, what a frame is answered, and what is taken. In a table it stands between the name that it is told by where memory was
+// wanting, and the CLCW after it.
 #[derive(Clone, Copy)]
 enum Call<'a> {
     Frame(&'a [u8], FrameReply),
-    FrameWatched(&'a [u8], FrameReply),
     Release,
-    Take,
+    Take(&'a [u8]),
     TakeUnit(&'a [u8]),
 }
+
+// The journal grows with the first event and with the fifth, which is a take: it makes no other growth.
+const PACKETS: [(&str, Call<'static>, u32); 8] = [
+    ("event 1", Frame(&FRAME, BUFFERED), 0x01040001),
+    ("event 2", Frame(&NEXT, NO_ROOM), 0x01041801),
+    ("event 4", Frame(&FRAME, BEHIND), 0x01041801),
+    ("release, a packet", Release, 0x01040801),
+    ("take", Take(&PACKET), 0x01040801),
+    ("event 6", Frame(&TWO_PACKETS, BYPASSED), 0x01040a01),
+    ("take", Take(&PACKET), 0x01040a01),
+    ("take", Take(&OTHER), 0x01040a01),
+];
+
+// The fifth event is the take of a unit, which makes no other growth.
+const UNITS: [(&str, Call<'static>, u32); 5] = [
+    ("event 1, a unit", Frame(&AD_UNIT, BUFFERED), 0x01040001),
+    ("release, a unit", Release, 0x01040001),
+    ("event 6, a unit", Frame(&BD_UNIT, DELIVERED), 0x01040201),
+    ("take_unit", TakeUnit(&UNIT), 0x01040201),
+    ("take_unit", TakeUnit(&UNIT), 0x01040201),
+];
 
 // The event of a call that was answered. One growth may be refused.
 fn event_of(rt: &impl Abort, alloc: Global, call: Call) -> Event {
     match call {
-        Call::Frame(octets, _) => frame_event(alloc, octets).expect(rt, "an event"),
-        Call::FrameWatched(octets, _) => frame_event(alloc, octets).expect(rt, "an event"),
-        Call::Release => Event::Release,
-        Call::Take => Event::Take(5),
-        Call::TakeUnit(_) => Event::TakeUnit(3),
+        Frame(octets, _) => frame_event(alloc, octets).expect(rt, "an event"),
+        Release => Event::Release,
+        Take(_) => Event::Take(5),
+        TakeUnit(_) => Event::TakeUnit(3),
     }
+}
+
+// A call was refused, for memory.
+fn note_refusal(rt: &(impl Abort + Print), call: &str, is_for_memory: bool) {
+    let _ = println!(rt; "refused: {call}");
+    assert!(rt; is_for_memory, "{call}: another refusal");
 }
 
 // The settings alone, as a station takes them.
@@ -71,20 +99,15 @@ fn list_of_settings(rt: &impl Abort, alloc: Global) -> Vec<Settings> {
     list_of(alloc, settings(alloc, &CHANNEL).expect(rt, "settings")).expect(rt, "a list")
 }
 
-fn station_once(rt: &impl Abort, alloc: Global) -> Result<Station, StationFault> {
-    Station::new(alloc, 42, list_of_settings(rt, alloc))
-}
-
 // A station of this channel for spacecraft 42. One growth may be refused.
 fn new_station(rt: &(impl Abort + Print), alloc: Global) -> Station {
-    match station_once(rt, alloc) {
-        Ok(station) => station,
-        Err(StationFault::NoMemory) => {
-            let _ = println!(rt; "refused: Station::new");
-            station_once(rt, alloc).expect(rt, "a station")
+    for _ in 0..2 {
+        match Station::new(alloc, 42, list_of_settings(rt, alloc)) {
+            Ok(station) => return station,
+            Err(fault) => note_refusal(rt, "Station::new", fault == StationFault::NoMemory),
         }
-        Err(_) => panic!(rt; "another refusal"),
     }
+    panic!(rt; "refused twice")
 }
 
 // So many operators of the station. One growth may be refused.
@@ -94,11 +117,10 @@ fn new_operators(rt: &(impl Abort + Print), station: &mut Station, n: u16) -> Ve
 {
     match station.operators(n) {
         Ok(operators) => operators,
-        Err(OperatorsFault::NoMemory) => {
-            let _ = println!(rt; "refused: operators");
+        Err(fault) => {
+            note_refusal(rt, "operators", fault == OperatorsFault::NoMemory);
             station.operators(n).expect(rt, "operators")
         }
-        Err(_) => panic!(rt; "another refusal"),
     }
 }
 
@@ -128,20 +150,12 @@ fn closed_together(
 ) -> Vec<Channel>
     requires { All (IsOurs station) operators.items }
 {
-    match station.close_together(operators) {
-        Ok(channels) => channels,
-        Err(left) => {
-            let _ = println!(rt; "refused: close_together");
-            assert!(rt; left.refusal == Refusal::NoMemory);
-            closed_at_last(rt, left.station, left.operators)
-        }
-    }
-}
-
-fn closed_at_last(rt: &impl Abort, station: Station, operators: Vec<Operator>) -> Vec<Channel>
-    requires { All (IsOurs station) operators.items }
-{
-    match station.close_together(operators) {
+    let left = match station.close_together(operators) {
+        Ok(channels) => return channels,
+        Err(left) => left,
+    };
+    note_refusal(rt, "close_together", left.refusal == Refusal::NoMemory);
+    match left.station.close_together(left.operators) {
         Ok(channels) => channels,
         Err(_) => panic!(rt; "not closed"),
     }

@@ -7,7 +7,7 @@ mod status;
 mod together;
 mod work;
 
-ghost use Rattle.std.specs.Prelude.{◌≡◌, ◌∷◌, [], All, length};
+ghost use Rattle.std.specs.Prelude.{◌≡◌, All, length};
 ghost use Rattle.tc_station.specs.StationSettings.{vcids_of};
 ghost use Rattle.tc_station.specs.Tally.{IsOurs};
 
@@ -41,11 +41,16 @@ const UNIT_BROUGHT: Brought = Brought {
     reply: DELIVERED,
 };
 
-// Settings for this virtual channel.
+// Settings for this virtual channel, with room for 64 data fields.
 fn settings_for(rt: &impl Abort, alloc: Global, vcid: u8) -> Settings
     ensures { result.vcid ≡ vcid }
 {
-    settings(alloc, &Wanted { vcid, ..WANTED }).expect(rt, "settings")
+    let wanted = Wanted {
+        vcid,
+        buffer: 64,
+        ..WANTED
+    };
+    settings(alloc, &wanted).expect(rt, "settings")
 }
 
 // Settings for each of these virtual channels.
@@ -57,20 +62,6 @@ fn settings_of(rt: &impl Abort, alloc: Global, vcids: &[u8]) -> Vec<Settings>
         list.push(settings_for(rt, alloc, *vcid)).expect(rt, "room");
     }
     list
-}
-
-// Settings for channels 1 and 2, with room for 64 data fields each.
-fn settings_of_two(rt: &impl Abort, alloc: Global) -> Vec<Settings>
-    ensures { vcids_of result.items ≡ 1 ∷ 2 ∷ [] }
-{
-    let first = Wanted {
-        buffer: 64,
-        ..WANTED
-    };
-    let second = Wanted { vcid: 2, ..first };
-    let first = settings(alloc, &first).expect(rt, "settings");
-    let second = settings(alloc, &second).expect(rt, "settings");
-    vec![in alloc; first, second].expect(rt, "a list")
 }
 
 // A station for spacecraft 42.

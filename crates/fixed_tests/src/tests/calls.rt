@@ -1,31 +1,24 @@
-//! Calls that no script reaches, and what each answers.
+//! Calls that no script reaches, what each answers, and the text of each fault.
 
-use super::Step::{Counts, DropOldest, DropUnit, Frame, Lends, Take, TakeUnit};
+use super::Step::{Counts, DropOldest, DropUnit, Field, Frame, Lends, Take, TakeUnit};
 use super::*;
+use LimitsFault::{BadLimit, BadMap, BadOthers, DoubleMap, PlainMap, UnlistedMap};
 
-// Another packet in a Type-BD frame, a third one, and units of MAP 3: of an octet, of none, and of two.
+// Another packet, unsegmented on MAP 0.
 const OTHER: [u8; 7] = [0x10, 0x05, 0xc0, 0x01, 0x00, 0x00, 0xbb];
 
-const OTHER_BYPASSED: [u8; 13] = [
-    0x20, 0x2a, 0x04, 0x0c, 0x00, 0xc0, 0x10, 0x05, 0xc0, 0x01, 0x00, 0x00, 0xbb,
-];
-
-const UNIT_OF_ONE: [u8; 7] = [0x20, 0x2a, 0x04, 0x06, 0x00, 0xc3, 1];
-
-const UNIT_OF_NONE: [u8; 6] = [0x20, 0x2a, 0x04, 0x05, 0x00, 0xc3];
-
-const UNIT_OF_TWO: [u8; 8] = [0x20, 0x2a, 0x04, 0x07, 0x00, 0xc3, 2, 3];
+const OTHER_FIELD: [u8; 8] = [0xc0, 0x10, 0x05, 0xc0, 0x01, 0x00, 0x00, 0xbb];
 
 // One packet or unit was dropped, since its queue was full.
 const DROPPED: FrameReply = FrameReply {
     delivery: Delivery {
-        queued: 0,
         dropped: 1,
-        rest: false,
+        ..NOTHING
     },
     ..PASSED
 };
 
+// Units of MAP 3 have an octet, none, and two.
 static QUEUES: [Step<'static>; 32] = [
     Lends(None, None),
     Take(5, 16, Err(NothingTaken::Empty)),
@@ -37,12 +30,12 @@ static QUEUES: [Step<'static>; 32] = [
     DropUnit(3, false),
     DropUnit(4, false),
     Counts(0, Some(0), Some(0), 0),
-    Frame(&BYPASSED, DELIVERED),
-    Frame(&OTHER_BYPASSED, DELIVERED),
-    Frame(&BYPASSED, DROPPED),
-    Frame(&UNIT_OF_ONE, DELIVERED),
-    Frame(&UNIT_OF_NONE, DELIVERED),
-    Frame(&UNIT_OF_TWO, DROPPED),
+    Frame(&BD_PACKET, DELIVERED),
+    Field(&OTHER_FIELD, DELIVERED),
+    Frame(&BD_PACKET, DROPPED),
+    Field(&[0xc3, 1], DELIVERED),
+    Field(&[0xc3], DELIVERED),
+    Field(&[0xc3, 2, 3], DROPPED),
     Counts(0, Some(2), Some(2), 6),
     Lends(Some(&PACKET), Some(&[1])),
     Take(5, 6, Err(NothingTaken::NoRoom)),
@@ -51,8 +44,8 @@ static QUEUES: [Step<'static>; 32] = [
     Take(5, 7, Ok(&PACKET)),
     TakeUnit(3, 1, Ok(&[1])),
     Lends(Some(&OTHER), Some(&[])),
-    Frame(&BYPASSED, DELIVERED),
-    Frame(&UNIT_OF_TWO, DELIVERED),
+    Frame(&BD_PACKET, DELIVERED),
+    Field(&[0xc3, 2, 3], DELIVERED),
     DropOldest(5, true),
     TakeUnit(3, 0, Ok(&[])),
     Lends(Some(&PACKET), Some(&[2, 3])),
@@ -64,8 +57,8 @@ static QUEUES: [Step<'static>; 32] = [
 // Items come out in the order in which they came, from rooms that are used again and again; what is refused is no event.
 #[test]
 fn packets_and_units_in_their_queues(rt: HostRuntime) {
-    let settings = settings(rt.alloc()).expect(&rt, "settings");
-    Run::new(rt.alloc(), settings)
+    let settings = settings(&rt, rt.alloc(), &BOTH);
+    Run::new(rt.alloc(), settings, None)
         .expect(&rt, "a channel")
         .play(&rt, &QUEUES)
 }
@@ -73,24 +66,20 @@ fn packets_and_units_in_their_queues(rt: HostRuntime) {
 #[test]
 fn what_a_new_channel_reports(rt: HostRuntime) {
     let alloc = rt.alloc();
-    let mut wanted = settings(alloc).expect(&rt, "settings");
-    wanted.first = 7;
-    let mut same = settings(alloc).expect(&rt, "settings");
-    same.first = 7;
-    let channel = FixedChannel::new(alloc, wanted).expect(&rt, "a channel");
-    assert_eq!(&rt; *channel.settings(), same);
+    let wanted = Wanted { first: 7, ..BOTH };
+    let made_by = settings(&rt, alloc, &wanted);
+    let channel = FixedChannel::new(alloc, made_by).expect(&rt, "a channel");
+    assert_eq!(&rt; *channel.settings(), settings(&rt, alloc, &wanted));
     assert_eq!(&rt; channel.report().vr, 7);
     let _past = channel.past();
 }
 
 #[test]
 fn settings_of_no_channel(rt: HostRuntime) {
-    let mut wanted = settings(rt.alloc()).expect(&rt, "settings");
-    wanted.buffer = 0;
-    match FixedChannel::new(rt.alloc(), wanted) {
-        Ok(_) => panic!(&rt; "a channel"),
-        Err(fault) => assert_eq!(&rt; fault, SettingsFault::BadBuffer),
-    }
+    let wanted = Wanted { buffer: 0, ..BOTH };
+    let settings = settings(&rt, rt.alloc(), &wanted);
+    let fault = FixedChannel::new(rt.alloc(), settings).err();
+    assert_eq!(&rt; fault, Some(SettingsFault::BadBuffer));
 }
 
 static TAKE_TEXTS: [(NothingTaken, &str); 3] = [
@@ -111,18 +100,30 @@ static TAKE_UNIT_TEXTS: [(NoUnitTaken, &str); 3] = [
     (NoUnitTaken::NoRoom, "no room for the unit"),
 ];
 
+static LIMITS_TEXTS: [(LimitsFault, &str); 7] = [
+    (
+        LimitsFault::Settings(SettingsFault::BadVcid),
+        "bad virtual channel identifier",
+    ),
+    (
+        BadOthers,
+        "bad limit of the other multiplexer access points",
+    ),
+    (BadMap, "bad multiplexer access point of a limit"),
+    (DoubleMap, "two limits of one multiplexer access point"),
+    (BadLimit, "bad limit of a multiplexer access point"),
+    (
+        PlainMap,
+        "a limit of a multiplexer access point without segment headers",
+    ),
+    (UnlistedMap, "no limit of a chosen multiplexer access point"),
+];
+
 #[test]
 fn the_text_of_each_fault(rt: HostRuntime) {
-    for (fault, text) in &TAKE_TEXTS {
-        check_text(&rt, rt.alloc(), fault, text)
-    }
-    for (fault, text) in &TAKE_UNIT_TEXTS {
-        check_text(&rt, rt.alloc(), fault, text)
-    }
-    check_text(
-        &rt,
-        rt.alloc(),
-        &NothingReleased::Empty,
-        "the buffer is empty",
-    )
+    let alloc = rt.alloc();
+    assert!(&rt; have_texts(alloc, &TAKE_TEXTS));
+    assert!(&rt; have_texts(alloc, &TAKE_UNIT_TEXTS));
+    assert!(&rt; have_texts(alloc, &[(NothingReleased::Empty, "the buffer is empty")]));
+    assert!(&rt; have_texts(alloc, &LIMITS_TEXTS));
 }

@@ -1,9 +1,13 @@
 //! What is done to a channel, step by step, and what it answers.
 
 use super::*;
+use std::fmt::Debug;
+use tc_link::read_frame;
 
 pub enum Step<'a> {
     Frame(&'a [u8], FrameReply),
+    // The Type-BD frame that carries this data field, of 32 octets at most.
+    Field(&'a [u8], FrameReply),
     Release(Delivery),
     // Into so many octets, 16 at most.
     Take(u16, usize, Result<&'a [u8], NothingTaken>),
@@ -19,10 +23,23 @@ pub enum Step<'a> {
 // Octets that nothing was copied to yet.
 const UNTOUCHED: u8 = 0xee;
 
-// So many octets of the item were copied to the front, or none where nothing was taken; what comes behind them stays.
-fn check_copied(rt: &impl Abort, count: Option<usize>, octets: &[u8], item: Option<&[u8]>) {
-    assert_eq!(rt; count, item.map(|item| item.len()));
-    let item = item.unwrap_or(&[]);
+// The item was copied to the front of the octets, or nothing was taken, for this reason; what comes behind them stays.
+fn check_taken<E: Copy + Debug + PartialEq>(
+    rt: &impl Abort,
+    answer: Result<usize, E>,
+    octets: &[u8],
+    expected: Result<&[u8], E>,
+) {
+    let item: &[u8] = match expected {
+        Ok(item) => {
+            assert_eq!(rt; answer.ok(), Some(item.len()));
+            item
+        }
+        Err(fault) => {
+            assert_eq!(rt; answer.err(), Some(fault));
+            &[]
+        }
+    };
     for (place, octet) in octets.iter().enumerate() {
         assert_eq!(rt; *octet, item.get(place).copied().unwrap_or(UNTOUCHED));
     }
@@ -34,17 +51,16 @@ pub struct Run {
 }
 
 impl Run {
-    pub fn new(alloc: Global, settings: Settings) -> Result<Run, SettingsFault> {
-        let channel = FixedChannel::new(alloc, settings)?;
-        Ok(Run { channel })
-    }
-
-    pub fn with_limits(
+    // A channel by these settings, within limits or without.
+    pub fn new(
         alloc: Global,
         settings: Settings,
-        limits: Limits,
+        limits: Option<Limits>,
     ) -> Result<Run, LimitsFault> {
-        let channel = FixedChannel::with_limits(alloc, settings, limits)?;
+        let channel = match limits {
+            Some(limits) => FixedChannel::with_limits(alloc, settings, limits)?,
+            None => FixedChannel::new(alloc, settings)?,
+        };
         Ok(Run { channel })
     }
 
@@ -53,30 +69,12 @@ impl Run {
         assert_eq!(rt; self.channel.frame(&frame), expected);
     }
 
-    fn take(
-        &mut self,
-        rt: &impl Abort,
-        apid: u16,
-        room: usize,
-        expected: Result<&[u8], NothingTaken>,
-    ) {
-        let mut octets = [UNTOUCHED; 16];
-        let answer = self.channel.take(apid, &mut octets[..room.min(16)]);
-        assert_eq!(rt; answer.err(), expected.err());
-        check_copied(rt, answer.ok(), &octets, expected.ok())
-    }
-
-    fn take_unit(
-        &mut self,
-        rt: &impl Abort,
-        map: u8,
-        room: usize,
-        expected: Result<&[u8], NoUnitTaken>,
-    ) {
-        let mut octets = [UNTOUCHED; 16];
-        let answer = self.channel.take_unit(map, &mut octets[..room.min(16)]);
-        assert_eq!(rt; answer.err(), expected.err());
-        check_copied(rt, answer.ok(), &octets, expected.ok())
+    fn field(&mut self, rt: &impl Abort, field: &[u8], expected: FrameReply) {
+        assert!(rt; field.len() <= 32);
+        let mut octets = [0; 37];
+        octets[..5].copy_from_slice(&[0x20, 0x2a, 0x04, field.len() as u8 + 4, 0x00]);
+        octets[5..field.len() + 5].copy_from_slice(field);
+        self.frame(rt, &octets, expected)
     }
 
     // It lends this packet for APID 5 and this unit of MAP 3, and nothing where there is no queue.
@@ -104,11 +102,19 @@ impl Run {
     }
 
     fn step(&mut self, rt: &impl Abort, step: &Step<'_>) {
+        let mut octets = [UNTOUCHED; 16];
         match *step {
             Step::Frame(octets, expected) => self.frame(rt, octets, expected),
+            Step::Field(field, expected) => self.field(rt, field, expected),
             Step::Release(expected) => assert_eq!(rt; self.channel.release(), Ok(expected)),
-            Step::Take(apid, room, expected) => self.take(rt, apid, room, expected),
-            Step::TakeUnit(map, room, expected) => self.take_unit(rt, map, room, expected),
+            Step::Take(apid, room, expected) => {
+                let answer = self.channel.take(apid, &mut octets[..room.min(16)]);
+                check_taken(rt, answer, &octets, expected)
+            }
+            Step::TakeUnit(map, room, expected) => {
+                let answer = self.channel.take_unit(map, &mut octets[..room.min(16)]);
+                check_taken(rt, answer, &octets, expected)
+            }
             Step::DropOldest(apid, expected) => assert_eq!(rt;
                 self.channel.drop_oldest(apid),
                 expected

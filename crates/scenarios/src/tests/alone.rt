@@ -1,18 +1,40 @@
 //! What operations are answered, and a channel that stands alone.
 
 use super::*;
-use tc_channel::{Channel, ChannelWith, Delivery};
+use tc_cli::Refusal;
 use tc_link::read_frame;
-use tc_station::{BringFault, Brought, LocateFault, ReleaseRefused, TakeRefused};
-use tc_text::Line;
+use tc_station::LocateFault;
 
-// What a station answers to the operation of a line. That of a frame has the CLCW that follows it, and that of a take its APID.
+// What a station answers to the operation of a line. That of a take has its APID.
 #[derive(Drop, PartialEq)]
 pub(super) enum Answer {
-    Frame(Result<(Brought, Option<u32>), BringFault>),
+    Frame(Result<Brought, BringFault>),
     Release(Result<Delivery, ReleaseRefused>),
     Take(u16, Result<Vec<u8>, TakeRefused>),
     Clcw(Option<u32>),
+}
+
+// What a script prints of the answer on channel 1.
+pub(super) fn printed(rt: &impl Abort, answer: Answer) -> tc_cli::Answer {
+    let vcid = 1;
+    match answer {
+        Answer::Frame(Ok(Brought { vcid, reply })) => tc_cli::Answer::Frame { vcid, reply },
+        Answer::Frame(Err(BringFault::Locate(fault))) => refused(Refusal::Unlocated(fault)),
+        Answer::Release(Ok(delivery)) => tc_cli::Answer::Release { vcid, delivery },
+        Answer::Release(Err(ReleaseRefused::Empty)) => refused(Refusal::Empty),
+        Answer::Take(apid, Ok(packet)) => {
+            let packet = Octets::from(packet);
+            tc_cli::Answer::Take { vcid, apid, packet }
+        }
+        Answer::Take(_, Err(TakeRefused::NoQueue)) => refused(Refusal::NoQueue),
+        Answer::Take(_, Err(TakeRefused::Empty)) => refused(Refusal::Empty),
+        Answer::Clcw(Some(word)) => tc_cli::Answer::Clcw { vcid, word },
+        _ => panic!(rt; "an answer that no script has"),
+    }
+}
+
+fn refused(refusal: Refusal) -> tc_cli::Answer {
+    tc_cli::Answer::Refused(refusal)
 }
 
 #[derive(Drop)]
@@ -35,16 +57,12 @@ impl Alone {
     }
 
     // Octets that arrive are answered as a station with this channel answers them.
-    fn bring(
-        &mut self,
-        rt: &impl Abort,
-        octets: &[u8],
-    ) -> Result<(Brought, Option<u32>), BringFault> {
+    fn bring(&mut self, rt: &impl Abort, octets: &[u8]) -> Result<Brought, BringFault> {
         match read_frame(octets) {
             Ok(frame) => {
                 let vcid = self.vcid();
                 let reply = self.channel.frame(&frame).expect(rt, "an answer");
-                Ok((Brought { vcid, reply }, Some(self.clcw())))
+                Ok(Brought { vcid, reply })
             }
             Err(fault) => Err(BringFault::Locate(LocateFault::Frame(fault))),
         }
@@ -76,11 +94,5 @@ impl Alone {
         assert_eq!(rt; closed.buffered(), self.channel.buffered());
         assert_eq!(rt; closed.queued(5), self.channel.queued(5));
         assert!(rt; closed.settings() == self.channel.settings());
-    }
-
-    // The same journal, which may be too long to be shown.
-    pub(super) fn check_journal(&self, rt: &impl Abort, closed: &Channel) {
-        let alike = closed.journal() == self.channel.journal();
-        assert!(rt; alike, "the journals differ");
     }
 }

@@ -3,40 +3,45 @@
 ghost use Rattle.std.specs.Prelude.{◌≡◌, All};
 ghost use Rattle.tc_station.specs.Tally.{IsOurs};
 
-use super::alone::{Alone, Answer};
-use super::texts::text_of;
+use super::alone::{Alone, Answer, printed};
 use super::*;
-use tc_channel::{Channel, ChannelWith, Delivery, Event, FlightChannel, Kept, Octets, Unkept};
-use tc_station::{BringFault, Brought, ReleaseRefused, TakeRefused};
-use tc_text::{Line, parse_line};
 
-// What is done on virtual channel 1 of stations and of channels with this width, buffer and first V(R): lines of a script, and what
-// each is answered.
-#[derive(Clone, Copy)]
+// What is done on virtual channel 1 of stations and of channels: lines of a script, and what each is answered.
 pub(super) struct Row<'a> {
     pub(super) name: &'a str,
-    pub(super) shape: (u8, u8, u8),
     pub(super) script: &'a str,
     pub(super) answers: &'a str,
 }
 
-// How frames are brought to the station.
-#[derive(Clone, Copy)]
-enum Bringing {
-    Plain,
-    // With a watcher of each frame's channel.
-    Watched,
+// Settings of channel 1, and of channel 2, which are the same but for their first V(R).
+fn settings(rt: &impl Abort, alloc: Global, vcid: u8, first: u8) -> Settings {
+    let wanted = Wanted {
+        vcid,
+        first,
+        ..WANTED
+    };
+    test_parts::settings(alloc, &wanted).expect(rt, "settings")
 }
 
-// Settings of channel 2: its first V(R) is 100.
-fn second_settings(rt: &impl Abort, alloc: Global, (width, buffer, _): (u8, u8, u8)) -> Settings {
-    settings(rt, alloc, 2, (width, buffer, 100))
+fn first_settings(rt: &impl Abort, alloc: Global) -> Settings {
+    settings(rt, alloc, 1, 0)
 }
 
-// A station for spacecraft 42 with virtual channels 2 and 1, in this order, and one operator.
+fn second_settings(rt: &impl Abort, alloc: Global) -> Settings {
+    settings(rt, alloc, 2, 100)
+}
+
+// A channel's CLCW with both link flags 0, as a new watcher reads it, if the station has that channel.
+fn status_of<J: Journal>(station: &StationOf<J>, rt: &impl Wait, vcid: u8) -> Option<u32> {
+    let mut watcher = station.watcher(rt, vcid).ok()?;
+    Some(station.watch(&mut watcher, NO_FLAG))
+}
+
+// A station for spacecraft 42 with virtual channels 2 and 1, in this order, and one operator. Frames are brought plainly, or with a
+// watcher of their channel.
 #[derive(Drop)]
 struct Crew<J: Journal> {
-    bringing: Bringing,
+    is_watched: bool,
     station: StationOf<J>,
     operator: Operator,
     ghost ours: { IsOurs station operator },
@@ -57,46 +62,36 @@ fn only_operator<J: Journal>(rt: &impl Abort, station: &mut StationOf<J>) -> Ope
 }
 
 impl<J: Journal> Crew<J> {
-    fn new(rt: &impl Abort, alloc: Global, bringing: Bringing, list: Vec<Settings>) -> Crew<J> {
+    fn new(rt: &impl Abort, alloc: Global, is_watched: bool) -> Crew<J> {
+        let first = first_settings(rt, alloc);
+        let list = vec![in alloc; second_settings(rt, alloc), first].expect(rt, "a list");
         let mut station = StationOf::new(alloc, 42, list).expect(rt, "a station");
         let operator = only_operator(rt, &mut station);
         Crew {
-            bringing,
+            is_watched,
             station,
             operator,
         }
     }
 
-    // Brings octets. With the CLCW of the frame's channel after it.
-    fn bring(
-        &mut self,
-        rt: &impl Wait,
-        octets: &[u8],
-    ) -> Result<(Brought, Option<u32>), BringFault> {
-        match self.bringing {
-            Bringing::Plain => self.bring_plain(rt, octets),
-            Bringing::Watched => self.bring_watched(rt, octets),
+    fn bring(&mut self, rt: &(impl Wait + Abort), octets: &[u8]) -> Result<Brought, BringFault> {
+        if self.is_watched {
+            self.bring_watched(rt, octets)
+        } else {
+            self.station.bring(rt, &mut self.operator, octets)
         }
     }
 
-    // A watcher that is made afterwards reads the CLCW.
-    fn bring_plain(
-        &mut self,
-        rt: &impl Wait,
-        octets: &[u8],
-    ) -> Result<(Brought, Option<u32>), BringFault> {
-        let brought = self.station.bring(rt, &mut self.operator, octets)?;
-        Ok((brought, status_of(&self.station, rt, brought.vcid)))
-    }
-
-    // The watcher that is made with the frame reads it at once.
+    // The watcher that is made with the frame reads at once what one reads that is made afterwards.
     fn bring_watched(
         &mut self,
-        rt: &impl Wait,
+        rt: &(impl Wait + Abort),
         octets: &[u8],
-    ) -> Result<(Brought, Option<u32>), BringFault> {
-        let (brought, mut watcher) = self.station.bring_watched(rt, &mut self.operator, octets)?;
-        Ok((brought, Some(self.station.watch(&mut watcher, NO_FLAG))))
+    ) -> Result<Brought, BringFault> {
+        let (brought, mut own) = self.station.bring_watched(rt, &mut self.operator, octets)?;
+        let word = self.station.watch(&mut own, NO_FLAG);
+        assert!(rt; status_of(&self.station, rt, brought.vcid) == Some(word));
+        Ok(brought)
     }
 
     fn release(&mut self, rt: &impl Wait, vcid: u8) -> Result<Delivery, ReleaseRefused> {
@@ -118,32 +113,18 @@ impl<J: Journal> Crew<J> {
         }
     }
 
-    // The station, and a list of its one operator.
-    fn into_parts(self, rt: &impl Abort, alloc: Global) -> (StationOf<J>, Vec<Operator>)
-        ensures { All (λ o. o.vcids ≡ result.0.vcids) result.1.items }
-    {
+    // The channels of the closed station.
+    fn close(self, rt: &impl Abort, alloc: Global) -> Vec<ChannelWith<J>> {
         let Crew {
-            bringing: _,
+            is_watched: _,
             station,
             operator,
         } = self;
-        let mut operators = Vec::new(alloc);
-        operators.push(operator).expect(rt, "a list");
-        (station, operators)
-    }
-}
-
-impl Crew<Kept> {
-    fn close(self, rt: &impl Abort, alloc: Global) -> Vec<Channel> {
-        let (station, operators) = self.into_parts(rt, alloc);
-        station.close(operators).expect(rt, "a closed station")
-    }
-}
-
-impl Crew<Unkept> {
-    fn close(self, rt: &impl Abort, alloc: Global) -> Vec<FlightChannel> {
-        let (station, operators) = self.into_parts(rt, alloc);
-        station.close(operators).expect(rt, "a closed station")
+        let operators = list_of(alloc, operator).expect(rt, "a list");
+        match station.close_together(operators) {
+            Ok(channels) => channels,
+            Err(_) => panic!(rt; "not closed"),
+        }
     }
 }
 
@@ -174,31 +155,14 @@ fn without_fill(octets: &[u8]) -> Option<&[u8]> {
     octets.get(..length)
 }
 
-// The event that a journal has of a frame that came with these octets. Nothing is noted of octets without a frame.
-fn event_of_frame(rt: &impl Abort, alloc: Global, octets: &[u8]) -> Option<Event> {
-    let frame = without_fill(octets)?;
-    let octets = Octets::copied(alloc, frame).expect(rt, "the octets");
-    Some(Event::Frame(octets))
-}
-
-// The event that a journal has of an operation that is not refused. Nothing is noted of a CLCW.
-fn event_of(rt: &impl Abort, alloc: Global, line: &Line) -> Option<Event> {
+// The event that a journal has of an operation that is not refused. Nothing is noted of a CLCW, or of octets without a frame.
+fn event_of(alloc: Global, line: &Line) -> Option<Event> {
     match line {
-        Line::Frame(octets) => event_of_frame(rt, alloc, octets.as_slice()),
+        Line::Frame(octets) => frame_event(alloc, without_fill(octets.as_slice())?).ok(),
         Line::Release(_) => Some(Event::Release),
         Line::Take(_, apid) => Some(Event::Take(*apid)),
         _ => None,
     }
-}
-
-fn line_of(rt: &impl Abort, alloc: Global, line: &str) -> Line {
-    parse_line(alloc, line.as_bytes()).expect(rt, "a line")
-}
-
-// The answer has this text.
-fn check_text(rt: &impl Abort, alloc: Global, name: &str, answer: &Answer, expected: &str) {
-    let told = text_of(alloc, answer).expect(rt, "a text");
-    assert_eq!(rt; told.as_str(), expected, "{name}");
 }
 
 // The same frame for virtual channel 2 in place of 1.
@@ -229,12 +193,11 @@ struct Replay {
 }
 
 impl Replay {
-    // Channel 1 has this shape. Channel 2 has the same, but for its first V(R).
-    fn new(rt: &impl Abort, alloc: Global, shape: (u8, u8, u8)) -> Replay {
+    fn new(rt: &impl Abort, alloc: Global) -> Replay {
         Replay {
             alloc,
-            first: Alone::new(rt, alloc, settings(rt, alloc, 1, shape)),
-            second: Alone::new(rt, alloc, second_settings(rt, alloc, shape)),
+            first: Alone::new(rt, alloc, first_settings(rt, alloc)),
+            second: Alone::new(rt, alloc, second_settings(rt, alloc)),
             journal: Vec::new(alloc),
         }
     }
@@ -262,17 +225,11 @@ impl Replay {
 
     // The journal is to have the event of an operation that was answered so, unless it was refused.
     fn note(&mut self, rt: &impl Abort, event: Option<Event>, answered: &str) {
-        if answered.starts_with("refused ") {
-            return;
-        }
         if let Some(event) = event {
-            self.journal.push(event).expect(rt, "a journal");
+            if !answered.starts_with("refused ") {
+                note(&mut self.journal, event).expect(rt, "a journal");
+            }
         }
-    }
-
-    fn check_journal(&self, rt: &impl Abort, name: &str) {
-        let alike = self.first.channel.journal() == self.journal.as_slice();
-        assert!(rt; alike, "{name}: the journal differs");
     }
 
     // Asks for the operation of a line, which is answered by this text; channel 1 then has its event, too.
@@ -283,12 +240,14 @@ impl Replay {
         name: &str,
         (line, expected): (&str, &str),
     ) {
-        let line = line_of(rt, self.alloc, line);
-        let event = event_of(rt, self.alloc, &line);
-        let answer = self.ask(rt, crew, line);
-        check_text(rt, self.alloc, name, &answer, expected);
+        let line = parse_line(self.alloc, line.as_bytes()).expect(rt, "a line");
+        let event = event_of(self.alloc, &line);
+        let answer = printed(rt, self.ask(rt, crew, line));
+        let told = answer.to_string(self.alloc).expect(rt, "a text");
+        assert_eq!(rt; told.as_str(), expected, "{name}");
         self.note(rt, event, expected);
-        self.check_journal(rt, name);
+        let alike = self.first.channel.journal() == self.journal.as_slice();
+        assert!(rt; alike, "{name}: the journal differs");
     }
 
     // Each line in turn.
@@ -312,49 +271,34 @@ impl Replay {
     // Their journals are, too.
     fn check_journals(&self, rt: &impl Abort, channels: &[Channel]) {
         assert_eq!(rt; channels.len(), 2);
-        self.second.check_journal(rt, &channels[0]);
-        self.first.check_journal(rt, &channels[1]);
+        assert!(rt; channels[0].journal() == self.second.channel.journal());
+        assert!(rt; channels[1].journal() == self.first.channel.journal());
     }
 }
 
-// A station of channels 2 and 1, in this order.
-fn new_crew<J: Journal>(
-    rt: &impl Abort,
+// Plays a row on a station and closes it.
+fn play<J: Journal>(
+    rt: &(impl Wait + Abort),
     alloc: Global,
-    bringing: Bringing,
-    shape: (u8, u8, u8),
-) -> Crew<J> {
-    let first = settings(rt, alloc, 1, shape);
-    let second = second_settings(rt, alloc, shape);
-    let list = vec![in alloc; second, first].expect(rt, "a list");
-    Crew::new(rt, alloc, bringing, list)
-}
-
-// Plays a row on a station whose channels keep their journals, and closes it.
-fn play_kept(rt: &(impl Wait + Abort), alloc: Global, bringing: Bringing, row: &Row) {
-    let mut crew: Crew<Kept> = new_crew(rt, alloc, bringing, row.shape);
-    let mut replay = Replay::new(rt, alloc, row.shape);
+    mut crew: Crew<J>,
+    row: &Row,
+) -> (Replay, Vec<ChannelWith<J>>) {
+    let mut replay = Replay::new(rt, alloc);
     replay.play(rt, &mut crew, row);
-    let channels = crew.close(rt, alloc);
-    replay.check_journals(rt, &channels);
-    replay.check_closed(rt, channels);
+    (replay, crew.close(rt, alloc))
 }
 
-// The same on a station in flight.
-fn play_flight(rt: &(impl Wait + Abort), alloc: Global, bringing: Bringing, row: &Row) {
-    let mut crew: Crew<Unkept> = new_crew(rt, alloc, bringing, row.shape);
-    let mut replay = Replay::new(rt, alloc, row.shape);
-    replay.play(rt, &mut crew, row);
-    let channels = crew.close(rt, alloc);
-    replay.check_closed(rt, channels);
-}
-
-// Plays each row, with frames that are brought in each manner.
+// Plays each row on a station whose channels keep their journals and on one in flight, with frames that are brought in each manner.
 pub(super) fn play_rows(rt: &(impl Wait + Abort), alloc: Global, rows: &[Row]) {
     for row in rows {
-        for bringing in [Bringing::Plain, Bringing::Watched] {
-            play_kept(rt, alloc, bringing, row);
-            play_flight(rt, alloc, bringing, row);
+        for is_watched in [false, true] {
+            let crew: Crew<Kept> = Crew::new(rt, alloc, is_watched);
+            let (replay, channels) = play(rt, alloc, crew, row);
+            replay.check_journals(rt, &channels);
+            replay.check_closed(rt, channels);
+            let crew: Crew<Unkept> = Crew::new(rt, alloc, is_watched);
+            let (replay, channels) = play(rt, alloc, crew, row);
+            replay.check_closed(rt, channels);
         }
     }
 }

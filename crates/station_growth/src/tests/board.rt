@@ -7,16 +7,14 @@ use tc_channel::{NoMemory, SettingsFault};
 use tc_link::read_frame;
 use tc_status::{Publisher, Watcher, meet};
 
-fn channel_once(rt: &impl Abort, alloc: Global) -> Result<Channel, SettingsFault> {
-    Channel::new(alloc, settings(alloc, &WANTED).expect(rt, "settings"))
-}
-
-fn new_channel(rt: &impl Abort, alloc: Global) -> Channel {
-    match channel_once(rt, alloc) {
-        Ok(channel) => channel,
-        Err(SettingsFault::NoMemory) => channel_once(rt, alloc).expect(rt, "a channel"),
-        Err(_) => panic!(rt; "another refusal"),
+fn new_channel(rt: &(impl Abort + Print), alloc: Global) -> Channel {
+    for _ in 0..2 {
+        match Channel::new(alloc, settings(alloc, &WANTED).expect(rt, "settings")) {
+            Ok(channel) => return channel,
+            Err(fault) => note_refusal(rt, "Channel::new", fault == SettingsFault::NoMemory),
+        }
     }
+    panic!(rt; "refused twice")
 }
 
 fn new_publisher(rt: &(impl Abort + Print), alloc: Global, channel: &Channel) -> Publisher

@@ -7,9 +7,11 @@ use std::sync::Wait;
 use tc_station::{BringFault, Brought, ReleaseRefused, TakeRefused, TakeUnitRefused};
 use tc_status::Watcher;
 
-// A station of one channel with one operator and one watcher, and the journal that the channel must have.
+// A station of one channel with one operator and one watcher, and the journal that the channel must have. Frames are brought plainly,
+// or with a watcher of their own.
 #[derive(Drop)]
 struct Short {
+    is_watched: bool,
     alloc: Global,
     station: Station,
     operator: Operator,
@@ -24,11 +26,12 @@ fn new_watcher(rt: &(impl Wait + Abort), station: &Station) -> Watcher {
 }
 
 impl Short {
-    fn new(rt: &(impl Wait + Abort + Print), alloc: Global) -> Short {
+    fn new(rt: &(impl Wait + Abort + Print), alloc: Global, is_watched: bool) -> Short {
         let (station, mut operators) = new_crew(rt, alloc);
         let operator = operators.pop().expect(rt, "an operator");
         let watcher = new_watcher(rt, &station);
         Short {
+            is_watched,
             alloc,
             station,
             operator,
@@ -51,68 +54,67 @@ impl Short {
         assert_eq!(rt; self.word(), word);
     }
 
-    // Each of these says whether the call was answered, as it must be, or memory was wanting.
-    fn bring(&mut self, rt: &(impl Wait + Abort), frame: &[u8], reply: FrameReply) -> bool {
+    // Each of these says whether the call was answered, as it must be, or memory was wanting. Nothing where it was neither.
+    fn bring(&mut self, rt: &impl Wait, frame: &[u8], reply: FrameReply) -> Option<bool> {
         let brought = self.station.bring(rt, &mut self.operator, frame);
-        is_answered(brought, &Brought { vcid: 1, reply }, BringFault::NoMemory).expect(
-            rt,
-            "the answer, or the refusal",
-        )
+        is_answered(brought, &Brought { vcid: 1, reply }, BringFault::NoMemory)
     }
 
+    // The watcher that is made with the frame reads this word.
     fn bring_watched(
         &mut self,
-        rt: &(impl Wait + Abort),
+        rt: &impl Wait,
         frame: &[u8],
         reply: FrameReply,
         word: u32,
-    ) -> bool {
-        match self.station.bring_watched(rt, &mut self.operator, frame) {
-            Ok((brought, mut own)) => {
-                assert!(rt; brought == Brought { vcid: 1, reply });
-                assert_eq!(rt; own.read(), word);
-                true
-            }
-            Err(fault) => {
-                assert!(rt; fault == BringFault::NoMemory);
-                false
-            }
-        }
-    }
-
-    fn release(&mut self, rt: &(impl Wait + Abort)) -> bool {
-        let delivery = self.station.release(rt, &mut self.operator, 1);
-        is_answered(delivery, &ONE, ReleaseRefused::NoMemory).expect(
-            rt,
-            "the answer, or the refusal",
+    ) -> Option<bool> {
+        let brought = match self.station.bring_watched(rt, &mut self.operator, frame) {
+            Ok((brought, mut own)) => Ok((brought, own.read())),
+            Err(fault) => Err(fault),
+        };
+        is_answered(
+            brought,
+            &(Brought { vcid: 1, reply }, word),
+            BringFault::NoMemory,
         )
     }
 
-    fn take(&mut self, rt: &(impl Wait + Abort)) -> bool {
-        let packet = self.station.take(rt, &mut self.operator, 1, 5);
-        is_taken(packet, &PACKET, TakeRefused::NoMemory).expect(rt, "the item, or the refusal")
+    fn release(&mut self, rt: &impl Wait) -> Option<bool> {
+        let delivery = self.station.release(rt, &mut self.operator, 1);
+        is_answered(delivery, &ONE, ReleaseRefused::NoMemory)
     }
 
-    fn take_unit(&mut self, rt: &(impl Wait + Abort), unit: &[u8]) -> bool {
+    fn take(&mut self, rt: &impl Wait, packet: &[u8]) -> Option<bool> {
+        let taken = self.station.take(rt, &mut self.operator, 1, 5);
+        is_taken(taken, packet, TakeRefused::NoMemory)
+    }
+
+    fn take_unit(&mut self, rt: &impl Wait, unit: &[u8]) -> Option<bool> {
         let taken = self.station.take_unit(rt, &mut self.operator, 1, 3);
-        is_taken(taken, unit, TakeUnitRefused::NoMemory).expect(rt, "the item, or the refusal")
+        is_taken(taken, unit, TakeUnitRefused::NoMemory)
     }
 
     fn is_answered(&mut self, rt: &(impl Wait + Abort), call: Call, word: u32) -> bool {
-        match call {
-            Call::Frame(frame, reply) => self.bring(rt, frame, reply),
-            Call::FrameWatched(frame, reply) => self.bring_watched(rt, frame, reply, word),
-            Call::Release => self.release(rt),
-            Call::Take => self.take(rt),
-            Call::TakeUnit(unit) => self.take_unit(rt, unit),
-        }
+        let answered = match call {
+            Frame(frame, reply) if self.is_watched => self.bring_watched(rt, frame, reply, word),
+            Frame(frame, reply) => self.bring(rt, frame, reply),
+            Release => self.release(rt),
+            Take(packet) => self.take(rt, packet),
+            TakeUnit(unit) => self.take_unit(rt, unit),
+        };
+        answered.expect(rt, "the answer, or the refusal")
     }
 
     // Makes a call. Want of memory must have left all as it was, and the call is made again then.
     fn make(&mut self, rt: &(impl Wait + Abort + Print), name: &str, call: Call, word: u32) {
         let before = self.word();
         if !self.is_answered(rt, call, word) {
-            let _ = println!(rt; "refused: {name}");
+            let how = if self.is_watched {
+                "Watched station"
+            } else {
+                "Station"
+            };
+            let _ = println!(rt; "refused: {how}, {name}");
             self.check(rt, before);
             assert!(rt; self.is_answered(rt, call, word), "{name}");
         }
@@ -131,6 +133,7 @@ impl Short {
     // Closes the station, whose channel has the journal that it must have.
     fn close(self, rt: &(impl Abort + Print)) {
         let Short {
+            is_watched: _,
             alloc,
             station,
             operator,
@@ -145,23 +148,23 @@ impl Short {
 }
 
 // Makes the calls at a new station, and closes it.
-fn check_calls(rt: &(impl Wait + Abort + Print), alloc: Global, calls: &[(&str, Call, u32)]) {
-    let mut short = Short::new(rt, alloc);
+fn check_calls(
+    rt: &(impl Wait + Abort + Print),
+    alloc: Global,
+    is_watched: bool,
+    calls: &[(&str, Call, u32)],
+) {
+    let mut short = Short::new(rt, alloc, is_watched);
     short.play(rt, calls);
     short.close(rt)
 }
 
-#[test]
-fn growth_of_a_new_station(rt: HostRuntime) {
-    let station = new_station(&rt, rt.alloc());
-    let mut watcher = new_watcher(&rt, &station);
-    assert_eq!(rt; station.watch(&mut watcher, NO_FLAG), 0x01040000);
-}
-
 // The station closes with just these operators: a refused call has issued none, else one would be missing.
 #[test]
-fn growth_of_operators(rt: HostRuntime) {
+fn growth_of_operators_of_a_new_station(rt: HostRuntime) {
     let mut station = new_station(&rt, rt.alloc());
+    let mut watcher = new_watcher(&rt, &station);
+    assert_eq!(rt; station.watch(&mut watcher, NO_FLAG), 0x01040000);
     let operators = new_operators(&rt, &mut station, 3);
     check_counts(&rt, &operators, 3, 0);
     let channels = closed(&rt, station, operators);
@@ -176,74 +179,17 @@ fn growth_of_a_close_together(rt: HostRuntime) {
     assert_eq!(rt; channels.len(), 1);
 }
 
-const PACKETS: [(&str, Call<'static>, u32); 7] = [
-    ("bring, event 1", Call::Frame(&FRAME, BUFFERED), 0x01040001),
-    ("bring, event 2", Call::Frame(&NEXT, NO_ROOM), 0x01041801),
-    ("bring, event 4", Call::Frame(&FRAME, BEHIND), 0x01041801),
-    ("Station::release, a packet", Call::Release, 0x01040801),
-    ("Station::take", Call::Take, 0x01040801),
-    (
-        "bring, event 6",
-        Call::Frame(&TWO_PACKETS, BYPASSED),
-        0x01040a01,
-    ),
-    ("Station::take", Call::Take, 0x01040a01),
-];
-
-// The journal grows with the first event and with the fifth, which is a take: it makes no other growth.
 #[test]
 fn growth_of_each_call_of_a_station(rt: HostRuntime) {
-    check_calls(&rt, rt.alloc(), &PACKETS)
+    check_calls(&rt, rt.alloc(), false, &PACKETS)
 }
-
-const WATCHED: [(&str, Call<'static>, u32); 6] = [
-    (
-        "bring_watched, event 1",
-        Call::FrameWatched(&FRAME, BUFFERED),
-        0x01040001,
-    ),
-    (
-        "bring_watched, event 2",
-        Call::FrameWatched(&NEXT, NO_ROOM),
-        0x01041801,
-    ),
-    ("Station::release, a packet", Call::Release, 0x01040801),
-    ("Station::take", Call::Take, 0x01040801),
-    (
-        "bring_watched, event 4",
-        Call::FrameWatched(&FRAME, BEHIND),
-        0x01040801,
-    ),
-    (
-        "bring_watched, event 6",
-        Call::FrameWatched(&TWO_PACKETS, BYPASSED),
-        0x01040a01,
-    ),
-];
 
 #[test]
 fn growth_of_watched_frames(rt: HostRuntime) {
-    check_calls(&rt, rt.alloc(), &WATCHED)
+    check_calls(&rt, rt.alloc(), true, &PACKETS)
 }
 
-const UNITS: [(&str, Call<'static>, u32); 5] = [
-    (
-        "bring, event 1, whole unit",
-        Call::Frame(&AD_UNIT, BUFFERED),
-        0x01040001,
-    ),
-    ("Station::release, a whole unit", Call::Release, 0x01040001),
-    (
-        "bring, event 6, whole unit",
-        Call::Frame(&BD_UNIT, DELIVERED),
-        0x01040201,
-    ),
-    ("Station::take_unit", Call::TakeUnit(&UNIT), 0x01040201),
-    ("Station::take_unit", Call::TakeUnit(&UNIT), 0x01040201),
-];
-
-// The fifth event is the take of a unit, which makes no other growth.
 #[test]
 fn growth_of_each_call_on_a_chosen_map(rt: HostRuntime) {
-    check_calls(&rt, rt.alloc(), &UNITS)
+    check_calls(&rt, rt.alloc(), false, &UNITS)
 }

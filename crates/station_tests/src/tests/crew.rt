@@ -117,5 +117,5 @@ impl Manned {
 pub(super) fn two_channels(rt: &impl Abort, alloc: Global) -> Manned
     ensures { result.station.vcids ≡ 1 ∷ 2 ∷ [] }
 {
-    Manned::by(rt, alloc, settings_of_two(rt, alloc))
+    Manned::new(rt, alloc, &[1, 2])
 }

@@ -17,7 +17,7 @@ fn faults_of_settings_and_of_octets_have_texts(rt: HostRuntime) {
         (StationFault::NoChannel, "there is no virtual channel"),
         (
             StationFault::DoubleVcid(7),
-            "virtual channel 7 stands there twice",
+            "virtual channel 7 is there twice",
         ),
         (
             StationFault::Settings(64, SettingsFault::BadVcid),

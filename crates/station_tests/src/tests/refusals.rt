@@ -8,10 +8,8 @@ use tc_station::{
 };
 
 fn check_fault(rt: &impl Abort, alloc: Global, scid: u16, vcids: &[u8], expected: StationFault) {
-    match Station::new(alloc, scid, settings_of(rt, alloc, vcids)) {
-        Ok(_) => panic!(rt; "a station"),
-        Err(fault) => assert_eq!(rt; fault, expected),
-    }
+    let station = Station::new(alloc, scid, settings_of(rt, alloc, vcids));
+    assert!(rt; station.err() == Some(expected));
 }
 
 #[test]
@@ -46,13 +44,6 @@ fn more_operators_than_have_numbers(rt: HostRuntime) {
     check_issued(&rt, &mut station, 0, Ok(0));
 }
 
-fn check_unlocated(rt: &impl Abort, station: &Station, octets: &[u8], expected: LocateFault) {
-    match station.locate(octets) {
-        Ok(_) => panic!(rt; "located"),
-        Err(fault) => assert_eq!(rt; fault, expected),
-    }
-}
-
 // These octets are a frame for virtual channel 1.
 fn check_located(rt: &impl Abort, station: &Station, octets: &[u8]) {
     let located = station.locate(octets).expect(rt, "a place");
@@ -62,7 +53,7 @@ fn check_located(rt: &impl Abort, station: &Station, octets: &[u8]) {
 
 // Octets for no channel are refused alike where they are located and where they are brought.
 fn check_unplaced(rt: &(impl Wait + Abort), crew: &mut Manned, octets: &[u8], fault: LocateFault) {
-    check_unlocated(rt, &crew.station, octets, fault);
+    assert!(rt; crew.station.locate(octets).err() == Some(fault));
     crew.bring(rt, octets, Err(BringFault::Locate(fault)));
     let watched = crew.bring_watched(rt, octets);
     assert!(rt; watched.err() == Some(BringFault::Locate(fault)));
@@ -72,14 +63,10 @@ fn check_unplaced(rt: &(impl Wait + Abort), crew: &mut Manned, octets: &[u8], fa
 #[test]
 fn octets_for_no_channel(rt: HostRuntime) {
     let mut crew = Manned::new(&rt, rt.alloc(), &[1]);
-    check_unplaced(
-        &rt,
-        &mut crew,
-        &OTHER_SPACECRAFT,
-        LocateFault::OtherSpacecraft,
-    );
+    let other = LocateFault::OtherSpacecraft;
+    check_unplaced(&rt, &mut crew, &OTHER_SPACECRAFT, other);
+    check_unplaced(&rt, &mut crew, &OTHER_BOTH, other);
     check_unplaced(&rt, &mut crew, &ad_frame(2, 0), LocateFault::UnknownChannel);
-    check_unplaced(&rt, &mut crew, &OTHER_BOTH, LocateFault::OtherSpacecraft);
     let short = LocateFault::Frame(FrameFault::Short);
     check_unplaced(&rt, &mut crew, &FRAME[..3], short);
     check_located(&rt, &crew.station, &FRAME);

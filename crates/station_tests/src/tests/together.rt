@@ -6,16 +6,8 @@ ghost use Rattle.tc_station.specs.Tally.{IsOurs};
 use super::*;
 use std::sync::Wait;
 use tc_channel::Event;
-use tc_station::{Refusal, StillOpen};
+use tc_station::Refusal;
 use test_parts::is_frame;
-
-fn new_operator(rt: &impl Abort, station: &mut Station) -> Operator
-    ensures ours { IsOurs station.new result }
-    ensures kept { (station.new.vcids ≡ station.old.vcids) × (station.new.locks ≡ station.old.locks) }
-{
-    let mut operators = station.operators(1).expect(rt, "operators");
-    operators.pop().expect(rt, "an operator")
-}
 
 fn bring(rt: &(impl Abort + Wait), station: &Station, operator: &mut Operator, octets: &[u8])
     requires { IsOurs station.now operator.old }
@@ -44,28 +36,19 @@ fn refused(
     ensures { (result.0 ≡ station) × (result.1 ≡ operator) }
 {
     let operators = list_of(alloc, operator).expect(rt, "a list");
-    match station.close_together(operators) {
+    let mut left = match station.close_together(operators) {
         Ok(_) => panic!(rt; "closed"),
-        Err(
-            StillOpen {
-                station,
-                mut operators,
-                refusal,
-            },
-        ) => {
-            assert!(rt; refusal == Refusal::Unbalanced);
-            (station, operators.pop().expect(rt, "an operator"))
-        }
-    }
+        Err(left) => left,
+    };
+    assert!(rt; left.refusal == Refusal::Unbalanced);
+    (left.station, left.operators.pop().expect(rt, "an operator"))
 }
 
 fn closed(rt: &impl Abort, station: Station, operators: Vec<Operator>) -> Vec<Channel>
     requires { All (IsOurs station) operators.items }
 {
-    match station.close_together(operators) {
-        Ok(channels) => channels,
-        Err(_) => panic!(rt; "not closed"),
-    }
+    let channels = station.close_together(operators).ok();
+    channels.expect(rt, "channels")
 }
 
 // The journal has these two frames, and then a release.
@@ -81,10 +64,11 @@ fn check_journal(rt: &impl Abort, journal: &[Event]) {
 #[test]
 fn a_station_is_closed_with_all_who_worked_there(rt: HostRuntime) {
     let alloc = rt.alloc();
-    let mut station = new_station(&rt, alloc, settings_of_two(&rt, alloc));
-    let mut one = new_operator(&rt, &mut station);
-    let mut two = new_operator(&rt, &mut station);
-    let idle = new_operator(&rt, &mut station);
+    let mut station = new_station(&rt, alloc, settings_of(&rt, alloc, &[1, 2]));
+    let mut operators = new_operators(&rt, &mut station, 3);
+    let mut one = operators.pop().expect(&rt, "an operator");
+    let mut two = operators.pop().expect(&rt, "an operator");
+    let idle = operators.pop().expect(&rt, "an operator");
     assert!(rt; idle.count(1) == Some(0));
     bring(&rt, &station, &mut one, &FRAME);
     bring(&rt, &station, &mut two, &NEXT);

@@ -59,44 +59,21 @@ fn do_lists<R: Threads + Wait + Sync + Abort, G: Gate + Sync>(
     assert!(rt; done == Ok(()));
 }
 
-// Counts how often it is passed for channel 1, 2 and 9, and for any other.
+// Counts how often it is passed: for channel 1 in the ones, 2 in the tens, 9 in the hundreds, and any other in the thousands.
 #[derive(Drop)]
 struct Counting {
-    first: AtomicU32,
-    second: AtomicU32,
-    ninth: AtomicU32,
-    other: AtomicU32,
+    passed: AtomicU32,
 }
 
 impl Gate for Counting {
     fn pass(&self, vcid: u8) {
-        let count = match vcid {
-            1 => &self.first,
-            2 => &self.second,
-            9 => &self.ninth,
-            _ => &self.other,
+        let one = match vcid {
+            1 => 1,
+            2 => 10,
+            9 => 100,
+            _ => 1_000,
         };
-        count.fetch_add(1, Ordering::SeqCst);
-    }
-}
-
-impl Counting {
-    fn new() -> Counting {
-        Counting {
-            first: AtomicU32::new(0),
-            second: AtomicU32::new(0),
-            ninth: AtomicU32::new(0),
-            other: AtomicU32::new(0),
-        }
-    }
-
-    fn counts(&self) -> [u32; 4] {
-        [
-            self.first.load(Ordering::SeqCst),
-            self.second.load(Ordering::SeqCst),
-            self.ninth.load(Ordering::SeqCst),
-            self.other.load(Ordering::SeqCst),
-        ]
+        self.passed.fetch_add(one, Ordering::SeqCst);
     }
 }
 
@@ -107,9 +84,11 @@ fn each_worker_passes_the_gate_once(rt: HostRuntime) {
     let lists = seven_lists(&rt, alloc);
     let mut station = new_station(&rt, alloc, settings_of(&rt, alloc, &[1, 2]));
     let mut operators = new_operators(&rt, &mut station, 7);
-    let gate = Counting::new();
+    let gate = Counting {
+        passed: AtomicU32::new(0),
+    };
     do_lists(&rt, &gate, &station, &mut operators, &lists);
-    assert_eq!(rt; gate.counts(), [3, 3, 1, 0]);
+    assert_eq!(rt; gate.passed.load(Ordering::SeqCst), 133);
     for operator in operators.iter().take(6) {
         assert!(rt; operator.count(1) == Some(1));
     }
