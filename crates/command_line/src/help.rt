@@ -1,4 +1,4 @@
-//! What help tells beside the commands and options.
+//! What help prints beside the commands and options.
 
 /// The version of each program, which is that of CHANGELOG.md's newest heading; `checks/launcher` compares each place that says it.
 pub(crate) const VERSION: &str = "0.1.0";
@@ -14,12 +14,12 @@ pub(crate) const SCRIPTS: &str = "Lines of a script, those that set up first:
   release VC                          lets the oldest data field out of the buffer, to reassembly
   take VC APID                        takes the oldest packet out of a queue
   unit VC MAP                         takes the oldest unit out of the queue of a MAP
-  clcw VC                             tells the CLCW
+  clcw VC                             prints the CLCW
   # WORDS                             is a comment
 A script has at most 1048576 octets, and is read to its end before the first answer.
 
 Exit status:
-  0   the script was done to its end
+  0   the script was run to its end
   1   it ended early: standard error has the line and the reason
   2   a bad command line
 
@@ -27,14 +27,19 @@ Example:
   printf 'channel 1 10 1 0\\nframe 002a040c00c01005c0000000aa\\n' | tcrx run --scid 42
 ";
 
-/// Where the lines of a script are told.
-pub(crate) const POINTER: &str = "tcrx --help lists the lines of a script.";
+/// Where the lines of a script are listed.
+pub(crate) const POINTER: &str =
+    "The script comes on standard input. tcrx --help lists the lines of a script.";
+
+/// What is said of a word too many, which is often the name of a file.
+pub(crate) const INPUT: &str =
+    "tcrx: a script comes on standard input, as in: tcrx run --scid 42 < FILE";
 
 /// Of `tclive`: the lines with their limits, the statuses, and an example.
 pub(crate) const LIVE_LINES: &str =
     "Each line is answered before the next is read. Lines are those of a script of tcrx, which tcrx --help lists, and two more:
-  link VC RF BL  No RF Available and No Bit Lock, 0 or 1 each, that the CLCWs of a channel tell from now on
-  report VC      tells what a channel has come to: its state, V(R), flags, FARM-B, buffer, queues and MAPs
+  link VC RF BL  No RF Available and No Bit Lock, 0 or 1 each, that the CLCWs of a channel have from now on
+  report VC      prints the state of a channel: V(R), flags, the FARM-B counter, its buffer, queues and MAPs
 Lines that set up, blank lines and comments have no answer. A bad line is answered bad and why, and changes nothing.
 A line has at most 8192 octets. At the end of the lines the final report is written.
 
@@ -58,8 +63,8 @@ pub(crate) const MAKER_LINES: &str = "Lines, each of which is answered before th
   setvr SCID VC X                      makes the Type-BC frame with the control command Set V(R) to X (0 to 255)
   segments SCID VC NS MAP SIZE HEX     makes a Type-AD frame of each segment of a unit (1 to 65542 octets), SIZE octets each
                                        (1 to 1018)
-  explain HEX                          tells what octets say as a frame
-  clcw HEX                             tells what four octets say as a CLCW
+  explain HEX                          takes a frame apart
+  clcw HEX                             takes a CLCW apart, four octets
   # WORDS                              is a comment
 The word plain in the place of a MAP of ad and bd leaves the segment header out. A bad line is answered bad and why. A line
 has at most 262143 octets.

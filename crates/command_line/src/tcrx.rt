@@ -4,7 +4,7 @@ ghost use Rattle.std.specs.Prelude.{◌≤◌, IfOk, IfErr, IfSome};
 ghost use Rattle.std.specs.Process.{exit_status};
 
 use crate::answer::{print, words_of};
-use crate::help::{POINTER, SCRIPTS, VERSION};
+use crate::help::{INPUT, POINTER, SCRIPTS, VERSION};
 use crate::spacecraft::{spacecraft, spacecraft_of};
 use clap::error::ErrorKind;
 use clap::{ArgMatches, Command, Error};
@@ -37,7 +37,13 @@ pub fn asked_of_tcrx<R: Env + AllocGlobal + Print + Eprint>(rt: &R) -> Result<Sc
     let words = words_of(rt, "tcrx")?;
     match judge(rt.alloc(), words.as_slice()) {
         Ok(run) => Ok(run),
-        Err(answer) => Err(print(rt, "tcrx", &answer)),
+        Err(answer) => {
+            let status = print(rt, "tcrx", &answer);
+            if answer.kind() == ErrorKind::UnknownArgument {
+                let _ = eprintln!(rt; "{INPUT}");
+            }
+            Err(status)
+        }
     }
 }
 
@@ -68,15 +74,15 @@ fn run_of(matches: &ArgMatches) -> Option<ScriptRun>
 
 fn command<'a>(alloc: Global) -> Result<Command<'a>, Error> {
     let run = Command::new(alloc, "run")
-        .about("Does the lines of a script in order and prints their answers")
+        .about("Runs a script line by line, and prints each answer and the final report")
         .after_help(POINTER)
         .arg(spacecraft(alloc))?;
     let parallel = Command::new(alloc, "parallel")
-        .about("Does a script with a worker for each channel and prints the final report")
+        .about("Runs a script with a worker for each channel, and prints the final report")
         .after_help(POINTER)
         .arg(spacecraft(alloc))?;
     let command = Command::new(alloc, "tcrx")
-        .about("Receives telecommand frames: does a script that it reads from standard input")
+        .about("Receives telecommand frames: runs a script, which it reads from standard input")
         .version(VERSION)
         .after_help(SCRIPTS)
         .disable_help_subcommand(true)

@@ -182,7 +182,7 @@ pub(crate) fn text(status: Status) -> &'static [u8]
         Status::NoEntry => b"in S2 no expected AD frame finds room",
         Status::BadVcid => b"the virtual channel id is over 63",
         Status::NoClcw => b"the word is no CLCW of COP-1",
-        Status::NoPacket => b"no whole packet stands there",
+        Status::NoPacket => b"no whole packet is there",
         Status::NoRoom => b"the buffer is too short",
         Status::Null => b"a pointer is null",
         Status::NoStatus => b"no such status",

@@ -16,7 +16,7 @@ pub enum StationFault {
     #[error("there is no virtual channel")]
     NoChannel,
     /// The first virtual channel id that stands earlier in the list, too.
-    #[error("virtual channel {0} stands there twice")]
+    #[error("virtual channel {0} is there twice")]
     DoubleVcid(u8),
     /// The virtual channel id of the first settings that make no channel, and why they make none.
     #[error("virtual channel {0}: {1}")]
