@@ -7,8 +7,9 @@ import subprocess
 
 
 def install(*packages: str) -> None:
-    """Installs packages, where that may be done; whether they are there then is the caller's to see."""
-    if os.geteuid() != 0 or not shutil.which("apt-get"):
+    """Installs packages, where that may be done and isn't forbidden by TCRX_INSTALL=no; whether they are there then is the caller's to
+    see."""
+    if os.environ.get("TCRX_INSTALL") == "no" or os.geteuid() != 0 or not shutil.which("apt-get"):
         return
     environment = {**os.environ, "DEBIAN_FRONTEND": "noninteractive"}
     for words in (["update"], ["install", "-y", "--no-install-recommends", *packages]):
