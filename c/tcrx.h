@@ -9,41 +9,32 @@
  * tcrx_memory.c or tcrx_static.c.
  *
  * @par Answers
- * Each call answers with a record whose first field is a status: #TCRX_DONE, or the first reason why the call is refused, in
- * the order in which its description names them. Each number of a record that goes in may have any value; the call is then done
- * or refused. Flags are 0 or 1. A record belongs to the caller; it is passed and returned by value.
+ * Each call answers with a status, alone or as the first field of a record: #TCRX_DONE, or the first reason why it is refused, in the
+ * order of its description. Each number of a record that goes in may have any value. Where a call is refused, each other number of its
+ * answer is 0, unless the answer's description says otherwise. Flags are 0 or 1.
  *
  * @par Octets
- * A pointer to octets comes with their count, and there must be that many octets at it. No call keeps a pointer after it has
- * returned. No call writes to any buffer except the one that its description names, which must not overlap anything else that
- * the call is given. Where a pointer is null the status is #TCRX_NULL, and every other number of the answer is 0.
+ * There must be as many octets at a pointer as their count says. A null pointer is refused by #TCRX_NULL; no call can see that another
+ * one is bad. No call keeps a pointer after it has returned. A call writes only to the buffer that its description names, which must
+ * not overlap anything else that it is given. What it doesn't write of that stays as it was: all of it where the call is refused.
  *
  * @par Threads
- * The library keeps nothing of its own between calls, and only the two calls that make a channel ask for memory. The calls without
- * a channel may be made from any number of threads, interrupt handlers and signal handlers at the same time, as long as none of them writes octets
- * that another one reads or writes. The calls of a channel may be made from any thread, but not from an interrupt or signal
- * handler. A channel is given to one call at a time: threads that share one need a lock.
+ * The library keeps nothing of its own between calls. Calls without a channel may be made from any threads, interrupt handlers and signal
+ * handlers at the same time, as long as none writes octets that another one reads or writes. Calls of a channel may be made from any
+ * thread, but not from an interrupt or signal handler. A channel is for one call at a time: threads that share it need a lock.
  *
  * @par Memory
  * A channel has a room for each data field, packet, unit and open run that its settings and limits allow. All of them are asked for
  * where it is made, by rattle_alloc, and given back where it is freed, by rattle_dealloc. No other call asks for any, so none can be
  * refused for memory. tcrx_memory.c defines the two functions over malloc and free, and tcrx_static.c over a static array, which can
  * be sealed after the start. Flight software may link two functions of its own instead; tcrx_memory.c says what they must keep to.
- * Where they give no memory no channel is made, and the status is #TCRX_NO_MEMORY.
- *
- * @par How much memory
- * tcrx_storage() and tcrx_storage_with_limits() answer how many octets the making of a channel asks for. Without limits a room for a
- * unit has 65,542 octets, so that a channel with segment headers takes 8.4 MB and more: give it limits.
+ * tcrx_storage() and tcrx_storage_with_limits() answer how many octets the making of a channel asks for. Without limits a channel with
+ * segment headers takes 8.4 MB and more, since a room for a unit has 65,542 octets: give it limits.
  *
  * @par The library as portable C
- * Where TCRX_MODULE is defined this header is that of the portable C that tools/portable writes for other processors. There the
- * calls without a channel share one memory. They may not be made at the same time, nor from interrupt and signal handlers, unless
- * a lock is given as its README says. tcrx_read_packet(), tcrx_storage() and tcrx_storage_with_limits() can be refused by
- * #TCRX_NO_MEMORY there, and so can a take, for its buffer.
- *
- * @par Names that end in _at
- * These are the functions that the library exports, for callers in other languages. Each is the call without _at, but must
- * never be given a null pointer.
+ * Where TCRX_MODULE is defined this header is that of the portable C of tools/portable. There the calls without a channel share one
+ * memory. Without a lock, which its README shows how to give, they are for one thread at a time, and none is for an interrupt or
+ * signal handler. tcrx_read_packet(), tcrx_storage() and tcrx_storage_with_limits() can be refused by #TCRX_NO_MEMORY there.
  */
 #ifndef TCRX_H
 #define TCRX_H
@@ -58,15 +49,14 @@ extern "C" {
 /**
  * @defgroup tcrx_version Version of this interface
  *
- * Three numbers, MAJOR.MINOR.PATCH. While MAJOR is 0 a new MINOR may break a caller; from 1.0.0 on only a new MAJOR may. A new
- * PATCH never does. A caller can test for what it needs: `#if TCRX_API_VERSION < 0x000100`.
+ * A caller can test for what it needs: `#if TCRX_API_VERSION < 0x000100`.
  * @{
  */
-#define TCRX_API_MAJOR 0 /**< Changes that break a caller, from 1.0.0 on. */
-#define TCRX_API_MINOR 1 /**< Additions; while MAJOR is 0, changes that break a caller as well. */
-#define TCRX_API_PATCH 0 /**< Corrections. */
+#define TCRX_API_MAJOR 0 /**< From 1.0.0 on only a new one may break a caller. */
+#define TCRX_API_MINOR 1 /**< Additions. While MAJOR is 0 a new one may break a caller. */
+#define TCRX_API_PATCH 0 /**< Corrections: a new one never breaks a caller. */
 
-/** The version as a number of 24 bits, eight for each of the three: 0x000100 is 0.1.0. */
+/** The version as a number, eight bits for each of the three. */
 #define TCRX_API_VERSION (TCRX_API_MAJOR * 0x10000 + TCRX_API_MINOR * 0x100 + TCRX_API_PATCH)
 
 /** The version as a text. */
@@ -75,28 +65,26 @@ extern "C" {
 
 /**
  * @defgroup tcrx_status Statuses
- *
- * What a call came to: it was done, or the first reason why it was refused.
  * @{
  */
 
-/** The status of a call, one of the numbers below. tcrx_text() has a text for each. */
+/** What a call came to. tcrx_text() has a text for each. */
 typedef uint32_t tcrx_status;
 
-/** Every status that a call can answer. */
+/** All of them. */
 enum {
     TCRX_DONE = 0, /**< The call was done. */
 
-    TCRX_SHORT = 1,        /**< No frame: there are fewer than 5 octets. */
-    TCRX_BAD_VERSION = 2,  /**< No frame: the version bits of the header aren't 0. */
-    TCRX_SPARE = 3,        /**< No frame: the spare bits of the header aren't 0. */
-    TCRX_LENGTH_SMALL = 4, /**< No frame: the frame length names fewer than 6 octets. */
-    TCRX_TRUNCATED = 5,    /**< No frame: the frame length names more octets than there are. */
+    TCRX_SHORT = 1,        /**< No frame: fewer than 5 octets. */
+    TCRX_BAD_VERSION = 2,  /**< No frame: version bits that aren't 0. */
+    TCRX_SPARE = 3,        /**< No frame: spare bits that aren't 0. */
+    TCRX_LENGTH_SMALL = 4, /**< No frame: a frame length of fewer than 6 octets. */
+    TCRX_TRUNCATED = 5,    /**< No frame: a frame length of more octets than there are. */
 
-    TCRX_BAD_FIELD = 10,  /**< No frame is written: the spacecraft id is over 1,023 or the virtual channel id over 63. */
-    TCRX_EMPTY_DATA = 11, /**< No frame is written: the data field is empty. */
-    TCRX_TOO_LONG = 12,   /**< No frame is written: the data field has more than 1,019 octets. */
-    TCRX_NO_MEMORY = 13,  /**< Out of memory: no channel is made. No other call asks for any. */
+    TCRX_BAD_FIELD = 10,  /**< No frame is written: a spacecraft id over 1,023 or a virtual channel id over 63. */
+    TCRX_EMPTY_DATA = 11, /**< No frame is written: an empty data field. */
+    TCRX_TOO_LONG = 12,   /**< No frame is written: a data field of more than 1,019 octets. */
+    TCRX_NO_MEMORY = 13,  /**< Out of memory: no channel is made. */
 
     TCRX_BAD_WIDTH = 20,      /**< The width of the window isn't even and 2 to 254. */
     TCRX_BAD_STATE = 21,      /**< The state isn't 1 to 3. */
@@ -115,14 +103,14 @@ enum {
     TCRX_NULL = 51,      /**< A pointer is null. */
     TCRX_NO_STATUS = 52, /**< There is no such status. */
 
-    TCRX_BAD_BUFFER = 60,   /**< Settings: the buffer isn't for 1 to 64 data fields. */
-    TCRX_BAD_APID = 61,     /**< Settings: the APID of a queue is over 2,046. */
+    TCRX_BAD_BUFFER = 60,   /**< Settings: the buffer isn't 1 to 64. */
+    TCRX_BAD_APID = 61,     /**< Settings: an APID is over 2,046. */
     TCRX_DOUBLE_APID = 62,  /**< Settings: two queues have one APID. */
-    TCRX_BAD_CAPACITY = 63, /**< Settings: a queue isn't for 1 to 256 packets. */
+    TCRX_BAD_CAPACITY = 63, /**< Settings: the capacity of a packet queue isn't 1 to 256. */
     TCRX_BAD_MAP = 64,      /**< Settings: a MAP is over 63. */
     TCRX_DOUBLE_MAP = 65,   /**< Settings: a MAP is chosen twice. */
-    TCRX_BAD_UNITS = 66,    /**< Settings: the queue of a MAP isn't for 1 to 256 units. */
-    TCRX_PLAIN_MAP = 67,    /**< Settings: a channel without segment headers has no MAPs. */
+    TCRX_BAD_UNITS = 66,    /**< Settings: the capacity of a MAP isn't 1 to 256. */
+    TCRX_PLAIN_MAP = 67,    /**< Settings: MAPs without segment headers. */
 
     TCRX_NO_CHANNEL = 70, /**< No channel is held. */
     TCRX_IN_USE = 71,     /**< A channel is held already. */
@@ -130,23 +118,20 @@ enum {
     TCRX_NO_MAP = 73,     /**< That MAP isn't chosen. */
     TCRX_EMPTY = 74,      /**< Nothing waits there. */
 
-    TCRX_BAD_OTHERS = 80,    /**< Limits: that of the other MAPs is over 65,542 octets, or 0 without segment headers. */
+    TCRX_BAD_OTHERS = 80,    /**< Limits: `others` is over 65,542, or 0 without segment headers. */
     TCRX_BAD_LIMIT_MAP = 81, /**< Limits: a MAP is over 63. */
-    TCRX_DOUBLE_LIMIT = 82,  /**< Limits: a MAP has two. */
-    TCRX_BAD_LIMIT = 83,     /**< Limits: that of a MAP isn't 1 to 65,542 octets. */
-    TCRX_PLAIN_LIMIT = 84,   /**< Limits: a channel without segment headers has none by MAP. */
-    TCRX_UNLISTED_MAP = 85   /**< Limits: a chosen MAP has none, and that of the other MAPs is 0. */
+    TCRX_DOUBLE_LIMIT = 82,  /**< Limits: a MAP is listed twice. */
+    TCRX_BAD_LIMIT = 83,     /**< Limits: that of a MAP isn't 1 to 65,542. */
+    TCRX_PLAIN_LIMIT = 84,   /**< Limits: a MAP is listed without segment headers. */
+    TCRX_UNLISTED_MAP = 85   /**< Limits: a chosen MAP isn't listed, and `others` is 0. */
 };
 
-/** The octets of a buffer that has room for the text of any status. */
-enum { TCRX_TEXT_ROOM = 64 /**< With the 0 at the end of the text. */ };
+/** Room for a text. */
+enum { TCRX_TEXT_ROOM = 64 /**< Enough for any of them, with the 0 at its end. */ };
 /** @} */
 
 /**
  * @defgroup tcrx_records Records
- *
- * What goes into calls and comes out of them. Where a call is refused, each number of its answer except the status is 0, unless
- * the answer's description says otherwise.
  * @{
  */
 
@@ -161,8 +146,8 @@ enum {
 enum {
     TCRX_AD = 1,      /**< A Type-AD frame, with sequence control. */
     TCRX_BD = 2,      /**< A Type-BD frame, without it. */
-    TCRX_UNLOCK = 3,  /**< A Type-BC frame with the control command Unlock. */
-    TCRX_SET_VR = 4,  /**< A Type-BC frame with the control command Set V(R). */
+    TCRX_UNLOCK = 3,  /**< A Type-BC frame: Unlock. */
+    TCRX_SET_VR = 4,  /**< A Type-BC frame: Set V(R). */
     TCRX_INVALID = 5, /**< A Type-AC frame, which is reserved, or a Type-BC frame with no control command. */
     TCRX_RELEASE = 6  /**< A data field has left the buffer. */
 };
@@ -189,7 +174,7 @@ typedef struct {
     tcrx_status status; /**< #TCRX_DONE, or why not. */
     tcrx_farm farm;     /**< The record after the step; where the call is refused, as it was given. */
     uint8_t event;      /**< 1 to 10, the row E1 to E10 of the state table. */
-    uint8_t accepted;   /**< 1 where the frame was accepted, else 0. */
+    uint8_t accepted;   /**< Whether the frame was accepted. */
 } tcrx_step_answer;
 
 /** A CLCW. */
@@ -235,11 +220,11 @@ typedef struct {
     uint8_t number;     /**< The N(S) of #TCRX_AD, the new V(R) of #TCRX_SET_VR, else 0. */
 } tcrx_kind_answer;
 
-/** The packet at the front of octets: the first `length` of them. Six are the primary header. */
+/** The packet at the front of octets: the first `length` of them, of which six are the primary header. */
 typedef struct {
     tcrx_status status;  /**< #TCRX_DONE, or why not. */
     uint32_t length;     /**< The octets of the packet, 7 to 65,542. */
-    uint16_t apid;       /**< The application process identifier (APID), at most 2,047, which marks idle packets. */
+    uint16_t apid;       /**< The APID, at most 2,047, which marks idle packets. */
     uint16_t count;      /**< The sequence count or the name, at most 16,383. */
     uint8_t telecommand; /**< The packet type: 1 for telecommand, 0 for telemetry. */
     uint8_t secondary;   /**< The secondary header flag. */
@@ -253,12 +238,12 @@ typedef struct {
 } tcrx_written;
 
 /**
- * A virtual channel, or none. It is in the caller's memory. The caller sets it to #TCRX_HOLDS_NONE before the first call, and
- * writes nothing to it after that. A copy of it is no second channel. It may be moved to another place, if the old one is set to
- * #TCRX_HOLDS_NONE before the next call. A channel that is still held when this memory ends isn't freed.
+ * A virtual channel, or none, in the caller's memory. The caller sets it to #TCRX_HOLDS_NONE before the first call, and nobody writes
+ * to it after that. A copy is no second channel. A channel may be moved, if the old place is set to #TCRX_HOLDS_NONE before the next call.
+ * One that is still held when this memory ends isn't freed.
  */
 typedef struct {
-    uint8_t held; /**< 1 where a channel is held, else 0. */
+    uint8_t held; /**< Whether a channel is held. */
     void *place;  /**< The library's own. */
 } tcrx_channel;
 
@@ -287,23 +272,23 @@ typedef struct {
     uint16_t capacity; /**< How many units its queue holds, 1 to 256. */
 } tcrx_map;
 
-/** The limit of one MAP: a longer unit is dropped where it ends, and no answer says so. */
+/** The limit of one MAP. */
 typedef struct {
     uint8_t map;     /**< The MAP, at most 63. */
     uint32_t octets; /**< The most octets of its units, 1 to 65,542. */
 } tcrx_limit;
 
-/** What a frame came to, and what became of the unit that it ended. Where it ended none, each number of the unit is 0. */
+/** What a frame came to, and what became of the unit that it ended; where it ended none, each number of that is 0. */
 typedef struct {
     tcrx_status status; /**< #TCRX_DONE, or why not. */
-    uint32_t queued;    /**< How many packets were queued; 1 for a unit that was queued whole. */
-    uint32_t dropped;   /**< How many packets were dropped: no telecommand, no queue, or no room; 1 for such a whole unit. */
+    uint32_t queued;    /**< Packets that were queued; 1 for a unit that was queued whole. */
+    uint32_t dropped;   /**< Packets that were dropped: no telecommand, no queue, or no room; 1 for such a whole unit. */
     uint8_t event;      /**< 1 to 9, the row E1 to E9 of the state table of FARM-1. */
-    uint8_t accepted;   /**< 1 where the frame was accepted, else 0. */
-    uint8_t rest;       /**< 1 where octets were left that begin with no packet, else 0. */
+    uint8_t accepted;   /**< Whether the frame was accepted. */
+    uint8_t rest;       /**< Whether octets were left that begin with no packet. */
 } tcrx_reply;
 
-/** What became of the unit that a released data field ended. Where it ended none, each number is 0. */
+/** What became of the unit that a released data field ended; where it ended none, each number is 0. */
 typedef struct {
     tcrx_status status; /**< #TCRX_DONE, or why not. */
     uint32_t queued;    /**< As in #tcrx_reply. */
@@ -373,8 +358,8 @@ TCRX_LAYOUT(tcrx_count, sizeof(tcrx_count) == 16 && TCRX_AT(tcrx_count, status, 
 /**
  * @defgroup tcrx_library Calls of the library
  *
- * For callers in other languages. They must never be given a null pointer; a list of no entries and a buffer with no room still
- * need one that isn't null. Callers in C use the names without _at.
+ * What the library exports, for callers in other languages. They must never be given a null pointer, also for a list of no entries or a
+ * buffer with no room. Callers in C use the names without `_at`: plain C of this header, which looks for null pointers and isn't proved.
  * @{
  */
 /** @copydoc tcrx_text */
@@ -432,12 +417,11 @@ tcrx_status tcrx_channel_free_at(tcrx_channel *channel);
  */
 
 /**
- * Writes the text of a status to the front of a buffer: ASCII characters, and a 0 at the end, which the length counts. The rest
- * of the buffer stays as it was; where the call is refused, the whole buffer.
+ * Writes the text of a status to the front of a buffer: ASCII, and a 0 at the end, which the length counts.
  *
  * @param status the status
- * @param text   the buffer
- * @param room   how many characters it has room for; #TCRX_TEXT_ROOM is enough
+ * @param text   the buffer that is written
+ * @param room   how many octets the buffer has
  * @return the length. Refused by #TCRX_NULL, #TCRX_NO_STATUS, #TCRX_NO_ROOM.
  */
 static inline tcrx_written tcrx_text(tcrx_status status, char *text, size_t room) {
@@ -449,54 +433,46 @@ static inline tcrx_written tcrx_text(tcrx_status status, char *text, size_t room
 }
 
 /**
- * FARM-1 that starts: in #TCRX_OPEN, with every flag and the FARM-B counter 0.
- *
- * @param width    the width of the sliding window, even and 2 to 254
+ * @param width    the width
  * @param first_vr the first V(R)
- * @return the record. Refused by #TCRX_BAD_WIDTH.
+ * @return a FARM-1 that starts: in #TCRX_OPEN, with every flag and the FARM-B counter 0. Refused by #TCRX_BAD_WIDTH.
  */
 tcrx_farm_answer tcrx_farm_start(uint8_t width, uint8_t first_vr);
 
 /**
- * One step of FARM-1, by its state table (CCSDS 232.1-B, 6.3). Keep the record of the answer, and give it to the next call.
+ * One step of FARM-1, by its state table (CCSDS 232.1-B, 6.3). Give the record of the answer to the next call.
  *
- * @param farm    the record before the step
- * @param arrival the kind of a frame, as tcrx_kind() answers it, or #TCRX_RELEASE
+ * @param farm    the record of FARM-1
+ * @param arrival the kind that tcrx_kind() answers, or #TCRX_RELEASE
  * @param number  the number that tcrx_kind() answers; for #TCRX_RELEASE any
- * @param room    1 where the buffer has room for the data field of a Type-AD frame, else 0
- * @return the step. The record of a step that was done is that of a FARM-1 again; that of a refused one is as it was given.
- * Refused by #TCRX_BAD_WIDTH, #TCRX_BAD_STATE, #TCRX_BAD_FARM_B, #TCRX_BAD_FLAG and #TCRX_FLAGS_DISAGREE, where no FARM-1 has
- * this record; then by #TCRX_BAD_FLAG of `room`, #TCRX_BAD_ARRIVAL, and #TCRX_NO_ENTRY. The last is never met where `room` is 0
- * in #TCRX_WAIT, which holds for a buffer that has had no release since it was full.
+ * @param room    whether the buffer has room for the data field of a Type-AD frame
+ * @return the step, whose record is that of a FARM-1 again. Refused by #TCRX_BAD_WIDTH, #TCRX_BAD_STATE, #TCRX_BAD_FARM_B,
+ * #TCRX_BAD_FLAG and #TCRX_FLAGS_DISAGREE, where no FARM-1 has this record; then by #TCRX_BAD_FLAG of `room`, #TCRX_BAD_ARRIVAL, and
+ * #TCRX_NO_ENTRY. The last is never met where `room` is 0 in #TCRX_WAIT, as for a buffer without a release since it was full.
  */
 tcrx_step_answer tcrx_farm_step(tcrx_farm farm, uint8_t arrival, uint8_t number, uint8_t room);
 
 /**
- * The CLCW that reports a FARM-1. Its status field is 0, and COP-1 is in effect.
- *
- * @param farm        the record
- * @param vcid        the virtual channel id, 0 to 63
- * @param no_rf       the No RF Available flag of the link
- * @param no_bit_lock the No Bit Lock flag of the link
- * @return the word. Refused by the first five statuses of tcrx_farm_step(), then by #TCRX_BAD_VCID, and #TCRX_BAD_FLAG of the
- * link.
+ * @param farm        the record of FARM-1
+ * @param vcid        the virtual channel id
+ * @param no_rf       a flag of the link, No RF Available or No Bit Lock
+ * @param no_bit_lock a flag of the link, No RF Available or No Bit Lock
+ * @return the CLCW that reports this FARM-1. Its status field is 0, and COP-1 is in effect. Refused by the first five statuses of
+ * tcrx_farm_step(), then by #TCRX_BAD_VCID, and #TCRX_BAD_FLAG of the link.
  */
 tcrx_clcw_answer tcrx_clcw(tcrx_farm farm, uint8_t vcid, uint8_t no_rf, uint8_t no_bit_lock);
 
 /**
- * Reads a word that may be a CLCW of COP-1: one whose type and version are 0, whose COP is 1 and whose spare bits are 0.
- *
  * @param word the word
- * @return its fields. Refused by #TCRX_NO_CLCW.
+ * @return the fields of a CLCW of COP-1: type, version and spare bits are 0, COP is 1. Refused by #TCRX_NO_CLCW.
  */
 tcrx_clcw_fields tcrx_read_clcw(uint32_t word);
 
 /**
- * Reads the frame at the front of octets. What follows the frame is fill.
- *
- * @param octets the octets
+ * @param octets the octets that are read
  * @param count  how many there are
- * @return the header and the length of the frame. Refused by #TCRX_NULL, then #TCRX_SHORT to #TCRX_TRUNCATED.
+ * @return the header and the length of the frame at the front of octets. What follows it is fill. Refused by #TCRX_NULL, then
+ * #TCRX_SHORT to #TCRX_TRUNCATED.
  */
 static inline tcrx_frame tcrx_read_frame(const uint8_t *octets, size_t count) {
     if (octets == NULL) {
@@ -507,11 +483,9 @@ static inline tcrx_frame tcrx_read_frame(const uint8_t *octets, size_t count) {
 }
 
 /**
- * The kind of the frame at the front of octets, by its two flags and its data field, as tcrx_farm_step() takes it.
- *
- * @param octets the octets
+ * @param octets the octets that are read
  * @param count  how many there are
- * @return the kind. Refused as by tcrx_read_frame().
+ * @return the kind of the frame at the front of octets, by its two flags and its data field. Refused as tcrx_read_frame().
  */
 static inline tcrx_kind_answer tcrx_kind(const uint8_t *octets, size_t count) {
     if (octets == NULL) {
@@ -522,14 +496,13 @@ static inline tcrx_kind_answer tcrx_kind(const uint8_t *octets, size_t count) {
 }
 
 /**
- * Writes a frame to the front of a buffer. The frame has 5 octets more than its data field. The rest of the buffer stays as it
- * was; where the call is refused, the whole buffer.
+ * Writes a frame to the front of a buffer: its header, and its data field of 1 to 1,019 octets.
  *
- * @param header      the fields of its header
- * @param field       its data field
- * @param field_count the octets of the data field, 1 to 1,019
- * @param octets      the buffer
- * @param room        the octets of the buffer
+ * @param header      the header
+ * @param field       the data field
+ * @param field_count how many there are
+ * @param octets      the buffer that is written
+ * @param room        how many octets the buffer has
  * @return the length of the frame. Refused by #TCRX_NULL, #TCRX_BAD_FLAG, #TCRX_BAD_FIELD, #TCRX_EMPTY_DATA, #TCRX_TOO_LONG,
  * #TCRX_NO_ROOM.
  */
@@ -543,12 +516,10 @@ static inline tcrx_written tcrx_write_frame(tcrx_header header, const uint8_t *f
 }
 
 /**
- * Reads the primary header of the packet at the front of octets. The secondary header, the sequence flags and the sequence count
- * may have any value.
- *
- * @param octets the octets
+ * @param octets the octets that are read
  * @param count  how many there are
- * @return the fields of the header and the length of the packet. Refused by #TCRX_NULL, #TCRX_NO_PACKET.
+ * @return the primary header and the length of the packet at the front of octets. The secondary header, the sequence flags and the
+ * sequence count may have any value. Refused by #TCRX_NULL, #TCRX_NO_PACKET.
  */
 static inline tcrx_packet tcrx_read_packet(const uint8_t *octets, size_t count) {
     if (octets == NULL) {
@@ -562,22 +533,21 @@ static inline tcrx_packet tcrx_read_packet(const uint8_t *octets, size_t count) 
 /**
  * @defgroup tcrx_channels Calls of a channel
  *
- * A channel in the caller's memory. A call that is refused leaves the channel as it was.
+ * Only the two that make a channel ask for memory. A refused call leaves the channel as it was.
  * @{
  */
 
 /**
- * How many octets tcrx_channel_new() asks for by these settings. Three things are not counted: what
- * the functions of memory add to each block, the block of the channel itself, and the copies of the two lists, of 4 octets an entry.
- * #TCRX_STORAGE_OF counts all of it.
+ * Not counted: what the functions of memory add to each block, the block of the channel itself, and the copies of the two lists, of
+ * 4 octets an entry. #TCRX_STORAGE_OF counts all of it.
  *
  * @param settings    the settings
  * @param queues      the packet queues; null where there are none
  * @param queue_count how many there are
  * @param maps        the chosen MAPs; null where there are none
  * @param map_count   how many there are
- * @return the count. Refused by #TCRX_NULL, then as by tcrx_channel_new() by #TCRX_BAD_FLAG and the first fault of the settings. It
- * asks for no memory.
+ * @return how many octets tcrx_channel_new() asks for. Refused by #TCRX_NULL, then, as that call, by #TCRX_BAD_FLAG and the first fault
+ * of the settings.
  */
 static inline tcrx_count tcrx_storage(tcrx_settings settings, const tcrx_queue *queues, size_t queue_count, const tcrx_map *maps,
                                       size_t map_count) {
@@ -591,7 +561,7 @@ static inline tcrx_count tcrx_storage(tcrx_settings settings, const tcrx_queue *
 }
 
 /**
- * The same of tcrx_channel_new_with_limits(). The copy of the limits, of 8 octets an entry, is not counted either.
+ * The copy of the limits, of 8 octets an entry, isn't counted either.
  *
  * @param settings    the settings
  * @param queues      the packet queues; null where there are none
@@ -601,8 +571,8 @@ static inline tcrx_count tcrx_storage(tcrx_settings settings, const tcrx_queue *
  * @param others      the limit of each MAP that isn't listed
  * @param limits      the limits of MAPs; null where there are none
  * @param limit_count how many there are
- * @return the count. Refused by #TCRX_NULL, then as by tcrx_channel_new_with_limits() by #TCRX_BAD_FLAG, the first fault of the
- * settings, and the first fault of the limits. It asks for no memory.
+ * @return how many octets tcrx_channel_new_with_limits() asks for. Refused by #TCRX_NULL, then, as that call, by #TCRX_BAD_FLAG and the
+ * first fault of the settings or the limits.
  */
 static inline tcrx_count tcrx_storage_with_limits(tcrx_settings settings, const tcrx_queue *queues, size_t queue_count,
                                                   const tcrx_map *maps, size_t map_count, uint32_t others,
@@ -619,18 +589,17 @@ static inline tcrx_count tcrx_storage_with_limits(tcrx_settings settings, const 
 }
 
 /**
- * Makes a channel, which is held until it is freed. Nothing that is given is kept. All memory that the channel ever has is asked for
- * here. A unit has 65,542 octets at most.
+ * Makes a channel, which is held until it is freed. A unit has 65,542 octets at most.
  *
- * @param channel     where it is to be held, #TCRX_HOLDS_NONE
- * @param settings    its settings
- * @param queues      its packet queues; null where there are none
+ * @param channel     the channel
+ * @param settings    the settings
+ * @param queues      the packet queues; null where there are none
  * @param queue_count how many there are
- * @param maps        its chosen MAPs; null where there are none
+ * @param maps        the chosen MAPs; null where there are none
  * @param map_count   how many there are
- * @return #TCRX_DONE. Refused by #TCRX_NULL, #TCRX_IN_USE, #TCRX_BAD_FLAG of `segmented`; then by the first fault of the settings
- * in this order: #TCRX_BAD_VCID, #TCRX_BAD_WIDTH, #TCRX_BAD_BUFFER, #TCRX_BAD_APID, #TCRX_DOUBLE_APID, #TCRX_BAD_CAPACITY,
- * #TCRX_BAD_MAP, #TCRX_DOUBLE_MAP, #TCRX_BAD_UNITS, #TCRX_PLAIN_MAP; and last by #TCRX_NO_MEMORY.
+ * @return #TCRX_DONE. Refused by #TCRX_NULL, #TCRX_IN_USE, #TCRX_BAD_FLAG of `segmented`; then by the first fault of the settings:
+ * #TCRX_BAD_VCID, #TCRX_BAD_WIDTH, #TCRX_BAD_BUFFER, #TCRX_BAD_APID, #TCRX_DOUBLE_APID, #TCRX_BAD_CAPACITY, #TCRX_BAD_MAP,
+ * #TCRX_DOUBLE_MAP, #TCRX_BAD_UNITS, #TCRX_PLAIN_MAP; and last by #TCRX_NO_MEMORY.
  */
 static inline tcrx_status tcrx_channel_new(tcrx_channel *channel, tcrx_settings settings, const tcrx_queue *queues,
                                            size_t queue_count, const tcrx_map *maps, size_t map_count) {
@@ -644,22 +613,21 @@ static inline tcrx_status tcrx_channel_new(tcrx_channel *channel, tcrx_settings 
 }
 
 /**
- * Makes a channel with a limit for the units of each MAP, so that it asks for less memory. A unit of more octets than its MAP's limit
- * is dropped where it ends, and no answer says so, just as a unit of more than 65,542 octets is without limits.
+ * Makes a channel with a limit for the units of each MAP. A longer unit is dropped where it ends, and no answer says so, just as one of
+ * more than 65,542 octets is without limits. With segment headers `others` may be 0: a MAP that isn't listed then ends no unit but the
+ * empty one. Without them no MAP may be listed, and `others` is the limit of each data field.
  *
- * @param channel     where it is to be held, #TCRX_HOLDS_NONE
- * @param settings    its settings
- * @param queues      its packet queues; null where there are none
+ * @param channel     the channel
+ * @param settings    the settings
+ * @param queues      the packet queues; null where there are none
  * @param queue_count how many there are
- * @param maps        its chosen MAPs; null where there are none
+ * @param maps        the chosen MAPs; null where there are none
  * @param map_count   how many there are
- * @param others      the most octets of a unit of each MAP that isn't listed, at most 65,542. With segment headers it may be 0: such
- *                    a MAP then ends no unit but the empty one. Without them it is the limit of each data field.
- * @param limits      the limits of MAPs, none without segment headers; null where there are none
+ * @param others      the limit of each MAP that isn't listed
+ * @param limits      the limits of MAPs; null where there are none
  * @param limit_count how many there are
- * @return #TCRX_DONE. Refused as by tcrx_channel_new(); behind the faults of the settings come those of the limits in this order:
- * #TCRX_BAD_OTHERS, #TCRX_BAD_LIMIT_MAP, #TCRX_DOUBLE_LIMIT, #TCRX_BAD_LIMIT, #TCRX_PLAIN_LIMIT, #TCRX_UNLISTED_MAP; and last
- * #TCRX_NO_MEMORY.
+ * @return #TCRX_DONE. Refused as tcrx_channel_new(). Between the faults of the settings and #TCRX_NO_MEMORY come those of the limits:
+ * #TCRX_BAD_OTHERS, #TCRX_BAD_LIMIT_MAP, #TCRX_DOUBLE_LIMIT, #TCRX_BAD_LIMIT, #TCRX_PLAIN_LIMIT, #TCRX_UNLISTED_MAP.
  */
 static inline tcrx_status tcrx_channel_new_with_limits(tcrx_channel *channel, tcrx_settings settings, const tcrx_queue *queues,
                                                        size_t queue_count, const tcrx_map *maps, size_t map_count,
@@ -677,14 +645,12 @@ static inline tcrx_status tcrx_channel_new_with_limits(tcrx_channel *channel, tc
 }
 
 /**
- * Gives the channel the frame at the front of octets. What follows the frame is fill. The data field of an accepted Type-AD
- * frame waits in the buffer. The unit that an accepted Type-BD frame ends is queued at once.
- *
- * The spacecraft id and the virtual channel id of the frame are not looked at. tcrx_read_frame() answers them, so that the
- * caller can give each frame to the channel that it is for.
+ * Gives the channel the frame at the front of octets. What follows it is fill. The data field of an accepted Type-AD frame waits in the
+ * buffer; the unit that an accepted Type-BD frame ends is queued at once. The frame's spacecraft id and virtual channel id are not
+ * looked at: the caller chooses the channel by what tcrx_read_frame() answers.
  *
  * @param channel the channel
- * @param octets  the octets
+ * @param octets  the octets that are read
  * @param count   how many there are
  * @return the event, and what became of the unit. Refused by #TCRX_NULL, #TCRX_NO_CHANNEL, #TCRX_SHORT to #TCRX_TRUNCATED.
  */
@@ -697,8 +663,8 @@ static inline tcrx_reply tcrx_channel_frame(tcrx_channel *channel, const uint8_t
 }
 
 /**
- * Passes the oldest data field of the buffer on to reassembly. The unit that it ends is cut into packets, which are queued; a
- * unit of a chosen MAP is queued whole.
+ * Passes the oldest data field of the buffer on to reassembly. The unit that it ends is cut into packets, which are queued; that of a
+ * chosen MAP is queued whole.
  *
  * @param channel the channel
  * @return what became of the unit. Refused by #TCRX_NULL, #TCRX_NO_CHANNEL, #TCRX_EMPTY.
@@ -712,13 +678,13 @@ static inline tcrx_delivery tcrx_channel_release(tcrx_channel *channel) {
 }
 
 /**
- * Takes the oldest packet of a queue, whole with its header, to the front of a buffer. A packet has 7 to 65,542 octets. The rest
- * of the buffer stays as it was; where the call is refused, the whole buffer, and the packet stays in its queue.
+ * Takes the oldest packet of a queue, with its header, to the front of a buffer. It has 7 to 65,542 octets, and stays in its queue where
+ * the call is refused.
  *
  * @param channel the channel
  * @param apid    the APID of the queue
- * @param octets  the buffer
- * @param room    the octets of the buffer
+ * @param octets  the buffer that is written
+ * @param room    how many octets the buffer has
  * @return the length of the packet. Refused by #TCRX_NULL, #TCRX_NO_CHANNEL, #TCRX_NO_QUEUE, #TCRX_EMPTY, #TCRX_NO_ROOM.
  */
 static inline tcrx_written tcrx_channel_take(tcrx_channel *channel, uint16_t apid, uint8_t *octets, size_t room) {
@@ -734,8 +700,8 @@ static inline tcrx_written tcrx_channel_take(tcrx_channel *channel, uint16_t api
  *
  * @param channel the channel
  * @param map     the MAP
- * @param octets  the buffer
- * @param room    the octets of the buffer
+ * @param octets  the buffer that is written
+ * @param room    how many octets the buffer has
  * @return the length of the unit. Refused by #TCRX_NULL, #TCRX_NO_CHANNEL, #TCRX_NO_MAP, #TCRX_EMPTY, #TCRX_NO_ROOM.
  */
 static inline tcrx_written tcrx_channel_take_unit(tcrx_channel *channel, uint8_t map, uint8_t *octets, size_t room) {
@@ -747,12 +713,10 @@ static inline tcrx_written tcrx_channel_take_unit(tcrx_channel *channel, uint8_t
 }
 
 /**
- * The CLCW of the channel. Its status field is 0, and COP-1 is in effect.
- *
  * @param channel     the channel
- * @param no_rf       the No RF Available flag of the link
- * @param no_bit_lock the No Bit Lock flag of the link
- * @return the word. Refused by #TCRX_NULL, #TCRX_NO_CHANNEL, #TCRX_BAD_FLAG.
+ * @param no_rf       a flag of the link, No RF Available or No Bit Lock
+ * @param no_bit_lock a flag of the link, No RF Available or No Bit Lock
+ * @return the CLCW, as of tcrx_clcw(). Refused by #TCRX_NULL, #TCRX_NO_CHANNEL, #TCRX_BAD_FLAG.
  */
 static inline tcrx_clcw_answer tcrx_channel_clcw(tcrx_channel *channel, uint8_t no_rf, uint8_t no_bit_lock) {
     if (channel == NULL) {
@@ -763,10 +727,8 @@ static inline tcrx_clcw_answer tcrx_channel_clcw(tcrx_channel *channel, uint8_t 
 }
 
 /**
- * The record of the channel's FARM-1, with the width of its window.
- *
  * @param channel the channel
- * @return the record. Refused by #TCRX_NULL, #TCRX_NO_CHANNEL.
+ * @return the record of the channel's FARM-1. Refused by #TCRX_NULL, #TCRX_NO_CHANNEL.
  */
 static inline tcrx_farm_answer tcrx_channel_report(tcrx_channel *channel) {
     if (channel == NULL) {
@@ -777,10 +739,8 @@ static inline tcrx_farm_answer tcrx_channel_report(tcrx_channel *channel) {
 }
 
 /**
- * How many data fields wait in the buffer.
- *
  * @param channel the channel
- * @return the count. Refused by #TCRX_NULL, #TCRX_NO_CHANNEL.
+ * @return how many data fields wait in the buffer. Refused by #TCRX_NULL, #TCRX_NO_CHANNEL.
  */
 static inline tcrx_count tcrx_channel_buffered(tcrx_channel *channel) {
     if (channel == NULL) {
@@ -791,11 +751,9 @@ static inline tcrx_count tcrx_channel_buffered(tcrx_channel *channel) {
 }
 
 /**
- * How many packets wait in a queue.
- *
  * @param channel the channel
  * @param apid    the APID of the queue
- * @return the count. Refused by #TCRX_NULL, #TCRX_NO_CHANNEL, #TCRX_NO_QUEUE.
+ * @return how many packets wait there. Refused by #TCRX_NULL, #TCRX_NO_CHANNEL, #TCRX_NO_QUEUE.
  */
 static inline tcrx_count tcrx_channel_queued(tcrx_channel *channel, uint16_t apid) {
     if (channel == NULL) {
@@ -806,11 +764,9 @@ static inline tcrx_count tcrx_channel_queued(tcrx_channel *channel, uint16_t api
 }
 
 /**
- * How many units wait in the queue of a chosen MAP.
- *
  * @param channel the channel
  * @param map     the MAP
- * @return the count. Refused by #TCRX_NULL, #TCRX_NO_CHANNEL, #TCRX_NO_MAP.
+ * @return how many units wait in the queue of a chosen MAP. Refused by #TCRX_NULL, #TCRX_NO_CHANNEL, #TCRX_NO_MAP.
  */
 static inline tcrx_count tcrx_channel_units(tcrx_channel *channel, uint8_t map) {
     if (channel == NULL) {
@@ -821,10 +777,9 @@ static inline tcrx_count tcrx_channel_units(tcrx_channel *channel, uint8_t map) 
 }
 
 /**
- * How many frames, releases and takes were done; where there are more than 2^64 - 1, that number.
- *
  * @param channel the channel
- * @return the count. Refused by #TCRX_NULL, #TCRX_NO_CHANNEL.
+ * @return how many frames, releases and takes were done; where there are more than 2^64 - 1, that number. Refused by #TCRX_NULL,
+ * #TCRX_NO_CHANNEL.
  */
 static inline tcrx_count tcrx_channel_events(tcrx_channel *channel) {
     if (channel == NULL) {
@@ -835,7 +790,7 @@ static inline tcrx_count tcrx_channel_events(tcrx_channel *channel) {
 }
 
 /**
- * Frees the channel with all that waits in it. After that none is held, and another one can be made in its place.
+ * Frees the channel with all that waits in it. Another one can then be made in its place.
  *
  * @param channel the channel
  * @return #TCRX_DONE. Refused by #TCRX_NULL, #TCRX_NO_CHANNEL.
@@ -851,24 +806,24 @@ static inline tcrx_status tcrx_channel_free(tcrx_channel *channel) {
 /**
  * @defgroup tcrx_static Memory in a static array
  *
- * For a program that is linked with tcrx_static.c, on a machine of 64 bits. One of its files defines the array by #TCRX_STATIC_STORAGE.
+ * For a program that is linked with tcrx_static.c, on a machine of 64 bits.
  * @{
  */
 
 /**
- * The octets of a static array in which channels of such settings and limits can be made, as a constant: those that
- * tcrx_storage_with_limits() answers, and all that it doesn't count. For several channels take the sum.
+ * The octets of the array that a channel takes, as a constant: those that tcrx_storage_with_limits() answers, and all that it doesn't
+ * count. For several channels take the sum.
  *
- * `segmented` is 1 with segment headers, else 0. `buffer` is how many data fields the buffer holds, `queues` how many packet queues
- * there are, `maps` how many chosen MAPs, and `items` the capacities of all of these together. `limits` is how many MAPs are listed.
- * `sum` has the limits of all 64 MAPs together: without limits 64 * 65542, and without segment headers 0. `largest` is the largest
- * limit of all: without limits 65542, and without segment headers at most 1019.
+ * `segmented` and `buffer` are those of the settings; `queues`, `maps` and `limits` are how many packet queues, chosen MAPs and listed
+ * MAPs there are, and `items` the capacities of all queues and chosen MAPs together. `sum` has the limits of all 64 MAPs together:
+ * without limits 64 * 65542, and without segment headers 0. `largest` is the largest limit: without limits 65542, and without
+ * segment headers at most 1019.
  */
 #define TCRX_STORAGE_OF(segmented, buffer, queues, maps, items, limits, sum, largest) \
     ((size_t)(buffer) * 1083u + ((segmented) ? 5120u + 2u * (size_t)(sum) : 0u) + ((size_t)(queues) + (size_t)(maps)) * 76u \
      + (size_t)(items) * (64u + (size_t)(largest)) + (size_t)(limits) * 8u + TCRX_OWN_STORAGE)
 
-/** What each channel takes of the array for itself, by any settings. */
+/** What each channel takes for itself. */
 #define TCRX_OWN_STORAGE 320u
 
 /** Defines the array, in one file of the program: `TCRX_STATIC_STORAGE(TCRX_STORAGE_OF(..));` */
@@ -883,14 +838,12 @@ extern const size_t tcrx_static_size;
 
 /**
  * Ends the start: each request for memory after it stops the program by TCRX_STORAGE_TRAP() of tcrx_static.c, a trap of the processor
- * where that isn't defined otherwise.
+ * unless defined otherwise.
  */
 void tcrx_storage_seal(void);
 
 /**
- * How much of the array has been given.
- *
- * @return the octets
+ * @return how many octets of the array have been given
  */
 size_t tcrx_storage_used(void);
 /** @} */

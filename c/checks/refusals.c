@@ -233,7 +233,7 @@ static void check_texts(void) {
         {TCRX_NO_ENTRY, "in S2 no expected AD frame finds room"},
         {TCRX_BAD_VCID, "the virtual channel id is over 63"},
         {TCRX_NO_CLCW, "the word is no CLCW of COP-1"},
-        {TCRX_NO_PACKET, "no whole packet stands there"},
+        {TCRX_NO_PACKET, "no whole packet is there"},
         {TCRX_NO_ROOM, "the buffer is too short"},
         {TCRX_NULL, "a pointer is null"},
         {TCRX_NO_STATUS, "no such status"},

@@ -70,6 +70,8 @@ PROBE, PROBE_ANSWER = "?", "bad unknown command"
 LONGEST_ANSWER, LONGEST_REPORT, LONGEST_ERROR = 1 << 20, 1 << 23, 1 << 16
 # Seconds that a program has to end by itself, and once it was asked to.
 GRACE = 5.0
+# Has a `tclive` of the repository that isn't built end with this status and say what builds it.
+NO_BUILD, NOT_BUILT = {"TCRX_BUILD": "no"}, 70
 
 
 class Event(enum.Enum):
@@ -302,7 +304,7 @@ class Fault(Exception):
 
 
 class NotStarted(Fault):
-    """The program isn't there or can't be started."""
+    """The program isn't there, isn't built, or can't be started."""
 
 
 class BadLine(Fault):
@@ -433,7 +435,7 @@ class Process(Link):
                 # In a session of its own, so that Ctrl-C ends this program alone.
                 # pylint: disable-next=consider-using-with  # it is ended in `end`
                 self.child = subprocess.Popen(words, stdin=its_input.fileno(), stdout=its_output.fileno(), stderr=self.errors,
-                                              start_new_session=True)
+                                              start_new_session=True, env={**os.environ, **NO_BUILD})
             except (OSError, ValueError) as error:
                 raise NotStarted(f"{words[0]} can't be started: {getattr(error, 'strerror', None) or error}") from error
             opened.pop_all()
@@ -538,10 +540,10 @@ class Receiver:
     def __init__(self, scid: int, *, fecf: bool = False, program: Union[str, "os.PathLike[str]", None] = None,
                  timeout: Optional[float] = None) -> None:
         """Starts `tclive` for the spacecraft with the id `scid` (0 to 1,023). With `fecf` each frame must carry the frame error
-        control field. `program` is the path of `tclive`; without it, it is looked for at the root of this repository, where a first
-        start builds it, and then on the path. With a `timeout` each call, this one as well, has so many seconds.
+        control field. `program` is the path of `tclive`; without it, it is looked for at the root of this repository, and then on the
+        path. With a `timeout` each call, this one as well, has so many seconds.
 
-        Raises `NotStarted` where it isn't there, and `Ended`, with what it said, where it ends at once.
+        Raises `NotStarted` where it isn't there or isn't built, and `Ended`, with what it said, where it ends at once.
         """
         check_timeout(timeout)
         words = [find_program() if program is None else os.fspath(program), "--scid", str(number(scid))]
@@ -566,7 +568,12 @@ class Receiver:
         self._until: Optional[float] = None
         # How many seconds each call has, or `None` for no limit. It may be changed between calls.
         self.timeout = timeout
-        self._ask(PROBE, [PROBE_ANSWER].index)
+        try:
+            self._ask(PROBE, [PROBE_ANSWER].index)
+        except Ended as fault:
+            if fault.status != NOT_BUILT:
+                raise
+            raise NotStarted(fault.error) from None
 
     # --- Lines and answers ---
 

@@ -83,7 +83,7 @@ class Bench:  # pylint: disable=too-many-instance-attributes  # it is made of th
     # --- The begin ---
 
     async def set_up(self, lines: List[Tuple[int, str]]) -> None:
-        """Has the program set up, which may have to be built first."""
+        """Has the program set up."""
         bad: List[str] = []
         first: "asyncio.Future[str]" = self.engine.loop.create_future()
 
@@ -100,10 +100,11 @@ class Bench:  # pylint: disable=too-many-instance-attributes  # it is made of th
         either = {first, self.engine.over}
         started, _ = await asyncio.wait(either, timeout=SLOW_START, return_when=asyncio.FIRST_COMPLETED)
         if not started:
-            self.notes.say("tclive isn't up yet; the first start in a tree proves and builds it, which takes minutes")
+            self.notes.say("tclive isn't up yet")
             await asyncio.wait(either, return_when=asyncio.FIRST_COMPLETED)
         if self.engine.over.done():
-            raise NotUp(self.engine.over.result() or "the receiver has ended", 1)
+            is_built = self.engine.status != tcrx.NOT_BUILT
+            raise NotUp((self.engine.over.result() if is_built else self.engine.error) or "the receiver has ended", 1)
         if bad:
             raise NotUp(bad[0], 2)
 

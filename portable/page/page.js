@@ -167,7 +167,7 @@ function markNext() {
 }
 
 function draw() {
-  by("fault").textContent = run.fault === null ? "" : run.fault;
+  by("fault").textContent = run.fault === null ? "" : run.fault + run.hint;
   const isEnd = run.isAtEnd() || run.lines.slice(run.at).every((it) => it.what === "");
   for (const id of ["step", "all"]) by(id).disabled = isEnd;
   for (const id of ["back", "start"]) by(id).disabled = run.answers.length === 0;

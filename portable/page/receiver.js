@@ -189,6 +189,29 @@ function readLine(text) {
   return line;
 }
 
+/* How many letters two words differ by: those that are left out, added or changed. */
+function distance(one, other) {
+  let row = Array.from({length: other.length + 1}, (_, i) => i);
+  for (let i = 1; i <= one.length; i += 1) {
+    const next = [i];
+    for (let j = 1; j <= other.length; j += 1) {
+      next.push(Math.min(row[j] + 1, next[j - 1] + 1, row[j - 1] + (one[i - 1] === other[j - 1] ? 0 : 1)));
+    }
+    row = next;
+  }
+  return row[other.length];
+}
+
+/* What may help with a bad line, beside its fault. */
+function hintFor(line) {
+  if (line.fault === "unknown command") {
+    const most = Math.min(2, line.what.length - 1);
+    const near = Object.keys(NUMBERS).find((it) => distance(line.what.toLowerCase(), it) <= most);
+    return near === undefined ? "" : ` (${near}?)`;
+  }
+  return line.what === "frame" && line.words.length > 2 ? " (octets are written without spaces)" : "";
+}
+
 /* The settings of a channel have a fault by themselves: the first one of its own line. */
 function channelFault([vcid, width, buffer]) {
   if (vcid > 63) return "bad channel";
@@ -204,6 +227,7 @@ class Run {
     this.library = new Instance(compiled);
     this.channels = new Map();
     this.fault = null;
+    this.hint = "";
     this.answers = [];
     const isLong = script.length > MOST.SCRIPT;
     const texts = isLong ? [] : script.split("\n");
@@ -224,6 +248,7 @@ class Run {
   }
   stop(line, why) {
     this.fault = `line ${line.number}: ${why}`;
+    this.hint = hintFor(line);
   }
   setUp(line) {
     if (line.what === "") return;

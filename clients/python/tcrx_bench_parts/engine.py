@@ -167,8 +167,8 @@ class Engine:  # pylint: disable=too-many-instance-attributes  # both ways of on
         self.over.set_result(why)
 
     def _watch(self) -> None:
-        """Ends a program that leaves lines unanswered for long. The first answer may take as long as a build. It is looked at more than
-        once, as an answer may be there that wasn't read yet."""
+        """Ends a program that leaves lines unanswered for long, once it is up. It is looked at more than once, as an answer may be there
+        that wasn't read yet."""
         if self.over.done():
             return
         waits = bool(self.pending) and self._armed or self._ending

@@ -11,6 +11,7 @@ Lines that were bad are in comments of no such kind: they changed nothing.
 """
 from __future__ import annotations
 
+import os
 import re
 import subprocess
 import sys
@@ -21,7 +22,7 @@ from itertools import zip_longest
 from pathlib import Path
 from typing import Iterator, List, NamedTuple, Optional, Tuple
 
-from tcrx import NotStarted, __version__, find_program
+from tcrx import NO_BUILD, NotStarted, __version__, find_program
 
 from .octets import without_sum
 
@@ -184,7 +185,7 @@ def answers_of(words: List[str], steps: List[Step]) -> List[str]:
         given.write("".join([step.line + "\n" for step in steps if step.line]).encode("latin-1"))
         given.seek(0)
         try:
-            ran = subprocess.run(words, stdin=given, stdout=printed, check=False)
+            ran = subprocess.run(words, stdin=given, stdout=printed, env={**os.environ, **NO_BUILD}, check=False)
         except OSError as error:
             raise Unfit(f"{words[0]} can't be started: {error.strerror}") from None
         if ran.returncode:
