@@ -32,8 +32,7 @@ pub fn what_was_admitted_is_given_in_order()
 {}
 
 /// All that a packet queue ever admitted are packets that the data fields make that were passed to reassembly, in their order, of which
-/// some may be left out: those for which there was no room. Where it admitted as many as they make, none is left out. The same holds of
-/// the units of a chosen MAP.
+/// some may be left out. Where it admitted as many as they make, none is left out. The same holds of the units of a chosen MAP.
 pub fn what_was_passed_on_is_admitted_in_order()
     ensures packets { (limits : ℕ → ℕ) (s : Settings) (journal : List Event) (apid : ℕ) (q : Queue) → queue_of apid (run_within limits s journal).queues ≡ Some q
         → IsPartOf q.admitted (packets_made limits s apid (run_within limits s journal).passed) }
@@ -46,7 +45,7 @@ pub fn what_was_passed_on_is_admitted_in_order()
 /// none comes 256 numbers or more early or late; frames may be lost, come several times and out of order. Then, after any lawful journal
 /// in which no Set V(R) was obeyed, the AD fields that were passed to reassembly are the first that were sent, as many as were released;
 /// and all packets of an application that takes gave are, in their order, packets that those fields, and the BD fields between
-/// them, make; some may be left out, for which a queue had no room. The same holds of the units of a chosen MAP.
+/// them, make, of which some may be left out. The same holds of the units of a chosen MAP.
 pub fn what_was_sent_is_given_in_order()
     ensures fields { (limits : ℕ → ℕ) (s : Settings) (journal : List Event) (x : ℕ) (sent : ℕ → List ℕ) → IsLawfulWithin limits s journal
         → IsEraWithin limits s journal [] journal x → ComesFromWithin limits s [] journal x sent

@@ -73,18 +73,6 @@ pub fn is_taken<E: Drop + PartialEq>(
     }
 }
 
-/// Whether a packet or a unit was taken, or the take refused, as it must be.
-pub fn has_item<E: Drop + PartialEq>(
-    answer: Result<Vec<u8>, E>,
-    item: Option<&[u8]>,
-    fault: Option<E>,
-) -> bool {
-    match answer {
-        Ok(found) => item == Some(found.as_slice()),
-        Err(found) => fault == Some(found),
-    }
-}
-
 /// Whether each fault has its text.
 pub fn have_texts<F: Display>(alloc: Global, texts: &[(F, &str)]) -> bool {
     texts.iter().all(|(fault, text)| fault
