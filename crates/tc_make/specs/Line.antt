@@ -9,6 +9,8 @@ use Rattle.tc_lines.specs.Number.{number_of}
 use Rattle.tc_make.specs.declared.fault.Reason.{Reason}
 use Rattle.tc_make.specs.declared.fault.Reason.TheVariants.{UnknownCommand, WordCount, BadNumber, BadHex}
 use Rattle.tc_link.specs.declared.frame.Header.{Header}
+use Rattle.tc_make.specs.declared.form.Form.{Form}
+use Rattle.tc_make.specs.declared.form.Form.TheVariants as forms
 use Rattle.tc_make.specs.declared.line.Stream.{Stream}
 use Rattle.tc_make.specs.declared.line.Sizing.{Sizing}
 use Rattle.tc_make.specs.declared.line.Line.{Line}
@@ -20,30 +22,30 @@ Words = List (List ℕ)
 abbrev pub Said : Type 0
 Said = Result Line Reason
 
--- what is said by as many words as a command takes
-abbrev pub with_one : Words → (List ℕ → Said) → Said
-with_one (a ∷ []) says = says a
-with_one _ says = Err WordCount
+-- what is said by as many words as a form takes
+abbrev pub with_one : Form → Words → (List ℕ → Said) → Said
+with_one form (a ∷ []) says = says a
+with_one form _ says = Err (WordCount form)
 
-abbrev pub with_two : Words → (List ℕ → List ℕ → Said) → Said
-with_two (a ∷ b ∷ []) says = says a b
-with_two _ says = Err WordCount
+abbrev pub with_two : Form → Words → (List ℕ → List ℕ → Said) → Said
+with_two form (a ∷ b ∷ []) says = says a b
+with_two form _ says = Err (WordCount form)
 
-abbrev pub with_three : Words → (List ℕ → List ℕ → List ℕ → Said) → Said
-with_three (a ∷ b ∷ c ∷ []) says = says a b c
-with_three _ says = Err WordCount
+abbrev pub with_three : Form → Words → (List ℕ → List ℕ → List ℕ → Said) → Said
+with_three form (a ∷ b ∷ c ∷ []) says = says a b c
+with_three form _ says = Err (WordCount form)
 
-abbrev pub with_four : Words → (List ℕ → List ℕ → List ℕ → List ℕ → Said) → Said
-with_four (a ∷ b ∷ c ∷ d ∷ []) says = says a b c d
-with_four _ says = Err WordCount
+abbrev pub with_four : Form → Words → (List ℕ → List ℕ → List ℕ → List ℕ → Said) → Said
+with_four form (a ∷ b ∷ c ∷ d ∷ []) says = says a b c d
+with_four form _ says = Err (WordCount form)
 
-abbrev pub with_five : Words → (List ℕ → List ℕ → List ℕ → List ℕ → List ℕ → Said) → Said
-with_five (a ∷ b ∷ c ∷ d ∷ e ∷ []) says = says a b c d e
-with_five _ says = Err WordCount
+abbrev pub with_five : Form → Words → (List ℕ → List ℕ → List ℕ → List ℕ → List ℕ → Said) → Said
+with_five form (a ∷ b ∷ c ∷ d ∷ e ∷ []) says = says a b c d e
+with_five form _ says = Err (WordCount form)
 
-abbrev pub with_six : Words → (List ℕ → List ℕ → List ℕ → List ℕ → List ℕ → List ℕ → Said) → Said
-with_six (a ∷ b ∷ c ∷ d ∷ e ∷ f ∷ []) says = says a b c d e f
-with_six _ says = Err WordCount
+abbrev pub with_six : Form → Words → (List ℕ → List ℕ → List ℕ → List ℕ → List ℕ → List ℕ → Said) → Said
+with_six form (a ∷ b ∷ c ∷ d ∷ e ∷ f ∷ []) says = says a b c d e f
+with_six form _ says = Err (WordCount form)
 
 -- what follows where a word is a number within its bound
 abbrev pub with_number : ℕ → List ℕ → (ℕ → Said) → Said
@@ -100,7 +102,7 @@ abbrev pub bd_header : ℕ → ℕ → Header
 bd_header scid vcid = record { bypass = true; control = false; scid = scid; vcid = vcid; ns = 0 }
 
 abbrev pub packet_of : Words → Said
-packet_of words = with_three words (λ a c o. with_number 65535 a (λ apid. with_number 65535 c (λ count. with_octets o (λ octets.
+packet_of words = with_three forms.Packet words (λ a c o. with_number 65535 a (λ apid. with_number 65535 c (λ count. with_octets o (λ octets.
     Ok (Packet apid count octets)))))
 
 -- a frame that carries the octets of a word
@@ -108,17 +110,17 @@ abbrev pub framed_of : Header → Option Segment → List ℕ → Said
 framed_of header segment word = with_octets word (λ octets. Ok (Frame header segment octets))
 
 abbrev pub ad_of : Words → Said
-ad_of words = with_five words (λ s v n m o. with_ok (stream_of s v n) (λ stream. with_ok (segment_of m) (λ segment. framed_of (ad_header stream) segment o)))
+ad_of words = with_five forms.Ad words (λ s v n m o. with_ok (stream_of s v n) (λ stream. with_ok (segment_of m) (λ segment. framed_of (ad_header stream) segment o)))
 
 abbrev pub bd_of : Words → Said
-bd_of words = with_four words (λ s v m o. with_number 65535 s (λ scid. with_number 255 v (λ vcid. with_ok (segment_of m) (λ segment.
+bd_of words = with_four forms.Bd words (λ s v m o. with_number 65535 s (λ scid. with_number 255 v (λ vcid. with_ok (segment_of m) (λ segment.
     framed_of (bd_header scid vcid) segment o))))
 
 abbrev pub unlock_of : Words → Said
-unlock_of words = with_two words (λ s v. with_number 65535 s (λ scid. with_number 255 v (λ vcid. Ok (Command scid vcid Unlock))))
+unlock_of words = with_two forms.Unlock words (λ s v. with_number 65535 s (λ scid. with_number 255 v (λ vcid. Ok (Command scid vcid Unlock))))
 
 abbrev pub setvr_of : Words → Said
-setvr_of words = with_three words (λ s v x. with_number 65535 s (λ scid. with_number 255 v (λ vcid. with_number 255 x (λ vr.
+setvr_of words = with_three forms.SetVr words (λ s v x. with_number 65535 s (λ scid. with_number 255 v (λ vcid. with_number 255 x (λ vr.
     Ok (Command scid vcid (SetVr vr))))))
 
 -- the segments of the unit of a word
@@ -126,13 +128,13 @@ abbrev pub parted_of : Stream → Sizing → List ℕ → Said
 parted_of stream sizing word = with_octets word (λ unit. Ok (Segments stream sizing unit))
 
 abbrev pub segments_of : Words → Said
-segments_of words = with_six words (λ s v n m z o. with_ok (stream_of s v n) (λ stream. with_ok (sizing_of m z) (λ sizing. parted_of stream sizing o)))
+segments_of words = with_six forms.Segments words (λ s v n m z o. with_ok (stream_of s v n) (λ stream. with_ok (sizing_of m z) (λ sizing. parted_of stream sizing o)))
 
 abbrev pub explain_of : Words → Said
-explain_of words = with_one words (λ o. with_octets o (λ octets. Ok (Explain octets)))
+explain_of words = with_one forms.Explain words (λ o. with_octets o (λ octets. Ok (Explain octets)))
 
 abbrev pub clcw_of : Words → Said
-clcw_of words = with_one words (λ o. with_octets o (λ octets. Ok (Clcw octets)))
+clcw_of words = with_one forms.Clcw words (λ o. with_octets o (λ octets. Ok (Clcw octets)))
 
 abbrev pub is_comment : List ℕ → Bool
 is_comment word = slice_index word 0 == 35

@@ -19,11 +19,13 @@ pub use Rattle.tc_lines.specs.Printed.{octets_text, flag_text}
 use Rattle.tc_make.specs.declared.explaining.Explanation.{Explanation}
 use Rattle.tc_make.specs.declared.fault.Reason.{Reason}
 use Rattle.tc_make.specs.declared.fault.Reason.TheVariants.{UnknownCommand, WordCount, BadNumber, BadHex, BadScid, BadVcid, BadMap, BadApid, BadCount, BadSize, NoData, TooMuchData, BadClcw, NoMemory}
+use Rattle.tc_make.specs.declared.form.Form.{Form}
+use Rattle.tc_make.specs.declared.form.Form.TheVariants as forms
 
 -- why nothing is made of a line
 abbrev pub reason_text : Reason → List ℕ
 reason_text UnknownCommand = codes "unknown command"
-reason_text WordCount = codes "wrong number of words"
+reason_text (WordCount form) = codes "wrong number of words"
 reason_text BadNumber = codes "bad number"
 reason_text BadHex = codes "bad hex"
 reason_text BadScid = codes "bad spacecraft"
@@ -37,9 +39,32 @@ reason_text TooMuchData = codes "too much data"
 reason_text BadClcw = codes "bad clcw"
 reason_text NoMemory = codes "no memory"
 
+-- a command and the names of its words
+abbrev pub form_text : Form → List ℕ
+form_text forms.Packet = codes "packet APID COUNT HEX"
+form_text forms.Ad = codes "ad SCID VC NS MAP HEX"
+form_text forms.Bd = codes "bd SCID VC MAP HEX"
+form_text forms.Unlock = codes "unlock SCID VC"
+form_text forms.SetVr = codes "setvr SCID VC X"
+form_text forms.Segments = codes "segments SCID VC NS MAP SIZE HEX"
+form_text forms.Explain = codes "explain HEX"
+form_text forms.Clcw = codes "clcw HEX"
+
+-- what is said of the octets with which a form ends; two end with none
+abbrev pub note_text : Form → List ℕ
+note_text forms.Unlock = []
+note_text forms.SetVr = []
+note_text form = codes ", octets without spaces"
+
+-- what follows a reason: what to write, where that is known, and the end of the line
+abbrev pub hint_text : Reason → List ℕ
+hint_text UnknownCommand = codes ": use packet, ad, bd, unlock, setvr, segments, explain or clcw\n"
+hint_text (WordCount form) = codes ": write " ++ form_text form ++ note_text form ++ codes "\n"
+hint_text reason = codes "\n"
+
 -- the line `bad ..`
 abbrev pub bad_text : Reason → List ℕ
-bad_text reason = codes "bad " ++ reason_text reason ++ codes "\n"
+bad_text reason = codes "bad " ++ reason_text reason ++ hint_text reason
 
 -- a line of a word and octets
 abbrev pub named_text : List ℕ → List ℕ → List ℕ

@@ -3,6 +3,7 @@
 ghost use Rattle.std.specs.Prelude.{◌≡◌, Some};
 ghost use Rattle.tc_make.specs.Printed.{reason_text};
 
+use crate::form::Form;
 use std::error::Error;
 use std::fmt;
 use tc_lines::BadNumber;
@@ -13,8 +14,8 @@ use tc_lines::BadNumber;
 pub enum Reason {
     /// The first word is no command.
     UnknownCommand,
-    /// The command takes another number of words.
-    WordCount,
+    /// The command takes another number of words, those of its form.
+    WordCount(Form),
     /// A number isn't 1 to 5 decimal digits, or is over its type's bound.
     BadNumber,
     /// Octets aren't an even number of hexadecimal digits.
@@ -48,7 +49,7 @@ impl Reason {
     {
         match self {
             Reason::UnknownCommand => "unknown command",
-            Reason::WordCount => "wrong number of words",
+            Reason::WordCount(_) => "wrong number of words",
             Reason::BadNumber => "bad number",
             Reason::BadHex => "bad hex",
             Reason::BadScid => "bad spacecraft",

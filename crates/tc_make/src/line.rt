@@ -6,6 +6,7 @@ ghost use Rattle.tc_lines.specs.Word.{words as words_of};
 ghost use Rattle.tc_make.specs.Line.{line_of, packet_of, ad_of, bd_of, unlock_of, setvr_of, segments_of, explain_of, clcw_of, segment_of, stream_of, sizing_of, framed_of, parted_of, ad_header as ad_header_of, bd_header as bd_header_of, is_comment as is_comment_word};
 
 use crate::fault::Reason;
+use crate::form::Form;
 use crate::octets::Octets;
 use hex::FromHexError;
 use std::alloc::{AllocError, Global};
@@ -118,7 +119,7 @@ fn packet(alloc: Global, words: &[&[u8]]) -> Result<Line, Reason>
     ensures reason { IfErr result (λ reason. (reason ≡ Reason.NoMemory) ⊎ (packet_of (map (λ word. word.now) words.now) ≡ Err reason)) }
 {
     let [apid, count, digits] = words else {
-        return Err(Reason::WordCount);
+        return Err(Reason::WordCount(Form::Packet));
     };
     Ok(Line::Packet {
         apid: large_number(apid)?,
@@ -132,7 +133,7 @@ fn ad(alloc: Global, words: &[&[u8]]) -> Result<Line, Reason>
     ensures reason { IfErr result (λ reason. (reason ≡ Reason.NoMemory) ⊎ (ad_of (map (λ word. word.now) words.now) ≡ Err reason)) }
 {
     let [scid, vcid, ns, map, digits] = words else {
-        return Err(Reason::WordCount);
+        return Err(Reason::WordCount(Form::Ad));
     };
     let stream = read_stream(scid, vcid, ns)?;
     let segment = segment(map)?;
@@ -144,7 +145,7 @@ fn bd(alloc: Global, words: &[&[u8]]) -> Result<Line, Reason>
     ensures reason { IfErr result (λ reason. (reason ≡ Reason.NoMemory) ⊎ (bd_of (map (λ word. word.now) words.now) ≡ Err reason)) }
 {
     let [scid, vcid, map, digits] = words else {
-        return Err(Reason::WordCount);
+        return Err(Reason::WordCount(Form::Bd));
     };
     let scid = large_number(scid)?;
     let vcid = small_number(vcid)?;
@@ -157,7 +158,7 @@ fn unlock(words: &[&[u8]]) -> Result<Line, Reason>
     ensures reason { IfErr result (λ reason. unlock_of (map (λ word. word.now) words.now) ≡ Err reason) }
 {
     let [scid, vcid] = words else {
-        return Err(Reason::WordCount);
+        return Err(Reason::WordCount(Form::Unlock));
     };
     Ok(Line::Command {
         scid: large_number(scid)?,
@@ -171,7 +172,7 @@ fn setvr(words: &[&[u8]]) -> Result<Line, Reason>
     ensures reason { IfErr result (λ reason. setvr_of (map (λ word. word.now) words.now) ≡ Err reason) }
 {
     let [scid, vcid, vr] = words else {
-        return Err(Reason::WordCount);
+        return Err(Reason::WordCount(Form::SetVr));
     };
     Ok(Line::Command {
         scid: large_number(scid)?,
@@ -185,7 +186,7 @@ fn segments(alloc: Global, words: &[&[u8]]) -> Result<Line, Reason>
     ensures reason { IfErr result (λ reason. (reason ≡ Reason.NoMemory) ⊎ (segments_of (map (λ word. word.now) words.now) ≡ Err reason)) }
 {
     let [scid, vcid, ns, map, size, digits] = words else {
-        return Err(Reason::WordCount);
+        return Err(Reason::WordCount(Form::Segments));
     };
     let stream = read_stream(scid, vcid, ns)?;
     let sizing = read_sizing(map, size)?;
@@ -226,7 +227,7 @@ fn explain(alloc: Global, words: &[&[u8]]) -> Result<Line, Reason>
     ensures reason { IfErr result (λ reason. (reason ≡ Reason.NoMemory) ⊎ (explain_of (map (λ word. word.now) words.now) ≡ Err reason)) }
 {
     let [digits] = words else {
-        return Err(Reason::WordCount);
+        return Err(Reason::WordCount(Form::Explain));
     };
     Ok(Line::Explain(octets(alloc, digits)?))
 }
@@ -236,7 +237,7 @@ fn clcw(alloc: Global, words: &[&[u8]]) -> Result<Line, Reason>
     ensures reason { IfErr result (λ reason. (reason ≡ Reason.NoMemory) ⊎ (clcw_of (map (λ word. word.now) words.now) ≡ Err reason)) }
 {
     let [digits] = words else {
-        return Err(Reason::WordCount);
+        return Err(Reason::WordCount(Form::Clcw));
     };
     Ok(Line::Clcw(octets(alloc, digits)?))
 }

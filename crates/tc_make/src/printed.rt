@@ -9,10 +9,22 @@ use std::io;
 use std::io::Write;
 use tc_lines::Digits;
 
+/// Why a line is bad, and what to write, where that is known.
 pub(crate) fn write_bad<W: Write>(reason: Reason, writer: &mut W) -> io::Result<()>
     ensures { OnOk result (Appends (W.contents writer.old) (W.contents writer.new) (bad_text reason)) }
 {
-    writeln!(writer, "bad {reason}")
+    match reason {
+        Reason::UnknownCommand => writeln!(
+            writer,
+            "bad {reason}: use packet, ad, bd, unlock, setvr, segments, explain or clcw"
+        ),
+        Reason::WordCount(form) => {
+            let words = form.as_str();
+            let note = form.note();
+            writeln!(writer, "bad {reason}: write {words}{note}")
+        }
+        _ => writeln!(writer, "bad {reason}"),
+    }
 }
 
 pub(crate) fn write_refused<W: Write>(why: &str, writer: &mut W) -> io::Result<()>

@@ -2,14 +2,14 @@
 
 use tc_fecf::FieldFault;
 use tc_link::FrameFault;
-use tc_make::{Reason, ServingFault};
+use tc_make::{Form, Reason, ServingFault};
 use test_parts::have_texts;
 
 #[test]
 fn reasons_of_bad_lines(rt: HostRuntime) {
     let reasons = [
         (Reason::UnknownCommand, "unknown command"),
-        (Reason::WordCount, "wrong number of words"),
+        (Reason::WordCount(Form::Ad), "wrong number of words"),
         (Reason::BadNumber, "bad number"),
         (Reason::BadHex, "bad hex"),
         (Reason::BadScid, "bad spacecraft"),
