@@ -127,8 +127,11 @@ setvr_of words = with_three forms.SetVr words (λ s v x. with_number 65535 s (λ
 abbrev pub parted_of : Stream → Sizing → List ℕ → Said
 parted_of stream sizing word = with_octets word (λ unit. Ok (Segments stream sizing unit))
 
+abbrev pub sized_of : Stream → List ℕ → List ℕ → List ℕ → Said
+sized_of stream m z o = with_ok (sizing_of m z) (λ sizing. parted_of stream sizing o)
+
 abbrev pub segments_of : Words → Said
-segments_of words = with_six forms.Segments words (λ s v n m z o. with_ok (stream_of s v n) (λ stream. with_ok (sizing_of m z) (λ sizing. parted_of stream sizing o)))
+segments_of words = with_six forms.Segments words (λ s v n m z o. with_ok (stream_of s v n) (λ stream. sized_of stream m z o))
 
 abbrev pub explain_of : Words → Said
 explain_of words = with_one forms.Explain words (λ o. with_octets o (λ octets. Ok (Explain octets)))

@@ -3,7 +3,7 @@
 ghost use Rattle.std.specs.Prelude.{◌≡◌, ◌⊎◌, map, IfOk, IfErr, IsErr, MatchResult};
 ghost use Rattle.hex.specs.Hex.{decode_of};
 ghost use Rattle.tc_lines.specs.Word.{words as words_of};
-ghost use Rattle.tc_make.specs.Line.{line_of, packet_of, ad_of, bd_of, unlock_of, setvr_of, segments_of, explain_of, clcw_of, segment_of, stream_of, sizing_of, framed_of, parted_of, ad_header as ad_header_of, bd_header as bd_header_of, is_comment as is_comment_word};
+ghost use Rattle.tc_make.specs.Line.{line_of, packet_of, ad_of, bd_of, unlock_of, setvr_of, segments_of, explain_of, clcw_of, segment_of, stream_of, sizing_of, framed_of, parted_of, sized_of, ad_header as ad_header_of, bd_header as bd_header_of, is_comment as is_comment_word};
 
 use crate::fault::Reason;
 use crate::form::Form;
@@ -189,8 +189,7 @@ fn segments(alloc: Global, words: &[&[u8]]) -> Result<Line, Reason>
         return Err(Reason::WordCount(Form::Segments));
     };
     let stream = read_stream(scid, vcid, ns)?;
-    let sizing = read_sizing(map, size)?;
-    parted(alloc, stream, sizing, digits)
+    sized(alloc, stream, map, size, digits)
 }
 
 // A frame that carries the octets that digits spell.
@@ -208,6 +207,21 @@ fn frame(
         segment,
         octets: octets(alloc, digits)?,
     })
+}
+
+// The segments, of this MAP and size, of the unit that digits spell.
+fn sized(
+    alloc: Global,
+    stream: Stream,
+    map: &[u8],
+    size: &[u8],
+    digits: &[u8],
+) -> Result<Line, Reason>
+    ensures line { IfOk result (λ line. sized_of stream map.now size.now digits.now ≡ Ok line) }
+    ensures reason { IfErr result (λ reason. (reason ≡ Reason.NoMemory) ⊎ (sized_of stream map.now size.now digits.now ≡ Err reason)) }
+{
+    let sizing = read_sizing(map, size)?;
+    parted(alloc, stream, sizing, digits)
 }
 
 // The segments of the unit that digits spell.
