@@ -14,6 +14,7 @@ from itertools import zip_longest
 from pathlib import Path
 from typing import Any, Callable, Dict, List, Tuple
 
+from client_parts import word
 from comparing import PATIENCE, TOP, begun, run, same, tell
 
 PROGRAM = TOP / "clients/python/tcrx_bench.py"
@@ -28,6 +29,45 @@ def programs(words: List[str]) -> List[Path]:
     for name in names:
         subprocess.run([TOP / name, "--version"], stdout=subprocess.DEVNULL, check=True)
     return [TOP / f"crates/{name}/out/{name}" for name in names]
+
+
+def numbered(apid: int, number: int) -> bytes:
+    """A packet of a single octet of data, by its number."""
+    return (0x1000 | apid).to_bytes(2, "big") + (0xC000 | number & 0x3FFF).to_bytes(2, "big") + b"\x00\x00" + bytes([number & 255])
+
+
+def word_of(channel: int, flags: int, farm_b: int, report: int) -> str:
+    """A CLCW's eight digits."""
+    return f"{word(channel, flags, farm_b, report).word:08x}"
+
+
+# A tclive before which stands a program that does something with each line, and passes the line on where that has set no answer.
+STAND_IN = """#!/usr/bin/env python3
+import subprocess, sys, time
+child = subprocess.Popen([{tclive!r}, *sys.argv[1:]], stdin=subprocess.PIPE, stdout=subprocess.PIPE)
+frames = 0
+for line in sys.stdin.buffer:
+    is_frame, answer = line.startswith(b"frame"), None
+    frames += is_frame
+    {step}
+    if answer is None:
+        child.stdin.write(line)
+        child.stdin.flush()
+        answer = b"" if line.startswith((b"channel", b"queue", b"map")) else child.stdout.readline()
+    sys.stdout.buffer.write(answer)
+    sys.stdout.buffer.flush()
+child.stdin.close()
+sys.stdout.buffer.write(child.stdout.read())
+sys.exit(child.wait())
+"""
+
+
+def stand_in(tclive: Path, work: Path, step: str) -> Path:
+    """A tclive with a statement that is run for each line, before it: it may use `is_frame` and `frames`, and set `answer`."""
+    program = Path(tempfile.mkdtemp(dir=work)) / "stand-in"
+    program.write_text(STAND_IN.format(tclive=str(tclive), step=step))
+    program.chmod(0o755)
+    return program
 
 
 def until(true: Callable[[], object], seconds: float = PATIENCE) -> bool:

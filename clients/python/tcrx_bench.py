@@ -14,6 +14,7 @@ import signal
 import sys
 import time
 from argparse import Namespace
+from collections import Counter
 from functools import partial
 from typing import Callable, Dict, List, Optional, Tuple
 
@@ -22,7 +23,7 @@ if sys.version_info < (3, 9):
 
 # pylint: disable=wrong-import-position
 import tcrx  # noqa: E402
-from tcrx_bench_parts.craft import Craft, Release  # noqa: E402
+from tcrx_bench_parts.craft import Craft, Release, Turn  # noqa: E402
 from tcrx_bench_parts.engine import Engine  # noqa: E402
 from tcrx_bench_parts.journal import Journal, replay  # noqa: E402
 from tcrx_bench_parts.octets import Cutter  # noqa: E402
@@ -33,6 +34,8 @@ from tcrx_bench_parts.web import Visitor, Web  # noqa: E402
 
 # Seconds between two writes of the log; that readers have at the end; and after which it is said that the program isn't up yet.
 LOG_PAUSE, LAST_READ, SLOW_START = 0.2, 1.0, 3.0
+# What part of `--patience` what has arrived has at the end to be answered; the rest is for what is under way then.
+LAST_ANSWERS = 0.9
 
 
 class NotUp(Exception):
@@ -59,7 +62,7 @@ class LinkWatch:  # pylint: disable=too-few-public-methods  # it is called by th
 
     def _look(self) -> None:
         left = self.last + self.seconds - time.monotonic()
-        if self.craft.closed:
+        if self.craft.is_ending:
             return
         if left <= 0 and not self.lost:
             self.lost = True
@@ -100,7 +103,7 @@ class Bench:  # pylint: disable=too-many-instance-attributes  # it is made of th
         either = {first, self.engine.over}
         started, _ = await asyncio.wait(either, timeout=SLOW_START, return_when=asyncio.FIRST_COMPLETED)
         if not started:
-            self.notes.say("tclive isn't up yet")
+            self.notes.say_once("tclive isn't up yet")
             await asyncio.wait(either, return_when=asyncio.FIRST_COMPLETED)
         if self.engine.over.done():
             is_built = self.engine.status != tcrx.NOT_BUILT
@@ -165,7 +168,7 @@ class Bench:  # pylint: disable=too-many-instance-attributes  # it is made of th
 
     def _say_clcw(self) -> None:
         """Has a CLCW made, if somebody is there for it."""
-        if self.craft.closed:
+        if self.craft.is_ending:
             return
         if any(target.port.place.kind == "clcw-udp" for target in self.targets) or any(port.open for port in self.listening.get("clcw-tcp", [])):
             self.craft.say_next_clcw()
@@ -184,22 +187,22 @@ class Bench:  # pylint: disable=too-many-instance-attributes  # it is made of th
         """Says once that the log ends early."""
         if not self.said_fault:
             self.said_fault = True
-            self.notes.say(f"{self.journal.fault}; it ends here, and the bench goes on")
+            self.notes.say_once(f"{self.journal.fault}; it ends here, and the bench goes on")
             self.craft.note_text("log", self.journal.fault)
 
     # --- The end ---
 
     async def end(self) -> int:
         """Answers what has arrived, prints the final report, and closes all; the status."""
+        self.craft.is_ending = True
         await self.hub.stop_listening()
-        until = time.monotonic() + self.options.patience
-        while not self.engine.over.done() and not self.craft.idle() and time.monotonic() < until:
-            await asyncio.sleep(0.005)
-        self.craft.closed = True
+        left = await self._answer_last()
         if not self.engine.over.done():
             self.engine.end_lines()
             await self.engine.over
         why = self.engine.over.result()
+        if left:
+            self._say_unanswered(left)
         if why:
             self._tell_all(why)
         else:
@@ -213,24 +216,47 @@ class Bench:  # pylint: disable=too-many-instance-attributes  # it is made of th
         for target in self.targets:
             target.close()
         said = bool(why) or self._say_report()
-        return 1 if why or self.journal.fault or not said else 0
+        self.notes.say_left_out()
+        return 1 if why or left or self.journal.fault or not said else 0
+
+    async def _answer_last(self) -> List[Turn]:
+        """Has what has arrived answered, as far as `--patience` reaches; gives what the receiver wasn't given by then."""
+        until = time.monotonic() + LAST_ANSWERS * self.options.patience
+        while not self._is_answered() and time.monotonic() < until:
+            await asyncio.sleep(0.005)
+        left = self.craft.leave()
+        # What is under way is answered in any case; a receiver that doesn't answer is ended.
+        while not self._is_answered():
+            await asyncio.sleep(0.005)
+        return left
+
+    def _is_answered(self) -> bool:
+        """Whether there is nothing to be answered, or nobody who answers."""
+        return self.engine.over.done() or self.craft.idle()
+
+    def _say_unanswered(self, left: List[Turn]) -> None:
+        """Names what had arrived and wasn't answered."""
+        counts = Counter(turn.source.partition(" ")[0] for turn in left)
+        self.notes.say_once("left unanswered at the end: " + ", ".join(f"{count} of {kind}" for kind, count in counts.items()))
+        for turn in left:
+            self.journal.unanswered(turn.line)
 
     def _say_report(self) -> bool:
         """Prints the final report; whether that could be written."""
         if self.write("".join([line + "\n" for line in self.engine.report])):
             return True
-        self.notes.say("the final report can't be written")
+        self.notes.say_once("the final report can't be written")
         return False
 
     def _tell_all(self, why: str) -> None:
         """Tells everyone why there are no more answers, and notes what was not answered."""
-        self.notes.say(why)
+        self.notes.say_once(why)
         for line, _ in self.engine.pending:
-            self.journal.write(f"# unanswered: {line[:3000]}".replace("\n", " "))
+            self.journal.unanswered(line)
         self.journal.write(f"# {why}".replace("\n", " "))
         for port in self.hub.ports:
             for connection in list(port.open):
-                if connection.welcome and not isinstance(connection, Visitor):
+                if connection.welcome and not connection.done and not isinstance(connection, Visitor):
                     connection.done = True
                     connection.transport.write(connection.last_words(why))
 

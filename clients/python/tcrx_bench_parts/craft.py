@@ -19,8 +19,8 @@ from .engine import Engine
 from .journal import Journal, printable
 from .octets import Header, Segments, applications_of, header_of
 
-# Lines that are under way, turns that wait, and events that are kept.
-MOST_UNDER_WAY, MOST_WAITING, LAST_EVENTS = 1024, 2048, 200
+# Lines that are under way, and at the end, where they are to be answered soon; turns that wait, and events that are kept.
+MOST_UNDER_WAY, MOST_AT_END, MOST_WAITING, LAST_EVENTS = 1024, 64, 2048, 200
 # Octets of a frame line: more than a frame has change no answer.
 MOST_OCTETS = 2048
 OPERATIONS = frozenset({"release", "take", "unit", "clcw", "link", "report"})
@@ -117,7 +117,9 @@ class Craft:  # pylint: disable=too-many-instance-attributes  # what is known of
         """Called when a frame arrives."""
         self.slow: Callable[[bool], None] = lambda slow: None
         """Called when more waits than should, and when that is over."""
-        self.is_slow = self.closed = False
+        self.is_slow = False
+        self.is_ending = self.closed = False
+        """From the end on nothing is written that nobody asked for; and once it is closed, only what is under way leads to lines."""
         self.next_in_turn = 0
         engine.answered = self.step
 
@@ -148,9 +150,17 @@ class Craft:  # pylint: disable=too-many-instance-attributes  # what is known of
         """Whether all that arrived is answered."""
         return not self.waiting and not self.engine.pending
 
+    def leave(self) -> List[Turn]:
+        """Writes nothing more of what waits, and gives it."""
+        self.closed = True
+        left = list(self.waiting)
+        self.waiting.clear()
+        return left
+
     def step(self) -> None:
         """Writes the lines of what waits, as far as may be."""
-        while self.waiting and not self.barred and len(self.engine.pending) < MOST_UNDER_WAY:
+        most = MOST_AT_END if self.is_ending else MOST_UNDER_WAY
+        while self.waiting and not self.barred and len(self.engine.pending) < most:
             turn = self.waiting.popleft()
             self.barred = not self._look_at(turn)
             self._write(turn, not self.barred)
@@ -420,7 +430,7 @@ class Craft:  # pylint: disable=too-many-instance-attributes  # what is known of
     def refresh(self, done: Callable[[], None]) -> None:
         """Has reports made of the channels that changed, and calls `done` when they are in."""
         changed = [channel for channel in self.channels.values() if channel.changed]
-        if not changed:
+        if self.closed or not changed:
             done()
             return
         for channel in changed:

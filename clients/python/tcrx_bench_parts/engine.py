@@ -47,7 +47,9 @@ class Engine:  # pylint: disable=too-many-instance-attributes  # both ways of on
     # --- Lines ---
 
     def ask(self, line: str, answered: Answered) -> None:
-        """Writes a line that has one answer."""
+        """Writes a line that has one answer. Behind the end of the lines nothing is written, and so nothing answered."""
+        if self._ending:
+            return
         if not self.pending:
             self._heard = time.monotonic()
         self.pending.append((line, answered))

@@ -125,6 +125,10 @@ class Journal:
         else:
             self.write(f"#* {line}", f"frame {without_sum(bytes.fromhex(line[6:])).hex()}", f"#= {answer}")
 
+    def unanswered(self, line: str) -> None:
+        """A line that has no answer, as the session ended before."""
+        self.write("# unanswered: " + re.sub(r"[^ -~]", "?", line[:3000].replace("\n", " ")))
+
     def end(self, report: List[str]) -> None:
         """The final report."""
         self.write("# end", *(f"#= {line}" for line in report))

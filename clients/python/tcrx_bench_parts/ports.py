@@ -53,27 +53,36 @@ def shown(host: str, port: int) -> str:
     return f"[{host}]:{port}" if ":" in host else f"{host}:{port}"
 
 
-class Notes:  # pylint: disable=too-few-public-methods  # what it has said counts
-    """Says on standard error what happens, but not without end: of more lines than some in ten seconds their number is said."""
+class Notes:
+    """Says on standard error what happens. Of what ports and peers lead to it says some lines in ten seconds, and how many more there were."""
 
     MOST, SECONDS = 20, 10.0
 
     def __init__(self) -> None:
-        self.begun, self.count = 0.0, 0
+        self.begun, self.last = 0.0, ""
+        self.count = self.left_out = 0
 
     def say(self, text: str) -> None:
-        """Writes a line."""
+        """Writes a line, unless there were many, or it is the one before again."""
         now = time.monotonic()
         if now - self.begun > self.SECONDS:
-            if self.count > self.MOST:
-                self._print(f"{self.count - self.MOST} more such lines weren't written")
-            self.begun, self.count = now, 0
-        self.count += 1
-        if self.count <= self.MOST:
-            self._print(text)
+            self.say_left_out()
+            self.begun, self.count, self.last = now, 0, ""
+        if self.count >= self.MOST or text == self.last:
+            self.left_out += 1
+            return
+        self.count, self.last = self.count + 1, text
+        self.say_once(text)
+
+    def say_left_out(self) -> None:
+        """Says how many lines weren't written."""
+        if self.left_out:
+            self.say_once(f"{self.left_out} more such lines weren't written")
+            self.left_out = 0
 
     @staticmethod
-    def _print(text: str) -> None:
+    def say_once(text: str) -> None:
+        """Writes a line of the bench itself, which comes once."""
         try:
             print(f"tcrx-bench: {text}", file=sys.stderr, flush=True)
         except OSError:
@@ -116,14 +125,19 @@ class Hub:
         self.lingering: Dict[Connection, None] = {}
         """Those that were told why they are closed, in that order."""
         self.closed = False
-        craft.slow = self._slow
+        craft.slow = lambda slow: self._hold_all()
         self._sweep()
 
-    def _slow(self, slow: bool) -> None:
-        """Reads nothing more that leads to lines for the receiver, or reads on."""
+    @property
+    def holds(self) -> bool:
+        """Whether nothing is read that leads to lines for the receiver: while much waits for it, and from the end on."""
+        return self.closed or self.craft.is_slow
+
+    def _hold_all(self) -> None:
+        """Has all connections held, or read on."""
         for port in self.ports:
             for connection in port.open:
-                connection.hold(slow)
+                connection.hold(self.holds)
 
     def _sweep(self) -> None:
         """Looks at each connection from time to time."""
@@ -154,8 +168,7 @@ class Hub:
         for port in self.ports:
             if port.server:
                 port.server.close()
-            for connection in port.open:
-                connection.hold(True)
+        self._hold_all()
         for each in self.datagrams:
             each.close()
 
@@ -206,8 +219,13 @@ class Connection(asyncio.BufferedProtocol):
             self.port.open.add(self)
             self.port.count("connections")
             self.opened()
-            if self.hub.craft.is_slow:
-                self.hold(True)
+            # After this call, as older versions of asyncio begin to read behind it.
+            self.hub.loop.call_soon(self._hold_new)
+
+    def _hold_new(self) -> None:
+        """Has a new connection held where all are."""
+        if self.hub.holds:
+            self.hold(True)
 
     def _refuse(self, why: str) -> None:
         """Counts and closes a connection that isn't taken."""
@@ -325,8 +343,8 @@ class FrameConnection(Connection):
         self.data_received(b"")
 
     def connection_lost(self, exc: Optional[Exception]) -> None:
-        """Says so where it ended within a frame."""
-        if self.cutter.kept and not self.done:
+        """Says so where it ended within a frame, and not since the bench ends."""
+        if self.cutter.kept and not self.done and not self.hub.closed:
             self.port.count("faults")
             self.port.note(self.peer, f"the connection ended with {len(self.cutter.kept)} octets of a frame")
         super().connection_lost(exc)
@@ -402,6 +420,12 @@ class LineConnection(Connection):
         self.ended = True
         self.hub.loop.call_soon(self._balance)
         return not self.done
+
+    def finish(self) -> None:
+        """Says so where not all of its lines were answered."""
+        if self.asked and not self.done and not self.transport.is_closing():
+            self.transport.write(self.last_words(f"lines of this connection that were left unanswered at the end: {self.asked}"))
+        super().finish()
 
     def hold(self, held: bool) -> None:
         self.held = held
