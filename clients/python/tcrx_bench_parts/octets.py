@@ -9,6 +9,14 @@ from typing import Dict, List, NamedTuple, Optional, Tuple
 
 # Octets of a header, of the shortest frame, and of the longest run of segments that the receiver joins.
 HEADER, SHORTEST, LONGEST_UNIT = 5, 6, 65542
+# How a browser begins, as no frame and no line for the receiver does: by a method of HTTP and a space, or by the first message of TLS,
+# with the kind of its record, two octets of its version, two of its length, and its own kind.
+METHODS = (b"GET ", b"HEAD ", b"POST ", b"PUT ", b"DELETE ", b"CONNECT ", b"OPTIONS ", b"TRACE ", b"PATCH ")
+HELLO = b"\x16\x03\x01\x00\x00\x01"
+REQUEST = re.compile(rb"^(?:%b|\x16\x03[\x00-\x04]..\x01)" % b"|".join(METHODS), re.M | re.S)
+LONGEST_FRONT = max(map(len, (*METHODS, HELLO)))
+# What is wrong with octets that begin so.
+BROWSER = "a browser asks here, and isn't obeyed; the page is at --http"
 
 
 class Header(NamedTuple):
@@ -54,6 +62,20 @@ def applications_of(unit: bytes) -> List[int]:
     return found
 
 
+def has_request(octets: bytes) -> bool:
+    """Whether a line of these octets begins as a browser does."""
+    return REQUEST.search(octets) is not None
+
+
+def begins_request(octets: bytes) -> Optional[bool]:
+    """Whether a stream that begins with these octets is a browser's; None where more must come to know that."""
+    if REQUEST.match(octets):
+        return True
+    whole = octets + HELLO[len(octets):]
+    may_be = any(method.startswith(octets) for method in METHODS) or (whole != octets and REQUEST.match(whole))
+    return None if may_be else False
+
+
 class Segments:  # pylint: disable=too-few-public-methods  # a step and its state
     """The segments of a channel that wait for their last one, by service and MAP."""
 
@@ -93,6 +115,10 @@ class Cutter:
         """The frames that are whole now, and what is wrong with the octets behind them, if anything is."""
         kept = self.kept
         kept += octets
+        is_request = not self.place and begins_request(bytes(kept[:LONGEST_FRONT]))
+        if is_request is not False:
+            # Nothing is cut off before that is known, so that no frame that a page has sent is found behind it.
+            return [], BROWSER if is_request else ""
         frames: List[bytes] = []
         at, fault, end = 0, "", len(kept)
         while not fault:

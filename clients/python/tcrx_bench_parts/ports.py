@@ -11,7 +11,7 @@ from collections import deque
 from typing import Callable, Deque, Dict, List, NamedTuple, Optional, Set, Tuple, Union, cast
 
 from .craft import Craft
-from .octets import Cutter
+from .octets import BROWSER, Cutter, has_request
 
 # Octets of a line, without its end; octets that wait for a slow reader of CLCWs, and of packets or units; lines of one connection that
 # wait for their answers.
@@ -320,7 +320,7 @@ class FrameConnection(Connection):
         if self.cutter.skipped != skipped:
             self._note_skipped(self.cutter.skipped - skipped, "octets began no frame")
         if fault:
-            self.port.count("faults")
+            self.port.count("turned_away" if fault == BROWSER else "faults")
             self.turn_away(fault)
 
     def _note_skipped(self, count: int, why: str) -> None:
@@ -377,7 +377,12 @@ class LineConnection(Connection):
         """Passes the lines that are whole on."""
         if self.done:
             return
-        *lines, begun = (self.begun + data).split(b"\n")
+        octets = self.begun + data
+        if has_request(octets):
+            self.port.count("turned_away")
+            self.turn_away(BROWSER)
+            return
+        *lines, begun = octets.split(b"\n")
         for line in lines:
             self._order(line, self.too_long)
             self.too_long = False
@@ -400,7 +405,7 @@ class LineConnection(Connection):
         """Passes a line on, and writes its answer, or another one instead. A good line that sets up has none."""
         def answered(answer: str) -> None:
             self.asked -= 1
-            if answer and not self.transport.is_closing():
+            if answer and not self.done and not self.transport.is_closing():
                 self.transport.write(f"{instead or answer}\n".encode("ascii", errors="replace"))
             self._balance()
         self.asked += 1
