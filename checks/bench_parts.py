@@ -110,14 +110,14 @@ class Bench:
     """A bench that runs, from its start to its end. Its ports are free ones."""
 
     def __init__(self, tclive: Path, work: Path, *words: str, setup: str = SETUP, scid: int = 42, python: str = sys.executable,
-                 limit: str = "unlimited") -> None:
+                 limit: str = "-f unlimited") -> None:
         self.folder = Path(tempfile.mkdtemp(dir=work))
         self.log = self.folder / "log"
         self.errors = open(self.folder / "errors", "w+b")  # pylint: disable=consider-using-with  # it is closed in `ended`
         (self.folder / "setup").write_text(setup)
         log = [] if "--log" in words else ["--log", str(self.log)]
-        # With a limit of what a file may have, in kibibytes.
-        given = ["bash", "-c", f'ulimit -f {limit}; exec "$0" "$@"', python, str(PROGRAM), "--scid", str(scid), "--program", str(tclive),
+        # With a limit: -f of the kibibytes that a file may have, -n of the files that may be open.
+        given = ["bash", "-c", f'ulimit {limit}; exec "$0" "$@"', python, str(PROGRAM), "--scid", str(scid), "--program", str(tclive),
                  "--setup", str(self.folder / "setup"), *log, *words]
         # pylint: disable-next=consider-using-with  # it is ended in `ended`, or by the check
         self.child = subprocess.Popen(given, stdin=subprocess.DEVNULL, stdout=subprocess.PIPE, stderr=self.errors)

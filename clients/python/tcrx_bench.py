@@ -27,9 +27,9 @@ from tcrx_bench_parts.craft import Craft, Release, Turn  # noqa: E402
 from tcrx_bench_parts.engine import Engine  # noqa: E402
 from tcrx_bench_parts.journal import Journal, replay  # noqa: E402
 from tcrx_bench_parts.octets import Cutter  # noqa: E402
-from tcrx_bench_parts.options import read_setup, read_words, warning_of  # noqa: E402
+from tcrx_bench_parts.options import read_setup, read_words, warning_of, warning_of_files  # noqa: E402
 from tcrx_bench_parts.ports import (Connection, Datagrams, FrameConnection, Hub, LineConnection, Notes, Port, Reader, Target, all_senders,  # noqa: E402
-                                    readers_sender)
+                                    readers_sender, room_for)
 from tcrx_bench_parts.web import Visitor, Web  # noqa: E402
 
 # Seconds between two writes of the log; that readers have at the end; and after which it is said that the program isn't up yet.
@@ -77,7 +77,8 @@ class Bench:  # pylint: disable=too-many-instance-attributes  # it is made of th
         self.options, self.engine, self.journal, self.notes = options, engine, journal, notes
         release = Release.MANUAL if options.release == "manual" else Release.AUTO if options.release_after is None else Release.AFTER
         self.craft = Craft(engine, journal, options.scid, options.fecf, release, options.release_after or 0.0)
-        self.hub = Hub(self.craft, notes, options.connections, options.patience)
+        listening = sum(not place.kind.endswith("-udp") for place in options.places)
+        self.hub = Hub(self.craft, notes, room_for(listening, options.connections), options.patience)
         self.web: Optional[Web] = None
         self.listening: Dict[str, List[Port]] = {}
         self.targets: List[Target] = []
@@ -266,6 +267,7 @@ async def serve(options: Namespace, lines: List[Tuple[int, str]]) -> int:
     loop = asyncio.get_running_loop()
     asked: "asyncio.Future[str]" = loop.create_future()
     notes = Notes()
+    notes.hear(loop)
     try:
         journal = Journal(options.log, options.scid, options.fecf)
     except OSError as error:
@@ -285,7 +287,9 @@ async def serve(options: Namespace, lines: List[Tuple[int, str]]) -> int:
         journal.close()
         raise
     for place in options.open_to_others:
-        notes.say(warning_of(place))
+        notes.say_once(warning_of(place))
+    if bench.hub.most < options.connections:
+        notes.say_once(warning_of_files(bench.hub.most))
     bench.begin_timers()
     await asyncio.wait({asked, engine.over}, return_when=asyncio.FIRST_COMPLETED)
     return await bench.end()

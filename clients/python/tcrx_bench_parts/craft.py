@@ -23,6 +23,8 @@ from .octets import Header, Segments, applications_of, header_of
 MOST_UNDER_WAY, MOST_AT_END, MOST_WAITING, LAST_EVENTS = 1024, 64, 2048, 200
 # Octets of a frame line: more than a frame has change no answer.
 MOST_OCTETS = 2048
+# Notes of ports that are kept.
+LAST_NOTES = 20
 OPERATIONS = frozenset({"release", "take", "unit", "clcw", "link", "report"})
 SET_UP = frozenset({"channel", "queue", "map"})
 EVENTS = tuple(f"E{number}" for number in range(1, 10))
@@ -109,7 +111,9 @@ class Craft:  # pylint: disable=too-many-instance-attributes  # what is known of
         self.bad: Counter[str] = Counter()
         self.frames = self.packets = self.units = 0
         self.last_events: Deque[Dict[str, object]] = deque(maxlen=LAST_EVENTS)
-        self.count_of_events = self.changes = 0
+        self.last_notes: Deque[Dict[str, object]] = deque(maxlen=LAST_NOTES)
+        """What happened on ports, in a list of its own, so that no peer drives the receiver's events out."""
+        self.count_of_events = self.count_of_notes = self.changes = 0
         self.send_clcw: Callable[[bytes], None] = lambda octets: None
         self.send_packet: Callable[[bytes], None] = lambda octets: None
         self.send_unit: Callable[[bytes], None] = lambda octets: None
@@ -416,9 +420,10 @@ class Craft:  # pylint: disable=too-many-instance-attributes  # what is known of
         self.last_events.append(turn.event)
 
     def note_text(self, source: str, text: str) -> None:
-        """Keeps what happened on a port as an event."""
+        """Keeps what happened on a port, or to the log."""
         self.changes += 1
-        self._note_event(Turn(self.now(), source, ""), "", printable(text))
+        self.count_of_notes += 1
+        self.last_notes.append({"id": self.count_of_notes, "time": round(self.now(), 6), "source": source, "text": printable(text)})
 
     def read_report(self, channel: Channel, answer: str) -> None:
         """Notes what a report says of buffer and queues."""

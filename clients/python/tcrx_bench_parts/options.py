@@ -3,6 +3,7 @@ from __future__ import annotations
 
 import argparse
 import ipaddress
+import resource
 from pathlib import Path
 from typing import Any, List, Optional, Sequence, Tuple
 
@@ -162,3 +163,9 @@ def warning_of(place: Place) -> str:
     who = "whoever is at " + ", ".join(map(str, place.allowed)) if place.allowed else "whoever connects"
     what = "commands the receiver" if place.kind in ("tc-tcp", "tc-udp", "lines") else "sees what it received"
     return f"warning: --{place.kind} listens on {place.host}: {who} {what}, without any login"
+
+
+def warning_of_files(room: int) -> str:
+    """What is to be known where fewer files may be open than the connections could need."""
+    limit = resource.getrlimit(resource.RLIMIT_NOFILE)[0]
+    return f"warning: {limit} files may be open (ulimit -n), so each port takes {room} connections at a time"

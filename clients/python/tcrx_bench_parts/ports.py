@@ -2,13 +2,18 @@
 from __future__ import annotations
 
 import asyncio
+import errno
 import ipaddress
+import logging
 import re
+import resource
 import socket
 import sys
 import time
+import traceback
 from collections import deque
-from typing import Callable, Deque, Dict, List, NamedTuple, Optional, Set, Tuple, Union, cast
+from pathlib import Path
+from typing import Any, Callable, Deque, Dict, List, Mapping, NamedTuple, Optional, Set, Tuple, Union, cast
 
 from .craft import Craft
 from .octets import BROWSER, Cutter, has_request
@@ -26,6 +31,8 @@ MOST_AT_ONCE, LONGEST_DATAGRAM, MOST_BEFORE = 64, 65536, 16384
 DATAGRAM_BUFFER = 1 << 22
 # Seconds that a connection that was told why it is closed has to read that, and how many such there are at most.
 LINGER, MOST_LINGERING = 0.5, 256
+# Files that may be open besides the connections that are taken: those that are told why they are closed, and the bench's own.
+OTHER_FILES = MOST_LINGERING + 64
 
 Network = Union[ipaddress.IPv4Network, ipaddress.IPv6Network]
 WORDS = re.compile(r"[ \t\r]+")
@@ -43,7 +50,10 @@ class Place(NamedTuple):
         """Whether one with this address may connect."""
         if not self.allowed:
             return True
-        given = ipaddress.ip_address(address.partition("%")[0])
+        try:
+            given = ipaddress.ip_address(address.partition("%")[0])
+        except ValueError:
+            return False
         mapped = getattr(given, "ipv4_mapped", None)
         return any((mapped or given) in network for network in self.allowed)
 
@@ -88,6 +98,35 @@ class Notes:
         except OSError:
             pass
 
+    def hear(self, loop: asyncio.AbstractEventLoop) -> None:
+        """Has a line written for what the event loop complains of, in place of a trace each time."""
+        loop.set_exception_handler(lambda _, context: self.say(complaint_of(context)))
+        logger = logging.getLogger("asyncio")
+        logger.propagate = False
+        logger.addHandler(Relay(self.say))
+
+
+class Relay(logging.Handler):
+    """Hands on what is logged, a line each."""
+
+    def __init__(self, say: Callable[[str], None]) -> None:
+        super().__init__()
+        self.say = say
+
+    def emit(self, record: logging.LogRecord) -> None:
+        """Hands a message on."""
+        self.say(" ".join(record.getMessage().split()))
+
+
+def complaint_of(context: Mapping[str, Any]) -> str:
+    """What the event loop complains of, in a line: its message, the exception, and where that was raised."""
+    fault = context.get("exception")
+    if isinstance(fault, OSError) and fault.errno in (errno.EMFILE, errno.ENFILE):
+        return f"connections have to wait: {fault.strerror}"
+    places = list(traceback.walk_tb(fault.__traceback__))[-1:] if fault else []
+    where = "".join(f", at {Path(frame.f_code.co_filename).name}:{line}" for frame, line in places)
+    return " ".join(f"{context.get('message')}: {fault!r}{where}".split())
+
 
 class Port:
     """A port with its connections and what is counted there."""
@@ -105,7 +144,7 @@ class Port:
         self.hub.craft.changes += 1
 
     def note(self, peer: str, text: str) -> None:
-        """Says what happened with a peer, on standard error and among the events."""
+        """Says what happened with a peer, on standard error and among the notes of the page."""
         self.hub.notes.say(f"{self.place.kind} {peer}: {text}")
         self.hub.craft.note_text(f"{self.place.kind} {peer}", text)
 
@@ -192,6 +231,21 @@ def address_of(given: socket.socket) -> str:
     return shown(host, port)
 
 
+def room_for(ports: int, wanted: int) -> int:
+    """How many connections each of so many ports can take at a time, up to what is wanted; as many files as they need may be open then,
+    where this process may allow that to itself."""
+    soft, hard = resource.getrlimit(resource.RLIMIT_NOFILE)
+    needed = ports * wanted + OTHER_FILES
+    if soft == resource.RLIM_INFINITY or soft >= needed:
+        return wanted
+    most = needed if hard == resource.RLIM_INFINITY else min(needed, hard)
+    try:
+        resource.setrlimit(resource.RLIMIT_NOFILE, (most, hard))
+    except (OSError, ValueError):
+        most = soft
+    return max(1, min(wanted, (most - min(OTHER_FILES, most // 2)) // max(1, ports)))
+
+
 class Connection(asyncio.BufferedProtocol):
     """One connection. `welcome` says whether a text may be written to it before it is closed."""
 
@@ -256,8 +310,12 @@ class Connection(asyncio.BufferedProtocol):
             self.transport.abort()
             return
         self.transport.write(self.last_words(why))
-        if self.transport.can_write_eof():
+        try:
             self.transport.write_eof()
+        except OSError:
+            # The other end is gone, and reads nothing.
+            self.transport.abort()
+            return
         # What still comes is read, as the text would be lost otherwise.
         self.hub.linger(self)
 

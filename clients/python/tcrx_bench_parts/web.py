@@ -52,7 +52,7 @@ class Web:
         """All that is known, with the events after one of this number."""
         return {"program": f"tcrx-bench {__version__}", "receiver": self.receiver, "begun": round(self.begun, 3),
                 "seconds": round(self.craft.now(), 3), **self.craft.state(), "ports": [port.state() for port in self.hub.ports],
-                "count_of_events": self.craft.count_of_events,
+                "notes": list(self.craft.last_notes), "count_of_events": self.craft.count_of_events,
                 "events": [event for event in self.craft.last_events if cast(int, event["id"]) > since]}
 
     def _tick(self) -> None:
