@@ -114,6 +114,8 @@ class Bench:  # pylint: disable=too-many-instance-attributes  # it is made of th
 
     async def open_ports(self) -> None:
         """Opens all ports. Raises `NotUp` where one can't be opened."""
+        hosts = [place.host for place in self.options.places if place.kind == "http"]
+        self.web = Web(self.hub, hosts) if hosts else None
         makers: Dict[str, Callable[[Port], Connection]] = {
             "tc-tcp": lambda port: FrameConnection(port, Cutter(self.options.scid, self.options.fill, self.options.resync)),
             "lines": LineConnection, "clcw-tcp": Reader, "packets-tcp": Reader, "units-tcp": Reader, "http": self._visitor}
@@ -132,8 +134,7 @@ class Bench:  # pylint: disable=too-many-instance-attributes  # it is made of th
 
     def _visitor(self, port: Port) -> Visitor:
         """A connection of the page."""
-        if self.web is None:
-            self.web = Web(self.hub)
+        assert self.web
         return Visitor(port, self.web)
 
     def _sender(self, kind: str) -> Callable[[bytes], None]:

@@ -6,12 +6,15 @@ import hashlib
 import ipaddress
 import json
 import re
+import socket
+import threading
 import time
 from pathlib import Path
-from typing import Dict, Iterator, List, Optional, Tuple, cast
+from typing import Collection, Dict, Iterator, List, Optional, Set, Tuple, cast
 
 from tcrx import __version__
 
+from .options import is_loopback
 from .ports import Connection, Hub, Port
 
 PAGE = Path(__file__).resolve().parent / "page.html"
@@ -37,8 +40,12 @@ def policy_of(page: str) -> str:
 class Web:
     """What the connections of the page share."""
 
-    def __init__(self, hub: Hub) -> None:
+    def __init__(self, hub: Hub, hosts: Collection[str]) -> None:
         self.hub, self.craft = hub, hub.craft
+        self.names = {"localhost", *(host.lower() for host in hosts), *names_of(socket.gethostname(), "")}
+        if not all(map(is_loopback, hosts)):
+            # It may be asked for over the network, where that takes its time: nobody waits for it.
+            threading.Thread(target=self._learn_full_name, daemon=True).start()
         self.page = PAGE.read_text(encoding="utf-8")
         self.policy = policy_of(self.page)
         self.begun = time.time()
@@ -54,6 +61,10 @@ class Web:
                 "seconds": round(self.craft.now(), 3), **self.craft.state(), "ports": [port.state() for port in self.hub.ports],
                 "notes": list(self.craft.last_notes), "count_of_events": self.craft.count_of_events,
                 "events": [event for event in self.craft.last_events if cast(int, event["id"]) > since]}
+
+    def _learn_full_name(self) -> None:
+        """Looks up the full name of this machine, by which the page may be asked for as well."""
+        self.names |= names_of(socket.gethostname(), socket.getfqdn())
 
     def _tick(self) -> None:
         """Looks from time to time whether something changed that is to be sent."""
@@ -79,15 +90,22 @@ class Web:
         self.send()
 
 
-def allowed_host(name: str, named: str) -> bool:
-    """Whether a request may be for a host of this name: an address, this machine or the one that was named. Another site that has its
-    name lead here can't read the page so."""
+def names_of(own: str, full: str) -> Set[str]:
+    """The names of a machine: its own, without its domain as well, and its full one, if that is its own with a domain."""
+    own, full = own.lower(), full.lower()
+    short = own.partition(".")[0]
+    return {own, short, *([full] if full.startswith(f"{short}.") else [])} - {""}
+
+
+def allowed_host(name: str, names: Collection[str]) -> bool:
+    """Whether a request may be for a host of this name: an address, or one of these names. Another site that has its name lead here
+    can't read the page so."""
     host = re.sub(r":\d+$", "", name).strip("[]")
     try:
         ipaddress.ip_address(host)
         return True
     except ValueError:
-        return host.lower() in ("localhost", named.lower())
+        return host.lower() in names
 
 
 class Visitor(Connection):
@@ -135,7 +153,7 @@ class Visitor(Connection):
         hosts = [line.partition(":")[2].strip() for line in lines[1:] if line.lower().startswith("host:")]
         if found is None:
             self._say(400, "this is no request\n")
-        elif len(hosts) > 1 or not all(allowed_host(host, self.port.place.host) for host in hosts):
+        elif len(hosts) > 1 or not all(allowed_host(host, self.web.names) for host in hosts):
             self._say(421, "this host isn't served here\n")
         elif method not in ("GET", "HEAD"):
             self._say(405, "this page only reads\n", more="Allow: GET, HEAD\r\n")
