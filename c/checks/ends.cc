@@ -1,11 +1,14 @@
 // What tcrx.hpp does at the edges, for checks/bindings: channels that are moved, dropped, freed and used after that; each growth
-// of memory refused in turn; two channels in two threads; views of nothing; settings that are refused. Linked with
-// c/checks/refusing_memory.c. The last line says how many checks passed.
+// of memory refused in turn; two channels in two threads; views of nothing; each field of what is read and reported, by the rows of
+// fields.h; settings that are refused. Linked with c/checks/refusing_memory.c. The last line says how many checks passed.
 #include "../tcrx.hpp"
+#include "fields.h"
 
+#include <algorithm>
 #include <array>
 #include <cstdint>
 #include <cstdio>
+#include <iterator>
 #include <string>
 #include <thread>
 #include <utility>
@@ -200,6 +203,67 @@ void check_views() {
     tell(taken.value_or(sent).size() == sent.size() && taken->empty(), "the value of a refused call");
 }
 
+// Whether these are the fields of a row.
+template <std::size_t Count>
+bool are_fields(const std::array<std::size_t, Count> &found, const std::uint32_t (&wanted)[Count]) {
+    return std::equal(found.begin(), found.end(), std::begin(wanted));
+}
+
+// Each row of frames, whose kinds are in the order of the rows. A frame that was read is written again.
+void check_frames() {
+    using tcrx::Arrival;
+    constexpr Arrival arrivals[] = {Arrival::bd, Arrival::unlock, Arrival::set_vr, Arrival::ad, Arrival::invalid};
+    const Arrival *arrival = arrivals;
+    for (const frame_row &row : frame_rows) {
+        const tcrx::Result<tcrx::Frame> read = tcrx::read_frame({row.octets, row.count});
+        const tcrx::Result<tcrx::Kind> kind = tcrx::kind({row.octets, row.count});
+        const tcrx::Header &header = read->header;
+        const std::array<std::size_t, OF_FRAME> found = {header.scid,    header.vcid,         header.ns,     header.bypass,
+                                                         header.control, read->octets.size(), row.fields[6], kind->number};
+        tell(read && are_fields(found, row.fields) && read->octets.data() == row.octets, "the fields of a frame");
+        tell(kind && kind->arrival == *arrival++, "the kind of a frame");
+        Bytes room(MOST_OCTETS);
+        const tcrx::Result<tcrx::Octets> written = tcrx::write_frame(header, read->field(), room);
+        tell(Bytes(written->begin(), written->end()) == Bytes(row.octets, row.octets + row.fields[5]), "a frame of fields");
+    }
+}
+
+// Each row of CLCWs and of packets.
+void check_words_and_packets() {
+    for (const clcw_row &row : clcw_rows) {
+        const tcrx::Result<tcrx::Clcw> read = tcrx::read_clcw(row.word);
+        const std::array<std::size_t, OF_CLCW> found = {read->status_field(), read->vcid(),    read->no_rf(),
+                                                        read->no_bit_lock(),  read->lockout(), read->wait(),
+                                                        read->retransmit(),   read->farm_b(),  read->vr()};
+        tell(read && are_fields(found, row.fields) && read->word == row.word, "the fields of a CLCW");
+    }
+    for (const packet_row &row : packet_rows) {
+        const tcrx::Result<tcrx::Packet> read = tcrx::read_packet({row.octets, row.count});
+        const std::array<std::size_t, OF_PACKET> found = {read->octets.size(), read->apid,      read->count,
+                                                          read->telecommand,   read->secondary, read->sequence};
+        tell(read && are_fields(found, row.fields) && read->octets.data() == row.octets, "the fields of a packet");
+    }
+}
+
+// What a channel reports after each step, whose states are in the order of the rows, and its CLCW with each flag of the link alone.
+void check_reports() {
+    using tcrx::State;
+    const tcrx::Settings tried = {step_settings.vcid, step_settings.width, step_settings.buffer, step_settings.first_vr};
+    tcrx::Channel channel = *tcrx::Channel::make(tried, {}, {}, {16, {}});
+    constexpr State states[] = {State::open, State::open, State::wait, State::open, State::lockout};
+    const State *state = states;
+    for (const step_row &row : step_rows) {
+        tell(channel.frame(row.octets).status() == tcrx::Status::done, "a step");
+        const tcrx::Farm farm = channel.report().value();
+        const std::array<std::size_t, OF_FARM> found = {farm.width,   row.fields[1], farm.vr,        farm.farm_b,
+                                                        farm.lockout, farm.wait,     farm.retransmit};
+        tell(are_fields(found, row.fields) && farm.state == *state++, "a report");
+    }
+    const tcrx::Farm farm = channel.report().value();
+    tell(channel.clcw(true, false)->word == link_words[0] && tcrx::clcw(farm, 1, true, false)->word == link_words[0], "no RF");
+    tell(channel.clcw(false, true)->word == link_words[1] && tcrx::clcw(farm, 1, false, true)->word == link_words[1], "no bit lock");
+}
+
 void check_settings() {
     const tcrx::Queue twice[] = {{5, 1}, {5, 1}}, high[] = {{2047, 1}}, none[] = {{5, 0}};
     const tcrx::Map map_twice[] = {{2, 1}, {2, 1}}, high_map[] = {{64, 1}}, no_units[] = {{2, 0}}, one_map[] = {{2, 1}};
@@ -232,6 +296,13 @@ void check_settings() {
     const tcrx::Queue four[] = {{5, 8}, {6, 8}, {7, 8}, {8, 8}};
     const tcrx::Limit one[] = {{0, 1024}};
     tell(tcrx::storage(eight, four, {}, {0, one}).value() == 50936, "the storage of four queues of 8 with units of 1,024 octets");
+    // 1,083 for the buffer, 5,120 and 2 * 64 * 65,542 for open runs, 72 for each queue, and 65,606 for each packet.
+    std::vector<tcrx::Queue> many;
+    for (std::uint16_t apid = 0; apid < 256; apid++) {
+        many.push_back({apid, 256});
+    }
+    tell(tcrx::storage({1, 10, 1, 0}, many).value() == 4307968827, "a storage of more octets than 32 bits count");
+    tell(tcrx::storage({1, 10, 1, 0}, many, {}, {65542, {}}).value() == 4307968827, "the same storage by its limits");
     tell(std::string(tcrx::text(Status::empty).c_str()) == "nothing waits there", "a text");
     tell(tcrx::text(static_cast<Status>(99)).c_str()[0] == '\0', "the text of no status");
     const tcrx::Result<tcrx::Farm> farm = tcrx::start_farm(10, 7);
@@ -249,6 +320,9 @@ int main() {
     check_refused_growths();
     check_threads();
     check_views();
+    check_frames();
+    check_words_and_packets();
+    check_reports();
     check_settings();
     tell(tcrx_blocks() == 0, "no block is left");
     std::printf("ends: %d passed, %d failed\n", passed, failed);

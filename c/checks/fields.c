@@ -1,0 +1,68 @@
+/*
+ * Each row of fields.h, field by field: frames, which are written again, CLCWs and packets. Then what a channel reports after each step,
+ * and its CLCW with each flag of the link alone. The last line says how many things were as they must be.
+ */
+#include "expecting.h"
+#include "fields.h"
+
+#include <string.h>
+
+static void check_frames(void) {
+    uint8_t octets[MOST_OCTETS] = {0};
+    for (size_t i = 0; i < sizeof frame_rows / sizeof frame_rows[0]; i++) {
+        const frame_row *row = &frame_rows[i];
+        const tcrx_frame read = tcrx_read_frame(row->octets, row->count);
+        const tcrx_kind_answer kind = tcrx_kind(row->octets, row->count);
+        const tcrx_header header = read.header;
+        const uint32_t found[OF_FRAME] = {header.scid,    header.vcid, header.ns, header.bypass,
+                                          header.control, read.length, kind.kind, kind.number};
+        expect(read.status == TCRX_DONE && kind.status == TCRX_DONE, "a frame", i);
+        expect(memcmp(found, row->fields, sizeof found) == 0, "the fields of a frame", i);
+        const size_t length = row->fields[5];
+        const tcrx_written written = tcrx_write_frame(header, row->octets + 5, length - 5, octets, sizeof octets);
+        expect(written.status == TCRX_DONE && written.length == length, "the length of a frame of fields", i);
+        expect(memcmp(octets, row->octets, length) == 0, "the octets of a frame of fields", i);
+    }
+}
+
+static void check_clcws(void) {
+    for (size_t i = 0; i < sizeof clcw_rows / sizeof clcw_rows[0]; i++) {
+        const tcrx_clcw_fields read = tcrx_read_clcw(clcw_rows[i].word);
+        const uint32_t found[OF_CLCW] = {read.status_field, read.vcid,       read.no_rf,  read.no_bit_lock, read.lockout,
+                                         read.wait,         read.retransmit, read.farm_b, read.vr};
+        expect(read.status == TCRX_DONE && memcmp(found, clcw_rows[i].fields, sizeof found) == 0, "the fields of a CLCW", i);
+    }
+}
+
+static void check_packets(void) {
+    for (size_t i = 0; i < sizeof packet_rows / sizeof packet_rows[0]; i++) {
+        const packet_row *row = &packet_rows[i];
+        const tcrx_packet read = tcrx_read_packet(row->octets, row->count);
+        const uint32_t found[OF_PACKET] = {read.length, read.apid, read.count, read.telecommand, read.secondary, read.sequence};
+        expect(read.status == TCRX_DONE && memcmp(found, row->fields, sizeof found) == 0, "the fields of a packet", i);
+    }
+}
+
+static void check_reports(void) {
+    tcrx_channel channel = TCRX_HOLDS_NONE;
+    expect(tcrx_channel_new_with_limits(&channel, step_settings, NULL, 0, NULL, 0, 16, NULL, 0) == TCRX_DONE, "a channel", 0);
+    for (size_t i = 0; i < sizeof step_rows / sizeof step_rows[0]; i++) {
+        const step_row *row = &step_rows[i];
+        expect(tcrx_channel_frame(&channel, row->octets, sizeof row->octets).status == TCRX_DONE, "a step", i);
+        const tcrx_farm_answer report = tcrx_channel_report(&channel);
+        const tcrx_farm farm = report.farm;
+        const uint32_t found[OF_FARM] = {farm.width, farm.state, farm.vr, farm.farm_b, farm.lockout, farm.wait, farm.retransmit};
+        expect(report.status == TCRX_DONE && memcmp(found, row->fields, sizeof found) == 0, "a report", i);
+    }
+    expect(tcrx_channel_clcw(&channel, 1, 0).word == link_words[0], "no RF", 0);
+    expect(tcrx_channel_clcw(&channel, 0, 1).word == link_words[1], "no bit lock", 0);
+    expect(tcrx_channel_free(&channel) == TCRX_DONE, "a channel freed", 0);
+}
+
+int main(void) {
+    check_frames();
+    check_clcws();
+    check_packets();
+    check_reports();
+    return close_with("things that are read");
+}

@@ -1,0 +1,80 @@
+/*
+ * Frames, CLCWs and packets with their fields, and the steps of a channel with FARM-1 after each, for fields.c and ends.cc. All of it is
+ * worked out by hand, from CCSDS 232.0-B, 4.1 and 4.2, CCSDS 133.0-B, 4.1, and CCSDS 232.1-B, 6.3. Fill follows each frame and packet.
+ *
+ * Fields are numbers here, in no record of the header, so that a record whose fields have each other's names is found.
+ */
+#ifndef FIELDS_H
+#define FIELDS_H
+
+#include "../tcrx.h"
+
+enum { MOST_OCTETS = 308, OF_FRAME = 8, OF_CLCW = 9, OF_PACKET = 6, OF_FARM = 7 };
+
+/* Spacecraft id, virtual channel id, N(S), bypass flag, control command flag, length; then the kind and its number. */
+typedef struct {
+    uint8_t octets[MOST_OCTETS];
+    size_t count;
+    uint32_t fields[OF_FRAME];
+} frame_row;
+
+/* Type-BD has bypass alone, Type-BC both flags (Unlock, and Set V(R) to 9), Type-AD none, and Type-AC control alone. */
+static const frame_row frame_rows[] = {
+    {{0x22, 0xa3, 0x94, 0x07, 0xc8, 0xc0, 0xaa, 0xbb, 0x55, 0x55}, 10, {675, 37, 200, 1, 0, 8, TCRX_BD, 0}},
+    {{0x32, 0xa3, 0x30, 0x05, 0x11, 0x00, 0x55}, 7, {675, 12, 17, 1, 1, 6, TCRX_UNLOCK, 0}},
+    {{0x32, 0xa3, 0x30, 0x07, 0x11, 0x82, 0x00, 0x09, 0x55}, 9, {675, 12, 17, 1, 1, 8, TCRX_SET_VR, 9}},
+    {{0x02, 0xa3, 0xfd, 0x2b, 0xff}, 302, {675, 63, 255, 0, 0, 300, TCRX_AD, 255}},
+    {{0x12, 0xa3, 0x00, 0x05, 0x80, 0x00, 0x55}, 7, {675, 0, 128, 0, 1, 6, TCRX_INVALID, 0}},
+};
+
+/* Status field, virtual channel id, No RF Available, No Bit Lock, Lockout, Wait, Retransmit, FARM-B counter, report value. */
+typedef struct {
+    uint32_t word;
+    uint32_t fields[OF_CLCW];
+} clcw_row;
+
+/* Each flag alone, and the largest status field. */
+static const clcw_row clcw_rows[] = {
+    {0x019484b5, {0, 37, 1, 0, 0, 0, 0, 2, 181}}, {0x019444b5, {0, 37, 0, 1, 0, 0, 0, 2, 181}},
+    {0x019424b5, {0, 37, 0, 0, 1, 0, 0, 2, 181}}, {0x019414b5, {0, 37, 0, 0, 0, 1, 0, 2, 181}},
+    {0x01940cb5, {0, 37, 0, 0, 0, 0, 1, 2, 181}}, {0x1d9404b5, {7, 37, 0, 0, 0, 0, 0, 2, 181}},
+};
+
+/* Length, APID, sequence count, packet type, secondary header flag, sequence flags. */
+typedef struct {
+    uint8_t octets[MOST_OCTETS];
+    size_t count;
+    uint32_t fields[OF_PACKET];
+} packet_row;
+
+/* With each value of the sequence flags, and the type and the secondary header flag each with and without the other. */
+static const packet_row packet_rows[] = {
+    {{0x1d, 0xa5, 0x12, 0x34, 0x00, 0x02, 0xaa, 0xbb, 0xcc, 0x55}, 10, {9, 1445, 4660, 1, 1, 0}},
+    {{0x00, 0x05, 0x40, 0x01, 0x00, 0x00, 0xaa, 0x55}, 8, {7, 5, 1, 0, 0, 1}},
+    {{0x17, 0xfe, 0xbf, 0xff, 0x01, 0x2b}, 308, {306, 2046, 16383, 1, 0, 2}},
+    {{0x08, 0x00, 0xea, 0xaa, 0x00, 0x00, 0xaa, 0x55}, 8, {7, 0, 10922, 0, 1, 3}},
+};
+
+/* Width, state, V(R), FARM-B counter, Lockout, Wait, Retransmit: of FARM-1 after the frame. */
+typedef struct {
+    uint8_t octets[6];
+    uint32_t fields[OF_FARM];
+} step_row;
+
+/*
+ * On virtual channel 1, whose buffer has room for one data field, from V(R) 250 on: a Type-AD frame ahead of V(R) (E3), the expected
+ * one with room (E1) and without (E2), Unlock (E7), and a Type-AD frame outside the window (E5).
+ */
+static const tcrx_settings step_settings = {1, 10, 1, 250, 1};
+static const step_row step_rows[] = {
+    {{0x00, 0x2a, 0x04, 0x05, 252, 0xc0}, {10, TCRX_OPEN, 250, 0, 0, 0, 1}},
+    {{0x00, 0x2a, 0x04, 0x05, 250, 0xc0}, {10, TCRX_OPEN, 251, 0, 0, 0, 0}},
+    {{0x00, 0x2a, 0x04, 0x05, 251, 0xc0}, {10, TCRX_WAIT, 251, 0, 0, 1, 1}},
+    {{0x30, 0x2a, 0x04, 0x05, 0, 0x00}, {10, TCRX_OPEN, 251, 1, 0, 0, 0}},
+    {{0x00, 0x2a, 0x04, 0x05, 100, 0xc0}, {10, TCRX_LOCKOUT, 251, 1, 1, 0, 0}},
+};
+
+/* The CLCW after the last step, with No RF Available alone, and with No Bit Lock alone. */
+static const uint32_t link_words[] = {0x0104a2fb, 0x010462fb};
+
+#endif
