@@ -1,6 +1,7 @@
 #!/usr/bin/env python3
-"""Calls the channel of the client in Python over a shared library: each conformance case without a bad line, each growth of memory
-refused, channels that are closed, dropped, copied and shared by threads, and the declarations against the header by a C program.
+"""Calls the channel of the client in Python over a shared library: each conformance case without a bad line, each field of what is read
+and reported, each growth of memory refused, channels that are closed, dropped, copied and shared by threads, where the library is found,
+and the declarations against the header by a C program.
 
 usage: checks/bindings_channel.py LIBRARY REFUSING     the shared library, and one over c/checks/refusing_memory.c
 The last line says how many checks passed. `checks/bindings` starts it.
@@ -162,6 +163,39 @@ def check_values() -> None:
     same((bool(brought), bool(Refused(Refusal.EMPTY))), (True, False), "the truth of answers")
 
 
+# Of spacecraft 675, with fill behind each: Type-BD has bypass alone, Type-BC both flags, Type-AD none, and Type-AC control alone.
+FRAMES = (("22a39407c8c0aabb5555", Frame(675, 37, 200, True, False, 8)), ("32a33005110055", Frame(675, 12, 17, True, True, 6)),
+          ("02a3fd2bff" + 297 * "00", Frame(675, 63, 255, False, False, 300)), ("12a30005800055", Frame(675, 0, 128, False, True, 6)))
+# Of virtual channel 37, FARM-B 2 and V(R) 181: each flag alone, from No RF Available to Retransmit, and the largest status field.
+WORDS = (0x019484B5, 0x019444B5, 0x019424B5, 0x019414B5, 0x01940CB5, 0x1D9404B5)
+# A Type-AD frame ahead of V(R) (E3), the expected one with room (E1) and without (E2), Unlock (E7), and a Type-AD frame outside the
+# window (E5), each with the report after it.
+STEPS = ((frame(252, b"\xc0"), Report(1, State.OPEN, 250, False, False, True, 0, 0, {}, {})),
+         (frame(250, b"\xc0"), Report(1, State.OPEN, 251, False, False, False, 0, 1, {}, {})),
+         (frame(251, b"\xc0"), Report(1, State.WAIT, 251, False, True, True, 0, 1, {}, {})),
+         (UNLOCK, Report(1, State.OPEN, 251, False, False, False, 1, 1, {}, {})),
+         (frame(100, b"\xc0"), Report(1, State.LOCKOUT, 251, True, False, False, 1, 1, {}, {})))
+
+
+def check_fields() -> None:
+    """Each field of frames, of CLCWs, and of what a channel reports after each step, and its CLCW with each flag of the link alone. All of
+    it is worked out by hand, by the layouts of docs/reference/formats.md and the state table of CCSDS 232.1-B, 6.3."""
+    for digits, wanted in FRAMES:
+        same(read_frame(bytes.fromhex(digits)), wanted, f"the fields of the frame {digits[:10]}")
+    for place, number in enumerate(WORDS):
+        clcw = Clcw(number)
+        flags = (clcw.no_rf, clcw.no_bit_lock, clcw.lockout, clcw.wait, clcw.retransmit)
+        same(flags, tuple(place == flag for flag in range(5)), f"the flags of the CLCW {number:08x}")
+        same((clcw.channel, clcw.farm_b, clcw.vr), (37, 2, 181), f"the numbers of the CLCW {number:08x}")
+    with Channel(1, width=10, buffer=1, first=250, limits={}, others=16) as channel:
+        for octets, report in STEPS:
+            tell(channel.bring(octets), "a frame of a step")
+            same(channel.report(), report, "a report")
+        for no_rf, no_bit_lock, number in ((True, False, 0x0104A2FB), (False, True, 0x010462FB)):
+            channel.link(no_rf, no_bit_lock)
+            same(channel.clcw(), Clcw(number), "a flag of the link alone")
+
+
 def check_long_units() -> None:
     """A unit that is longer than the room that a channel has of its own."""
     with Channel(1, width=10, buffer=4, first=0, maps={2: 3}) as channel:
@@ -194,6 +228,9 @@ def check_refused() -> None:
         why = [str(raises(BadSettings, partial(call, 1, **changed(change)), f"{change}")) for call in (Channel, storage)]
         tell(why[0] == why[1] and "limit" in why[0], f"why limits are refused: {why}")
     same(storage(1, width=10, buffer=8, first=0, queues=dict.fromkeys((5, 6, 7, 8), 8), limits={0: 1024}), 50936, "the storage within limits")
+    # 1,083 for the buffer, 5,120 and 2 * 64 * 65,542 for open runs, 72 for each queue, and 65,606 for each packet.
+    many: Dict[str, Any] = {"width": 10, "buffer": 1, "first": 0, "queues": dict.fromkeys(range(256), 256)}
+    same((storage(1, **many), storage(1, **many, limits={}, others=65542)), (4307968827,) * 2, "a storage of more octets than 32 bits count")
     raises(ValueError, lambda: Channel(1, **changed({"limits": {2: 2**32}})), "a limit that C's type doesn't have")
     raises(ValueError, lambda: Channel(256, **SETTINGS), "a number that C's type doesn't have")
     raises(ValueError, lambda: Channel(1, **changed({"queues": {70000: 1}})), "an APID that C's type doesn't have")
@@ -332,7 +369,7 @@ def name_in_c(kind: Type[ctypes.Structure]) -> str:
 
 
 def check_places(kinds: List[Type[ctypes.Structure]]) -> None:
-    """Each record's size and places, by a C program."""
+    """Each record's size, and the place and the size of each field, by a C program."""
     lines = ['#include "tcrx.h"', "#include <stdio.h>", "int main(void) {"]
     wanted: List[str] = []
     for kind in kinds:
@@ -340,8 +377,8 @@ def check_places(kinds: List[Type[ctypes.Structure]]) -> None:
         lines.append(f'printf("{name} %zu\\n", sizeof({name}));')
         wanted.append(f"{name} {ctypes.sizeof(kind)}")
         for field in (str(each[0]) for each in kind._fields_):  # pylint: disable=protected-access
-            lines.append(f'printf("{name} {field} %zu\\n", offsetof({name}, {field}));')
-            wanted.append(f"{name} {field} {getattr(kind, field).offset}")
+            lines.append(f'printf("{name} {field} %zu %zu\\n", offsetof({name}, {field}), sizeof((({name} *)0)->{field}));')
+            wanted.append(f"{name} {field} {getattr(kind, field).offset} {getattr(kind, field).size}")
     with tempfile.TemporaryDirectory() as folder:
         (Path(folder) / "said.c").write_text("\n".join([*lines, "return 0; }\n"]))
         subprocess.run([os.environ.get("CC", "cc"), f"-I{HEADER.parent}", "said.c", "-o", "said"], cwd=folder, check=True)
@@ -368,15 +405,41 @@ def check_declarations() -> None:
             same(declared, (in_python[found[1]], [in_python[each] for each in types]), f"the declaration of {call}")
 
 
+def check_found(library: str) -> None:
+    """Where no variable names its folder: the library beside an installed `tclive`, to which a link may lead, or else by its name alone."""
+    os.environ.pop("TCRX_LIB_DIR", None)
+    found = "import tcrx_channel as at; print(at.find_library())"
+    made = f"{found}; print(at.Channel(1, width=10, buffer=2, first=0).events)"
+
+    def printed(program: str, **names: str) -> Tuple[str, str]:
+        ran = run(sys.executable, "-c", program, names={"PYTHONPATH": str(TOP / "clients/python"), **names})
+        return ran.stdout, ran.stderr
+    with tempfile.TemporaryDirectory() as folder:
+        top = Path(folder).resolve()
+        for place in ("bin", "lib", "other/bin"):
+            (top / place).mkdir(parents=True)
+        (top / "bin/tclive").touch(0o755)
+        (top / "other/bin/tclive").symlink_to(top / "bin/tclive")
+        (top / "lib/libtcrx.so.0").symlink_to(Path(library).resolve())
+        for place in ("bin", "other/bin"):
+            same(printed(made, PATH=str(top / place)), (f"{top}/lib/libtcrx.so.0\n0\n", ""), f"the library beside tclive, by {place}")
+        by_loader = printed(made, PATH=str(top / "lib"), LD_LIBRARY_PATH=str(top / "lib"))
+        same(by_loader, ("libtcrx.so.0\n0\n", ""), "the library without tclive, where the loader finds it")
+        (top / "lib/libtcrx.so.0").unlink()
+        same(printed(found, PATH=str(top / "bin")), ("libtcrx.so.0\n", ""), "the library by its name, where none is beside tclive")
+
+
 def main() -> int:
     """Each part, over the libraries that the words name."""
     library, refusing = sys.argv[1], sys.argv[2]
+    check_found(library)
     os.environ["TCRX_LIB_DIR"] = str(Path(library).parent)
     same(tcrx_channel.find_library(), library, "the library that is found")
     same((tcrx.Channel, hasattr(tcrx, "Channel")), (Channel, True), "the channel of tcrx")
     check_declarations()
     check_cases()
     check_values()
+    check_fields()
     check_long_units()
     check_refused()
     check_ends()
