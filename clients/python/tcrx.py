@@ -19,8 +19,8 @@ file is proved.
 - What leaves a call without an answer is an exception, a `Fault`. After a `BadLine` or `NotSetUp` the receiver goes on as it
   was; after each other fault, and after an interrupt amid a call, it has ended.
 - A line that sets something up has no answer unless it is bad. So this client writes a second line behind it, `?`, which is
-  no command and is always answered `bad unknown command`: where that comes first the line was good, and where something
-  else comes before it, that is what was wrong. No line of this client's own begins with an unknown word.
+  no command and is always answered `bad unknown command`, and maybe a hint: where that comes first the line was good, and
+  where something else comes before it, that is what was wrong. No line of this client's own begins with an unknown word.
 - Calls may come from several threads: each waits until the one before it has its answer. After a fork only the process that
   started the receiver can use it.
 - With a timeout, a call has so many seconds as a whole, from when it is its turn; after that it raises `TimedOut`.
@@ -308,11 +308,12 @@ class NotStarted(Fault):
 
 
 class BadLine(Fault):
-    """A line was answered `bad`; the receiver goes on as it was. docs/reference/scripts.md has the reasons."""
+    """A line was answered `bad`; the receiver goes on as it was. docs/reference/scripts.md has the reasons. Where a hint follows the
+    reason, it is in the message alone."""
 
     def __init__(self, line: str, reason: str) -> None:
         super().__init__(f"{reason}: {shorten(line)}")
-        self.line, self.reason = line, reason
+        self.line, self.reason = line, without_hint(reason)
 
 
 class Ended(Fault):
@@ -342,6 +343,11 @@ class NotSetUp(Fault):
     def __init__(self, refused: Refused) -> None:
         super().__init__(refused.reason.value)
         self.refused = refused
+
+
+def without_hint(answer: str) -> str:
+    """A bad answer, or a reason, up to the hint that may follow it: what to write instead."""
+    return answer.partition(": ")[0]
 
 
 def shorten(text: str) -> str:
@@ -569,7 +575,7 @@ class Receiver:
         # How many seconds each call has, or `None` for no limit. It may be changed between calls.
         self.timeout = timeout
         try:
-            self._ask(PROBE, [PROBE_ANSWER].index)
+            self._ask(PROBE, lambda answer: [PROBE_ANSWER].index(without_hint(answer)))
         except Ended as fault:
             if fault.status != NOT_BUILT:
                 raise
@@ -664,10 +670,10 @@ class Receiver:
         with self._turn():
             self._write(f"{line}\n{PROBE}\n")
             answer = self._read(line)
-            if answer == PROBE_ANSWER:
+            if without_hint(answer) == PROBE_ANSWER:
                 return
             after = self._read(line)
-            if not answer.startswith("bad ") or after != PROBE_ANSWER:
+            if not answer.startswith("bad ") or without_hint(after) != PROBE_ANSWER:
                 self._give_up(line, answer)
         raise BadLine(line, answer[4:])
 

@@ -13,7 +13,7 @@ from binascii import crc_hqx
 from collections import Counter, deque
 from typing import Callable, Deque, Dict, List, Optional, Tuple
 
-from tcrx import Clcw
+from tcrx import Clcw, without_hint
 
 from .engine import Engine
 from .journal import Journal, printable
@@ -227,7 +227,7 @@ class Craft:  # pylint: disable=too-many-instance-attributes  # what is known of
             turn.asker(answer)
         words = answer.split(" ")
         if words[0] != "frame":
-            (self.bad if words[0] == "bad" else self.refused)[answer.partition(" ")[2]] += 1
+            (self.bad if words[0] == "bad" else self.refused)[without_hint(answer).partition(" ")[2]] += 1
             if turn.channel:
                 # As where memory ran out: it isn't known any more what is expected.
                 turn.channel.expected = None
@@ -341,7 +341,7 @@ class Craft:  # pylint: disable=too-many-instance-attributes  # what is known of
             turn.asker(answer)
         if answer:
             self.journal.answer(turn.line, answer)
-            self.bad[answer[4:]] += 1
+            self.bad[without_hint(answer)[4:]] += 1
         else:
             self.journal.write(turn.line)
             word, *numbers = turn.line.split(" ")
@@ -378,7 +378,7 @@ class Craft:  # pylint: disable=too-many-instance-attributes  # what is known of
         if turn.asker:
             turn.asker(answer)
         if answer.startswith("bad "):
-            self.bad[answer[4:]] += 1
+            self.bad[without_hint(answer)[4:]] += 1
         elif answer.startswith("link "):
             self._note_event(turn, line, answer)
 

@@ -9,7 +9,7 @@ import time
 from collections import deque
 from typing import Callable, Deque, List, Optional, Tuple
 
-from tcrx import LONGEST_ANSWER, LONGEST_REPORT, PROBE, PROBE_ANSWER, Process
+from tcrx import LONGEST_ANSWER, LONGEST_REPORT, PROBE, PROBE_ANSWER, Process, without_hint
 
 Answered = Callable[[str], None]
 # Octets that are read at once.
@@ -61,7 +61,7 @@ class Engine:  # pylint: disable=too-many-instance-attributes  # both ways of on
         found: List[str] = []
 
         def first(answer: str) -> None:
-            if answer == PROBE_ANSWER:
+            if without_hint(answer) == PROBE_ANSWER:
                 answered("")
             else:
                 found.append(answer)

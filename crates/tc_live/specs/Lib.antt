@@ -2,3 +2,4 @@ pub mod Check
 pub mod Receiver
 pub mod Serving
 pub mod Printed
+pub mod Hint

@@ -4,14 +4,15 @@ use Rattle.std.specs.Io.KnownBytes.{Appends, Keeps}
 use Rattle.tc_lines.specs.Answering as lines
 use Rattle.tc_lines.specs.declared.answering.ServingFault.{ServingFault as AnsweringFault}
 use Rattle.tc_lines.specs.declared.answering.ServingFault.TheVariants as answering
+use Rattle.tc_text.specs.Word.{words}
 use Rattle.tc_text.specs.declared.fault.Reason.{Reason}
 use Rattle.tc_text.specs.declared.fault.Reason.TheVariants as reasons
 use Rattle.tc_live.specs.declared.answer.LiveAnswer.{LiveAnswer}
 use Rattle.tc_live.specs.Printed.{live_text, bad_text}
 use Rattle.tc_live.specs.Receiver.{Receiving, rack_at, IsLineAnswered, IsBadLiveLine, IsReceiverLeft}
 use Rattle.tc_channel.specs.Journal.{History}
-use Rattle.tc_cli.specs.Report.{AreRising, report_text}
-use Rattle.tc_cli.specs.Linked.{Linked}
+use Rattle.tc_rack.specs.Report.{AreRising, report_text}
+use Rattle.tc_rack.specs.Linked.{Linked}
 use Rattle.tc_live.specs.declared.serving.ServingFault.{ServingFault}
 use Rattle.tc_live.specs.declared.serving.ServingFault.TheVariants.{Read, Write, NoMemory, Unbalanced}
 
@@ -23,10 +24,11 @@ IsClosingFault fault = (fault ≡ Write) ⊎ (fault ≡ NoMemory) ⊎ (fault ≡
 abbrev pub IsAnswerSaid : Receiving → List ℕ → Receiving → List ℕ → Type 0
 IsAnswerSaid old octets new text = (answer : LiveAnswer) × IsLineAnswered old octets new answer × (text ≡ live_text answer)
 
--- a line is refused, and answered by why
+-- a line is refused, and answered by why and what to write instead
 abbrev pub IsReasonSaid : Receiving → List ℕ → Receiving → List ℕ → Type 0
 IsReasonSaid old octets new text =
-    (reason : Reason) × ((reason ≡ reasons.NoMemory) ⊎ IsBadLiveLine old octets reason) × IsReceiverLeft reason old new × (text ≡ bad_text reason)
+    (reason : Reason) × ((reason ≡ reasons.NoMemory) ⊎ IsBadLiveLine old octets reason) × IsReceiverLeft reason old new
+    × (text ≡ bad_text (words octets) reason)
 
 -- what a line does to the receiver, and by what text it is answered
 abbrev pub IsLineSaid : Receiving → List ℕ → Receiving → List ℕ → Type 0

@@ -6,6 +6,7 @@
 
 mod answer;
 mod check;
+mod hint;
 mod receiver;
 mod serving;
 

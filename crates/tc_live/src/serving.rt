@@ -3,10 +3,12 @@
 ghost use Rattle.std.specs.Io.KnownBytes.{Appends, Keeps};
 ghost use Rattle.std.specs.Prelude.{◌≡◌, ◌⊎◌, IfErr, IfSome, OnOk};
 ghost use Rattle.tc_lines.specs.Answering.{Writes};
+ghost use Rattle.tc_lines.specs.Word.{words};
 ghost use Rattle.tc_live.specs.Printed.{live_text, bad_text};
 ghost use Rattle.tc_live.specs.Serving.{IsClosingFault, IsCutShort, IsLineSaid, IsReportWritten, IsWritten, fault_of};
 
 use crate::answer::LiveAnswer;
+use crate::hint::hint_for;
 use crate::receiver::Receiver;
 use std::alloc::Global;
 use std::io;
@@ -65,9 +67,9 @@ impl LineAnswerer for Receiver {
 
 /// Answers lines until there are no more, and flushes after each answer; then writes the final report.
 ///
-/// A bad line is answered `bad` and why. A line that is longer than a line may be is answered `bad too long`, and isn't kept. Octets
-/// after the last line feed are a line. Where the octets of the reader are known, the answers of all its lines are written, or as
-/// many as it gave before it failed.
+/// A bad line is answered `bad` and why, and where that helps, behind a colon, what to write instead. A line that is longer than a
+/// line may be is answered `bad too long`, and isn't kept. Octets after the last line feed are a line. Where the octets of the reader
+/// are known, the answers of all its lines are written, or as many as it gave before it failed.
 pub fn answer_lines<R: BufRead, W: Write>(
     alloc: Global,
     receiver: Receiver,
@@ -84,7 +86,7 @@ pub fn answer_lines<R: BufRead, W: Write>(
     }
 }
 
-// Does a line, and writes just the text of its answer, or `bad` and why.
+// Does a line, and writes just the text of its answer, or `bad`, why, and what to write instead.
 fn answer_line<W: Write>(
     alloc: Global,
     receiver: &mut Receiver,
@@ -95,7 +97,7 @@ fn answer_line<W: Write>(
 {
     match receiver.do_line(alloc, octets) {
         Ok(answer) => write_answer(&answer, writer),
-        Err(reason) => write_bad(reason, writer),
+        Err(reason) => write_bad(octets, reason, writer),
     }
 }
 
@@ -105,10 +107,11 @@ fn write_answer<W: Write>(answer: &LiveAnswer, writer: &mut W) -> io::Result<()>
     write!(writer, "{answer}")
 }
 
-fn write_bad<W: Write>(reason: Reason, writer: &mut W) -> io::Result<()>
-    ensures { OnOk result (Appends (W.contents writer.old) (W.contents writer.new) (bad_text reason)) }
+fn write_bad<W: Write>(octets: &[u8], reason: Reason, writer: &mut W) -> io::Result<()>
+    ensures { OnOk result (Appends (W.contents writer.old) (W.contents writer.new) (bad_text (words octets.now) reason)) }
 {
-    writeln!(writer, "bad {reason}")
+    let hint = hint_for(octets, reason);
+    writeln!(writer, "bad {reason}{hint}")
 }
 
 // The final report.
