@@ -1,7 +1,7 @@
 -- What queues admit is what the passed data fields make, in order, of which some may be left out.
-use Rattle.std.proofs.Common.{◌≡◌, ℕ, zero, suc, ◌+◌, ◌≤◌, Bool, true, false, cond, eqb, ◌&&◌, List, [], ◌∷◌, ◌++◌, length, map, filter, take, drop, Option, Some, None, refl, sym, ap, subst, ◌∙◌, inl, inr, append_assoc, arith}
+use Rattle.std.proofs.Common.{◌≡◌, ℕ, zero, suc, ◌+◌, ◌-◌, ◌≤◌, Bool, true, false, cond, eqb, ◌&&◌, List, [], ◌∷◌, ◌++◌, length, map, filter, take, drop, Option, Some, None, refl, sym, ap, subst, ◌∙◌, inl, inr, append_assoc, arith}
 use Rattle.std.specs.Prelude.{nat_lt, is_some, slice_get}
-use Rattle.std.proofs.lemmas.List.{append-nil}
+use Rattle.std.proofs.lemmas.List.{append-nil, length-drop}
 use Rattle.tc_link.specs.Farm.{accepts}
 use Rattle.tc_packet.specs.declared.Service.{Service}
 use Rattle.tc_packet.specs.declared.Service.TheVariants.{Ad, Bd}
@@ -16,7 +16,7 @@ use Rattle.tc_channel.specs.Admission.{is_for, is_of_map, map_of, is_chosen, pac
 use Rattle.tc_channel.specs.Run.{step, row_of, passed_on, unit_of, taken_from, first_of, run_within, IsLawfulWithin}
 use Rattle.tc_channel.specs.Given.{packets_given, units_given, fields_passed}
 use Rattle.tc_channel.specs.Era.{IsEraWithin, ComesFromWithin}
-use Rattle.tc_channel.specs.Through.{IsPartOf, unit_made, is_chosen_by, packets_ended, units_ended, all_made, packets_made, units_made, sent_from}
+use Rattle.tc_channel.specs.Through.{IsPartOf, unit_made, is_chosen_by, packets_ended, units_ended, all_made, packets_made, units_made, passed_since, released_since, sent_from}
 use Rattle.tc_channel.proofs.Runs.{run-push}
 use Rattle.tc_channel.proofs.Plain.{run-segmented, run-limit}
 use Rattle.tc_channel.proofs.StateQueues.{keys, kept-either, unit-keys-stay}
@@ -208,30 +208,52 @@ sent-fields sent k (suc n) (x ∷ xs) each le =
     let later = sent-fields sent (suc k) n xs (λ i a is. each (suc i) a is ∙ ap sent (omega arith)) (omega arith) in
     rw (here, later) refl
 
-pub passed-as-sent : (limits : ℕ → ℕ) (c : Settings) (journal : List Event) (x : ℕ) (sent : ℕ → List ℕ) → IsLawfulWithin limits c journal → IsEraWithin limits c journal [] journal x → ComesFromWithin limits c [] journal x sent
-    → fields_passed Ad (run_within limits c journal).passed ≡ sent_from sent 0 (run_within limits c journal).released
-unfolding run_within
-passed-as-sent limits c journal x sent lawful era comes =
-    let all = all-sent limits c journal [] journal x sent era comes in
-    fields-in-order limits c journal lawful
-    ∙ sent-fields sent 0 (run_within limits c journal).released (run_within limits c journal).accepted (λ i a is. all i a is ∙ ap sent (omega arith)) (released-within limits c journal lawful)
+take-none : (k : ℕ) (xs : List Accepted) → xs ≡ [] → map (λ (a : Accepted). a.field) (take k xs) ≡ []
+take-none zero xs none = refl
+take-none (suc k) [] none = refl
+take-none (suc k) (x ∷ xs) none = absurd cc
 
-pub packets-as-sent : (limits : ℕ → ℕ) (c : Settings) (journal : List Event) (x : ℕ) (sent : ℕ → List ℕ) (apid : ℕ) (q : Queue) → IsLawfulWithin limits c journal → IsEraWithin limits c journal [] journal x → ComesFromWithin limits c [] journal x sent
-    → queue_of apid (run_within limits c journal).queues ≡ Some q
-    → (passed : List Passed) × (fields_passed Ad passed ≡ sent_from sent 0 (run_within limits c journal).released)
+-- what is released of a list behind its first n is released of the rest
+rest-released : (n r : ℕ) (xs : List Accepted) → drop n (map (λ (a : Accepted). a.field) (take r xs)) ≡ map (λ (a : Accepted). a.field) (take (r - n) (drop n xs))
+rest-released zero r xs =
+    let all : r - 0 ≡ r = omega arith in
+    ap (λ (k : ℕ). map (λ (a : Accepted). a.field) (take k xs)) (sym all)
+rest-released (suc n) zero xs =
+    let none : 0 - suc n ≡ 0 = omega arith in
+    ap (λ (k : ℕ). map (λ (a : Accepted). a.field) (take k (drop (suc n) xs))) (sym none)
+rest-released (suc n) (suc r) [] = sym (take-none (suc r - suc n) [] refl)
+rest-released (suc n) (suc r) (x ∷ xs) =
+    let less : suc r - suc n ≡ r - n = omega arith in
+    rest-released n r xs ∙ ap (λ (k : ℕ). map (λ (a : Accepted). a.field) (take k (drop n xs))) (sym less)
+
+pub passed-as-sent : (limits : ℕ → ℕ) (c : Settings) (journal before later : List Event) (x : ℕ) (sent : ℕ → List ℕ) → IsLawfulWithin limits c journal → IsEraWithin limits c journal before later x
+    → ComesFromWithin limits c before later x sent → passed_since limits c before (run_within limits c journal).passed ≡ sent_from sent 0 (released_since limits c before journal)
+passed-as-sent limits c journal before later x sent lawful era comes =
+    let all = all-sent limits c journal before later x sent era comes in
+    let n = length (run_within limits c before).accepted in
+    let r = (run_within limits c journal).released in
+    let accepted = (run_within limits c journal).accepted in
+    let within = released-within limits c journal lawful in
+    let inside : r - n ≤ length (drop n accepted) = omega (arith, within, length-drop n accepted) in
+    ap (λ (l : List (List ℕ)). drop n l) (fields-in-order limits c journal lawful)
+    ∙ (rest-released n r accepted ∙ sent-fields sent 0 (r - n) (drop n accepted) (λ i a is. all i a is ∙ ap sent (omega arith)) inside)
+
+pub packets-as-sent : (limits : ℕ → ℕ) (c : Settings) (journal before later : List Event) (x : ℕ) (sent : ℕ → List ℕ) (apid : ℕ) (q : Queue) → IsLawfulWithin limits c journal
+    → IsEraWithin limits c journal before later x → ComesFromWithin limits c before later x sent → queue_of apid (run_within limits c journal).queues ≡ Some q
+    → (passed : List Passed) × (passed_since limits c before passed ≡ sent_from sent 0 (released_since limits c before journal))
     × IsPartOf (packets_given c apid (first_state_within limits c) journal) (packets_made limits c apid passed)
-packets-as-sent limits c journal x sent apid q lawful era comes has = (
+packets-as-sent limits c journal before later x sent apid q lawful era comes has = (
   (run_within limits c journal).passed,
-  passed-as-sent limits c journal x sent lawful era comes,
+  passed-as-sent limits c journal before later x sent lawful era comes,
   rw (packets-in-order limits c journal apid q has) (part-take q.taken q.admitted (packets_made limits c apid (run_within limits c journal).passed) (packets-are-made limits c journal apid q has)),
 )
 
-pub units-as-sent : (limits : ℕ → ℕ) (c : Settings) (journal : List Event) (x : ℕ) (sent : ℕ → List ℕ) (map_id : ℕ) (q : Queue) → IsLawfulWithin limits c journal → IsEraWithin limits c journal [] journal x → ComesFromWithin limits c [] journal x sent
-    → queue_of map_id (run_within limits c journal).units ≡ Some q
-    → (passed : List Passed) × (fields_passed Ad passed ≡ sent_from sent 0 (run_within limits c journal).released)
+pub units-as-sent : (limits : ℕ → ℕ) (c : Settings) (journal before later : List Event) (x : ℕ) (sent : ℕ → List ℕ) (map_id : ℕ) (q : Queue) → IsLawfulWithin limits c journal
+    → IsEraWithin limits c journal before later x → ComesFromWithin limits c before later x sent → queue_of map_id (run_within limits c journal).units ≡ Some q
+    → (passed : List Passed) × (passed_since limits c before passed ≡ sent_from sent 0 (released_since limits c before journal))
     × IsPartOf (units_given c map_id (first_state_within limits c) journal) (units_made limits c map_id passed)
-units-as-sent limits c journal x sent map_id q lawful era comes has = (
+units-as-sent limits c journal before later x sent map_id q lawful era comes has = (
   (run_within limits c journal).passed,
-  passed-as-sent limits c journal x sent lawful era comes,
+  passed-as-sent limits c journal before later x sent lawful era comes,
   rw (units-in-order limits c journal map_id q has) (part-take q.taken q.admitted (units_made limits c map_id (run_within limits c journal).passed) (units-are-made limits c journal map_id q has)),
 )

@@ -1,6 +1,8 @@
 -- Short journals whose answers are worked out by hand, to be read with the definitions: their settings and their frames, octet by octet.
 use Rattle.std.specs.Prelude.{ℕ, ◌==◌, if◌then◌else◌, Bool, true, false, List, [], ◌∷◌, replicate}
 use Rattle.tc_link.specs.declared.Link.{Link}
+use Rattle.tc_packet.specs.declared.Service.{Service}
+use Rattle.tc_packet.specs.Reassembly.{Passed}
 use Rattle.tc_channel.specs.declared.settings.Settings.{Settings}
 use Rattle.tc_channel.specs.declared.event.Event.{Event}
 use Rattle.tc_channel.specs.declared.event.Event.TheVariants.{Frame}
@@ -104,3 +106,11 @@ two_queues segmented = record { vcid = 1; width = 10; buffer = 4; first = 0; seg
 -- a buffer of 1, 70 queues of 256 packets, and a chosen MAP of 3 units
 abbrev pub many_queues : Settings
 many_queues = record { vcid = 1; width = 10; buffer = 1; first = 0; segmented = true; queues = replicate 70 (record { apid = 5; capacity = 256 }); maps = record { map = 3; capacity = 3 } ∷ [] }
+
+-- two data fields by these services, segments of MAP 3, which make the packet of application 5 with the octets aa and bb
+abbrev pub in_two_segments : Service → Service → List Passed
+in_two_segments one other =
+    record { service = one; field = 0x43 ∷ 0x10 ∷ 0x05 ∷ 0xc0 ∷ [] } ∷ record { service = other; field = 0x83 ∷ 0x01 ∷ 0x00 ∷ 0x01 ∷ 0xaa ∷ 0xbb ∷ [] } ∷ []
+
+abbrev pub joined_packet : List ℕ
+joined_packet = 0x10 ∷ 0x05 ∷ 0xc0 ∷ 0x01 ∷ 0x00 ∷ 0x01 ∷ 0xaa ∷ 0xbb ∷ []

@@ -1,5 +1,5 @@
 -- What a contract sees of a channel: its settings, and the events that it answered, the oldest first.
-use Rattle.std.specs.Prelude.{List, [], ◌∷◌, ◌++◌}
+use Rattle.std.specs.Prelude.{◌<◌, List, [], ◌∷◌, ◌++◌, length}
 use Rattle.tc_channel.specs.declared.settings.Settings.{Settings}
 use Rattle.tc_channel.specs.declared.event.Event.{Event}
 use Rattle.tc_channel.specs.declared.event.Event.TheVariants as events
@@ -20,3 +20,7 @@ event_of (Frame octets) = events.Frame octets.now
 event_of Release = events.Release
 event_of (Take apid) = events.Take apid
 event_of (TakeUnit map_id) = events.TakeUnit map_id
+
+-- the number of its events is told as it is: 2^64 - 1 is told for as many or more
+abbrev pub IsNumberTold : History → Type 0
+IsNumberTold channel = length channel.journal < 18446744073709551615

@@ -8,6 +8,7 @@ pub mod Reply
 pub mod Era
 pub mod Given
 pub mod Through
+pub mod Holding
 pub mod Laws
 pub mod HeldQueues
 pub mod Channel

@@ -1,9 +1,13 @@
 -- The way of packets and units through a channel: what the data fields make that were passed to reassembly, and what a sender sent.
-use Rattle.std.specs.Prelude.{◌≡◌, ℕ, zero, suc, Bool, List, [], ◌∷◌, ◌++◌, ◌⊎◌, map, filter, is_some, Option}
+use Rattle.std.specs.Prelude.{◌≡◌, ℕ, zero, suc, ◌-◌, Bool, List, [], ◌∷◌, ◌++◌, ◌⊎◌, length, map, drop, filter, is_some, Option}
+use Rattle.tc_packet.specs.declared.Service.TheVariants.{Ad}
 use Rattle.tc_packet.specs.Reassembly.{Passed, at_most, stream, unit_ended}
+use Rattle.tc_channel.specs.declared.event.Event.{Event}
 use Rattle.tc_channel.specs.declared.settings.Settings.{Settings}
 use Rattle.tc_channel.specs.ChannelState.{queue_of, empty_unit_queue}
 use Rattle.tc_channel.specs.Admission.{map_of, is_for, is_of_map, packets_offered, units_offered}
+use Rattle.tc_channel.specs.Given.{fields_passed}
+use Rattle.tc_channel.specs.Run.{run_within}
 
 -- the first list is the second, of which some items may be left out
 abbrev pub IsPartOf : List (List ℕ) → List (List ℕ) → Type 0
@@ -29,8 +33,8 @@ units_ended limits s map_id before p = filter (is_of_map (map_of p.field) map_id
 
 -- all that data fields make, one after the other, where others came before them
 abbrev pub all_made : (List Passed → Passed → List (List ℕ)) → List Passed → List Passed → List (List ℕ)
-all_made Ended before [] = []
-all_made Ended before (p ∷ ps) = Ended before p ++ all_made Ended (before ++ p ∷ []) ps
+all_made ended before [] = []
+all_made ended before (p ∷ ps) = ended before p ++ all_made ended (before ++ p ∷ []) ps
 
 -- the packets for an application that the data fields make which were passed to reassembly
 abbrev pub packets_made : (ℕ → ℕ) → Settings → ℕ → List Passed → List (List ℕ)
@@ -44,3 +48,11 @@ units_made limits s map_id passed = all_made (units_ended limits s map_id) [] pa
 abbrev pub sent_from : (ℕ → List ℕ) → ℕ → ℕ → List (List ℕ)
 sent_from sent k zero = []
 sent_from sent k (suc n) = sent k ∷ sent_from sent (suc k) n
+
+-- of the data fields that were passed to reassembly, the Type-AD ones of an era: those behind the ones accepted before it
+abbrev pub passed_since : (ℕ → ℕ) → Settings → List Event → List Passed → List (List ℕ)
+passed_since limits s before passed = drop (length (run_within limits s before).accepted) (fields_passed Ad passed)
+
+-- how many of the data fields accepted in an era were released
+abbrev pub released_since : (ℕ → ℕ) → Settings → List Event → List Event → ℕ
+released_since limits s before journal = (run_within limits s journal).released - length (run_within limits s before).accepted

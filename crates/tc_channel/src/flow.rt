@@ -11,7 +11,7 @@ ghost use Rattle.tc_channel.specs.Run.{run_within, IsLawfulWithin};
 ghost use Rattle.tc_channel.specs.Reply.{take_reply_within, unit_reply_within};
 ghost use Rattle.tc_channel.specs.Given.{oldest_in, packets_given, units_given, fields_passed};
 ghost use Rattle.tc_channel.specs.Era.{IsEraWithin, ComesFromWithin};
-ghost use Rattle.tc_channel.specs.Through.{IsPartOf, packets_made, units_made, sent_from};
+ghost use Rattle.tc_channel.specs.Through.{IsPartOf, packets_made, units_made, sent_from, passed_since, released_since};
 
 /// The data fields of Type-AD that were passed to reassembly are the accepted ones, each once and in order, as far as they were
 /// released.
@@ -41,30 +41,34 @@ pub fn what_was_passed_on_is_admitted_in_order()
     ensures whole { (one other : List (List ℕ)) → IsPartOf one other → length other ≤ length one → one ≡ other }
 {}
 
-/// From a sender to what was taken. A sender numbers its Type-AD frames on from the channel's first V(R), with the data fields `sent`, and
-/// none comes 256 numbers or more early or late; frames may be lost, come several times and out of order. Then, after any lawful journal
-/// in which no Set V(R) was obeyed, the AD fields that were passed to reassembly are the first that were sent, as many as were released;
-/// and all packets of an application that takes gave are, in their order, packets that those fields, and the BD fields between
-/// them, make, of which some may be left out. The same holds of the units of a chosen MAP.
+/// From a sender to what was taken. In an era a sender numbers its Type-AD frames on from the V(R) with which the era starts, with the
+/// data fields `sent`, and none comes 256 numbers or more early or late; frames may be lost, come several times and out of order. Then,
+/// after any lawful journal, the AD fields of the era that were passed to reassembly are the first that were sent, as many as were
+/// released; and all packets of an application that takes ever gave are, in their order, packets that the passed fields make, of which
+/// some may be left out. The same holds of the units of a chosen MAP. Where no Set V(R) was obeyed, the era is the whole journal.
 pub fn what_was_sent_is_given_in_order()
-    ensures fields { (limits : ℕ → ℕ) (s : Settings) (journal : List Event) (x : ℕ) (sent : ℕ → List ℕ) → IsLawfulWithin limits s journal
-        → IsEraWithin limits s journal [] journal x → ComesFromWithin limits s [] journal x sent
-        → fields_passed Service.Ad (run_within limits s journal).passed ≡ sent_from sent 0 (run_within limits s journal).released }
-    ensures packets { (limits : ℕ → ℕ) (s : Settings) (journal : List Event) (x : ℕ) (sent : ℕ → List ℕ) (apid : ℕ) (q : Queue) → IsLawfulWithin limits s journal
-        → IsEraWithin limits s journal [] journal x → ComesFromWithin limits s [] journal x sent → queue_of apid (run_within limits s journal).queues ≡ Some q
-        → (passed : List Passed) × (fields_passed Service.Ad passed ≡ sent_from sent 0 (run_within limits s journal).released)
+    ensures fields { (limits : ℕ → ℕ) (s : Settings) (journal before later : List Event) (x : ℕ) (sent : ℕ → List ℕ) → IsLawfulWithin limits s journal
+        → IsEraWithin limits s journal before later x → ComesFromWithin limits s before later x sent
+        → passed_since limits s before (run_within limits s journal).passed ≡ sent_from sent 0 (released_since limits s before journal) }
+    ensures packets { (limits : ℕ → ℕ) (s : Settings) (journal before later : List Event) (x : ℕ) (sent : ℕ → List ℕ) (apid : ℕ) (q : Queue) → IsLawfulWithin limits s journal
+        → IsEraWithin limits s journal before later x → ComesFromWithin limits s before later x sent → queue_of apid (run_within limits s journal).queues ≡ Some q
+        → (passed : List Passed) × (passed_since limits s before passed ≡ sent_from sent 0 (released_since limits s before journal))
         × IsPartOf (packets_given s apid (first_state_within limits s) journal) (packets_made limits s apid passed) }
-    ensures units { (limits : ℕ → ℕ) (s : Settings) (journal : List Event) (x : ℕ) (sent : ℕ → List ℕ) (map_id : ℕ) (q : Queue) → IsLawfulWithin limits s journal
-        → IsEraWithin limits s journal [] journal x → ComesFromWithin limits s [] journal x sent → queue_of map_id (run_within limits s journal).units ≡ Some q
-        → (passed : List Passed) × (fields_passed Service.Ad passed ≡ sent_from sent 0 (run_within limits s journal).released)
+    ensures units { (limits : ℕ → ℕ) (s : Settings) (journal before later : List Event) (x : ℕ) (sent : ℕ → List ℕ) (map_id : ℕ) (q : Queue) → IsLawfulWithin limits s journal
+        → IsEraWithin limits s journal before later x → ComesFromWithin limits s before later x sent → queue_of map_id (run_within limits s journal).units ≡ Some q
+        → (passed : List Passed) × (passed_since limits s before passed ≡ sent_from sent 0 (released_since limits s before journal))
         × IsPartOf (units_given s map_id (first_state_within limits s) journal) (units_made limits s map_id passed) }
 {}
 
-/// What data fields make, worked out by hand: a packet in two segments, for its own application alone; and none where the two came by
-/// different services.
+/// What data fields make, worked out by hand: a packet in two segments, for its own application alone; none where the two came by
+/// different services, or where its unit is over the limit of its MAP; on a chosen MAP the unit as it is, and no packet; and a packet that
+/// is a field without segment header.
 pub fn passed_fields_make_so()
-    ensures two_segments { packets_made no_limits (example.buffer_of 2) 5 (record { service = Service.Ad; field = 0x40 ∷ 0x10 ∷ 0x05 ∷ 0xc0 ∷ [] } ∷ record { service = Service.Ad; field = 0x80 ∷ 0x01 ∷ 0x00 ∷ 0x01 ∷ 0xaa ∷ 0xbb ∷ [] } ∷ [])
-        ≡ (0x10 ∷ 0x05 ∷ 0xc0 ∷ 0x01 ∷ 0x00 ∷ 0x01 ∷ 0xaa ∷ 0xbb ∷ []) ∷ [] }
-    ensures other_application { packets_made no_limits (example.buffer_of 2) 6 (record { service = Service.Ad; field = 0x40 ∷ 0x10 ∷ 0x05 ∷ 0xc0 ∷ [] } ∷ record { service = Service.Ad; field = 0x80 ∷ 0x01 ∷ 0x00 ∷ 0x01 ∷ 0xaa ∷ 0xbb ∷ [] } ∷ []) ≡ [] }
-    ensures services_apart { packets_made no_limits (example.buffer_of 2) 5 (record { service = Service.Ad; field = 0x40 ∷ 0x10 ∷ 0x05 ∷ 0xc0 ∷ [] } ∷ record { service = Service.Bd; field = 0x80 ∷ 0x01 ∷ 0x00 ∷ 0x01 ∷ 0xaa ∷ 0xbb ∷ [] } ∷ []) ≡ [] }
+    ensures two_segments { packets_made no_limits (example.buffer_of 2) 5 (example.in_two_segments Service.Ad Service.Ad) ≡ example.joined_packet ∷ [] }
+    ensures other_application { packets_made no_limits (example.buffer_of 2) 6 (example.in_two_segments Service.Ad Service.Ad) ≡ [] }
+    ensures services_apart { packets_made no_limits (example.buffer_of 2) 5 (example.in_two_segments Service.Ad Service.Bd) ≡ [] }
+    ensures over_its_limit { packets_made (example.limited 3 7) (example.buffer_of 2) 5 (example.in_two_segments Service.Ad Service.Ad) ≡ [] }
+    ensures whole_unit { units_made no_limits example.map_3_chosen 3 (example.in_two_segments Service.Bd Service.Bd) ≡ example.joined_packet ∷ [] }
+    ensures not_cut { packets_made no_limits example.map_3_chosen 5 (example.in_two_segments Service.Ad Service.Ad) ≡ [] }
+    ensures plain_field { packets_made no_limits example.plain 5 (record { service = Service.Bd; field = example.joined_packet } ∷ []) ≡ example.joined_packet ∷ [] }
 {}

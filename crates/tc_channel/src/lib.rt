@@ -19,6 +19,7 @@ mod copying;
 mod event;
 mod fields;
 mod flow;
+mod holding;
 mod items;
 mod journal;
 mod kept;
@@ -42,6 +43,7 @@ pub use flow::{
     what_was_admitted_is_given_in_order, what_was_passed_on_is_admitted_in_order,
     what_was_sent_is_given_in_order,
 };
+pub use holding::{Holding, MapHolding, QueueHolding, holding_in};
 pub use items::{Items, Octets};
 pub use journal::Journal;
 pub use kept::Kept;

@@ -28,17 +28,17 @@ use Rattle.tc_station.specs.Roster.{Roster, settings_in}
 use Rattle.tc_station.specs.StationSettings.{vcids_of}
 use Rattle.tc_station.specs.Tally.{AtStation, KnowsDesks}
 use Rattle.tc_station.specs.Together.{AreClosedTogether}
-use Rattle.tc_station.specs.declared.faults.LocateFault.{LocateFault}
-use Rattle.tc_station.specs.declared.faults.LocateFault.TheVariants.{Frame, OtherSpacecraft, UnknownChannel}
-use Rattle.tc_cli.specs.Linked.{Linked, vcid_of, new_linked, IsFrameAnswered, IsReleaseAnswered, IsTakeAnswered, IsUnitAnswered}
+use Rattle.tc_link.specs.declared.location.LocateFault.{LocateFault}
+use Rattle.tc_link.specs.declared.location.LocateFault.TheVariants.{Frame, OtherSpacecraft, UnknownChannel}
+use Rattle.tc_rack.specs.Linked.{Linked, vcid_of, new_linked, IsFrameAnswered, IsReleaseAnswered, IsTakeAnswered, IsUnitAnswered}
 use Rattle.tc_cli.specs.Manned.{Manned, IsAnsweredAt, IsBringAnswer, IsDeskAnswer, IsMannedAnswer, IsNewlyManned, IsWordAnswer, linked}
-use Rattle.tc_cli.specs.Operation.{IsChannelAnswer, IsFrameAnswer}
+use Rattle.tc_rack.specs.Operation.{IsChannelAnswer, IsFrameAnswer}
 use Rattle.tc_cli.specs.Progress.{IsScriptAnswer, IsWordRead}
-use Rattle.tc_cli.specs.Rack.{Racked, Changes, IsLocateFault, IsThere, histories, new_rack}
-use Rattle.tc_cli.specs.declared.answer.Answer.{Answer}
-use Rattle.tc_cli.specs.declared.answer.Answer.TheVariants.{Clcw}
-use Rattle.tc_cli.specs.declared.operation.Operation.{Operation}
-use Rattle.tc_cli.specs.declared.operation.Operation.TheVariants as operations
+use Rattle.tc_rack.specs.Rack.{Racked, Changes, IsLocateFault, IsThere, histories, new_rack}
+use Rattle.tc_rack.specs.declared.answer.Answer.{Answer}
+use Rattle.tc_rack.specs.declared.answer.Answer.TheVariants.{Clcw}
+use Rattle.tc_rack.specs.declared.operation.Operation.{Operation}
+use Rattle.tc_rack.specs.declared.operation.Operation.TheVariants as operations
 
 -- the laws of a desk that this rests on
 pub record AloneLaws : Type 0 where

@@ -13,16 +13,16 @@ use Rattle.tc_desk.specs.Call as at_desk
 use Rattle.tc_station.specs.Call.{IsBringCall, IsCallAt, IsCallOn, IsNotBrought, IsNotReleased, IsNotTaken, IsReplied, IsUnitNotTaken}
 use Rattle.tc_station.specs.Tally.{AtStation}
 use Rattle.tc_station.specs.declared.faults.BringFault.TheVariants as bring_faults
-use Rattle.tc_station.specs.declared.faults.LocateFault.{LocateFault}
+use Rattle.tc_link.specs.declared.location.LocateFault.{LocateFault}
 use Rattle.tc_station.specs.declared.faults.ReleaseRefused.TheVariants as release_refusals
 use Rattle.tc_station.specs.declared.faults.TakeRefused.TheVariants as take_refusals
 use Rattle.tc_station.specs.declared.faults.TakeUnitRefused.TheVariants as unit_refusals
 use Rattle.tc_station.specs.declared.station.Brought.{Brought}
-use Rattle.tc_cli.specs.Linked.{Linked, IsFrameAnswered, IsReleaseAnswered, IsTakeAnswered, IsUnitAnswered}
+use Rattle.tc_rack.specs.Linked.{Linked, IsFrameAnswered, IsReleaseAnswered, IsTakeAnswered, IsUnitAnswered}
 use Rattle.tc_cli.specs.Manned.{Manned, IsAnsweredAt, IsBringAnswer, IsDeskAnswer, linked}
-use Rattle.tc_cli.specs.declared.answer.Answer.{Answer}
-use Rattle.tc_cli.specs.declared.answer.Answer.TheVariants.{Frame, Release, Take, Unit as TakeUnit, Refused}
-use Rattle.tc_cli.specs.declared.answer.Refusal.TheVariants.{Unlocated, UnknownChannel, NoQueue, NoMap, Empty}
+use Rattle.tc_rack.specs.declared.answer.Answer.{Answer}
+use Rattle.tc_rack.specs.declared.answer.Answer.TheVariants.{Frame, Release, Take, Unit as TakeUnit, Refused}
+use Rattle.tc_rack.specs.declared.answer.Refusal.TheVariants.{Unlocated, UnknownChannel, NoQueue, NoMap, Empty}
 
 -- a call that was answered, or refused, and what the channel answered then
 abbrev IsTold : {R F : Type 0} → ℕ → Event → (Moment → R → Type 0) → (Moment → F → Type 0) → (Linked → Answer → Linked → Type 0) → Answer → Result R F → Type 0

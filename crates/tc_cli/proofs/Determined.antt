@@ -21,26 +21,26 @@ use Rattle.tc_setup.specs.declared.instruction.Addition.{Addition}
 use Rattle.tc_setup.specs.declared.instruction.Addition.TheVariants.{Queue, Map}
 use Rattle.tc_setup.specs.declared.instruction.Instruction.{Instruction}
 use Rattle.tc_setup.specs.declared.instruction.Instruction.TheVariants.{Nothing, Channel, Add, Frame, Release, Take, Unit as TakeUnit, Clcw}
-use Rattle.tc_station.specs.declared.faults.LocateFault.{LocateFault}
-use Rattle.tc_station.specs.declared.faults.LocateFault.TheVariants as faults
+use Rattle.tc_link.specs.declared.location.LocateFault.{LocateFault}
+use Rattle.tc_link.specs.declared.location.LocateFault.TheVariants as faults
 use Rattle.tc_text.specs.Reading.{IsFirstLine}
 use Rattle.tc_text.specs.declared.line.Line.{Line as Said}
 use Rattle.tc_cli.proofs.Framed.{IsOneAtMost, no-fault}
 use Rattle.tc_cli.proofs.Reported.{one-order}
-use Rattle.tc_cli.specs.Linked.{Linked, vcid_of, new_linked, later, IsFrameAnswered, IsReleaseAnswered, IsTakeAnswered, IsUnitAnswered}
-use Rattle.tc_cli.specs.Operation.{IsChannelAnswer, IsFrameAnswer}
+use Rattle.tc_rack.specs.Linked.{Linked, vcid_of, new_linked, later, IsFrameAnswered, IsReleaseAnswered, IsTakeAnswered, IsUnitAnswered}
+use Rattle.tc_rack.specs.Operation.{IsChannelAnswer, IsFrameAnswer}
 use Rattle.tc_cli.specs.Progress.{Progress, rack_for, AgreeBesidesWords, IsPerformed, IsScriptAnswer, IsWordRead}
-use Rattle.tc_cli.specs.Rack.{Racked, Changes, IsLocateFault, IsThere, histories}
-use Rattle.tc_cli.specs.Report.{IsReportOf, report_text}
+use Rattle.tc_rack.specs.Rack.{Racked, Changes, IsLocateFault, IsThere, histories}
+use Rattle.tc_rack.specs.Report.{IsReportOf, report_text}
 use Rattle.tc_cli.specs.Session.{IsAnswered, IsDoneSo}
-use Rattle.tc_cli.specs.Stage.{phase_of}
+use Rattle.tc_rack.specs.Stage.{phase_of}
 use Rattle.tc_cli.specs.Written.{AreAnswers, at_first, one_more, IsLineAnswered, IsReport}
-use Rattle.tc_cli.specs.declared.answer.Answer.{Answer}
-use Rattle.tc_cli.specs.declared.answer.Answer.TheVariants as answers
-use Rattle.tc_cli.specs.declared.answer.Refusal.TheVariants.{NoQueue, NoMap, Empty, Unlocated}
-use Rattle.tc_cli.specs.declared.operation.Operation.{Operation}
-use Rattle.tc_cli.specs.declared.operation.Operation.TheVariants as operations
-use Rattle.tc_cli.specs.declared.stage.Stage.TheVariants.{SettingUp, Operating}
+use Rattle.tc_rack.specs.declared.answer.Answer.{Answer}
+use Rattle.tc_rack.specs.declared.answer.Answer.TheVariants as answers
+use Rattle.tc_rack.specs.declared.answer.Refusal.TheVariants.{NoQueue, NoMap, Empty, Unlocated}
+use Rattle.tc_rack.specs.declared.operation.Operation.{Operation}
+use Rattle.tc_rack.specs.declared.operation.Operation.TheVariants as operations
+use Rattle.tc_rack.specs.declared.stage.Stage.TheVariants.{SettingUp, Operating}
 
 -- ---- the line that comes first
 

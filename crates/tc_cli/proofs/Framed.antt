@@ -8,8 +8,8 @@ use Rattle.tc_link.specs.declared.frame.FrameFault.{FrameFault}
 use Rattle.tc_link.specs.Frame.{BeginsWith, header_of, fault_of, version_of, spare_of, named_length}
 use Rattle.tc_station.specs.Location.{IsLocateFault}
 use Rattle.tc_station.specs.Roster.{Roster}
-use Rattle.tc_station.specs.declared.faults.LocateFault.{LocateFault}
-use Rattle.tc_station.specs.declared.faults.LocateFault.TheVariants.{Frame, OtherSpacecraft, UnknownChannel}
+use Rattle.tc_link.specs.declared.location.LocateFault.{LocateFault}
+use Rattle.tc_link.specs.declared.location.LocateFault.TheVariants.{Frame, OtherSpacecraft, UnknownChannel}
 
 front : (octets frame : List ℕ) (k : ℕ) → frame ≡ take (length frame) octets → k < length frame → get_or octets k 0 ≡ get_or frame k 0
 front octets frame k e lt = sym (ap (λ xs. get_or xs k 0) e ∙ get_or-take (length frame) octets k 0 lt)

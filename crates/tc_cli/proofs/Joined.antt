@@ -23,14 +23,14 @@ use Rattle.tc_station.specs.Together.{AreClosedTogether, crews_of}
 use Rattle.tc_station.specs.Tried.{AreMade, IsListMade}
 use Rattle.tc_station.specs.Work.{Shift, IsShift, AreWorked, lowest}
 use Rattle.tc_station.specs.declared.work.WorkList.{WorkList}
-use Rattle.tc_cli.specs.Linked.{Linked, vcid_of}
+use Rattle.tc_rack.specs.Linked.{Linked, vcid_of}
 use Rattle.tc_cli.specs.Parallel.{AreWorkedChannels}
 use Rattle.tc_cli.specs.Parting.{Parted, IsWorkedOut}
 use Rattle.tc_cli.specs.Progress.{Progress, rack_for, IsPerformed}
-use Rattle.tc_cli.specs.Rack.{Racked, histories}
-use Rattle.tc_cli.specs.Report.{IsReportOf, report_text}
+use Rattle.tc_rack.specs.Rack.{Racked, histories}
+use Rattle.tc_rack.specs.Report.{IsReportOf, report_text}
 use Rattle.tc_cli.specs.Written.{AreAnswers, IsReport}
-use Rattle.tc_cli.specs.declared.answer.Answer.{Answer}
+use Rattle.tc_rack.specs.declared.answer.Answer.{Answer}
 use Rattle.tc_cli.proofs.Happened.{HasSeen, IsWorkedAt, WorkLaws, desk_at, list-worked}
 use Rattle.tc_cli.proofs.Planned.{IsPlanned, all-planned, element, found-planned, mapped-at, matched-phase}
 

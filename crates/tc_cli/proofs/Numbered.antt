@@ -22,8 +22,8 @@ use Rattle.tc_text.specs.declared.fault.ScriptFault.{ScriptFault}
 use Rattle.tc_cli.specs.Parallel.{Plan, AreParted, none_parted, one_parted, ArePartedFor, IsParted, Parts}
 use Rattle.tc_cli.specs.Parting.{Parted, IsGiven, IsFrameGiven, IsJobLine, IsWorkFault, empty_list, with_job}
 use Rattle.tc_cli.specs.Script.{IsFault}
-use Rattle.tc_cli.specs.Stage.{phase_of}
-use Rattle.tc_cli.specs.declared.stage.Stage.TheVariants.{SettingUp, Operating}
+use Rattle.tc_rack.specs.Stage.{phase_of}
+use Rattle.tc_rack.specs.declared.stage.Stage.TheVariants.{SettingUp, Operating}
 use Rattle.tc_cli.proofs.Planned.{element, set-elsewhere, set-there}
 use Rattle.tc_cli.proofs.Scripts.{first-good, parted-leads}
 

@@ -18,27 +18,27 @@ use Rattle.tc_setup.specs.declared.instruction.Instruction.{Instruction}
 use Rattle.tc_setup.specs.declared.instruction.Instruction.TheVariants.{Nothing, Channel, Add, Frame, Release, Take, Unit as TakeUnit, Clcw}
 use Rattle.tc_station.specs.Location as at_station
 use Rattle.tc_station.specs.Roster.{settings_in}
-use Rattle.tc_station.specs.declared.faults.LocateFault.{LocateFault}
-use Rattle.tc_station.specs.declared.faults.LocateFault.TheVariants as faults
+use Rattle.tc_link.specs.declared.location.LocateFault.{LocateFault}
+use Rattle.tc_link.specs.declared.location.LocateFault.TheVariants as faults
 use Rattle.tc_station.specs.declared.work.Job.{Job}
 use Rattle.tc_station.specs.declared.work.Order.{Order}
 use Rattle.tc_station.specs.declared.work.Order.TheVariants as orders
 use Rattle.tc_station.specs.declared.work.WorkList.{WorkList}
-use Rattle.tc_cli.specs.Linked.{Linked, vcid_of, new_linked, later, IsFrameAnswered, IsReleaseAnswered, IsTakeAnswered, IsUnitAnswered}
-use Rattle.tc_cli.specs.Operation.{IsChannelAnswer, IsFrameAnswer}
+use Rattle.tc_rack.specs.Linked.{Linked, vcid_of, new_linked, later, IsFrameAnswered, IsReleaseAnswered, IsTakeAnswered, IsUnitAnswered}
+use Rattle.tc_rack.specs.Operation.{IsChannelAnswer, IsFrameAnswer}
 use Rattle.tc_cli.specs.Parallel.{Plan, AreParted, none_parted, one_parted, ArePartedFor, IsParted, Parts}
 use Rattle.tc_cli.specs.Parting.{Parted, IsNewlyParted, IsGiven, IsFrameGiven, IsListed, empty_list, with_job}
 use Rattle.tc_cli.specs.Progress.{Progress, rack_for, IsPerformed, IsScriptAnswer, IsWordRead}
-use Rattle.tc_cli.specs.Rack.{Racked, IsAt, IsLocateFault, IsThere, new_rack}
+use Rattle.tc_rack.specs.Rack.{Racked, IsAt, IsLocateFault, IsThere, new_rack}
 use Rattle.tc_cli.specs.Session.{IsAnswered, IsDoneSo}
-use Rattle.tc_cli.specs.Stage.{phase_of}
+use Rattle.tc_rack.specs.Stage.{phase_of}
 use Rattle.tc_cli.specs.Written.{AreAnswers, at_first, one_more}
-use Rattle.tc_cli.specs.declared.answer.Answer.{Answer}
-use Rattle.tc_cli.specs.declared.answer.Answer.TheVariants as answers
-use Rattle.tc_cli.specs.declared.answer.Refusal.TheVariants.{Unlocated, UnknownChannel, NoQueue, NoMap, Empty}
-use Rattle.tc_cli.specs.declared.operation.Operation.{Operation}
-use Rattle.tc_cli.specs.declared.operation.Operation.TheVariants as operations
-use Rattle.tc_cli.specs.declared.stage.Stage.TheVariants.{SettingUp, Operating}
+use Rattle.tc_rack.specs.declared.answer.Answer.{Answer}
+use Rattle.tc_rack.specs.declared.answer.Answer.TheVariants as answers
+use Rattle.tc_rack.specs.declared.answer.Refusal.TheVariants.{Unlocated, UnknownChannel, NoQueue, NoMap, Empty}
+use Rattle.tc_rack.specs.declared.operation.Operation.{Operation}
+use Rattle.tc_rack.specs.declared.operation.Operation.TheVariants as operations
+use Rattle.tc_rack.specs.declared.stage.Stage.TheVariants.{SettingUp, Operating}
 use Rattle.tc_cli.proofs.Happened.{AllHappen, Happens, one-more-happens}
 
 -- ---- lists

@@ -7,7 +7,7 @@ use Rattle.std.proofs.lemmas.List.Sorted.{IsPermutation-sym, Contains-permutatio
 use Rattle.std.proofs.lemmas.List.Sums.{sum_by-cons}
 use Rattle.std.proofs.lemmas.Option.{get_or_from_slice_get, same_Some, slice_get_within}
 use Rattle.tc_channel.specs.Journal.{History}
-use Rattle.tc_cli.specs.Report.{AreRising, vcid_of}
+use Rattle.tc_rack.specs.Report.{AreRising, vcid_of}
 
 -- 1 for a channel with this id, and 0 for any other
 abbrev one_of : ℕ → History → ℕ

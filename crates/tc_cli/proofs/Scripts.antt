@@ -5,7 +5,7 @@ use Rattle.std.specs.Prelude.{OnOk, IfErr}
 use Rattle.tc_setup.specs.Phase.{Phase, Setup}
 use Rattle.tc_cli.specs.Parallel.{Plan, AreParted, none_parted, one_parted}
 use Rattle.tc_cli.specs.Script.{Leads, starts, goes_on, AreFirstGood, IsReached, IsBadLine, IsFault, IsFirstBad, IsGood, IsReportFault}
-use Rattle.tc_cli.specs.Stage.{phase_of}
+use Rattle.tc_rack.specs.Stage.{phase_of}
 use Rattle.tc_text.specs.Reading.{IsFirstLine, IsReadFault, limit}
 use Rattle.tc_text.specs.declared.fault.Reason.{Reason}
 use Rattle.tc_text.specs.declared.fault.Reason.TheVariants.{NoMemory}

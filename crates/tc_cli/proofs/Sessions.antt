@@ -2,7 +2,7 @@
 use Rattle.std.proofs.Common.{◌≡◌, ◌<◌, ℕ, List, [], Option, All, length, get_or, inl, inr, refl, sym, ap, ◌∙◌, subst, arith}
 use Rattle.std.specs.Prelude.{IsPermutation}
 use Rattle.std.proofs.lemmas.Option.{slice_get-get_or}
-use Rattle.tc_channel.specs.Journal.{History}
+use Rattle.tc_channel.specs.Journal.{History, IsNumberTold}
 use Rattle.tc_channel.specs.declared.settings.Settings.{Settings}
 use Rattle.tc_desk.specs.Closing.{IsClosed}
 use Rattle.tc_desk.specs.Together.{column, nobody}
@@ -10,20 +10,19 @@ use Rattle.tc_setup.specs.Instruction.{instruction_of}
 use Rattle.tc_setup.specs.Phase.{Phase, Setup, Does}
 use Rattle.tc_setup.specs.declared.instruction.Instruction.{Instruction}
 use Rattle.tc_setup.specs.declared.instruction.Instruction.TheVariants.{Nothing, Channel, Add, Frame, Release, Take, Unit as TakeUnit, Clcw}
-use Rattle.tc_station.specs.Balance.{IsNumberTold}
 use Rattle.tc_station.specs.Roster.{Roster}
 use Rattle.tc_station.specs.Tally.{AtStation}
 use Rattle.tc_station.specs.Together.{AreClosedTogether, crews_of}
 use Rattle.tc_cli.specs.Manned.{Manned}
 use Rattle.tc_cli.specs.Progress.{Progress, rack_for, IsPerformed, IsScriptAnswer}
-use Rattle.tc_cli.specs.Rack.{Racked, histories}
+use Rattle.tc_rack.specs.Rack.{Racked, histories}
 use Rattle.tc_cli.specs.Session.{Session, IsAnswered, IsDoneSo, IsFound, IsOperated}
-use Rattle.tc_cli.specs.Stage.{phase_of}
+use Rattle.tc_rack.specs.Stage.{phase_of}
 use Rattle.tc_cli.specs.Written.{AreAnswers, at_first, one_more, IsReport, IsSessionReport}
-use Rattle.tc_cli.specs.declared.answer.Answer.{Answer}
-use Rattle.tc_cli.specs.declared.operation.Operation.{Operation}
-use Rattle.tc_cli.specs.declared.operation.Operation.TheVariants as operations
-use Rattle.tc_cli.specs.declared.stage.Stage.TheVariants.{SettingUp, Operating}
+use Rattle.tc_rack.specs.declared.answer.Answer.{Answer}
+use Rattle.tc_rack.specs.declared.operation.Operation.{Operation}
+use Rattle.tc_rack.specs.declared.operation.Operation.TheVariants as operations
+use Rattle.tc_rack.specs.declared.stage.Stage.TheVariants.{SettingUp, Operating}
 use Rattle.tc_cli.proofs.Alone.{AloneLaws, AreAlone, IsSound, answered-alone, closed-alone, new-rack, new-sound, rack_of, sound-after}
 
 -- how far the session has come, by the lines alone

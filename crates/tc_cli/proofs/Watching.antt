@@ -13,8 +13,8 @@ use Rattle.tc_station.specs.Roster.{Roster, IsDeskOf}
 use Rattle.tc_station.specs.StationSettings.{vcids_of}
 use Rattle.tc_cli.specs.Manned.{Manned, IsSomeWord, IsWordAnswer}
 use Rattle.tc_cli.specs.Watched.{AreWatchedOf, IsWatchedOf}
-use Rattle.tc_cli.specs.declared.answer.Answer.TheVariants.{Clcw, Refused}
-use Rattle.tc_cli.specs.declared.answer.Refusal.TheVariants.{UnknownChannel}
+use Rattle.tc_rack.specs.declared.answer.Answer.TheVariants.{Clcw, Refused}
+use Rattle.tc_rack.specs.declared.answer.Refusal.TheVariants.{UnknownChannel}
 
 module _ {W : Type 0} (settings_of : W → Settings) where
   -- the watcher at the place of an id reads a word of the channel with this id

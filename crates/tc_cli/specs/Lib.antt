@@ -1,12 +1,7 @@
 pub use Rattle.tc_setup.specs.Configuration
 pub use Rattle.tc_setup.specs.Instruction
 pub use Rattle.tc_setup.specs.Phase
-pub mod Stage
-pub mod Printed
 pub mod Script
-pub mod Linked
-pub mod Rack
-pub mod Operation
 pub mod Manned
 pub mod Watched
 pub mod Session

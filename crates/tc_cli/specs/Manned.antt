@@ -12,13 +12,13 @@ use Rattle.tc_station.specs.Location.{IsLocateFault, IsPlaced}
 use Rattle.tc_station.specs.Roster.{Roster, IsDeskOf, IsPlace, settings_in}
 use Rattle.tc_station.specs.StationSettings.{vcids_of}
 use Rattle.tc_station.specs.Tally.{AtStation, HasMadeNothing, KnowsDesks, tally}
-use Rattle.tc_station.specs.declared.faults.LocateFault.{LocateFault}
-use Rattle.tc_cli.specs.Linked.{Linked, IsFrameAnswered, IsReleaseAnswered, IsTakeAnswered, IsUnitAnswered}
-use Rattle.tc_cli.specs.declared.answer.Answer.{Answer}
-use Rattle.tc_cli.specs.declared.answer.Answer.TheVariants.{Clcw, Refused}
-use Rattle.tc_cli.specs.declared.answer.Refusal.TheVariants.{Unlocated, UnknownChannel}
-use Rattle.tc_cli.specs.declared.operation.Operation.{Operation}
-use Rattle.tc_cli.specs.declared.operation.Operation.TheVariants as operations
+use Rattle.tc_link.specs.declared.location.LocateFault.{LocateFault}
+use Rattle.tc_rack.specs.Linked.{Linked, IsFrameAnswered, IsReleaseAnswered, IsTakeAnswered, IsUnitAnswered}
+use Rattle.tc_rack.specs.declared.answer.Answer.{Answer}
+use Rattle.tc_rack.specs.declared.answer.Answer.TheVariants.{Clcw, Refused}
+use Rattle.tc_rack.specs.declared.answer.Refusal.TheVariants.{Unlocated, UnknownChannel}
+use Rattle.tc_rack.specs.declared.operation.Operation.{Operation}
+use Rattle.tc_rack.specs.declared.operation.Operation.TheVariants as operations
 
 -- the station, and what its operator has seen and made
 pub record Manned : Type 0 where

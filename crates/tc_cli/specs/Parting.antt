@@ -7,7 +7,7 @@ use Rattle.tc_station.specs.Roster.{Roster, settings_in}
 use Rattle.tc_station.specs.StationSettings.{HaveDistinctVcids, vcids_of}
 use Rattle.tc_station.specs.Tally.{AtStation, HasMadeNothing, KnowsDesks}
 use Rattle.tc_station.specs.Work.{AreWorked}
-use Rattle.tc_station.specs.declared.faults.LocateFault.{LocateFault}
+use Rattle.tc_link.specs.declared.location.LocateFault.{LocateFault}
 use Rattle.tc_station.specs.declared.work.Job.{Job}
 use Rattle.tc_station.specs.declared.work.Order.TheVariants.{Bring}
 use Rattle.tc_station.specs.declared.work.WorkList.{WorkList}

@@ -4,15 +4,15 @@ use Rattle.std.specs.Prelude.{◌≡◌, ◌⊎◌, ℕ, List, Option, Some}
 use Rattle.tc_channel.specs.Reply.{clcw}
 use Rattle.tc_channel.specs.Run.{IsLawful}
 use Rattle.tc_channel.specs.declared.event.Event.{Event}
-use Rattle.tc_cli.specs.Linked.{Linked, vcid_of, IsReleaseAnswered, IsTakeAnswered, IsUnitAnswered}
-use Rattle.tc_cli.specs.Operation.{IsChannelAnswer, IsFrameAnswer, IsUnknown}
-use Rattle.tc_cli.specs.Rack.{Racked, IsOf, new_rack}
-use Rattle.tc_cli.specs.declared.answer.Answer.{Answer}
-use Rattle.tc_cli.specs.declared.answer.Answer.TheVariants as answers
-use Rattle.tc_cli.specs.declared.operation.Operation.{Operation}
-use Rattle.tc_cli.specs.declared.operation.Operation.TheVariants as operations
-use Rattle.tc_cli.specs.declared.stage.Stage.{Stage}
-use Rattle.tc_cli.specs.declared.stage.Stage.TheVariants.{SettingUp, Operating}
+use Rattle.tc_rack.specs.Linked.{Linked, vcid_of, IsReleaseAnswered, IsTakeAnswered, IsUnitAnswered}
+use Rattle.tc_rack.specs.Operation.{IsChannelAnswer, IsFrameAnswer, IsUnknown}
+use Rattle.tc_rack.specs.Rack.{Racked, IsOf, new_rack}
+use Rattle.tc_rack.specs.declared.answer.Answer.{Answer}
+use Rattle.tc_rack.specs.declared.answer.Answer.TheVariants as answers
+use Rattle.tc_rack.specs.declared.operation.Operation.{Operation}
+use Rattle.tc_rack.specs.declared.operation.Operation.TheVariants as operations
+use Rattle.tc_rack.specs.declared.stage.Stage.{Stage}
+use Rattle.tc_rack.specs.declared.stage.Stage.TheVariants.{SettingUp, Operating}
 
 abbrev pub Progress : Type 0
 Progress = Stage Racked

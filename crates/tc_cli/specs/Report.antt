@@ -1,29 +1,10 @@
--- The channels of a closed station, and the final report of them: docs/reference/scripts.md shows it, under "The final report".
-use Rattle.std.specs.Prelude.{◌≡◌, ℕ, List, ◌++◌, Option, Some, None, All, IsPermutation, codes, decimal, length}
-use Rattle.std.specs.List.{flat_map}
-use Rattle.std.specs.List.Sorted.{IsNonDecreasingBy}
+-- The channels of a closed station, in the order of the final report.
+use Rattle.std.specs.Prelude.{List, IsPermutation}
 use Rattle.tc_channel.specs.Journal.{History}
-use Rattle.tc_channel.specs.Reply.{buffered_fields, waiting_packets, waiting_units}
-use Rattle.tc_channel.specs.Run.{IsLawful}
-use Rattle.tc_channel.specs.Settings.{IsAllowed}
-use Rattle.tc_channel.specs.declared.settings.QueueSetting.{QueueSetting}
-use Rattle.tc_channel.specs.declared.settings.MapSetting.{MapSetting}
-use Rattle.tc_status.specs.Board.{status_word}
-use Rattle.tc_station.specs.Balance.{IsNumberTold}
+use Rattle.tc_rack.specs.Report.{AreRising}
 use Rattle.tc_station.specs.Roster.{Roster}
 use Rattle.tc_station.specs.Tally.{AtStation}
 use Rattle.tc_station.specs.Together.{AreClosedTogether}
-use Rattle.tc_text.specs.Printed.{word_text}
-
-abbrev pub vcid_of : History → ℕ
-vcid_of channel = channel.settings.vcid
-
-abbrev pub AreRising : List History → Type 0
-AreRising channels = IsNonDecreasingBy vcid_of channels
-
--- its settings are allowed, and its journal is one of them
-abbrev pub IsLawfulHistory : History → Type 0
-IsLawfulHistory channel = IsAllowed channel.settings × IsLawful channel.settings channel.journal
 
 -- all channels of a station that was closed together with these operators, in rising id
 pub record IsClosedReport (station : Roster) (operators : List AtStation) (channels : List History) : Type 0 where
@@ -31,43 +12,3 @@ pub record IsClosedReport (station : Roster) (operators : List AtStation) (chann
   pub closed : AreClosedTogether station operators there
   pub all : IsPermutation there channels
   pub rising : AreRising channels
-
--- how much waits in a queue: `WORD VC ID N`; nothing where there is no such queue
-abbrev pub waiting_line : List ℕ → ℕ → ℕ → Option (List (List ℕ)) → List ℕ
-waiting_line word vcid id None = codes ""
-waiting_line word vcid id (Some waiting) =
-    word ++ codes " " ++ decimal vcid ++ codes " " ++ decimal id ++ codes " " ++ decimal (length waiting) ++ codes "\n"
-
--- how many packets wait in a queue
-abbrev pub queue_line : History → QueueSetting → List ℕ
-queue_line channel queue =
-    waiting_line (codes "queue") channel.settings.vcid queue.apid (waiting_packets channel.settings channel.journal queue.apid)
-
--- how many units wait in the queue of a chosen MAP
-abbrev pub map_line : History → MapSetting → List ℕ
-map_line channel chosen =
-    waiting_line (codes "map") channel.settings.vcid chosen.map (waiting_units channel.settings channel.journal chosen.map)
-
--- what a channel has come to: its CLCW with both link flags 0, how many events it has had, and how many data fields wait in its buffer
-abbrev pub final_line : History → List ℕ
-final_line channel =
-    codes "final " ++ decimal channel.settings.vcid ++ codes " " ++ word_text (status_word channel)
-    ++ codes " events " ++ decimal (length channel.journal)
-    ++ codes " buffered " ++ decimal (length (buffered_fields channel.settings channel.journal)) ++ codes "\n"
-
--- the lines of a channel: its queues and its chosen MAPs come in the order in which they were set up
-abbrev pub channel_text : History → List ℕ
-channel_text channel =
-    final_line channel ++ flat_map (queue_line channel) channel.settings.queues ++ flat_map (map_line channel) channel.settings.maps
-
--- the lines of each channel, one channel after the other
-abbrev pub report_text : List History → List ℕ
-report_text channels = flat_map channel_text channels
-
--- the text is the report of these channels, which come in rising id, and of which each has the journal of some lawful history, with
--- fewer events than 2^64 - 1
-pub record IsReportOf (channels : List History) (text : List ℕ) : Type 0 where
-  pub rising : AreRising channels
-  pub told : All IsNumberTold channels
-  pub lawful : All IsLawfulHistory channels
-  pub written : text ≡ report_text channels

@@ -1,11 +1,11 @@
 -- A script whose lines are done in order: the station that an operation finds, and what a line is answered.
 use Rattle.std.specs.Prelude.{◌≡◌, ◌⊎◌, ℕ, Option, Some, None}
 use Rattle.tc_cli.specs.Manned.{Manned, IsNewlyManned, AreAsCounted, IsMannedAnswer}
-use Rattle.tc_cli.specs.declared.answer.Answer.{Answer}
-use Rattle.tc_cli.specs.declared.operation.Operation.{Operation}
-use Rattle.tc_cli.specs.declared.operation.Operation.TheVariants as operations
-use Rattle.tc_cli.specs.declared.stage.Stage.{Stage}
-use Rattle.tc_cli.specs.declared.stage.Stage.TheVariants.{SettingUp, Operating}
+use Rattle.tc_rack.specs.declared.answer.Answer.{Answer}
+use Rattle.tc_rack.specs.declared.operation.Operation.{Operation}
+use Rattle.tc_rack.specs.declared.operation.Operation.TheVariants as operations
+use Rattle.tc_rack.specs.declared.stage.Stage.{Stage}
+use Rattle.tc_rack.specs.declared.stage.Stage.TheVariants.{SettingUp, Operating}
 use Rattle.tc_setup.specs.declared.instruction.Instruction.{Instruction}
 use Rattle.tc_setup.specs.declared.instruction.Instruction.TheVariants.{Nothing, Channel, Add, Frame, Release, Take, Unit as TakeUnit, Clcw}
 use Rattle.tc_text.specs.declared.fault.Reason.{Reason}

@@ -14,17 +14,18 @@ use Rattle.tc_text.specs.declared.fault.ScriptFault.TheVariants.{Line, Read, Too
 use Rattle.tc_setup.specs.Instruction.{instruction_of}
 use Rattle.tc_setup.specs.Phase.{Setup, Does}
 use Rattle.tc_cli.specs.Manned.{Manned}
-use Rattle.tc_cli.specs.Printed.{answer_line}
+use Rattle.tc_rack.specs.Printed.{answer_line}
 use Rattle.tc_cli.specs.Progress.{Progress, rack_for, IsPerformed}
-use Rattle.tc_cli.specs.Rack.{histories}
-use Rattle.tc_cli.specs.Report.{IsClosedReport, IsReportOf}
+use Rattle.tc_rack.specs.Rack.{histories}
+use Rattle.tc_cli.specs.Report.{IsClosedReport}
+use Rattle.tc_rack.specs.Report.{IsReportOf}
 use Rattle.tc_cli.specs.Script.{IsBadLine}
 use Rattle.tc_cli.specs.Session.{Session, IsAnswered, IsFound, IsOperated}
-use Rattle.tc_cli.specs.Stage.{phase_of}
-use Rattle.tc_cli.specs.declared.answer.Answer.{Answer}
-use Rattle.tc_cli.specs.declared.operation.Operation.{Operation}
-use Rattle.tc_cli.specs.declared.stage.Stage.{Stage}
-use Rattle.tc_cli.specs.declared.stage.Stage.TheVariants.{SettingUp}
+use Rattle.tc_rack.specs.Stage.{phase_of}
+use Rattle.tc_rack.specs.declared.answer.Answer.{Answer}
+use Rattle.tc_rack.specs.declared.operation.Operation.{Operation}
+use Rattle.tc_rack.specs.declared.stage.Stage.{Stage}
+use Rattle.tc_rack.specs.declared.stage.Stage.TheVariants.{SettingUp}
 
 -- the line is good, leads from the one stage to the other, and is answered so
 abbrev pub IsLineAnswered : {O : Type 0} → (Operation → Stage O → Answer → Stage O → Type 0) → Stage O → List ℕ → Stage O → Option Answer → Type 0

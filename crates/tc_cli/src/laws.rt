@@ -5,10 +5,10 @@ ghost use Rattle.std.specs.Prelude.{◌≡◌, ◌<◌, ℕ, [], List, Option};
 ghost use Rattle.tc_channel.specs.Journal.{History};
 ghost use Rattle.tc_cli.specs.Parallel.{AreWorkedChannels};
 ghost use Rattle.tc_cli.specs.Progress.{Progress, AgreeBesidesWords, IsPerformed};
-ghost use Rattle.tc_cli.specs.Report.{IsReportOf};
+ghost use Rattle.tc_rack.specs.Report.{IsReportOf};
 ghost use Rattle.tc_cli.specs.Script.{AreFirstGood, IsFault};
 ghost use Rattle.tc_cli.specs.Written.{AreAnswers, IsReport};
-ghost use Rattle.tc_cli.specs.declared.answer.Answer.{Answer};
+ghost use Rattle.tc_rack.specs.declared.answer.Answer.{Answer};
 ghost use Rattle.tc_text.specs.declared.fault.Reason.TheVariants.{NoMemory};
 ghost use Rattle.tc_text.specs.declared.fault.ScriptFault.TheVariants.{Line};
 

@@ -1,19 +1,18 @@
 //! A station with its operator, and what the operations of a script are answered.
 
 ghost use Rattle.std.specs.Prelude.{◌≡◌, IfOk, IfErr, OnOk, OnErr};
-ghost use Rattle.tc_cli.specs.Linked.{IsReleaseAnswered, IsTakeAnswered, IsUnitAnswered};
+ghost use Rattle.tc_rack.specs.Linked.{IsReleaseAnswered, IsTakeAnswered, IsUnitAnswered};
 ghost use Rattle.tc_cli.specs.Manned.{AreAsCounted, IsBringAnswer, IsDeskAnswer, IsMannedAnswer, IsNewlyManned, IsWordAnswer};
 ghost use Rattle.tc_station.specs.Roster.{settings_in};
 ghost use Rattle.tc_station.specs.StationSettings.{vcids_of};
 ghost use Rattle.tc_station.specs.Tally.{HasMadeNothing, IsOurs, KnowsDesks, tally};
 
-use crate::answer::{Answer, Refusal};
-use crate::operation::Operation;
 use crate::watchers::Watchers;
 use std::alloc::Global;
 use std::marker::Model;
 use std::sync::Wait;
 use tc_channel::Octets;
+use tc_rack::{Answer, Operation, Refusal};
 use tc_station::{
     BringFault, FlightStation, Operator, OperatorsFault, ReleaseRefused, TakeRefused,
     TakeUnitRefused,

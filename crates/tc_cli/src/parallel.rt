@@ -5,23 +5,22 @@ ghost use Rattle.std.specs.Io.KnownBytes.{Keeps};
 ghost use Rattle.tc_cli.specs.Parallel.{AreParted, ArePartedFor, AreWorkedChannels, Begins, IsLineParted, IsParted, Parts};
 ghost use Rattle.tc_cli.specs.Parting.{IsGiven, IsFrameGiven};
 ghost use Rattle.tc_setup.specs.Phase.{Does, IsBad, Setup};
-ghost use Rattle.tc_cli.specs.Report.{AreRising};
+ghost use Rattle.tc_rack.specs.Report.{AreRising};
 ghost use Rattle.tc_cli.specs.Script.{IsFault, IsGood, IsDone, IsBadLine};
-ghost use Rattle.tc_cli.specs.Stage.{phase_of, IsKept};
+ghost use Rattle.tc_rack.specs.Stage.{phase_of, IsKept};
 ghost use Rattle.tc_cli.specs.Written.{IsWrittenInParallel};
-ghost use Rattle.tc_station.specs.Balance.{IsNumberTold};
+ghost use Rattle.tc_channel.specs.Journal.{IsNumberTold};
 ghost use Rattle.tc_text.specs.Reading.{limit};
 
 use crate::laws::the_workers_report_is_that_of_the_lines_in_order;
 use crate::parting::Parted;
-use crate::report::write_report;
-use crate::stage::Stage;
 use std::alloc::Global;
 use std::io::{Read, Write};
 use std::mem;
 use std::sync::Wait;
 use std::thread::Threads;
 use tc_channel::{FlightChannel, Octets};
+use tc_rack::{Stage, write_report};
 use tc_setup::{Configuration, Instruction};
 use tc_station::{Gate, Job, Order};
 use tc_text::{Reason, ScriptFault, next_line, parse_line, read_whole};
@@ -73,7 +72,7 @@ fn work_lines<T: Threads + Wait + Sync, G: Gate + Sync>(
     ensures fault { IfErr result (IsFault script.now) }
 {
     let (plan, lines) = part_lines(alloc, scid, script)?;
-    match plan.start(alloc, scid) {
+    match start(plan, alloc, scid) {
         Ok(parted) => parted.work(rt, gate, lines),
         Err(Reason::NoChannel) => Ok(Vec::new(alloc)),
         Err(reason) => Err(ScriptFault::Line {
@@ -122,121 +121,121 @@ fn part_line(
     ensures refused { IfErr result (λ reason. IsKept reason plan.old plan.new) }
 {
     let said = parse_line(alloc, octets)?;
-    plan.part(alloc, scid, line, Instruction::of(alloc, said))
+    part(plan, alloc, scid, line, Instruction::of(alloc, said))
 }
 
-impl Stage<Parted> {
-    // Gives what a line asks for to its channel, or sets it up. A line that is refused leaves all as it is, unless
-    // memory is refused before operation.
-    fn part(
-        &mut self,
-        alloc: Global,
-        scid: u16,
-        line: u32,
-        instruction: Instruction,
-    ) -> Result<(), Reason>
-        requires { scid ≤ 1023 }
-        ensures done { OnOk result (Does (phase_of self.old) instruction (phase_of self.new)) }
-        ensures parted { OnOk result (IsParted scid line self.old instruction self.new) }
-        ensures reason { IfErr result (λ reason. (reason ≡ Reason.NoMemory) ⊎ IsBad (phase_of self.old) instruction reason) }
-        ensures refused { IfErr result (λ reason. IsKept reason self.old self.new) }
-    {
-        match instruction {
-            Instruction::Nothing => Ok(()),
-            Instruction::Channel(settings) => self.add_channel(settings),
-            Instruction::Add(vcid, addition) => self.add_to_channel(alloc, vcid, addition),
-            Instruction::Frame(octets) => self.give_frame(alloc, scid, line, octets),
-            Instruction::Release(vcid) => self.give_order(alloc, scid, vcid, line, Order::Release),
-            Instruction::Take(vcid, apid) => self.give_order(
-                alloc,
-                scid,
-                vcid,
-                line,
-                Order::Take(apid),
-            ),
-            Instruction::Unit(vcid, map) => self.give_order(
-                alloc,
-                scid,
-                vcid,
-                line,
-                Order::TakeUnit(map),
-            ),
-            Instruction::Clcw(_) => self.begin(alloc, scid),
+// Gives what a line asks for to its channel, or sets it up. A line that is refused leaves all as it is, unless
+// memory is refused before operation.
+fn part(
+    plan: &mut Plan,
+    alloc: Global,
+    scid: u16,
+    line: u32,
+    instruction: Instruction,
+) -> Result<(), Reason>
+    requires { scid ≤ 1023 }
+    ensures done { OnOk result (Does (phase_of plan.old) instruction (phase_of plan.new)) }
+    ensures parted { OnOk result (IsParted scid line plan.old instruction plan.new) }
+    ensures reason { IfErr result (λ reason. (reason ≡ Reason.NoMemory) ⊎ IsBad (phase_of plan.old) instruction reason) }
+    ensures refused { IfErr result (λ reason. IsKept reason plan.old plan.new) }
+{
+    match instruction {
+        Instruction::Nothing => Ok(()),
+        Instruction::Channel(settings) => plan.add_channel(settings),
+        Instruction::Add(vcid, addition) => plan.add_to_channel(alloc, vcid, addition),
+        Instruction::Frame(octets) => give_frame(plan, alloc, scid, line, octets),
+        Instruction::Release(vcid) => give_order(plan, alloc, scid, vcid, line, Order::Release),
+        Instruction::Take(vcid, apid) => give_order(
+            plan,
+            alloc,
+            scid,
+            vcid,
+            line,
+            Order::Take(apid),
+        ),
+        Instruction::Unit(vcid, map) => give_order(
+            plan,
+            alloc,
+            scid,
+            vcid,
+            line,
+            Order::TakeUnit(map),
+        ),
+        Instruction::Clcw(_) => begin(plan, alloc, scid),
+    }
+}
+
+// Gives the octets of a line to the channel that they are for.
+fn give_frame(
+    plan: &mut Plan,
+    alloc: Global,
+    scid: u16,
+    line: u32,
+    octets: Octets,
+) -> Result<(), Reason>
+    requires { scid ≤ 1023 }
+    ensures some { OnOk result (phase_of plan.old ≢ Setup []) }
+    ensures given { OnOk result (Parts scid (IsFrameGiven line octets) plan.old plan.new) }
+    ensures reason { IfErr result (λ reason. (reason ≡ Reason.NoMemory) ⊎ ((reason ≡ Reason.NoChannel) × (phase_of plan.old ≡ Setup []))) }
+    ensures refused { IfErr result (λ reason. IsKept reason plan.old plan.new) }
+{
+    begin(plan, alloc, scid)?;
+    match plan {
+        Stage::Operating(parted) => parted.give_frame(alloc, line, octets),
+        Stage::SettingUp(_) => unreachable!(),
+    }
+}
+
+// Gives the order of a line to a channel.
+fn give_order(
+    plan: &mut Plan,
+    alloc: Global,
+    scid: u16,
+    vcid: u8,
+    line: u32,
+    order: Order,
+) -> Result<(), Reason>
+    requires { scid ≤ 1023 }
+    ensures some { OnOk result (phase_of plan.old ≢ Setup []) }
+    ensures given { OnOk result (Parts scid (IsGiven vcid (record { line = line; order = order })) plan.old plan.new) }
+    ensures reason { IfErr result (λ reason. (reason ≡ Reason.NoMemory) ⊎ ((reason ≡ Reason.NoChannel) × (phase_of plan.old ≡ Setup []))) }
+    ensures refused { IfErr result (λ reason. IsKept reason plan.old plan.new) }
+{
+    begin(plan, alloc, scid)?;
+    match plan {
+        Stage::Operating(parted) => parted.give(alloc, vcid, Job { line, order }),
+        Stage::SettingUp(_) => unreachable!(),
+    }
+}
+
+// Makes the station and its lists, where no operation came before.
+fn begin(plan: &mut Plan, alloc: Global, scid: u16) -> Result<(), Reason>
+    requires { scid ≤ 1023 }
+    ensures parted { OnOk result (Begins scid plan.old plan.new) }
+    ensures some { OnOk result (phase_of plan.old ≢ Setup []) }
+    ensures reason { IfErr result (λ reason. (reason ≡ Reason.NoMemory) ⊎ ((reason ≡ Reason.NoChannel) × (phase_of plan.old ≡ Setup []))) }
+    ensures refused { IfErr result (λ reason. IsKept reason plan.old plan.new) }
+{
+    match plan {
+        Stage::Operating(_) => Ok(()),
+        Stage::SettingUp(list) => {
+            let there = mem::replace(list, Configuration::new(alloc));
+            let parted = Parted::new(alloc, scid, there)?;
+            *plan = Stage::Operating(parted);
+            Ok(())
         }
     }
+}
 
-    // Gives the octets of a line to the channel that they are for.
-    fn give_frame(
-        &mut self,
-        alloc: Global,
-        scid: u16,
-        line: u32,
-        octets: Octets,
-    ) -> Result<(), Reason>
-        requires { scid ≤ 1023 }
-        ensures some { OnOk result (phase_of self.old ≢ Setup []) }
-        ensures given { OnOk result (Parts scid (IsFrameGiven line octets) self.old self.new) }
-        ensures reason { IfErr result (λ reason. (reason ≡ Reason.NoMemory) ⊎ ((reason ≡ Reason.NoChannel) × (phase_of self.old ≡ Setup []))) }
-        ensures refused { IfErr result (λ reason. IsKept reason self.old self.new) }
-    {
-        self.begin(alloc, scid)?;
-        match self {
-            Stage::Operating(parted) => parted.give_frame(alloc, line, octets),
-            Stage::SettingUp(_) => unreachable!(),
-        }
-    }
-
-    // Gives the order of a line to a channel.
-    fn give_order(
-        &mut self,
-        alloc: Global,
-        scid: u16,
-        vcid: u8,
-        line: u32,
-        order: Order,
-    ) -> Result<(), Reason>
-        requires { scid ≤ 1023 }
-        ensures some { OnOk result (phase_of self.old ≢ Setup []) }
-        ensures given { OnOk result (Parts scid (IsGiven vcid (record { line = line; order = order })) self.old self.new) }
-        ensures reason { IfErr result (λ reason. (reason ≡ Reason.NoMemory) ⊎ ((reason ≡ Reason.NoChannel) × (phase_of self.old ≡ Setup []))) }
-        ensures refused { IfErr result (λ reason. IsKept reason self.old self.new) }
-    {
-        self.begin(alloc, scid)?;
-        match self {
-            Stage::Operating(parted) => parted.give(alloc, vcid, Job { line, order }),
-            Stage::SettingUp(_) => unreachable!(),
-        }
-    }
-
-    // Makes the station and its lists, where no operation came before.
-    fn begin(&mut self, alloc: Global, scid: u16) -> Result<(), Reason>
-        requires { scid ≤ 1023 }
-        ensures parted { OnOk result (Begins scid self.old self.new) }
-        ensures some { OnOk result (phase_of self.old ≢ Setup []) }
-        ensures reason { IfErr result (λ reason. (reason ≡ Reason.NoMemory) ⊎ ((reason ≡ Reason.NoChannel) × (phase_of self.old ≡ Setup []))) }
-        ensures refused { IfErr result (λ reason. IsKept reason self.old self.new) }
-    {
-        match self {
-            Stage::Operating(_) => Ok(()),
-            Stage::SettingUp(list) => {
-                let there = mem::replace(list, Configuration::new(alloc));
-                let parted = Parted::new(alloc, scid, there)?;
-                *self = Stage::Operating(parted);
-                Ok(())
-            }
-        }
-    }
-
-    // The jobs so far, of a station made by what was set up where no operation came before.
-    fn start(self, alloc: Global, scid: u16) -> Result<Parted, Reason>
-        requires { scid ≤ 1023 }
-        ensures parted { IfOk result (ArePartedFor scid self) }
-        ensures some { OnOk result (phase_of self ≢ Setup []) }
-        ensures reason { IfErr result (λ reason. (reason ≡ Reason.NoMemory) ⊎ ((reason ≡ Reason.NoChannel) × (phase_of self ≡ Setup []))) }
-    {
-        match self {
-            Stage::Operating(parted) => Ok(parted),
-            Stage::SettingUp(list) => Parted::new(alloc, scid, list),
-        }
+// The jobs so far, of a station made by what was set up where no operation came before.
+fn start(plan: Plan, alloc: Global, scid: u16) -> Result<Parted, Reason>
+    requires { scid ≤ 1023 }
+    ensures parted { IfOk result (ArePartedFor scid plan) }
+    ensures some { OnOk result (phase_of plan ≢ Setup []) }
+    ensures reason { IfErr result (λ reason. (reason ≡ Reason.NoMemory) ⊎ ((reason ≡ Reason.NoChannel) × (phase_of plan ≡ Setup []))) }
+{
+    match plan {
+        Stage::Operating(parted) => Ok(parted),
+        Stage::SettingUp(list) => Parted::new(alloc, scid, list),
     }
 }

@@ -2,12 +2,12 @@
 
 ghost use Rattle.std.specs.Prelude.{◌≡◌, ◌≢◌, ◌≤◌, ◌⊎◌, [], All, IfOk, IfErr, OnOk, OnErr, MatchOption};
 ghost use Rattle.tc_cli.specs.Parting.{IsNewlyParted, IsGiven, IsFrameGiven, IsListed, IsListAt, IsWorkedOut, IsWorkFault};
-ghost use Rattle.tc_cli.specs.Report.{AreRising};
-ghost use Rattle.tc_station.specs.Balance.{IsNumberTold};
+ghost use Rattle.tc_rack.specs.Report.{AreRising};
+ghost use Rattle.tc_channel.specs.Journal.{IsNumberTold};
 ghost use Rattle.tc_station.specs.Work.{line_of};
 
+use crate::closing::close;
 use crate::founding::{found, lists_for};
-use crate::report::close;
 use std::alloc::Global;
 use std::marker::Model;
 use std::sync::Wait;

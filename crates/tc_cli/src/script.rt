@@ -4,21 +4,20 @@ ghost use Rattle.std.specs.Prelude.{◌≡◌, ◌⊎◌, ◌≤◌, length, IfO
 ghost use Rattle.tc_cli.specs.Script.{IsFault, IsGood, IsDone, IsBadLine, IsReportFault};
 ghost use Rattle.tc_text.specs.Reading.{limit};
 ghost use Rattle.tc_cli.specs.Session.{IsLeft, IsOperated};
-ghost use Rattle.tc_cli.specs.Stage.{phase_of};
+ghost use Rattle.tc_rack.specs.Stage.{phase_of};
 ghost use Rattle.std.specs.Io.KnownBytes.{Appends, Keeps};
-ghost use Rattle.tc_cli.specs.Printed.{answer_line};
+ghost use Rattle.tc_rack.specs.Printed.{answer_line};
 ghost use Rattle.tc_cli.specs.Written.{IsCutShort, IsLineAnswered, IsReportWritten, IsWritten};
 
-use crate::answer::Answer;
-use crate::report::{close, write_report};
-use crate::session::Session;
-use crate::stage::Stage;
+use crate::closing::close;
+use crate::session::{Session, perform, start};
 use std::alloc::Global;
 use std::io::{Read, Write};
 use std::sync::Wait;
 use tc_desk::{
     one_alone_is_answered_after_its_own_events, the_only_operator_made_the_whole_journal,
 };
+use tc_rack::{Answer, Stage, write_report};
 use tc_setup::{Configuration, Instruction};
 use tc_text::{Reason, ScriptFault, next_line, parse_line, read_whole};
 
@@ -95,7 +94,7 @@ fn perform_line(
     ensures refused { IfErr result (λ reason. IsLeft scid reason session.old session.new) }
 {
     let said = parse_line(alloc, octets)?;
-    session.perform(rt, alloc, scid, Instruction::of(alloc, said))
+    perform(session, rt, alloc, scid, Instruction::of(alloc, said))
 }
 
 fn write_answer<W: Write>(answer: Option<Answer>, writer: &mut W) -> Result<(), ScriptFault>
@@ -122,7 +121,7 @@ fn report<W: Write>(
     ensures fault { IfErr result (IsReportFault lines) }
     ensures kept { IfErr result (λ fault. (fault ≡ ScriptFault.Write) ⊎ Keeps (W.contents writer.old) (W.contents writer.new)) }
 {
-    let manned = match session.start(rt, alloc, scid) {
+    let manned = match start(session, rt, alloc, scid) {
         Ok(manned) => manned,
         Err(Reason::NoChannel) => return Ok(()),
         Err(reason) => {

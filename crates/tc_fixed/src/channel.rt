@@ -394,6 +394,7 @@ fn put_field(fields: &mut Slots, act: &Act, field: &[u8])
 }
 
 // Passes a data field to reassembly, and delivers the unit that it ends.
+#[inline(always)]
 fn pass(
     reassembler: &mut FixedReassembler,
     queues: &mut Vec<FixedQueue>,
@@ -425,6 +426,7 @@ fn pass(
 }
 
 // Passes the field of a BD frame on at once, and no other.
+#[inline(always)]
 fn pass_bypass(
     reassembler: &mut FixedReassembler,
     queues: &mut Vec<FixedQueue>,

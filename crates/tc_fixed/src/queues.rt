@@ -172,6 +172,7 @@ fn search_place(queues: &[FixedQueue], key: u16) -> Option<usize>
 }
 
 // Puts an item behind the others of the queue at this place, where there is room, and says whether there was.
+#[inline(always)]
 fn put_at(queues: &mut Vec<FixedQueue>, place: usize, octets: &[u8]) -> bool
     requires place { place < length queues.old.items }
     requires fits { Fit octets.now (room_sizes queues.old.items) }
@@ -187,6 +188,7 @@ fn put_at(queues: &mut Vec<FixedQueue>, place: usize, octets: &[u8]) -> bool
 }
 
 // Puts a packet into its queue, where one takes it, and says how many packets that were.
+#[inline(always)]
 fn put_packet(queues: &mut Vec<FixedQueue>, packet: &Packet) -> usize
     requires fields { HasFields packet.now }
     requires distinct { AreDistinct (keys_of (rings_in queues.old.items)) }
@@ -211,6 +213,7 @@ fn put_packet(queues: &mut Vec<FixedQueue>, packet: &Packet) -> usize
 }
 
 // Puts the packets of a unit into their queues.
+#[inline(always)]
 fn put_packets(queues: &mut Vec<FixedQueue>, unit: &[u8]) -> Delivery
     requires within { length unit.now ≤ LARGEST_UNIT }
     requires distinct { AreDistinct (keys_of (rings_in queues.old.items)) }
@@ -258,6 +261,7 @@ fn put_whole(units: &mut Vec<FixedQueue>, place: usize, map: u8, unit: &[u8]) ->
 }
 
 /// Delivers a unit: whole where its MAP is chosen, else by its packets.
+#[inline(always)]
 pub(crate) fn deliver(
     queues: &mut Vec<FixedQueue>,
     units: &mut Vec<FixedQueue>,

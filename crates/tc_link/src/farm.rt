@@ -45,13 +45,13 @@ pub struct Act {
     pub accepted: bool,
 }
 
-// The act of an arrival, and the components after it.
+// Takes an arrival in: its act, and the components, of which those are written that change.
 #[inline(always)]
-fn stepped(window: &Window, r: Report, arrival: Arrival) -> (Act, Report)
-    requires { IsSome (entry (row_of window.now r.vr arrival) r) }
-    ensures event { result.0.event ≡ number_of (row_of window.now r.vr arrival) }
-    ensures accepted { result.0.accepted ≡ accepts (row_of window.now r.vr arrival) r }
-    ensures report { result.1 ≡ after (row_of window.now r.vr arrival) r }
+fn stepped(window: &Window, r: &mut Report, arrival: Arrival) -> Act
+    requires { IsSome (entry (row_of window.now r.old.vr arrival) r.old) }
+    ensures event { result.event ≡ number_of (row_of window.now r.old.vr arrival) }
+    ensures accepted { result.accepted ≡ accepts (row_of window.now r.old.vr arrival) r.old }
+    ensures report { r.new ≡ after (row_of window.now r.old.vr arrival) r.old }
 {
     match arrival {
         Arrival::Frame {
@@ -59,28 +59,49 @@ fn stepped(window: &Window, r: Report, arrival: Arrival) -> (Act, Report)
             room,
         } => match window.place(r.vr, ns) {
             Place::Expected if room => expected(r),
-            Place::Expected => (discarded(2), full(r)),
-            Place::Ahead => (discarded(3), ahead(r)),
-            Place::Behind => (discarded(4), r),
-            Place::Outside => (discarded(5), outside(r)),
+            Place::Expected => {
+                full(r);
+                discarded(2)
+            }
+            Place::Ahead => {
+                ahead(r);
+                discarded(3)
+            }
+            Place::Behind => discarded(4),
+            Place::Outside => {
+                outside(r);
+                discarded(5)
+            }
         },
         Arrival::Frame {
             kind: Kind::Bd,
             room: _,
-        } => (accepted(6), counted(r)),
+        } => {
+            count(r);
+            accepted(6)
+        }
         Arrival::Frame {
             kind: Kind::Bc(Command::Unlock),
             room: _,
-        } => (discarded(7), unlocked(r)),
+        } => {
+            unlock(r);
+            discarded(7)
+        }
         Arrival::Frame {
             kind: Kind::Bc(Command::SetVr(x)),
             room: _,
-        } => (discarded(8), set(r, x)),
+        } => {
+            set(r, x);
+            discarded(8)
+        }
         Arrival::Frame {
             kind: Kind::Invalid,
             room: _,
-        } => (discarded(9), r),
-        Arrival::Release => (discarded(10), released(r)),
+        } => discarded(9),
+        Arrival::Release => {
+            release(r);
+            discarded(10)
+        }
     }
 }
 
@@ -102,134 +123,116 @@ fn discarded(event: u8) -> Act
     }
 }
 
-fn expected(r: Report) -> (Act, Report)
-    requires { IsSome (entry E1 r) }
-    ensures act { result.0 ≡ record { event = 1; accepted = accepts E1 r } }
-    ensures report { result.1 ≡ after E1 r }
+fn expected(r: &mut Report) -> Act
+    requires { IsSome (entry E1 r.old) }
+    ensures act { result ≡ record { event = 1; accepted = accepts E1 r.old } }
+    ensures report { r.new ≡ after E1 r.old }
 {
     match r.state {
-        State::S1 => (
-            accepted(1),
-            Report {
-                vr: r.vr.wrapping_add(1),
-                retransmit: false,
-                ..r
-            },
-        ),
-        State::S2 => (discarded(1), r),
-        State::S3 => (discarded(1), r),
+        State::S1 => {
+            r.vr = r.vr.wrapping_add(1);
+            r.retransmit = false;
+            accepted(1)
+        }
+        State::S2 => discarded(1),
+        State::S3 => discarded(1),
     }
 }
 
-fn full(r: Report) -> Report
-    ensures { result ≡ after E2 r }
+fn full(r: &mut Report)
+    ensures { r.new ≡ after E2 r.old }
 {
     match r.state {
-        State::S1 => Report {
-            state: State::S2,
-            retransmit: true,
-            wait: true,
-            ..r
-        },
-        State::S2 => r,
-        State::S3 => r,
+        State::S1 => {
+            r.state = State::S2;
+            r.retransmit = true;
+            r.wait = true;
+        }
+        State::S2 => {}
+        State::S3 => {}
     }
 }
 
-fn ahead(r: Report) -> Report
-    ensures { result ≡ after E3 r }
+fn ahead(r: &mut Report)
+    ensures { r.new ≡ after E3 r.old }
 {
     match r.state {
-        State::S1 => Report {
-            retransmit: true,
-            ..r
-        },
-        State::S2 => r,
-        State::S3 => r,
+        State::S1 => r.retransmit = true,
+        State::S2 => {}
+        State::S3 => {}
     }
 }
 
-fn outside(r: Report) -> Report
-    ensures { result ≡ after E5 r }
+fn outside(r: &mut Report)
+    ensures { r.new ≡ after E5 r.old }
 {
     match r.state {
-        State::S1 => Report {
-            state: State::S3,
-            lockout: true,
-            ..r
-        },
-        State::S2 => Report {
-            state: State::S3,
-            lockout: true,
-            ..r
-        },
-        State::S3 => r,
+        State::S1 => {
+            r.state = State::S3;
+            r.lockout = true;
+        }
+        State::S2 => {
+            r.state = State::S3;
+            r.lockout = true;
+        }
+        State::S3 => {}
     }
 }
 
-fn counted(r: Report) -> Report
-    ensures { result ≡ after E6 r }
+fn count(r: &mut Report)
+    ensures { r.new ≡ after E6 r.old }
 {
-    Report {
-        farm_b: r.farm_b.wrapping_add(1) % 4,
-        ..r
+    r.farm_b = r.farm_b.wrapping_add(1) % 4;
+}
+
+fn unlock(r: &mut Report)
+    ensures { r.new ≡ after E7 r.old }
+{
+    r.farm_b = r.farm_b.wrapping_add(1) % 4;
+    r.retransmit = false;
+    match r.state {
+        State::S1 => {}
+        State::S2 => {
+            r.state = State::S1;
+            r.wait = false;
+        }
+        State::S3 => {
+            r.state = State::S1;
+            r.wait = false;
+            r.lockout = false;
+        }
     }
 }
 
-fn unlocked(r: Report) -> Report
-    ensures { result ≡ after E7 r }
+fn set(r: &mut Report, x: u8)
+    ensures { r.new ≡ after (E8 x) r.old }
 {
-    let answered = Report {
-        retransmit: false,
-        ..counted(r)
-    };
+    r.farm_b = r.farm_b.wrapping_add(1) % 4;
     match r.state {
-        State::S1 => answered,
-        State::S2 => Report {
-            state: State::S1,
-            wait: false,
-            ..answered
-        },
-        State::S3 => Report {
-            state: State::S1,
-            wait: false,
-            lockout: false,
-            ..answered
-        },
+        State::S1 => {
+            r.vr = x;
+            r.retransmit = false;
+        }
+        State::S2 => {
+            r.state = State::S1;
+            r.vr = x;
+            r.retransmit = false;
+            r.wait = false;
+        }
+        State::S3 => {} // It isn't obeyed in lockout.
     }
 }
 
-fn set(r: Report, x: u8) -> Report
-    ensures { result ≡ after (E8 x) r }
-{
-    let counted = counted(r);
-    let answered = Report {
-        vr: x,
-        retransmit: false,
-        ..counted
-    };
-    match r.state {
-        State::S1 => answered,
-        State::S2 => Report {
-            state: State::S1,
-            wait: false,
-            ..answered
-        },
-        State::S3 => counted,
-    }
-}
-
-fn released(r: Report) -> Report
-    ensures { result ≡ after E10 r }
+fn release(r: &mut Report)
+    ensures { r.new ≡ after E10 r.old }
 {
     match r.state {
-        State::S1 => r,
-        State::S2 => Report {
-            state: State::S1,
-            wait: false,
-            ..r
-        },
-        State::S3 => Report { wait: false, ..r },
+        State::S1 => {}
+        State::S2 => {
+            r.state = State::S1;
+            r.wait = false;
+        }
+        State::S3 => r.wait = false,
     }
 }
 
@@ -307,8 +310,6 @@ impl Farm {
         ensures width { self.new.width ≡ self.old.width }
     {
         let Farm { window, report } = self;
-        let (act, after) = stepped(window, *report, arrival);
-        *report = after;
-        act
+        stepped(window, report, arrival)
     }
 }

@@ -11,6 +11,7 @@ mod command;
 mod farm;
 mod frame;
 mod laws;
+mod location;
 mod window;
 mod writing;
 
@@ -23,5 +24,6 @@ pub use laws::{
     each_input_begins_with_one_frame_at_most, just_what_fits_a_frame_has_no_write_fault,
     some_of_the_first_is_some_number, v_r_changes_by_acceptance_and_set_v_r_alone,
 };
+pub use location::LocateFault;
 pub use window::{Place, Window};
 pub use writing::{WriteFault, write_frame, written_header};

@@ -6,10 +6,10 @@ use Rattle.tc_link.specs.declared.State.{State}
 use Rattle.tc_link.specs.declared.State.TheVariants.{S1, S2, S3}
 use Rattle.tc_text.specs.Printed.{flag_text, reason_text}
 use Rattle.tc_text.specs.declared.fault.Reason.{Reason}
-use Rattle.tc_station.specs.declared.holding.Holding.{Holding}
-use Rattle.tc_station.specs.declared.holding.QueueHolding.{QueueHolding}
-use Rattle.tc_station.specs.declared.holding.MapHolding.{MapHolding}
-use Rattle.tc_cli.specs.Printed.{answer_text}
+use Rattle.tc_channel.specs.declared.holding.Holding.{Holding}
+use Rattle.tc_channel.specs.declared.holding.QueueHolding.{QueueHolding}
+use Rattle.tc_channel.specs.declared.holding.MapHolding.{MapHolding}
+use Rattle.tc_rack.specs.Printed.{answer_text}
 use Rattle.tc_live.specs.Hint.{hint_text}
 use Rattle.tc_live.specs.declared.answer.LiveAnswer.{LiveAnswer}
 use Rattle.tc_live.specs.declared.answer.LiveAnswer.TheVariants.{Nothing, Operation, Unchecked, Link as LinkOf, Report, UnknownChannel}

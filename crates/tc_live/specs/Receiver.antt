@@ -8,20 +8,19 @@ use Rattle.tc_text.specs.declared.fault.Reason.TheVariants.{NoMemory}
 use Rattle.tc_text.specs.declared.line.Line.{Line}
 use Rattle.tc_text.specs.declared.live.LiveLine.{LiveLine}
 use Rattle.tc_text.specs.declared.live.LiveLine.TheVariants.{Script, Link as LinkOf, Report}
-use Rattle.tc_station.specs.declared.holding.Holding.{Holding}
+use Rattle.tc_channel.specs.declared.holding.Holding.{Holding}
 use Rattle.tc_setup.specs.Instruction.{instruction_of}
 use Rattle.tc_setup.specs.Phase.{Does, IsBad, IsBadOperation, Operates}
 use Rattle.tc_setup.specs.declared.instruction.Instruction.{Instruction}
 use Rattle.tc_setup.specs.declared.instruction.Instruction.TheVariants as instructions
-use Rattle.tc_cli.specs.Stage.{phase_of}
-use Rattle.tc_cli.specs.declared.answer.Answer.{Answer}
-use Rattle.tc_cli.specs.declared.stage.Stage.{Stage}
-use Rattle.tc_cli.specs.declared.stage.Stage.TheVariants.{SettingUp, Operating}
-use Rattle.tc_cli.specs.Rack.{Racked, new_rack}
-use Rattle.tc_rack.specs.Rack.{IsLinkSet, IsReported}
-use Rattle.tc_cli.specs.Operation.{IsAnswerOf}
-use Rattle.tc_cli.specs.declared.operation.Operation.{Operation}
-use Rattle.tc_cli.specs.declared.operation.Operation.TheVariants as operations
+use Rattle.tc_rack.specs.Stage.{phase_of}
+use Rattle.tc_rack.specs.declared.answer.Answer.{Answer}
+use Rattle.tc_rack.specs.declared.stage.Stage.{Stage}
+use Rattle.tc_rack.specs.declared.stage.Stage.TheVariants.{SettingUp, Operating}
+use Rattle.tc_rack.specs.Rack.{Racked, new_rack, IsLinkSet, IsReported}
+use Rattle.tc_rack.specs.Operation.{IsAnswerOf}
+use Rattle.tc_rack.specs.declared.operation.Operation.{Operation}
+use Rattle.tc_rack.specs.declared.operation.Operation.TheVariants as operations
 use Rattle.tc_live.specs.Check.{IsPassed, FailsCheck}
 use Rattle.tc_live.specs.declared.answer.LiveAnswer.{LiveAnswer}
 use Rattle.tc_live.specs.declared.answer.LiveAnswer.TheVariants as told

@@ -11,8 +11,8 @@ use Rattle.tc_live.specs.declared.answer.LiveAnswer.{LiveAnswer}
 use Rattle.tc_live.specs.Printed.{live_text, bad_text}
 use Rattle.tc_live.specs.Receiver.{Receiving, rack_at, IsLineAnswered, IsBadLiveLine, IsReceiverLeft}
 use Rattle.tc_channel.specs.Journal.{History}
-use Rattle.tc_cli.specs.Report.{AreRising, report_text}
-use Rattle.tc_cli.specs.Linked.{Linked}
+use Rattle.tc_rack.specs.Report.{AreRising, report_text}
+use Rattle.tc_rack.specs.Linked.{Linked}
 use Rattle.tc_live.specs.declared.serving.ServingFault.{ServingFault}
 use Rattle.tc_live.specs.declared.serving.ServingFault.TheVariants.{Read, Write, NoMemory, Unbalanced}
 

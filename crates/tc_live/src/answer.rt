@@ -6,9 +6,9 @@ ghost use Rattle.tc_live.specs.Printed.{live_text, link_text, report_text, farm_
 ghost use Rattle.tc_live.specs.Receiver.{link_told, report_told};
 
 use std::fmt;
-use tc_cli::Answer;
+use tc_channel::{Holding, MapHolding, QueueHolding};
 use tc_link::{Link, State};
-use tc_station::{Holding, MapHolding, QueueHolding};
+use tc_rack::Answer;
 
 /// What a good line is answered.
 #[derive(Debug, Drop)]

@@ -2,15 +2,15 @@
 
 ghost use Rattle.std.specs.Prelude.{◌≡◌, ◌≢◌, ◌⊎◌, true, [], All, IsPermutation, map, IfOk, IfErr, OnOk, OnErr};
 ghost use Rattle.std.specs.Io.KnownBytes.{Keeps};
-ghost use Rattle.tc_cli.specs.Report.{AreRising};
-ghost use Rattle.tc_cli.specs.Stage.{phase_of};
+ghost use Rattle.tc_rack.specs.Report.{AreRising};
+ghost use Rattle.tc_rack.specs.Stage.{phase_of};
 ghost use Rattle.tc_live.specs.Receiver.{new_receiver, begun, rack_at, IsInstructed, IsOperated, IsScriptDone, IsPerformed, IsLinked, IsReportDone, IsLineAnswered, IsBadLiveLine, IsBadScript, IsReceiverLeft};
 ghost use Rattle.tc_live.specs.Serving.{IsClosingFault, IsReportWritten};
-ghost use Rattle.tc_cli.specs.Linked.{Linked};
-ghost use Rattle.tc_cli.specs.Rack.{new_rack};
+ghost use Rattle.tc_rack.specs.Linked.{Linked};
+ghost use Rattle.tc_rack.specs.Rack.{new_rack};
 ghost use Rattle.tc_setup.specs.Instruction.{instruction_of};
 ghost use Rattle.tc_setup.specs.Phase.{Does, IsBad, IsBadOperation, Operates, Setup};
-ghost use Rattle.tc_station.specs.Balance.{IsNumberTold};
+ghost use Rattle.tc_channel.specs.Journal.{IsNumberTold};
 
 use crate::answer::LiveAnswer;
 use crate::check::FrameCheck;
@@ -19,9 +19,8 @@ use std::alloc::Global;
 use std::io::Write;
 use std::marker::Model;
 use tc_channel::FlightChannel;
-use tc_cli::{Operation, Stage, write_report};
 use tc_link::Link;
-use tc_rack::Rack;
+use tc_rack::{Operation, Rack, Stage, write_report};
 use tc_setup::{Configuration, Instruction};
 use tc_text::{Line, LiveLine, Reason, SpacecraftId, parse_live_line};
 

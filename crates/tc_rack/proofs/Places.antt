@@ -4,9 +4,8 @@ use Rattle.std.proofs.lemmas.List.{get_or-map, length-map}
 use Rattle.std.proofs.lemmas.Option.{get_or_from_slice_get}
 use Rattle.std.specs.Prelude.{AllPairs}
 use Rattle.tc_channel.specs.declared.settings.Settings.{Settings}
-use Rattle.tc_cli.specs.Linked.{Linked, vcid_of, new_linked}
-use Rattle.tc_cli.specs.Rack.{IsAt}
-use Rattle.tc_rack.specs.Rack.{AreApart}
+use Rattle.tc_rack.specs.Linked.{Linked, vcid_of, new_linked}
+use Rattle.tc_rack.specs.Rack.{IsAt, AreApart}
 
 pub found : (list : List Linked) (vcid place : ℕ) (x : Linked) → (s : Linked) × IsAt list vcid place s → x ≡ get_or list place x → IsAt list vcid place x
 found list vcid place x (s, (at, v)) is = subst (IsAt list vcid place) (sym (is ∙ get_or_from_slice_get list place s x at)) (at, v)

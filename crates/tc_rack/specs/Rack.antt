@@ -1,11 +1,52 @@
--- What one thread does with the channels of a spacecraft, beside operations.
-use Rattle.std.specs.Prelude.{◌≡◌, ◌≢◌, ℕ, Bool, true, false, List, AllPairs, Option, Some, None}
+-- The channels of one spacecraft, one after the other, and what becomes of them.
+use Rattle.std.specs.Prelude.{◌≡◌, ◌≢◌, ℕ, Bool, true, false, List, AllPairs, Any, map, slice_get, slice_set, Option, Some, None}
+use Rattle.tc_link.specs.Frame.{BeginsWith, header_of, fault_of}
 use Rattle.tc_link.specs.declared.clcw.Link.{Link}
-use Rattle.tc_link.specs.Frame.{BeginsWith, header_of}
-use Rattle.tc_station.specs.Holding.{holding_of}
-use Rattle.tc_station.specs.declared.holding.Holding.{Holding}
-use Rattle.tc_cli.specs.Linked.{Linked, vcid_of}
-use Rattle.tc_cli.specs.Rack.{Racked, IsThere, IsAt, IsOf, Changes}
+use Rattle.tc_link.specs.declared.location.LocateFault.{LocateFault}
+use Rattle.tc_link.specs.declared.location.LocateFault.TheVariants.{Frame, OtherSpacecraft, UnknownChannel}
+use Rattle.tc_channel.specs.Holding.{holding_of}
+use Rattle.tc_channel.specs.Journal.{History}
+use Rattle.tc_channel.specs.declared.holding.Holding.{Holding}
+use Rattle.tc_channel.specs.declared.settings.Settings.{Settings}
+use Rattle.tc_rack.specs.Linked.{Linked, vcid_of, new_linked}
+
+-- the spacecraft's id, and its channels in the order in which they were set up
+pub record Racked : Type 0 where
+  pub scid : ℕ
+  pub channels : List Linked
+
+-- one that starts, with a channel for each of the settings
+abbrev pub new_rack : ℕ → List Settings → Racked
+new_rack scid list = record { scid = scid; channels = map new_linked list }
+
+-- the settings and the journals of its channels
+abbrev pub histories : Racked → List History
+histories rack = map (λ (channel : Linked). channel.history) rack.channels
+
+-- there is a channel with this id
+abbrev pub IsThere : List Linked → ℕ → Type 0
+IsThere channels vcid = Any (λ (channel : Linked). vcid_of channel ≡ vcid) channels
+
+-- the channel with this id, at its place
+abbrev pub IsAt : List Linked → ℕ → ℕ → Linked → Type 0
+IsAt channels vcid place channel = (slice_get channels place ≡ Some channel) × (vcid_of channel ≡ vcid)
+
+-- this holds of the channel with this id
+abbrev pub IsOf : Racked → ℕ → (Linked → Type 0) → Type 0
+IsOf rack vcid Holds = (place : ℕ) × (channel : Linked) × IsAt rack.channels vcid place channel × Holds channel
+
+-- the channel with this id becomes what this relates it to, and all others are as before
+abbrev pub Changes : Racked → ℕ → (Linked → Linked → Type 0) → Racked → Type 0
+Changes old vcid Becomes new =
+    (place : ℕ) × (before : Linked) × (after : Linked) × IsAt old.channels vcid place before × Becomes before after
+    × (new ≡ record old { channels = slice_set old.channels place after })
+
+-- why octets are for none of the channels: the first of these that applies
+abbrev pub IsLocateFault : Racked → List ℕ → LocateFault → Type 0
+IsLocateFault rack octets (Frame f) = fault_of octets ≡ Some f
+IsLocateFault rack octets OtherSpacecraft = (frame : List ℕ) × BeginsWith octets frame × ((header_of frame).scid ≢ rack.scid)
+IsLocateFault rack octets UnknownChannel =
+    (frame : List ℕ) × BeginsWith octets frame × ((header_of frame).scid ≡ rack.scid) × ¬ IsThere rack.channels (header_of frame).vcid
 
 -- no two channels have one id
 abbrev pub AreApart : List Linked → Type 0

@@ -1,20 +1,20 @@
 //! A channel with the flags of its link, and what it is answered.
 
 ghost use Rattle.std.specs.Prelude.{◌≡◌, ◌≢◌, ◌⊎◌, IfOk, OnErr};
-ghost use Rattle.tc_cli.specs.Linked.{new_linked, later, IsFrameAnswered, IsReleaseAnswered, IsTakeAnswered, IsUnitAnswered, told_word};
-ghost use Rattle.tc_station.specs.Holding.{holding_of};
+ghost use Rattle.tc_rack.specs.Linked.{new_linked, later, IsFrameAnswered, IsReleaseAnswered, IsTakeAnswered, IsUnitAnswered, told_word};
+ghost use Rattle.tc_channel.specs.Holding.{holding_of};
 
+use crate::answer::{Answer, Refusal};
 use std::alloc::Global;
 use std::marker::Model;
 use tc_channel::{
-    FlightChannel, NoMemory, Octets, ReleaseFault, Settings, TakeFault, TakeUnitFault,
+    FlightChannel, Holding, NoMemory, Octets, ReleaseFault, Settings, TakeFault, TakeUnitFault,
+    holding_in,
 };
-use tc_cli::{Answer, Refusal};
 use tc_link::{Frame, Link};
-use tc_station::{Holding, holding_in};
 
 /// Neither flag of the link is set.
-const NO_FLAG: Link = Link {
+pub(crate) const NO_FLAG: Link = Link {
     no_rf: false,
     no_bit_lock: false,
 };
@@ -27,7 +27,7 @@ pub(crate) struct LinkedChannel {
 }
 
 impl Model for LinkedChannel {
-    ghost use Rattle.tc_cli.specs.Linked.{Linked};
+    ghost use Rattle.tc_rack.specs.Linked.{Linked};
 
     ghost Value = { Linked };
 

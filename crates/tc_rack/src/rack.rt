@@ -1,19 +1,18 @@
 //! The channels of one spacecraft.
 
 ghost use Rattle.std.specs.Prelude.{◌≡◌, ◌≢◌, ◌⊎◌, map, IfOk, OnErr, MatchOption, MatchResult};
-ghost use Rattle.tc_cli.specs.Linked.{Linked, new_linked, IsReleaseAnswered, IsTakeAnswered, IsUnitAnswered};
-ghost use Rattle.tc_cli.specs.Rack.{new_rack, IsThere, IsAt, IsLocateFault};
-ghost use Rattle.tc_cli.specs.Operation.{IsAnswerOf, IsChannelAnswer, IsFrameAnswer, IsClcwAnswer};
-ghost use Rattle.tc_rack.specs.Rack.{AreApart, IsLocated, IsLinkSet, IsReported};
+ghost use Rattle.tc_rack.specs.Linked.{Linked, new_linked, IsReleaseAnswered, IsTakeAnswered, IsUnitAnswered};
+ghost use Rattle.tc_rack.specs.Rack.{new_rack, IsThere, IsAt, IsLocateFault, AreApart, IsLocated, IsLinkSet, IsReported};
+ghost use Rattle.tc_rack.specs.Operation.{IsAnswerOf, IsChannelAnswer, IsFrameAnswer, IsClcwAnswer};
 
+use crate::answer::{Answer, Refusal};
 use crate::linked::LinkedChannel;
+use crate::operation::Operation;
 use std::alloc::Global;
 use std::marker::Model;
-use tc_channel::{FlightChannel, NoMemory, Settings};
-use tc_cli::{Answer, Operation, Refusal};
-use tc_link::{Frame, Link, read_frame};
+use tc_channel::{FlightChannel, Holding, NoMemory, Settings};
+use tc_link::{Frame, Link, LocateFault, read_frame};
 use tc_setup::Configuration;
-use tc_station::{Holding, LocateFault};
 
 /// The channels of one spacecraft, in the order in which they were set up, each with the flags of its link. They belong to one
 /// thread. A call that is refused leaves all as it was.
@@ -26,7 +25,7 @@ pub struct Rack {
 }
 
 impl Model for Rack {
-    ghost use Rattle.tc_cli.specs.Rack.{Racked};
+    ghost use Rattle.tc_rack.specs.Rack.{Racked};
     ghost use Rattle.tc_rack.specs.Rack.{AreApart};
 
     ghost Value = { Racked };

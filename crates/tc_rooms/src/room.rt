@@ -60,6 +60,7 @@ impl Room {
     }
 
     /// Copies octets here, in place of those in use.
+    #[inline(always)]
     pub fn fill(&mut self, octets: &[u8])
         requires { length octets.now ≤ self.old.size }
         ensures { self.new ≡ laid octets.now self.old.size }

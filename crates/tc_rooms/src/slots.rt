@@ -92,6 +92,7 @@ impl Slots {
     }
 
     /// Copies an item into a free room, behind those that wait.
+    #[inline(always)]
     pub fn push_back(&mut self, octets: &[u8])
         requires size { length octets.now ≤ self.old.size }
         requires room { length self.old.ring.items < self.old.ring.capacity }
@@ -103,6 +104,7 @@ impl Slots {
     }
 
     /// Drops the oldest item, if there is one, and frees its room.
+    #[inline(always)]
     pub fn pop_front(&mut self)
         ensures { self.new ≡ slotted (drop 1 self.old.ring.items) self.old.ring.capacity self.old.size }
     {

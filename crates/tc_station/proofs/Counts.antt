@@ -9,8 +9,8 @@ use Rattle.tc_link.specs.Frame.{BeginsWith, header_of, fault_of, version_of, spa
 use Rattle.tc_station.specs.Roster.{Roster}
 use Rattle.tc_station.specs.Tally.{raised, raised_at}
 use Rattle.tc_station.specs.Location.{IsLocated, IsLocateFault}
-use Rattle.tc_station.specs.declared.faults.LocateFault.{LocateFault}
-use Rattle.tc_station.specs.declared.faults.LocateFault.TheVariants.{Frame, OtherSpacecraft, UnknownChannel}
+use Rattle.tc_link.specs.declared.location.LocateFault.{LocateFault}
+use Rattle.tc_link.specs.declared.location.LocateFault.TheVariants.{Frame, OtherSpacecraft, UnknownChannel}
 use Rattle.tc_station.specs.Work.{is_for, raised_by}
 
 front : (octets frame : List ℕ) (k : ℕ) → frame ≡ take (length frame) octets → k < length frame → get_or octets k 0 ≡ get_or frame k 0

@@ -5,3 +5,4 @@ pub mod Tried
 pub mod Posts
 pub mod Works
 pub mod Ordered
+pub mod ClosedSince

@@ -1,7 +1,7 @@
 -- The balance between the journals of channels and the operators' counts.
-use Rattle.std.specs.Prelude.{◌≡◌, ◌<◌, ℕ, List, length, slice_index, slice_get, Some}
+use Rattle.std.specs.Prelude.{◌≡◌, ℕ, List, length, slice_index, slice_get, Some}
 use Rattle.std.specs.List.{sum_by}
-use Rattle.tc_channel.specs.Journal.{History}
+use Rattle.tc_channel.specs.Journal.{History, IsNumberTold}
 use Rattle.tc_station.specs.Tally.{AtStation}
 
 -- how many operations on the channel at a place all operators together have counted
@@ -16,10 +16,6 @@ IsInBalance vcids operators place channel =
 abbrev pub AreInBalance : List ℕ → List AtStation → List History → Type 0
 AreInBalance vcids operators channels =
     (place : ℕ) (channel : History) → slice_get channels place ≡ Some channel → IsInBalance vcids operators place channel
-
--- the number of its events is told as it is: 2^64 - 1 is told for as many or more
-abbrev pub IsNumberTold : History → Type 0
-IsNumberTold channel = length channel.journal < 18446744073709551615
 
 -- they are in balance, and the number of each one's events is told as it is
 abbrev pub AreInToldBalance : List ℕ → List AtStation → List History → Type 0

@@ -13,7 +13,7 @@ use Rattle.tc_station.specs.Roster.{Roster, IsPlace}
 use Rattle.tc_station.specs.Tally.{AtStation}
 use Rattle.tc_station.specs.Location.{IsPlaced, IsLocateFault}
 use Rattle.tc_station.specs.Faults.{release_refused, take_refused, take_unit_refused}
-use Rattle.tc_station.specs.declared.faults.LocateFault.{LocateFault}
+use Rattle.tc_link.specs.declared.location.LocateFault.{LocateFault}
 use Rattle.tc_station.specs.declared.faults.BringFault.{BringFault}
 use Rattle.tc_station.specs.declared.faults.BringFault.TheVariants.{Locate, NoMemory}
 use Rattle.tc_station.specs.declared.faults.ReleaseRefused.{ReleaseRefused}

@@ -1,36 +1,14 @@
--- What a channel has come to after a journal: FARM-1's components, and how much waits in its buffer and its queues.
-use Rattle.std.specs.Prelude.{◌≡◌, ℕ, List, Option, Contains, length, option_map}
-use Rattle.std.specs.List.{filter_map}
-use Rattle.tc_channel.specs.declared.settings.Settings.{Settings}
-use Rattle.tc_channel.specs.declared.settings.QueueSetting.{QueueSetting}
-use Rattle.tc_channel.specs.declared.settings.MapSetting.{MapSetting}
+-- What a channel of a station has come to.
+use Rattle.std.specs.Prelude.{◌≡◌, ℕ, List, Contains}
 use Rattle.tc_channel.specs.declared.event.Event.{Event}
-use Rattle.tc_channel.specs.Run.{IsLawful, run}
-use Rattle.tc_channel.specs.Reply.{buffered_fields, waiting_packets, waiting_units}
+use Rattle.tc_channel.specs.declared.holding.Holding.{Holding}
+use Rattle.tc_channel.specs.Holding.{holding_of}
+use Rattle.tc_channel.specs.Run.{IsLawful}
 use Rattle.tc_station.specs.Moments.{AtSomeMomentOf}
 use Rattle.tc_desk.specs.Log.{Identity}
 use Rattle.tc_station.specs.Roster.{Roster, IsDeskOf}
-use Rattle.tc_station.specs.declared.holding.Holding.{Holding}
-use Rattle.tc_station.specs.declared.holding.QueueHolding.{QueueHolding}
-use Rattle.tc_station.specs.declared.holding.MapHolding.{MapHolding}
-use Rattle.tc_station.specs.declared.holding.HoldingFault.{HoldingFault}
-use Rattle.tc_station.specs.declared.holding.HoldingFault.TheVariants.{UnknownChannel, NoMemory}
-
--- how many packets wait in a queue, where there is one for its APID
-abbrev pub queue_holding : Settings → List Event → QueueSetting → Option QueueHolding
-queue_holding s journal queue = option_map (λ packets. record { apid = queue.apid; packets = length packets }) (waiting_packets s journal queue.apid)
-
--- how many units wait in the queue of a chosen MAP, where there is one
-abbrev pub map_holding : Settings → List Event → MapSetting → Option MapHolding
-map_holding s journal chosen = option_map (λ units. record { map = chosen.map; units = length units }) (waiting_units s journal chosen.map)
-
-abbrev pub holding_of : Settings → List Event → Holding
-holding_of s journal = record {
-  report = (run s journal).report;
-  buffered = length (buffered_fields s journal);
-  queues = filter_map (queue_holding s journal) s.queues;
-  maps = filter_map (map_holding s journal) s.maps;
-}
+use Rattle.tc_station.specs.declared.faults.HoldingFault.{HoldingFault}
+use Rattle.tc_station.specs.declared.faults.HoldingFault.TheVariants.{UnknownChannel, NoMemory}
 
 -- the channel with this id has come to this at some moment
 abbrev pub IsHolding : Roster → ℕ → Holding → Type 0

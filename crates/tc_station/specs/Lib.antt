@@ -11,3 +11,4 @@ pub mod Together
 pub mod Lowest
 pub mod Tried
 pub mod Work
+pub mod Through

@@ -2,8 +2,8 @@
 use Rattle.std.specs.Prelude.{◌≡◌, ◌≢◌, ℕ, List, Contains, position, ◌==◌, Some}
 use Rattle.tc_link.specs.Frame.{BeginsWith, header_of, fault_of}
 use Rattle.tc_station.specs.Roster.{Roster}
-use Rattle.tc_station.specs.declared.faults.LocateFault.{LocateFault}
-use Rattle.tc_station.specs.declared.faults.LocateFault.TheVariants.{Frame, OtherSpacecraft, UnknownChannel}
+use Rattle.tc_link.specs.declared.location.LocateFault.{LocateFault}
+use Rattle.tc_link.specs.declared.location.LocateFault.TheVariants.{Frame, OtherSpacecraft, UnknownChannel}
 use Rattle.tc_station.specs.declared.faults.BringFault.{BringFault}
 use Rattle.tc_station.specs.declared.faults.BringFault.TheVariants.{Locate, NoMemory}
 

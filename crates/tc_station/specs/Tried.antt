@@ -8,7 +8,7 @@ use Rattle.tc_station.specs.Roster.{Roster, IsPlace}
 use Rattle.tc_station.specs.Tally.{AtStation}
 use Rattle.tc_station.specs.Location.{IsPlaced, IsLocateFault}
 use Rattle.tc_station.specs.Call.{IsCallAt}
-use Rattle.tc_station.specs.declared.faults.LocateFault.{LocateFault}
+use Rattle.tc_link.specs.declared.location.LocateFault.{LocateFault}
 use Rattle.tc_station.specs.declared.work.Order.{Order}
 use Rattle.tc_station.specs.declared.work.Order.TheVariants as orders
 use Rattle.tc_station.specs.declared.work.Job.{Job}

@@ -7,7 +7,7 @@ use Rattle.tc_station.specs.Tally.{Tally, AtStation, tally, counted, IsOurs}
 use Rattle.tc_station.specs.Lowest.{lower}
 use Rattle.tc_station.specs.Location.{IsLocated, IsLocateFault}
 use Rattle.tc_station.specs.Tried.{IsListMade}
-use Rattle.tc_station.specs.declared.faults.LocateFault.{LocateFault}
+use Rattle.tc_link.specs.declared.location.LocateFault.{LocateFault}
 use Rattle.tc_station.specs.declared.faults.WorkFault.{WorkFault}
 use Rattle.tc_station.specs.declared.faults.WorkFault.TheVariants.{NoMemory}
 use Rattle.tc_station.specs.declared.work.Order.{Order}

@@ -1,7 +1,8 @@
 //! Whether the journals of a closed station, or the numbers of their events, are in balance with the operators' counts.
 
 ghost use Rattle.std.specs.Prelude.{◌≡◌, ◌<◌, ◌↔◌, length, IsTrue, All};
-ghost use Rattle.tc_station.specs.Balance.{counted_by_all, IsInBalance, AreInBalance, IsNumberTold, AreInToldBalance};
+ghost use Rattle.tc_station.specs.Balance.{counted_by_all, IsInBalance, AreInBalance, AreInToldBalance};
+ghost use Rattle.tc_channel.specs.Journal.{IsNumberTold};
 
 use crate::operator::Operator;
 use tc_channel::{Channel, FlightChannel};

@@ -5,8 +5,17 @@ use crate::station::{FlightStation, Station};
 use std::fmt;
 use std::fmt::{Debug, Formatter};
 use tc_channel::{Channel, FlightChannel, ReleaseFault, SettingsFault, TakeFault, TakeUnitFault};
-use tc_link::FrameFault;
+use tc_link::LocateFault;
 use thiserror::Error;
+
+/// Why it isn't told what a channel has come to.
+#[derive(Clone, Copy, Debug, PartialEq, Eq, Error)]
+pub enum HoldingFault {
+    #[error("the station has no such virtual channel")]
+    UnknownChannel,
+    #[error("no memory")]
+    NoMemory,
+}
 
 /// Why settings make no station.
 #[derive(Clone, Copy, Debug, PartialEq, Eq, Error)]
@@ -23,17 +32,6 @@ pub enum StationFault {
     Settings(u8, SettingsFault),
     #[error("no memory")]
     NoMemory,
-}
-
-/// Why octets are no frame for a channel of the station.
-#[derive(Clone, Copy, Debug, PartialEq, Eq, Error)]
-pub enum LocateFault {
-    #[error(transparent)]
-    Frame(FrameFault),
-    #[error("the frame is for another spacecraft")]
-    OtherSpacecraft,
-    #[error("the station has no such virtual channel")]
-    UnknownChannel,
 }
 
 /// Why octets were not brought to a channel.

@@ -1,12 +1,11 @@
 //! What a station asks its desks for without an operator.
 
 ghost use Rattle.std.specs.Prelude.{◌≡◌, ⊤, IfOk};
-ghost use Rattle.tc_station.specs.Holding.{holding_of};
+ghost use Rattle.tc_channel.specs.Holding.{holding_of};
 
-use crate::holding::{Holding, holding_in};
 use crate::work::Gate;
 use std::alloc::Global;
-use tc_channel::{Journal, NoMemory};
+use tc_channel::{Holding, Journal, NoMemory, holding_in};
 use tc_desk::Question;
 use tc_status::DeskOf;
 

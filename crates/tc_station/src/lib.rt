@@ -15,18 +15,20 @@
 mod closing;
 mod faults;
 mod guest;
-mod holding;
 mod operator;
 mod station;
+mod through;
 mod work;
 
 pub use faults::{
-    BringFault, CloseFault, FlightCloseFault, LocateFault, OperatorsFault, ReleaseRefused,
+    BringFault, CloseFault, FlightCloseFault, HoldingFault, OperatorsFault, ReleaseRefused,
     StationFault, TakeRefused, TakeUnitRefused, WatcherFault, WorkFault,
 };
-pub use holding::{Holding, HoldingFault, MapHolding, QueueHolding, holding_in};
 pub use operator::Operator;
 pub use station::{Brought, FlightStation, Located, Station, StationOf, StillOpen};
+pub use tc_channel::{Holding, MapHolding, QueueHolding, holding_in};
 pub use tc_desk::Refusal;
+pub use tc_link::LocateFault;
 pub use tc_status::{Desk, DeskOf, FlightDesk};
+pub use through::from_a_sender_to_packets;
 pub use work::{FreeGate, Gate, Job, Order, WorkList};

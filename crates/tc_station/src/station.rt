@@ -10,30 +10,30 @@ ghost use Rattle.tc_desk.specs.Together.{settings_of};
 ghost use Rattle.tc_station.specs.Roster.{IsDeskOf, IsPlace, settings_in};
 ghost use Rattle.tc_station.specs.Tally.{HasMadeNothing, KnowsDesks, IsOurs, counted, fresh, newcomer, tally};
 ghost use Rattle.tc_station.specs.Call.{IsBringCall, IsCallAt, IsCallOn, IsNotBrought, IsNotBroughtWatched, IsNotReleased, IsNotTaken, IsReplied, IsRepliedWatched, IsUnitNotTaken};
-ghost use Rattle.tc_station.specs.Balance.{AreInBalance, IsNumberTold};
+ghost use Rattle.tc_station.specs.Balance.{AreInBalance};
+ghost use Rattle.tc_channel.specs.Journal.{IsNumberTold};
 ghost use Rattle.tc_station.specs.StationSettings.{vcids_of, HaveDistinctVcids, IsFirstDouble, IsFirstRefused, AreStationSettings, IsStationFault};
 
 use crate::closing::{are_in_balance, are_in_told_balance};
 use crate::faults::{
-    BringFault, CloseFault, FlightCloseFault, LocateFault, OperatorsFault, ReleaseRefused,
+    BringFault, CloseFault, FlightCloseFault, HoldingFault, OperatorsFault, ReleaseRefused,
     StationFault, TakeRefused, TakeUnitRefused, WatcherFault,
 };
 use crate::guest::{Passing, Summing};
-use crate::holding::{Holding, HoldingFault};
 use crate::operator::{Operator, place_of};
 use crate::work::Gate;
 use std::alloc::Global;
 use std::marker::Model;
 use std::sync::Wait;
 use tc_channel::{
-    Channel, ChannelWith, Delivery, Event, FlightChannel, FrameReply, Journal, Kept, NoMemory,
-    Settings, SettingsFault, Unkept, each_clcw_fits_its_word,
+    Channel, ChannelWith, Delivery, Event, FlightChannel, FrameReply, Holding, Journal, Kept,
+    NoMemory, Settings, SettingsFault, Unkept, each_clcw_fits_its_word,
 };
 use tc_desk::{
     Framing, LeftOpen, Operation, Post, Question, Refusal, Release, Taking, UnitTaking,
     WatchedFraming, Watching, close_together, take_out_together,
 };
-use tc_link::{Frame, Link, read_frame};
+use tc_link::{Frame, Link, LocateFault, read_frame};
 use tc_status::{Watcher, the_flags_of_the_link_have_their_own_bits};
 
 /// A frame for a channel of the station.
@@ -392,7 +392,7 @@ impl<J: Journal> StationOf<J> {
 
     /// Ends the station: takes the channels out of their locks, where its operators have made all events of their journals. The
     /// journal of each channel is then a merge of what they made, and what each of them had seen is a beginning of it. Two lists
-    /// are allocated, before any lock is taken.
+    /// are allocated, before any lock is taken. What follows for a sender is [`from_a_sender_to_packets`](crate::from_a_sender_to_packets).
     pub fn close_together(
         self,
         operators: Vec<Operator>,

@@ -1,5 +1,5 @@
 use Rattle.std.proofs.Common.{◌≡◌, ◌≤◌, ◌+◌, map, vec_len, vec_capacity}
-use Rattle.tc_cli.specs.Linked.{Linked}
+use Rattle.tc_rack.specs.Linked.{Linked}
 use Rattle.tc_rack.proofs.rack.bare.Given as goal
 
 abbrev pub invariant-loop-channel : goal.invariant-loop-channel

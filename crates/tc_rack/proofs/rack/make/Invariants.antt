@@ -1,5 +1,5 @@
 use Rattle.std.proofs.Common.{◌≡◌, ◌≤◌, ◌+◌, map, vec_len, vec_capacity}
-use Rattle.tc_cli.specs.Linked.{new_linked}
+use Rattle.tc_rack.specs.Linked.{new_linked}
 use Rattle.tc_rack.proofs.rack.make.Given as goal
 
 abbrev pub invariant-loop-settings : goal.invariant-loop-settings

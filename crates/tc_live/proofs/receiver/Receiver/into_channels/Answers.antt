@@ -1,6 +1,6 @@
 use Rattle.std.proofs.Common.{rules}
 use Rattle.std.proofs.lemmas.List.Sorted.{IsNonDecreasingBy-from_sort_by_key}
-use Rattle.tc_cli.specs.Report.{vcid_of}
+use Rattle.tc_rack.specs.Report.{vcid_of}
 use Rattle.tc_live.proofs.receiver.Receiver.into_channels.Goals as goal
 
 pub returns-then-are_told-clause-rising : goal.returns-then-are_told-clause-rising

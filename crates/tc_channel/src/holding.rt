@@ -1,0 +1,133 @@
+//! What a channel has come to.
+
+ghost use Rattle.std.specs.Prelude.{◌≡◌, ◌<◌, ◌≤◌, ◌+◌, ◌++◌, ◌∷◌, [], vec_len, vec_capacity, IfOk};
+ghost use Rattle.std.specs.List.{filter_map};
+ghost use Rattle.tc_channel.specs.Settings.{IsAllowed};
+ghost use Rattle.tc_channel.specs.Run.{IsLawful};
+ghost use Rattle.tc_channel.specs.Holding.{holding_of, queue_holding, map_holding};
+
+use crate::channel::ChannelWith;
+use crate::items::Items;
+use crate::journal::Journal;
+use crate::reply::NoMemory;
+use crate::settings::{MapSetting, QueueSetting};
+use std::alloc::Global;
+use tc_link::Report;
+
+/// What a channel has come to at one moment.
+#[derive(Debug, Drop)]
+pub struct Holding {
+    /// FARM-1's components.
+    pub report: Report,
+    /// How many data fields wait in the buffer.
+    pub buffered: usize,
+    /// The packet queues, in the order of the settings.
+    pub queues: Items<QueueHolding>,
+    /// The unit queues of the chosen MAPs, in the order of the settings.
+    pub maps: Items<MapHolding>,
+}
+
+/// How many packets wait in the queue of an APID.
+#[derive(Clone, Copy, Debug, PartialEq, Eq)]
+pub struct QueueHolding {
+    pub apid: u16,
+    pub packets: usize,
+}
+
+/// How many units wait in the queue of a chosen MAP.
+#[derive(Clone, Copy, Debug, PartialEq, Eq)]
+pub struct MapHolding {
+    pub map: u8,
+    pub units: usize,
+}
+
+/// What a channel has come to. The two lists are all that is allocated.
+pub fn holding_in<J: Journal>(alloc: Global, channel: &ChannelWith<J>) -> Result<Holding, NoMemory>
+    ensures holding { IfOk result (λ holding. holding ≡ holding_of channel.now.settings channel.now.journal) }
+    ensures allowed { IsAllowed channel.now.settings }
+    ensures lawful { IsLawful channel.now.settings channel.now.journal }
+{
+    let settings = channel.settings();
+    let queues = packets_in(alloc, channel, settings.queues.as_slice())?;
+    let maps = units_in(alloc, channel, settings.maps.as_slice())?;
+    Ok(Holding {
+        report: channel.report(),
+        buffered: channel.buffered(),
+        queues: Items::from(queues),
+        maps: Items::from(maps),
+    })
+}
+
+fn packets_in<J: Journal>(
+    alloc: Global,
+    channel: &ChannelWith<J>,
+    queues: &[QueueSetting],
+) -> Result<Vec<QueueHolding>, NoMemory>
+    ensures { IfOk result (λ told. told.items ≡ filter_map (queue_holding channel.now.settings channel.now.journal) queues.now) }
+{
+    let mut told = Vec::with_capacity(alloc, queues.len())?;
+    for queue in queues {
+        add_packets(channel, queue, &mut told);
+    }
+    Ok(told)
+}
+
+// Adds what waits in a queue, where there is one.
+fn add_packets<J: Journal>(
+    channel: &ChannelWith<J>,
+    queue: &QueueSetting,
+    told: &mut Vec<QueueHolding>,
+)
+    requires { vec_len told.old < vec_capacity told.old }
+    ensures items { told.new.items ≡ told.old.items ++ filter_map (queue_holding channel.now.settings channel.now.journal) (queue.now ∷ []) }
+    ensures len { vec_len told.new ≤ vec_len told.old + 1 }
+    ensures capacity { vec_capacity told.new ≡ vec_capacity told.old }
+{
+    match packets_of(channel, queue) {
+        Some(holding) => told.push_reserved(holding),
+        None => {}
+    }
+}
+
+fn packets_of<J: Journal>(channel: &ChannelWith<J>, queue: &QueueSetting) -> Option<QueueHolding>
+    ensures { result ≡ queue_holding channel.now.settings channel.now.journal queue.now }
+{
+    let apid = queue.apid;
+    let packets = channel.queued(apid)?;
+    Some(QueueHolding { apid, packets })
+}
+
+fn units_in<J: Journal>(
+    alloc: Global,
+    channel: &ChannelWith<J>,
+    maps: &[MapSetting],
+) -> Result<Vec<MapHolding>, NoMemory>
+    ensures { IfOk result (λ told. told.items ≡ filter_map (map_holding channel.now.settings channel.now.journal) maps.now) }
+{
+    let mut told = Vec::with_capacity(alloc, maps.len())?;
+    for chosen in maps {
+        add_units(channel, chosen, &mut told);
+    }
+    Ok(told)
+}
+
+// Adds what waits in the queue of a chosen MAP, where there is one.
+fn add_units<J: Journal>(channel: &ChannelWith<J>, chosen: &MapSetting, told: &mut Vec<MapHolding>)
+    requires { vec_len told.old < vec_capacity told.old }
+    ensures items { told.new.items ≡ told.old.items ++ filter_map (map_holding channel.now.settings channel.now.journal) (chosen.now ∷ []) }
+    ensures len { vec_len told.new ≤ vec_len told.old + 1 }
+    ensures capacity { vec_capacity told.new ≡ vec_capacity told.old }
+{
+    match units_of(channel, chosen) {
+        Some(holding) => told.push_reserved(holding),
+        None => {}
+    }
+}
+
+fn units_of<J: Journal>(channel: &ChannelWith<J>, chosen: &MapSetting) -> Option<MapHolding>
+    ensures { result ≡ map_holding channel.now.settings channel.now.journal chosen.now }
+{
+    let map = chosen.map;
+    let units = channel.units(map)?;
+    Some(MapHolding { map, units })
+}

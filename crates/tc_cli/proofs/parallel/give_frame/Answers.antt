@@ -1,0 +1,9 @@
+use Rattle.std.proofs.Common.{◌≡◌, refl}
+use Rattle.std.proofs.lemmas.Result.{on_ok_weaker}
+use Rattle.tc_cli.proofs.parallel.give_frame.Goals as goal
+
+pub returns-clause-given : goal.returns-clause-given
+returns-clause-given c =
+    let begun = c.in_ok-begin.ensures.parted in
+    let found : c.in-Operating.parted ≡ begun.0 = cc in
+    on_ok_weaker c.give_frame.result (λ given. (begun.0, c.give_frame.new.self, begun.1, rw found at given, refl)) c.give_frame.ensures.given

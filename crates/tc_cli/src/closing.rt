@@ -1,0 +1,47 @@
+//! The close of a script's station.
+
+ghost use Rattle.std.specs.Prelude.{◌≡◌, All, IfOk, IfErr};
+ghost use Rattle.tc_channel.specs.Journal.{IsNumberTold};
+ghost use Rattle.tc_cli.specs.Report.{IsClosedReport};
+ghost use Rattle.tc_cli.specs.Script.{IsCloseFault, close_fault};
+ghost use Rattle.tc_station.specs.Tally.{IsOurs};
+
+use tc_channel::FlightChannel;
+use tc_station::{FlightStation, Operator, Refusal};
+use tc_text::{Reason, ScriptFault};
+
+/// Closes the station of a script with so many lines, together with its operators. The channels come in rising virtual channel
+/// id, and each tells the number of its events as it is.
+pub(crate) fn close(
+    station: FlightStation,
+    operators: Vec<Operator>,
+    lines: u32,
+) -> Result<Vec<FlightChannel>, ScriptFault>
+    requires ours { All (IsOurs station) operators.items }
+    ensures closed { IfOk result (λ channels. IsClosedReport station operators.items channels.items) }
+    ensures told { IfOk result (λ channels. All IsNumberTold channels.items) }
+    ensures fault { IfErr result (IsCloseFault lines) }
+{
+    match station.close_together(operators) {
+        Ok(mut channels) => {
+            channels.sort_unstable_by_key(|channel| channel.settings().vcid);
+            Ok(channels)
+        }
+        Err(left) => Err(fault_of(left.refusal, lines)),
+    }
+}
+
+// What it is for a script of so many lines that its station isn't closed.
+fn fault_of(refusal: Refusal, lines: u32) -> ScriptFault
+    ensures told { result ≡ close_fault lines refusal }
+    ensures fault { IsCloseFault lines result }
+{
+    match refusal {
+        Refusal::NoMemory => ScriptFault::Line {
+            line: lines,
+            reason: Reason::NoMemory,
+        },
+        Refusal::Held => ScriptFault::Unbalanced,
+        Refusal::Unbalanced => ScriptFault::Unbalanced,
+    }
+}

@@ -1,0 +1,15 @@
+-- How far a script has come, as a phase, and what a refused line leaves.
+use Rattle.std.specs.Prelude.{◌≡◌, ◌≢◌, ◌⊎◌}
+use Rattle.tc_setup.specs.Phase.{Phase, Setup, Operation}
+use Rattle.tc_rack.specs.declared.stage.Stage.{Stage}
+use Rattle.tc_rack.specs.declared.stage.Stage.TheVariants.{SettingUp, Operating}
+use Rattle.tc_text.specs.declared.fault.Reason.{Reason}
+use Rattle.tc_text.specs.declared.fault.Reason.TheVariants.{NoMemory}
+
+abbrev pub phase_of : {O : Type 0} → Stage O → Phase
+phase_of (SettingUp list) = Setup list
+phase_of (Operating operating) = Operation
+
+-- a line that is refused for this reason leaves all as it is, unless memory is refused before operation
+abbrev pub IsKept : {O : Type 0} → Reason → Stage O → Stage O → Type 0
+IsKept reason old new = (new ≡ old) ⊎ ((reason ≡ NoMemory) × (phase_of old ≢ Operation))

@@ -1,0 +1,51 @@
+//! How far a script has come: first its channels are set up, then it operates.
+
+ghost use Rattle.std.specs.Prelude.{◌≡◌, ◌⊎◌, IfErr, OnOk, OnErr};
+ghost use Rattle.tc_setup.specs.Phase.{Does, IsBad};
+ghost use Rattle.tc_rack.specs.Stage.{phase_of};
+
+use std::alloc::Global;
+use tc_channel::Settings;
+use tc_setup::{Addition, Configuration, Instruction};
+use tc_text::Reason;
+
+/// How far a script has come. What operates is made at the first operation, with the channels that are
+/// set up by then.
+#[derive(Drop)]
+pub enum Stage<O> {
+    /// These channels are set up so far.
+    SettingUp(Configuration),
+    /// An operation came.
+    Operating(O),
+}
+
+impl<O: Drop> Stage<O> {
+    /// Sets up the channel of a channel line.
+    pub fn add_channel(&mut self, settings: Settings) -> Result<(), Reason>
+        ensures done { OnOk result (Does (phase_of self.old) (Instruction.Channel settings) (phase_of self.new)) }
+        ensures reason { IfErr result (λ reason. (reason ≡ Reason.NoMemory) ⊎ IsBad (phase_of self.old) (Instruction.Channel settings) reason) }
+        ensures refused { OnErr result (self.new ≡ self.old) }
+    {
+        match self {
+            Stage::SettingUp(list) => list.add_channel(settings),
+            Stage::Operating(_) => Err(Reason::TooLate),
+        }
+    }
+
+    /// Gives a channel the queue of a queue line or the chosen MAP of a map line.
+    pub fn add_to_channel(
+        &mut self,
+        alloc: Global,
+        vcid: u8,
+        addition: Addition,
+    ) -> Result<(), Reason>
+        ensures done { OnOk result (Does (phase_of self.old) (Instruction.Add vcid addition) (phase_of self.new)) }
+        ensures reason { IfErr result (λ reason. (reason ≡ Reason.NoMemory) ⊎ IsBad (phase_of self.old) (Instruction.Add vcid addition) reason) }
+        ensures refused { OnErr result (self.new ≡ self.old) }
+    {
+        match self {
+            Stage::SettingUp(list) => list.add_to_channel(alloc, vcid, addition),
+            Stage::Operating(_) => Err(Reason::TooLate),
+        }
+    }
+}

@@ -1,0 +1,83 @@
+-- A call at a desk is at its place of the journal that the station's close gives out.
+use Rattle.std.proofs.Common.{◌≡◌, ◌<◌, ℕ, zero, suc, List, [], ◌∷◌, ◌++◌, length, take, Ok, Some, refl, sym, ap, subst, ◌∙◌, append_assoc, arith}
+use mathlib.Core.List.{IsPrefix}
+use mathlib.Core.Option.{some}
+use lib.ListN.{get_elem?}
+use Rattle.std.specs.Prelude.{slice_get, slice_index_or, slice_set}
+use Rattle.std.proofs.lemmas.Option.{none-some, same_Some, slice_get_within}
+use Rattle.logged_lock.specs.Log.{IsBeginning}
+use Rattle.tc_channel.specs.declared.event.Event.{Event}
+use Rattle.tc_channel.specs.declared.settings.Settings.{Settings}
+use Rattle.tc_channel.specs.Journal.{History}
+use Rattle.tc_desk.specs.Call.{made}
+use Rattle.tc_desk.specs.Log.{AtLock, Identity, Moment, Own, accounts_of}
+use Rattle.tc_desk.specs.Together.{column, nobody}
+use Rattle.tc_station.specs.Call.{IsCallAt}
+use Rattle.tc_station.specs.Roster.{Roster}
+use Rattle.tc_station.specs.Tally.{AtStation}
+use Rattle.tc_station.specs.Through.{IsClosedSince}
+use Rattle.tc_station.specs.Together.{crews_of}
+
+prefix-trans : (es fs gs : List Event) → IsPrefix es fs → IsPrefix fs gs → IsPrefix es gs
+prefix-trans es fs gs p q = (p.0 ++ q.0, sym (append_assoc es p.0 q.0) ∙ (ap (λ w. w ++ q.0) p.1 ∙ q.1))
+
+goes-on : (a b c : Moment) → IsBeginning a b → IsBeginning b c → IsBeginning a c
+goes-on a b c p q = (q.0 ∙ p.0, prefix-trans a.entries b.entries c.entries p.1 q.1)
+
+desk-there : (desks : List AtLock) (place : ℕ) (d : AtLock) → slice_get desks place ≡ Some d → slice_index_or desks place nobody ≡ d
+desk-there [] place d at = absurd (none-some d at)
+desk-there (x ∷ desks) zero d at = same_Some x d at
+desk-there (x ∷ desks) (suc k) d at = desk-there desks k d at
+
+set-there : (desks : List AtLock) (place : ℕ) (d next : AtLock) → slice_get desks place ≡ Some d → slice_get (slice_set desks place next) place ≡ Some next
+set-there [] place d next at = absurd (none-some d at)
+set-there (x ∷ desks) zero d next at = refl
+set-there (x ∷ desks) (suc k) d next at = set-there desks k d next at
+
+pub post-there : (posts : List AtLock) (n : ℕ) → n < length posts → (post : AtLock) × (slice_get posts n ≡ Some post)
+post-there [] n lt = absurd (omega arith)
+post-there (x ∷ posts) zero lt = (x, refl)
+post-there (x ∷ posts) (suc n) lt = post-there posts n (omega (arith, lt))
+
+-- the k-th operator's account at the desk of a place
+account-there : (ops : List AtStation) (place k : ℕ) (o : AtStation) (d : AtLock) → slice_get ops k ≡ Some o → slice_get o.desks place ≡ Some d
+    → get_elem? (accounts_of (column place (crews_of ops))) k ≡ some d.own
+account-there [] place k o d at there = absurd (none-some o at)
+account-there (p ∷ ops) place zero o d at there =
+    ap (λ (x : AtStation). some (slice_index_or x.desks place nobody).own) (same_Some p o at) ∙ ap (λ (x : AtLock). some x.own) (desk-there o.desks place d there)
+account-there (p ∷ ops) place (suc k) o d at there = account-there ops place k o d at there
+
+-- what an operator had seen of a desk is a beginning of what was given out
+seen-in-closed : (station : Roster) (place : ℕ) (o : AtStation) (channel : History) (there : AtLock) → slice_get o.desks place ≡ Some there → IsClosedSince station place o channel
+    → (head : Identity) × (head.settings ≡ channel.settings) × IsBeginning there.own.seen (record { head = head; entries = channel.journal })
+seen-in-closed station place o channel there at since =
+    let all = since.together.2 in
+    let inside = slice_get_within since.closed place channel since.out in
+    let many = all.as_many in
+    let post = post-there since.together.0 place (omega (arith, inside, many)) in
+    let one = all.each place post.0 channel post.1 since.out in
+    let closed : Moment = record { head = post.0.own.seen.head; entries = channel.journal } in
+    let on = since.on in
+    let same : on.before ≡ there = same_Some on.before there (sym on.was ∙ at) in
+    let account = account-there since.operators place since.number since.last on.after since.among on.is in
+    let begun : IsBeginning on.after.own.seen closed = one.seen since.number on.after.own account in
+    let longer = subst (λ (d : AtLock). IsBeginning d.own.seen on.after.own.seen) same on.longer in
+    (post.0.own.seen.head, sym one.settings, goes-on there.own.seen on.after.own.seen closed longer begun)
+
+-- the law of the desk on which this rests
+abbrev pub Stands : Type 0
+Stands = (before : Own) (now : Moment) (e : Event) (closed : Moment) → IsBeginning (made e now before).seen closed
+    → (slice_get closed.entries (length now.entries) ≡ Some e) × (now ≡ record { head = closed.head; entries = take (length now.entries) closed.entries })
+
+pub answered : {R F : Type 0} → Stands → (station : Roster) (place vcid : ℕ) (e : Event) (ok : Moment → R → Type 0) (err : Moment → F → Type 0) (before after : AtStation) (r : R) (channel : History)
+    → IsCallAt place vcid e ok err before (Ok r) after → IsClosedSince station place after channel
+    → (head : Identity) × (n : ℕ) × (head.settings ≡ channel.settings) × (slice_get channel.journal n ≡ Some e) × ok (record { head = head; entries = take n channel.journal }) r
+answered stands station place vcid e ok err before after r channel c since =
+    let at = ap (λ (l : List AtLock). slice_get l place) c.others ∙ set-there before.desks place c.there c.next c.was in
+    let seen = seen-in-closed station place after channel c.next at since in
+    let closed : Moment = record { head = seen.0; entries = channel.journal } in
+    let answer = c.call.answer in
+    let now = c.call.now in
+    let begun = subst (λ (o : Own). IsBeginning o.seen closed) answer.1 seen.2 in
+    let stood = stands c.there.own now e closed begun in
+    (seen.0, length now.entries, seen.1, stood.0, subst (λ (m : Moment). ok m r) stood.1 answer.0)

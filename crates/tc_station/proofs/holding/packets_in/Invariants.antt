@@ -1,9 +1,0 @@
-use Rattle.std.proofs.Common.{◌≡◌, ◌≤◌, length, take, vec_len, vec_capacity}
-use Rattle.std.specs.List.{filter_map}
-use Rattle.tc_station.specs.Holding.{queue_holding}
-use Rattle.tc_station.proofs.holding.packets_in.Given as goal
-
-abbrev pub invariant-loop-queue : goal.invariant-loop-queue
-invariant-loop-queue g l =
-    (l.told.items ≡ filter_map (queue_holding l.channel.settings l.channel.journal) (take l.queue-index l.queues))
-    × (vec_len l.told ≤ l.queue-index) × (length l.queues ≤ vec_capacity l.told)

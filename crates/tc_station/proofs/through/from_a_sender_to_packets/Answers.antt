@@ -1,0 +1,53 @@
+use Rattle.std.proofs.Common.{◌≡◌, ◌≢◌, ℕ, [], take, Some, ap, subst, ◌∙◌, arith}
+use Rattle.std.specs.Global.{Vec}
+use Rattle.std.proofs.lemmas.Option.{slice_get_within}
+use Rattle.tc_channel.specs.declared.event.Event.{Event}
+use Rattle.tc_channel.specs.declared.event.Event.TheVariants.{Frame, Release, Take, TakeUnit}
+use Rattle.tc_channel.specs.declared.settings.Settings.{Settings}
+use Rattle.tc_channel.specs.ChannelState.{no_limits}
+use Rattle.tc_channel.specs.Reply.{buffered_fields, frame_reply, release_reply, take_reply, unit_reply}
+use Rattle.tc_desk.specs.Call.{IsReleased, IsTaken, IsUnitTaken}
+use Rattle.tc_desk.specs.Log.{Moment}
+use Rattle.tc_station.specs.Call.{IsReplied, IsNotBrought, IsNotReleased, IsNotTaken, IsUnitNotTaken}
+use Rattle.tc_station.proofs.ClosedSince.{answered, post-there}
+use Rattle.tc_station.proofs.through.from_a_sender_to_packets.Goals as goal
+
+pub returns-clause-merge : goal.returns-clause-merge
+returns-clause-merge c = λ station operators closed place channel together out.
+    let all = together.2 in
+    let inside = slice_get_within closed place channel out in
+    let many = all.as_many in
+    let post = post-there together.0 place (omega (arith, inside, many)) in
+    let one = all.each place post.0 channel post.1 out in
+    one.merge
+
+pub returns-clause-frames : goal.returns-clause-frames
+returns-clause-frames c = λ station place vcid frame grows before after brought channel call since.
+    let is = answered c.each_event_stands_at_its_place.ensures station place vcid (Frame frame) (IsReplied vcid frame) (IsNotBrought grows frame) before after brought channel call since in
+    (is.1, is.3, is.4.1 ∙ ap (λ (s : Settings). frame_reply s (take is.1 channel.journal) frame) is.2)
+
+pub returns-clause-releases : goal.returns-clause-releases
+returns-clause-releases c = λ station place vcid before after delivery channel call since.
+    let is = answered c.each_event_stands_at_its_place.ensures station place vcid Release IsReleased IsNotReleased before after delivery channel call since in
+    (is.1, is.3, subst (λ (s : Settings). (buffered_fields s (take is.1 channel.journal) ≢ []) × (delivery ≡ release_reply s (take is.1 channel.journal))) is.2 is.4)
+
+pub returns-clause-takes : goal.returns-clause-takes
+returns-clause-takes c = λ station place vcid apid grows before after packet channel call since.
+    let is = answered c.each_event_stands_at_its_place.ensures station place vcid (Take apid) (λ (m : Moment) (p : Vec ℕ). IsTaken apid m p.items) (IsNotTaken grows apid) before after packet channel call since in
+    (is.1, is.3, subst (λ (s : Settings). take_reply s (take is.1 channel.journal) apid ≡ Some packet.items) is.2 is.4)
+
+pub returns-clause-units : goal.returns-clause-units
+returns-clause-units c = λ station place vcid map_id grows before after unit channel call since.
+    let is = answered c.each_event_stands_at_its_place.ensures station place vcid (TakeUnit map_id) (λ (m : Moment) (u : Vec ℕ). IsUnitTaken map_id m u.items) (IsUnitNotTaken grows map_id) before after unit channel call since in
+    (is.1, is.3, subst (λ (s : Settings). unit_reply s (take is.1 channel.journal) map_id ≡ Some unit.items) is.2 is.4)
+
+pub returns-clause-sent : goal.returns-clause-sent
+returns-clause-sent c = λ channel before later x sent apid q lawful era comes has.
+    c.what_was_sent_is_given_in_order.ensures.packets no_limits channel.settings channel.journal before later x sent apid q lawful era comes has
+
+pub returns-clause-sent_units : goal.returns-clause-sent_units
+returns-clause-sent_units c = λ channel before later x sent map_id q lawful era comes has.
+    c.what_was_sent_is_given_in_order.ensures.units no_limits channel.settings channel.journal before later x sent map_id q lawful era comes has
+
+pub returns-clause-whole : goal.returns-clause-whole
+returns-clause-whole c = c.what_was_passed_on_is_admitted_in_order.ensures.whole

@@ -1,0 +1,32 @@
+-- The calls of an operator, seen from the channel that was given out when its station was closed.
+use Rattle.std.specs.Prelude.{◌≡◌, ℕ, List, Some, slice_get, take}
+use Rattle.logged_lock.specs.Log.{IsBeginning}
+use Rattle.tc_channel.specs.declared.event.Event.{Event}
+use Rattle.tc_channel.specs.Journal.{History}
+use Rattle.tc_desk.specs.Log.{AtLock}
+use Rattle.tc_station.specs.Roster.{Roster}
+use Rattle.tc_station.specs.Tally.{AtStation}
+use Rattle.tc_station.specs.Together.{AreClosedTogether}
+
+-- what an operator has seen at the desk of this place goes on from what it had seen there before
+pub record HasGoneOn (place : ℕ) (early late : AtStation) : Type 0 where
+  pub before : AtLock
+  pub after : AtLock
+  pub was : slice_get early.desks place ≡ Some before
+  pub is : slice_get late.desks place ≡ Some after
+  pub longer : IsBeginning before.own.seen after.own.seen
+
+-- the station was closed together with its operators, of whom this is one that has gone on since; the channel is that of this place
+pub record IsClosedSince (station : Roster) (place : ℕ) (operator : AtStation) (channel : History) : Type 0 where
+  pub operators : List AtStation
+  pub closed : List History
+  pub together : AreClosedTogether station operators closed
+  pub out : slice_get closed place ≡ Some channel
+  pub number : ℕ
+  pub last : AtStation
+  pub among : slice_get operators number ≡ Some last
+  pub on : HasGoneOn place operator last
+
+-- the event has a place in the channel's journal, and what the events before it make was answered
+abbrev pub IsAnsweredIn : History → Event → (List Event → Type 0) → Type 0
+IsAnsweredIn channel e Answers = (n : ℕ) × (slice_get channel.journal n ≡ Some e) × Answers (take n channel.journal)

@@ -1,0 +1,77 @@
+//! From a sender to packets, over any threads.
+
+ghost use Rattle.std.specs.Global.{Vec};
+ghost use Rattle.std.specs.Prelude.{◌≡◌, ◌≢◌, ◌≤◌, ℕ, Bool, List, [], Some, Ok, length, slice_get};
+ghost use Rattle.logged_lock.specs.Log.{IsMergeOf};
+ghost use Rattle.tc_packet.specs.Reassembly.{Passed};
+ghost use Rattle.tc_channel.specs.declared.event.Event.{Event};
+ghost use Rattle.tc_channel.specs.declared.reply.Delivery.{Delivery};
+ghost use Rattle.tc_channel.specs.ChannelState.{Queue, first_state_within, no_limits, queue_of};
+ghost use Rattle.tc_channel.specs.Era.{ComesFromWithin, IsEra};
+ghost use Rattle.tc_channel.specs.Given.{packets_given, units_given};
+ghost use Rattle.tc_channel.specs.Journal.{History};
+ghost use Rattle.tc_channel.specs.Reply.{buffered_fields, frame_reply, release_reply, take_reply, unit_reply};
+ghost use Rattle.tc_channel.specs.Run.{IsLawful, run};
+ghost use Rattle.tc_channel.specs.Through.{IsPartOf, packets_made, units_made, passed_since, released_since, sent_from};
+ghost use Rattle.tc_desk.specs.Call as at_desk;
+ghost use Rattle.tc_desk.specs.Log.{accounts_of};
+ghost use Rattle.tc_desk.specs.Together.{column};
+ghost use Rattle.tc_station.specs.declared.station.Brought.{Brought};
+ghost use Rattle.tc_station.specs.Call.{IsCallAt, IsReplied, IsNotBrought, IsNotReleased, IsNotTaken, IsUnitNotTaken};
+ghost use Rattle.tc_station.specs.Roster.{Roster};
+ghost use Rattle.tc_station.specs.Tally.{AtStation};
+ghost use Rattle.tc_station.specs.Through.{IsAnsweredIn, IsClosedSince};
+ghost use Rattle.tc_station.specs.Together.{AreClosedTogether, crews_of};
+
+use tc_channel::{what_was_passed_on_is_admitted_in_order, what_was_sent_is_given_in_order};
+use tc_desk::each_event_stands_at_its_place;
+
+/// Threads work at the channels of a station, each with an operator of its own, in any order. Then the station is closed together with
+/// these operators, and gives out its channels.
+///
+/// - `merge`: the journal of each channel is a merge of the events that its operators made: each once, and each operator's in its order.
+/// - `frames`, `releases`, `takes`, `units`: each call that was answered is an event of that journal, and its answer is the one that the model
+///   gives at the journal before it. So one thread could have made all calls, in the journal's order, and got the same answers.
+/// - `sent`: where the Type-AD frames of an era, which is the journal's part since a Set V(R) was last obeyed, or else all of it, are one
+///   sender's, numbered on from the V(R) with which it starts, and none came 256 or more numbers early or late, the Type-AD data fields
+///   of the era that were released are what was sent, each once, in order; and what all takes of an application gave is, in order,
+///   packets that the released fields and the Type-BD fields between them make. `sent_units` says the same of the units of a chosen MAP.
+/// - `whole`: where these are as many as the fields make, none is left out.
+///
+/// Each call of an operator goes on from all that it had seen (`later` of `IsCall`), so it has gone on, too, after several.
+pub fn from_a_sender_to_packets()
+    ensures merge { (station : Roster) (operators : List AtStation) (closed : List History) (place : ℕ) (channel : History)
+        → AreClosedTogether station operators closed → slice_get closed place ≡ Some channel
+        → IsMergeOf channel.journal (accounts_of (column place (crews_of operators))) }
+    ensures frames { (station : Roster) (place vcid : ℕ) (frame : List ℕ) (grows : Bool) (before after : AtStation) (brought : Brought) (channel : History)
+        → IsCallAt place vcid (Event.Frame frame) (IsReplied vcid frame) (IsNotBrought grows frame) before (Ok brought) after
+        → IsClosedSince station place after channel
+        → IsAnsweredIn channel (Event.Frame frame) (λ journal. brought.reply ≡ frame_reply channel.settings journal frame) }
+    ensures releases { (station : Roster) (place vcid : ℕ) (before after : AtStation) (delivery : Delivery) (channel : History)
+        → IsCallAt place vcid Event.Release at_desk.IsReleased IsNotReleased before (Ok delivery) after
+        → IsClosedSince station place after channel
+        → IsAnsweredIn channel Event.Release (λ journal. (buffered_fields channel.settings journal ≢ []) × (delivery ≡ release_reply channel.settings journal)) }
+    ensures takes { (station : Roster) (place vcid apid : ℕ) (grows : Bool) (before after : AtStation) (packet : Vec ℕ) (channel : History)
+        → IsCallAt place vcid (Event.Take apid) (λ m p. at_desk.IsTaken apid m p.items) (IsNotTaken grows apid) before (Ok packet) after
+        → IsClosedSince station place after channel
+        → IsAnsweredIn channel (Event.Take apid) (λ journal. take_reply channel.settings journal apid ≡ Some packet.items) }
+    ensures units { (station : Roster) (place vcid map_id : ℕ) (grows : Bool) (before after : AtStation) (unit : Vec ℕ) (channel : History)
+        → IsCallAt place vcid (Event.TakeUnit map_id) (λ m u. at_desk.IsUnitTaken map_id m u.items) (IsUnitNotTaken grows map_id) before (Ok unit) after
+        → IsClosedSince station place after channel
+        → IsAnsweredIn channel (Event.TakeUnit map_id) (λ journal. unit_reply channel.settings journal map_id ≡ Some unit.items) }
+    ensures sent { (channel : History) (before later : List Event) (x : ℕ) (sent : ℕ → List ℕ) (apid : ℕ) (q : Queue) → IsLawful channel.settings channel.journal
+        → IsEra channel.settings channel.journal before later x → ComesFromWithin no_limits channel.settings before later x sent
+        → queue_of apid (run channel.settings channel.journal).queues ≡ Some q
+        → (passed : List Passed) × (passed_since no_limits channel.settings before passed ≡ sent_from sent 0 (released_since no_limits channel.settings before channel.journal))
+        × IsPartOf (packets_given channel.settings apid (first_state_within no_limits channel.settings) channel.journal) (packets_made no_limits channel.settings apid passed) }
+    ensures sent_units { (channel : History) (before later : List Event) (x : ℕ) (sent : ℕ → List ℕ) (map_id : ℕ) (q : Queue) → IsLawful channel.settings channel.journal
+        → IsEra channel.settings channel.journal before later x → ComesFromWithin no_limits channel.settings before later x sent
+        → queue_of map_id (run channel.settings channel.journal).units ≡ Some q
+        → (passed : List Passed) × (passed_since no_limits channel.settings before passed ≡ sent_from sent 0 (released_since no_limits channel.settings before channel.journal))
+        × IsPartOf (units_given channel.settings map_id (first_state_within no_limits channel.settings) channel.journal) (units_made no_limits channel.settings map_id passed) }
+    ensures whole { (one other : List (List ℕ)) → IsPartOf one other → length other ≤ length one → one ≡ other }
+{
+    each_event_stands_at_its_place();
+    what_was_passed_on_is_admitted_in_order();
+    what_was_sent_is_given_in_order();
+}
