@@ -1,0 +1,5 @@
+mod blocks;
+mod cltus;
+mod growths;
+mod random;
+mod streams;

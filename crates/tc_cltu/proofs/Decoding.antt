@@ -1,0 +1,451 @@
+-- What the receiving end gives.
+use Rattle.std.proofs.Common.{◌≡◌, ℕ, zero, suc, ◌+◌, ◌*◌, ◌/◌, ◌<◌, ◌≤◌, ◌==◌, ◌&&◌, Bool, true, false, List, [], ◌∷◌, ◌++◌, Option, Some, None, bit_xor, length, length-append, append_assoc, get_or, take, set, drop, drop-cons, add-one, nat_lt, if◌then◌else◌, subst, refl, ap, sym, ◌∙◌, arith, inl, inr}
+use Rattle.std.proofs.lemmas.Bool.{le-ltb, lt-ltb, cases_lt, cases_eq, ne_eqb}
+use Rattle.std.proofs.lemmas.Bool.Decides.{nat_tests}
+use Rattle.std.proofs.lemmas.List.{append-nil, append_cancel_right, drop_all, length-take-le, take_more, take-append-drop}
+use lib.Bits.{xor_self}
+use Rattle.tc_cltu.specs.Bits.{IsOctets, octet_bits}
+use Rattle.tc_cltu.specs.CodeBlock.{IsInformation, parity_of, times_x, code_block, decoded}
+use Rattle.tc_cltu.specs.Cltu.{cltu, start_sequence, tail_sequence, code_blocks, fill, filled, fault_of}
+use Rattle.tc_cltu.specs.Reception.{Receiver, Reception, Searching, Decoding, Step, step, after_block, state_after, frames_of, HasNoStart, IsSearching, IsReception, idle}
+use Rattle.tc_cltu.specs.declared.block.Mode.{Mode}
+use Rattle.tc_cltu.specs.declared.block.Mode.TheVariants.{Detect, Correct}
+use Rattle.tc_cltu.proofs.Words.{AreOctets, are-octets, is-octets, parity-fits}
+use Rattle.tc_cltu.proofs.Distance.{placed}
+use Rattle.tc_cltu.proofs.Taking.{syndrome, none-wrong, some-wrong, more-wrong}
+
+state-append : (mode : Mode) (room : ℕ) (xs ys : List ℕ) (s : Reception) → state_after mode room s (xs ++ ys) ≡ state_after mode room (state_after mode room s xs) ys
+state-append mode room [] ys s = refl
+state-append mode room (x ∷ xs) ys s = state-append mode room xs ys (step mode room s x).0
+
+pub frames-append : (mode : Mode) (room : ℕ) (xs ys : List ℕ) (s : Reception)
+    → frames_of mode room s (xs ++ ys) ≡ frames_of mode room s xs ++ frames_of mode room (state_after mode room s xs) ys
+frames-append mode room [] ys s = refl
+frames-append mode room (x ∷ xs) ys s =
+    ap (λ (fs : List (List ℕ)). (step mode room s x).1 ++ fs) (frames-append mode room xs ys (step mode room s x).0)
+    ∙ sym (append_assoc (step mode room s x).1 (frames_of mode room (step mode room s x).0 xs) (frames_of mode room (state_after mode room (step mode room s x).0 xs) ys))
+
+-- eight octets
+frames-block : (mode : Mode) (room : ℕ) (frame : List ℕ) (a b c d e f g h : ℕ) (rest : List ℕ)
+    → frames_of mode room (Decoding frame []) (a ∷ b ∷ c ∷ d ∷ e ∷ f ∷ g ∷ h ∷ rest)
+    ≡ (after_block room frame (decoded mode (a ∷ b ∷ c ∷ d ∷ e ∷ f ∷ g ∷ h ∷ []))).1
+    ++ frames_of mode room (after_block room frame (decoded mode (a ∷ b ∷ c ∷ d ∷ e ∷ f ∷ g ∷ h ∷ []))).0 rest
+frames-block mode room frame a b c d e f g h rest = refl
+
+-- a syndrome of a code block itself
+own-syndrome : (information : List ℕ) → syndrome information (parity_of information * 2) ≡ 0
+unfolding syndrome
+own-syndrome information =
+    let e : parity_of information * 2 / 2 ≡ parity_of information = omega arith in
+    ap (bit_xor (parity_of information)) e ∙ xor_self (parity_of information)
+
+own-decoded : (mode : Mode) (information : List ℕ) → IsInformation information → decoded mode (code_block information) ≡ Some information
+own-decoded mode information is =
+    let fits = parity-fits information in
+    none-wrong mode information (parity_of information * 2) is (omega arith) (own-syndrome information)
+
+-- ---- sevens
+abbrev pub AreSevens : List ℕ → Type 0
+AreSevens [] = Unit {0}
+AreSevens (a ∷ b ∷ c ∷ d ∷ e ∷ f ∷ g ∷ rest) = AreSevens rest
+AreSevens _ = ⊥
+
+filled-sevens : (fs : List ℕ) → AreSevens (filled fs)
+filled-sevens [] = tt
+filled-sevens (a ∷ []) = tt
+filled-sevens (a ∷ b ∷ []) = tt
+filled-sevens (a ∷ b ∷ c ∷ []) = tt
+filled-sevens (a ∷ b ∷ c ∷ d ∷ []) = tt
+filled-sevens (a ∷ b ∷ c ∷ d ∷ e ∷ []) = tt
+filled-sevens (a ∷ b ∷ c ∷ d ∷ e ∷ f ∷ []) = tt
+filled-sevens (a ∷ b ∷ c ∷ d ∷ e ∷ f ∷ g ∷ rest) = filled-sevens rest
+
+filled-octets : (fs : List ℕ) → AreOctets fs → AreOctets (filled fs)
+filled-octets [] p = tt
+filled-octets (a ∷ []) p = (p.0, (omega arith, (omega arith, (omega arith, (omega arith, (omega arith, (omega arith, tt)))))))
+filled-octets (a ∷ b ∷ []) p = (p.0, (p.1.0, (omega arith, (omega arith, (omega arith, (omega arith, (omega arith, tt)))))))
+filled-octets (a ∷ b ∷ c ∷ []) p = (p.0, (p.1.0, (p.1.1.0, (omega arith, (omega arith, (omega arith, (omega arith, tt)))))))
+filled-octets (a ∷ b ∷ c ∷ d ∷ []) p = (p.0, (p.1.0, (p.1.1.0, (p.1.1.1.0, (omega arith, (omega arith, (omega arith, tt)))))))
+filled-octets (a ∷ b ∷ c ∷ d ∷ e ∷ []) p = (p.0, (p.1.0, (p.1.1.0, (p.1.1.1.0, (p.1.1.1.1.0, (omega arith, (omega arith, tt)))))))
+filled-octets (a ∷ b ∷ c ∷ d ∷ e ∷ f ∷ []) p = (p.0, (p.1.0, (p.1.1.0, (p.1.1.1.0, (p.1.1.1.1.0, (p.1.1.1.1.1.0, (omega arith, tt)))))))
+filled-octets (a ∷ b ∷ c ∷ d ∷ e ∷ f ∷ g ∷ rest) p =
+    (p.0, (p.1.0, (p.1.1.0, (p.1.1.1.0, (p.1.1.1.1.0, (p.1.1.1.1.1.0, (p.1.1.1.1.1.1.0, filled-octets rest p.1.1.1.1.1.1.1)))))))
+
+-- the frame stands in front, and at most six octets of fill after it
+pub filled-front : (fs : List ℕ) → (k : ℕ) × (k < 7) × (filled fs ≡ fs ++ take k fill)
+filled-front [] = (0, omega arith, refl)
+filled-front (a ∷ []) = (6, omega arith, refl)
+filled-front (a ∷ b ∷ []) = (5, omega arith, refl)
+filled-front (a ∷ b ∷ c ∷ []) = (4, omega arith, refl)
+filled-front (a ∷ b ∷ c ∷ d ∷ []) = (3, omega arith, refl)
+filled-front (a ∷ b ∷ c ∷ d ∷ e ∷ []) = (2, omega arith, refl)
+filled-front (a ∷ b ∷ c ∷ d ∷ e ∷ f ∷ []) = (1, omega arith, refl)
+filled-front (a ∷ b ∷ c ∷ d ∷ e ∷ f ∷ g ∷ rest) =
+    let more = filled-front rest in (more.0, more.1, ap (λ (x : List ℕ). a ∷ b ∷ c ∷ d ∷ e ∷ f ∷ g ∷ x) more.2)
+
+-- what has no fault is within what a CLTU carries, with its fill
+pub some-octets : (fs : List ℕ) → fault_of fs ≡ None → 0 < length fs
+some-octets fs none = grind (arith, nat_tests)
+
+few-octets : (fs : List ℕ) → fault_of fs ≡ None → length fs ≤ 1029
+few-octets fs none = grind (arith, nat_tests)
+
+sevens-count : (fs : List ℕ) → AreSevens fs → (m : ℕ) × (length fs ≡ 7 * m)
+sevens-count [] p = (0, refl)
+sevens-count (a ∷ b ∷ c ∷ d ∷ e ∷ f ∷ g ∷ rest) p = let more = sevens-count rest p in let l = more.1 in (suc more.0, omega arith)
+sevens-count (a ∷ []) p = absurd p
+sevens-count (a ∷ b ∷ []) p = absurd p
+sevens-count (a ∷ b ∷ c ∷ []) p = absurd p
+sevens-count (a ∷ b ∷ c ∷ d ∷ []) p = absurd p
+sevens-count (a ∷ b ∷ c ∷ d ∷ e ∷ []) p = absurd p
+sevens-count (a ∷ b ∷ c ∷ d ∷ e ∷ f ∷ []) p = absurd p
+
+pub filled-fits : (fs : List ℕ) → fault_of fs ≡ None → length (filled fs) ≤ 1029
+filled-fits fs none =
+    let most = few-octets fs none in
+    let f = filled-front fs in
+    let few = f.1 in
+    let l : length (filled fs) ≡ length fs + length (take f.0 fill) = ap length f.2 ∙ length-append fs (take f.0 fill) in
+    let t : length (take f.0 fill) ≡ f.0 = length-take-le f.0 fill (omega arith) in
+    let s = sevens-count (filled fs) (filled-sevens fs) in
+    let e : length (filled fs) ≡ 7 * s.0 = s.1 in
+    omega arith
+
+pub after-fits : (room : ℕ) (frame information : List ℕ) → length frame + 7 ≤ room → after_block room frame (Some information) ≡ (Decoding (frame ++ information) [], [])
+after-fits room frame information fits =
+    ap (λ (t : Bool). if t then (Searching 0, []) else (Decoding (frame ++ information) [], [])) (le-ltb room (length frame + 7) fits)
+
+pub after-over : (room : ℕ) (frame information : List ℕ) → room < length frame + 7 → after_block room frame (Some information) ≡ (Searching 0, [])
+after-over room frame information over =
+    ap (λ (t : Bool). if t then (Searching 0, []) else (Decoding (frame ++ information) [], [])) (lt-ltb room (length frame + 7) over)
+
+-- each block is taken, while there is room
+blocks-taken : (mode : Mode) (room : ℕ) (fs frame rest : List ℕ) → AreOctets fs → AreSevens fs → length frame + length fs ≤ room
+    → frames_of mode room (Decoding frame []) (code_blocks fs ++ rest) ≡ frames_of mode room (Decoding (frame ++ fs) []) rest
+blocks-taken mode room [] frame rest p q fits = ap (λ (x : List ℕ). frames_of mode room (Decoding x []) rest) (sym (append-nil frame))
+blocks-taken mode room (a ∷ b ∷ c ∷ d ∷ e ∷ f ∷ g ∷ fs) frame rest p q fits =
+    let information = a ∷ b ∷ c ∷ d ∷ e ∷ f ∷ g ∷ [] in
+    let is : IsInformation information = record {
+      each = is-octets information (p.0, (p.1.0, (p.1.1.0, (p.1.1.1.0, (p.1.1.1.1.0, (p.1.1.1.1.1.0, (p.1.1.1.1.1.1.0, tt)))))));
+      seven = refl;
+    } in
+    let h = parity_of information * 2 in
+    let more = code_blocks fs ++ rest in
+    let long : length (frame ++ information) ≡ length frame + 7 = length-append frame information in
+    frames-block mode room frame a b c d e f g h more
+    ∙ ap (λ (o : Option (List ℕ)). (after_block room frame o).1 ++ frames_of mode room (after_block room frame o).0 more) (own-decoded mode information is)
+    ∙ ap (λ (s : Step). s.1 ++ frames_of mode room s.0 more) (after-fits room frame information (omega arith))
+    ∙ blocks-taken mode room fs (frame ++ information) rest p.1.1.1.1.1.1.1 q (omega arith)
+    ∙ ap (λ (x : List ℕ). frames_of mode room (Decoding x []) rest) (append_assoc frame information fs)
+blocks-taken mode room (a ∷ []) frame rest p q fits = absurd q
+blocks-taken mode room (a ∷ b ∷ []) frame rest p q fits = absurd q
+blocks-taken mode room (a ∷ b ∷ c ∷ []) frame rest p q fits = absurd q
+blocks-taken mode room (a ∷ b ∷ c ∷ d ∷ []) frame rest p q fits = absurd q
+blocks-taken mode room (a ∷ b ∷ c ∷ d ∷ e ∷ []) frame rest p q fits = absurd q
+blocks-taken mode room (a ∷ b ∷ c ∷ d ∷ e ∷ f ∷ []) frame rest p q fits = absurd q
+
+-- the tail sequence is no code block
+abbrev tail_information : List ℕ
+tail_information = 0xC5 ∷ 0xC5 ∷ 0xC5 ∷ 0xC5 ∷ 0xC5 ∷ 0xC5 ∷ 0xC5 ∷ []
+
+tail-syndrome : syndrome tail_information 0x79 ≡ 67
+unfolding syndrome octet_bits times_x
+tail-syndrome = refl
+
+tail-place : placed 67 ≡ 63
+tail-place = refl
+
+tail-good : IsInformation tail_information
+tail-good = record {
+  each = is-octets tail_information (omega arith, (omega arith, (omega arith, (omega arith, (omega arith, (omega arith, (omega arith, tt)))))));
+  seven = refl;
+}
+
+tail-rejected : (mode : Mode) → decoded mode tail_sequence ≡ None
+tail-rejected Detect = let s = tail-syndrome in some-wrong tail_information 0x79 tail-good (omega arith) (λ z. omega arith)
+tail-rejected Correct =
+    let s = tail-syndrome in
+    let p : placed (syndrome tail_information 0x79) ≡ 63 = ap placed s ∙ tail-place in
+    more-wrong tail_information 0x79 tail-good (omega arith) (λ z. omega arith) (omega arith)
+
+tail-ends : (mode : Mode) (room f : ℕ) (fs rest : List ℕ) → frames_of mode room (Decoding (f ∷ fs) []) (tail_sequence ++ rest) ≡ (f ∷ fs) ∷ frames_of mode room (Searching 0) rest
+tail-ends mode room f fs rest =
+    frames-block mode room (f ∷ fs) 0xC5 0xC5 0xC5 0xC5 0xC5 0xC5 0xC5 0x79 rest
+    ∙ ap (λ (o : Option (List ℕ)). (after_block room (f ∷ fs) o).1 ++ frames_of mode room (after_block room (f ∷ fs) o).0 rest) (tail-rejected mode)
+
+-- the start sequence is found, whatever came last
+no-start : (b : Bool) → (b && false) ≡ false
+no-start true = refl
+no-start false = refl
+
+start-step : (mode : Mode) (room last : ℕ) → step mode room (Searching last) 0xEB ≡ (Searching 0xEB, [])
+start-step mode room last = ap (λ (t : Bool). if t then (Decoding [] [], []) else (Searching 0xEB, [])) (no-start (last == 0xEB))
+
+start-found : (mode : Mode) (room last : ℕ) (rest : List ℕ) → frames_of mode room (Searching last) (start_sequence ++ rest) ≡ frames_of mode room (Decoding [] []) rest
+start-found mode room last rest = ap (λ (s : Step). s.1 ++ frames_of mode room s.0 (0x90 ∷ rest)) (start-step mode room last)
+
+tail-ends-some : (mode : Mode) (room : ℕ) (fs rest : List ℕ) → 0 < length fs
+    → frames_of mode room (Decoding fs []) (tail_sequence ++ rest) ≡ fs ∷ frames_of mode room (Searching 0) rest
+tail-ends-some mode room [] rest some = absurd (omega arith)
+tail-ends-some mode room (f ∷ fs) rest some = tail-ends mode room f fs rest
+
+filled-some : (frame : List ℕ) → 0 < length frame → 0 < length (filled frame)
+filled-some frame some =
+    let f = filled-front frame in
+    let e : length (filled frame) ≡ length frame + length (take f.0 fill) = ap length f.2 ∙ length-append frame (take f.0 fill) in
+    omega arith
+
+-- a CLTU gives what it carries, whatever came last before it, and the search goes on behind it
+pub cltu-given : (mode : Mode) (room last : ℕ) (frame rest : List ℕ) → IsOctets frame → 0 < length frame → length (filled frame) ≤ room
+    → frames_of mode room (Searching last) (cltu frame ++ rest) ≡ filled frame ∷ frames_of mode room (Searching 0) rest
+cltu-given mode room last frame rest each some fits =
+    let body = code_blocks (filled frame) in
+    start-found mode room last (body ++ tail_sequence ++ rest)
+    ∙ ap (frames_of mode room (Decoding [] [])) (append_assoc body tail_sequence rest)
+    ∙ blocks-taken mode room (filled frame) [] (tail_sequence ++ rest) (filled-octets frame (are-octets frame each)) (filled-sevens frame) (omega arith)
+    ∙ tail-ends-some mode room (filled frame) rest (filled-some frame some)
+
+-- ---- what has no start sequence gives nothing
+test-false : (a b : ℕ) → (a ≡ 0xEB → b ≡ 0x90 → ⊥) → (a == 0xEB && b == 0x90) ≡ false
+test-false a b h =
+    elim (cases_eq a 0xEB) [
+      | inl is ↦ elim (cases_eq b 0x90) [
+        | inl also ↦ absurd (h is also)
+        | inr other ↦ ap (λ (t : Bool). (a == 0xEB) && t) (ne_eqb b 0x90 other) ∙ no-start (a == 0xEB)
+      ]
+      | inr other ↦ ap (λ (t : Bool). t && (b == 0x90)) (ne_eqb a 0xEB other)
+    ]
+
+quiet-step : (mode : Mode) (room last o : ℕ) → (last ≡ 0xEB → o ≡ 0x90 → ⊥) → step mode room (Searching last) o ≡ (Searching o, [])
+quiet-step mode room last o h =
+    ap (λ (t : Bool). if t then (Decoding [] [], []) else (Searching o, [])) (test-false last o h)
+
+quiet : (mode : Mode) (room last : ℕ) (os rest : List ℕ) → HasNoStart last os
+    → (l : ℕ) × (frames_of mode room (Searching last) (os ++ rest) ≡ frames_of mode room (Searching l) rest)
+quiet mode room last [] rest h = (last, refl)
+quiet mode room last (o ∷ os) rest h =
+    let more = quiet mode room o os rest h.1 in
+    (more.0, ap (λ (s : Step). s.1 ++ frames_of mode room s.0 (os ++ rest)) (quiet-step mode room last o h.0) ∙ more.1)
+
+-- octets before a CLTU: all that is asked of them is that no start sequence stands in them
+pub found-after : (mode : Mode) (room last : ℕ) (before frame rest : List ℕ) → HasNoStart last before → IsOctets frame → 0 < length frame → length (filled frame) ≤ room
+    → frames_of mode room (Searching last) (before ++ (cltu frame ++ rest)) ≡ filled frame ∷ frames_of mode room (Searching 0) rest
+found-after mode room last before frame rest quietly each some fits =
+    let q = quiet mode room last before (cltu frame ++ rest) quietly in
+    q.1 ∙ cltu-given mode room q.0 frame rest each some fits
+
+-- ---- the idle sequence leads back to the search, from any state
+abbrev idle_information : List ℕ
+idle_information = 0x55 ∷ 0x55 ∷ 0x55 ∷ 0x55 ∷ 0x55 ∷ 0x55 ∷ 0x55 ∷ []
+
+idle-syndrome : syndrome idle_information 0x55 ≡ 65
+unfolding syndrome octet_bits times_x
+idle-syndrome = refl
+
+idle-place : placed 65 ≡ 63
+idle-place = refl
+
+idle-good : IsInformation idle_information
+idle-good = record {
+  each = is-octets idle_information (omega arith, (omega arith, (omega arith, (omega arith, (omega arith, (omega arith, (omega arith, tt)))))));
+  seven = refl;
+}
+
+idle-rejected : (mode : Mode) → decoded mode (idle_information ++ 0x55 ∷ []) ≡ None
+idle-rejected Detect = let s = idle-syndrome in some-wrong idle_information 0x55 idle-good (omega arith) (λ z. omega arith)
+idle-rejected Correct =
+    let s = idle-syndrome in
+    let p : placed (syndrome idle_information 0x55) ≡ 63 = ap placed s ∙ idle-place in
+    more-wrong idle_information 0x55 idle-good (omega arith) (λ z. omega arith) (omega arith)
+
+idle-searching : (mode : Mode) (room n l : ℕ) → IsSearching (state_after mode room (Searching l) (idle n))
+idle-searching mode room zero l = tt
+idle-searching mode room (suc n) l =
+    subst (λ (s : Step). IsSearching (state_after mode room s.0 (idle n))) (sym (quiet-step mode room l 0x55 (λ a b. omega arith))) (idle-searching mode room n 0x55)
+
+pub ended : (room : ℕ) (frame : List ℕ) → (after_block room frame None).0 ≡ Searching 0
+ended room [] = refl
+ended room (f ∷ fs) = refl
+
+-- eight octets of it end a CLTU
+idle-block : (mode : Mode) (room : ℕ) (frame more : List ℕ)
+    → state_after mode room (Decoding frame []) (0x55 ∷ 0x55 ∷ 0x55 ∷ 0x55 ∷ 0x55 ∷ 0x55 ∷ 0x55 ∷ 0x55 ∷ more) ≡ state_after mode room (Searching 0) more
+idle-block mode room frame more =
+    ap (λ (o : Option (List ℕ)). state_after mode room (after_block room frame o).0 more) (idle-rejected mode)
+    ∙ ap (λ (s : Reception). state_after mode room s more) (ended room frame)
+
+idle-decoding : (mode : Mode) (room n : ℕ) (frame : List ℕ) → IsSearching (state_after mode room (Decoding frame []) (idle (8 + n)))
+idle-decoding mode room n frame =
+    let e : 8 + n ≡ suc (suc (suc (suc (suc (suc (suc (suc n))))))) = omega arith in
+    subst (λ (m : ℕ). IsSearching (state_after mode room (Decoding frame []) (idle m))) (sym e)
+    (subst IsSearching (sym (idle-block mode room frame (idle n))) (idle-searching mode room n 0))
+
+idle-after : (mode : Mode) (room n : ℕ) (frame : List ℕ) (o : Option (List ℕ)) → IsSearching (state_after mode room (after_block room frame o).0 (idle (8 + n)))
+idle-after mode room n frame (Some information) =
+    elim (cases_lt room (length frame + 7)) [
+      | inl over ↦ subst (λ (s : Step). IsSearching (state_after mode room s.0 (idle (8 + n)))) (sym (after-over room frame information over)) (idle-searching mode room (8 + n) 0)
+      | inr fits ↦ subst (λ (s : Step). IsSearching (state_after mode room s.0 (idle (8 + n)))) (sym (after-fits room frame information fits)) (idle-decoding mode room n (frame ++ information))
+    ]
+idle-after mode room n [] None = idle-searching mode room (8 + n) 0
+idle-after mode room n (f ∷ fs) None = idle-searching mode room (8 + n) 0
+
+pub idle-ends : (mode : Mode) (room : ℕ) (state : Reception) → IsReception state → IsSearching (state_after mode room state (idle 15))
+idle-ends mode room (Searching l) short = idle-searching mode room 15 l
+idle-ends mode room (Decoding frame []) short = idle-decoding mode room 7 frame
+idle-ends mode room (Decoding frame (a ∷ [])) short = idle-after mode room 0 frame (decoded mode (a ∷ idle_information))
+idle-ends mode room (Decoding frame (a ∷ b ∷ [])) short = idle-after mode room 1 frame (decoded mode (a ∷ b ∷ idle 6))
+idle-ends mode room (Decoding frame (a ∷ b ∷ c ∷ [])) short = idle-after mode room 2 frame (decoded mode (a ∷ b ∷ c ∷ idle 5))
+idle-ends mode room (Decoding frame (a ∷ b ∷ c ∷ d ∷ [])) short = idle-after mode room 3 frame (decoded mode (a ∷ b ∷ c ∷ d ∷ idle 4))
+idle-ends mode room (Decoding frame (a ∷ b ∷ c ∷ d ∷ e ∷ [])) short = idle-after mode room 4 frame (decoded mode (a ∷ b ∷ c ∷ d ∷ e ∷ idle 3))
+idle-ends mode room (Decoding frame (a ∷ b ∷ c ∷ d ∷ e ∷ f ∷ [])) short = idle-after mode room 5 frame (decoded mode (a ∷ b ∷ c ∷ d ∷ e ∷ f ∷ idle 2))
+idle-ends mode room (Decoding frame (a ∷ b ∷ c ∷ d ∷ e ∷ f ∷ g ∷ [])) short = idle-after mode room 6 frame (decoded mode (a ∷ b ∷ c ∷ d ∷ e ∷ f ∷ g ∷ idle 1))
+idle-ends mode room (Decoding frame (a ∷ b ∷ c ∷ d ∷ e ∷ f ∷ g ∷ h ∷ more)) short = absurd (omega arith)
+
+-- ---- every state is one that the receiving end can be in
+whole-step : (mode : Mode) (room octet : ℕ) (frame block : List ℕ) → 7 ≤ length block → step mode room (Decoding frame block) octet ≡ after_block room frame (decoded mode (block ++ octet ∷ []))
+whole-step mode room octet frame block long =
+    ap (λ (t : Bool). if t then (Decoding frame (block ++ octet ∷ []), []) else after_block room frame (decoded mode (block ++ octet ∷ []))) (le-ltb (length block) 7 long)
+
+part-step : (mode : Mode) (room octet : ℕ) (frame block : List ℕ) → length block < 7 → step mode room (Decoding frame block) octet ≡ (Decoding frame (block ++ octet ∷ []), [])
+part-step mode room octet frame block short =
+    ap (λ (t : Bool). if t then (Decoding frame (block ++ octet ∷ []), []) else after_block room frame (decoded mode (block ++ octet ∷ []))) (lt-ltb (length block) 7 short)
+
+one-more : (block : List ℕ) (octet : ℕ) → length block < 7 → length (block ++ octet ∷ []) < 8
+one-more block octet short = let l = length-append block (octet ∷ []) in omega arith
+
+none-waits : 0 < 8
+none-waits = omega arith
+
+after-kept : (room : ℕ) (frame : List ℕ) (o : Option (List ℕ)) → IsReception (after_block room frame o).0
+after-kept room frame (Some information) =
+    elim (cases_lt room (length frame + 7)) [
+      | inl over ↦ subst (λ (s : Step). IsReception s.0) (sym (after-over room frame information over)) tt
+      | inr fits ↦ subst (λ (s : Step). IsReception s.0) (sym (after-fits room frame information fits)) none-waits
+    ]
+after-kept room [] None = tt
+after-kept room (f ∷ fs) None = tt
+
+found-step : (mode : Mode) (room last octet : ℕ) → (last == 0xEB && octet == 0x90) ≡ true → step mode room (Searching last) octet ≡ (Decoding [] [], [])
+found-step mode room last octet is = ap (λ (t : Bool). if t then (Decoding [] [], []) else (Searching octet, [])) is
+
+other-step : (mode : Mode) (room last octet : ℕ) → (last == 0xEB && octet == 0x90) ≡ false → step mode room (Searching last) octet ≡ (Searching octet, [])
+other-step mode room last octet is = ap (λ (t : Bool). if t then (Decoding [] [], []) else (Searching octet, [])) is
+
+search-kept : (mode : Mode) (room last octet : ℕ) (found : Bool) → (last == 0xEB && octet == 0x90) ≡ found → IsReception (step mode room (Searching last) octet).0
+search-kept mode room last octet true is = subst (λ (s : Step). IsReception s.0) (sym (found-step mode room last octet is)) none-waits
+search-kept mode room last octet false is = subst (λ (s : Step). IsReception s.0) (sym (other-step mode room last octet is)) tt
+
+step-kept : (mode : Mode) (room octet : ℕ) (state : Reception) → IsReception state → IsReception (step mode room state octet).0
+step-kept mode room octet (Searching last) short = search-kept mode room last octet (last == 0xEB && octet == 0x90) refl
+step-kept mode room octet (Decoding frame block) short =
+    elim (cases_lt (length block) 7) [
+      | inl less ↦ subst (λ (s : Step). IsReception s.0) (sym (part-step mode room octet frame block less)) (one-more block octet less)
+      | inr whole ↦ subst (λ (s : Step). IsReception s.0) (sym (whole-step mode room octet frame block whole)) (after-kept room frame (decoded mode (block ++ octet ∷ [])))
+    ]
+
+pub state-kept : (mode : Mode) (room : ℕ) (os : List ℕ) (state : Reception) → IsReception state → IsReception (state_after mode room state os)
+state-kept mode room [] state short = short
+state-kept mode room (o ∷ os) state short = state-kept mode room os (step mode room state o).0 (step-kept mode room o state short)
+
+-- so the idle sequence leads to the next CLTU from any of them
+search-given : (mode : Mode) (room : ℕ) (state : Reception) (frame rest : List ℕ) → IsSearching state → IsOctets frame → 0 < length frame → length (filled frame) ≤ room
+    → frames_of mode room state (cltu frame ++ rest) ≡ filled frame ∷ frames_of mode room (Searching 0) rest
+search-given mode room (Searching last) frame rest searching each some fits = cltu-given mode room last frame rest each some fits
+search-given mode room (Decoding got block) frame rest searching each some fits = absurd searching
+
+pub found-after-idle : (mode : Mode) (room : ℕ) (state : Reception) (before frame rest : List ℕ) → IsReception state → IsOctets frame → 0 < length frame → length (filled frame) ≤ room
+    → frames_of mode room state (before ++ idle 15 ++ (cltu frame ++ rest)) ≡ frames_of mode room state (before ++ idle 15) ++ filled frame ∷ frames_of mode room (Searching 0) rest
+found-after-idle mode room state before frame rest short each some fits =
+    let back : IsSearching (state_after mode room state (before ++ idle 15)) =
+    subst IsSearching (sym (state-append mode room before (idle 15) state)) (idle-ends mode room (state_after mode room state before) (state-kept mode room before state short)) in
+    frames-append mode room (before ++ idle 15) (cltu frame ++ rest) state
+    ∙ ap (λ (fs : List (List ℕ)). frames_of mode room state (before ++ idle 15) ++ fs) (search-given mode room (state_after mode room state (before ++ idle 15)) frame rest back each some fits)
+
+-- ---- the decoder's own step
+set-last : (block : List ℕ) (octet : ℕ) → length block ≡ 8 → (set block 7 octet ≡ take 7 block ++ octet ∷ []) × (length (take 7 block) ≡ 7)
+set-last (a ∷ b ∷ c ∷ d ∷ e ∷ f ∷ g ∷ h ∷ []) octet l = (refl, refl)
+set-last [] octet l = absurd (omega arith)
+set-last (a ∷ []) octet l = absurd (omega arith)
+set-last (a ∷ b ∷ []) octet l = absurd (omega arith)
+set-last (a ∷ b ∷ c ∷ []) octet l = absurd (omega arith)
+set-last (a ∷ b ∷ c ∷ d ∷ []) octet l = absurd (omega arith)
+set-last (a ∷ b ∷ c ∷ d ∷ e ∷ []) octet l = absurd (omega arith)
+set-last (a ∷ b ∷ c ∷ d ∷ e ∷ f ∷ []) octet l = absurd (omega arith)
+set-last (a ∷ b ∷ c ∷ d ∷ e ∷ f ∷ g ∷ []) octet l = absurd (omega arith)
+set-last (a ∷ b ∷ c ∷ d ∷ e ∷ f ∷ g ∷ h ∷ i ∷ more) octet l = absurd (omega arith)
+
+pub last-step : (mode : Mode) (room octet last count : ℕ) (frame block : List ℕ) (decoding : Bool) (value : Receiver) (o : Option (List ℕ))
+    → decoding ≡ true → 7 ≤ count → count < 8 → length block ≡ 8
+    → record { mode = mode; state = (if decoding then Decoding frame (take count block) else Searching last); held = frame } ≡ value
+    → o ≡ decoded mode (set block count octet) → step value.mode room value.state octet ≡ after_block room frame o
+last-step mode room octet last count frame block decoding value o on more less l view h =
+    let at : 7 ≡ count = omega arith in
+    let s = set-last block octet l in
+    let s1 = s.1 in
+    let state : (if decoding then Decoding frame (take count block) else Searching last) ≡ Decoding frame (take 7 block) =
+    ap (λ (t : Bool). if t then Decoding frame (take count block) else Searching last) on ∙ ap (λ (n : ℕ). Decoding frame (take n block)) (sym at) in
+    let is : o ≡ decoded mode (take 7 block ++ octet ∷ []) = h ∙ ap (λ (n : ℕ). decoded mode (set block n octet)) (sym at) ∙ ap (decoded mode) s.0 in
+    subst (λ (v : Receiver). step v.mode room v.state octet ≡ after_block room frame o) view
+    (ap (λ (x : Reception). step mode room x octet) state ∙ whole-step mode room octet frame (take 7 block) (omega arith) ∙ ap (after_block room frame) (sym is))
+
+pub given-none : (room n : ℕ) (frame : List ℕ) → n ≡ length frame → (if nat_lt 0 n then frame ∷ [] else []) ≡ (after_block room frame None).1
+given-none room n [] l = ap (λ (x : ℕ). if nat_lt 0 x then [] ∷ [] else []) l
+given-none room n (f ∷ fs) l = ap (λ (t : Bool). if t then (f ∷ fs) ∷ [] else []) (lt-ltb 0 n (omega arith))
+
+-- ---- a loop over octets: one is taken
+more-drop : (os : List ℕ) (i : ℕ) → i < length os → drop i os ≡ get_or os i 0 ∷ drop (i + 1) os
+more-drop os i less = drop-cons os i 0 less ∙ ap (λ (n : ℕ). get_or os i 0 ∷ drop n os) (sym (add-one i))
+
+pub fed-state : (mode was : Mode) (room i : ℕ) (os : List ℕ) (state next target : Reception) → i < length os → mode ≡ was
+    → next ≡ (step mode room state (get_or os i 0)).0 → state_after was room state (drop i os) ≡ target → state_after was room next (drop (i + 1) os) ≡ target
+fed-state mode was room i os state next target less same_mode is h =
+    ap (λ (s : Reception). state_after was room s (drop (i + 1) os)) (is ∙ ap (λ (m : Mode). (step m room state (get_or os i 0)).0) same_mode)
+    ∙ sym (ap (state_after was room state) (more-drop os i less)) ∙ h
+
+pub fed-frames : (mode was : Mode) (room i : ℕ) (os : List ℕ) (state next : Reception) (out more target : List (List ℕ)) → i < length os → mode ≡ was
+    → next ≡ (step mode room state (get_or os i 0)).0 → more ≡ out ++ (step mode room state (get_or os i 0)).1
+    → out ++ frames_of was room state (drop i os) ≡ target → more ++ frames_of was room next (drop (i + 1) os) ≡ target
+fed-frames mode was room i os state next out more target less same_mode is given h =
+    let o = get_or os i 0 in
+    ap (λ (x : List (List ℕ)). x ++ frames_of was room next (drop (i + 1) os)) (given ∙ ap (λ (m : Mode). out ++ (step m room state o).1) same_mode)
+    ∙ ap (λ (s : Reception). out ++ (step was room state o).1 ++ frames_of was room s (drop (i + 1) os)) (is ∙ ap (λ (m : Mode). (step m room state o).0) same_mode)
+    ∙ append_assoc out (step was room state o).1 (frames_of was room (step was room state o).0 (drop (i + 1) os))
+    ∙ sym (ap (λ (x : List ℕ). out ++ frames_of was room state x) (more-drop os i less)) ∙ h
+
+pub fed-all-state : (was : Mode) (room i : ℕ) (os : List ℕ) (state target : Reception) → length os ≤ i → state_after was room state (drop i os) ≡ target → state ≡ target
+fed-all-state was room i os state target past h = sym (ap (state_after was room state) (drop_all i os past)) ∙ h
+
+pub fed-all-frames : (was : Mode) (room i : ℕ) (os : List ℕ) (state : Reception) (out target : List (List ℕ)) → length os ≤ i
+    → out ++ frames_of was room state (drop i os) ≡ target → out ≡ target
+fed-all-frames was room i os state out target past h =
+    sym (append-nil out) ∙ sym (ap (λ (x : List ℕ). out ++ frames_of was room state x) (drop_all i os past)) ∙ h
+
+-- ---- what was taken so far
+pub fed-front : (mode was : Mode) (room i : ℕ) (os : List ℕ) (first state next : Reception) → i < length os → mode ≡ was
+    → next ≡ (step mode room state (get_or os i 0)).0 → state ≡ state_after was room first (take i os) → next ≡ state_after was room first (take (i + 1) os)
+fed-front mode was room i os first state next less same_mode is at =
+    let o = get_or os i 0 in
+    is ∙ ap (λ (m : Mode). (step m room state o).0) same_mode ∙ ap (λ (s : Reception). (step was room s o).0) at
+    ∙ sym (state-append was room (take i os) (o ∷ []) first) ∙ sym (ap (state_after was room first) (take_more os i 0 less))
+
+-- and given
+pub fed-given : (was : Mode) (room i : ℕ) (os : List ℕ) (first state : Reception) (before out : List (List ℕ)) → state ≡ state_after was room first (take i os)
+    → out ++ frames_of was room state (drop i os) ≡ before ++ frames_of was room first os → out ≡ before ++ frames_of was room first (take i os)
+fed-given was room i os first state before out at h =
+    let more = frames_of was room state (drop i os) in
+    let whole : frames_of was room first os ≡ frames_of was room first (take i os) ++ more =
+    sym (ap (frames_of was room first) (take-append-drop i os)) ∙ frames-append was room (take i os) (drop i os) first
+    ∙ ap (λ (s : Reception). frames_of was room first (take i os) ++ frames_of was room s (drop i os)) (sym at) in
+    append_cancel_right out (before ++ frames_of was room first (take i os)) more
+    (h ∙ ap (λ (x : List (List ℕ)). before ++ x) whole ∙ sym (append_assoc before (frames_of was room first (take i os)) more))
+
+-- where the next octet ends a candidate frame that isn't given
+pub fed-short : (mode was : Mode) (room i : ℕ) (os : List ℕ) (first state : Reception) (held : List ℕ) → i < length os → mode ≡ was
+    → state ≡ state_after was room first (take i os) → (step mode room state (get_or os i 0)).1 ≡ held ∷ []
+    → frames_of was room first (take (i + 1) os) ≡ frames_of was room first (take i os) ++ held ∷ []
+fed-short mode was room i os first state held less same_mode at h =
+    let o = get_or os i 0 in
+    ap (frames_of was room first) (take_more os i 0 less) ∙ frames-append was room (take i os) (o ∷ []) first
+    ∙ ap (λ (x : List (List ℕ)). frames_of was room first (take i os) ++ x)
+    (append-nil (step was room (state_after was room first (take i os)) o).1 ∙ sym (ap (λ (s : Reception). (step was room s o).1) at)
+    ∙ sym (ap (λ (m : Mode). (step m room state o).1) same_mode) ∙ h)

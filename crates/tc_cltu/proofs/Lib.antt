@@ -1,0 +1,12 @@
+pub mod Each
+pub mod Linear
+pub mod Patterns
+pub mod Words
+pub mod Distance
+pub mod Taking
+pub mod Turned
+pub mod Octets
+pub mod Fill
+pub mod Decoding
+pub mod Division
+pub mod Random

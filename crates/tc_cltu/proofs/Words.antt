@@ -1,0 +1,267 @@
+-- Blocks as words of 63 bits, and what is left of them by the generator.
+use Rattle.std.proofs.Common.{◌≡◌, ℕ, zero, suc, ◌+◌, ◌-◌, ◌*◌, ◌/◌, ◌^◌, ◌<◌, ◌≤◌, Bool, true, eqb, List, [], ◌∷◌, ◌++◌, bit_xor, length, take, if◌then◌else◌, length-append, refl, ap, sym, ◌∙◌, arith, inl, inr}
+use Rattle.std.proofs.lemmas.Bool.{eqb-true, cases_lt, lt-ltb, le-ltb}
+use Rattle.std.proofs.lemmas.Nat.{xor_lt, xor_comm}
+use lib.Bits.{xor_assoc, xor_self, xor_zero_r, xor_zero_l}
+use Rattle.tc_cltu.specs.Bits.{bit, octet_bits, bits_of, IsOctets}
+use Rattle.tc_cltu.specs.CodeBlock.{times_x, with_bit, remainder, parity_of, code_block, word, turned}
+use Rattle.tc_cltu.proofs.Each.{both, each, each-holds}
+use Rattle.tc_cltu.proofs.Linear.{exchange, bit_of_sum, times_x-linear, remainder-fits}
+use Rattle.tc_cltu.proofs.Patterns.{AreBits, xors, zeros, single, xors-append, xors-zeros, xors-take, zeros-length, single-length, single-take}
+
+-- ---- octets by recursion
+abbrev pub AreOctets : List ℕ → Type 0
+AreOctets [] = Unit {0}
+AreOctets (o ∷ os) = (o < 256) × AreOctets os
+
+pub are-octets : (os : List ℕ) → IsOctets os → AreOctets os
+are-octets [] h = tt
+are-octets (o ∷ os) h = (h 0, are-octets os (λ i. h (suc i)))
+
+pub is-octets : (os : List ℕ) → AreOctets os → IsOctets os
+is-octets [] h i = omega arith
+is-octets (o ∷ os) h zero = h.0
+is-octets (o ∷ os) h (suc i) = is-octets os h.1 i
+
+-- ---- bits
+pub bits-append : (bs cs : List ℕ) → AreBits bs → AreBits cs → AreBits (bs ++ cs)
+bits-append [] cs p q = q
+bits-append (b ∷ bs) cs p q = (p.0, bits-append bs cs p.1 q)
+
+pub are-bits : (os : List ℕ) → AreBits (bits_of os)
+unfolding octet_bits
+are-bits [] = tt
+are-bits (o ∷ os) = (omega arith, (omega arith, (omega arith, (omega arith, (omega arith, (omega arith, (omega arith, (omega arith, are-bits os))))))))
+
+pub bits-length : (os : List ℕ) → length (bits_of os) ≡ 8 * length os
+unfolding octet_bits
+bits-length [] = refl
+bits-length (o ∷ os) = let rest = bits-length os in omega arith
+
+abbrev pub seven : ℕ → List ℕ
+seven o = bit o 7 ∷ bit o 6 ∷ bit o 5 ∷ bit o 4 ∷ bit o 3 ∷ bit o 2 ∷ bit o 1 ∷ []
+
+sevens : ℕ → List ℕ
+sevens h = bit h 6 ∷ bit h 5 ∷ bit h 4 ∷ bit h 3 ∷ bit h 2 ∷ bit h 1 ∷ bit h 0 ∷ []
+
+seven-half : (o : ℕ) → seven o ≡ sevens (o / 2)
+unfolding sevens
+seven-half o =
+    let a : bit o 7 ≡ bit (o / 2) 6 = omega arith in
+    let b : bit o 6 ≡ bit (o / 2) 5 = omega arith in
+    let c : bit o 5 ≡ bit (o / 2) 4 = omega arith in
+    let d : bit o 4 ≡ bit (o / 2) 3 = omega arith in
+    let e : bit o 3 ≡ bit (o / 2) 2 = omega arith in
+    let f : bit o 2 ≡ bit (o / 2) 1 = omega arith in
+    let g : bit o 1 ≡ bit (o / 2) 0 = omega arith in
+    cc
+
+seven-alike : (o p : ℕ) → o / 2 ≡ p / 2 → seven o ≡ seven p
+seven-alike o p h = seven-half o ∙ ap sevens h ∙ sym (seven-half p)
+
+pub seven-bits : (o : ℕ) → AreBits (seven o)
+seven-bits o = (omega arith, (omega arith, (omega arith, (omega arith, (omega arith, (omega arith, (omega arith, tt)))))))
+
+-- ---- division, as the bits come
+unfoldable pub left : ℕ → List ℕ → ℕ
+left r [] = r
+left r (b ∷ bs) = left (bit_xor (times_x r) b) bs
+
+unfoldable pub steps : ℕ → ℕ → ℕ
+steps zero r = r
+steps (suc n) r = steps n (times_x r)
+
+pub left-linear : (bs cs : List ℕ) (r s : ℕ) → length bs ≡ length cs → left (bit_xor r s) (xors bs cs) ≡ bit_xor (left r bs) (left s cs)
+unfolding left xors
+left-linear [] [] r s l = refl
+left-linear (b ∷ bs) (c ∷ cs) r s l =
+    ap (λ (x : ℕ). left x (xors bs cs)) (ap (λ (x : ℕ). bit_xor x (bit_xor b c)) (times_x-linear r s) ∙ exchange (times_x r) (times_x s) b c)
+    ∙ left-linear bs cs (bit_xor (times_x r) b) (bit_xor (times_x s) c) (omega arith)
+left-linear [] (c ∷ cs) r s l = absurd (omega arith)
+left-linear (b ∷ bs) [] r s l = absurd (omega arith)
+
+left-onward : (cs bs : List ℕ) (r : ℕ) → left r (cs ++ bs) ≡ left (left r cs) bs
+unfolding left
+left-onward [] bs r = refl
+left-onward (c ∷ cs) bs r = left-onward cs bs (bit_xor (times_x r) c)
+
+steps-linear : (n a b : ℕ) → steps n (bit_xor a b) ≡ bit_xor (steps n a) (steps n b)
+unfolding steps
+steps-linear zero a b = refl
+steps-linear (suc n) a b = ap (steps n) (times_x-linear a b) ∙ steps-linear n (times_x a) (times_x b)
+
+steps-turn : (n r : ℕ) → steps n (times_x r) ≡ times_x (steps n r)
+unfolding steps
+steps-turn zero r = refl
+steps-turn (suc n) r = steps-turn n (times_x r)
+
+left-zeros : (n r : ℕ) → left r (zeros n) ≡ steps n r
+unfolding left zeros steps
+left-zeros zero r = refl
+left-zeros (suc n) r = ap (λ (x : ℕ). left x (zeros n)) (xor_zero_r (times_x r)) ∙ left-zeros n (times_x r)
+
+once : (b : ℕ) → b < 2 → times_x (b * 2 ^ 6) ≡ steps 7 b
+unfolding times_x steps
+once zero less = refl
+once (suc zero) less = refl
+once (suc (suc b)) less = absurd (omega arith)
+
+-- seven places up
+up : (bs : List ℕ) (q : ℕ) → AreBits bs → remainder (steps 7 q) bs ≡ steps 7 (left q bs)
+unfolding left
+up [] q p = refl
+up (b ∷ bs) q p =
+    let one : with_bit (steps 7 q) b ≡ steps 7 (bit_xor (times_x q) b) =
+    times_x-linear (steps 7 q) (b * 2 ^ 6) ∙ ap (λ (x : ℕ). bit_xor x (times_x (b * 2 ^ 6))) (sym (steps-turn 7 q)) ∙ ap (bit_xor (steps 7 (times_x q))) (once b p.0)
+    ∙ sym (steps-linear 7 (times_x q) b) in
+    ap (λ (x : ℕ). remainder x bs) one ∙ up bs (bit_xor (times_x q) b) p.1
+
+halves : each (λ o. eqb (left 0 (seven o)) (o / 2)) 256 ≡ true
+unfolding each both left times_x
+halves = refl
+
+xors-front : (o : ℕ) → xors (zeros 7) (seven o) ≡ seven o
+unfolding xors zeros
+xors-front o =
+    let a = xor_zero_l (bit o 7) in let b = xor_zero_l (bit o 6) in let c = xor_zero_l (bit o 5) in let d = xor_zero_l (bit o 4) in
+    let e = xor_zero_l (bit o 3) in let f = xor_zero_l (bit o 2) in let g = xor_zero_l (bit o 1) in
+    cc
+
+left-seven : (o r : ℕ) → o < 256 → left r (seven o) ≡ bit_xor (steps 7 r) (o / 2)
+left-seven o r fits =
+    let z : xors (zeros 7) (seven o) ≡ seven o = xors-front o in
+    ap (λ (x : ℕ). left x (seven o)) (sym (xor_zero_r r)) ∙ ap (left (bit_xor r 0)) (sym z)
+    ∙ left-linear (zeros 7) (seven o) r 0 (zeros-length 7)
+    ∙ ap (λ (x : ℕ). bit_xor x (left 0 (seven o))) (left-zeros 7 r)
+    ∙ ap (bit_xor (steps 7 r)) (eqb-true _ _ (each-holds (λ o. eqb (left 0 (seven o)) (o / 2)) 256 halves o fits))
+
+-- ---- words
+pub word-is : (a b c d e f g last : ℕ) → word (a ∷ b ∷ c ∷ d ∷ e ∷ f ∷ g ∷ last ∷ []) ≡ bits_of (a ∷ b ∷ c ∷ d ∷ e ∷ f ∷ g ∷ []) ++ seven last
+unfolding octet_bits
+word-is a b c d e f g last = refl
+
+pub word-parts : (information : List ℕ) (last : ℕ) → length information ≡ 7 → word (information ++ last ∷ []) ≡ bits_of information ++ seven last
+word-parts (a ∷ b ∷ c ∷ d ∷ e ∷ f ∷ g ∷ []) last l = word-is a b c d e f g last
+word-parts [] last l = absurd (omega arith)
+word-parts (a ∷ []) last l = absurd (omega arith)
+word-parts (a ∷ b ∷ []) last l = absurd (omega arith)
+word-parts (a ∷ b ∷ c ∷ []) last l = absurd (omega arith)
+word-parts (a ∷ b ∷ c ∷ d ∷ []) last l = absurd (omega arith)
+word-parts (a ∷ b ∷ c ∷ d ∷ e ∷ []) last l = absurd (omega arith)
+word-parts (a ∷ b ∷ c ∷ d ∷ e ∷ f ∷ []) last l = absurd (omega arith)
+word-parts (a ∷ b ∷ c ∷ d ∷ e ∷ f ∷ g ∷ h ∷ more) last l = absurd (omega arith)
+
+steps-none : steps 7 0 ≡ 0
+unfolding steps times_x
+steps-none = refl
+
+-- what is left of a block's word
+pub word-left : (information : List ℕ) (last : ℕ) → length information ≡ 7 → last < 256
+    → left 0 (word (information ++ last ∷ [])) ≡ bit_xor (remainder 0 (bits_of information)) (last / 2)
+word-left information last l fits =
+    ap (left 0) (word-parts information last l) ∙ left-onward (bits_of information) (seven last) 0 ∙ left-seven last (left 0 (bits_of information)) fits
+    ∙ ap (λ (x : ℕ). bit_xor x (last / 2)) (sym (up (bits_of information) 0 (are-bits information)) ∙ ap (λ (x : ℕ). remainder x (bits_of information)) steps-none)
+
+-- the same seven octets, and last octets that differ in the filler bit alone
+word-alike : (information : List ℕ) (o p : ℕ) → length information ≡ 7 → o / 2 ≡ p / 2 → word (information ++ o ∷ []) ≡ word (information ++ p ∷ [])
+word-alike information o p l h =
+    word-parts information o l ∙ ap (λ (x : List ℕ). bits_of information ++ x) (seven-alike o p h) ∙ sym (word-parts information p l)
+
+pub parity-fits : (information : List ℕ) → parity_of information < 2 ^ 7
+parity-fits information = xor_lt 7 127 (remainder 0 (bits_of information)) (omega arith) (remainder-fits (bits_of information) 0 (omega arith))
+
+-- 127 is left of a code block, and of no other block with its information
+pub block-left : (information : List ℕ) → length information ≡ 7 → left 0 (word (code_block information)) ≡ 127
+block-left information l =
+    let fits = parity-fits information in
+    let r = remainder 0 (bits_of information) in
+    let half : parity_of information * 2 / 2 ≡ parity_of information = omega arith in
+    word-left information (parity_of information * 2) l (omega arith) ∙ ap (bit_xor r) half
+    ∙ ap (bit_xor r) (xor_comm 127 r) ∙ sym (xor_assoc r r 127) ∙ ap (λ (x : ℕ). bit_xor x 127) (xor_self r) ∙ xor_zero_l 127
+
+pub left-block : (information : List ℕ) (last : ℕ) → length information ≡ 7 → last < 256 → left 0 (word (information ++ last ∷ [])) ≡ 127
+    → word (information ++ last ∷ []) ≡ word (code_block information)
+left-block information last l fits h =
+    let r = remainder 0 (bits_of information) in
+    let e : bit_xor r (last / 2) ≡ 127 = sym (word-left information last l fits) ∙ h in
+    let half : last / 2 ≡ parity_of information =
+    sym (xor_zero_l (last / 2)) ∙ ap (λ (x : ℕ). bit_xor x (last / 2)) (sym (xor_self r)) ∙ xor_assoc r r (last / 2) ∙ ap (bit_xor r) e ∙ xor_comm r 127 in
+    let fits' = parity-fits information in
+    word-alike information last (parity_of information * 2) l (omega arith)
+
+-- ---- one bit the other way round
+pub octet-sum : (a b : ℕ) → octet_bits (bit_xor a b) ≡ xors (octet_bits a) (octet_bits b)
+unfolding octet_bits xors
+octet-sum a b =
+    let a0 = bit_of_sum a b 0 in let a1 = bit_of_sum a b 1 in let a2 = bit_of_sum a b 2 in let a3 = bit_of_sum a b 3 in
+    let a4 = bit_of_sum a b 4 in let a5 = bit_of_sum a b 5 in let a6 = bit_of_sum a b 6 in let a7 = bit_of_sum a b 7 in
+    cc
+
+octet-one : (k : ℕ) → k < 8 → octet_bits (2 ^ (7 - k)) ≡ single k 8
+unfolding octet_bits single zeros
+octet-one zero less = refl
+octet-one (suc zero) less = refl
+octet-one (suc (suc zero)) less = refl
+octet-one (suc (suc (suc zero))) less = refl
+octet-one (suc (suc (suc (suc zero)))) less = refl
+octet-one (suc (suc (suc (suc (suc zero))))) less = refl
+octet-one (suc (suc (suc (suc (suc (suc zero)))))) less = refl
+octet-one (suc (suc (suc (suc (suc (suc (suc zero))))))) less = refl
+octet-one (suc (suc (suc (suc (suc (suc (suc (suc k)))))))) less = absurd (omega arith)
+
+zeros-front : (m n : ℕ) → zeros (m + n) ≡ zeros m ++ zeros n
+unfolding zeros
+zeros-front zero n = let e : 0 + n ≡ n = omega arith in ap zeros e
+zeros-front (suc m) n = let e : suc m + n ≡ suc (m + n) = omega arith in ap zeros e ∙ ap (λ (x : List ℕ). 0 ∷ x) (zeros-front m n)
+
+single-front : (k m n : ℕ) → k < m → single k (m + n) ≡ single k m ++ zeros n
+unfolding single
+single-front k zero n less = absurd (omega arith)
+single-front zero (suc m) n less =
+    let e : suc m + n ≡ suc (m + n) = omega arith in ap (single 0) e ∙ ap (λ (x : List ℕ). 1 ∷ x) (zeros-front m n)
+single-front (suc k) (suc m) n less =
+    let e : suc m + n ≡ suc (m + n) = omega arith in ap (single (suc k)) e ∙ ap (λ (x : List ℕ). 0 ∷ x) (single-front k m n (omega arith))
+
+single-back : (k m n : ℕ) → m ≤ k → single k (m + n) ≡ zeros m ++ single (k - m) n
+unfolding single zeros
+single-back k zero n less =
+    let e : 0 + n ≡ n = omega arith in let f : k ≡ k - 0 = omega arith in ap (single k) e ∙ ap (λ (x : ℕ). single x n) f
+single-back zero (suc m) n less = absurd (omega arith)
+single-back (suc k) (suc m) n less =
+    let e : suc m + n ≡ suc (m + n) = omega arith in
+    let f : k - m ≡ suc k - suc m = omega arith in
+    ap (single (suc k)) e ∙ ap (λ (x : List ℕ). 0 ∷ x) (single-back k m n (omega arith)) ∙ ap (λ (x : ℕ). 0 ∷ (zeros m ++ single x n)) f
+
+eight : (o : ℕ) → length (octet_bits o) ≡ 8
+unfolding octet_bits
+eight o = refl
+
+octet-same : (o : ℕ) → xors (octet_bits o) (zeros 8) ≡ octet_bits o
+octet-same o = ap (λ (n : ℕ). xors (octet_bits o) (zeros n)) (sym (eight o)) ∙ xors-zeros (octet_bits o)
+
+pub bits-turned : (os : List ℕ) (k n : ℕ) → length (bits_of os) ≡ n → k < n → bits_of (turned os k) ≡ xors (bits_of os) (single k n)
+bits-turned [] k n l less = absurd (omega arith)
+bits-turned (o ∷ os) k n l less =
+    let m = length (bits_of os) in
+    let total : n ≡ 8 + m = sym l ∙ length-append (octet_bits o) (bits_of os) ∙ ap (λ (x : ℕ). x + m) (eight o) in
+    elim (cases_lt k 8) [
+      | inl low ↦
+          ap (λ (t : Bool). bits_of (if t then bit_xor o (2 ^ (7 - k)) ∷ os else o ∷ turned os (k - 8))) (lt-ltb k 8 low)
+          ∙ ap (λ (x : List ℕ). x ++ bits_of os) (octet-sum o (2 ^ (7 - k)) ∙ ap (xors (octet_bits o)) (octet-one k low))
+          ∙ ap (λ (x : List ℕ). xors (octet_bits o) (single k 8) ++ x) (sym (xors-zeros (bits_of os)))
+          ∙ sym (xors-append (octet_bits o) (bits_of os) (single k 8) (zeros m) (eight o ∙ sym (single-length k 8)))
+          ∙ ap (xors (octet_bits o ++ bits_of os)) (sym (ap (single k) total ∙ single-front k 8 m low))
+      | inr high ↦
+          ap (λ (t : Bool). bits_of (if t then bit_xor o (2 ^ (7 - k)) ∷ os else o ∷ turned os (k - 8))) (le-ltb k 8 high)
+          ∙ ap (λ (x : List ℕ). octet_bits o ++ x) (bits-turned os (k - 8) m refl (omega arith))
+          ∙ ap (λ (x : List ℕ). x ++ xors (bits_of os) (single (k - 8) m)) (sym (octet-same o))
+          ∙ sym (xors-append (octet_bits o) (bits_of os) (zeros 8) (single (k - 8) m) (eight o ∙ sym (zeros-length 8)))
+          ∙ ap (xors (octet_bits o ++ bits_of os)) (sym (ap (single k) total ∙ single-back k 8 m high))
+    ]
+
+-- of a whole block
+pub word-turned : (block : List ℕ) (k : ℕ) → length block ≡ 8 → k < 63 → word (turned block k) ≡ xors (word block) (single k 63)
+word-turned block k l less =
+    let n : length (bits_of block) ≡ 64 = bits-length block ∙ ap (λ (x : ℕ). 8 * x) l in
+    ap (take 63) (bits-turned block k 64 n (omega arith)) ∙ xors-take 63 (bits_of block) (single k 64)
+    ∙ ap (xors (word block)) (single-take k 63 64 (omega arith))

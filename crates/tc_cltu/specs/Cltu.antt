@@ -1,0 +1,41 @@
+-- Communications link transmission units (CLTUs, CCSDS 231.0-B).
+use Rattle.std.specs.Prelude.{ℕ, ◌==◌, List, [], ◌∷◌, ◌++◌, length, take, Option, Some, None, nat_lt, if◌then◌else◌}
+use Rattle.tc_cltu.specs.CodeBlock.{code_block}
+use Rattle.tc_cltu.specs.declared.writer.CltuFault.{CltuFault}
+use Rattle.tc_cltu.specs.declared.writer.CltuFault.TheVariants.{Empty, TooLong}
+
+abbrev pub start_sequence : List ℕ
+start_sequence = 0xEB ∷ 0x90 ∷ []
+
+-- a block that no mode takes
+abbrev pub tail_sequence : List ℕ
+tail_sequence = 0xC5 ∷ 0xC5 ∷ 0xC5 ∷ 0xC5 ∷ 0xC5 ∷ 0xC5 ∷ 0xC5 ∷ 0x79 ∷ []
+
+-- as many octets of fill as a code block may need
+abbrev pub fill : List ℕ
+fill = 0x55 ∷ 0x55 ∷ 0x55 ∷ 0x55 ∷ 0x55 ∷ 0x55 ∷ []
+
+-- octets, with fill up to a whole number of sevens
+abbrev pub filled : List ℕ → List ℕ
+filled [] = []
+filled (a ∷ b ∷ c ∷ d ∷ e ∷ f ∷ g ∷ rest) = a ∷ b ∷ c ∷ d ∷ e ∷ f ∷ g ∷ filled rest
+filled octets = take 7 (octets ++ fill)
+
+-- the code blocks of each seven octets
+abbrev pub code_blocks : List ℕ → List ℕ
+code_blocks (a ∷ b ∷ c ∷ d ∷ e ∷ f ∷ g ∷ rest) = code_block (a ∷ b ∷ c ∷ d ∷ e ∷ f ∷ g ∷ []) ++ code_blocks rest
+code_blocks _ = []
+
+abbrev pub cltu : List ℕ → List ℕ
+cltu frame = start_sequence ++ code_blocks (filled frame) ++ tail_sequence
+
+-- as many octets as a CLTU carries here at most: those of 147 code blocks, which the longest frame needs
+abbrev pub most_octets : ℕ
+most_octets = 1029
+
+-- why octets get no CLTU
+abbrev pub fault_of : List ℕ → Option CltuFault
+fault_of frame =
+    if length frame == 0 then Some Empty
+    else if nat_lt most_octets (length frame) then Some TooLong
+    else None

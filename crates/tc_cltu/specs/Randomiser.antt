@@ -1,0 +1,32 @@
+-- The randomiser (CCSDS 231.0-B): h(x) = x ^ 8 + x ^ 6 + x ^ 4 + x ^ 3 + x ^ 2 + x + 1, and all ones at the start.
+use Rattle.std.specs.Prelude.{ℕ, zero, suc, ◌+◌, ◌*◌, ◌%◌, ◌^◌, List, [], ◌∷◌, bit_xor}
+use Rattle.tc_cltu.specs.Bits.{bit}
+
+-- The register is the next eight bits of the sequence, the first as its most significant bit. Bit n + 8 of the sequence is the
+-- sum of bits n + 6, n + 4, n + 3, n + 2, n + 1 and n.
+unfoldable pub next_bit : ℕ → ℕ
+next_bit r = (bit r 1 + bit r 3 + bit r 4 + bit r 5 + bit r 6 + bit r 7) % 2
+
+unfoldable pub moved_on : ℕ → ℕ
+moved_on r = r * 2 % 2 ^ 8 + next_bit r
+
+-- eight bits on
+unfoldable pub octet_on : ℕ → ℕ
+octet_on r = moved_on (moved_on (moved_on (moved_on (moved_on (moved_on (moved_on (moved_on r)))))))
+
+-- octets, to which the sequence from the register on is added
+abbrev pub randomised_from : ℕ → List ℕ → List ℕ
+randomised_from r [] = []
+randomised_from r (o ∷ os) = bit_xor o r ∷ randomised_from (octet_on r) os
+
+abbrev pub randomised : List ℕ → List ℕ
+randomised octets = randomised_from 0xff octets
+
+-- the sequence from the register on: its octets, and its bits
+abbrev pub random_octets : ℕ → ℕ → List ℕ
+random_octets r zero = []
+random_octets r (suc n) = r ∷ random_octets (octet_on r) n
+
+abbrev pub random_bits : ℕ → ℕ → List ℕ
+random_bits r zero = []
+random_bits r (suc n) = bit r 7 ∷ random_bits (moved_on r) n

@@ -1,0 +1,69 @@
+-- The receiving end (CCSDS 231.0-B): it searches for a start sequence, and then decodes code blocks until it rejects one.
+use Rattle.std.specs.Prelude.{◌≡◌, ℕ, zero, suc, ◌+◌, ◌<◌, ◌≤◌, ◌==◌, ◌&&◌, List, [], ◌∷◌, ◌++◌, length, take, Option, Some, None, nat_lt, if◌then◌else◌}
+use Rattle.tc_cltu.specs.CodeBlock.{decoded}
+use Rattle.tc_cltu.specs.declared.block.Mode.{Mode}
+
+-- searching, with the last octet that came (0 at first); or decoding, with the octets of the blocks that were taken, and what has
+-- come of the next block
+pub data Reception : Type 0 where
+  Searching : ℕ → Reception
+  Decoding : List ℕ → List ℕ → Reception
+
+-- the receiving end after an octet, and the candidate frames that this octet ends
+abbrev pub Step : Type 0
+Step = Reception × List (List ℕ)
+
+-- after a whole block: what it carries is taken while there is room for it. A block that is rejected ends a candidate frame, if there
+-- were blocks before it; one that finds no room ends none
+abbrev pub after_block : ℕ → List ℕ → Option (List ℕ) → Step
+after_block room frame (Some information) = if nat_lt room (length frame + 7) then (Searching 0, []) else (Decoding (frame ++ information) [], [])
+after_block room [] None = (Searching 0, [])
+after_block room (o ∷ frame) None = (Searching 0, (o ∷ frame) ∷ [])
+
+abbrev pub step : Mode → ℕ → Reception → ℕ → Step
+step mode room (Searching last) octet = if last == 0xEB && octet == 0x90 then (Decoding [] [], []) else (Searching octet, [])
+step mode room (Decoding frame block) octet =
+    if nat_lt (length block) 7 then (Decoding frame (block ++ octet ∷ []), [])
+    else after_block room frame (decoded mode (block ++ octet ∷ []))
+
+-- after many octets: where it is, and all candidate frames
+abbrev pub state_after : Mode → ℕ → Reception → List ℕ → Reception
+state_after mode room state [] = state
+state_after mode room state (octet ∷ octets) = state_after mode room (step mode room state octet).0 octets
+
+abbrev pub frames_of : Mode → ℕ → Reception → List ℕ → List (List ℕ)
+frames_of mode room state [] = []
+frames_of mode room state (octet ∷ octets) = (step mode room state octet).1 ++ frames_of mode room (step mode room state octet).0 octets
+
+-- what contracts see of a decoder: how it takes code blocks, where it is, and the octets of the blocks that it has taken since the last
+-- start sequence
+pub record Receiver : Type 0 where
+  pub mode : Mode
+  pub state : Reception
+  pub held : List ℕ
+
+-- memory ran out at the end of a candidate frame: the octets up to there were taken, all candidates before it were given, and it is held
+pub record StopsShort (room : ℕ) (before after : Receiver) (octets : List ℕ) (given : List (List ℕ)) : Type 0 where
+  pub count : ℕ
+  pub within : count ≤ length octets
+  pub state : after.state ≡ state_after before.mode room before.state (take count octets)
+  pub frames : frames_of before.mode room before.state (take count octets) ≡ given ++ after.held ∷ []
+
+-- no start sequence is in the octets, nor begins with the one before them
+abbrev pub HasNoStart : ℕ → List ℕ → Type 0
+HasNoStart last [] = Unit {0}
+HasNoStart last (o ∷ os) = (last ≡ 0xEB → o ≡ 0x90 → ⊥) × HasNoStart o os
+
+abbrev pub IsSearching : Reception → Type 0
+IsSearching (Searching last) = Unit {0}
+IsSearching (Decoding frame block) = ⊥
+
+-- a state that the receiving end can be in: less than a block waits
+abbrev pub IsReception : Reception → Type 0
+IsReception (Searching last) = Unit {0}
+IsReception (Decoding frame block) = length block < 8
+
+-- so many octets of the idle sequence
+abbrev pub idle : ℕ → List ℕ
+idle zero = []
+idle (suc n) = 0x55 ∷ idle n

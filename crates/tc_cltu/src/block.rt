@@ -1,0 +1,96 @@
+//! Code blocks.
+
+ghost use Rattle.std.specs.Prelude.{◌≡◌, ◌+◌, ◌<◌, ◌≤◌, ◌++◌, ◌∷◌, [], ℕ, List, Some, None, length, IfSome, MatchOption};
+ghost use Rattle.tc_cltu.specs.Bits.{IsOctets};
+ghost use Rattle.tc_cltu.specs.CodeBlock.{parity_of, code_block, decoded, errors, most_errors, turned, IsInformation};
+
+use crate::tables::{PLACES, REMAINDERS};
+
+/// What becomes of a code block with wrong bits.
+#[derive(Clone, Copy, Debug, PartialEq, Eq)]
+pub enum Mode {
+    /// It is rejected: one to three wrong bits are always detected (triple error detection).
+    Detect,
+    /// One wrong bit is corrected, and two are always detected (single error correction).
+    Correct,
+}
+
+// The seven parity bits over octets.
+pub(crate) fn parity(octets: &[u8]) -> u8
+    ensures bits { result ≡ parity_of octets.now }
+    ensures fits { result < 128 }
+    ensures each { IsOctets octets.now }
+{
+    let mut rest: u8 = 0;
+    for octet in octets {
+        rest = REMAINDERS[usize::from((rest << 1) ^ *octet)];
+    }
+    rest ^ 0x7f
+}
+
+/// The code block that carries seven octets: these, the seven parity bits, and a filler bit 0 (CCSDS 231.0-B).
+pub fn encode_block(information: [u8; 7]) -> [u8; 8]
+    ensures { result ≡ code_block information }
+{
+    let [a, b, c, d, e, f, g] = information;
+    [a, b, c, d, e, f, g, parity(&information) << 1]
+}
+
+/// The seven octets that a code block carries, or none if it has more wrong bits than the mode allows.
+///
+/// Wrong bits are counted among the 63 before the filler bit, which isn't looked at.
+pub fn decode_block(block: [u8; 8], mode: Mode) -> Option<[u8; 7]>
+    ensures decoded { result ≡ decoded mode block }
+    ensures found { IfSome result (λ information. IsInformation information × (errors block information ≤ most_errors mode)) }
+    ensures taken { (information : List ℕ) → IsInformation information → errors block information ≤ most_errors mode → result ≡ Some information }
+    ensures refused { (information : List ℕ) → IsInformation information → most_errors mode < errors block information
+        → errors block information + most_errors mode ≤ 3 → result ≡ None }
+{
+    read_block(block, mode)
+}
+
+// The same, and that the block is seven octets and one more.
+fn read_block(block: [u8; 8], mode: Mode) -> Option<[u8; 7]>
+    ensures decoded { result ≡ decoded mode block }
+    ensures parts { (own : List ℕ) × (last : ℕ) × IsInformation own × (block ≡ own ++ last ∷ []) }
+{
+    let [a, b, c, d, e, f, g, last] = block;
+    let mut information = [a, b, c, d, e, f, g];
+    match place_of_error(&information, last, mode) {
+        None => None,
+        Some(place) => {
+            turn(&mut information, place);
+            Some(information)
+        }
+    }
+}
+
+// Which bit of the seven octets and the last one of a block is to be turned: one past the octets where there is none.
+fn place_of_error(own: &[u8], last: u8, mode: Mode) -> Option<u8>
+    requires { length own.now ≡ 7 }
+    ensures place { MatchOption result (decoded mode (own.now ++ last ∷ []) ≡ None) (λ place. decoded mode (own.now ++ last ∷ []) ≡ Some (turned own.now place)) }
+    ensures each { IsInformation own.now }
+{
+    let syndrome = parity(own) ^ (last >> 1);
+    if syndrome == 0 {
+        return Some(63);
+    }
+    match mode {
+        Mode::Detect => None,
+        Mode::Correct => {
+            let place = PLACES[usize::from(syndrome)];
+            if place < 63 { Some(place) } else { None }
+        }
+    }
+}
+
+// One bit the other way round, if it is there.
+fn turn(octets: &mut [u8], place: u8)
+    ensures { octets.new ≡ turned octets.old place }
+{
+    let at = usize::from(place / 8);
+    if at >= octets.len() {
+        return;
+    }
+    octets[at] ^= 0x80 >> (place % 8);
+}

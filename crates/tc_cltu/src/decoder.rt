@@ -1,0 +1,152 @@
+//! The receiving end.
+
+ghost use Rattle.std.specs.Prelude.{◌≡◌, ◌++◌, ◌∷◌, [], List, ℕ, map, IfOk, OnOk, OnErr, if◌then◌else◌};
+ghost use Rattle.tc_cltu.specs.Cltu.{most_octets};
+ghost use Rattle.tc_cltu.specs.Reception.{Receiver, Searching, StopsShort, step, state_after, frames_of};
+
+use crate::block::{Mode, decode_block};
+use crate::writer::MOST_OCTETS;
+use std::alloc::{AllocError, Global};
+use std::marker::Model;
+
+/// Finds CLTUs in a stream of octets, and gives what each carries: a candidate frame, with fill behind it.
+///
+/// It looks for the whole start sequence, without a wrong bit. What follows is decoded until a code block is rejected, which the
+/// tail sequence is in each mode. A CLTU that carries more than [`MOST_OCTETS`] gives nothing.
+#[derive(Drop)]
+pub struct Decoder {
+    mode: Mode,
+    decoding: bool,
+    // the octet before, while a start sequence is looked for
+    last: u8,
+    frame: Vec<u8>,
+    block: [u8; 8],
+    count: usize,
+}
+
+impl Model for Decoder {
+    ghost use Rattle.std.specs.Prelude.{◌≡◌, ◌<◌, ◌≤◌, take, vec_capacity, if◌then◌else◌};
+    ghost use Rattle.tc_cltu.specs.Cltu.{most_octets};
+    ghost use Rattle.tc_cltu.specs.Reception.{Receiver, Searching, Decoding};
+
+    ghost Value = { Receiver };
+
+    ghost view = { λ d. record {
+      mode = d.mode;
+      state = (if d.decoding then Decoding d.frame.items (take d.count d.block) else Searching d.last);
+      held = d.frame.items;
+    } };
+
+    ghost invariant = { λ d. (d.count < 8) × (most_octets ≤ vec_capacity d.frame) };
+}
+
+impl Decoder {
+    /// A decoder that searches. This asks for memory, for what a CLTU carries.
+    pub fn new(alloc: Global, mode: Mode) -> Result<Decoder, AllocError>
+        ensures { IfOk result (λ decoder. decoder ≡ record { mode = mode; state = Searching 0; held = [] }) }
+    {
+        let frame = Vec::with_capacity(alloc, MOST_OCTETS)?;
+        Ok(Decoder {
+            mode,
+            decoding: false,
+            last: 0,
+            frame,
+            block: [0; 8],
+            count: 0,
+        })
+    }
+
+    /// Takes the next octet of the stream. True if it ends a candidate frame, which [`held`](Decoder::held) lends then.
+    ///
+    /// It asks for no memory.
+    pub fn feed_octet(&mut self, octet: u8) -> bool
+        ensures mode { self.new.mode ≡ self.old.mode }
+        ensures state { self.new.state ≡ (step self.old.mode most_octets self.old.state octet).0 }
+        ensures given { (if result then self.new.held ∷ [] else []) ≡ (step self.old.mode most_octets self.old.state octet).1 }
+    {
+        if !self.decoding {
+            if self.last == 0xeb && octet == 0x90 {
+                self.decoding = true;
+                self.frame.clear();
+                self.count = 0;
+            } else {
+                self.last = octet;
+            }
+            return false;
+        }
+        self.block[self.count] = octet;
+        if self.count < 7 {
+            self.count += 1;
+            return false;
+        }
+        self.count = 0;
+        match decode_block(self.block, self.mode) {
+            None => {
+                self.decoding = false;
+                self.last = 0;
+                self.frame.len() > 0
+            }
+            Some(information) => {
+                if self.frame.len() + 7 <= MOST_OCTETS {
+                    self.frame.extend_from_slice(&information).unwrap();
+                } else {
+                    self.decoding = false;
+                    self.last = 0;
+                }
+                false
+            }
+        }
+    }
+
+    /// What the code blocks carried that were taken since the last start sequence: a candidate frame, if the last octet ended one.
+    pub fn held(&self) -> &[u8]
+        ensures { result.now ≡ self.now.held }
+    {
+        &self.frame
+    }
+
+    /// Takes the next piece of the stream, of any length, and adds a copy of each candidate frame that ends in it.
+    ///
+    /// At `Err` the octets up to the end of a candidate frame were taken. All before it were added, and [`held`](Decoder::held) lends
+    /// it.
+    pub fn feed(
+        &mut self,
+        alloc: Global,
+        frames: &mut Vec<Vec<u8>>,
+        piece: &[u8],
+    ) -> Result<(), AllocError>
+        ensures mode { self.new.mode ≡ self.old.mode }
+        ensures state { OnOk result (self.new.state ≡ state_after self.old.mode most_octets self.old.state piece.now) }
+        ensures short { OnErr result ((given : List (List ℕ)) × (map (λ frame. frame.items) frames.new.items ≡ map (λ frame. frame.items) frames.old.items ++ given)
+            × StopsShort most_octets self.old self.new piece.now given) }
+        ensures frames { OnOk result (map (λ frame. frame.items) frames.new.items
+            ≡ map (λ frame. frame.items) frames.old.items ++ frames_of self.old.mode most_octets self.old.state piece.now) }
+    {
+        for octet in piece {
+            self.keep(alloc, frames, *octet)?;
+        }
+        Ok(())
+    }
+
+    // Takes an octet, and adds the candidate frame that it ends.
+    fn keep(
+        &mut self,
+        alloc: Global,
+        frames: &mut Vec<Vec<u8>>,
+        octet: u8,
+    ) -> Result<(), AllocError>
+        ensures mode { self.new.mode ≡ self.old.mode }
+        ensures state { self.new.state ≡ (step self.old.mode most_octets self.old.state octet).0 }
+        ensures unchanged { OnErr result (map (λ frame. frame.items) frames.new.items ≡ map (λ frame. frame.items) frames.old.items) }
+        ensures held { OnErr result ((step self.old.mode most_octets self.old.state octet).1 ≡ self.new.held ∷ []) }
+        ensures frames { OnOk result (map (λ frame. frame.items) frames.new.items
+            ≡ map (λ frame. frame.items) frames.old.items ++ (step self.old.mode most_octets self.old.state octet).1) }
+    {
+        if !self.feed_octet(octet) {
+            return Ok(());
+        }
+        let frame = Vec::from_slice(alloc, self.held())?;
+        frames.push(frame)?;
+        Ok(())
+    }
+}

@@ -1,0 +1,21 @@
+//! The randomiser.
+
+ghost use Rattle.std.specs.Prelude.{◌≡◌};
+ghost use Rattle.tc_cltu.specs.Randomiser.{randomised};
+
+use crate::tables::NEXT_OCTETS;
+
+/// Adds the random sequence, from its start on, to the octets that code blocks are to carry, or have carried (CCSDS 231.0-B).
+/// Added twice, it changes nothing.
+///
+/// No CLTU is randomised by itself: a sender calls this before [`write_cltu`](crate::write_cltu), a receiver with each candidate
+/// frame.
+pub fn randomise(octets: &mut [u8])
+    ensures { octets.new ≡ randomised octets.old }
+{
+    let mut register: u8 = 0xff;
+    for i in 0..octets.len() {
+        octets[i] ^= register;
+        register = NEXT_OCTETS[usize::from(register)];
+    }
+}

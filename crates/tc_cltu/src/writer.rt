@@ -1,0 +1,107 @@
+//! CLTUs, as they are sent.
+
+ghost use Rattle.std.specs.Prelude.{◌≡◌, ◌+◌, ◌*◌, ◌/◌, ◌<◌, ◌≤◌, ◌++◌, None, length, vec_len, vec_capacity, unwrap_or, IfOk, IfErr, OnOk};
+ghost use Rattle.tc_cltu.specs.CodeBlock.{code_block};
+ghost use Rattle.tc_cltu.specs.Cltu.{cltu, filled, code_blocks, most_octets, fault_of};
+
+use crate::block::parity;
+use std::alloc::{AllocError, Global};
+use thiserror::Error;
+
+/// As many octets as a CLTU carries at most, fill included: those of 147 code blocks. The longest frame, of 1,024 octets, needs as
+/// many.
+pub const MOST_OCTETS: usize = 1029;
+
+const START: [u8; 2] = [0xeb, 0x90];
+
+const TAIL: [u8; 8] = [0xc5, 0xc5, 0xc5, 0xc5, 0xc5, 0xc5, 0xc5, 0x79];
+
+/// Why octets get no CLTU: the first of these that applies.
+#[derive(Clone, Copy, Debug, PartialEq, Eq, Error)]
+pub enum CltuFault {
+    /// A CLTU carries at least one octet.
+    #[error("no octets")]
+    Empty,
+    /// A [`Decoder`](crate::Decoder) has room for [`MOST_OCTETS`].
+    #[error("more than 1,029 octets")]
+    TooLong,
+    #[error("no memory")]
+    NoMemory,
+}
+
+/// The CLTU that carries a frame, or other octets: the start sequence, the code blocks, with fill in the last one where it needs
+/// some, and the tail sequence.
+///
+/// The only allocation is the CLTU.
+pub fn write_cltu(alloc: Global, frame: &[u8]) -> Result<Vec<u8>, CltuFault>
+    ensures octets { IfOk result (λ made. made.items ≡ cltu frame.now) }
+    ensures made { OnOk result (fault_of frame.now ≡ None) }
+    ensures refused { IfErr result (λ fault. fault ≡ unwrap_or (fault_of frame.now) CltuFault.NoMemory) }
+{
+    if frame.is_empty() {
+        return Err(CltuFault::Empty);
+    }
+    if frame.len() > MOST_OCTETS {
+        return Err(CltuFault::TooLong);
+    }
+    let Ok(made) = coded(alloc, frame) else {
+        return Err(CltuFault::NoMemory);
+    };
+    Ok(made)
+}
+
+// The CLTU. Room for all of it is asked for at first.
+fn coded(alloc: Global, frame: &[u8]) -> Result<Vec<u8>, AllocError>
+    requires { length frame.now ≤ most_octets }
+    ensures { IfOk result (λ made. made.items ≡ cltu frame.now) }
+{
+    let blocks = (frame.len() + 6) / 7;
+    let mut made = Vec::with_capacity(alloc, 8 * blocks + 10)?;
+    made.extend_from_slice(&START).unwrap();
+    let mut rest = frame;
+    while rest.len() >= 7 {
+        let (seven, others) = rest.split_at(7);
+        push_block(&mut made, seven);
+        rest = others;
+    }
+    push_last(&mut made, rest);
+    made.extend_from_slice(&TAIL).unwrap();
+    Ok(made)
+}
+
+// Adds the code block of what is left, with its fill, if anything is left.
+fn push_last(made: &mut Vec<u8>, octets: &[u8])
+    requires few { length octets.now < 7 }
+    requires room { vec_len made.old + 8 * ((length octets.now + 6) / 7) + 8 ≤ vec_capacity made.old }
+    ensures items { made.new.items ≡ made.old.items ++ code_blocks (filled octets.now) }
+    ensures room { vec_len made.new + 8 ≤ vec_capacity made.new }
+{
+    if octets.is_empty() {
+        return;
+    }
+    push_block(made, &with_fill(octets));
+}
+
+// Adds the code block of seven octets.
+fn push_block(made: &mut Vec<u8>, information: &[u8])
+    requires seven { length information.now ≡ 7 }
+    requires room { vec_len made.old + 8 ≤ vec_capacity made.old }
+    ensures items { made.new.items ≡ made.old.items ++ code_block information.now }
+    ensures len { vec_len made.new ≡ vec_len made.old + 8 }
+    ensures capacity { vec_capacity made.old ≤ vec_capacity made.new }
+{
+    made.extend_from_slice(information).unwrap();
+    made.extend_from_slice(&[parity(information) << 1]).unwrap();
+}
+
+// One to six octets, and fill behind them.
+fn with_fill(octets: &[u8]) -> [u8; 7]
+    requires some { 0 < length octets.now }
+    requires few { length octets.now < 7 }
+    ensures octets { result ≡ filled octets.now }
+    ensures seven { length result ≡ 7 }
+{
+    let mut information = [0x55; 7];
+    information[..octets.len()].copy_from_slice(octets);
+    information
+}
