@@ -1,0 +1,175 @@
+"""What c/tcrx.h declares, for those that make something of it: its parts with their constants, records and calls, and the words that
+its comments say of them.
+
+The comments are read as doxygen reads them: @file, @brief, @par, @defgroup with @{ and @}, @param, @return, @copydoc, and what is
+between @cond and @endcond is left out. A comment behind a field or a constant is about that one.
+"""
+from __future__ import annotations
+
+import re
+from dataclasses import dataclass, field
+from typing import Dict, List, NamedTuple, Tuple
+
+COMMENT = r"/\*[*!]?(?!\<)(?P<comment>.*?)\*/"
+DEFINE = r"^#define[ \t]+(?P<macro>TCRX_\w+)(?P<value>(?:[^\n\\]|\\\n)+)"
+STRUCT = r"^typedef struct \{(?P<fields>[^}]*)\} (?P<record>\w+);"
+ALIAS = r"^typedef (?P<kind>\w+) (?P<alias>\w+);"
+ENUM = r"^enum \{(?P<constants>[^}]*)\};"
+CALL = r"^(?:static inline )?(?P<call>\w[\w ]*? \*?tcrx_\w+\([^)]*\))(?:;| \{\n.*?^\})"
+BEHIND = r"[ \t]*(?:/\*\*?<?(.*?)\*/)?"
+# What goes by other names where the words are read than in the comments.
+IN_CODE = re.compile(r"(`[^`]+`)|#?\b((?:tcrx|TCRX|rattle)_\w+(?:\.[ch]\b)?|\w+\.[acho]\b)(?:\(\))?")
+
+
+@dataclass
+class Item:
+    """What a comment is about: its kind, its text in the header, and what the comment says."""
+
+    kind: str
+    text: str
+    comment: str
+    parts: List[Tuple[str, str, str]] = field(default_factory=list)
+    """The constants with their values, or the fields with their types, each with what is said of it."""
+
+    def parameters(self) -> List[Tuple[str, str]]:
+        """The parameters of a call, each with what is said of it, if that is more than its name."""
+        found = re.findall(r"^@param (\w+)\s+(.*?)(?=^@|\Z)", self.comment, re.M | re.S)
+        return [(name, sentence(told)) for name, told in found if told.strip().lower() != f"the {name}"]
+
+
+@dataclass
+class Group:
+    """A part of the header."""
+
+    title: str
+    comment: str
+    items: List[Item] = field(default_factory=list)
+
+
+def uncommented(text: str) -> str:
+    """The words of a comment, paragraphs separated by an empty line."""
+    lines = [re.sub(r"^\s*\*? ?", "", line).rstrip() for line in text.strip().split("\n")]
+    return "\n".join(lines).strip()
+
+
+def constants_of(body: str) -> List[Tuple[str, str, str]]:
+    """The constants of an enumeration, with their values and comments."""
+    found = re.findall(r"(TCRX_\w+) = (\d+),?" + BEHIND, body, re.S)
+    return [(name, value, uncommented(comment)) for name, value, comment in found]
+
+
+def fields_of(body: str) -> List[Tuple[str, str, str]]:
+    """The fields of a record, with their types and comments."""
+    found = re.findall(r"^ *(\w+ \*?)(\w+);" + BEHIND, body, re.M | re.S)
+    return [(name, kind.strip(), uncommented(comment)) for kind, name, comment in found]
+
+
+def item_of(found: "re.Match[str]", comment: str) -> Item:
+    """An item, by the pattern that found it."""
+    if found["macro"] and found["value"].startswith("("):
+        return Item("call", found["macro"] + found["value"].partition(")")[0] + ")", comment)
+    if found["macro"]:
+        parted = re.fullmatch(r"(.*?)" + BEHIND + r"\s*", found["value"].replace("\\\n", " "), re.S)
+        assert parted
+        value, behind = parted.groups()
+        told = uncommented(behind or "") or comment
+        return Item("macro", found["macro"], comment, [(found["macro"], " ".join(value.split()), told)])
+    if found["record"]:
+        return Item("record", found["record"], comment, fields_of(found["fields"]))
+    if found["alias"]:
+        return Item("record", found["alias"], comment, [])
+    if found["constants"]:
+        return Item("constants", "", comment, constants_of(found["constants"]))
+    return Item("call", " ".join(found["call"].split()), comment)
+
+
+def groups_of(header: str) -> Tuple[str, List[Group]]:
+    """What the comment of the file says, and the parts of the header. What is in no group is in one without a title."""
+    header = re.sub(r"/\*\* @cond \*/.*?/\*\* @endcond \*/", "", header, flags=re.S)
+    front, groups, comment, end = "", [Group("", "")], "", 0
+    for found in re.finditer("|".join((COMMENT, DEFINE, STRUCT, ALIAS, ENUM, CALL)), header, re.M | re.S):
+        near = header[end : found.start()].strip() == ""
+        end = found.end()
+        if found["comment"] is None:
+            groups[-1].items.append(item_of(found, comment if near else ""))
+            comment = ""
+            continue
+        comment = uncommented(found["comment"])
+        if not front:
+            front = comment
+        elif opens := re.search(r"@defgroup \w+ (.*)", comment):
+            groups.append(Group(opens[1], re.sub(r"@defgroup .*|@\{", "", comment).strip()))
+        elif "@}" in comment:
+            groups.append(Group("", ""))
+    return front, [group for group in groups if group.items]
+
+
+def prose(text: str) -> str:
+    """A comment's words as Markdown, on one line."""
+    text = re.sub(r"@(?:brief|file \S+)", "", text)
+    return " ".join(IN_CODE.sub(lambda found: found[1] or f"`{found[2]}`", text).split())
+
+
+def sentence(text: str) -> str:
+    """A comment's words by themselves."""
+    return prose(text).rstrip(".") if text.count(". ") == 0 else prose(text)
+
+
+def name_of(item: Item) -> str:
+    """The name of a call."""
+    return re.split(r"\W+", item.text.partition("(")[0])[-1]
+
+
+# --- What the library exports ---
+
+class Call(NamedTuple):
+    """A call: its name for callers in C, that of the function that is exported, the type of its answer, its parameters by type and
+    name, and what is said of it."""
+
+    name: str
+    exported: str
+    answer: str
+    parameters: List[Tuple[str, str]]
+    comment: str
+
+
+class Interface(NamedTuple):
+    """What the library exports, in the order in which the header describes it."""
+
+    version: List[int]
+    enumerations: List[Item]
+    records: Dict[str, Item]
+    calls: List[Call]
+
+    def statuses(self) -> Dict[str, str]:
+        """The statuses, with what each means."""
+        return {name: told for item in self.enumerations for name, _, told in item.parts if item.parts[0][0] == "TCRX_DONE"}
+
+
+def parameter_of(text: str) -> Tuple[str, str]:
+    """A parameter's type and name."""
+    parted = re.fullmatch(r"(.*[ *])(\w+)", text)
+    assert parted, text
+    return parted[1].strip(), parted[2]
+
+
+def exported_calls(calls: Dict[str, Item]) -> List[Call]:
+    """The calls of the library, of all that the header declares. One that C has without null pointers is exported with _at."""
+    exported = []
+    for name, item in calls.items():
+        if item.text.startswith("tcrx_") and not name.endswith("_at"):
+            twin = calls.get(f"{name}_at", item)
+            answer, _, listed = twin.text.rstrip(")").partition("(")
+            parameters = [parameter_of(each) for each in listed.split(", ")]
+            exported.append(Call(name, name_of(twin), answer.split()[0], parameters, item.comment))
+    return exported
+
+
+def interface_of(header: str) -> Interface:
+    """What the library exports, by the text of its header."""
+    items = [item for group in groups_of(header)[1] for item in group.items]
+    macros = {name: value for item in items if item.kind == "macro" for name, value, _ in item.parts}
+    return Interface([int(macros[f"TCRX_API_{part}"]) for part in ("MAJOR", "MINOR", "PATCH")],
+                     [item for item in items if item.kind == "constants"],
+                     {item.text: item for item in items if item.kind == "record" and item.parts},
+                     exported_calls({name_of(item): item for item in items if item.kind == "call"}))
