@@ -15,7 +15,7 @@ from typing import Dict, List, Mapping, Optional
 
 HERE = Path(__file__).resolve().parent
 NAME = "dekorihe"
-MODULES = ("tcrx", "tcrx_channel")
+MODULES = ("tcrx", "tcrx_c", "tcrx_channel")
 OWN_FILES = ("pyproject.toml", "packing.py", "py.typed", *(f"{module}.py" for module in MODULES))
 
 

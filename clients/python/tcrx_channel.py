@@ -13,8 +13,9 @@ What of the proofs reaches a caller: the functions of the library are proved, ea
 is not proved: that its records are laid out as in the header, that it passes each argument on, makes a value of each answer and
 frees a channel once is tested, by the same cases as the calls from C. Nothing is proved of Python, ctypes or libffi.
 
-The values are those of `tcrx`: an operation is answered by `Brought`, `Released`, `Packet`, `Unit`, `Clcw` or `Report`, or by
-`Refused` with its reason. What leaves a call without an answer is an exception.
+`tcrx_c` declares the records and calls of the library. The values are those of `tcrx`: an operation is answered by `Brought`,
+`Released`, `Packet`, `Unit`, `Clcw` or `Report`, or by `Refused` with its reason. What leaves a call without an answer is an
+exception.
 
 - Threads. The library is called with the GIL held, since a call takes about a microsecond. So calls of one channel from several
   threads take turns, and each is whole; channels of several threads don't run at the same time. Where Python has no GIL a lock in
@@ -32,25 +33,27 @@ import os
 import shutil
 import threading
 import weakref
-from ctypes import POINTER, Structure, byref, c_char_p, c_size_t, c_uint8, c_uint16, c_uint32, c_uint64, c_void_p
+from ctypes import byref
 from dataclasses import dataclass
 from operator import index
 from pathlib import Path
 from types import TracebackType
-from typing import Any, Dict, Iterator, List, Mapping, NoReturn, Optional, Tuple, Type, Union
+from typing import Any, Dict, Iterator, Mapping, NoReturn, Optional, Tuple, Type, Union
 
 from tcrx import (Brought, Clcw, Delivery, Ended, Event, Fault, Final, NotSetUp, NotStarted, Packet, Refusal, Refused, Released, Report,
                   State, Unit)
+from tcrx_c import *  # pylint: disable=wildcard-import,unused-wildcard-import  # all that the header declares
+from tcrx_c import _Channel, _Limit, _Map, _Queue, _Settings
 
 __all__ = ["BadSettings", "Channel", "Frame", "NoMemory", "find_library", "read_frame", "storage"]
 
 LIBRARY = "libtcrx.so.0"
-DONE, NO_MEMORY, NO_ROOM, NO_CHANNEL, TEXT_ROOM = 0, 13, 50, 70, 64
 # The statuses that are answers.
-REFUSED = {1: Refused(Refusal.SHORT), 2: Refused(Refusal.VERSION), 3: Refused(Refusal.SPARE), 4: Refused(Refusal.LENGTH),
-           5: Refused(Refusal.TRUNCATED), 72: Refused(Refusal.NO_QUEUE), 73: Refused(Refusal.NO_MAP), 74: Refused(Refusal.EMPTY)}
+REFUSED = {SHORT: Refused(Refusal.SHORT), BAD_VERSION: Refused(Refusal.VERSION), SPARE: Refused(Refusal.SPARE),
+           LENGTH_SMALL: Refused(Refusal.LENGTH), TRUNCATED: Refused(Refusal.TRUNCATED), NO_QUEUE: Refused(Refusal.NO_QUEUE),
+           NO_MAP: Refused(Refusal.NO_MAP), EMPTY: Refused(Refusal.EMPTY)}
 EVENTS = dict(enumerate(Event, 1))
-STATES = {1: State.OPEN, 2: State.WAIT, 3: State.LOCKOUT}
+STATES = {OPEN: State.OPEN, WAIT: State.WAIT, LOCKOUT: State.LOCKOUT}
 # What becomes of most units, made once.
 NOTHING, ONE_QUEUED = Delivery(0, 0, False), Delivery(1, 0, False)
 # Octets that a packet or a unit is taken into; a longer one is taken again into as many as it needs.
@@ -63,90 +66,6 @@ class BadSettings(Fault):
 
 class NoMemory(Fault, MemoryError):
     """There is no memory for a channel. Once one is made, none of its calls asks for any."""
-
-
-# Records of C have fields alone.
-# pylint: disable=too-few-public-methods
-class _Settings(Structure):
-    _fields_ = [(name, c_uint8) for name in ("vcid", "width", "buffer", "first_vr", "segmented")]
-
-
-class _Queue(Structure):
-    _fields_ = [("apid", c_uint16), ("capacity", c_uint16)]
-
-
-class _Map(Structure):
-    _fields_ = [("map", c_uint8), ("capacity", c_uint16)]
-
-
-class _Limit(Structure):
-    _fields_ = [("map", c_uint8), ("octets", c_uint32)]
-
-
-class _Held(Structure):
-    _fields_ = [("held", c_uint8), ("place", c_void_p)]
-
-
-class _Header(Structure):
-    _fields_ = [("scid", c_uint16), ("vcid", c_uint8), ("ns", c_uint8), ("bypass", c_uint8), ("control", c_uint8)]
-
-
-class _Frame(Structure):
-    _fields_ = [("status", c_uint32), ("header", _Header), ("length", c_uint16)]
-
-
-class _Farm(Structure):
-    _fields_ = [(name, c_uint8) for name in ("width", "state", "vr", "farm_b", "lockout", "wait", "retransmit")]
-
-
-class _FarmAnswer(Structure):
-    _fields_ = [("status", c_uint32), ("farm", _Farm)]
-
-
-class _ClcwAnswer(Structure):
-    _fields_ = [("status", c_uint32), ("word", c_uint32)]
-
-
-class _Written(Structure):
-    _fields_ = [("status", c_uint32), ("length", c_size_t)]
-
-
-class _Reply(Structure):
-    _fields_ = [("status", c_uint32), ("queued", c_uint32), ("dropped", c_uint32), ("event", c_uint8), ("accepted", c_uint8), ("rest", c_uint8)]
-
-
-class _Delivery(Structure):
-    _fields_ = [("status", c_uint32), ("queued", c_uint32), ("dropped", c_uint32), ("rest", c_uint8)]
-
-
-class _Count(Structure):
-    _fields_ = [("status", c_uint32), ("count", c_uint64)]
-
-
-# pylint: enable=too-few-public-methods
-_LISTS = [_Settings, POINTER(_Queue), c_size_t, POINTER(_Map), c_size_t]
-_LIMITS = [c_uint32, POINTER(_Limit), c_size_t]
-_HELD = POINTER(_Held)
-# What each function takes and answers, as the header declares it.
-CALLS: Dict[str, Tuple[Any, List[Any]]] = {
-    "tcrx_text_at": (_Written, [c_uint32, c_void_p, c_size_t]),
-    "tcrx_read_frame_at": (_Frame, [c_char_p, c_size_t]),
-    "tcrx_storage_at": (_Count, _LISTS),
-    "tcrx_storage_with_limits_at": (_Count, [*_LISTS, *_LIMITS]),
-    "tcrx_channel_new_at": (c_uint32, [_HELD, *_LISTS]),
-    "tcrx_channel_new_with_limits_at": (c_uint32, [_HELD, *_LISTS, *_LIMITS]),
-    "tcrx_channel_frame_at": (_Reply, [_HELD, c_char_p, c_size_t]),
-    "tcrx_channel_release_at": (_Delivery, [_HELD]),
-    "tcrx_channel_take_at": (_Written, [_HELD, c_uint16, c_void_p, c_size_t]),
-    "tcrx_channel_take_unit_at": (_Written, [_HELD, c_uint8, c_void_p, c_size_t]),
-    "tcrx_channel_clcw_at": (_ClcwAnswer, [_HELD, c_uint8, c_uint8]),
-    "tcrx_channel_report_at": (_FarmAnswer, [_HELD]),
-    "tcrx_channel_buffered_at": (_Count, [_HELD]),
-    "tcrx_channel_queued_at": (_Count, [_HELD, c_uint16]),
-    "tcrx_channel_units_at": (_Count, [_HELD, c_uint8]),
-    "tcrx_channel_events_at": (_Count, [_HELD]),
-    "tcrx_channel_free_at": (c_uint32, [_HELD]),
-}
 
 
 def find_library() -> str:
@@ -266,7 +185,7 @@ def delivery_of(answer: Any) -> Delivery:
     return ONE_QUEUED if queued else NOTHING
 
 
-def free(library: ctypes.PyDLL, held: _Held) -> None:
+def free(library: ctypes.PyDLL, held: _Channel) -> None:
     """Frees a channel that is held; none is left then."""
     library.tcrx_channel_free_at(byref(held))
 
@@ -292,7 +211,7 @@ class Channel:
         self._queues, self._maps = tuple(queues or ()), tuple(maps or ())
         self._final: Optional[Final] = None
         self._link = (0, 0)
-        self._held = _Held(0, None)
+        self._held = _Channel(0, None)
         self._at = byref(self._held)
         self._room = ctypes.create_string_buffer(FIRST_ROOM)
         self._seen = memoryview(self._room)
