@@ -31,6 +31,7 @@ namespace tcrx {
 
 /** What a call came to: the statuses of tcrx.h, which says what each means. */
 enum class Status : tcrx_status {
+    // What follows is written by tools/c_interface of c/tcrx.h.
     done = TCRX_DONE,
     too_short = TCRX_SHORT,
     bad_version = TCRX_BAD_VERSION,
@@ -73,6 +74,7 @@ enum class Status : tcrx_status {
     bad_limit = TCRX_BAD_LIMIT,
     plain_limit = TCRX_PLAIN_LIMIT,
     unlisted_map = TCRX_UNLISTED_MAP
+    // This is the end of what tools/c_interface writes.
 };
 
 /** Elements that are somewhere else, and how many there are: a std::span for C++17. */

@@ -61,18 +61,19 @@ macro_rules! refusals {
     };
 }
 
+// What follows is written by tools/c_interface of c/tcrx.h.
 refusals! {
     /// Why octets begin with no frame.
     FrameError {
-        /// There are fewer than 5 octets.
+        /// No frame: fewer than 5 octets.
         Short = SHORT,
-        /// The version bits aren't 0.
+        /// No frame: version bits that aren't 0.
         BadVersion = BAD_VERSION,
-        /// The spare bits aren't 0.
+        /// No frame: spare bits that aren't 0.
         Spare = SPARE,
-        /// The frame length names fewer than 6 octets.
+        /// No frame: a frame length of fewer than 6 octets.
         LengthSmall = LENGTH_SMALL,
-        /// The frame length names more octets than there are.
+        /// No frame: a frame length of more octets than there are.
         Truncated = TRUNCATED,
     }
 }
@@ -80,13 +81,13 @@ refusals! {
 refusals! {
     /// Why no frame is written.
     WriteError {
-        /// The spacecraft id is over 1,023 or the virtual channel id over 63.
+        /// No frame is written: a spacecraft id over 1,023 or a virtual channel id over 63.
         BadField = BAD_FIELD,
-        /// The data field is empty.
+        /// No frame is written: an empty data field.
         EmptyData = EMPTY_DATA,
-        /// The data field has more than 1,019 octets.
+        /// No frame is written: a data field of more than 1,019 octets.
         TooLong = TOO_LONG,
-        /// The room is too short for the frame.
+        /// The buffer is too short.
         NoRoom { needed } = NO_ROOM,
     }
 }
@@ -100,7 +101,7 @@ refusals! {
         BadFarmB = BAD_FARM_B,
         /// FARM-1 never has these flags in that state.
         FlagsDisagree = FLAGS_DISAGREE,
-        /// The state table has no entry: an expected Type-AD frame finds room in the state Wait.
+        /// The state table has no entry: an expected Type-AD frame finds room in `TCRX_WAIT`.
         NoEntry = NO_ENTRY,
         /// The virtual channel id is over 63.
         BadVcid = BAD_VCID,
@@ -114,51 +115,51 @@ refusals! {
         BadVcid = BAD_VCID,
         /// The width of the window isn't even and 2 to 254.
         BadWidth = BAD_WIDTH,
-        /// The buffer isn't for 1 to 64 data fields.
+        /// Settings: the buffer isn't 1 to 64.
         BadBuffer = BAD_BUFFER,
-        /// The APID of a queue is over 2,046.
+        /// Settings: an APID is over 2,046.
         BadApid = BAD_APID,
-        /// Two queues have one APID.
+        /// Settings: two queues have one APID.
         DoubleApid = DOUBLE_APID,
-        /// A queue isn't for 1 to 256 packets.
+        /// Settings: the capacity of a packet queue isn't 1 to 256.
         BadCapacity = BAD_CAPACITY,
-        /// A MAP is over 63.
+        /// Settings: a MAP is over 63.
         BadMap = BAD_MAP,
-        /// A MAP is chosen twice.
+        /// Settings: a MAP is chosen twice.
         DoubleMap = DOUBLE_MAP,
-        /// The queue of a MAP isn't for 1 to 256 units.
+        /// Settings: the capacity of a MAP isn't 1 to 256.
         BadUnits = BAD_UNITS,
-        /// A channel without segment headers has no MAPs.
+        /// Settings: MAPs without segment headers.
         PlainMap = PLAIN_MAP,
-        /// The limit of the other MAPs is over 65,542 octets, or 0 without segment headers.
-        BadOthers = BAD_OTHERS,
-        /// The MAP of a limit is over 63.
-        BadLimitMap = BAD_LIMIT_MAP,
-        /// A MAP has two limits.
-        DoubleLimit = DOUBLE_LIMIT,
-        /// The limit of a MAP isn't 1 to 65,542 octets.
-        BadLimit = BAD_LIMIT,
-        /// A channel without segment headers has no limits by MAP.
-        PlainLimit = PLAIN_LIMIT,
-        /// A chosen MAP has no limit.
-        UnlistedMap = UNLISTED_MAP,
-        /// Out of memory.
+        /// Out of memory: no channel is made.
         NoMemory = NO_MEMORY,
+        /// Limits: `others` is over 65,542, or 0 without segment headers.
+        BadOthers = BAD_OTHERS,
+        /// Limits: a MAP is over 63.
+        BadLimitMap = BAD_LIMIT_MAP,
+        /// Limits: a MAP is listed twice.
+        DoubleLimit = DOUBLE_LIMIT,
+        /// Limits: that of a MAP isn't 1 to 65,542.
+        BadLimit = BAD_LIMIT,
+        /// Limits: a MAP is listed without segment headers.
+        PlainLimit = PLAIN_LIMIT,
+        /// Limits: a chosen MAP isn't listed, and `others` is 0.
+        UnlistedMap = UNLISTED_MAP,
     }
 }
 
 refusals! {
     /// Why a channel didn't take a frame in. It is as it was.
     BringError {
-        /// There are fewer than 5 octets.
+        /// No frame: fewer than 5 octets.
         Short = SHORT,
-        /// The version bits aren't 0.
+        /// No frame: version bits that aren't 0.
         BadVersion = BAD_VERSION,
-        /// The spare bits aren't 0.
+        /// No frame: spare bits that aren't 0.
         Spare = SPARE,
-        /// The frame length names fewer than 6 octets.
+        /// No frame: a frame length of fewer than 6 octets.
         LengthSmall = LENGTH_SMALL,
-        /// The frame length names more octets than there are.
+        /// No frame: a frame length of more octets than there are.
         Truncated = TRUNCATED,
     }
 }
@@ -166,7 +167,7 @@ refusals! {
 refusals! {
     /// Why nothing left the buffer. The channel is as it was.
     ReleaseError {
-        /// Nothing waits in the buffer.
+        /// Nothing waits there.
         Empty = EMPTY,
     }
 }
@@ -176,11 +177,12 @@ refusals! {
     TakeError {
         /// No queue has that APID.
         NoQueue = NO_QUEUE,
-        /// That MAP isn't chosen.
-        NoMap = NO_MAP,
         /// Nothing waits there.
         Empty = EMPTY,
-        /// The room is too short for what waits there.
+        /// The buffer is too short.
         NoRoom { needed } = NO_ROOM,
+        /// That MAP isn't chosen.
+        NoMap = NO_MAP,
     }
 }
+// This is the end of what tools/c_interface writes.
