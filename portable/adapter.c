@@ -3,8 +3,8 @@
  * rule for records of a machine matters. It is compiled to the LLVM module of the library's own machine, and linked with that; the
  * whole becomes a WebAssembly module, of which tools/portable and tools/page make what they write.
  *
- * Each call answers a status, and puts the other fields of the answer into `numbers`. Settings and headers that go in stand there,
- * too. An instance of the module holds one channel.
+ * Each call answers a status, and puts the other fields of the answer into `numbers`: the record of a FARM-1 and a count into two of
+ * them. Settings and headers that go in stand there, too. An instance of the module holds one channel.
  */
 #include "tcrx.h"
 
@@ -54,20 +54,14 @@ static tcrx_farm farm_of(u32 first, u32 second) {
     return farm;
 }
 
-static void answer_farm(tcrx_farm farm) {
-    numbers[0] = farm.width | (u32)farm.state << 8 | (u32)farm.vr << 16 | (u32)farm.farm_b << 24;
-    numbers[1] = farm.lockout | (u32)farm.wait << 8 | (u32)farm.retransmit << 16;
+static void answer_farm(u32 place, tcrx_farm farm) {
+    numbers[place] = farm.width | (u32)farm.state << 8 | (u32)farm.vr << 16 | (u32)farm.farm_b << 24;
+    numbers[place + 1] = farm.lockout | (u32)farm.wait << 8 | (u32)farm.retransmit << 16;
 }
 
-static void answer_count(uint64_t count) {
-    numbers[0] = (u32)count;
-    numbers[1] = (u32)(count >> 32);
-}
-
-static tcrx_settings settings_given(void) {
-    const tcrx_settings settings = {(uint8_t)numbers[0], (uint8_t)numbers[1], (uint8_t)numbers[2], (uint8_t)numbers[3],
-                                    (uint8_t)numbers[4]};
-    return settings;
+static void answer_count(u32 place, uint64_t count) {
+    numbers[place] = (u32)count;
+    numbers[place + 1] = (u32)(count >> 32);
 }
 
 u32 *EXPORT(module_numbers)(void) {
@@ -88,15 +82,34 @@ u32 EXPORT(module_room_back)(void *at) {
     return TCRX_DONE;
 }
 
+/* What follows is written by tools/c_interface of c/tcrx.h. */
+static tcrx_header header_given(void) {
+    const tcrx_header given = {(uint16_t)numbers[0], (uint8_t)numbers[1], (uint8_t)numbers[2], (uint8_t)numbers[3],
+                               (uint8_t)numbers[4]};
+    return given;
+}
+
+static tcrx_settings settings_given(void) {
+    const tcrx_settings given = {(uint8_t)numbers[0], (uint8_t)numbers[1], (uint8_t)numbers[2], (uint8_t)numbers[3],
+                                 (uint8_t)numbers[4]};
+    return given;
+}
+
+u32 EXPORT(module_text)(u32 status, uint8_t *text, u32 room) {
+    const tcrx_written answer = tcrx_text_at(status, text, room);
+    answer_count(0, answer.length);
+    return answer.status;
+}
+
 u32 EXPORT(module_farm_start)(u32 width, u32 first_vr) {
     const tcrx_farm_answer answer = tcrx_farm_start((uint8_t)width, (uint8_t)first_vr);
-    answer_farm(answer.farm);
+    answer_farm(0, answer.farm);
     return answer.status;
 }
 
 u32 EXPORT(module_farm_step)(u32 first, u32 second, u32 arrival, u32 number, u32 room) {
     const tcrx_step_answer answer = tcrx_farm_step(farm_of(first, second), (uint8_t)arrival, (uint8_t)number, (uint8_t)room);
-    answer_farm(answer.farm);
+    answer_farm(0, answer.farm);
     numbers[2] = answer.event;
     numbers[3] = answer.accepted;
     return answer.status;
@@ -109,18 +122,16 @@ u32 EXPORT(module_clcw)(u32 first, u32 second, u32 vcid, u32 no_rf, u32 no_bit_l
 }
 
 u32 EXPORT(module_read_clcw)(u32 word) {
-    const tcrx_clcw_fields at = tcrx_read_clcw(word);
-    const uint8_t fields[] = {at.status_field, at.vcid,       at.no_rf,  at.no_bit_lock, at.lockout,
-                              at.wait,         at.retransmit, at.farm_b, at.vr};
-    for (u32 i = 0; i < sizeof fields; i++) {
-        numbers[i] = fields[i];
-    }
-    return at.status;
-}
-
-u32 EXPORT(module_text)(u32 status, uint8_t *text, u32 room) {
-    const tcrx_written answer = tcrx_text_at(status, text, room);
-    answer_count(answer.length);
+    const tcrx_clcw_fields answer = tcrx_read_clcw(word);
+    numbers[0] = answer.status_field;
+    numbers[1] = answer.vcid;
+    numbers[2] = answer.no_rf;
+    numbers[3] = answer.no_bit_lock;
+    numbers[4] = answer.lockout;
+    numbers[5] = answer.wait;
+    numbers[6] = answer.retransmit;
+    numbers[7] = answer.farm_b;
+    numbers[8] = answer.vr;
     return answer.status;
 }
 
@@ -143,10 +154,8 @@ u32 EXPORT(module_kind)(const uint8_t *octets, u32 count) {
 }
 
 u32 EXPORT(module_write_frame)(const uint8_t *field, u32 field_count, uint8_t *octets, u32 room) {
-    const tcrx_header header = {(uint16_t)numbers[0], (uint8_t)numbers[1], (uint8_t)numbers[2], (uint8_t)numbers[3],
-                                (uint8_t)numbers[4]};
-    const tcrx_written answer = tcrx_write_frame_at(header, field, field_count, octets, room);
-    answer_count(answer.length);
+    const tcrx_written answer = tcrx_write_frame_at(header_given(), field, field_count, octets, room);
+    answer_count(0, answer.length);
     return answer.status;
 }
 
@@ -163,17 +172,88 @@ u32 EXPORT(module_read_packet)(const uint8_t *octets, u32 count) {
 
 u32 EXPORT(module_storage)(const tcrx_queue *queues, u32 queue_count, const tcrx_map *maps, u32 map_count) {
     const tcrx_count answer = tcrx_storage_at(settings_given(), queues, queue_count, maps, map_count);
-    answer_count(answer.count);
+    answer_count(0, answer.count);
     return answer.status;
 }
 
-u32 EXPORT(module_storage_with_limits)(const tcrx_queue *queues, u32 queue_count, const tcrx_map *maps, u32 map_count, u32 others,
-                                       const tcrx_limit *limits, u32 limit_count) {
-    const tcrx_count answer =
-        tcrx_storage_with_limits_at(settings_given(), queues, queue_count, maps, map_count, others, limits, limit_count);
-    answer_count(answer.count);
+u32 EXPORT(module_storage_with_limits)(const tcrx_queue *queues, u32 queue_count, const tcrx_map *maps, u32 map_count,
+                                       u32 others, const tcrx_limit *limits, u32 limit_count) {
+    const tcrx_count answer = tcrx_storage_with_limits_at(settings_given(), queues, queue_count, maps, map_count, others, limits,
+                                                          limit_count);
+    answer_count(0, answer.count);
     return answer.status;
 }
+
+u32 EXPORT(module_channel_frame)(const uint8_t *octets, u32 count) {
+    const tcrx_reply answer = tcrx_channel_frame_at(&channel, octets, count);
+    numbers[0] = answer.queued;
+    numbers[1] = answer.dropped;
+    numbers[2] = answer.event;
+    numbers[3] = answer.accepted;
+    numbers[4] = answer.rest;
+    return answer.status;
+}
+
+u32 EXPORT(module_channel_release)(void) {
+    const tcrx_delivery answer = tcrx_channel_release_at(&channel);
+    numbers[0] = answer.queued;
+    numbers[1] = answer.dropped;
+    numbers[2] = answer.rest;
+    return answer.status;
+}
+
+u32 EXPORT(module_channel_take)(u32 apid, uint8_t *octets, u32 room) {
+    const tcrx_written answer = tcrx_channel_take_at(&channel, (uint16_t)apid, octets, room);
+    answer_count(0, answer.length);
+    return answer.status;
+}
+
+u32 EXPORT(module_channel_take_unit)(u32 map, uint8_t *octets, u32 room) {
+    const tcrx_written answer = tcrx_channel_take_unit_at(&channel, (uint8_t)map, octets, room);
+    answer_count(0, answer.length);
+    return answer.status;
+}
+
+u32 EXPORT(module_channel_clcw)(u32 no_rf, u32 no_bit_lock) {
+    const tcrx_clcw_answer answer = tcrx_channel_clcw_at(&channel, (uint8_t)no_rf, (uint8_t)no_bit_lock);
+    numbers[0] = answer.word;
+    return answer.status;
+}
+
+u32 EXPORT(module_channel_report)(void) {
+    const tcrx_farm_answer answer = tcrx_channel_report_at(&channel);
+    answer_farm(0, answer.farm);
+    return answer.status;
+}
+
+u32 EXPORT(module_channel_buffered)(void) {
+    const tcrx_count answer = tcrx_channel_buffered_at(&channel);
+    answer_count(0, answer.count);
+    return answer.status;
+}
+
+u32 EXPORT(module_channel_queued)(u32 apid) {
+    const tcrx_count answer = tcrx_channel_queued_at(&channel, (uint16_t)apid);
+    answer_count(0, answer.count);
+    return answer.status;
+}
+
+u32 EXPORT(module_channel_units)(u32 map) {
+    const tcrx_count answer = tcrx_channel_units_at(&channel, (uint8_t)map);
+    answer_count(0, answer.count);
+    return answer.status;
+}
+
+u32 EXPORT(module_channel_events)(void) {
+    const tcrx_count answer = tcrx_channel_events_at(&channel);
+    answer_count(0, answer.count);
+    return answer.status;
+}
+
+u32 EXPORT(module_channel_free)(void) {
+    return tcrx_channel_free_at(&channel);
+}
+/* This is the end of what tools/c_interface writes. */
 
 /* Whether there is room for a channel of this storage, with its own block and a copy of each list; or it has a fault. */
 static int is_reserved(tcrx_count storage, uint64_t entries) {
@@ -197,74 +277,4 @@ u32 EXPORT(module_channel_new_with_limits)(const tcrx_queue *queues, u32 queue_c
     }
     return tcrx_channel_new_with_limits_at(&channel, settings_given(), queues, queue_count, maps, map_count, others, limits,
                                            limit_count);
-}
-
-u32 EXPORT(module_channel_frame)(const uint8_t *octets, u32 count) {
-    const tcrx_reply answer = tcrx_channel_frame_at(&channel, octets, count);
-    numbers[0] = answer.queued;
-    numbers[1] = answer.dropped;
-    numbers[2] = answer.event;
-    numbers[3] = answer.accepted;
-    numbers[4] = answer.rest;
-    return answer.status;
-}
-
-u32 EXPORT(module_channel_release)(void) {
-    const tcrx_delivery answer = tcrx_channel_release_at(&channel);
-    numbers[0] = answer.queued;
-    numbers[1] = answer.dropped;
-    numbers[2] = answer.rest;
-    return answer.status;
-}
-
-u32 EXPORT(module_channel_take)(u32 apid, uint8_t *octets, u32 room) {
-    const tcrx_written answer = tcrx_channel_take_at(&channel, (uint16_t)apid, octets, room);
-    answer_count(answer.length);
-    return answer.status;
-}
-
-u32 EXPORT(module_channel_take_unit)(u32 map, uint8_t *octets, u32 room) {
-    const tcrx_written answer = tcrx_channel_take_unit_at(&channel, (uint8_t)map, octets, room);
-    answer_count(answer.length);
-    return answer.status;
-}
-
-u32 EXPORT(module_channel_clcw)(u32 no_rf, u32 no_bit_lock) {
-    const tcrx_clcw_answer answer = tcrx_channel_clcw_at(&channel, (uint8_t)no_rf, (uint8_t)no_bit_lock);
-    numbers[0] = answer.word;
-    return answer.status;
-}
-
-u32 EXPORT(module_channel_report)(void) {
-    const tcrx_farm_answer answer = tcrx_channel_report_at(&channel);
-    answer_farm(answer.farm);
-    return answer.status;
-}
-
-u32 EXPORT(module_channel_buffered)(void) {
-    const tcrx_count answer = tcrx_channel_buffered_at(&channel);
-    answer_count(answer.count);
-    return answer.status;
-}
-
-u32 EXPORT(module_channel_queued)(u32 apid) {
-    const tcrx_count answer = tcrx_channel_queued_at(&channel, (uint16_t)apid);
-    answer_count(answer.count);
-    return answer.status;
-}
-
-u32 EXPORT(module_channel_units)(u32 map) {
-    const tcrx_count answer = tcrx_channel_units_at(&channel, (uint8_t)map);
-    answer_count(answer.count);
-    return answer.status;
-}
-
-u32 EXPORT(module_channel_events)(void) {
-    const tcrx_count answer = tcrx_channel_events_at(&channel);
-    answer_count(answer.count);
-    return answer.status;
-}
-
-u32 EXPORT(module_channel_free)(void) {
-    return tcrx_channel_free_at(&channel);
 }

@@ -18,20 +18,20 @@ static uint32_t second_half(tcrx_farm farm) {
     return farm.lockout | (uint32_t)farm.wait << 8 | (uint32_t)farm.retransmit << 16;
 }
 
-static tcrx_farm farm_of(tcrx_instance *at) {
-    const uint32_t first = tcrx_number(at, 0), second = tcrx_number(at, 1);
+static tcrx_farm farm_of(tcrx_instance *at, uint32_t place) {
+    const uint32_t first = tcrx_number(at, place), second = tcrx_number(at, place + 1);
     const tcrx_farm farm = {(uint8_t)first,  (uint8_t)(first >> 8),  (uint8_t)(first >> 16), (uint8_t)(first >> 24),
                             (uint8_t)second, (uint8_t)(second >> 8), (uint8_t)(second >> 16)};
     return farm;
 }
 
-static uint64_t count_of(tcrx_instance *at) {
-    return tcrx_number(at, 0) | (uint64_t)tcrx_number(at, 1) << 32;
+static uint64_t count_of(tcrx_instance *at, uint32_t place) {
+    return tcrx_number(at, place) | (uint64_t)tcrx_number(at, place + 1) << 32;
 }
 
 /* What a call wrote to a place in the memory goes to the caller where it was done. */
 static tcrx_written written_of(tcrx_instance *at, tcrx_status status, uint32_t place, uint8_t *octets) {
-    const tcrx_written answer = {status, (size_t)count_of(at)};
+    const tcrx_written answer = {status, (size_t)count_of(at, 0)};
     if (status == TCRX_DONE) {
         tcrx_get(at, place, octets, (uint32_t)answer.length);
     }
@@ -48,18 +48,30 @@ static void end(const tcrx_channel *channel) {
     }
 }
 
-/* The frame at the front of octets is all that the library looks at. */
+/*
+ * The frame at the front of octets is all that the library looks at. A data field of more octets than are copied is too long, and so
+ * are those that are.
+ */
 static uint32_t put_frame(tcrx_instance *at, const uint8_t *octets, size_t count) {
     const uint32_t looked_at = least(count, TCRX_MODULE_FRAME);
     tcrx_put(at, at->read, octets, looked_at);
     return looked_at;
 }
 
+/* What follows is written by tools/c_interface of c/tcrx.h. */
+tcrx_written tcrx_text_at(tcrx_status status, uint8_t *text, size_t room) {
+    tcrx_instance *at = tcrx_instance_shared();
+    const tcrx_status done = Z_tcrxZ_module_text(&at->module, status, at->written, least(room, TCRX_MODULE_FRAME));
+    const tcrx_written answer = written_of(at, done, at->written, text);
+    tcrx_instance_back();
+    return answer;
+}
+
 tcrx_farm_answer tcrx_farm_start(uint8_t width, uint8_t first_vr) {
     tcrx_farm_answer answer;
     tcrx_instance *at = tcrx_instance_shared();
     answer.status = Z_tcrxZ_module_farm_start(&at->module, width, first_vr);
-    answer.farm = farm_of(at);
+    answer.farm = farm_of(at, 0);
     tcrx_instance_back();
     return answer;
 }
@@ -68,7 +80,7 @@ tcrx_step_answer tcrx_farm_step(tcrx_farm farm, uint8_t arrival, uint8_t number,
     tcrx_step_answer answer;
     tcrx_instance *at = tcrx_instance_shared();
     answer.status = Z_tcrxZ_module_farm_step(&at->module, first_half(farm), second_half(farm), arrival, number, room);
-    answer.farm = farm_of(at);
+    answer.farm = farm_of(at, 0);
     answer.event = (uint8_t)tcrx_number(at, 2);
     answer.accepted = (uint8_t)tcrx_number(at, 3);
     tcrx_instance_back();
@@ -101,14 +113,6 @@ tcrx_clcw_fields tcrx_read_clcw(uint32_t word) {
     return answer;
 }
 
-tcrx_written tcrx_text_at(tcrx_status status, uint8_t *text, size_t room) {
-    tcrx_instance *at = tcrx_instance_shared();
-    const tcrx_status done = Z_tcrxZ_module_text(&at->module, status, at->written, least(room, TCRX_MODULE_FRAME));
-    const tcrx_written answer = written_of(at, done, at->written, text);
-    tcrx_instance_back();
-    return answer;
-}
-
 tcrx_frame tcrx_read_frame_at(const uint8_t *octets, size_t count) {
     tcrx_frame answer;
     tcrx_instance *at = tcrx_instance_shared();
@@ -133,20 +137,114 @@ tcrx_kind_answer tcrx_kind_at(const uint8_t *octets, size_t count) {
     return answer;
 }
 
-/* A data field of more octets than are copied is too long, and so are those that are. */
 tcrx_written tcrx_write_frame_at(tcrx_header header, const uint8_t *field, size_t field_count, uint8_t *octets, size_t room) {
     tcrx_instance *at = tcrx_instance_shared();
-    const uint32_t numbers[] = {header.scid, header.vcid, header.ns, header.bypass, header.control};
-    const uint32_t count = put_frame(at, field, field_count);
-    for (uint32_t i = 0; i < 5; i++) {
-        tcrx_set_number(at, i, numbers[i]);
-    }
-    const tcrx_status status =
-        Z_tcrxZ_module_write_frame(&at->module, at->read, count, at->written, least(room, TCRX_MODULE_FRAME));
-    const tcrx_written answer = written_of(at, status, at->written, octets);
+    tcrx_set_number(at, 0, header.scid);
+    tcrx_set_number(at, 1, header.vcid);
+    tcrx_set_number(at, 2, header.ns);
+    tcrx_set_number(at, 3, header.bypass);
+    tcrx_set_number(at, 4, header.control);
+    const tcrx_status done = Z_tcrxZ_module_write_frame(&at->module, at->read, put_frame(at, field, field_count), at->written,
+                                                        least(room, TCRX_MODULE_FRAME));
+    const tcrx_written answer = written_of(at, done, at->written, octets);
     tcrx_instance_back();
     return answer;
 }
+
+tcrx_reply tcrx_channel_frame_at(tcrx_channel *channel, const uint8_t *octets, size_t count) {
+    tcrx_reply answer;
+    tcrx_instance *at = begin(channel);
+    answer.status = Z_tcrxZ_module_channel_frame(&at->module, at->read, put_frame(at, octets, count));
+    answer.queued = tcrx_number(at, 0);
+    answer.dropped = tcrx_number(at, 1);
+    answer.event = (uint8_t)tcrx_number(at, 2);
+    answer.accepted = (uint8_t)tcrx_number(at, 3);
+    answer.rest = (uint8_t)tcrx_number(at, 4);
+    end(channel);
+    return answer;
+}
+
+tcrx_delivery tcrx_channel_release_at(tcrx_channel *channel) {
+    tcrx_delivery answer;
+    tcrx_instance *at = begin(channel);
+    answer.status = Z_tcrxZ_module_channel_release(&at->module);
+    answer.queued = tcrx_number(at, 0);
+    answer.dropped = tcrx_number(at, 1);
+    answer.rest = (uint8_t)tcrx_number(at, 2);
+    end(channel);
+    return answer;
+}
+
+tcrx_written tcrx_channel_take_at(tcrx_channel *channel, uint16_t apid, uint8_t *octets, size_t room) {
+    tcrx_instance *at = begin(channel);
+    const tcrx_status done = Z_tcrxZ_module_channel_take(&at->module, apid, at->packet, least(room, at->packet_room));
+    const tcrx_written answer = written_of(at, done, at->packet, octets);
+    end(channel);
+    return answer;
+}
+
+tcrx_written tcrx_channel_take_unit_at(tcrx_channel *channel, uint8_t map, uint8_t *octets, size_t room) {
+    tcrx_instance *at = begin(channel);
+    const tcrx_status done = Z_tcrxZ_module_channel_take_unit(&at->module, map, at->packet, least(room, at->packet_room));
+    const tcrx_written answer = written_of(at, done, at->packet, octets);
+    end(channel);
+    return answer;
+}
+
+tcrx_clcw_answer tcrx_channel_clcw_at(tcrx_channel *channel, uint8_t no_rf, uint8_t no_bit_lock) {
+    tcrx_clcw_answer answer;
+    tcrx_instance *at = begin(channel);
+    answer.status = Z_tcrxZ_module_channel_clcw(&at->module, no_rf, no_bit_lock);
+    answer.word = tcrx_number(at, 0);
+    end(channel);
+    return answer;
+}
+
+tcrx_farm_answer tcrx_channel_report_at(tcrx_channel *channel) {
+    tcrx_farm_answer answer;
+    tcrx_instance *at = begin(channel);
+    answer.status = Z_tcrxZ_module_channel_report(&at->module);
+    answer.farm = farm_of(at, 0);
+    end(channel);
+    return answer;
+}
+
+tcrx_count tcrx_channel_buffered_at(tcrx_channel *channel) {
+    tcrx_count answer;
+    tcrx_instance *at = begin(channel);
+    answer.status = Z_tcrxZ_module_channel_buffered(&at->module);
+    answer.count = count_of(at, 0);
+    end(channel);
+    return answer;
+}
+
+tcrx_count tcrx_channel_queued_at(tcrx_channel *channel, uint16_t apid) {
+    tcrx_count answer;
+    tcrx_instance *at = begin(channel);
+    answer.status = Z_tcrxZ_module_channel_queued(&at->module, apid);
+    answer.count = count_of(at, 0);
+    end(channel);
+    return answer;
+}
+
+tcrx_count tcrx_channel_units_at(tcrx_channel *channel, uint8_t map) {
+    tcrx_count answer;
+    tcrx_instance *at = begin(channel);
+    answer.status = Z_tcrxZ_module_channel_units(&at->module, map);
+    answer.count = count_of(at, 0);
+    end(channel);
+    return answer;
+}
+
+tcrx_count tcrx_channel_events_at(tcrx_channel *channel) {
+    tcrx_count answer;
+    tcrx_instance *at = begin(channel);
+    answer.status = Z_tcrxZ_module_channel_events(&at->module);
+    answer.count = count_of(at, 0);
+    end(channel);
+    return answer;
+}
+/* This is the end of what tools/c_interface writes. */
 
 /* Octets in the memory of an instance, until they are given back: 0 where it has no room for them. */
 static uint32_t copied(tcrx_instance *at, const uint8_t *octets, uint32_t count) {
@@ -248,7 +346,7 @@ static tcrx_count storage(plan *asked) {
             ? Z_tcrxZ_module_storage_with_limits(&at->module, asked->at_queues, queue_count, asked->at_maps, map_count,
                                                  asked->others, asked->at_limits, (uint32_t)asked->limit_count)
             : Z_tcrxZ_module_storage(&at->module, asked->at_queues, queue_count, asked->at_maps, map_count);
-        answer.count = count_of(at);
+        answer.count = count_of(at, 0);
         give_back(at, asked);
     }
     tcrx_instance_back();
@@ -317,100 +415,6 @@ tcrx_status tcrx_channel_new_with_limits_at(tcrx_channel *channel, tcrx_settings
                                             const tcrx_limit *limits, size_t limit_count) {
     plan asked = {settings, queues, queue_count, maps, map_count, true, others, limits, limit_count, 0, 0, 0};
     return make_anew(channel, &asked);
-}
-
-tcrx_reply tcrx_channel_frame_at(tcrx_channel *channel, const uint8_t *octets, size_t count) {
-    tcrx_reply answer;
-    tcrx_instance *at = begin(channel);
-    answer.status = Z_tcrxZ_module_channel_frame(&at->module, at->read, put_frame(at, octets, count));
-    answer.queued = tcrx_number(at, 0);
-    answer.dropped = tcrx_number(at, 1);
-    answer.event = (uint8_t)tcrx_number(at, 2);
-    answer.accepted = (uint8_t)tcrx_number(at, 3);
-    answer.rest = (uint8_t)tcrx_number(at, 4);
-    end(channel);
-    return answer;
-}
-
-tcrx_delivery tcrx_channel_release_at(tcrx_channel *channel) {
-    tcrx_delivery answer;
-    tcrx_instance *at = begin(channel);
-    answer.status = Z_tcrxZ_module_channel_release(&at->module);
-    answer.queued = tcrx_number(at, 0);
-    answer.dropped = tcrx_number(at, 1);
-    answer.rest = (uint8_t)tcrx_number(at, 2);
-    end(channel);
-    return answer;
-}
-
-tcrx_written tcrx_channel_take_at(tcrx_channel *channel, uint16_t apid, uint8_t *octets, size_t room) {
-    tcrx_instance *at = begin(channel);
-    const tcrx_status status = Z_tcrxZ_module_channel_take(&at->module, apid, at->packet, least(room, at->packet_room));
-    const tcrx_written answer = written_of(at, status, at->packet, octets);
-    end(channel);
-    return answer;
-}
-
-tcrx_written tcrx_channel_take_unit_at(tcrx_channel *channel, uint8_t map, uint8_t *octets, size_t room) {
-    tcrx_instance *at = begin(channel);
-    const tcrx_status status = Z_tcrxZ_module_channel_take_unit(&at->module, map, at->packet, least(room, at->packet_room));
-    const tcrx_written answer = written_of(at, status, at->packet, octets);
-    end(channel);
-    return answer;
-}
-
-tcrx_clcw_answer tcrx_channel_clcw_at(tcrx_channel *channel, uint8_t no_rf, uint8_t no_bit_lock) {
-    tcrx_clcw_answer answer;
-    tcrx_instance *at = begin(channel);
-    answer.status = Z_tcrxZ_module_channel_clcw(&at->module, no_rf, no_bit_lock);
-    answer.word = tcrx_number(at, 0);
-    end(channel);
-    return answer;
-}
-
-tcrx_farm_answer tcrx_channel_report_at(tcrx_channel *channel) {
-    tcrx_farm_answer answer;
-    tcrx_instance *at = begin(channel);
-    answer.status = Z_tcrxZ_module_channel_report(&at->module);
-    answer.farm = farm_of(at);
-    end(channel);
-    return answer;
-}
-
-tcrx_count tcrx_channel_buffered_at(tcrx_channel *channel) {
-    tcrx_count answer;
-    tcrx_instance *at = begin(channel);
-    answer.status = Z_tcrxZ_module_channel_buffered(&at->module);
-    answer.count = count_of(at);
-    end(channel);
-    return answer;
-}
-
-tcrx_count tcrx_channel_queued_at(tcrx_channel *channel, uint16_t apid) {
-    tcrx_count answer;
-    tcrx_instance *at = begin(channel);
-    answer.status = Z_tcrxZ_module_channel_queued(&at->module, apid);
-    answer.count = count_of(at);
-    end(channel);
-    return answer;
-}
-
-tcrx_count tcrx_channel_units_at(tcrx_channel *channel, uint8_t map) {
-    tcrx_count answer;
-    tcrx_instance *at = begin(channel);
-    answer.status = Z_tcrxZ_module_channel_units(&at->module, map);
-    answer.count = count_of(at);
-    end(channel);
-    return answer;
-}
-
-tcrx_count tcrx_channel_events_at(tcrx_channel *channel) {
-    tcrx_count answer;
-    tcrx_instance *at = begin(channel);
-    answer.status = Z_tcrxZ_module_channel_events(&at->module);
-    answer.count = count_of(at);
-    end(channel);
-    return answer;
 }
 
 tcrx_status tcrx_channel_free_at(tcrx_channel *channel) {
