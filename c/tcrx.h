@@ -306,6 +306,7 @@ typedef struct {
 /* The layout that the library has for each record. Another one would be an array of a negative size. */
 #define TCRX_LAYOUT(record, holds) typedef char record##_layout[(holds) ? 1 : -1]
 #define TCRX_AT(record, field, place) (offsetof(record, field) == (place))
+/* What follows is written by tools/c_interface of c/tcrx.h. */
 TCRX_LAYOUT(tcrx_farm, sizeof(tcrx_farm) == 7 && TCRX_AT(tcrx_farm, width, 0) && TCRX_AT(tcrx_farm, state, 1)
                            && TCRX_AT(tcrx_farm, vr, 2) && TCRX_AT(tcrx_farm, farm_b, 3) && TCRX_AT(tcrx_farm, lockout, 4)
                            && TCRX_AT(tcrx_farm, wait, 5) && TCRX_AT(tcrx_farm, retransmit, 6));
@@ -323,8 +324,7 @@ TCRX_LAYOUT(tcrx_clcw_fields, sizeof(tcrx_clcw_fields) == 16 && TCRX_AT(tcrx_clc
                                   && TCRX_AT(tcrx_clcw_fields, retransmit, 10) && TCRX_AT(tcrx_clcw_fields, farm_b, 11)
                                   && TCRX_AT(tcrx_clcw_fields, vr, 12));
 TCRX_LAYOUT(tcrx_header, sizeof(tcrx_header) == 6 && TCRX_AT(tcrx_header, scid, 0) && TCRX_AT(tcrx_header, vcid, 2)
-                             && TCRX_AT(tcrx_header, ns, 3) && TCRX_AT(tcrx_header, bypass, 4)
-                             && TCRX_AT(tcrx_header, control, 5));
+                             && TCRX_AT(tcrx_header, ns, 3) && TCRX_AT(tcrx_header, bypass, 4) && TCRX_AT(tcrx_header, control, 5));
 TCRX_LAYOUT(tcrx_frame, sizeof(tcrx_frame) == 12 && TCRX_AT(tcrx_frame, status, 0) && TCRX_AT(tcrx_frame, header, 4)
                             && TCRX_AT(tcrx_frame, length, 10));
 TCRX_LAYOUT(tcrx_kind_answer, sizeof(tcrx_kind_answer) == 8 && TCRX_AT(tcrx_kind_answer, status, 0)
@@ -346,10 +346,10 @@ TCRX_LAYOUT(tcrx_limit, sizeof(tcrx_limit) == 8 && TCRX_AT(tcrx_limit, map, 0) &
 TCRX_LAYOUT(tcrx_reply, sizeof(tcrx_reply) == 16 && TCRX_AT(tcrx_reply, status, 0) && TCRX_AT(tcrx_reply, queued, 4)
                             && TCRX_AT(tcrx_reply, dropped, 8) && TCRX_AT(tcrx_reply, event, 12)
                             && TCRX_AT(tcrx_reply, accepted, 13) && TCRX_AT(tcrx_reply, rest, 14));
-TCRX_LAYOUT(tcrx_delivery, sizeof(tcrx_delivery) == 16 && TCRX_AT(tcrx_delivery, status, 0)
-                               && TCRX_AT(tcrx_delivery, queued, 4) && TCRX_AT(tcrx_delivery, dropped, 8)
-                               && TCRX_AT(tcrx_delivery, rest, 12));
+TCRX_LAYOUT(tcrx_delivery, sizeof(tcrx_delivery) == 16 && TCRX_AT(tcrx_delivery, status, 0) && TCRX_AT(tcrx_delivery, queued, 4)
+                               && TCRX_AT(tcrx_delivery, dropped, 8) && TCRX_AT(tcrx_delivery, rest, 12));
 TCRX_LAYOUT(tcrx_count, sizeof(tcrx_count) == 16 && TCRX_AT(tcrx_count, status, 0) && TCRX_AT(tcrx_count, count, 8));
+/* This is the end of what tools/c_interface writes. */
 #undef TCRX_AT
 #undef TCRX_LAYOUT
 /** @endcond */
@@ -362,6 +362,7 @@ TCRX_LAYOUT(tcrx_count, sizeof(tcrx_count) == 16 && TCRX_AT(tcrx_count, status, 
  * buffer with no room. Callers in C use the names without `_at`: plain C of this header, which looks for null pointers and isn't proved.
  * @{
  */
+/* What follows is written by tools/c_interface of c/tcrx.h. */
 /** @copydoc tcrx_text */
 tcrx_written tcrx_text_at(tcrx_status status, uint8_t *text, size_t room);
 /** @copydoc tcrx_read_frame */
@@ -407,6 +408,7 @@ tcrx_count tcrx_channel_units_at(tcrx_channel *channel, uint8_t map);
 tcrx_count tcrx_channel_events_at(tcrx_channel *channel);
 /** @copydoc tcrx_channel_free */
 tcrx_status tcrx_channel_free_at(tcrx_channel *channel);
+/* This is the end of what tools/c_interface writes. */
 /** @} */
 
 /**

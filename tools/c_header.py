@@ -15,7 +15,7 @@ DEFINE = r"^#define[ \t]+(?P<macro>TCRX_\w+)(?P<value>(?:[^\n\\]|\\\n)+)"
 STRUCT = r"^typedef struct \{(?P<fields>[^}]*)\} (?P<record>\w+);"
 ALIAS = r"^typedef (?P<kind>\w+) (?P<alias>\w+);"
 ENUM = r"^enum \{(?P<constants>[^}]*)\};"
-CALL = r"^(?:static inline )?(?P<call>\w[\w ]*? \*?tcrx_\w+\([^)]*\))(?:;| \{\n.*?^\})"
+CALL = r"^(?P<inline>static inline )?(?P<call>\w[\w ]*? \*?tcrx_\w+\([^)]*\))(?:;| \{\n.*?^\})"
 BEHIND = r"[ \t]*(?:/\*\*?<?(.*?)\*/)?"
 # What goes by other names where the words are read than in the comments.
 IN_CODE = re.compile(r"(`[^`]+`)|#?\b((?:tcrx|TCRX|rattle)_\w+(?:\.[ch]\b)?|\w+\.[acho]\b)(?:\(\))?")
@@ -30,6 +30,8 @@ class Item:
     comment: str
     parts: List[Tuple[str, str, str]] = field(default_factory=list)
     """The constants with their values, or the fields with their types, each with what is said of it."""
+    is_inline: bool = False
+    """Of a call: it is C of the header over one that the library exports, which has the same name with _at."""
 
     def parameters(self) -> List[Tuple[str, str]]:
         """The parameters of a call, each with what is said of it, if that is more than its name."""
@@ -80,7 +82,7 @@ def item_of(found: "re.Match[str]", comment: str) -> Item:
         return Item("record", found["alias"], comment, [])
     if found["constants"]:
         return Item("constants", "", comment, constants_of(found["constants"]))
-    return Item("call", " ".join(found["call"].split()), comment)
+    return Item("call", " ".join(found["call"].split()), comment, is_inline=bool(found["inline"]))
 
 
 def groups_of(header: str) -> Tuple[str, List[Group]]:
@@ -154,14 +156,13 @@ def parameter_of(text: str) -> Tuple[str, str]:
 
 
 def exported_calls(calls: Dict[str, Item]) -> List[Call]:
-    """The calls of the library, of all that the header declares. One that C has without null pointers is exported with _at."""
+    """The calls of the library, of all that the header declares. To them a text is octets."""
     exported = []
     for name, item in calls.items():
         if item.text.startswith("tcrx_") and not name.endswith("_at"):
-            twin = calls.get(f"{name}_at", item)
-            answer, _, listed = twin.text.rstrip(")").partition("(")
-            parameters = [parameter_of(each) for each in listed.split(", ")]
-            exported.append(Call(name, name_of(twin), answer.split()[0], parameters, item.comment))
+            answer, _, listed = item.text.rstrip(")").partition("(")
+            parameters = [parameter_of(each.replace("char *", "uint8_t *")) for each in listed.split(", ")]
+            exported.append(Call(name, f"{name}_at" if item.is_inline else name, answer.split()[0], parameters, item.comment))
     return exported
 
 
