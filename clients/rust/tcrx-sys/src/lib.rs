@@ -1,8 +1,9 @@
 //! The calls of `tcrx.h`: records, statuses and functions, as the header declares them. The crate `tcrx` has safe calls over them.
 //!
 //! **What of the proofs reaches a caller.** The functions of the library are proved. These declarations are not: a test compares
-//! each record's size and places, and each number, with what a C program says of the header. All calls are unsafe here, since a
-//! pointer must point to as many octets as the count says, may never be null, and a channel is given to one call at a time.
+//! each record's size, each field's place and size, and each number with what a C program says of the header. All calls are unsafe
+//! here, since a pointer must point to as many octets as the count says, may never be null, and a channel is given to one call at a
+//! time.
 //!
 //! **Memory.** The library is linked with `libtcrx.a`, and this crate defines its two functions of memory over `malloc`. With the
 //! feature `own-memory` the program defines them, and with `shared` the crate is linked with `libtcrx.so`, which has its own.
@@ -37,9 +38,12 @@ macro_rules! records {
                 $($(#[$said])* pub $field: $kind,)*
             }
         )*
-        /// Each record by its name in C, with its size, and with the name and the place of each field.
-        pub const LAYOUTS: &[(&str, usize, &[(&str, usize)])] =
-            &[$(($in_c, size_of::<$name>(), &[$((stringify!($field), core::mem::offset_of!($name, $field))),*])),*];
+        /// Each record by its name in C, with its size, and with the name, the place and the size of each field.
+        pub const LAYOUTS: &[(&str, usize, &[(&str, usize, usize)])] = &[$((
+            $in_c,
+            size_of::<$name>(),
+            &[$((stringify!($field), core::mem::offset_of!($name, $field), size_of::<$kind>())),*],
+        )),*];
     };
 }
 

@@ -1,5 +1,5 @@
-//! The declarations against the header: a C program says the size of each record, the place of each field and each number, and the
-//! names are those that the header has.
+//! The declarations against the header: a C program says the size of each record, the place and size of each field, and each number,
+//! and the names are those that the header has.
 
 use std::collections::BTreeSet;
 use std::fmt::Write;
@@ -12,13 +12,14 @@ fn folder_of_header() -> PathBuf {
     PathBuf::from(env!("CARGO_MANIFEST_DIR")).join("../../../c")
 }
 
-/// What a C program prints of the header: of each record its size and its fields' places, of each name its number.
+/// What a C program prints of the header: of each record its size and its fields' places and sizes, of each name its number.
 fn said_in_c() -> String {
     let mut lines = String::from("#include \"tcrx.h\"\n#include <stdio.h>\nint main(void) {\n");
     for (record, _, fields) in LAYOUTS {
         writeln!(lines, "printf(\"{record} %zu\", sizeof({record}));").expect("a string has room");
-        for (field, _) in *fields {
-            writeln!(lines, "printf(\" {field} %zu\", offsetof({record}, {field}));").expect("a string has room");
+        for (field, _, _) in *fields {
+            writeln!(lines, "printf(\" {field} %zu %zu\", offsetof({record}, {field}), sizeof((({record} *)0)->{field}));")
+                .expect("a string has room");
         }
         lines.push_str("printf(\"\\n\");\n");
     }
@@ -39,8 +40,8 @@ fn said_here() -> String {
     let mut lines = String::new();
     for (record, size, fields) in LAYOUTS {
         write!(lines, "{record} {size}").expect("a string has room");
-        for (field, place) in *fields {
-            write!(lines, " {field} {place}").expect("a string has room");
+        for (field, place, octets) in *fields {
+            write!(lines, " {field} {place} {octets}").expect("a string has room");
         }
         lines.push('\n');
     }

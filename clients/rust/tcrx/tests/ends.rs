@@ -1,4 +1,5 @@
-//! Channels that are moved, dropped and sent to other threads, and calls that are refused.
+//! Channels that are moved, dropped and sent to other threads, calls that are refused, and each field of what is read and reported,
+//! by values that are worked out by hand.
 
 use std::error::Error;
 use std::thread;
@@ -115,6 +116,15 @@ fn refused_limits_say_why() {
     assert!(Channel::with_limits(&eight, &limits).is_ok());
 }
 
+/// 1,083 octets for the buffer, 5,120 and 2 * 64 * 65,542 for open runs, 72 for each queue, and 65,606 for each packet.
+#[test]
+fn a_storage_of_more_octets_than_32_bits_count() {
+    let queues: Vec<Queue> = (0..256).map(|apid| Queue { apid, capacity: 256 }).collect();
+    let large = Settings { buffer: 1, queues: &queues, maps: &[], ..SETTINGS };
+    assert_eq!(large.storage(), Ok(4_307_968_827));
+    assert_eq!(large.storage_with_limits(&Limits { others: 65_542, maps: &[] }), Ok(4_307_968_827));
+}
+
 #[test]
 fn refused_takes_say_what_they_need() {
     let mut channel = Channel::new(&SETTINGS).expect("settings");
@@ -167,4 +177,85 @@ fn single_calls() {
     assert_eq!((clcw.retransmit(), clcw.farm_b(), clcw.vr(), clcw.status_field()), (true, 3, 0x7b, 0));
     let channel = Channel::new(&SETTINGS).expect("settings");
     assert!(channel.clcw(Link { no_rf: false, no_bit_lock: true }).no_bit_lock());
+}
+
+/// Octets with these at their front, all others of which are 0.
+fn octets_of(front: &[u8], count: usize) -> Vec<u8> {
+    let mut octets = front.to_vec();
+    octets.resize(count, 0);
+    octets
+}
+
+/// Type-BD has bypass alone, Type-BC both flags, Type-AD none, and Type-AC control alone. Two octets of fill follow each frame.
+#[test]
+fn frames_field_by_field() {
+    let header = |vcid, ns, bypass, control| Header { scid: 675, vcid, ns, bypass, control };
+    let kind = |arrival, number| Kind { arrival, number };
+    let rows: [(&[u8], usize, Header, Kind); 5] = [
+        (&[0x22, 0xa3, 0x94, 0x07, 0xc8, 0xc0, 0xaa, 0xbb], 8, header(37, 200, true, false), kind(Arrival::Bd, 0)),
+        (&[0x32, 0xa3, 0x30, 0x05, 0x11, 0x00], 6, header(12, 17, true, true), kind(Arrival::Unlock, 0)),
+        (&[0x32, 0xa3, 0x30, 0x07, 0x11, 0x82, 0x00, 0x09], 8, header(12, 17, true, true), kind(Arrival::SetVr, 9)),
+        (&[0x02, 0xa3, 0xfd, 0x2b, 0xff], 300, header(63, 255, false, false), kind(Arrival::Ad, 255)),
+        (&[0x12, 0xa3, 0x00, 0x05, 0x80, 0x00], 6, header(0, 128, false, true), kind(Arrival::Invalid, 0)),
+    ];
+    for (front, length, header, kind) in rows {
+        let octets = octets_of(front, length + 2);
+        let read = Frame::read(&octets).expect("a frame");
+        assert_eq!((read.header(), read.kind()), (header, kind));
+        assert_eq!((read.octets(), read.field()), (&octets[..length], &octets[5..length]));
+        assert_eq!(header.write(read.field(), &mut [0; 300]), Ok(&octets[..length]));
+    }
+}
+
+/// Each flag alone, from No RF Available to Retransmit, and the largest status field.
+#[test]
+fn clcws_field_by_field() {
+    let words = [0x0194_84b5, 0x0194_44b5, 0x0194_24b5, 0x0194_14b5, 0x0194_0cb5, 0x1d94_04b5];
+    for (place, word) in words.into_iter().enumerate() {
+        let read = Clcw::read(word).expect("a CLCW");
+        let flags = [read.no_rf(), read.no_bit_lock(), read.lockout(), read.wait(), read.retransmit()];
+        let (alone, status): ([bool; 5], u8) = (std::array::from_fn(|flag| flag == place), if place == 5 { 7 } else { 0 });
+        assert_eq!(flags, alone, "{word:08x}");
+        assert_eq!((read.word(), read.status_field(), read.vcid(), read.farm_b(), read.vr()), (word, status, 37, 2, 181));
+    }
+}
+
+/// With each value of the sequence flags. An octet of fill follows each packet.
+#[test]
+fn packets_field_by_field() {
+    let packet =
+        |apid, count, telecommand, secondary, sequence, octets| Packet { apid, count, telecommand, secondary, sequence, octets };
+    let rows = [
+        (9, packet(1445, 4660, true, true, 0, &[0x1d, 0xa5, 0x12, 0x34, 0x00, 0x02, 0xaa, 0xbb, 0xcc][..])),
+        (7, packet(5, 1, false, false, 1, &[0x00, 0x05, 0x40, 0x01, 0x00, 0x00, 0xaa])),
+        (306, packet(2046, 16_383, true, false, 2, &[0x17, 0xfe, 0xbf, 0xff, 0x01, 0x2b])),
+        (7, packet(0, 10_922, false, true, 3, &[0x08, 0x00, 0xea, 0xaa, 0x00, 0x00, 0xaa])),
+    ];
+    for (length, row) in rows {
+        let octets = octets_of(row.octets, length + 1);
+        assert_eq!(Packet::read(&octets), Some(Packet { octets: &octets[..length], ..row }));
+    }
+}
+
+/// After a Type-AD frame ahead of V(R) (E3), the expected one with room (E1) and without (E2), Unlock (E7), and a Type-AD frame
+/// outside the window (E5); then the CLCW with each flag of the link alone.
+#[test]
+fn reports_field_by_field() {
+    let mut channel = Channel::new(&Settings { buffer: 1, first_vr: 250, ..SETTINGS }).expect("settings");
+    let farm = |state, vr, farm_b, lockout, wait, retransmit| Farm { width: 10, state, vr, farm_b, lockout, wait, retransmit };
+    let steps = [
+        ([0x00, 0x2a, 0x04, 0x05, 252, 0xc0], farm(State::Open, 250, 0, false, false, true)),
+        ([0x00, 0x2a, 0x04, 0x05, 250, 0xc0], farm(State::Open, 251, 0, false, false, false)),
+        ([0x00, 0x2a, 0x04, 0x05, 251, 0xc0], farm(State::Wait, 251, 0, false, true, true)),
+        ([0x30, 0x2a, 0x04, 0x05, 0, 0x00], farm(State::Open, 251, 1, false, false, false)),
+        ([0x00, 0x2a, 0x04, 0x05, 100, 0xc0], farm(State::Lockout, 251, 1, true, false, false)),
+    ];
+    for (octets, after) in steps {
+        channel.frame(&octets).expect("a frame");
+        assert_eq!(channel.report(), after);
+    }
+    for (no_rf, no_bit_lock, word) in [(true, false, 0x0104_a2fb), (false, true, 0x0104_62fb)] {
+        assert_eq!(channel.clcw(Link { no_rf, no_bit_lock }).word(), word);
+        assert_eq!(channel.report().clcw(1, no_rf, no_bit_lock).map(Clcw::word), Ok(word));
+    }
 }
