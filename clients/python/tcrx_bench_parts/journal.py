@@ -213,7 +213,7 @@ def replay(path: Path, program: Optional[str]) -> int:
     for step, answer in zip_longest(noted, answers):
         if step is None or step.answer != answer:
             where = f"line {step.place}, `{printable(step.line) or 'the report'}`: the log has `{step.answer}`" if step else "the log has no more answers"
-            print(f"tcrx-bench: {where}, and the replay `{answer}`", file=sys.stderr)
+            print(f"tcrx-bench: {where}, and the replay {'no more answers' if answer is None else f'`{answer}`'}", file=sys.stderr)
             return 1
     count = sum(1 for step in noted if step.line)
     report = "and the final report are those of the log" if ended else "are those of the log, which has no final report"

@@ -55,6 +55,8 @@ class Listen(argparse.Action):
             place, named = parse_place(kind, values, None if sends else "127.0.0.1")
         except ValueError:
             parser.error(f"argument --{kind}: {values!r} isn't {'HOST:PORT' if sends else '[HOST:]PORT'}")
+        if sends and place in namespace.places:
+            parser.error(f"argument --{kind}: {values} is named twice")
         namespace.places.append(place)
         if named and not sends and not is_loopback(place.host):
             namespace.open_to_others.append(place)
