@@ -138,7 +138,7 @@ class Craft:  # pylint: disable=too-many-instance-attributes  # what is known of
         self.arrived()
         octets = octets[:MOST_OCTETS] or b"\0"
         self.waiting.append(Turn(self.now(), source, f"frame {octets.hex()}", octets, asker))
-        if not self.barred:
+        if not self.barred or len(self.waiting) > MOST_WAITING:
             self.step()
 
     def order(self, line: str, source: str, asker: Optional[Asker]) -> None:

@@ -25,10 +25,13 @@ LONGEST_LINE, MOST_WORDS, MOST_KEPT, MOST_ASKED = 8192, 1024, 1 << 22, 512
 CLCW_BUFFER = 4096
 # Octets that are read at once, so that nobody waits long for another.
 CHUNK = 1 << 14
-# Datagrams that are read at once, the octets of one, and turns that wait for the receiver beyond which datagrams are lost.
-MOST_AT_ONCE, LONGEST_DATAGRAM, MOST_BEFORE = 64, 65536, 16384
-# Octets that the kernel keeps of datagrams, where it may.
-DATAGRAM_BUFFER = 1 << 22
+# Datagrams that are read at once, and the octets of one.
+MOST_AT_ONCE, LONGEST_DATAGRAM = 64, 65536
+# Octets that the kernel keeps of datagrams, where it may; what Linux says of the memory of a socket, and where in it, how many it lost.
+DATAGRAM_BUFFER, SO_MEMINFO, DROPS = 1 << 22, 55, 8
+# After 60 seconds of silence the other end's machine is asked whether it is there, three times; else its place is given back.
+KEEPALIVE = ((socket.SOL_SOCKET, socket.SO_KEEPALIVE, 1), (socket.IPPROTO_TCP, socket.TCP_KEEPIDLE, 60),
+             (socket.IPPROTO_TCP, socket.TCP_KEEPINTVL, 10), (socket.IPPROTO_TCP, socket.TCP_KEEPCNT, 3))
 # Seconds that a connection that was told why it is closed has to read that, and how many such there are at most.
 LINGER, MOST_LINGERING = 0.5, 256
 # Files that may be open besides the connections that are taken: those that are told why they are closed, and the bench's own.
@@ -136,6 +139,8 @@ class Port:
         self.address = shown(place.host, place.port)
         self.open: Set[Connection] = set()
         self.counts: Dict[str, int] = {}
+        self.look: Callable[[], None] = lambda: None
+        """Called before the counts are looked at."""
         self.server: Optional[asyncio.AbstractServer] = None
 
     def count(self, what: str, more: int = 1) -> None:
@@ -150,6 +155,7 @@ class Port:
 
     def state(self) -> Dict[str, object]:
         """What is known of it, as values of JSON."""
+        self.look()
         return {"port": self.place.kind, "address": self.address, "open": len(self.open), **self.counts}
 
 
@@ -173,10 +179,12 @@ class Hub:
         return self.closed or self.craft.is_slow
 
     def _hold_all(self) -> None:
-        """Has all connections held, or read on."""
+        """Has all connections and datagrams held, or read on."""
         for port in self.ports:
             for connection in port.open:
                 connection.hold(self.holds)
+        for each in self.datagrams:
+            each.hold(self.holds)
 
     def _sweep(self) -> None:
         """Looks at each connection from time to time."""
@@ -208,8 +216,8 @@ class Hub:
             if port.server:
                 port.server.close()
         self._hold_all()
-        for each in self.datagrams:
-            each.close()
+        while self.datagrams:
+            self.datagrams.pop().close()
 
     async def close(self, seconds: float) -> None:
         """Closes all connections; one that doesn't read what is there for it is cut off after some seconds."""
@@ -272,6 +280,8 @@ class Connection(asyncio.BufferedProtocol):
         else:
             self.port.open.add(self)
             self.port.count("connections")
+            for option in KEEPALIVE:
+                transport.get_extra_info("socket").setsockopt(*option)
             self.opened()
             # After this call, as older versions of asyncio begin to read behind it.
             self.hub.loop.call_soon(self._hold_new)
@@ -586,29 +596,44 @@ def bound(place: Place) -> socket.socket:
     return given
 
 
-class Datagrams:  # pylint: disable=too-few-public-methods  # it is called by the event loop
-    """A port that takes a frame in each datagram."""
+class Datagrams:
+    """A port that takes a frame in each datagram. While it is held the kernel keeps what comes, and loses what it has no room for."""
 
     def __init__(self, place: Place, hub: Hub, fill: int) -> None:
-        self.port, self.hub, self.fill = Port(place, hub), hub, fill
+        self.port, self.hub, self.fill, self.held = Port(place, hub), hub, fill, False
         self.socket = bound(place)
         self.socket.setsockopt(socket.SOL_SOCKET, socket.SO_RCVBUF, DATAGRAM_BUFFER)
         self.port.address = address_of(self.socket)
+        self.port.look = self._count_lost
         hub.ports.append(self.port)
         hub.datagrams.append(self)
-        hub.loop.add_reader(self.socket, self._read)
+        self.hold(False)
+
+    def hold(self, held: bool) -> None:
+        """Reads nothing for now, or reads on."""
+        self.held = held
+        if held:
+            self.hub.loop.remove_reader(self.socket)
+        else:
+            self.hub.loop.add_reader(self.socket, self._read)
+
+    def _count_lost(self) -> None:
+        """Looks how many the kernel has lost."""
+        found = self.socket.getsockopt(socket.SOL_SOCKET, SO_MEMINFO, 4 * (DROPS + 1))
+        if lost := int.from_bytes(found[4 * DROPS:], sys.byteorder):
+            self.port.counts["lost"] = lost
 
     def _read(self) -> None:
-        """Brings the frames of some datagrams. Where too much waits before them they are lost, and counted."""
+        """Brings the frames of some datagrams."""
         for _ in range(MOST_AT_ONCE):
+            if self.held:
+                return
             try:
                 octets, sender = self.socket.recvfrom(LONGEST_DATAGRAM)
             except OSError:
                 return
             if not self.port.place.allows(sender[0]):
                 self.port.count("turned_away")
-            elif len(self.hub.craft.waiting) > MOST_BEFORE:
-                self.port.count("lost")
             else:
                 self.port.count("frames")
                 if self.fill > 1 and len(octets) >= 4:
@@ -617,7 +642,9 @@ class Datagrams:  # pylint: disable=too-few-public-methods  # it is called by th
 
     def close(self) -> None:
         """Reads nothing more."""
-        self.hub.loop.remove_reader(self.socket)
+        self.hold(True)
+        self._count_lost()
+        self.port.look = lambda: None
         self.socket.close()
 
 
