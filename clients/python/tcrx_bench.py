@@ -117,7 +117,7 @@ class Bench:  # pylint: disable=too-many-instance-attributes  # it is made of th
         hosts = [place.host for place in self.options.places if place.kind == "http"]
         self.web = Web(self.hub, hosts) if hosts else None
         makers: Dict[str, Callable[[Port], Connection]] = {
-            "tc-tcp": lambda port: FrameConnection(port, Cutter(self.options.scid, self.options.fill, self.options.resync)),
+            "tc-tcp": lambda port: FrameConnection(port, Cutter(self.options.scid, self.options.fill, self.options.resync, self.options.fecf)),
             "lines": LineConnection, "clcw-tcp": Reader, "packets-tcp": Reader, "units-tcp": Reader, "http": self._visitor}
         for place in self.options.places:
             try:

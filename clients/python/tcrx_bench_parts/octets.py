@@ -5,6 +5,7 @@ The receiver judges each frame by itself. What is foreseen here saves waiting fo
 from __future__ import annotations
 
 import re
+from binascii import crc_hqx
 from typing import Dict, List, NamedTuple, Optional, Tuple
 
 # Octets of a header, of the shortest frame, and of the longest run of segments that the receiver joins.
@@ -99,15 +100,19 @@ class Segments:  # pylint: disable=too-few-public-methods  # a step and its stat
 
 
 class Cutter:
-    """Cuts the octets of one connection into frames by their own length field."""
+    """Cuts the octets of one connection into frames by their own length field.
 
-    def __init__(self, scid: int, fill: int, resync: bool) -> None:
-        self.fill, self.resync, self.scid = fill, resync, scid
+    With `resync` it looks for the next header of its spacecraft behind octets that begin no frame. Where a frame may begin, one of
+    another spacecraft is cut off whole, as its data may look like a frame; with sums only if its sum holds.
+    """
+
+    def __init__(self, scid: int, fill: int, resync: bool, fecf: bool = False) -> None:
+        self.fill, self.resync, self.scid, self.fecf = fill, resync, scid, fecf
         self.kept, self.to_skip = bytearray(), 0
         self.place = 0
         """How many octets were cut off so far."""
-        self.skipped = 0
-        """How many octets began no frame, and were left out to find the next header."""
+        self.skipped, self.is_lost = 0, False
+        """How many octets began no frame, and were left out to find the next header; and whether no frame came since."""
         first = bytes(flags << 4 | scid >> 8 for flags in range(4))
         self.pattern = re.compile(b"[" + re.escape(first) + b"]" + re.escape(bytes([scid & 255])), re.S)
 
@@ -128,17 +133,18 @@ class Cutter:
             if end - at < HEADER:
                 break
             length = ((kept[at + 2] & 3) << 8 | kept[at + 3]) + 1
-            if kept[at] & 0xCC or length < SHORTEST or (self.resync and not self.pattern.match(kept, at)):
-                if not self.resync:
-                    fault = f"octets that begin no frame: {kept[at:at + HEADER].hex()} at octet {self.place + at}"
-                    break
-                at = self.find_next(at + 1)
-            elif end - at < length:
+            is_own = not self.resync or self.pattern.match(kept, at)
+            begins = not kept[at] & 0xCC and length >= SHORTEST and (is_own or not self.is_lost)
+            if begins and end - at < length:
                 break
+            octets = bytes(kept[at:at + length])
+            if begins and (is_own or not self.fecf or not crc_hqx(octets, 0xFFFF)):
+                frames.append(octets)
+                at, self.to_skip, self.is_lost = at + length, -length % self.fill, False
+            elif self.resync:
+                at = self.find_next(at + 1)
             else:
-                frames.append(bytes(kept[at:at + length]))
-                at += length
-                self.to_skip = -length % self.fill
+                fault = f"octets that begin no frame: {kept[at:at + HEADER].hex()} at octet {self.place + at}"
         self.place += at
         del kept[:at]
         return frames, fault
@@ -149,6 +155,7 @@ class Cutter:
         # A last octet may be the first of a header.
         at = found.start() if found else max(begin, len(self.kept) - 1)
         self.skipped += at - begin + 1
+        self.is_lost = True
         return at
 
     def skip_begun(self) -> None:
