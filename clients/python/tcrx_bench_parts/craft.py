@@ -16,7 +16,7 @@ from typing import Callable, Deque, Dict, List, Optional, Tuple
 from tcrx import Clcw, without_hint
 
 from .engine import Engine
-from .journal import Journal, printable
+from .journal import SET_UP, Journal, printable
 from .octets import Header, Segments, applications_of, header_of
 
 # Lines that are under way, and at the end, where they are to be answered soon; turns that wait, and events that are kept.
@@ -25,8 +25,6 @@ MOST_UNDER_WAY, MOST_AT_END, MOST_WAITING, LAST_EVENTS = 1024, 64, 2048, 200
 MOST_OCTETS = 2048
 # Notes of ports that are kept.
 LAST_NOTES = 20
-OPERATIONS = frozenset({"release", "take", "unit", "clcw", "link", "report"})
-SET_UP = frozenset({"channel", "queue", "map"})
 EVENTS = tuple(f"E{number}" for number in range(1, 10))
 
 Asker = Callable[[str], None]

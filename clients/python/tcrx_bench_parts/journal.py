@@ -15,12 +15,12 @@ import os
 import re
 import subprocess
 import sys
-import tempfile
 from datetime import datetime, timezone
 from io import FileIO
-from itertools import zip_longest
+from itertools import islice
 from pathlib import Path
-from typing import Iterator, List, NamedTuple, Optional, Tuple
+from threading import Thread
+from typing import Iterable, Iterator, List, NamedTuple, Optional
 
 from tcrx import NO_BUILD, NotStarted, __version__, find_program
 
@@ -28,6 +28,8 @@ from .octets import without_sum
 
 # The bits of a CLCW that `tcrx` never sets: No RF Available and No Bit Lock.
 LINK_FLAGS = 0xC000
+# The lines that have no answer where they are good.
+SET_UP = frozenset({"channel", "queue", "map"})
 FIRST = re.compile(r"# tcrx-bench \S+ spacecraft (\d{1,4})(, with frame error control)?, begun \S+")
 
 
@@ -114,7 +116,7 @@ class Journal:
         elif word == "frame" and self.fecf:
             self._frame_with_sum(line, answer)
         elif word == "clcw" and not answer.startswith("refused ") and int(answer[-8:], 16) & LINK_FLAGS:
-            self.write(line, f"#= {answer[:-8]}{int(answer[-8:], 16) & ~LINK_FLAGS:08x}", f"#~ {answer}")
+            self.write(line, f"#= {without_link(answer)}", f"#~ {answer}")
         else:
             self.write(line, f"#= {answer}")
 
@@ -137,23 +139,27 @@ class Journal:
 # --- Replay ---
 
 class Unfit(Exception):
-    """A file can't be replayed; the text says why."""
+    """A file can't be replayed, or the replay differs; the text says why."""
 
 
 class Step(NamedTuple):
-    """A line that `tclive` is given, with the number of its line in the journal, and the answer that is noted, or none."""
+    """A line that `tclive` is given, with the number of its line in the journal, and the answer that is noted, or none. One of the final
+    report has no line."""
 
     line: str
     place: int
     answer: Optional[str]
 
 
-def steps_of(lines: Iterator[str]) -> Iterator[Step]:
-    """The lines of a journal that `tclive` is given, each with its answer. After the last come those of the report, of no line."""
+def steps_of(lines: Iterable[str]) -> Iterator[Step]:
+    """The lines of a journal that `tclive` is given, each with its answer. After the last come those of the report. Raises `Unfit` at a
+    second answer."""
     line, place, answer = "", 0, None
     in_place_of_next = False
     for number, text in enumerate(lines, 2):
         if text.startswith(("#= ", "#~ ")):
+            if line and answer is not None and text[1] == "=":
+                raise Unfit(f"line {number}: `{printable(line)}` has an answer already")
             answer = text[3:]
             if not line:
                 yield Step("", number, answer)
@@ -170,52 +176,107 @@ def steps_of(lines: Iterator[str]) -> Iterator[Step]:
         yield Step(line, place, answer)
 
 
-def read_journal(path: Path) -> Tuple[List[str], List[Step]]:
-    """The words by which `tclive` is started, and the steps. Raises `Unfit` where this is no journal."""
-    try:
-        with open(path, encoding="latin-1", newline="\n") as file:
-            first = FIRST.fullmatch(file.readline().rstrip("\n"))
-            if first is None:
-                raise Unfit(f"{path} isn't a log of tcrx-bench")
-            steps = list(steps_of(line.rstrip("\n") for line in file))
-    except OSError as error:
-        raise Unfit(f"{path} can't be read: {error.strerror}") from None
-    return ["--scid", first[1]] + ["--fecf"] * bool(first[2]), steps
+class Log:  # pylint: disable=too-few-public-methods  # it is gone through, more than once
+    """A journal, which is read line by line whenever it is gone through."""
 
+    def __init__(self, path: Path) -> None:
+        self.path, self.cut = path, 0
+        """The number of the last line where that has no end, as the journal was cut off there."""
+        first = FIRST.fullmatch(next(self._lines(), ""))
+        if first is None:
+            raise Unfit(f"{path} isn't a log of tcrx-bench")
+        self.words = ["--scid", first[1]] + ["--fecf"] * bool(first[2])
 
-def answers_of(words: List[str], steps: List[Step]) -> List[str]:
-    """What `tclive` answers to these lines."""
-    with tempfile.TemporaryFile() as given, tempfile.TemporaryFile() as printed:
-        given.write("".join([step.line + "\n" for step in steps if step.line]).encode("latin-1"))
-        given.seek(0)
+    def _lines(self) -> Iterator[str]:
+        """Its whole lines."""
         try:
-            ran = subprocess.run(words, stdin=given, stdout=printed, env={**os.environ, **NO_BUILD}, check=False)
+            with open(self.path, encoding="latin-1", newline="\n") as file:
+                for number, line in enumerate(file, 1):
+                    if not line.endswith("\n"):
+                        self.cut = number
+                        return
+                    yield line[:-1]
         except OSError as error:
-            raise Unfit(f"{words[0]} can't be started: {error.strerror}") from None
-        if ran.returncode:
-            raise Unfit(f"{words[0]} ended with status {ran.returncode}")
-        printed.seek(0)
-        return printed.read().decode("ascii", errors="replace").split("\n")[:-1]
+            raise Unfit(f"{self.path} can't be read: {error.strerror}") from None
+
+    def steps(self) -> Iterator[Step]:
+        """The lines that `tclive` is given, and the final report."""
+        return steps_of(islice(self._lines(), 1, None))
+
+
+def without_link(answer: Optional[str]) -> Optional[str]:
+    """An answer of `tclive` as `tcrx` gives it: a CLCW has no flags of the link."""
+    if answer and re.fullmatch(r"clcw \d+ [0-9a-f]{8}", answer):
+        return f"{answer[:-8]}{int(answer[-8:], 16) & ~LINK_FLAGS:08x}"
+    return answer
+
+
+def feed(child: "subprocess.Popen[str]", log: Log) -> None:
+    """Gives a program the lines of a journal, as it takes them."""
+    assert child.stdin
+    try:
+        with child.stdin as lines:
+            lines.writelines(f"{step.line}\n" for step in log.steps() if step.line)
+    except (OSError, Unfit):
+        # Whoever reads the answers, or the journal, finds that out.
+        pass
+
+
+def compare(log: Log, answers: Iterator[str]) -> str:
+    """Compares the answers of a journal with others, and says how many are the same. Raises `Unfit` at the first that isn't."""
+    count, has_report = 0, False
+    silent: Optional[Step] = None
+    for step in log.steps():
+        if step.line.partition(" ")[0] in SET_UP:
+            continue
+        if silent:
+            raise Unfit(f"line {silent.place}, `{printable(silent.line)}`: the log has no whole answer")
+        answer = next(answers, None)
+        if step.answer is None or step.answer == without_link(answer) != answer:
+            silent = step
+            continue
+        if step.answer != answer:
+            found = "no more answers" if answer is None else f"`{printable(answer)}`"
+            raise Unfit(f"line {step.place}, `{printable(step.line) or 'the report'}`: the log has `{step.answer}`, and the replay {found}")
+        has_report = not step.line
+        count += not has_report
+    if has_report and not log.cut and (more := next(answers, None)) is not None:
+        raise Unfit(f"the log has no more answers, and the replay `{printable(more)}`")
+    if log.cut:
+        return f"{count} answers are those of the log, which is cut off in line {log.cut}"
+    return f"{count} answers {'and the final report are those of the log' if has_report else 'are those of the log, which has no final report'}"
+
+
+def run_again(log: Log, words: List[str]) -> str:
+    """Has a program, of which these words begin, answer the lines of a journal, and compares its answers."""
+    try:
+        child = subprocess.Popen(words, stdin=subprocess.PIPE, stdout=subprocess.PIPE, encoding="latin-1", env={**os.environ, **NO_BUILD})
+    except OSError as error:
+        raise Unfit(f"{words[0]} can't be started: {error.strerror}") from None
+    with child:
+        assert child.stdout
+        feeder = Thread(target=feed, args=(child, log))
+        feeder.start()
+        try:
+            said = compare(log, (line.rstrip("\n") for line in child.stdout))
+            for _ in child.stdout:
+                pass
+        except Unfit:
+            child.kill()
+            raise
+        finally:
+            feeder.join()
+    if child.returncode:
+        raise Unfit(f"{words[0]} ended with status {child.returncode}")
+    return said
 
 
 def replay(path: Path, program: Optional[str]) -> int:
     """Gives the lines of a journal to `tclive`, compares its answers with those of the journal, and says what was found; the status."""
     try:
-        words, steps = read_journal(path)
-        answers = answers_of([program or find_program(), *words], steps)
+        log = Log(path)
+        print(run_again(log, [program or find_program(), *log.words]))
+        return 0
     except (Unfit, NotStarted) as error:
         print(f"tcrx-bench: {error}", file=sys.stderr)
         return 1
-    noted = [step for step in steps if step.answer is not None]
-    ended = any(not step.line for step in noted)
-    if not ended:
-        answers = answers[:len(noted)]
-    for step, answer in zip_longest(noted, answers):
-        if step is None or step.answer != answer:
-            where = f"line {step.place}, `{printable(step.line) or 'the report'}`: the log has `{step.answer}`" if step else "the log has no more answers"
-            print(f"tcrx-bench: {where}, and the replay {'no more answers' if answer is None else f'`{answer}`'}", file=sys.stderr)
-            return 1
-    count = sum(1 for step in noted if step.line)
-    report = "and the final report are those of the log" if ended else "are those of the log, which has no final report"
-    print(f"{count} answers {report}")
-    return 0
