@@ -19,8 +19,8 @@ PATIENCE, LONGEST = 60, 900
 counted: Counter[bool] = Counter()
 # What was left out, since a program isn't installed.
 skipped: List[str] = []
-# What was tried a second time, since a clock or another program was in it.
-tried_again: List[str] = []
+# What a second is in, as other work may hold it up, with the tries that it took; 0 where it failed.
+timed: Dict[str, int] = {}
 # Programs beside the check, which are killed where it leaves them behind.
 begun: List[subprocess.Popen[Any]] = []
 
@@ -67,6 +67,12 @@ def same(found: object, wanted: object, what: str) -> None:
     tell(found == wanted, f"{what}: {found!r}, and not {wanted!r}")
 
 
+def in_time(what: str, holds: Callable[[], object]) -> None:
+    """Compares something that a second is in, three times at most. The last line says so."""
+    timed[what] = next((tried for tried in (1, 2, 3) if holds()), 0)
+    tell(timed[what], f"{what}: not in three tries")
+
+
 def run(*words: object, given: str = "", names: Optional[Mapping[str, str]] = None, **more: Any) -> subprocess.CompletedProcess[str]:
     """A run of a command to its end, at the top unless it is said, over a text and with further names in the environment."""
     rules: Dict[str, Any] = {"cwd": TOP, "stdout": subprocess.PIPE, "stderr": subprocess.PIPE, "timeout": LONGEST, **more}
@@ -102,8 +108,8 @@ def attempt(check: Callable[..., None], *given: object, keep: bool = False) -> N
 
 
 def close(of: str = "") -> int:
-    """Prints the last line: how many comparisons passed, how many failed, and what was tried again or left out. The status."""
-    again = f"; tried a second time: {', '.join(tried_again)}" if tried_again else ""
+    """Prints the last line: how many comparisons passed, how many failed, what hung on a clock, and what was left out. The status."""
+    again = f"; by the clock: {', '.join(f'{what} (tries: {tries})' for what, tries in timed.items())}" if timed else ""
     left = f"; skipped, as it isn't installed: {', '.join(skipped)}" if skipped else ""
     print(f"{of or NAME}: {counted[True]} passed, {counted[False]} failed{again}{left}")
     return 1 if counted[False] or not (counted[True] or skipped) else 0
