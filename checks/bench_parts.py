@@ -15,7 +15,7 @@ from pathlib import Path
 from typing import Any, Callable, Dict, List, Tuple
 
 from client_parts import word
-from comparing import PATIENCE, TOP, begun, run, same, tell
+from comparing import PATIENCE, TOP, attempt, begun, close, run, same, tell
 
 PROGRAM = TOP / "clients/python/tcrx_bench.py"
 SETUP = "channel 1 10 8 0\nqueue 1 5 16\n"
@@ -29,6 +29,16 @@ def programs(words: List[str]) -> List[Path]:
     for name in names:
         subprocess.run([TOP / name, "--version"], stdout=subprocess.DEVNULL, check=True)
     return [TOP / f"crates/{name}/out/{name}" for name in names]
+
+
+def attempt_all(checks: List[Callable[[Path, Path], None]]) -> int:
+    """Does each check, or those that the variable ONLY names, over a tclive and a folder; the status."""
+    tclive, only = programs(sys.argv[1:])[0], os.environ.get("ONLY", "").split()
+    with tempfile.TemporaryDirectory() as folder:
+        for check in checks:
+            if not only or check.__name__ in only:
+                attempt(check, tclive, Path(folder))
+    return close()
 
 
 def numbered(apid: int, number: int) -> bytes:
@@ -110,7 +120,7 @@ class Bench:
     """A bench that runs, from its start to its end. Its ports are free ones."""
 
     def __init__(self, tclive: Path, work: Path, *words: str, setup: str = SETUP, scid: int = 42, python: str = sys.executable,
-                 limit: str = "-f unlimited") -> None:
+                 limit: str = "-f unlimited", stdin: int = subprocess.DEVNULL) -> None:
         self.folder = Path(tempfile.mkdtemp(dir=work))
         self.log = self.folder / "log"
         self.errors = open(self.folder / "errors", "w+b")  # pylint: disable=consider-using-with  # it is closed in `ended`
@@ -118,9 +128,9 @@ class Bench:
         log = [] if "--log" in words else ["--log", str(self.log)]
         # With a limit: -f of the kibibytes that a file may have, -n of the files that may be open.
         given = ["bash", "-c", f'ulimit {limit}; exec "$0" "$@"', python, str(PROGRAM), "--scid", str(scid), "--program", str(tclive),
-                 "--setup", str(self.folder / "setup"), *log, *words]
+                 *(["--setup", str(self.folder / "setup")] if setup else []), *log, *words]
         # pylint: disable-next=consider-using-with  # it is ended in `ended`, or by the check
-        self.child = subprocess.Popen(given, stdin=subprocess.DEVNULL, stdout=subprocess.PIPE, stderr=self.errors)
+        self.child = subprocess.Popen(given, stdin=stdin, stdout=subprocess.PIPE, stderr=self.errors)
         begun.append(self.child)
         self.ports: Dict[str, int] = {}
         assert self.child.stdout

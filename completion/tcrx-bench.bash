@@ -11,10 +11,10 @@ _tcrx_bench() {
         --release) mapfile -t COMPREPLY < <(compgen -W 'auto manual' -- "$current") ;;
         # A number, a port or an address follows.
         --scid | --tc-* | --lines | --clcw-* | --packets-* | --units-* | --http | --allow | --fill | --period | --release-after | --link-timeout | \
-            --connections | --patience) ;;
+            --connections | --patience | --drop | --twice | --flip | --delay | --drop-clcw | --seed) ;;
         *) mapfile -t COMPREPLY < <(compgen -W '--scid --fecf --setup --program --tc-tcp --tc-udp --lines --clcw-tcp --packets-tcp --units-tcp --http
             --clcw-udp --packets-udp --units-udp --allow --fill --resync --period --release --release-after --link-timeout --connections --patience
-            --log --replay -h --help -V --version' -- "$current") ;;
+            --drop --twice --flip --delay --drop-clcw --seed --log --replay -h --help -V --version' -- "$current") ;;
     esac
 }
 complete -F _tcrx_bench tcrx-bench

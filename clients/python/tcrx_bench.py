@@ -16,7 +16,7 @@ import time
 from argparse import Namespace
 from collections import Counter
 from functools import partial
-from typing import Callable, Dict, List, Optional, Tuple
+from typing import Callable, Dict, List, Optional
 
 if sys.version_info < (3, 9):
     sys.exit("tcrx-bench: Python 3.9 or later is needed")
@@ -25,6 +25,7 @@ if sys.version_info < (3, 9):
 import tcrx  # noqa: E402
 from tcrx_bench_parts.craft import Craft, Release, Turn  # noqa: E402
 from tcrx_bench_parts.engine import Engine  # noqa: E402
+from tcrx_bench_parts.faults import Faults  # noqa: E402
 from tcrx_bench_parts.journal import Journal, replay  # noqa: E402
 from tcrx_bench_parts.octets import Cutter  # noqa: E402
 from tcrx_bench_parts.options import read_setup, read_words, warning_of, warning_of_files  # noqa: E402
@@ -73,21 +74,37 @@ class LinkWatch:  # pylint: disable=too-few-public-methods  # it is called by th
 class Bench:  # pylint: disable=too-many-instance-attributes  # it is made of these parts
     """The receiver with its ports, from the begin to the end."""
 
-    def __init__(self, options: Namespace, engine: Engine, journal: Journal, notes: Notes) -> None:
-        self.options, self.engine, self.journal, self.notes = options, engine, journal, notes
+    def __init__(self, options: Namespace, journal: Journal, notes: Notes) -> None:
+        self.options, self.journal, self.notes = options, journal, notes
+        self.words = [options.program or tcrx.find_program(), "--scid", str(options.scid)] + ["--fecf"] * options.fecf
+        self.over: "asyncio.Future[str]" = asyncio.get_running_loop().create_future()
+        """Done when the receiver has ended, and no other one is begun."""
+        self.engine = self._engine_of(tcrx.Process(self.words))
         release = Release.MANUAL if options.release == "manual" else Release.AUTO if options.release_after is None else Release.AFTER
-        self.craft = Craft(engine, journal, options.scid, options.fecf, release, options.release_after or 0.0)
+        self.craft = Craft(self.engine, journal, options.scid, options.fecf, release, options.release_after or 0.0)
         listening = sum(not place.kind.endswith("-udp") for place in options.places)
         self.hub = Hub(self.craft, notes, room_for(listening, options.connections), options.patience)
         self.web: Optional[Web] = None
         self.listening: Dict[str, List[Port]] = {}
         self.targets: List[Target] = []
+        self.faults: Optional[Faults] = None
         self.said_fault = False
+        self.link_watch: Optional[LinkWatch] = None
+        self.renewal: Optional["asyncio.Task[None]"] = None
 
     # --- The begin ---
 
-    async def set_up(self, lines: List[Tuple[int, str]]) -> None:
-        """Has the program set up."""
+    def _engine_of(self, process: tcrx.Process) -> Engine:
+        """What writes to a program and reads from it."""
+        def ended(over: "asyncio.Future[str]") -> None:
+            if (over.result() or not self.craft.is_renewing) and not self.over.done():
+                self.over.set_result(over.result())
+        engine = Engine(process, self.options.patience)
+        engine.over.add_done_callback(ended)
+        return engine
+
+    async def set_up(self) -> None:
+        """Has the program set up. Raises `NotUp` where that can't be done."""
         bad: List[str] = []
         first: "asyncio.Future[str]" = self.engine.loop.create_future()
 
@@ -98,7 +115,7 @@ class Bench:  # pylint: disable=too-many-instance-attributes  # it is made of th
                 words = line.split(" ")
                 self.craft.note_set_up(words[0], [int(word) for word in words[1:] if word != "plain"], words[-1] == "plain")
                 self.journal.write(line)
-        for number, line in lines:
+        for number, line in self.options.lines:
             self.engine.set_up(line, partial(answered, number, line))
         self.engine.ask(tcrx.PROBE, first.set_result)
         either = {first, self.engine.over}
@@ -129,6 +146,8 @@ class Bench:  # pylint: disable=too-many-instance-attributes  # it is made of th
                     self.targets.append(Target(place, self.hub))
             except (OSError, OverflowError) as error:
                 raise NotUp(f"--{place.kind} {place.host}:{place.port}: {getattr(error, 'strerror', None) or error}", 1) from None
+        if self.options.has_faults:
+            self.faults = Faults(self.options, self.hub)
         for name, kind in (("send_clcw", "clcw"), ("send_packet", "packets"), ("send_unit", "units")):
             setattr(self.craft, name, self._sender(kind))
 
@@ -139,8 +158,9 @@ class Bench:  # pylint: disable=too-many-instance-attributes  # it is made of th
 
     def _sender(self, kind: str) -> Callable[[bytes], None]:
         """What sends to all places of a kind."""
-        senders: List[Callable[[bytes], None]] = [target.send for target in self.targets if target.port.place.kind == f"{kind}-udp"]
-        return all_senders([*senders, readers_sender(self.listening.get(f"{kind}-tcp", []))])
+        targets, ports = [target for target in self.targets if target.port.place.kind == f"{kind}-udp"], self.listening.get(f"{kind}-tcp", [])
+        send = all_senders([*(target.send for target in targets), readers_sender(ports)])
+        return self.faults.sender(send, [*ports, *(target.port for target in targets)]) if self.faults and kind == "clcw" else send
 
     def say_ports(self) -> None:
         """Says where it listens, one line a port. Raises `NotUp` where that can't be written."""
@@ -165,8 +185,42 @@ class Bench:  # pylint: disable=too-many-instance-attributes  # it is made of th
         if self.options.period:
             self._say_clcw()
         if self.options.link_timeout:
-            LinkWatch(self.craft, self.options.link_timeout)
+            self.link_watch = LinkWatch(self.craft, self.options.link_timeout)
+        self.craft.renew = self._renew
         self._write_log()
+
+    def _renew(self, turn: Turn) -> None:
+        """Has the receiver begun anew."""
+        self.renewal = self.engine.loop.create_task(self._begin_anew(turn))
+
+    async def _begin_anew(self, turn: Turn) -> None:
+        """Ends the receiver once all is answered, with its report, and begins another one, with another file of the log."""
+        answer = f"anew {self.journal.part + 1}"
+        try:
+            while self.engine.pending and not self.engine.over.done():
+                await asyncio.sleep(0.005)
+            process = tcrx.Process(self.words)
+            self.engine.end_lines()
+            if await self.engine.over:
+                process.end(kill=True)
+                return
+            self.journal.end(self.engine.report)
+            self._say_report()
+            self.journal.begin_part()
+            self.engine = self._engine_of(process)
+            self.craft.begin_anew(self.engine)
+            await self.set_up()
+            self.craft.note_text(turn.source, "the receiver was begun anew")
+        except NotUp as error:
+            self.engine.stop(str(error))
+        except tcrx.NotStarted as error:
+            answer = f"bad {error}"
+        finally:
+            if turn.asker:
+                turn.asker(answer)
+            self.craft.go_on()
+        if self.link_watch and self.link_watch.lost:
+            self.craft.set_link(True)
 
     def _say_clcw(self) -> None:
         """Has a CLCW made, if somebody is there for it."""
@@ -234,7 +288,7 @@ class Bench:  # pylint: disable=too-many-instance-attributes  # it is made of th
 
     def _is_answered(self) -> bool:
         """Whether there is nothing to be answered, or nobody who answers."""
-        return self.engine.over.done() or self.craft.idle()
+        return not self.craft.is_renewing and (self.engine.over.done() or self.craft.idle())
 
     def _say_unanswered(self, left: List[Turn]) -> None:
         """Names what had arrived and wasn't answered."""
@@ -263,7 +317,7 @@ class Bench:  # pylint: disable=too-many-instance-attributes  # it is made of th
                     connection.transport.write(connection.last_words(why))
 
 
-async def serve(options: Namespace, lines: List[Tuple[int, str]]) -> int:
+async def serve(options: Namespace) -> int:
     """Begins, serves until it is asked to end or the receiver ends, and ends; the status."""
     loop = asyncio.get_running_loop()
     asked: "asyncio.Future[str]" = loop.create_future()
@@ -273,17 +327,15 @@ async def serve(options: Namespace, lines: List[Tuple[int, str]]) -> int:
         journal = Journal(options.log, options.scid, options.fecf)
     except OSError as error:
         raise NotUp(f"--log {options.log}: {error.strerror}", 2) from None
-    words = [options.program or tcrx.find_program(), "--scid", str(options.scid)] + ["--fecf"] * options.fecf
-    engine = Engine(tcrx.Process(words), options.patience)
+    bench = Bench(options, journal, notes)
     for number in (signal.SIGTERM, signal.SIGINT, signal.SIGHUP):
-        loop.add_signal_handler(number, lambda: engine.stop("interrupted twice") if asked.done() else asked.set_result("asked to end"))
-    bench = Bench(options, engine, journal, notes)
+        loop.add_signal_handler(number, lambda: bench.engine.stop("interrupted twice") if asked.done() else asked.set_result("asked to end"))
     try:
-        await bench.set_up(lines)
+        await bench.set_up()
         await bench.open_ports()
         bench.say_ports()
     except NotUp as error:
-        engine.stop(str(error))
+        bench.engine.stop(str(error))
         await bench.hub.stop_listening()
         journal.close()
         raise
@@ -292,7 +344,7 @@ async def serve(options: Namespace, lines: List[Tuple[int, str]]) -> int:
     if bench.hub.most < options.connections:
         notes.say_once(warning_of_files(bench.hub.most))
     bench.begin_timers()
-    await asyncio.wait({asked, engine.over}, return_when=asyncio.FIRST_COMPLETED)
+    await asyncio.wait({asked, bench.over}, return_when=asyncio.FIRST_COMPLETED)
     return await bench.end()
 
 
@@ -302,7 +354,8 @@ def main() -> int:
     if options.replay:
         return replay(options.replay, options.program)
     try:
-        return asyncio.run(serve(options, read_setup(options.setup) if options.setup else []))
+        options.lines = read_setup(options.setup) if options.setup else []
+        return asyncio.run(serve(options))
     except NotUp as error:
         print(f"tcrx-bench: {error}", file=sys.stderr)
         return error.status

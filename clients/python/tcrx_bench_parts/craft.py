@@ -25,6 +25,8 @@ MOST_UNDER_WAY, MOST_AT_END, MOST_WAITING, LAST_EVENTS = 1024, 64, 2048, 200
 MOST_OCTETS = 2048
 # Notes of ports that are kept.
 LAST_NOTES = 20
+# The bench's own line, and where a release comes from that it makes after some time.
+ANEW, RELEASE = "anew", "release"
 EVENTS = tuple(f"E{number}" for number in range(1, 10))
 
 Asker = Callable[[str], None]
@@ -123,6 +125,10 @@ class Craft:  # pylint: disable=too-many-instance-attributes  # what is known of
         self.is_ending = self.closed = False
         """From the end on nothing is written that nobody asked for; and once it is closed, only what is under way leads to lines."""
         self.next_in_turn = 0
+        self.renew: Callable[[Turn], None] = lambda turn: None
+        """Called to have the receiver begun anew."""
+        self.is_renewing = False
+        """From then on nothing is written, until `go_on`."""
         engine.answered = self.step
 
     def now(self) -> float:
@@ -164,11 +170,28 @@ class Craft:  # pylint: disable=too-many-instance-attributes  # what is known of
         most = MOST_AT_END if self.is_ending else MOST_UNDER_WAY
         while self.waiting and not self.barred and len(self.engine.pending) < most:
             turn = self.waiting.popleft()
+            if turn.line == ANEW and not self.is_ending:
+                self.barred = self.is_renewing = True
+                self.renew(turn)
+                break
             self.barred = not self._look_at(turn)
             self._write(turn, not self.barred)
         if (len(self.waiting) > (MOST_WAITING // 4 if self.is_slow else MOST_WAITING)) != self.is_slow:
             self.is_slow = not self.is_slow
             self.slow(self.is_slow)
+
+    def begin_anew(self, engine: Engine) -> None:
+        """Knows nothing of the receiver any more, as it is another one. What is to be released was the old one's."""
+        self.engine, self.next_in_turn = engine, 0
+        engine.answered = self.step
+        self.channels.clear()
+        self.waiting = deque(turn for turn in self.waiting if turn.source != RELEASE)
+
+    def go_on(self) -> None:
+        """Goes on once the receiver is set up."""
+        self.barred = self.is_renewing = False
+        self.changes += 1
+        self.step()
 
     def _look_at(self, turn: Turn) -> bool:
         """Whether it is sure what a turn leads to."""
@@ -266,9 +289,9 @@ class Craft:  # pylint: disable=too-many-instance-attributes  # what is known of
 
     def _release_later(self, channel: Channel) -> None:
         """Releases a data field whose time has come."""
-        if self.closed:
+        if self.closed or self.channels.get(channel.vcid) is not channel:
             return
-        self.waiting.append(Turn(self.now(), "release", f"release {channel.vcid}"))
+        self.waiting.append(Turn(self.now(), RELEASE, f"release {channel.vcid}"))
         self.step()
 
     def _released(self, turn: Turn, _: str, answer: str) -> None:
@@ -396,7 +419,7 @@ class Craft:  # pylint: disable=too-many-instance-attributes  # what is known of
 
     def say_next_clcw(self) -> None:
         """Has the CLCW of the next channel made, in turn."""
-        if self.channels:
+        if self.channels and not self.is_renewing:
             vcids = sorted(self.channels)
             vcid = vcids[self.next_in_turn % len(vcids)]
             self.next_in_turn += 1
@@ -433,7 +456,7 @@ class Craft:  # pylint: disable=too-many-instance-attributes  # what is known of
     def refresh(self, done: Callable[[], None]) -> None:
         """Has reports made of the channels that changed, and calls `done` when they are in."""
         changed = [channel for channel in self.channels.values() if channel.changed]
-        if self.closed or not changed:
+        if self.closed or self.is_renewing or not changed:
             done()
             return
         for channel in changed:

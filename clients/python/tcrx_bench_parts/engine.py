@@ -5,15 +5,21 @@ All happens in the thread of the event loop. Answers come in the order of the li
 from __future__ import annotations
 
 import asyncio
+import re
 import time
 from collections import deque
 from typing import Callable, Deque, List, Optional, Tuple
 
-from tcrx import LONGEST_ANSWER, LONGEST_REPORT, PROBE, PROBE_ANSWER, Process, without_hint
+from tcrx import COUNTS, LONGEST_ANSWER, LONGEST_REPORT, NUMBER, PROBE, PROBE_ANSWER, Process, without_hint
 
 Answered = Callable[[str], None]
 # Octets that are read at once.
 CHUNK = 1 << 18
+# The form of each answer, by its first word.
+FORMS = {word: re.compile(rf"{word} {NUMBER} {rest}") for word, rest in (
+    ("frame", f"E[1-9] accepted [01] {COUNTS}"), ("release", COUNTS), ("take", rf"{NUMBER} (?:[0-9a-f]{{2}})+"), ("clcw", "[0-9a-f]{8}"),
+    ("unit", rf"{NUMBER} (?:-|(?:[0-9a-f]{{2}})+)"), ("link", "[01] [01]"),
+    ("report", rf"state (?:open|wait|lockout) vr {NUMBER} .* buffered {NUMBER}(?: queue {NUMBER} {NUMBER})*(?: map {NUMBER} {NUMBER})*"))}
 
 
 class Engine:  # pylint: disable=too-many-instance-attributes  # both ways of one connection, and its end
@@ -136,10 +142,15 @@ class Engine:  # pylint: disable=too-many-instance-attributes  # both ways of on
         """Gives an answer to the line that waits longest, or adds it to the final report."""
         if self.pending:
             line, answered = self.pending.popleft()
-            if answer.startswith(("bad ", "refused ")) or answer.partition(" ")[0] == line.partition(" ")[0]:
-                answered(answer)
-            else:
-                self.stop(f"`{line[:80]}` was answered `{answer[:80]}`")
+            word = line.partition(" ")[0]
+            try:
+                if answer.startswith(("bad ", "refused ")) or (word in FORMS and FORMS[word].fullmatch(answer)):
+                    answered(answer)
+                    return
+            except KeyError:
+                # It is of a channel that isn't there.
+                pass
+            self.stop(f"`{line[:80]}` was answered `{answer[:80]}`")
         elif self._ending and sum(map(len, self.report)) < LONGEST_REPORT:
             self.report.append(answer)
         else:

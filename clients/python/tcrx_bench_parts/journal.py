@@ -42,16 +42,32 @@ class Journal:
     """Writes the journal. Without a file it does nothing."""
 
     def __init__(self, path: Optional[Path], scid: int, fecf: bool) -> None:
-        self.fecf = fecf
-        # It is written in large pieces, so it needs no buffer.
-        self.file: Optional[FileIO] = FileIO(str(path), "xb") if path else None
+        self.path, self.scid, self.fecf, self.part = path, scid, fecf, 1
+        self.file: Optional[FileIO] = None
         self.size = 0
         """How many octets of whole lines it has."""
         self.fault = ""
         """Why the journal ends before the session, if it does."""
-        begun = datetime.now(timezone.utc).strftime("%Y-%m-%dT%H:%M:%S.%fZ")
         self.lines: List[str] = []
-        self.write(f"# tcrx-bench {__version__} spacecraft {scid}{', with frame error control' if fecf else ''}, begun {begun}")
+        self._begin(path)
+
+    def _begin(self, path: Optional[Path]) -> None:
+        """Begins a file."""
+        # It is written in large pieces, so it needs no buffer.
+        self.file = FileIO(str(path), "xb") if path else None
+        self.size = 0
+        begun = datetime.now(timezone.utc).strftime("%Y-%m-%dT%H:%M:%S.%fZ")
+        self.write(f"# tcrx-bench {__version__} spacecraft {self.scid}{', with frame error control' if self.fecf else ''}, begun {begun}")
+
+    def begin_part(self) -> None:
+        """Goes on in another file, for a receiver that is begun anew. Where that fails the journal ends."""
+        self.close()
+        self.part += 1
+        if self.path and not self.fault:
+            try:
+                self._begin(self.path.with_name(f"{self.path.name}.{self.part}"))
+            except OSError as error:
+                self.fault = f"the log can't be written: {error.strerror}"
 
     def write(self, *lines: str) -> None:
         """Adds lines."""

@@ -24,6 +24,10 @@ LISTENS = (
 SENDS = (("clcw-udp", "CLCWs to HOST:PORT, one in each datagram"), ("packets-udp", "packets to HOST:PORT, one in each datagram"),
          ("units-udp", "units to HOST:PORT, one in each datagram"))
 
+# Faults on purpose: the option's name, and of what it is the share.
+FAULTS = (("drop", "of frames that arrive, the share that is lost: 0.2 for a fifth"), ("twice", "the share that comes twice"),
+          ("flip", "the share in which a bit is turned"), ("drop-clcw", "of CLCWs that are sent, the share that is lost"))
+
 
 def number_in(least: int, most: int) -> Any:
     """A reader of whole numbers of a range."""
@@ -42,6 +46,17 @@ def seconds(word: str) -> float:
         value = -1.0
     if not 0 <= value <= 1e6:
         raise argparse.ArgumentTypeError(f"{word!r} isn't a number of seconds")
+    return value
+
+
+def share(word: str) -> float:
+    """A part of a whole."""
+    try:
+        value = float(word)
+    except ValueError:
+        value = -1.0
+    if not 0 <= value <= 1:
+        raise argparse.ArgumentTypeError(f"{word!r} isn't a number from 0 to 1")
     return value
 
 
@@ -122,6 +137,10 @@ def add_behaviour(made: argparse.ArgumentParser) -> None:
     made.add_argument("--connections", type=number_in(1, 10000), default=32, metavar="<N>", help="connections that a port takes at a time; 32 if not given")
     made.add_argument("--patience", type=seconds, default=10.0, metavar="<SECONDS>",
                       help="time for the rest of a frame, and for an answer of tclive; 10 if not given")
+    for name, text in FAULTS:
+        made.add_argument(f"--{name}", type=share, default=0.0, metavar="<SHARE>", help=text)
+    made.add_argument("--delay", type=seconds, default=0.0, metavar="<SECONDS>", help="frames that arrive come up to this much later, by chance")
+    made.add_argument("--seed", type=number_in(0, 999999999), default=0, metavar="<N>", help="with another seed chance has it otherwise")
     made.add_argument("--log", type=Path, metavar="<FILE>", help="write frames, lines and answers there, as a script; the file must be new")
     made.add_argument("--replay", type=Path, metavar="<FILE>", help="give a log to tclive, compare the answers, and end")
 
@@ -140,6 +159,7 @@ def read_words(words: Sequence[str]) -> argparse.Namespace:
         made.error("argument --release-after: not with --release manual")
     if not options.patience:
         made.error("argument --patience: it must be over 0")
+    options.has_faults = bool(options.delay) or any(getattr(options, name.replace("-", "_")) for name, _ in FAULTS)
     return options
 
 

@@ -139,6 +139,8 @@ class Port:
         self.address = shown(place.host, place.port)
         self.open: Set[Connection] = set()
         self.counts: Dict[str, int] = {}
+        self.bring: Callable[[bytes, str], None] = hub.craft.bring
+        """Called with each frame that arrives here, and from where."""
         self.look: Callable[[], None] = lambda: None
         """Called before the counts are looked at."""
         self.server: Optional[asyncio.AbstractServer] = None
@@ -379,7 +381,7 @@ class FrameConnection(Connection):
         skipped = self.cutter.skipped
         frames, fault = self.cutter.feed(data)
         for frame in frames:
-            self.hub.craft.bring(frame, self.source)
+            self.port.bring(frame, self.source)
         self.port.count("frames", len(frames))
         if frames or not self.cutter.kept:
             self.begun = None
@@ -638,7 +640,7 @@ class Datagrams:
                 self.port.count("frames")
                 if self.fill > 1 and len(octets) >= 4:
                     octets = octets[:((octets[2] & 3) << 8 | octets[3]) + 1]
-                self.hub.craft.bring(octets, f"{self.port.place.kind} {shown(sender[0], sender[1])}")
+                self.port.bring(octets, f"{self.port.place.kind} {shown(sender[0], sender[1])}")
 
     def close(self) -> None:
         """Reads nothing more."""

@@ -80,9 +80,13 @@ class Web:
     def send(self) -> None:
         """Sends what changed to each that follows and is not slow; one that is gets all of it later, but for events that are too old."""
         self.asked = False
+        texts: Dict[int, bytes] = {}
         for each in self.followers:
             if not each.paused:
-                each.send(self.state(each.seen))
+                # It is made once for all that have seen the same events.
+                if each.seen not in texts:
+                    texts[each.seen] = f"data: {json.dumps(self.state(each.seen))}\n\n".encode()
+                each.send(texts[each.seen], self.craft.count_of_events)
 
     def end(self, why: str) -> None:
         """Says that the receiver is no more."""
@@ -214,10 +218,10 @@ class Follower:
         """Whether nothing was sent to it yet."""
         return self.sent == 0.0
 
-    def send(self, state: Dict[str, object]) -> None:
-        """Sends a state."""
-        self.seen, self.sent = cast(int, state["count_of_events"]), time.monotonic()
-        self.visitor.transport.write(f"data: {json.dumps(state)}\n\n".encode())
+    def send(self, text: bytes, seen: int) -> None:
+        """Sends a state, up to an event of this number."""
+        self.seen, self.sent = seen, time.monotonic()
+        self.visitor.transport.write(text)
 
     def breathe(self) -> None:
         """Sends a comment where nothing was sent for long."""
