@@ -14,7 +14,7 @@ _tcrx_bench() {
             --connections | --patience | --drop | --twice | --flip | --delay | --drop-clcw | --seed) ;;
         *) mapfile -t COMPREPLY < <(compgen -W '--scid --fecf --setup --program --tc-tcp --tc-udp --lines --clcw-tcp --packets-tcp --units-tcp --http
             --clcw-udp --packets-udp --units-udp --allow --fill --resync --period --release --release-after --link-timeout --connections --patience
-            --drop --twice --flip --delay --drop-clcw --seed --log --replay -h --help -V --version' -- "$current") ;;
+            --drop --twice --flip --delay --drop-clcw --seed --demo --log --replay -h --help -V --version' -- "$current") ;;
     esac
 }
 complete -F _tcrx_bench tcrx-bench

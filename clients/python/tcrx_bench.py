@@ -24,12 +24,13 @@ if sys.version_info < (3, 9):
 # pylint: disable=wrong-import-position
 import tcrx  # noqa: E402
 from tcrx_bench_parts.craft import Craft, Release, Turn  # noqa: E402
+from tcrx_bench_parts.demo import KEYS, SETUP, Demo  # noqa: E402
 from tcrx_bench_parts.engine import Engine  # noqa: E402
 from tcrx_bench_parts.faults import Faults  # noqa: E402
 from tcrx_bench_parts.journal import Journal, replay  # noqa: E402
 from tcrx_bench_parts.octets import Cutter  # noqa: E402
 from tcrx_bench_parts.options import read_setup, read_words, warning_of, warning_of_files  # noqa: E402
-from tcrx_bench_parts.ports import (Connection, Datagrams, FrameConnection, Hub, LineConnection, Notes, Port, Reader, Target, all_senders,  # noqa: E402
+from tcrx_bench_parts.ports import (Connection, Datagrams, FrameConnection, Hub, LineConnection, Notes, Place, Port, Reader, Target, all_senders,  # noqa: E402
                                     readers_sender, room_for)
 from tcrx_bench_parts.web import Visitor, Web  # noqa: E402
 
@@ -327,9 +328,18 @@ async def serve(options: Namespace) -> int:
         journal = Journal(options.log, options.scid, options.fecf)
     except OSError as error:
         raise NotUp(f"--log {options.log}: {error.strerror}", 2) from None
+    demo = Demo(options.scid, options.fecf) if options.demo else None
+    if demo:
+        options.places.append(Place("clcw-udp", "127.0.0.1", demo.port()))
     bench = Bench(options, journal, notes)
+
+    def ask_to_end() -> None:
+        if asked.done():
+            bench.engine.stop("interrupted twice")
+        else:
+            asked.set_result("asked to end")
     for number in (signal.SIGTERM, signal.SIGINT, signal.SIGHUP):
-        loop.add_signal_handler(number, lambda: bench.engine.stop("interrupted twice") if asked.done() else asked.set_result("asked to end"))
+        loop.add_signal_handler(number, ask_to_end)
     try:
         await bench.set_up()
         await bench.open_ports()
@@ -344,7 +354,12 @@ async def serve(options: Namespace) -> int:
     if bench.hub.most < options.connections:
         notes.say_once(warning_of_files(bench.hub.most))
     bench.begin_timers()
+    if demo:
+        bench.write(f"open http://{bench.listening['http'][0].address}/\n{KEYS}\n")
+        demo.begin([port for port in bench.hub.ports if port.place.kind == "tc-udp"][-1].number, ask_to_end)
     await asyncio.wait({asked, bench.over}, return_when=asyncio.FIRST_COMPLETED)
+    if demo:
+        demo.end()
     return await bench.end()
 
 
@@ -354,7 +369,7 @@ def main() -> int:
     if options.replay:
         return replay(options.replay, options.program)
     try:
-        options.lines = read_setup(options.setup) if options.setup else []
+        options.lines = read_setup(options.setup) if options.setup else list(enumerate(SETUP, 1)) if options.demo else []
         return asyncio.run(serve(options))
     except NotUp as error:
         print(f"tcrx-bench: {error}", file=sys.stderr)

@@ -141,6 +141,7 @@ def add_behaviour(made: argparse.ArgumentParser) -> None:
         made.add_argument(f"--{name}", type=share, default=0.0, metavar="<SHARE>", help=text)
     made.add_argument("--delay", type=seconds, default=0.0, metavar="<SECONDS>", help="frames that arrive come up to this much later, by chance")
     made.add_argument("--seed", type=number_in(0, 999999999), default=0, metavar="<N>", help="with another seed chance has it otherwise")
+    made.add_argument("--demo", action="store_true", help="also start two senders over a bad link, and name the page to look at")
     made.add_argument("--log", type=Path, metavar="<FILE>", help="write frames, lines and answers there, as a script; the file must be new")
     made.add_argument("--replay", type=Path, metavar="<FILE>", help="give a log to tclive, compare the answers, and end")
 
@@ -151,16 +152,28 @@ def read_words(words: Sequence[str]) -> argparse.Namespace:
     options = made.parse_args(words)
     if options.replay:
         return options
-    if options.scid is None:
+    if options.scid is None and not options.demo:
         made.error("the following arguments are required: --scid")
-    if not options.places:
+    if not options.places and not options.demo:
         made.error("no port is named, so nobody could connect")
     if options.release_after is not None and options.release == "manual":
         made.error("argument --release-after: not with --release manual")
     if not options.patience:
         made.error("argument --patience: it must be over 0")
+    if options.demo:
+        set_demo(options)
     options.has_faults = bool(options.delay) or any(getattr(options, name.replace("-", "_")) for name, _ in FAULTS)
     return options
+
+
+def set_demo(options: argparse.Namespace) -> None:
+    """Chooses for the demonstration what wasn't chosen."""
+    options.scid = 42 if options.scid is None else options.scid
+    options.drop = options.drop or 0.2
+    if options.release == "auto" and options.release_after is None:
+        options.release_after = 0.3
+    kinds = {place.kind for place in options.places}
+    options.places += [Place(kind, "127.0.0.1", 0) for kind in ("http", "tc-udp") if kind == "tc-udp" or kind not in kinds]
 
 
 def read_setup(path: Path) -> List[Tuple[int, str]]:

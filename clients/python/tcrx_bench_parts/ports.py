@@ -145,6 +145,11 @@ class Port:
         """Called before the counts are looked at."""
         self.server: Optional[asyncio.AbstractServer] = None
 
+    @property
+    def number(self) -> int:
+        """The number of the port."""
+        return int(self.address.rpartition(":")[2])
+
     def count(self, what: str, more: int = 1) -> None:
         """Counts what happened here."""
         self.counts[what] = self.counts.get(what, 0) + more

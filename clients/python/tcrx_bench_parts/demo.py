@@ -1,0 +1,153 @@
+"""The demonstration: two senders that retransmit, over a link that loses frames, and keys by which whoever looks on disturbs it.
+
+They are what any other sender is to the bench: frames go to its port by UDP, and CLCWs come back by UDP.
+"""
+from __future__ import annotations
+
+import asyncio
+import os
+import socket
+import sys
+import termios
+import time
+import tty
+from binascii import crc_hqx
+from typing import Any, Callable, List, Optional, Tuple
+
+from tcrx import Clcw
+
+SETUP = ("channel 1 20 8 0", "queue 1 5 16", "channel 2 10 4 0", "queue 2 6 8")
+# Each channel with the application that its packets are for.
+SENDERS = ((1, 5), (2, 6))
+# Seconds between two frames of a sender; without a step forward after which it begins again with the oldest; frames under way at most.
+PACE, TIMER, MOST = 0.25, 1.5, 8
+# The standard's flags of a frame's kind: data in sequence, and a control command.
+AD, BC = 0, 3
+LOST = 5
+KEYS = "keys: l loses the next frames, o locks channel 1 out, u unlocks it, q ends"
+
+
+# pylint: disable-next=too-many-arguments  # the fields of a frame
+def frame_of(scid: int, fecf: bool, vcid: int, number: int, kind: int, data: bytes) -> bytes:
+    """A telecommand transfer frame."""
+    length = 5 + len(data) + 2 * fecf - 1
+    octets = bytes([kind << 4 | scid >> 8, scid & 255, vcid << 2 | length >> 8, length & 255, number % 256]) + data
+    return octets + crc_hqx(octets, 0xFFFF).to_bytes(2, "big") if fecf else octets
+
+
+class Sender:
+    """Sends numbered packets on one channel until the CLCW says that each was accepted: a small FOP-1."""
+
+    def __init__(self, vcid: int, apid: int) -> None:
+        self.vcid, self.apid = vcid, apid
+        self.accepted = self.sent = 0
+        """How many frames were accepted and sent since the begin."""
+        self.clcw: Optional[Clcw] = None
+        self.moved = time.monotonic()
+
+    def hear(self, clcw: Clcw) -> None:
+        """Learns from a CLCW what was accepted, and what is to be sent again."""
+        step = (clcw.vr - self.accepted) % 256
+        self.accepted += step
+        if step or self.sent == self.accepted:
+            self.moved = time.monotonic()
+        self.sent = self.accepted if clcw.retransmit else max(self.sent, self.accepted)
+        self.clcw = clcw
+
+    def next(self) -> Optional[Tuple[int, bytes]]:
+        """The number and the data field that are to be sent now, if any."""
+        if self.clcw and (self.clcw.lockout or self.clcw.wait):
+            self.sent = self.accepted
+            return None
+        if time.monotonic() - self.moved > TIMER:
+            self.sent, self.moved = self.accepted, time.monotonic()
+        if self.sent - self.accepted >= MOST:
+            return None
+        self.sent += 1
+        number = self.sent - 1
+        packet = (0x1000 | self.apid).to_bytes(2, "big") + (0xC000 | number & 0x3FFF).to_bytes(2, "big") + b"\x00\x03" + number.to_bytes(4, "big")
+        return number, b"\xc0" + packet
+
+
+class Demo:
+    """The senders, and who disturbs them."""
+
+    def __init__(self, scid: int, fecf: bool) -> None:
+        self.scid, self.fecf = scid, fecf
+        self.loop = asyncio.get_running_loop()
+        self.socket = socket.socket(socket.AF_INET, socket.SOCK_DGRAM)
+        self.socket.bind(("127.0.0.1", 0))
+        self.socket.setblocking(False)
+        self.senders = {vcid: Sender(vcid, apid) for vcid, apid in SENDERS}
+        self.lost = self.frames = 0
+        self.kept: Optional[List[Any]] = None
+        self.quit: Callable[[], None] = lambda: None
+
+    def port(self) -> int:
+        """Where CLCWs are to be sent."""
+        return int(self.socket.getsockname()[1])
+
+    def begin(self, frames: int, quit_bench: Callable[[], None]) -> None:
+        """Begins to send to a port of this machine."""
+        self.quit = quit_bench
+        self.frames = frames
+        self.loop.add_reader(self.socket, self._hear)
+        try:
+            self.loop.add_reader(sys.stdin, self._obey)
+            self.kept = termios.tcgetattr(sys.stdin)
+            tty.setcbreak(sys.stdin)
+        except (OSError, ValueError, termios.error):
+            # Standard input is no terminal, a file, or closed.
+            pass
+        self._send_next()
+
+    def _send(self, number: int, data: bytes, kind: int = AD, vcid: int = 1) -> None:
+        """Sends a frame."""
+        try:
+            self.socket.sendto(frame_of(self.scid, self.fecf, vcid, number, kind, data), ("127.0.0.1", self.frames))
+        except OSError:
+            pass
+
+    def _send_next(self) -> None:
+        """Has each sender send what is next."""
+        for sender in self.senders.values():
+            found = sender.next()
+            if found and self.lost:
+                self.lost -= 1
+            elif found:
+                self._send(*found, vcid=sender.vcid)
+        self.loop.call_later(PACE, self._send_next)
+
+    def _hear(self) -> None:
+        """Hands CLCWs to their sender."""
+        try:
+            while True:
+                clcw = Clcw(int.from_bytes(self.socket.recv(4), "big"))
+                if clcw.channel in self.senders:
+                    self.senders[clcw.channel].hear(clcw)
+        except OSError:
+            pass
+
+    def _obey(self) -> None:
+        """Does what the keys say."""
+        keys = os.read(sys.stdin.fileno(), 100).decode("ascii", errors="replace")
+        if not keys:
+            self.loop.remove_reader(sys.stdin)
+        for key in keys:
+            if key == "l":
+                self.lost += LOST
+            elif key == "q":
+                self.quit()
+            # Three times, as the link loses some: a frame whose number is far from the one that is expected; and Unlock.
+            for _ in range(3):
+                if key == "o":
+                    self._send(self.senders[1].accepted + 128, b"\xc0locked out")
+                elif key == "u":
+                    self._send(0, b"\x00", BC)
+
+    def end(self) -> None:
+        """Gives the terminal back, and sends nothing more."""
+        self.loop.remove_reader(self.socket)
+        self.socket.close()
+        if self.kept is not None:
+            termios.tcsetattr(sys.stdin, termios.TCSADRAIN, self.kept)
