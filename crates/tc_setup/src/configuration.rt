@@ -1,17 +1,17 @@
 //! The channels that a script sets up.
 
-ghost use Rattle.std.specs.Prelude.{◌≡◌, ◌≤◌, ◌⊎◌, [], length, IfOk, IfErr, OnOk, OnErr, MatchOption, MatchResult};
-ghost use Rattle.tc_channel.specs.Settings.{IsAllowed};
+ghost use Rattle.std.specs.Prelude.{◌≡◌, ◌↔◌, ◌≤◌, ◌⊎◌, Any, IsTrue, [], length, IfOk, IfErr, OnOk, OnErr, MatchOption, MatchResult};
+ghost use Rattle.tc_channel.specs.Settings.{IsAllowed, IsFault};
 ghost use Rattle.tc_channel.specs.declared.settings.Settings.{Settings};
 ghost use Rattle.tc_setup.specs.Configuration.{AddsChannel, AddsToChannel, IsConfiguration, IsThere, IsAt, vcids_of, with_addition};
 ghost use Rattle.tc_setup.specs.Phase.{IsChannelRefused, IsAdditionRefused, IsSettingsReason};
 
 use crate::copying::copy_each;
-use crate::growing::{append, let_go_of_last};
+use crate::growing::append;
 use crate::instruction::Addition;
 use std::alloc::Global;
 use std::marker::Model;
-use tc_channel::Settings;
+use tc_channel::{MapSetting, QueueSetting, Settings, SettingsFault};
 use tc_text::Reason;
 
 /// The settings of the channels so far, in the order of their lines. A station can have them, as
@@ -135,38 +135,70 @@ fn check(settings: &Settings) -> Result<(), Reason>
 
 // One queue or one chosen MAP more, where a channel can have it.
 fn add_checked(alloc: Global, settings: &mut Settings, addition: Addition) -> Result<(), Reason>
+    requires { IsAllowed settings.old }
     ensures done { OnOk result (settings.new ≡ with_addition settings.old addition) }
     ensures allowed { OnOk result (IsAllowed settings.new) }
     ensures vcid { settings.new.vcid ≡ settings.old.vcid }
     ensures reason { IfErr result (λ reason. (reason ≡ Reason.NoMemory) ⊎ IsSettingsReason (with_addition settings.old addition) reason) }
     ensures refused { OnErr result (settings.new ≡ settings.old) }
 {
-    add(alloc, settings, addition)?;
-    let checked = check(settings);
-    if checked.is_err() {
-        take_back(alloc, settings, addition);
-    }
-    checked
-}
-
-// One queue or one chosen MAP more.
-fn add(alloc: Global, settings: &mut Settings, addition: Addition) -> Result<(), Reason>
-    ensures done { OnOk result (settings.new ≡ with_addition settings.old addition) }
-    ensures reason { IfErr result (λ reason. reason ≡ Reason.NoMemory) }
-    ensures refused { OnErr result (settings.new ≡ settings.old) }
-{
     match addition {
-        Addition::Queue(queue) => append(alloc, &mut settings.queues, queue),
-        Addition::Map(map) => append(alloc, &mut settings.maps, map),
+        Addition::Queue(queue) => {
+            check_queue(settings, queue)?;
+            append(alloc, &mut settings.queues, queue)
+        }
+        Addition::Map(map) => {
+            check_map(settings, map)?;
+            append(alloc, &mut settings.maps, map)
+        }
     }
 }
 
-// Without the queue or the chosen MAP that was added last.
-fn take_back(alloc: Global, settings: &mut Settings, addition: Addition)
-    ensures { (before : Settings) → settings.old ≡ with_addition before addition → settings.new ≡ before }
+// Whether a channel can have this queue besides. The settings before it are allowed, so only the queue is looked at.
+fn check_queue(settings: &Settings, queue: QueueSetting) -> Result<(), SettingsFault>
+    requires { IsAllowed settings.now }
+    ensures { MatchResult result (λ _. IsAllowed (with_addition settings.now (Addition.Queue queue))) (IsFault (with_addition settings.now (Addition.Queue queue))) }
 {
-    match addition {
-        Addition::Queue(_) => let_go_of_last(alloc, &mut settings.queues),
-        Addition::Map(_) => let_go_of_last(alloc, &mut settings.maps),
+    if queue.apid > 2046 {
+        return Err(SettingsFault::BadApid);
     }
+    if has_apid(&settings.queues, queue.apid) {
+        return Err(SettingsFault::DoubleApid);
+    }
+    if queue.capacity < 1 || queue.capacity > 256 {
+        return Err(SettingsFault::BadCapacity);
+    }
+    Ok(())
+}
+
+// Whether a channel can have this chosen MAP besides.
+fn check_map(settings: &Settings, map: MapSetting) -> Result<(), SettingsFault>
+    requires { IsAllowed settings.now }
+    ensures { MatchResult result (λ _. IsAllowed (with_addition settings.now (Addition.Map map))) (IsFault (with_addition settings.now (Addition.Map map))) }
+{
+    if map.map > 63 {
+        return Err(SettingsFault::BadMap);
+    }
+    if has_map(&settings.maps, map.map) {
+        return Err(SettingsFault::DoubleMap);
+    }
+    if map.capacity < 1 || map.capacity > 256 {
+        return Err(SettingsFault::BadUnits);
+    }
+    if !settings.segmented {
+        return Err(SettingsFault::PlainMap);
+    }
+    Ok(())
+}
+
+fn has_apid(queues: &[QueueSetting], apid: u16) -> bool
+    ensures { IsTrue result ↔ Any (λ q. q.apid ≡ apid) queues.now }
+{
+    queues.iter().any(|queue| queue.apid == apid)
+}
+
+fn has_map(maps: &[MapSetting], map: u8) -> bool
+    ensures { IsTrue result ↔ Any (λ m. m.map ≡ map) maps.now }
+{
+    maps.iter().any(|other| other.map == map)
 }

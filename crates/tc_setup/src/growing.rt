@@ -1,6 +1,6 @@
 //! Lists that lines make longer.
 
-ghost use Rattle.std.specs.Prelude.{◌≡◌, List, [], ◌∷◌, ◌++◌, IfErr, OnOk, OnErr};
+ghost use Rattle.std.specs.Prelude.{◌≡◌, [], ◌∷◌, ◌++◌, IfErr, OnOk, OnErr};
 
 use std::alloc::Global;
 use std::mem;
@@ -21,14 +21,4 @@ pub fn append<T: Drop>(alloc: Global, items: &mut Items<T>, item: T) -> Result<(
         Ok(()) => Ok(()),
         Err(_) => Err(Reason::NoMemory),
     }
-}
-
-/// Without the last item, which is let go.
-pub(crate) fn let_go_of_last<T: Drop>(alloc: Global, items: &mut Items<T>)
-    ensures { (before : List T) (item : T) → items.old ≡ before ++ item ∷ [] → items.new ≡ before }
-{
-    let there = mem::replace(items, Items::from(Vec::new(alloc)));
-    let mut fewer = there.into_vec();
-    let _ = fewer.pop();
-    *items = Items::from(fewer);
 }

@@ -33,35 +33,48 @@ struct Lines {
 
 impl Lines {
     fn look(&mut self, octets: &[u8]) {
-        for octet in octets {
-            if self.seen == Seen::Others {
-                return;
-            }
-            if *octet == b'\n' {
+        if self.seen == Seen::Others {
+            return;
+        }
+        let mut begins = false;
+        for piece in octets.split(|octet| *octet == b'\n') {
+            if begins {
                 self.end_line();
-            } else if self.line.len() < MAX_KEPT && self.line.push(*octet).is_err() {
-                self.seen = Seen::Others;
             }
+            begins = true;
+            self.keep(piece);
         }
     }
 
-    // Looks at a line that is whole.
+    // One piece more of the line that isn't whole yet, as far as it is kept.
+    fn keep(&mut self, piece: &[u8]) {
+        let room = MAX_KEPT.saturating_sub(self.line.len());
+        let kept = piece.get(..room).unwrap_or(piece);
+        if self.line.extend_from_slice(kept).is_err() {
+            self.seen = Seen::Others;
+        }
+    }
+
+    // Looks at a line that is whole. Without an `f` it is no frame; what is cut may be another line than it seems, unless it is a
+    // comment.
     fn end_line(&mut self) {
+        let is_cut = self.line.len() == MAX_KEPT;
+        if is_cut || self.line.contains(&b'f') {
+            self.parse(is_cut);
+        }
+        self.line.clear();
+    }
+
+    fn parse(&mut self, is_cut: bool) {
         match parse_line(self.alloc, self.line.as_slice()) {
             Ok(Line::Frame(octets)) => {
                 let right = without_field(self.alloc, octets.as_slice()).is_ok();
                 self.note(right);
             }
-            // What is cut may be another line than it seems, unless it is a comment.
-            Ok(Line::Blank) => {
-                if self.line.len() == MAX_KEPT && !self.line.contains(&b'#') {
-                    self.seen = Seen::Others;
-                }
-            }
+            Ok(Line::Blank) if is_cut && !self.line.contains(&b'#') => self.seen = Seen::Others,
             Ok(_) => {}
             Err(_) => self.seen = Seen::Others,
         }
-        self.line.clear();
     }
 
     // Notes whether a frame ended with its field.
