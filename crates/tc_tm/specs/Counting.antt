@@ -1,0 +1,31 @@
+-- How telemetry frames are counted (CCSDS 132.0-B, 4.1.2.5 and 4.1.2.6): each master channel by itself, and each virtual channel.
+use Rattle.std.specs.Prelude.{ℕ, ◌+◌, ◌*◌, ◌%◌, List, replicate, slice_index, slice_set}
+use Rattle.tc_tm.specs.declared.frame.TmHeader.{TmHeader}
+
+-- how many frames there were, modulo 256: of each spacecraft, and of each of its eight virtual channels
+pub record Counted : Type 0 where
+  pub masters : List ℕ
+  pub channels : List ℕ
+
+unfoldable pub none_yet : Counted
+none_yet = record { masters = replicate 1024 0; channels = replicate 8192 0 }
+
+-- where a virtual channel of a spacecraft is counted
+abbrev pub place_of : ℕ → ℕ → ℕ
+place_of scid vcid = 8 * scid + vcid
+
+-- the header of the next frame of a virtual channel
+abbrev pub next_header : Counted → ℕ → ℕ → TmHeader
+next_header counts scid vcid = record {
+  scid = scid;
+  vcid = vcid;
+  master_count = slice_index counts.masters scid;
+  channel_count = slice_index counts.channels (place_of scid vcid);
+}
+
+-- one frame more of a virtual channel
+abbrev pub counted : Counted → ℕ → ℕ → Counted
+counted counts scid vcid = record {
+  masters = slice_set counts.masters scid ((slice_index counts.masters scid + 1) % 256);
+  channels = slice_set counts.channels (place_of scid vcid) ((slice_index counts.channels (place_of scid vcid) + 1) % 256);
+}

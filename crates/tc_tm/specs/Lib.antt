@@ -1,0 +1,2 @@
+pub mod TmFrame
+pub mod Counting
