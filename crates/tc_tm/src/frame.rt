@@ -137,12 +137,5 @@ fn primary_header(header: &TmHeader) -> [u8; 6]
     ensures { result ≡ primary header.now }
 {
     let [a, b] = (header.scid * 16 + u16::from(header.vcid) * 2 + 1).to_be_bytes();
-    [
-        a,
-        b,
-        header.master_count,
-        header.channel_count,
-        0x1f,
-        0xfe,
-    ]
+    [a, b, header.master_count, header.channel_count, 0x1f, 0xfe]
 }

@@ -4,7 +4,7 @@ use std::alloc::Global;
 use std::fmt::Display;
 use std::process::Abort;
 use std::test::Fail;
-use tc_tm::{Counts, ErrorControl, TmFields, TmFault, TmHeader, TmReadFault, read_tm, write_tm};
+use tc_tm::{Counts, ErrorControl, TmFault, TmFields, TmHeader, TmReadFault, read_tm, write_tm};
 
 const HEADER: TmHeader = TmHeader {
     scid: 42,
@@ -45,7 +45,12 @@ fn a_frame_is_written_and_read_back(rt: HostRuntime) -> Result<(), Fail> {
 #[test]
 fn counts_go_on_for_each_channel(rt: HostRuntime) -> Result<(), Fail> {
     let mut counts = Counts::new(rt.alloc())?;
-    for (scid, vcid, master, channel) in [(42, 1, 0, 0), (42, 2, 1, 0), (42, 1, 2, 1), (43, 1, 0, 0)] {
+    for (scid, vcid, master, channel) in [
+        (42, 1, 0, 0),
+        (42, 2, 1, 0),
+        (42, 1, 2, 1),
+        (43, 1, 0, 0),
+    ] {
         let frame = counts.next_frame(rt.alloc(), ErrorControl::Absent, scid, vcid, CLCW, 11)?;
         assert_eq!(rt; frame.get(2).copied(), Some(master));
         assert_eq!(rt; frame.get(3).copied(), Some(channel));
@@ -82,7 +87,11 @@ fn each_refusal_of_telemetry(rt: HostRuntime) {
         ("02a3ff071ffe550104000173d3", TmReadFault::WrongSum),
     ] {
         let octets = hex::decode(rt.alloc(), digits).expect(&rt, "octets");
-        assert_eq!(rt; read_tm(ErrorControl::Present, &octets).err(), Some(fault), "{digits}");
+        assert_eq!(rt;
+            read_tm(ErrorControl::Present, &octets).err(),
+            Some(fault),
+            "{digits}"
+        );
     }
 }
 
