@@ -53,7 +53,7 @@ if TYPE_CHECKING:
 # That of the programs, and of the newest heading of CHANGELOG.md.
 __version__ = "0.1.0"
 
-__all__ = ["BadLine", "Brought", "Clcw", "Delivery", "Ended", "Event", "Fault", "Final", "NotSetUp", "NotStarted", "Outcome", "Packet",
+__all__ = ["BadLine", "Brought", "Clcw", "Delivered", "Delivery", "Ended", "Event", "Fault", "Final", "NotSetUp", "NotStarted", "Outcome", "Packet",
            "Receiver", "Refusal", "Refused", "Released", "Report", "State", "TimedOut", "Unexpected", "Unit"]
 
 if not TYPE_CHECKING:
@@ -263,6 +263,19 @@ class Clcw(Answered):
     def vr(self) -> int:
         """V(R), 0 to 255: the number of the frame that is expected next."""
         return self.word & 255
+
+
+@dataclass(frozen=True)
+class Delivered(Answered):
+    """A release, and all that came of it: nothing waits in the queues of the channel."""
+
+    channel: int
+    released: Union[Released, Refused]
+    """The answer to the release: `EMPTY` where no data field waited, as behind a Type-BD frame, whose packets wait at once."""
+    taken: Tuple[Union[Packet, Unit], ...]
+    """The packets of each queue and then the units of each MAP, in the order of the set-up, the oldest of each first."""
+    clcw: Clcw
+    """The CLCW behind all of these, with the flags of the link."""
 
 
 @dataclass(frozen=True)
@@ -492,6 +505,7 @@ Answer = TypeVar("Answer")
 # No number of an answer is longer, and Python refuses to read one of thousands of digits.
 NUMBER = r"(\d{1,20})"
 COUNTS = rf"queued {NUMBER} dropped {NUMBER} rest ([01])"
+OCTETS, WORD = r"((?:[0-9a-f]{2})+)", r"([0-9a-f]{8})"
 
 
 def number(value: int) -> int:
@@ -517,11 +531,34 @@ def clcw_of(channel: int, digits: str) -> Clcw:
     return clcw
 
 
+def taken_of(channel: int, answer: str) -> Union[Packet, Unit, Clcw]:
+    """What a line of a delivery hands on, or the CLCW, which is the last. Raises `ValueError` where it is another line."""
+    if found := re.fullmatch(rf"take {channel} {NUMBER} {OCTETS}", answer):
+        return Packet(channel, int(found[1]), bytes.fromhex(found[2]))
+    if found := re.fullmatch(rf"unit {channel} {NUMBER} (-|{OCTETS})", answer):
+        return Unit(channel, int(found[1]), bytes.fromhex(found[2].strip("-")))
+    if found := re.fullmatch(rf"clcw {channel} {WORD}", answer):
+        return clcw_of(channel, found[1])
+    raise ValueError(answer)
+
+
+def reader_of(pattern: str, refusals: FrozenSet[Refusal], made: Callable[[Match[str]], Answer]) -> Callable[[str], Union[Answer, Refused]]:
+    """Reads an answer to an operation: made of the words that the pattern finds, or one of these refusals."""
+    def read(answer: str) -> Union[Answer, Refused]:
+        if answer.startswith("refused ") and Refusal(answer[8:]) in refusals:
+            return Refused(Refusal(answer[8:]))
+        found = re.fullmatch(pattern, answer)
+        if found is None:
+            raise ValueError(answer)
+        return made(found)
+    return read
+
+
 def final_of(lines: List[str]) -> Dict[int, Final]:
     """The final report, by channel. Raises `ValueError` where these aren't the lines of one."""
     report: Dict[int, Final] = {}
     for line in lines:
-        if found := re.fullmatch(rf"final {NUMBER} ([0-9a-f]{{8}}) events {NUMBER} buffered {NUMBER}", line):
+        if found := re.fullmatch(rf"final {NUMBER} {WORD} events {NUMBER} buffered {NUMBER}", line):
             report[int(found[1])] = Final(clcw_of(int(found[1]), found[2]), int(found[3]), int(found[4]))
         elif (found := re.fullmatch(rf"(queue|map) {NUMBER} {NUMBER} {NUMBER}", line)) and int(found[2]) in report:
             channel = report[int(found[2])]
@@ -646,24 +683,21 @@ class Receiver:
         """The answer to a line, as it is read, which raises `ValueError` where it isn't one to this line."""
         with self._turn():
             self._write(line + "\n")
-            answer = self._read(line)
-            try:
-                return read(answer)
-            except ValueError:
-                if not answer.startswith("bad "):
-                    self._give_up(line, answer)
+            return self._answer(line, read)
+
+    def _answer(self, line: str, read: Callable[[str], Answer]) -> Answer:
+        """The next answer to a line that was written."""
+        answer = self._read(line)
+        try:
+            return read(answer)
+        except ValueError:
+            if not answer.startswith("bad "):
+                self._give_up(line, answer)
         raise BadLine(line, answer[4:])
 
     def _operate(self, line: str, pattern: str, refusals: FrozenSet[Refusal], made: Callable[[Match[str]], Answer]) -> Union[Answer, Refused]:
         """The answer to an operation, made of the words that the pattern finds."""
-        def read(answer: str) -> Union[Answer, Refused]:
-            if answer.startswith("refused ") and Refusal(answer[8:]) in refusals:
-                return Refused(Refusal(answer[8:]))
-            found = re.fullmatch(pattern, answer)
-            if found is None:
-                raise ValueError(answer)
-            return made(found)
-        return self._ask(line, read)
+        return self._ask(line, reader_of(pattern, refusals, made))
 
     def _set_up(self, line: str) -> None:
         """Writes a line that has no answer unless it is bad, and the probe behind it."""
@@ -709,12 +743,12 @@ class Receiver:
 
     def take(self, vcid: int, apid: int) -> Union[Packet, Refused]:
         """Takes the oldest packet out of the queue of an application."""
-        return self._operate(f"take {number(vcid)} {number(apid)}", rf"take {number(vcid)} {number(apid)} ((?:[0-9a-f]{{2}})+)",
+        return self._operate(f"take {number(vcid)} {number(apid)}", rf"take {number(vcid)} {number(apid)} {OCTETS}",
                              OF_CHANNELS | {Refusal.NO_QUEUE, Refusal.EMPTY}, lambda found: Packet(vcid, apid, bytes.fromhex(found[1])))
 
     def take_unit(self, vcid: int, map: int) -> Union[Unit, Refused]:
         """Takes the oldest unit out of the queue of a MAP."""
-        return self._operate(f"unit {number(vcid)} {number(map)}", rf"unit {number(vcid)} {number(map)} (-|(?:[0-9a-f]{{2}})+)",
+        return self._operate(f"unit {number(vcid)} {number(map)}", rf"unit {number(vcid)} {number(map)} (-|{OCTETS})",
                              OF_CHANNELS | {Refusal.NO_MAP, Refusal.EMPTY}, lambda found: Unit(vcid, map, bytes.fromhex(found[1].strip("-"))))
 
     def packets(self, vcid: int, apid: int) -> Iterator[bytes]:
@@ -734,8 +768,22 @@ class Receiver:
 
     def clcw(self, vcid: int) -> Union[Clcw, Refused]:
         """The channel's CLCW, with the flags of the link as they were last set."""
-        return self._operate(f"clcw {number(vcid)}", rf"clcw {number(vcid)} ([0-9a-f]{{8}})", OF_CHANNELS,
+        return self._operate(f"clcw {number(vcid)}", rf"clcw {number(vcid)} {WORD}", OF_CHANNELS,
                              lambda found: clcw_of(number(vcid), found[1]))
+
+    def deliver(self, vcid: int) -> Union[Delivered, Refused]:
+        """Lets the oldest data field out of the buffer, if one waits, and takes all that waits in the queues of the channel then."""
+        line, channel = f"deliver {number(vcid)}", number(vcid)
+        taken: List[Union[Packet, Unit]] = []
+        with self._turn():
+            self._write(line + "\n")
+            released = self._answer(line, reader_of(rf"release {channel} {COUNTS}", OF_CHANNELS | {Refusal.EMPTY},
+                                                    lambda found: Released(channel, delivery_of(*found.groups()))))
+            if released == Refused(Refusal.CHANNEL):
+                return Refused(Refusal.CHANNEL)
+            while not isinstance(answer := self._answer(line, partial(taken_of, channel)), Clcw):
+                taken.append(answer)
+        return Delivered(channel, released, tuple(taken), answer)
 
     def link(self, vcid: int, no_rf: bool, no_bit_lock: bool) -> Union[bool, Refused]:
         """Sets the flags of the link in later CLCWs of a channel: No RF Available and No Bit Lock. True where this was done."""

@@ -37,9 +37,10 @@ pub(crate) const INPUT: &str =
 
 /// Of `tclive`: the lines with their limits, the statuses, and an example.
 pub(crate) const LIVE_LINES: &str =
-    "Each line is answered before the next is read. Lines are those of a script of tcrx, which tcrx --help lists, and two more:
+    "Each line is answered before the next is read. Lines are those of a script of tcrx, which tcrx --help lists, and three more:
   link VC RF BL  No RF Available and No Bit Lock, 0 or 1 each, that the CLCWs of a channel have from now on
   report VC      prints the state of a channel: V(R), flags, the FARM-B counter, its buffer, queues and MAPs
+  deliver VC     does what release VC does, then takes all that waits in the queues of a channel, and prints its CLCW
 Lines that set up, blank lines and comments have no answer. A bad line is answered bad and why, and changes nothing.
 A line has at most 8192 octets. At the end of the lines the final report is written.
 

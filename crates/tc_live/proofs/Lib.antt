@@ -1,1 +1,3 @@
+mod Deliveries
 mod Ending
+mod Following

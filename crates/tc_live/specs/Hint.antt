@@ -18,10 +18,11 @@ form_text (command ∷ arguments) =
     else if is command (codes "clcw") then codes ": write clcw VC"
     else if is command (codes "link") then codes ": write link VC RF BL"
     else if is command (codes "report") then codes ": write report VC"
+    else if is command (codes "deliver") then codes ": write deliver VC"
     else []
 
 -- what to write instead, by the words of the line: which commands there are, or how its command is written; nothing for any other reason
 abbrev pub hint_text : List (List ℕ) → Reason → List ℕ
-hint_text line UnknownCommand = codes ": use channel, queue, map, frame, release, take, unit, clcw, link or report"
+hint_text line UnknownCommand = codes ": use channel, queue, map, frame, release, take, unit, clcw, link, report or deliver"
 hint_text line WordCount = form_text line
 hint_text line _ = []

@@ -7,10 +7,10 @@ use Rattle.tc_text.specs.declared.fault.Reason.{Reason}
 use Rattle.tc_text.specs.declared.fault.Reason.TheVariants.{NoMemory}
 use Rattle.tc_text.specs.declared.line.Line.{Line}
 use Rattle.tc_text.specs.declared.live.LiveLine.{LiveLine}
-use Rattle.tc_text.specs.declared.live.LiveLine.TheVariants.{Script, Link as LinkOf, Report}
+use Rattle.tc_text.specs.declared.live.LiveLine.TheVariants.{Script, Link as LinkOf, Report, Deliver}
 use Rattle.tc_channel.specs.declared.holding.Holding.{Holding}
 use Rattle.tc_setup.specs.Instruction.{instruction_of}
-use Rattle.tc_setup.specs.Phase.{Does, IsBad, IsBadOperation, Operates}
+use Rattle.tc_setup.specs.Phase.{Does, IsBad, IsBadOperation, Operates, Operation as InOperation}
 use Rattle.tc_setup.specs.declared.instruction.Instruction.{Instruction}
 use Rattle.tc_setup.specs.declared.instruction.Instruction.TheVariants as instructions
 use Rattle.tc_rack.specs.Stage.{phase_of}
@@ -19,6 +19,7 @@ use Rattle.tc_rack.specs.declared.stage.Stage.{Stage}
 use Rattle.tc_rack.specs.declared.stage.Stage.TheVariants.{SettingUp, Operating}
 use Rattle.tc_rack.specs.Rack.{Racked, new_rack, IsLinkSet, IsReported}
 use Rattle.tc_rack.specs.Operation.{IsAnswerOf}
+use Rattle.tc_rack.specs.Delivery.{IsDeliveryEnded}
 use Rattle.tc_rack.specs.declared.operation.Operation.{Operation}
 use Rattle.tc_rack.specs.declared.operation.Operation.TheVariants as operations
 use Rattle.tc_live.specs.Check.{IsPassed, FailsCheck}
@@ -106,11 +107,22 @@ abbrev pub IsReportDone : Receiving → ℕ → Receiving → LiveAnswer → Typ
 IsReportDone old vcid new answer =
     (found : Option Holding) × IsReported (rack_at old) vcid found × (answer ≡ report_told vcid found) × (new ≡ begun old)
 
+-- a delivery begins with a release, whose answer is told
+abbrev pub IsDeliveryBegun : Receiving → ℕ → Receiving → LiveAnswer → Type 0
+IsDeliveryBegun old vcid new answer =
+    (a : Answer) × (rack : Racked) × IsAnswerOf (operations.Release vcid) (rack_at old) a rack
+    × (answer ≡ told.Delivery vcid a) × (new ≡ with_rack rack old)
+
+-- then all that waits in the channel is handed on, and these are the answers
+abbrev pub IsDeliveryDone : Receiving → ℕ → Receiving → List Answer → Type 0
+IsDeliveryDone old vcid new answers = (rack : Racked) × IsDeliveryEnded vcid (rack_at old) answers rack × (new ≡ with_rack rack old)
+
 -- what a good line does, and is answered
 abbrev pub IsLineDone : Receiving → LiveLine → Receiving → LiveAnswer → Type 0
 IsLineDone old (Script line) new answer = IsScriptDone old line new answer
 IsLineDone old (LinkOf vcid link) new answer = IsLinked old vcid link new answer × Operates (phase_of old.stage) (phase_of new.stage)
 IsLineDone old (Report vcid) new answer = IsReportDone old vcid new answer × Operates (phase_of old.stage) (phase_of new.stage)
+IsLineDone old (Deliver vcid) new answer = IsDeliveryBegun old vcid new answer × Operates (phase_of old.stage) (phase_of new.stage)
 
 -- what a line is answered that says something
 abbrev pub IsLineAnswered : Receiving → List ℕ → Receiving → LiveAnswer → Type 0
@@ -125,7 +137,18 @@ abbrev pub IsBadSaying : Receiving → LiveLine → Reason → Type 0
 IsBadSaying old (Script line) reason = IsBadScript old line reason
 IsBadSaying old (LinkOf vcid link) reason = IsBadOperation (phase_of old.stage) reason
 IsBadSaying old (Report vcid) reason = IsBadOperation (phase_of old.stage) reason
+IsBadSaying old (Deliver vcid) reason = IsBadOperation (phase_of old.stage) reason
 
 abbrev pub IsBadLiveLine : Receiving → List ℕ → Reason → Type 0
 IsBadLiveLine old octets reason =
     (live_line_of (words octets) ≡ Err reason) ⊎ ((said : LiveLine) × (live_line_of (words octets) ≡ Ok said) × IsBadSaying old said reason)
+
+-- a delivery that was begun can be ended, since the channels are in operation
+abbrev pub IsReady : LiveAnswer → Receiving → Type 0
+IsReady told.Nothing receiver = Unit {0}
+IsReady (told.Operation a) receiver = Unit {0}
+IsReady (told.Delivery vcid a) receiver = phase_of receiver.stage ≡ InOperation
+IsReady told.Unchecked receiver = Unit {0}
+IsReady (told.Link vcid link) receiver = Unit {0}
+IsReady (told.Report vcid holding) receiver = Unit {0}
+IsReady told.UnknownChannel receiver = Unit {0}

@@ -1,5 +1,5 @@
 -- What is written of lines and at the end, and why a live receiver ends without a report.
-use Rattle.std.specs.Prelude.{◌≡◌, ◌⊎◌, ◌++◌, ℕ, List, Option, All, IsPermutation}
+use Rattle.std.specs.Prelude.{◌≡◌, ◌⊎◌, ◌++◌, ℕ, List, [], Option, All, IsPermutation, map}
 use Rattle.std.specs.Io.KnownBytes.{Appends, Keeps}
 use Rattle.tc_lines.specs.Answering as lines
 use Rattle.tc_lines.specs.declared.answering.ServingFault.{ServingFault as AnsweringFault}
@@ -7,9 +7,12 @@ use Rattle.tc_lines.specs.declared.answering.ServingFault.TheVariants as answeri
 use Rattle.tc_text.specs.Word.{words}
 use Rattle.tc_text.specs.declared.fault.Reason.{Reason}
 use Rattle.tc_text.specs.declared.fault.Reason.TheVariants as reasons
+use Rattle.tc_rack.specs.declared.answer.Answer.{Answer}
+use Rattle.tc_rack.specs.Delivery.{told_lines}
 use Rattle.tc_live.specs.declared.answer.LiveAnswer.{LiveAnswer}
+use Rattle.tc_live.specs.declared.answer.LiveAnswer.TheVariants as told
 use Rattle.tc_live.specs.Printed.{live_text, bad_text}
-use Rattle.tc_live.specs.Receiver.{Receiving, rack_at, IsLineAnswered, IsBadLiveLine, IsReceiverLeft}
+use Rattle.tc_live.specs.Receiver.{Receiving, rack_at, IsDeliveryDone, IsLineAnswered, IsBadLiveLine, IsReceiverLeft}
 use Rattle.tc_channel.specs.Journal.{History, IsNumberTold}
 use Rattle.tc_rack.specs.Rack.{histories}
 use Rattle.tc_rack.specs.Report.{AreRising, report_text}
@@ -24,9 +27,25 @@ IsUntold receiver = ¬ All IsNumberTold (histories (rack_at receiver))
 abbrev pub IsClosingFault : Receiving → ServingFault → Type 0
 IsClosingFault receiver fault = (fault ≡ Write) ⊎ (fault ≡ NoMemory) ⊎ ((fault ≡ Unbalanced) × IsUntold receiver)
 
--- a line is done, and answered by the text of its answer
+-- what follows the answer of a line: of a delivery the answers of what is handed on, of any other line nothing
+abbrev pub IsFollowedBy : LiveAnswer → Receiving → Receiving → List Answer → Type 0
+IsFollowedBy told.Nothing old new answers = (answers ≡ []) × (new ≡ old)
+IsFollowedBy (told.Operation a) old new answers = (answers ≡ []) × (new ≡ old)
+IsFollowedBy (told.Delivery vcid a) old new answers = IsDeliveryDone old vcid new answers
+IsFollowedBy told.Unchecked old new answers = (answers ≡ []) × (new ≡ old)
+IsFollowedBy (told.Link vcid link) old new answers = (answers ≡ []) × (new ≡ old)
+IsFollowedBy (told.Report vcid holding) old new answers = (answers ≡ []) × (new ≡ old)
+IsFollowedBy told.UnknownChannel old new answers = (answers ≡ []) × (new ≡ old)
+
+-- an answer is told, and then what follows it
+abbrev pub IsTold : LiveAnswer → Receiving → Receiving → List ℕ → Type 0
+IsTold answer old new text =
+    (answers : List Answer) × IsFollowedBy answer old new answers × (text ≡ live_text answer ++ told_lines answers)
+
+-- a line is done, and answered by the text of its answer and of what follows it
 abbrev pub IsAnswerSaid : Receiving → List ℕ → Receiving → List ℕ → Type 0
-IsAnswerSaid old octets new text = (answer : LiveAnswer) × IsLineAnswered old octets new answer × (text ≡ live_text answer)
+IsAnswerSaid old octets new text =
+    (answer : LiveAnswer) × (between : Receiving) × IsLineAnswered old octets between answer × IsTold answer between new text
 
 -- a line is refused, and answered by why and what to write instead
 abbrev pub IsReasonSaid : Receiving → List ℕ → Receiving → List ℕ → Type 0

@@ -17,6 +17,8 @@ pub enum LiveAnswer {
     Nothing,
     /// What an operation of a script is answered.
     Operation(Answer),
+    /// What the release is answered that a delivery begins with. [`Receiver::hand_on`](crate::Receiver::hand_on) ends the delivery.
+    Delivery { vcid: u8, answer: Answer },
     /// Octets that are no frame with the right frame error control field.
     Unchecked,
     /// The flags of the link that a channel's CLCWs tell from now on.
@@ -57,6 +59,7 @@ impl fmt::Display for LiveAnswer {
         match self {
             LiveAnswer::Nothing => Ok(()),
             LiveAnswer::Operation(answer) => writeln!(f, "{answer}"),
+            LiveAnswer::Delivery { vcid: _, answer } => writeln!(f, "{answer}"),
             LiveAnswer::Unchecked => f.write_str("refused check\n"),
             LiveAnswer::Link { vcid, link } => write_link(f, *vcid, *link),
             LiveAnswer::Report { vcid, holding } => write_report(f, *vcid, holding),

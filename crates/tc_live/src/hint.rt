@@ -13,7 +13,7 @@ pub(crate) fn hint_for(octets: &[u8], reason: Reason) -> &'static str
 {
     match reason {
         Reason::UnknownCommand => {
-            ": use channel, queue, map, frame, release, take, unit, clcw, link or report"
+            ": use channel, queue, map, frame, release, take, unit, clcw, link, report or deliver"
         }
         Reason::WordCount => form(octets),
         _ => "",
@@ -48,6 +48,8 @@ fn form(octets: &[u8]) -> &'static str
         ": write link VC RF BL"
     } else if command == b"report".as_slice() {
         ": write report VC"
+    } else if command == b"deliver".as_slice() {
+        ": write deliver VC"
     } else {
         ""
     }

@@ -2,19 +2,21 @@
 
 ghost use Rattle.std.specs.Prelude.{◌≡◌, ◌≢◌, ◌⊎◌, ◌↔◌, [], All, IsPermutation, IsTrue, IfOk, IfErr, OnOk, OnErr};
 ghost use Rattle.std.specs.Io.KnownBytes.{Keeps};
+ghost use Rattle.tc_rack.specs.Delivery.{AreTold};
 ghost use Rattle.tc_rack.specs.Report.{AreRising};
 ghost use Rattle.tc_rack.specs.Stage.{phase_of};
-ghost use Rattle.tc_live.specs.Receiver.{new_receiver, begun, rack_at, IsInstructed, IsOperated, IsScriptDone, IsPerformed, IsLinked, IsReportDone, IsLineAnswered, IsBadLiveLine, IsBadScript, IsReceiverLeft};
+ghost use Rattle.tc_live.specs.Receiver.{new_receiver, begun, rack_at, IsInstructed, IsOperated, IsScriptDone, IsPerformed, IsLinked, IsReportDone, IsDeliveryBegun, IsDeliveryDone, IsLineAnswered, IsBadLiveLine, IsBadScript, IsReceiverLeft};
 ghost use Rattle.tc_live.specs.Serving.{IsClosingFault, IsReportWritten};
 ghost use Rattle.tc_rack.specs.Rack.{histories, new_rack};
 ghost use Rattle.tc_setup.specs.Instruction.{instruction_of};
-ghost use Rattle.tc_setup.specs.Phase.{Does, IsBad, IsBadOperation, Operates, Setup};
+ghost use Rattle.tc_setup.specs.Phase.{Does, IsBad, IsBadOperation, Operates, Setup, Operation as InOperation};
 ghost use Rattle.tc_channel.specs.Journal.{IsNumberTold};
 
 use crate::answer::LiveAnswer;
 use crate::check::FrameCheck;
 use crate::serving::ServingFault;
 use std::alloc::Global;
+use std::io;
 use std::io::Write;
 use std::marker::Model;
 use tc_channel::FlightChannel;
@@ -54,7 +56,8 @@ impl Receiver {
     }
 
     /// Does a line, which is given without its line feed, and says what it is answered. A bad line leaves the receiver as it is. Where
-    /// memory is wanting, the line can be done again; at the first operation the channels may have been made.
+    /// memory is wanting, the line can be done again; at the first operation the channels may have been made. A delivery is begun;
+    /// [`hand_on`](Receiver::hand_on) ends it.
     pub fn do_line(&mut self, alloc: Global, octets: &[u8]) -> Result<LiveAnswer, Reason>
         ensures answer { IfOk result (IsLineAnswered self.old octets.now self.new) }
         ensures reason { IfErr result (λ reason. (reason ≡ Reason.NoMemory) ⊎ IsBadLiveLine self.old octets.now reason) }
@@ -64,6 +67,7 @@ impl Receiver {
             LiveLine::Script(line) => self.perform(alloc, line),
             LiveLine::Link { vcid, link } => self.link(alloc, vcid, link),
             LiveLine::Report(vcid) => self.report(alloc, vcid),
+            LiveLine::Deliver(vcid) => self.begin_delivery(alloc, vcid),
         }
     }
 
@@ -157,6 +161,35 @@ impl Receiver {
                 Ok(found) => Ok(LiveAnswer::of_report(vcid, found)),
                 Err(_) => Err(Reason::NoMemory),
             },
+            Stage::SettingUp(_) => unreachable!(),
+        }
+    }
+
+    // Does the release that a delivery begins with.
+    fn begin_delivery(&mut self, alloc: Global, vcid: u8) -> Result<LiveAnswer, Reason>
+        ensures done { OnOk result (Operates (phase_of self.old.stage) (phase_of self.new.stage)) }
+        ensures answer { IfOk result (IsDeliveryBegun self.old vcid self.new) }
+        ensures reason { IfErr result (λ reason. (reason ≡ Reason.NoMemory) ⊎ IsBadOperation (phase_of self.old.stage) reason) }
+        ensures refused { IfErr result (λ reason. IsReceiverLeft reason self.old self.new) }
+    {
+        self.begin(alloc)?;
+        match &mut self.stage {
+            Stage::Operating(rack) => match rack.operate(Operation::Release(vcid)) {
+                Ok(answer) => Ok(LiveAnswer::Delivery { vcid, answer }),
+                Err(_) => Err(Reason::NoMemory),
+            },
+            Stage::SettingUp(_) => unreachable!(),
+        }
+    }
+
+    /// Ends a delivery that was begun: takes all that waits in the queues of the channel, as [`Rack::hand_on`] does, and writes the
+    /// answers, the last of which is the CLCW. Where there is no such channel, nothing is written. Nothing is allocated.
+    pub fn hand_on<W: Write>(&mut self, vcid: u8, writer: &mut W) -> io::Result<()>
+        requires { phase_of self.old.stage ≡ InOperation }
+        ensures { OnOk result (AreTold (W.contents writer.old) (W.contents writer.new) (IsDeliveryDone self.old vcid self.new)) }
+    {
+        match &mut self.stage {
+            Stage::Operating(rack) => rack.hand_on(vcid, writer),
             Stage::SettingUp(_) => unreachable!(),
         }
     }

@@ -4,8 +4,10 @@ ghost use Rattle.std.specs.Io.KnownBytes.{Appends, Keeps};
 ghost use Rattle.std.specs.Prelude.{◌≡◌, ◌⊎◌, IfErr, IfSome, OnOk};
 ghost use Rattle.tc_lines.specs.Answering.{Writes};
 ghost use Rattle.tc_lines.specs.Word.{words};
+ghost use Rattle.tc_rack.specs.Delivery.{AreTold};
 ghost use Rattle.tc_live.specs.Printed.{live_text, bad_text};
-ghost use Rattle.tc_live.specs.Serving.{IsClosingFault, IsCutShort, IsLineSaid, IsReportWritten, IsWritten, fault_of};
+ghost use Rattle.tc_live.specs.Receiver.{IsReady};
+ghost use Rattle.tc_live.specs.Serving.{IsClosingFault, IsCutShort, IsFollowedBy, IsLineSaid, IsReportWritten, IsTold, IsWritten, fault_of};
 
 use crate::answer::LiveAnswer;
 use crate::hint::hint_for;
@@ -86,7 +88,7 @@ pub fn answer_lines<R: BufRead, W: Write>(
     }
 }
 
-// Does a line, and writes just the text of its answer, or `bad`, why, and what to write instead.
+// Does a line, and writes just the text of its answer and of what follows it, or `bad`, why, and what to write instead.
 fn answer_line<W: Write>(
     alloc: Global,
     receiver: &mut Receiver,
@@ -96,8 +98,36 @@ fn answer_line<W: Write>(
     ensures written { OnOk result (Writes (W.contents writer.old) (W.contents writer.new) (IsLineSaid receiver.old octets.now receiver.new)) }
 {
     match receiver.do_line(alloc, octets) {
-        Ok(answer) => write_answer(&answer, writer),
+        Ok(answer) => tell(receiver, &answer, writer),
         Err(reason) => write_bad(octets, reason, writer),
+    }
+}
+
+// Writes an answer, and what follows it.
+fn tell<W: Write>(receiver: &mut Receiver, answer: &LiveAnswer, writer: &mut W) -> io::Result<()>
+    requires { IsReady answer.now receiver.old }
+    ensures { OnOk result (Writes (W.contents writer.old) (W.contents writer.new) (IsTold answer.now receiver.old receiver.new)) }
+{
+    write_answer(answer, writer)?;
+    follow(receiver, answer, writer)
+}
+
+// Ends a delivery that was begun. Nothing follows any other answer.
+fn follow<W: Write>(receiver: &mut Receiver, answer: &LiveAnswer, writer: &mut W) -> io::Result<()>
+    requires { IsReady answer.now receiver.old }
+    ensures { OnOk result (AreTold (W.contents writer.old) (W.contents writer.new) (IsFollowedBy answer.now receiver.old receiver.new)) }
+{
+    match answer {
+        LiveAnswer::Delivery { vcid, answer: _ } => receiver.hand_on(*vcid, writer),
+        LiveAnswer::Nothing => Ok(()),
+        LiveAnswer::Operation(_) => Ok(()),
+        LiveAnswer::Unchecked => Ok(()),
+        LiveAnswer::Link { vcid: _, link: _ } => Ok(()),
+        LiveAnswer::Report {
+            vcid: _,
+            holding: _,
+        } => Ok(()),
+        LiveAnswer::UnknownChannel => Ok(()),
     }
 }
 

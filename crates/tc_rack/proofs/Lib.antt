@@ -1,2 +1,4 @@
 mod Places
 mod Written
+mod Waiting
+mod Delivered

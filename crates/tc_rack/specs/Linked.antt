@@ -45,6 +45,12 @@ IsReleaseAnswered old answer new =
     × (new ≡ later events.Release old))
     ⊎ ((buffered_fields old.history.settings old.history.journal ≡ []) × (answer ≡ answers.Refused Empty) × (new ≡ old))
 
+-- the oldest packet is taken
+abbrev pub IsPacketTaken : ℕ → Linked → Answer → Linked → Type 0
+IsPacketTaken apid old answer new =
+    (packet : List ℕ) × (take_reply old.history.settings old.history.journal apid ≡ Some packet)
+    × (answer ≡ answers.Take (vcid_of old) apid packet) × (new ≡ later (events.Take apid) old)
+
 -- no packet is there to be taken: there is no queue for the APID, or it is empty
 abbrev pub IsTakeRefused : ℕ → Linked → Answer → Type 0
 IsTakeRefused apid old answer =
@@ -54,9 +60,13 @@ IsTakeRefused apid old answer =
 -- the oldest packet is taken, where there is one
 abbrev pub IsTakeAnswered : ℕ → Linked → Answer → Linked → Type 0
 IsTakeAnswered apid old answer new =
-    ((packet : List ℕ) × (take_reply old.history.settings old.history.journal apid ≡ Some packet)
-    × (answer ≡ answers.Take (vcid_of old) apid packet) × (new ≡ later (events.Take apid) old))
-    ⊎ (IsTakeRefused apid old answer × (new ≡ old))
+    IsPacketTaken apid old answer new ⊎ (IsTakeRefused apid old answer × (new ≡ old))
+
+-- the oldest unit is taken
+abbrev pub IsUnitTaken : ℕ → Linked → Answer → Linked → Type 0
+IsUnitTaken map_id old answer new =
+    (unit : List ℕ) × (unit_reply old.history.settings old.history.journal map_id ≡ Some unit)
+    × (answer ≡ answers.Unit (vcid_of old) map_id unit) × (new ≡ later (events.TakeUnit map_id) old)
 
 -- no unit is there to be taken: the MAP isn't chosen, or its queue is empty
 abbrev pub IsUnitRefused : ℕ → Linked → Answer → Type 0
@@ -67,9 +77,7 @@ IsUnitRefused map_id old answer =
 -- the oldest unit is taken, where there is one
 abbrev pub IsUnitAnswered : ℕ → Linked → Answer → Linked → Type 0
 IsUnitAnswered map_id old answer new =
-    ((unit : List ℕ) × (unit_reply old.history.settings old.history.journal map_id ≡ Some unit)
-    × (answer ≡ answers.Unit (vcid_of old) map_id unit) × (new ≡ later (events.TakeUnit map_id) old))
-    ⊎ (IsUnitRefused map_id old answer × (new ≡ old))
+    IsUnitTaken map_id old answer new ⊎ (IsUnitRefused map_id old answer × (new ≡ old))
 
 -- the CLCW, with the flags of the link
 abbrev pub told_word : Linked → Answer

@@ -6,8 +6,10 @@
 #![tactic(auto)]
 
 mod answer;
+mod delivery;
 mod linked;
 mod operation;
+mod queue;
 mod rack;
 mod report;
 mod stage;

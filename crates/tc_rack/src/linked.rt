@@ -1,10 +1,12 @@
 //! A channel with the flags of its link, and what it is answered.
 
-ghost use Rattle.std.specs.Prelude.{◌≡◌, ◌≢◌, ◌⊎◌, IfOk, OnErr};
+ghost use Rattle.std.specs.Prelude.{◌≡◌, ◌≢◌, ◌⊎◌, ◌+◌, [], length, IfOk, OnErr};
 ghost use Rattle.tc_rack.specs.Linked.{new_linked, later, IsFrameAnswered, IsReleaseAnswered, IsTakeAnswered, IsUnitAnswered, told_word};
+ghost use Rattle.tc_rack.specs.Delivery.{IsTakenFrom, waiting_in};
 ghost use Rattle.tc_channel.specs.Holding.{holding_of};
 
 use crate::answer::{Answer, Refusal};
+use crate::queue::QueueId;
 use std::alloc::Global;
 use std::marker::Model;
 use tc_channel::{
@@ -49,6 +51,13 @@ impl LinkedChannel {
         }
     }
 
+    /// The settings that the channel was made by.
+    pub(crate) fn settings(&self) -> &Settings
+        ensures { result.now ≡ self.now.history.settings }
+    {
+        self.channel.settings()
+    }
+
     /// The virtual channel id.
     pub(crate) fn vcid(&self) -> u8
         ensures { result ≡ self.now.history.settings.vcid }
@@ -81,41 +90,63 @@ impl LinkedChannel {
         }
     }
 
-    /// Takes the oldest packet with this APID.
-    pub(crate) fn take(&mut self, apid: u16) -> Result<Answer, NoMemory>
-        ensures answer { IfOk result (λ answer. IsTakeAnswered apid self.old answer self.new) }
+    /// Takes the oldest packet with this APID. Nothing is allocated.
+    pub(crate) fn take(&mut self, apid: u16) -> Answer
+        ensures answer { IsTakeAnswered apid self.old result self.new }
         ensures settings { self.new.history.settings ≡ self.old.history.settings }
-        ensures refused { OnErr result (self.new ≡ self.old) }
     {
         let vcid = self.vcid();
         match self.channel.take(apid) {
-            Ok(packet) => Ok(Answer::Take {
+            Ok(packet) => Answer::Take {
                 vcid,
                 apid,
                 packet: Octets::from(packet),
-            }),
-            Err(TakeFault::NoQueue) => Ok(Answer::Refused(Refusal::NoQueue)),
-            Err(TakeFault::Empty) => Ok(Answer::Refused(Refusal::Empty)),
-            Err(TakeFault::NoMemory) => Err(NoMemory),
+            },
+            Err(TakeFault::NoQueue) => Answer::Refused(Refusal::NoQueue),
+            Err(TakeFault::Empty) => Answer::Refused(Refusal::Empty),
+            Err(TakeFault::NoMemory) => unreachable!(),
         }
     }
 
-    /// Takes the oldest unit of this chosen MAP.
-    pub(crate) fn unit(&mut self, map: u8) -> Result<Answer, NoMemory>
-        ensures answer { IfOk result (λ answer. IsUnitAnswered map self.old answer self.new) }
+    /// Takes the oldest unit of this chosen MAP. Nothing is allocated.
+    pub(crate) fn unit(&mut self, map: u8) -> Answer
+        ensures answer { IsUnitAnswered map self.old result self.new }
         ensures settings { self.new.history.settings ≡ self.old.history.settings }
-        ensures refused { OnErr result (self.new ≡ self.old) }
     {
         let vcid = self.vcid();
         match self.channel.take_unit(map) {
-            Ok(unit) => Ok(Answer::Unit {
+            Ok(unit) => Answer::Unit {
                 vcid,
                 map,
                 unit: Octets::from(unit),
-            }),
-            Err(TakeUnitFault::NoMap) => Ok(Answer::Refused(Refusal::NoMap)),
-            Err(TakeUnitFault::Empty) => Ok(Answer::Refused(Refusal::Empty)),
-            Err(TakeUnitFault::NoMemory) => Err(NoMemory),
+            },
+            Err(TakeUnitFault::NoMap) => Answer::Refused(Refusal::NoMap),
+            Err(TakeUnitFault::Empty) => Answer::Refused(Refusal::Empty),
+            Err(TakeUnitFault::NoMemory) => unreachable!(),
+        }
+    }
+
+    /// How much waits in a queue; nothing where there is no such queue.
+    pub(crate) fn waiting(&self, queue: QueueId) -> usize
+        ensures { result ≡ length (waiting_in queue self.now) }
+    {
+        let count = match queue {
+            QueueId::Packets(apid) => self.channel.queued(apid),
+            QueueId::Units(map) => self.channel.units(map),
+        };
+        count.unwrap_or(0)
+    }
+
+    /// Takes the oldest of what waits in a queue, and leaves the rest. Nothing is allocated.
+    pub(crate) fn take_from(&mut self, queue: QueueId) -> Answer
+        requires { waiting_in queue self.old ≢ [] }
+        ensures taken { IsTakenFrom queue self.old result self.new }
+        ensures rest { length (waiting_in queue self.new) + 1 ≡ length (waiting_in queue self.old) }
+        ensures settings { self.new.history.settings ≡ self.old.history.settings }
+    {
+        match queue {
+            QueueId::Packets(apid) => self.take(apid),
+            QueueId::Units(map) => self.unit(map),
         }
     }
 

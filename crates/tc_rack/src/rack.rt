@@ -1,14 +1,18 @@
 //! The channels of one spacecraft.
 
-ghost use Rattle.std.specs.Prelude.{◌≡◌, ◌≢◌, ◌⊎◌, map, IfOk, OnErr, MatchOption, MatchResult};
+ghost use Rattle.std.specs.Prelude.{◌≡◌, ◌≢◌, ◌⊎◌, map, IfOk, OnOk, OnErr, MatchOption, MatchResult};
 ghost use Rattle.tc_rack.specs.Linked.{Linked, new_linked, IsReleaseAnswered, IsTakeAnswered, IsUnitAnswered};
 ghost use Rattle.tc_rack.specs.Rack.{new_rack, IsThere, IsAt, IsLocateFault, AreApart, IsLocated, IsLinkSet, IsReported};
+ghost use Rattle.tc_rack.specs.Delivery.{AreTold, IsDeliveryEnded};
 ghost use Rattle.tc_rack.specs.Operation.{IsAnswerOf, IsChannelAnswer, IsFrameAnswer, IsClcwAnswer};
 
 use crate::answer::{Answer, Refusal};
+use crate::delivery::hand_on;
 use crate::linked::LinkedChannel;
 use crate::operation::Operation;
 use std::alloc::Global;
+use std::io;
+use std::io::Write;
 use std::marker::Model;
 use tc_channel::{FlightChannel, Holding, NoMemory, Settings};
 use tc_link::{Frame, Link, LocateFault, read_frame};
@@ -55,8 +59,8 @@ impl Rack {
         match operation {
             Operation::Frame(octets) => self.bring(octets.as_slice()),
             Operation::Release(vcid) => self.release(vcid),
-            Operation::Take(vcid, apid) => self.take(vcid, apid),
-            Operation::Unit(vcid, map) => self.unit(vcid, map),
+            Operation::Take(vcid, apid) => Ok(self.take(vcid, apid)),
+            Operation::Unit(vcid, map) => Ok(self.unit(vcid, map)),
             Operation::Clcw(vcid) => Ok(self.clcw(vcid)),
         }
     }
@@ -103,27 +107,23 @@ impl Rack {
     }
 
     // Takes the oldest packet of a channel with this APID.
-    fn take(&mut self, vcid: u8, apid: u16) -> Result<Answer, NoMemory>
-        ensures answer { IfOk result (λ answer. IsChannelAnswer vcid (IsTakeAnswered apid) self.old answer self.new) }
-        ensures refused { OnErr result (self.new ≡ self.old) }
+    fn take(&mut self, vcid: u8, apid: u16) -> Answer
+        ensures { IsChannelAnswer vcid (IsTakeAnswered apid) self.old result self.new }
     {
-        let Some(place) = place_of(&self.channels, vcid) else {
-            return Ok(Answer::Refused(Refusal::UnknownChannel));
-        };
-        let answer = self.channels[place].take(apid)?;
-        Ok(answer)
+        match place_of(&self.channels, vcid) {
+            Some(place) => self.channels[place].take(apid),
+            None => Answer::Refused(Refusal::UnknownChannel),
+        }
     }
 
     // Takes the oldest unit of a channel's chosen MAP.
-    fn unit(&mut self, vcid: u8, map: u8) -> Result<Answer, NoMemory>
-        ensures answer { IfOk result (λ answer. IsChannelAnswer vcid (IsUnitAnswered map) self.old answer self.new) }
-        ensures refused { OnErr result (self.new ≡ self.old) }
+    fn unit(&mut self, vcid: u8, map: u8) -> Answer
+        ensures { IsChannelAnswer vcid (IsUnitAnswered map) self.old result self.new }
     {
-        let Some(place) = place_of(&self.channels, vcid) else {
-            return Ok(Answer::Refused(Refusal::UnknownChannel));
-        };
-        let answer = self.channels[place].unit(map)?;
-        Ok(answer)
+        match place_of(&self.channels, vcid) {
+            Some(place) => self.channels[place].unit(map),
+            None => Answer::Refused(Refusal::UnknownChannel),
+        }
     }
 
     // Reports the CLCW of a channel, with the flags of its link.
@@ -133,6 +133,19 @@ impl Rack {
         match place_of(&self.channels, vcid) {
             Some(place) => self.channels[place].clcw(),
             None => Answer::Refused(Refusal::UnknownChannel),
+        }
+    }
+
+    /// Ends a delivery, which an [`Operation::Release`] begins: takes each packet of each queue of a channel, and then each unit of each
+    /// chosen MAP, in the order of the set-up, until nothing waits; and writes the answer to each take, and then the CLCW, each with a line
+    /// feed. Where there is no such channel, nothing is written. Nothing is allocated, and each answer is written before the next is made.
+    /// Where the writer fails, what was taken last is lost.
+    pub fn hand_on<W: Write>(&mut self, vcid: u8, writer: &mut W) -> io::Result<()>
+        ensures { OnOk result (AreTold (W.contents writer.old) (W.contents writer.new) (λ answers. IsDeliveryEnded vcid self.old answers self.new)) }
+    {
+        match place_of(&self.channels, vcid) {
+            Some(place) => hand_on(&mut self.channels[place], writer),
+            None => Ok(()),
         }
     }
 

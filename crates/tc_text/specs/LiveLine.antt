@@ -7,7 +7,7 @@ use Rattle.tc_text.specs.declared.fault.Reason.TheVariants.{WordCount, BadNumber
 use Rattle.tc_text.specs.declared.line.Line.{Line}
 use Rattle.tc_text.specs.declared.line.Line.TheVariants.{Blank}
 use Rattle.tc_text.specs.declared.live.LiveLine.{LiveLine}
-use Rattle.tc_text.specs.declared.live.LiveLine.TheVariants.{Script, Link as LinkOf, Report}
+use Rattle.tc_text.specs.declared.live.LiveLine.TheVariants.{Script, Link as LinkOf, Report, Deliver}
 
 -- what follows where something could be read
 abbrev pub after_ok : {A B : Type 0} → Result A Reason → (A → Result B Reason) → Result B Reason
@@ -35,13 +35,19 @@ report_of [] = Err WordCount
 report_of (v ∷ []) = after_ok (small_of v) (λ vcid. Ok (Report vcid))
 report_of (v ∷ more ∷ rest) = Err WordCount
 
+abbrev pub deliver_of : List (List ℕ) → Result LiveLine Reason
+deliver_of [] = Err WordCount
+deliver_of (v ∷ []) = after_ok (small_of v) (λ vcid. Ok (Deliver vcid))
+deliver_of (v ∷ more ∷ rest) = Err WordCount
+
 abbrev pub scripted : Result Line Reason → Result LiveLine Reason
 scripted said = after_ok said (λ line. Ok (Script line))
 
--- what the words of a line say: `link` and `report` are for a live receiver alone
+-- what the words of a line say: `link`, `report` and `deliver` are for a live receiver alone
 unfoldable pub live_line_of : List (List ℕ) → Result LiveLine Reason
 live_line_of [] = Ok (Script Blank)
 live_line_of (command ∷ arguments) =
     if is command (codes "link") then link_of arguments
     else if is command (codes "report") then report_of arguments
+    else if is command (codes "deliver") then deliver_of arguments
     else scripted (line_of (command ∷ arguments))

@@ -1,8 +1,8 @@
-//! Lines of a live receiver: those of a script, and two more.
+//! Lines of a live receiver: those of a script, and three more.
 
 ghost use Rattle.std.specs.Prelude.{◌≡◌, ◌⊎◌, IfOk, IfErr, MatchResult};
 ghost use Rattle.tc_lines.specs.Word.{words};
-ghost use Rattle.tc_text.specs.LiveLine.{live_line_of, link_of, report_of, flag_of};
+ghost use Rattle.tc_text.specs.LiveLine.{live_line_of, link_of, report_of, deliver_of, flag_of};
 
 use crate::fault::Reason;
 use crate::line::{Line, parse_line};
@@ -20,6 +20,8 @@ pub enum LiveLine {
     Link { vcid: u8, link: Link },
     /// Asks what a virtual channel has come to.
     Report(u8),
+    /// Lets the oldest data field out of the buffer of a virtual channel, and hands on all that waits in its queues.
+    Deliver(u8),
 }
 
 /// Reads a line, which is given without its line feed. Only a frame's octets take memory.
@@ -35,6 +37,8 @@ pub fn parse_live_line(alloc: Global, octets: &[u8]) -> Result<LiveLine, Reason>
         link(arguments)
     } else if command == b"report".as_slice() {
         report(arguments)
+    } else if command == b"deliver".as_slice() {
+        deliver(arguments)
     } else {
         Ok(LiveLine::Script(parse_line(alloc, octets)?))
     }
@@ -61,6 +65,15 @@ fn report(arguments: &[u8]) -> Result<LiveLine, Reason>
     let (vcid, rest) = next_argument(arguments)?;
     no_more(rest)?;
     Ok(LiveLine::Report(small_number(vcid)?))
+}
+
+fn deliver(arguments: &[u8]) -> Result<LiveLine, Reason>
+    ensures line { IfOk result (λ line. deliver_of (words arguments.now) ≡ Ok line) }
+    ensures reason { IfErr result (λ reason. deliver_of (words arguments.now) ≡ Err reason) }
+{
+    let (vcid, rest) = next_argument(arguments)?;
+    no_more(rest)?;
+    Ok(LiveLine::Deliver(small_number(vcid)?))
 }
 
 // The flag that a word is: 0 or 1.

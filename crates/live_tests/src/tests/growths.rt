@@ -3,42 +3,40 @@
 
 use super::receiver;
 use std::alloc::Global;
-use std::io::Write;
 use std::process::Abort;
 use std::test::Fail;
-use tc_live::{FrameCheck, LiveAnswer, Receiver, ServingFault, answer_lines};
-use tc_text::Reason;
+use tc_lines::LineAnswerer;
+use tc_live::{FrameCheck, Receiver, ServingFault, answer_lines};
 
-// What a line is answered, at once or after a growth was refused.
+// The octets of an answer that fit its room.
+const ROOM: usize = 300;
+
+// Writes what a line is answered into the room, and says how many octets that are.
 fn answer(
-    rt: &(impl Abort + Print),
+    rt: &impl Abort,
     alloc: Global,
     receiver: &mut Receiver,
     line: &str,
-) -> LiveAnswer {
-    match receiver.do_line(alloc, line.as_bytes()) {
-        Ok(answer) => answer,
-        Err(reason) => {
-            assert_eq!(rt; reason, Reason::NoMemory);
-            let _ = println!(rt; "refused: do_line, {line}");
-            receiver
-                .do_line(alloc, line.as_bytes())
-                .expect(rt, "an answer")
-        }
-    }
+    room: &mut [u8; ROOM],
+) -> usize {
+    let mut rest = room.as_mut_slice();
+    let written = receiver.answer_line(alloc, line.as_bytes(), &mut rest);
+    assert!(rt; written.is_ok());
+    let left = rest.len();
+    ROOM.saturating_sub(left).min(ROOM)
 }
 
-// The lines are answered so.
+// The lines are answered so, at once or after a growth was refused.
 fn check(rt: &(impl Abort + Print), alloc: Global, check: FrameCheck, lines: &[(&str, &str)]) {
     let mut receiver = receiver(rt, alloc, check);
     for (line, expected) in lines {
-        let answer = answer(rt, alloc, &mut receiver, line);
-        let mut room = [0u8; 200];
-        let mut rest = room.as_mut_slice();
-        assert!(rt; write!(&mut rest, "{answer}").is_ok());
-        let left = rest.len();
-        let count = 200usize.saturating_sub(left);
-        assert!(rt; &room[..count.min(200)] == expected.as_bytes(), "{line}");
+        let mut room = [0u8; ROOM];
+        let mut count = answer(rt, alloc, &mut receiver, line, &mut room);
+        if &room[..count] == b"bad no memory\n".as_slice() {
+            let _ = println!(rt; "refused: do_line, {line}");
+            count = answer(rt, alloc, &mut receiver, line, &mut room);
+        }
+        assert!(rt; &room[..count] == expected.as_bytes(), "{line}");
     }
 }
 
@@ -65,6 +63,29 @@ fn growth_of_lines(rt: HostRuntime) {
         ),
         ("unit 1 3", "unit 1 3 ddee\n"),
         ("clcw 1", "clcw 1 01040201\n"),
+    ];
+    check(&rt, rt.alloc(), FrameCheck::Nothing, lines.as_slice());
+}
+
+#[test]
+fn growth_of_a_delivery(rt: HostRuntime) {
+    let lines = [
+        ("channel 1 10 2 0", ""),
+        ("queue 1 5 2", ""),
+        ("map 1 3 1", ""),
+        (
+            "frame 002a041300c01005c0000000aa1005c0000000bb",
+            "frame 1 E1 accepted 1 queued 0 dropped 0 rest 0\n",
+        ),
+        (
+            "frame 202a040700c3ddee",
+            "frame 1 E6 accepted 1 queued 1 dropped 0 rest 0\n",
+        ),
+        (
+            "deliver 1",
+            "release 1 queued 2 dropped 0 rest 0\ntake 1 5 1005c0000000aa\ntake 1 5 1005c0000000bb\nunit 1 3 ddee\nclcw 1 01040201\n",
+        ),
+        ("deliver 1", "refused empty\nclcw 1 01040201\n"),
     ];
     check(&rt, rt.alloc(), FrameCheck::Nothing, lines.as_slice());
 }

@@ -1,0 +1,4 @@
+use Rattle.tc_live.proofs.serving.follow.Goals as goal
+
+pub returns-in-Delivery : goal.returns-in-Delivery
+returns-in-Delivery g c = rw c.in-Delivery.is c.hand_on.ensures

@@ -1,0 +1,70 @@
+//! Handing on all that waits in the queues of a channel. Nothing is allocated.
+
+ghost use Rattle.std.specs.Prelude.{◌≡◌, ◌∷◌, [], OnOk};
+ghost use Rattle.std.specs.Io.KnownBytes.{Appends};
+ghost use Rattle.tc_rack.specs.Delivery.{AreTold, AreTakenFrom, AreEmptied, IsHandedOn, packet_queues, unit_queues, told_line, waiting_in};
+
+use crate::answer::Answer;
+use crate::linked::LinkedChannel;
+use crate::queue::QueueId;
+use std::io;
+use std::io::Write;
+
+/// Takes each packet of each queue, and then each unit of each chosen MAP, in the order of the settings, until nothing waits; writes
+/// the answer to each take, and then the CLCW. Each answer is written before the next is made.
+pub(crate) fn hand_on<W: Write>(channel: &mut LinkedChannel, writer: &mut W) -> io::Result<()>
+    ensures told { OnOk result (AreTold (W.contents writer.old) (W.contents writer.new) (λ answers. IsHandedOn channel.old answers channel.new)) }
+    ensures settings { channel.new.history.settings ≡ channel.old.history.settings }
+{
+    empty_packet_queues(channel, writer)?;
+    empty_unit_queues(channel, writer)?;
+    let word = channel.clcw();
+    tell(&word, writer)
+}
+
+fn empty_packet_queues<W: Write>(channel: &mut LinkedChannel, writer: &mut W) -> io::Result<()>
+    ensures told { OnOk result (AreTold (W.contents writer.old) (W.contents writer.new) (λ answers. AreEmptied (packet_queues channel.old.history.settings) channel.old answers channel.new)) }
+    ensures settings { channel.new.history.settings ≡ channel.old.history.settings }
+{
+    let count = channel.settings().queues.len();
+    for place in 0..count {
+        let apid = channel.settings().queues.as_slice()[place].apid;
+        empty_queue(channel, QueueId::Packets(apid), writer)?;
+    }
+    Ok(())
+}
+
+fn empty_unit_queues<W: Write>(channel: &mut LinkedChannel, writer: &mut W) -> io::Result<()>
+    ensures told { OnOk result (AreTold (W.contents writer.old) (W.contents writer.new) (λ answers. AreEmptied (unit_queues channel.old.history.settings) channel.old answers channel.new)) }
+    ensures settings { channel.new.history.settings ≡ channel.old.history.settings }
+{
+    let count = channel.settings().maps.len();
+    for place in 0..count {
+        let map = channel.settings().maps.as_slice()[place].map;
+        empty_queue(channel, QueueId::Units(map), writer)?;
+    }
+    Ok(())
+}
+
+// Takes what waits in a queue, one after the other.
+fn empty_queue<W: Write>(
+    channel: &mut LinkedChannel,
+    queue: QueueId,
+    writer: &mut W,
+) -> io::Result<()>
+    ensures told { OnOk result (AreTold (W.contents writer.old) (W.contents writer.new) (λ answers. AreTakenFrom queue channel.old answers channel.new × (waiting_in queue channel.new ≡ []))) }
+    ensures settings { channel.new.history.settings ≡ channel.old.history.settings }
+{
+    let count = channel.waiting(queue);
+    for _ in 0..count {
+        let answer = channel.take_from(queue);
+        tell(&answer, writer)?;
+    }
+    Ok(())
+}
+
+fn tell<W: Write>(answer: &Answer, writer: &mut W) -> io::Result<()>
+    ensures { OnOk result (Appends (W.contents writer.old) (W.contents writer.new) (told_line answer.now)) }
+{
+    writeln!(writer, "{answer}")
+}
