@@ -1,6 +1,8 @@
 //! Lines that take memory. With ample memory each is answered at once; with one growth refused it leaves what stood before, and
 //! then is answered the same.
 
+ghost use Rattle.std.specs.Prelude.{◌≤◌};
+
 use super::receiver;
 use std::alloc::Global;
 use std::process::Abort;
@@ -18,7 +20,9 @@ fn answer(
     receiver: &mut Receiver,
     line: &str,
     room: &mut [u8; ROOM],
-) -> usize {
+) -> usize
+    ensures { result ≤ 300 }
+{
     let mut rest = room.as_mut_slice();
     let written = receiver.answer_line(alloc, line.as_bytes(), &mut rest);
     assert!(rt; written.is_ok());

@@ -59,17 +59,18 @@ channel-line : IsLineSaid (new_receiver Nothing 42) (codes "channel 1 10 1 0 pla
 unfolding live_line_of line_of words
 channel-line = inl (
   told.Nothing,
+  set_up,
   (
     Script (said.Channel 1 10 1 0 false),
     refl,
     inl (said.Channel 1 10 1 0 false, refl, ((refl, refl), ([], plain ∷ [], refl, ((λ there. (let inside : there.0 < 0 = there.2 in omega arith)), allowed, refl), refl))),
   ),
-  refl,
+  ([], (refl, refl), refl),
 )
 
 link-line : IsLineSaid set_up (codes "link 1 1 0") (receiver_with no_signal) (codes "link 1 1 0\n")
 unfolding live_line_of words digits
-link-line = inl (told.Link 1 no_signal, (LinkOf 1 no_signal, refl, ((true, rack no_signal, (0, channel no_flag, channel no_signal, (refl, refl), refl, refl), refl, refl), ((λ e. cc), refl))), refl)
+link-line = inl (told.Link 1 no_signal, receiver_with no_signal, (LinkOf 1 no_signal, refl, ((true, rack no_signal, (0, channel no_flag, channel no_signal, (refl, refl), refl, refl), refl, refl), ((λ e. cc), refl))), ([], (refl, refl), sym (append-nil (codes "link 1 1 0\n"))))
 
 -- the flag of the radio frequency signal is bit 16 of the word
 abbrev clcw_text : List ℕ
@@ -79,12 +80,13 @@ clcw-line : IsLineSaid (receiver_with no_signal) (codes "clcw 1") (receiver_with
 unfolding live_line_of line_of words digits clcw_within run_within no_limits
 clcw-line = inl (
   told.Operation (answers.Clcw 1 0x01048000),
+  receiver_with no_signal,
   (
     Script (said.Clcw 1),
     refl,
     inl (said.Clcw 1, refl, ((answers.Clcw 1 0x01048000, rack no_signal, (inl (0, channel no_signal, (refl, refl), refl), refl), refl, refl), ((λ e. cc), refl))),
   ),
-  refl,
+  ([], (refl, refl), sym (append-nil clcw_text)),
 )
 
 pub returns : goal.returns
