@@ -64,6 +64,8 @@ for line in sys.stdin.buffer:
         child.stdin.write(line)
         child.stdin.flush()
         answer = b"" if line.startswith((b"channel", b"queue", b"map")) else child.stdout.readline()
+        while line.startswith(b"deliver") and not answer.startswith((b"bad", b"refused channel")) and b"clcw" not in answer:
+            answer += child.stdout.readline()
     sys.stdout.buffer.write(answer)
     sys.stdout.buffer.flush()
 child.stdin.close()

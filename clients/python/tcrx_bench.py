@@ -308,8 +308,8 @@ class Bench:  # pylint: disable=too-many-instance-attributes  # it is made of th
     def _tell_all(self, why: str) -> None:
         """Tells everyone why there are no more answers, and notes what was not answered."""
         self.notes.say_once(why)
-        for line, _ in self.engine.pending:
-            self.journal.unanswered(line)
+        for line, _, _ in self.engine.pending:
+            self.journal.unanswered(line.partition("\n")[0])
         self.journal.write(f"# {why}".replace("\n", " "))
         for port in self.hub.ports:
             for connection in list(port.open):

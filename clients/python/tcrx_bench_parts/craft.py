@@ -1,26 +1,23 @@
 """The spacecraft that all connections share: frames and lines in the order of their arrival, what they lead to, and what is counted.
 
-A frame leads to lines: itself, the release of its data field, the takes of its packets, and the CLCW. They are written at once where
-it can be foreseen what the frame leads to, so that the receiver never waits. Behind a frame of which that isn't sure all others wait
-until it and what it leads to are answered.
+Behind each frame goes a line by which the receiver hands on all that comes of it. So nothing is waited for, and nothing foreseen.
 """
 from __future__ import annotations
 
 import enum
 import re
 import time
-from binascii import crc_hqx
 from collections import Counter, deque
+from functools import partial
 from typing import Callable, Deque, Dict, List, Optional, Tuple
 
 from tcrx import Clcw, without_hint
 
 from .engine import Engine
 from .journal import SET_UP, Journal, printable
-from .octets import Header, Segments, applications_of, header_of
 
-# Lines that are under way, and at the end, where they are to be answered soon; turns that wait, and events that are kept.
-MOST_UNDER_WAY, MOST_AT_END, MOST_WAITING, LAST_EVENTS = 1024, 64, 2048, 200
+# Frames and lines that are under way, and at the end, where they are to be answered soon; turns that wait, and events that are kept.
+MOST_UNDER_WAY, MOST_AT_END, MOST_WAITING, LAST_EVENTS = 256, 16, 2048, 200
 # Octets of a frame line: more than a frame has change no answer.
 MOST_OCTETS = 2048
 # Notes of ports that are kept.
@@ -40,60 +37,48 @@ class Release(enum.Enum):
     MANUAL = "manual"
 
 
-class Turn:  # pylint: disable=too-few-public-methods,too-many-instance-attributes  # a record, made for each frame
+class Turn:  # pylint: disable=too-few-public-methods  # a record, made for each frame
     """One arrival, with what is to be known when it is answered."""
 
-    __slots__ = ("came", "source", "line", "octets", "asker", "noted", "channel", "header", "sure", "foreseen", "event")
+    __slots__ = ("came", "source", "line", "octets", "asker", "first", "event")
 
     def __init__(self, came: float, source: str, line: str, octets: bytes = b"", asker: Optional[Asker] = None) -> None:
         self.came, self.source, self.line, self.octets, self.asker = came, source, line, octets, asker
-        self.noted = False
-        self.channel: Optional[Channel] = None
-        self.header: Optional[Header] = None
-        self.sure = True
-        self.foreseen: List[str] = []
-        """The takes that were written behind it."""
-        self.event: Optional[Dict[str, object]] = None
+        self.first = 1
+        """Which of its answers is the first that may be the last: behind a frame's, but where a person has all handed on."""
+        self.event: Optional[Event] = None
+
+
+class Event:  # pylint: disable=too-few-public-methods  # a record, made for each frame
+    """What happened, for those who watch; its number, and the CLCW behind it."""
+
+    __slots__ = ("number", "turn", "answer", "word")
+
+    def __init__(self, number: int, turn: Turn, answer: str, word: str) -> None:
+        self.number, self.turn, self.answer, self.word = number, turn, answer, word
+
+    def state(self) -> Dict[str, object]:
+        """The event as values of JSON."""
+        turn = self.turn
+        return {"id": self.number, "time": round(turn.came, 6), "source": turn.source, "line": "" if turn.octets else printable(turn.line),
+                "octets": turn.octets.hex(), "answer": self.answer, "clcw": self.word}
 
 
 class Channel:  # pylint: disable=too-few-public-methods,too-many-instance-attributes  # what is known of a channel
-    """A virtual channel: its settings, what was last said of it, and what is foreseen."""
+    """A virtual channel: its settings, and what was last said of it."""
 
     def __init__(self, vcid: int, width: int, buffer: int, first: int, plain: bool) -> None:
         self.vcid, self.width, self.buffer, self.first, self.plain = vcid, width, buffer, first, plain
         self.queues: Dict[int, int] = {}
         self.maps: Dict[int, int] = {}
-        self.word = 0x01000000 | vcid << 18 | first
-        self.no_rf = self.no_bit_lock = False
+        self.word = f"{0x01000000 | vcid << 18 | first:08x}"
         self.buffered = 0
         self.in_queues: Dict[int, int] = {}
         self.in_maps: Dict[int, int] = {}
-        self.events: Counter[str] = Counter()
+        self.events = dict.fromkeys(EVENTS, 0)
         self.last: Optional[Tuple[int, str]] = None
         """N(S) of the last frame, and its event."""
         self.changed = True
-        self.expected: Optional[int] = first
-        """V(R) when all that is under way is answered, where that is sure and such a frame will be accepted."""
-        self.fields: Deque[bytes] = deque(maxlen=64)
-        """The data fields in the buffer, where the bench releases them."""
-        self.segments = Segments()
-
-    def takes_of(self, bypass: bool, field: bytes) -> List[str]:
-        """The lines that take what a data field will put into queues that are empty."""
-        map_id, unit = -1, field
-        if not self.plain:
-            ended = self.segments.add(bypass, field)
-            if ended is None:
-                return []
-            map_id, unit = ended
-        if map_id in self.maps:
-            return [f"unit {self.vcid} {map_id}"]
-        room, takes = dict(self.queues), []
-        for apid in applications_of(unit) if room else []:
-            if room.get(apid):
-                room[apid] -= 1
-                takes.append(f"take {self.vcid} {apid}")
-        return takes
 
 
 class Craft:  # pylint: disable=too-many-instance-attributes  # what is known of a spacecraft
@@ -106,11 +91,11 @@ class Craft:  # pylint: disable=too-many-instance-attributes  # what is known of
         self.channels: Dict[int, Channel] = {}
         self.waiting: Deque[Turn] = deque()
         self.barred = False
-        """A turn that isn't sure is under way."""
+        """What sets up is under way, or the receiver is begun anew: what comes behind it waits."""
         self.refused: Counter[str] = Counter()
         self.bad: Counter[str] = Counter()
         self.frames = self.packets = self.units = 0
-        self.last_events: Deque[Dict[str, object]] = deque(maxlen=LAST_EVENTS)
+        self.last_events: Deque[Event] = deque(maxlen=LAST_EVENTS)
         self.last_notes: Deque[Dict[str, object]] = deque(maxlen=LAST_NOTES)
         """What happened on ports, in a list of its own, so that no peer drives the receiver's events out."""
         self.count_of_events = self.count_of_notes = self.changes = 0
@@ -174,8 +159,7 @@ class Craft:  # pylint: disable=too-many-instance-attributes  # what is known of
                 self.barred = self.is_renewing = True
                 self.renew(turn)
                 break
-            self.barred = not self._look_at(turn)
-            self._write(turn, not self.barred)
+            self._write(turn)
         if (len(self.waiting) > (MOST_WAITING // 4 if self.is_slow else MOST_WAITING)) != self.is_slow:
             self.is_slow = not self.is_slow
             self.slow(self.is_slow)
@@ -193,60 +177,23 @@ class Craft:  # pylint: disable=too-many-instance-attributes  # what is known of
         self.changes += 1
         self.step()
 
-    def _look_at(self, turn: Turn) -> bool:
-        """Whether it is sure what a turn leads to."""
-        if not turn.octets:
-            # What sets up is told to have come to its end before what comes behind it; so is what changes what is foreseen.
-            return turn.line.partition(" ")[0] not in ("channel", "queue", "map", "release")
-        turn.header = header = header_of(turn.octets)
-        if header is None or header.scid != self.scid or header.length > len(turn.octets) or (self.fecf and not self._has_sum(turn.octets, header)):
-            return True
-        turn.channel = channel = self.channels.get(header.channel)
-        if channel is None or self.release is not Release.AUTO or (header.bypass and not header.command):
-            return True
-        return not header.bypass and not header.command and header.number == channel.expected
-
-    def _has_sum(self, octets: bytes, header: Header) -> bool:
-        """Whether octets are one frame with its frame error control field."""
-        return header.length == len(octets) and header.length >= 8 and crc_hqx(octets, 0xFFFF) == 0
-
-    def _field(self, turn: Turn) -> bytes:
-        """The data field of a frame."""
-        assert turn.header
-        return turn.octets[5:turn.header.length - 2 * self.fecf]
-
-    def _write(self, turn: Turn, sure: bool) -> None:
+    def _write(self, turn: Turn) -> None:
         """Writes the lines of a turn."""
-        turn.sure = sure
-        if not turn.octets:
+        octets = turn.octets
+        if not octets:
             self._write_order(turn)
             return
-        self._ask(turn, turn.line, self._frame_answered)
-        channel, header = turn.channel, turn.header
-        if channel is None or header is None:
-            return
-        if not sure:
-            return
-        if header.bypass and not header.command and self.release is not Release.MANUAL:
-            self._write_takes(turn, channel.takes_of(True, self._field(turn)))
-        elif self.release is Release.AUTO:
-            channel.expected = (header.number + 1) % 256
-            turn.foreseen = channel.takes_of(False, self._field(turn))
-            self._ask(turn, f"release {channel.vcid}", self._released)
-            self._write_takes(turn, turn.foreseen)
-        self._ask(turn, f"clcw {channel.vcid}", self._clcw_answered)
-
-    def _write_takes(self, turn: Turn, takes: List[str]) -> None:
-        turn.foreseen = takes
-        for line in takes:
-            self._ask(turn, line, self._taken)
+        channel = self.channels.get(octets[2] >> 2) if len(octets) > 4 and (octets[0] & 3) << 8 | octets[1] == self.scid else None
+        if channel is None:
+            self.engine.ask(turn.line, partial(self._refused, turn))
+        else:
+            behind = "deliver" if self.release is Release.AUTO else "clcw"
+            self.engine.ask_block(f"{turn.line}\n{behind} {channel.vcid}", self._frame_answered, turn)
 
     def _ask(self, turn: Turn, line: str, answered: Callable[[Turn, str, str], None]) -> None:
-        """Writes a line of a turn."""
+        """Writes a line of a turn that has one answer."""
         def note(answer: str) -> None:
-            if not turn.noted:
-                turn.noted = True
-                self.journal.origin(turn.came, self.now(), turn.source)
+            self.journal.origin(turn.came, self.now(), turn.source)
             self.journal.answer(line, answer)
             self.changes += 1
             answered(turn, line, answer)
@@ -254,38 +201,63 @@ class Craft:  # pylint: disable=too-many-instance-attributes  # what is known of
 
     # --- Frames ---
 
-    def _frame_answered(self, turn: Turn, line: str, answer: str) -> None:
-        """Counts a frame, and goes on with one that was not sure."""
-        self._note_event(turn, line, answer)
+    def _refused(self, turn: Turn, answer: str) -> None:
+        """Counts a frame that reached no channel, or of which nothing came, as where memory ran out."""
         self.frames += 1
+        self.changes += 1
+        self.journal.origin(turn.came, self.now(), turn.source)
+        self.journal.answer(turn.line, answer)
+        self._note_event(turn, answer)
         if turn.asker:
             turn.asker(answer)
+        (self.bad if answer.startswith("bad ") else self.refused)[without_hint(answer).partition(" ")[2]] += 1
+
+    def _frame_answered(self, turn: Turn, answers: List[str]) -> None:
+        """Counts a frame, and hands on what came of it. Behind one that was refused nothing did."""
+        answer = answers[0]
         words = answer.split(" ")
         if words[0] != "frame":
-            (self.bad if words[0] == "bad" else self.refused)[without_hint(answer).partition(" ")[2]] += 1
-            if turn.channel:
-                # As where memory ran out: it isn't known any more what is expected.
-                turn.channel.expected = None
-            self._end_of_turn(turn)
+            self._refused(turn, answer)
             return
         channel = self.channels[int(words[1])]
-        assert turn.header
-        accepted, queued = words[4] == "1", int(words[6])
-        channel.events[words[2]] += 1
-        channel.last = turn.header.number, words[2]
+        event = words[2]
+        self.frames += 1
+        channel.events[event] += 1
+        channel.last = turn.octets[4], event
+        self._note_event(turn, answer, answers[-1][-8:] if answers[-1].startswith("clcw ") else "")
+        if turn.asker:
+            turn.asker(answer)
+        self.journal.origin(turn.came, self.now(), turn.source)
+        self.journal.answer(turn.line, answer)
+        self._hand_on(channel, answers[1:])
+        if self.release is Release.AFTER and words[4] == "1":
+            if event == "E1":
+                self.engine.loop.call_later(self.release_after, self._release_later, channel)
+            elif words[6] != "0":
+                # A field that waits isn't released with it.
+                self.engine.ask(f"report {channel.vcid}", partial(self._take_all, turn, channel))
+
+    def _hand_on(self, channel: Channel, answers: List[str], asked: bool = False) -> None:
+        """Sends all that a receiver has handed on: packets, units, and at last the CLCW. That nothing waited is noted if it was asked."""
+        self.changes += 1
         channel.changed = True
-        if words[2] == "E6":
-            self._compare(turn, channel, queued)
-        elif self.release is Release.AFTER and accepted:
-            channel.fields.append(self._field(turn))
-            self.engine.loop.call_later(self.release_after, self._release_later, channel)
-        elif turn.sure and self.release is Release.AUTO and not accepted:
-            channel.expected = None
-        if not turn.sure:
-            if accepted:
-                self._ask(turn, f"release {channel.vcid}", self._released)
-                self._write_takes(turn, channel.takes_of(False, self._field(turn)))
-            self._ask(turn, f"clcw {channel.vcid}", self._clcw_answered)
+        for answer in answers:
+            if answer.startswith("take "):
+                self.packets += 1
+                self.send_packet(bytes.fromhex(answer.rpartition(" ")[2]))
+            elif answer.startswith("unit "):
+                self._send_unit(answer)
+            elif answer.startswith("clcw "):
+                channel.word = answer[-8:]
+                self.send_clcw(bytes.fromhex(channel.word))
+        self.journal.handed_on(channel.vcid, answers, asked)
+
+    def _send_unit(self, answer: str) -> None:
+        """Sends a unit behind its channel, MAP and length."""
+        _, vcid, place, digits = answer.split(" ")
+        unit = bytes.fromhex(digits.strip("-"))
+        self.units += 1
+        self.send_unit(bytes([int(vcid), int(place)]) + len(unit).to_bytes(4, "big") + unit)
 
     def _release_later(self, channel: Channel) -> None:
         """Releases a data field whose time has come."""
@@ -294,18 +266,17 @@ class Craft:  # pylint: disable=too-many-instance-attributes  # what is known of
         self.waiting.append(Turn(self.now(), RELEASE, f"release {channel.vcid}"))
         self.step()
 
-    def _released(self, turn: Turn, _: str, answer: str) -> None:
-        """Compares what was queued with what was foreseen."""
-        words = answer.split(" ")
-        channel = self.channels.get(int(words[1])) if words[0] == "release" else None
-        if channel:
-            channel.changed = True
-            self._compare(turn, channel, int(words[3]))
-
-    def _compare(self, turn: Turn, channel: Channel, queued: int) -> None:
-        """Has what is in the queues taken where that isn't what was foreseen."""
-        if queued > len(turn.foreseen) and self.release is not Release.MANUAL:
-            self.engine.ask(f"report {channel.vcid}", lambda answer: self._take_all(turn, channel, answer))
+    def _delivered(self, turn: Turn, answers: List[str]) -> None:
+        """Hands on what was released by a line, or by the bench after some time."""
+        if turn.asker:
+            turn.asker("\n".join(answers) if turn.line.startswith("deliver") else answers[0])
+        self.journal.origin(turn.came, self.now(), turn.source)
+        if len(answers) == 1:
+            self.journal.answer(f"release{turn.line[7:]}", answers[0])
+            return
+        if answers[0].startswith("release "):
+            self._note_event(turn, answers[0], answers[-1][-8:])
+        self._hand_on(self.channels[int(answers[-1].split(" ")[1])], answers, asked=True)
 
     def _take_all(self, turn: Turn, channel: Channel, answer: str) -> None:
         """Takes all that a report says is in the queues of a channel."""
@@ -316,40 +287,25 @@ class Craft:  # pylint: disable=too-many-instance-attributes  # what is known of
                     self._ask(turn, f"{word} {channel.vcid} {place}", self._taken)
 
     def _taken(self, turn: Turn, line: str, answer: str) -> None:
-        """Hands a packet or unit on."""
-        word, _, rest = answer.partition(" ")
+        """Sends a packet or unit."""
         if turn.asker and turn.line == line:
             turn.asker(answer)
-        if word in ("refused", "bad"):
-            return
-        vcid, place, digits = rest.split(" ")
-        self.channels[int(vcid)].changed = True
-        if word == "take":
-            self.packets += 1
-            self.send_packet(bytes.fromhex(digits))
-        else:
-            self.units += 1
-            unit = bytes.fromhex(digits.strip("-"))
-            self.send_unit(bytes([int(vcid), int(place)]) + len(unit).to_bytes(4, "big") + unit)
+        if not answer.startswith(("refused ", "bad ")):
+            self.channels[int(answer.split(" ")[1])].changed = True
+            if answer.startswith("take "):
+                self.packets += 1
+                self.send_packet(bytes.fromhex(answer.rpartition(" ")[2]))
+            else:
+                self._send_unit(answer)
 
     def _clcw_answered(self, turn: Turn, _: str, answer: str) -> None:
-        """Sends a CLCW, and learns from it what is expected."""
+        """Sends a CLCW."""
         if answer.startswith("clcw "):
-            vcid, digits = answer.split(" ")[1:]
-            channel, clcw = self.channels[int(vcid)], Clcw(int(digits, 16))
-            if channel.word != clcw.word:
-                channel.word, channel.changed = clcw.word, True
-            channel.no_rf, channel.no_bit_lock = clcw.no_rf, clcw.no_bit_lock
-            if not turn.sure:
-                channel.expected = None if clcw.lockout or clcw.wait else clcw.vr
-            if turn.event is not None:
-                turn.event["clcw"] = digits
-            self.send_clcw(bytes.fromhex(digits))
-        self._end_of_turn(turn)
-
-    def _end_of_turn(self, turn: Turn) -> None:
-        if not turn.sure:
-            self.barred = False
+            if turn.event:
+                turn.event.word = answer[-8:]
+            channel = self.channels[int(answer.split(" ")[1])]
+            channel.word, channel.changed = answer[-8:], True
+            self.send_clcw(bytes.fromhex(channel.word))
 
     # --- Lines of people, and the bench's own ---
 
@@ -357,9 +313,12 @@ class Craft:  # pylint: disable=too-many-instance-attributes  # what is known of
         """Writes a line that isn't a frame."""
         word = turn.line.partition(" ")[0]
         if word in SET_UP:
+            self.barred = True
             self.engine.set_up(turn.line, lambda answer: self._was_set_up(turn, answer))
-        elif word == "release":
-            self._ask(turn, turn.line, self._ordered_release)
+        elif word == "deliver" or (word == "release" and self.release is not Release.MANUAL and turn.line.count(" ") == 1):
+            # A person's release has all handed on as the bench's own, but with --release manual.
+            turn.first = 0
+            self.engine.ask_block(f"deliver{turn.line[7:]}", self._delivered, turn)
         elif word in ("take", "unit"):
             self._ask(turn, turn.line, self._taken)
         else:
@@ -382,7 +341,7 @@ class Craft:  # pylint: disable=too-many-instance-attributes  # what is known of
             word, *numbers = turn.line.split(" ")
             self.note_set_up(word, [int(number) for number in numbers if number != "plain"], numbers[-1] == "plain")
         self.changes += 1
-        self._end_of_turn(turn)
+        self.barred = False
 
     def note_set_up(self, word: str, numbers: List[int], plain: bool) -> None:
         """Notes a channel, queue or MAP that was set up."""
@@ -393,29 +352,18 @@ class Craft:  # pylint: disable=too-many-instance-attributes  # what is known of
         else:
             self.channels[numbers[0]].maps[numbers[1]] = numbers[2]
 
-    def _ordered_release(self, turn: Turn, line: str, answer: str) -> None:
-        """A release by a person, or by the bench after some time: the takes and the CLCW follow."""
-        if turn.asker:
-            turn.asker(answer)
-        words = answer.split(" ")
-        if words[0] != "release":
-            self._end_of_turn(turn)
-            return
-        channel = self.channels[int(words[1])]
-        if self.release is not Release.MANUAL:
-            self._write_takes(turn, channel.takes_of(False, channel.fields.popleft()) if channel.fields else [])
-        self._note_event(turn, line, answer)
-        self._released(turn, line, answer)
-        self._ask(turn, f"clcw {channel.vcid}", self._clcw_answered)
-
-    def _ordered(self, turn: Turn, line: str, answer: str) -> None:
+    def _ordered(self, turn: Turn, _: str, answer: str) -> None:
         """Any other line."""
         if turn.asker:
             turn.asker(answer)
         if answer.startswith("bad "):
             self.bad[without_hint(answer)[4:]] += 1
-        elif answer.startswith("link "):
-            self._note_event(turn, line, answer)
+        elif answer.startswith(("link ", "release ")):
+            vcid = int(answer.split(" ")[1])
+            self._note_event(turn, answer)
+            self.channels[vcid].changed = True
+            if answer.startswith("release "):
+                self._ask(turn, f"clcw {vcid}", self._clcw_answered)
 
     def say_next_clcw(self) -> None:
         """Has the CLCW of the next channel made, in turn."""
@@ -433,12 +381,15 @@ class Craft:  # pylint: disable=too-many-instance-attributes  # what is known of
 
     # --- What is shown ---
 
-    def _note_event(self, turn: Turn, line: str, answer: str) -> None:
+    def _note_event(self, turn: Turn, answer: str, word: str = "") -> None:
         """Keeps an event for those who watch."""
         self.count_of_events += 1
-        turn.event = {"id": self.count_of_events, "time": round(turn.came, 6), "source": turn.source, "line": printable(line) if not turn.octets else "",
-                      "octets": turn.octets.hex(), "answer": answer, "clcw": ""}
+        turn.event = Event(self.count_of_events, turn, answer, word)
         self.last_events.append(turn.event)
+
+    def events_since(self, since: int) -> List[Dict[str, object]]:
+        """The events after one of this number, as values of JSON."""
+        return [event.state() for event in self.last_events if event.number > since]
 
     def note_text(self, source: str, text: str) -> None:
         """Keeps what happened on a port, or to the log."""
@@ -477,13 +428,13 @@ class Craft:  # pylint: disable=too-many-instance-attributes  # what is known of
 
 def state_of(channel: Channel) -> Dict[str, object]:
     """What is known of a channel, as values of JSON."""
-    clcw = Clcw(channel.word)
+    clcw = Clcw(int(channel.word, 16))
     return {
         "channel": channel.vcid, "width": channel.width, "plain": channel.plain, "vr": clcw.vr, "clcw": f"{clcw.word:08x}",
         "state": "lockout" if clcw.lockout else "wait" if clcw.wait else "open",
         "lockout": clcw.lockout, "wait": clcw.wait, "retransmit": clcw.retransmit, "no_rf": clcw.no_rf, "no_bit_lock": clcw.no_bit_lock,
         "farm_b": clcw.farm_b, "last": None if channel.last is None else {"number": channel.last[0], "event": channel.last[1]},
-        "events": {event: channel.events[event] for event in EVENTS},
+        "events": channel.events,
         "buffer": {"used": channel.buffered, "capacity": channel.buffer},
         "queues": [{"apid": apid, "used": channel.in_queues.get(apid, 0), "capacity": room} for apid, room in channel.queues.items()],
         "maps": [{"map": place, "used": channel.in_maps.get(place, 0), "capacity": room} for place, room in channel.maps.items()],

@@ -8,17 +8,32 @@ import asyncio
 import re
 import time
 from collections import deque
-from typing import Callable, Deque, List, Optional, Tuple
+from typing import Callable, Deque, List, Optional, Protocol, Set, Tuple, TypeVar
 
 from tcrx import COUNTS, LONGEST_ANSWER, LONGEST_REPORT, NUMBER, PROBE, PROBE_ANSWER, Process, without_hint
 
 Answered = Callable[[str], None]
+# The words of what is handed on behind a frame; and how the last answer of a block begins.
+HANDED_ON = frozenset({"release", "take", "unit", "clcw"})
+LAST = ("clcw ", "bad ", "refused channel")
+# Answers whose form isn't looked at twice.
+MOST_FITTING = 4096
+
+
+class Block(Protocol):  # pylint: disable=too-few-public-methods  # it is what others have
+    """What a block of answers belongs to."""
+
+    first: int
+    """Which answer of it is the first that may be the last."""
+
+
+Given = TypeVar("Given", bound=Block)
 # Octets that are read at once.
 CHUNK = 1 << 18
 # The form of each answer, by its first word.
 FORMS = {word: re.compile(rf"{word} {NUMBER} {rest}") for word, rest in (
-    ("frame", f"E[1-9] accepted [01] {COUNTS}"), ("release", COUNTS), ("take", rf"{NUMBER} (?:[0-9a-f]{{2}})+"), ("clcw", "[0-9a-f]{8}"),
-    ("unit", rf"{NUMBER} (?:-|(?:[0-9a-f]{{2}})+)"), ("link", "[01] [01]"),
+    ("frame", f"E[1-9] accepted [01] {COUNTS}"), ("release", COUNTS), ("take", rf"{NUMBER} [0-9a-f]+"), ("clcw", "[0-9a-f]{8}"),
+    ("unit", rf"{NUMBER} (?:-|[0-9a-f]+)"), ("link", "[01] [01]"),
     ("report", rf"state (?:open|wait|lockout) vr {NUMBER} .* buffered {NUMBER}(?: queue {NUMBER} {NUMBER})*(?: map {NUMBER} {NUMBER})*"))}
 
 
@@ -28,8 +43,8 @@ class Engine:  # pylint: disable=too-many-instance-attributes  # both ways of on
     def __init__(self, process: Process, patience: float) -> None:
         self.process, self.patience = process, patience
         self.loop = asyncio.get_running_loop()
-        self.pending: Deque[Tuple[str, Answered]] = deque()
-        """The lines that are under way, each with what is called with its answer."""
+        self.pending: Deque[Tuple[str, Callable[..., None], Optional[Block]]] = deque()
+        """The lines that are under way, each with what is called with its answer, or with its block and all answers of that."""
         self.over: "asyncio.Future[str]" = self.loop.create_future()
         """Why there are no more answers, once that is so; empty if the program ended after the end of the lines."""
         self.status: Optional[int] = None
@@ -40,7 +55,11 @@ class Engine:  # pylint: disable=too-many-instance-attributes  # both ways of on
         """Called after answers came."""
         self._out: List[str] = []
         self._left = b""
-        self._begun = b""
+        self._begun = ""
+        self._lines: List[str] = []
+        """Answers that came, up to a block that isn't whole."""
+        self._fitting: Set[str] = set()
+        """Answers whose form was looked at."""
         self._ending = self._flushing = False
         self._heard = time.monotonic()
         self._armed = False
@@ -54,11 +73,18 @@ class Engine:  # pylint: disable=too-many-instance-attributes  # both ways of on
 
     def ask(self, line: str, answered: Answered) -> None:
         """Writes a line that has one answer. Behind the end of the lines nothing is written, and so nothing answered."""
+        self._ask(line, answered, None)
+
+    def ask_block(self, line: str, answered: Callable[[Given, List[str]], None], block: Given) -> None:
+        """Writes a line, or two, whose answers end with a CLCW, and are handed on together."""
+        self._ask(line, answered, block)
+
+    def _ask(self, line: str, answered: Callable[..., None], block: Optional[Block]) -> None:
         if self._ending:
             return
         if not self.pending:
             self._heard = time.monotonic()
-        self.pending.append((line, answered))
+        self.pending.append((line, answered, block))
         self._out.append(line)
         if not self._flushing:
             self._flushing = True
@@ -74,7 +100,7 @@ class Engine:  # pylint: disable=too-many-instance-attributes  # both ways of on
             else:
                 found.append(answer)
                 # The next answer is the probe's.
-                self.pending.appendleft((PROBE, lambda answer: answered(found[0])))
+                self.pending.appendleft((PROBE, lambda answer: answered(found[0]), None))
         self.ask(f"{line}\n{PROBE}", first)
 
     def end_lines(self) -> None:
@@ -129,29 +155,61 @@ class Engine:  # pylint: disable=too-many-instance-attributes  # both ways of on
             self._ended()
             return
         self._heard, self._armed = time.monotonic(), True
-        *lines, self._begun = (self._begun + octets).split(b"\n")
-        for line in lines:
-            self._hand_on(line.decode("ascii", errors="replace"))
-            if self.over.done():
-                return
+        *lines, self._begun = (self._begun + octets.decode("ascii", errors="replace")).split("\n")
+        self._lines += lines
+        self._hand_on()
         if len(self._begun) > LONGEST_ANSWER:
             self.stop("an answer of the receiver has no end")
         self.answered()
 
-    def _hand_on(self, answer: str) -> None:
-        """Gives an answer to the line that waits longest, or adds it to the final report."""
-        if self.pending:
-            line, answered = self.pending.popleft()
-            word = line.partition(" ")[0]
-            try:
-                if answer.startswith(("bad ", "refused ")) or (word in FORMS and FORMS[word].fullmatch(answer)):
-                    answered(answer)
-                    return
-            except KeyError:
-                # It is of a channel that isn't there.
-                pass
-            self.stop(f"`{line[:80]}` was answered `{answer[:80]}`")
-        elif self._ending and sum(map(len, self.report)) < LONGEST_REPORT:
+    def _hand_on(self) -> None:
+        """Gives each answer to the line that waits longest, and each whole block of answers to its own, or adds to the final report."""
+        lines, pending, at = self._lines, self.pending, 0
+        end = len(lines)
+        while at < end and not self.over.done():
+            if not pending:
+                self._report(lines[at])
+                at += 1
+                continue
+            line, answered, block = pending[0]
+            last = at + block.first if block else at
+            while block and last < end and not lines[last].startswith(LAST):
+                last += 1
+            if last >= end:
+                break
+            pending.popleft()
+            answers = lines[at:last + 1]
+            at = last + 1
+            wrong = self._unfit(line, answers)
+            if wrong is None:
+                try:
+                    if block:
+                        answered(block, answers)
+                    else:
+                        answered(answers[0])
+                    continue
+                except (KeyError, ValueError):
+                    # One is of a channel that isn't there, or half an octet is left.
+                    wrong = 0
+            self.stop(f"`{line.split(chr(10))[0 if wrong == 0 else -1][:80]}` was answered `{answers[wrong][:80]}`")
+        del lines[:at]
+
+    def _unfit(self, line: str, answers: List[str]) -> Optional[int]:
+        """The first of the answers to a line, or two, that hasn't their form, if there is one. Those to `deliver` are of other lines."""
+        for place, answer in enumerate(answers):
+            word = answer.partition(" ")[0]
+            if word in ("bad", "refused"):
+                continue
+            may_be = word in HANDED_ON if place or line.startswith("deliver") else line.startswith(word)
+            if not may_be or not (answer in self._fitting or (word in FORMS and FORMS[word].fullmatch(answer))):
+                return place
+            if word in ("frame", "release") and len(self._fitting) < MOST_FITTING:
+                self._fitting.add(answer)
+        return None
+
+    def _report(self, answer: str) -> None:
+        """Adds to the final report."""
+        if self._ending and sum(map(len, self.report)) < LONGEST_REPORT:
             self.report.append(answer)
         else:
             self.stop(f"`{answer[:80]}` came without a line")

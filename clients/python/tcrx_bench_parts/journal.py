@@ -136,6 +136,19 @@ class Journal:
         else:
             self.write(line, f"#= {answer}")
 
+    def handed_on(self, vcid: int, answers: List[str], asked: bool) -> None:
+        """What a receiver has handed on, as the lines of a script that do the same; that nothing waited if that was asked."""
+        if self.file is None:
+            return
+        for answer in answers:
+            word = answer.partition(" ")[0]
+            if word in ("take", "unit"):
+                self.lines += (answer.rpartition(" ")[0], f"#= {answer}")
+            elif word in ("release", "clcw"):
+                self.answer(f"{word} {vcid}", answer)
+            elif asked:
+                self.answer(f"release {vcid}", answer)
+
     def _frame_with_sum(self, line: str, answer: str) -> None:
         """A frame with its sum, which `tcrx` takes without it."""
         if answer == "refused check":

@@ -1,15 +1,12 @@
-"""Frames, segments and packets, as far as the bench looks into them: to cut a stream into frames, and to foresee what a frame leads to.
-
-The receiver judges each frame by itself. What is foreseen here saves waiting for answers, and is compared with them.
-"""
+"""Frames, as far as the bench looks into them: to cut a stream into them. The receiver judges each by itself."""
 from __future__ import annotations
 
 import re
 from binascii import crc_hqx
-from typing import Dict, List, NamedTuple, Optional, Tuple
+from typing import List, Optional, Tuple
 
-# Octets of a header, of the shortest frame, and of the longest run of segments that the receiver joins.
-HEADER, SHORTEST, LONGEST_UNIT = 5, 6, 65542
+# Octets of a header, and of the shortest frame.
+HEADER, SHORTEST = 5, 6
 # How a browser begins, as no frame and no line for the receiver does: by a method of HTTP and a space, or by the first message of TLS,
 # with the kind of its record, two octets of its version, two of its length, and its own kind.
 METHODS = (b"GET ", b"HEAD ", b"POST ", b"PUT ", b"DELETE ", b"CONNECT ", b"OPTIONS ", b"TRACE ", b"PATCH ")
@@ -20,27 +17,6 @@ LONGEST_FRONT = max(map(len, (*METHODS, HELLO)))
 BROWSER = "a browser asks here, and isn't obeyed; the page is at --http"
 
 
-class Header(NamedTuple):
-    """The header of a telecommand transfer frame."""
-
-    bypass: bool
-    command: bool
-    scid: int
-    channel: int
-    length: int
-    number: int
-
-
-def header_of(octets: bytes) -> Optional[Header]:
-    """The header at the front, or None where these octets begin no frame."""
-    if len(octets) < HEADER or octets[0] & 0xCC:
-        return None
-    length = ((octets[2] & 3) << 8 | octets[3]) + 1
-    if length < SHORTEST:
-        return None
-    return Header(bool(octets[0] & 0x20), bool(octets[0] & 0x10), (octets[0] & 3) << 8 | octets[1], octets[2] >> 2, length, octets[4])
-
-
 def without_sum(octets: bytes) -> bytes:
     """A frame without the frame error control field at its end: two octets fewer, and so it says in its length field."""
     shorter = bytearray(octets[:-2])
@@ -48,19 +24,6 @@ def without_sum(octets: bytes) -> bytes:
     shorter[2] = shorter[2] & 0xFC | length >> 8
     shorter[3] = length & 255
     return bytes(shorter)
-
-
-def applications_of(unit: bytes) -> List[int]:
-    """The application of each telecommand packet in a unit, up to octets that begin with no packet."""
-    found, at = [], 0
-    while len(unit) - at >= 7 and unit[at] >> 5 == 0:
-        end = at + 7 + (unit[at + 4] << 8 | unit[at + 5])
-        if end > len(unit):
-            break
-        if unit[at] & 0x10:
-            found.append((unit[at] & 7) << 8 | unit[at + 1])
-        at = end
-    return found
 
 
 def has_request(octets: bytes) -> bool:
@@ -75,28 +38,6 @@ def begins_request(octets: bytes) -> Optional[bool]:
     whole = octets + HELLO[len(octets):]
     may_be = any(method.startswith(octets) for method in METHODS) or (whole != octets and REQUEST.match(whole))
     return None if may_be else False
-
-
-class Segments:  # pylint: disable=too-few-public-methods  # a step and its state
-    """The segments of a channel that wait for their last one, by service and MAP."""
-
-    def __init__(self) -> None:
-        self.runs: Dict[Tuple[bool, int], bytearray] = {}
-
-    def add(self, bypass: bool, field: bytes) -> Optional[Tuple[int, bytes]]:
-        """The MAP and the unit that a data field with a segment header ends, or None."""
-        kind, key = field[0] >> 6, (bypass, field[0] & 63)
-        run = self.runs.pop(key, None)
-        if kind == 3:
-            return key[1], field[1:]
-        if kind == 1:
-            self.runs[key] = bytearray(field[1:])
-        elif run is not None and len(run) + len(field) - 1 <= LONGEST_UNIT:
-            run += field[1:]
-            if kind == 2:
-                return key[1], bytes(run)
-            self.runs[key] = run
-        return None
 
 
 class Cutter:

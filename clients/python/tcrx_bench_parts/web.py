@@ -60,7 +60,7 @@ class Web:
         return {"program": f"tcrx-bench {__version__}", "receiver": self.receiver, "begun": round(self.begun, 3),
                 "seconds": round(self.craft.now(), 3), **self.craft.state(), "ports": [port.state() for port in self.hub.ports],
                 "notes": list(self.craft.last_notes), "count_of_events": self.craft.count_of_events,
-                "events": [event for event in self.craft.last_events if cast(int, event["id"]) > since]}
+                "events": self.craft.events_since(since)}
 
     def _learn_full_name(self) -> None:
         """Looks up the full name of this machine, by which the page may be asked for as well."""
