@@ -25,13 +25,13 @@ use Rattle.tc_channel.specs.Run.{step, kept, passed_on, first_of}
 use Rattle.tc_channel.proofs.StateQueues.{kept-either}
 use Rattle.tc_channel.specs.Channel.{AreRuns, FollowsWithin, FollowsKindWithin, LeaveAtMost}
 
-stream-same : (s : Service) (n : ℕ) (passed : List Passed) (p : Passed) → is_of s n p ≡ true → stream s n (passed ++ p ∷ []) ≡ stream s n passed ++ p.field ∷ []
+pub stream-same : (s : Service) (n : ℕ) (passed : List Passed) (p : Passed) → is_of s n p ≡ true → stream s n (passed ++ p ∷ []) ≡ stream s n passed ++ p.field ∷ []
 stream-same s n passed p h =
     let one : filter (is_of s n) (p ∷ []) ≡ p ∷ [] = rw h refl in
     ap (map (λ (x : Passed). x.field)) (filter-append (is_of s n) passed (p ∷ []) ∙ ap (λ (x : List Passed). filter (is_of s n) passed ++ x) one)
     ∙ map-append (λ (x : Passed). x.field) (filter (is_of s n) passed) (p ∷ [])
 
-stream-other : (s : Service) (n : ℕ) (passed : List Passed) (p : Passed) → is_of s n p ≡ false → stream s n (passed ++ p ∷ []) ≡ stream s n passed
+pub stream-other : (s : Service) (n : ℕ) (passed : List Passed) (p : Passed) → is_of s n p ≡ false → stream s n (passed ++ p ∷ []) ≡ stream s n passed
 stream-other s n passed p h =
     let none : filter (is_of s n) (p ∷ []) ≡ [] = rw h refl in
     ap (map (λ (x : Passed). x.field)) (filter-append (is_of s n) passed (p ∷ []) ∙ ap (λ (x : List Passed). filter (is_of s n) passed ++ x) none ∙ append-nil (filter (is_of s n) passed))
@@ -44,7 +44,7 @@ same_place Ad Bd m n m_in n_in = (λ h. absurd cc, λ h e. omega arith)
 same_place Bd Ad m n m_in n_in = (λ h. absurd cc, λ h e. omega arith)
 
 -- a stream has the MAP of its fields
-same_map : (s t : Service) (m n : ℕ) → (same_service s t && eqb m n) ≡ true → m ≡ n
+pub same_map : (s t : Service) (m n : ℕ) → (same_service s t && eqb m n) ≡ true → m ≡ n
 same_map Ad Ad m n h = elim (eqb_tells m n) [ inl e ↦ e.1 | inr e ↦ let x = e.0 in absurd cc ]
 same_map Bd Bd m n h = elim (eqb_tells m n) [ inl e ↦ e.1 | inr e ↦ let x = e.0 in absurd cc ]
 same_map Ad Bd m n h = absurd cc

@@ -1,6 +1,6 @@
 //! Laws on what leaves a channel: it is what came in, in order.
 
-ghost use Rattle.std.specs.Prelude.{◌≡◌, ◌≤◌, ◌∷◌, ℕ, List, [], Some, length, map, take};
+ghost use Rattle.std.specs.Prelude.{◌≡◌, ◌≤◌, ◌∷◌, ℕ, true, List, [], Some, length, map, take};
 ghost use Rattle.tc_packet.specs.declared.Service.{Service};
 ghost use Rattle.tc_packet.specs.Reassembly.{Passed};
 ghost use Rattle.tc_channel.specs.declared.settings.Settings.{Settings};
@@ -11,6 +11,7 @@ ghost use Rattle.tc_channel.specs.Run.{run_within, IsLawfulWithin};
 ghost use Rattle.tc_channel.specs.Reply.{take_reply_within, unit_reply_within};
 ghost use Rattle.tc_channel.specs.Given.{oldest_in, packets_given, units_given, fields_passed};
 ghost use Rattle.tc_channel.specs.Era.{IsEraWithin, ComesFromWithin};
+ghost use Rattle.tc_channel.specs.Account.{Share, AccountFor};
 ghost use Rattle.tc_channel.specs.Through.{IsPartOf, packets_made, units_made, sent_from, passed_since, released_since};
 
 /// The data fields of Type-AD that were passed to reassembly are the accepted ones, each once and in order, as far as they were
@@ -58,6 +59,16 @@ pub fn what_was_sent_is_given_in_order()
         → IsEraWithin limits s journal before later x → ComesFromWithin limits s before later x sent → queue_of map_id (run_within limits s journal).units ≡ Some q
         → (passed : List Passed) × (passed_since limits s before passed ≡ sent_from sent 0 (released_since limits s before journal))
         × IsPartOf (units_given s map_id (first_state_within limits s) journal) (units_made limits s map_id passed) }
+{}
+
+/// Each data field that was passed to reassembly is accounted for. The fields of a service and a MAP part, each once and in order, into
+/// shares: all segments of a unit that was made; the open run; or fields that are lost, since they are over the limit of their MAP or over
+/// 65,542 octets, since another unit began before theirs ended, or since no run was open for them. The units are all that these fields
+/// made, and the run is all that they left open. On a plain channel each field is a unit, or over its limit
+/// ([`a_plain_channel_takes_each_field_as_a_unit`](crate::a_plain_channel_takes_each_field_as_a_unit)).
+pub fn each_passed_field_is_accounted_for()
+    ensures { (limits : ℕ → ℕ) (s : Settings) (journal : List Event) (service : Service) (map_id : ℕ) → s.segmented ≡ true
+        → (shares : List Share) × AccountFor limits s service map_id (run_within limits s journal).passed shares }
 {}
 
 /// What data fields make, worked out by hand: a packet in two segments, for its own application alone; none where the two came by

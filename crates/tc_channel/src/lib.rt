@@ -7,6 +7,7 @@
 //! [`each_journal_has_an_era`], [`accepted_frames_count_up`], [`what_was_sent_is_accepted_once_and_in_order`],
 //! [`queues_are_those_of_the_settings`], [`queues_keep_to_their_capacity`], [`short_journals_are_answered_so`],
 //! [`further_journals_are_answered_so`], [`memory_is_counted_so`],
+//! [`each_passed_field_is_accounted_for`],
 //! [`chosen_maps_stay`], [`a_unit_is_delivered_whole_or_by_packets`], [`a_unit_is_kept_where_its_queue_has_room`],
 //! [`buffer_keeps_to_its_size`], [`each_packet_is_queued_or_dropped`],
 //! [`no_more_items_wait_than_memory_counts`], [`what_waits_is_within_the_bound_of_memory`], [`each_clcw_fits_its_word`], [`a_longer_run_goes_on`], [`what_was_accepted_is_passed_on_in_order`],
@@ -39,9 +40,9 @@ pub use answered::{
 pub use channel::{Channel, ChannelWith, FlightChannel};
 pub use event::Event;
 pub use flow::{
-    passed_fields_make_so, what_was_accepted_is_passed_on_in_order,
-    what_was_admitted_is_given_in_order, what_was_passed_on_is_admitted_in_order,
-    what_was_sent_is_given_in_order,
+    each_passed_field_is_accounted_for, passed_fields_make_so,
+    what_was_accepted_is_passed_on_in_order, what_was_admitted_is_given_in_order,
+    what_was_passed_on_is_admitted_in_order, what_was_sent_is_given_in_order,
 };
 pub use holding::{Holding, MapHolding, QueueHolding, holding_in};
 pub use items::{Items, Octets};
