@@ -21,6 +21,7 @@ pub mod Held
 pub mod Small
 pub mod Eras
 pub mod Faults
+pub mod Refused
 pub mod Growth
 pub mod Given
 pub mod Through

@@ -4,6 +4,8 @@ use Rattle.tc_link.specs.declared.Link.{Link}
 use Rattle.tc_packet.specs.declared.Service.{Service}
 use Rattle.tc_packet.specs.Reassembly.{Passed}
 use Rattle.tc_channel.specs.declared.settings.Settings.{Settings}
+use Rattle.tc_channel.specs.declared.settings.QueueSetting.{QueueSetting}
+use Rattle.tc_channel.specs.declared.settings.MapSetting.{MapSetting}
 use Rattle.tc_channel.specs.declared.event.Event.{Event}
 use Rattle.tc_channel.specs.declared.event.Event.TheVariants.{Frame}
 
@@ -114,3 +116,15 @@ in_two_segments one other =
 
 abbrev pub joined_packet : List ℕ
 joined_packet = 0x10 ∷ 0x05 ∷ 0xc0 ∷ 0x01 ∷ 0x00 ∷ 0x01 ∷ 0xaa ∷ 0xbb ∷ []
+
+-- settings by their bounds: whether there are segment headers, the id, the width of the window, the size of the buffer, the queues and the chosen MAPs
+abbrev pub channel_of : Bool → ℕ → ℕ → ℕ → List QueueSetting → List MapSetting → Settings
+channel_of segmented vcid width buffer queues maps = record { vcid = vcid; width = width; buffer = buffer; first = 0; segmented = segmented; queues = queues; maps = maps }
+
+-- queues for two applications, each with this capacity
+abbrev pub two_apids : ℕ → ℕ → ℕ → List QueueSetting
+two_apids one other capacity = record { apid = one; capacity = capacity } ∷ record { apid = other; capacity = capacity } ∷ []
+
+-- two chosen MAPs, each with this capacity
+abbrev pub two_maps : ℕ → ℕ → ℕ → List MapSetting
+two_maps one other capacity = record { map = one; capacity = capacity } ∷ record { map = other; capacity = capacity } ∷ []

@@ -5,6 +5,10 @@ ghost use Rattle.tc_channel.specs.declared.event.Event.TheVariants.{Frame, Relea
 ghost use Rattle.tc_channel.specs.Reply.{frame_reply, release_reply, release_reply_within, take_reply, unit_reply, unit_reply_within, waiting_packets, waiting_units, buffered_fields, clcw};
 ghost use Rattle.tc_channel.specs.Run.{IsLawful};
 ghost use Rattle.tc_channel.specs.Memory.{memory_bound};
+ghost use Rattle.tc_channel.specs.Holding.{holding_of};
+ghost use Rattle.tc_channel.specs.Settings.{IsAllowed, IsFault};
+ghost use Rattle.tc_channel.specs.declared.settings.SettingsFault.TheVariants as faults;
+ghost use Rattle.tc_link.specs.declared.State.TheVariants.{S1};
 ghost use Rattle.tc_channel.specs.Examples as example;
 
 /// The definitions give the answers that were worked out by hand from the standard. Each clause is one journal, and what the next
@@ -81,4 +85,32 @@ pub fn memory_is_counted_so()
     ensures plain { memory_bound (example.two_queues false) ≡ 17396 }
     ensures segmented { memory_bound (example.two_queues true) ≡ 17376338 }
     ensures many { memory_bound example.many_queues ≡ 1192606931 }
+{}
+
+/// What a channel has come to, worked out by hand: a packet of application 5 and a unit of MAP 3 came by Type-BD, and wait, and the
+/// first Type-AD frame fills the buffer.
+pub fn a_journal_comes_to_this()
+    ensures { holding_of example.map_3_chosen (Frame example.bypass_packet ∷ Frame example.bypass_map_3_octets ∷ example.one_packet 0 ∷ [])
+        ≡ record { report = record { state = S1; vr = 1; lockout = false; wait = false; retransmit = false; farm_b = 2 }; buffered = 1; queues = record { apid = 5; packets = 1 } ∷ []; maps = record { map = 3; units = 1 } ∷ [] } }
+{}
+
+/// The fault that settings have, worked out by hand. Those of the first row have each fault; each row after it mends the one before, to
+/// the last value that is allowed. The last rows have the least values, and values below them.
+pub fn settings_are_refused_so()
+    ensures vcid { IsFault (example.channel_of false 64 255 65 (example.two_apids 2047 2047 257) (example.two_maps 64 64 257)) faults.BadVcid }
+    ensures window { IsFault (example.channel_of false 63 255 65 (example.two_apids 2047 2047 257) (example.two_maps 64 64 257)) faults.BadWindow }
+    ensures buffer { IsFault (example.channel_of false 63 254 65 (example.two_apids 2047 2047 257) (example.two_maps 64 64 257)) faults.BadBuffer }
+    ensures apid { IsFault (example.channel_of false 63 254 64 (example.two_apids 2047 2047 257) (example.two_maps 64 64 257)) faults.BadApid }
+    ensures double_apid { IsFault (example.channel_of false 63 254 64 (example.two_apids 2046 2046 257) (example.two_maps 64 64 257)) faults.DoubleApid }
+    ensures capacity { IsFault (example.channel_of false 63 254 64 (example.two_apids 2046 0 257) (example.two_maps 64 64 257)) faults.BadCapacity }
+    ensures map { IsFault (example.channel_of false 63 254 64 (example.two_apids 2046 0 256) (example.two_maps 64 64 257)) faults.BadMap }
+    ensures double_map { IsFault (example.channel_of false 63 254 64 (example.two_apids 2046 0 256) (example.two_maps 63 63 257)) faults.DoubleMap }
+    ensures units { IsFault (example.channel_of false 63 254 64 (example.two_apids 2046 0 256) (example.two_maps 63 0 257)) faults.BadUnits }
+    ensures plain_map { IsFault (example.channel_of false 63 254 64 (example.two_apids 2046 0 256) (example.two_maps 63 0 256)) faults.PlainMap }
+    ensures largest { IsAllowed (example.channel_of true 63 254 64 (example.two_apids 2046 0 256) (example.two_maps 63 0 256)) }
+    ensures least { IsAllowed (example.channel_of true 0 2 1 (example.two_apids 0 2046 1) (example.two_maps 0 63 1)) }
+    ensures odd_window { IsFault (example.channel_of true 0 3 1 (example.two_apids 0 2046 1) (example.two_maps 0 63 1)) faults.BadWindow }
+    ensures no_buffer { IsFault (example.channel_of true 0 2 0 (example.two_apids 0 2046 1) (example.two_maps 0 63 1)) faults.BadBuffer }
+    ensures no_packet { IsFault (example.channel_of true 0 2 1 (example.two_apids 0 2046 0) (example.two_maps 0 63 1)) faults.BadCapacity }
+    ensures no_unit { IsFault (example.channel_of true 0 2 1 (example.two_apids 0 2046 1) (example.two_maps 0 63 0)) faults.BadUnits }
 {}

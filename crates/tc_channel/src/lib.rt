@@ -6,7 +6,7 @@
 //! [`allowed_settings_have_no_fault`], [`wait_means_no_room`], [`each_frame_has_a_step`],
 //! [`each_journal_has_an_era`], [`accepted_frames_count_up`], [`what_was_sent_is_accepted_once_and_in_order`],
 //! [`queues_are_those_of_the_settings`], [`queues_keep_to_their_capacity`], [`short_journals_are_answered_so`],
-//! [`further_journals_are_answered_so`], [`memory_is_counted_so`],
+//! [`further_journals_are_answered_so`], [`memory_is_counted_so`], [`settings_are_refused_so`],
 //! [`each_passed_field_is_accounted_for`],
 //! [`chosen_maps_stay`], [`a_unit_is_delivered_whole_or_by_packets`], [`a_unit_is_kept_where_its_queue_has_room`],
 //! [`buffer_keeps_to_its_size`], [`each_packet_is_queued_or_dropped`],
@@ -34,7 +34,8 @@ mod settings;
 mod unkept;
 
 pub use answered::{
-    further_journals_are_answered_so, journals_within_limits_are_answered_so, memory_is_counted_so,
+    a_journal_comes_to_this, further_journals_are_answered_so,
+    journals_within_limits_are_answered_so, memory_is_counted_so, settings_are_refused_so,
     short_journals_are_answered_so,
 };
 pub use channel::{Channel, ChannelWith, FlightChannel};

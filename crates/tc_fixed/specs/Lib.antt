@@ -4,3 +4,4 @@ pub mod Taking
 pub mod Storage
 pub mod Limits
 pub mod History
+pub mod Examples

@@ -1,11 +1,16 @@
-//! Laws over the definitions of limits.
+//! Laws over the definitions of limits and of storage.
 
-ghost use Rattle.std.specs.Prelude.{ℕ, ◌≡◌, ◌≤◌, ◌≢◌};
+ghost use Rattle.std.specs.Prelude.{ℕ, ◌≡◌, ◌≤◌, ◌≢◌, ◌∷◌, [], true, false};
 ghost use Rattle.std.specs.List.{AllByRecursion, Contains};
 ghost use Rattle.tc_channel.specs.ChannelState.{no_limits};
+ghost use Rattle.tc_channel.specs.Examples as example;
+ghost use Rattle.tc_channel.specs.declared.settings.SettingsFault.TheVariants as settings_faults;
 ghost use Rattle.tc_fixed.specs.declared.limits.Limits.{Limits};
 ghost use Rattle.tc_fixed.specs.declared.limits.MapLimit.{MapLimit};
-ghost use Rattle.tc_fixed.specs.Limits.{AreMapsApart, largest_limit, limit_of, none};
+ghost use Rattle.tc_fixed.specs.declared.limits.LimitsFault.TheVariants as faults;
+ghost use Rattle.tc_fixed.specs.Examples.{limits_on};
+ghost use Rattle.tc_fixed.specs.Limits.{AreLimits, AreMapsApart, IsFault, largest_limit, limit_of, none};
+ghost use Rattle.tc_fixed.specs.Storage.{storage_of, storage_within};
 
 /// A MAP that is listed has the limit that is listed for it, and each other MAP that of the others. No limit is over the largest.
 pub fn a_listed_map_has_its_own_limit()
@@ -17,4 +22,27 @@ pub fn a_listed_map_has_its_own_limit()
 /// Where there is no limit by MAP, a channel in rooms runs as each other channel of tc_channel: its limits are none of any MAP.
 pub fn without_limits_each_unit_is_left()
     ensures { limit_of none ≡ no_limits }
+{}
+
+/// The fault that limits have, worked out by hand. Those of the first row have each fault that goes with the others; each row after it
+/// mends the one before, to the last value that is allowed. A fault of the settings comes before all of them.
+pub fn limits_are_refused_so()
+    ensures settings { IsFault (example.channel_of false 64 2 1 [] []) (limits_on 0 64 64 0) (faults.Settings settings_faults.BadVcid) }
+    ensures others { IsFault (example.channel_of false 63 2 1 [] []) (limits_on 0 64 64 0) faults.BadOthers }
+    ensures map { IsFault (example.channel_of false 63 2 1 [] []) (limits_on 1 64 64 0) faults.BadMap }
+    ensures double_map { IsFault (example.channel_of false 63 2 1 [] []) (limits_on 1 63 63 0) faults.DoubleMap }
+    ensures limit { IsFault (example.channel_of false 63 2 1 [] []) (limits_on 1 63 0 0) faults.BadLimit }
+    ensures plain_map { IsFault (example.channel_of false 63 2 1 [] []) (limits_on 1 63 0 65542) faults.PlainMap }
+    ensures unlisted { IsFault (example.channel_of true 63 2 1 [] (example.two_maps 62 3 1)) (limits_on 0 63 3 1) faults.UnlistedMap }
+    ensures listed { AreLimits (example.channel_of true 63 2 1 [] (example.two_maps 3 63 1)) (limits_on 0 63 3 65542) }
+    ensures large_others { IsFault (example.channel_of true 63 2 1 [] []) (limits_on 65543 63 3 1) faults.BadOthers }
+    ensures large_limit { IsFault (example.channel_of true 63 2 1 [] []) (limits_on 65542 63 3 65543) faults.BadLimit }
+{}
+
+/// The storage that is worked out by hand: of a plain channel for one data field and one packet; of one with segment headers for a unit of
+/// MAP 3, too; and of the same with a limit of 100 octets for MAP 3, and of 0 for the others.
+pub fn storage_is_counted_so()
+    ensures plain { storage_of example.plain ≡ 2238 }
+    ensures headed { storage_of example.map_3_chosen ≡ 8526935 }
+    ensures limited { storage_within example.map_3_chosen (record { others = 0; maps = record { map = 3; octets = 100 } ∷ [] }) ≡ 6875 }
 {}

@@ -20,7 +20,10 @@ mod queues;
 
 pub use channel::{FixedChannel, FixedChannelWith};
 pub use faults::{NoUnitTaken, NothingReleased, NothingTaken};
-pub use laws::{a_listed_map_has_its_own_limit, without_limits_each_unit_is_left};
+pub use laws::{
+    a_listed_map_has_its_own_limit, limits_are_refused_so, storage_is_counted_so,
+    without_limits_each_unit_is_left,
+};
 pub use limits::{LentLimits, Limits, LimitsFault, MapLimit};
 pub use memory::{storage, storage_of_lent, storage_with_lent, storage_with_limits};
 pub use noted::Noted;

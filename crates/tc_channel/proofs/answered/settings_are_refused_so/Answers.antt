@@ -1,0 +1,151 @@
+use Rattle.std.proofs.Common.{◌≡◌, ◌≢◌, ℕ, ◌%◌, ◌≤◌, false, true, [], ◌∷◌, take, drop, refl, lit≤, lit<, arith}
+use Rattle.tc_link.specs.Window.{IsWidth}
+use Rattle.tc_channel.specs.declared.settings.QueueSetting.{QueueSetting}
+use Rattle.tc_channel.specs.declared.settings.MapSetting.{MapSetting}
+use Rattle.tc_channel.specs.declared.settings.SettingsFault.TheVariants as faults
+use Rattle.tc_channel.specs.Settings.{IsVcid, IsBufferSize, HaveApids, AreApart, HaveCapacities, AreMaps, AreMapsApart, HaveUnitCapacities, IsFault, faults_in_order}
+use Rattle.tc_channel.specs.Examples.{channel_of, two_apids, two_maps}
+use Rattle.tc_channel.proofs.Refused.{both, first-not, two-apart, not-two-apart, first-of}
+use Rattle.tc_channel.proofs.answered.settings_are_refused_so.Goals as goal
+
+abbrev queue : ℕ → ℕ → QueueSetting
+queue apid capacity = record { apid = apid; capacity = capacity }
+
+abbrev chosen : ℕ → ℕ → MapSetting
+chosen map_id capacity = record { map = map_id; capacity = capacity }
+
+width : (n : ℕ) → 2 ≤ n → n ≤ 254 → n % 2 ≡ 0 → IsWidth n
+width n least most even = record { least = least; most = most; even = even }
+
+apids : (a b n : ℕ) → a ≤ 2046 → b ≤ 2046 → HaveApids (two_apids a b n)
+apids a b n = both (λ (q : QueueSetting). q.apid ≤ 2046) (queue a n) (queue b n)
+
+apart : (a b n : ℕ) → a ≢ b → AreApart (two_apids a b n)
+apart a b n = two-apart (λ (q : QueueSetting). q.apid) (queue a n) (queue b n)
+
+capacities : (a b n : ℕ) → 1 ≤ n → n ≤ 256 → HaveCapacities (two_apids a b n)
+capacities a b n least most = both (λ (q : QueueSetting). (1 ≤ q.capacity) × (q.capacity ≤ 256)) (queue a n) (queue b n) (least, most) (least, most)
+
+maps : (a b n : ℕ) → a ≤ 63 → b ≤ 63 → AreMaps (two_maps a b n)
+maps a b n = both (λ (m : MapSetting). m.map ≤ 63) (chosen a n) (chosen b n)
+
+maps_apart : (a b n : ℕ) → a ≢ b → AreMapsApart (two_maps a b n)
+maps_apart a b n = two-apart (λ (m : MapSetting). m.map) (chosen a n) (chosen b n)
+
+units : (a b n : ℕ) → 1 ≤ n → n ≤ 256 → HaveUnitCapacities (two_maps a b n)
+units a b n least most = both (λ (m : MapSetting). (1 ≤ m.capacity) × (m.capacity ≤ 256)) (chosen a n) (chosen b n) (least, most) (least, most)
+
+apids-not : (a b n : ℕ) → ¬ (a ≤ 2046) → ¬ HaveApids (two_apids a b n)
+apids-not a b n = first-not (λ (q : QueueSetting). q.apid ≤ 2046) (queue a n) (queue b n ∷ [])
+
+capacities-not : (a b n : ℕ) → ¬ ((1 ≤ n) × (n ≤ 256)) → ¬ HaveCapacities (two_apids a b n)
+capacities-not a b n = first-not (λ (q : QueueSetting). (1 ≤ q.capacity) × (q.capacity ≤ 256)) (queue a n) (queue b n ∷ [])
+
+maps-not : (a b n : ℕ) → ¬ (a ≤ 63) → ¬ AreMaps (two_maps a b n)
+maps-not a b n = first-not (λ (m : MapSetting). m.map ≤ 63) (chosen a n) (chosen b n ∷ [])
+
+units-not : (a b n : ℕ) → ¬ ((1 ≤ n) × (n ≤ 256)) → ¬ HaveUnitCapacities (two_maps a b n)
+units-not a b n = first-not (λ (m : MapSetting). (1 ≤ m.capacity) × (m.capacity ≤ 256)) (chosen a n) (chosen b n ∷ [])
+
+-- what the first faults leave to the later ones, by the last values and by the least ones
+
+abbrev Front : ℕ → ℕ → ℕ → Type 0 → Type 0
+Front v w b Later = IsVcid v × (IsWidth w × (IsBufferSize b × Later))
+
+last-front : {Later : Type 0} → Later → Front 63 254 64 Later
+last-front later = (lit≤ tt, (width 254 (lit≤ tt) (lit≤ tt) refl, ((lit≤ tt, lit≤ tt), later)))
+
+least-front : {Later : Type 0} → Later → Front 0 2 1 Later
+least-front later = (lit≤ tt, (width 2 (lit≤ tt) (lit≤ tt) refl, ((lit≤ tt, lit≤ tt), later)))
+
+last-queues : {Later : Type 0} → Later → Front 63 254 64 (HaveApids (two_apids 2046 0 256) × (AreApart (two_apids 2046 0 256) × (HaveCapacities (two_apids 2046 0 256) × Later)))
+last-queues later = last-front (apids 2046 0 256 (lit≤ tt) (lit≤ tt), (apart 2046 0 256 (λ e. omega arith), (capacities 2046 0 256 (lit≤ tt) (lit≤ tt), later)))
+
+least-queues : {Later : Type 0} → Later → Front 0 2 1 (HaveApids (two_apids 0 2046 1) × (AreApart (two_apids 0 2046 1) × (HaveCapacities (two_apids 0 2046 1) × Later)))
+least-queues later = least-front (apids 0 2046 1 (lit≤ tt) (lit≤ tt), (apart 0 2046 1 (λ e. omega arith), (capacities 0 2046 1 (lit≤ tt) (lit≤ tt), later)))
+
+pub returns-clause-vcid : goal.returns-clause-vcid
+unfolding IsFault
+returns-clause-vcid c = first-of (channel_of false 64 255 65 (two_apids 2047 2047 257) (two_maps 64 64 257)) [] (drop 1 faults_in_order) faults.BadVcid tt (λ h. omega arith)
+
+pub returns-clause-window : goal.returns-clause-window
+unfolding IsFault
+returns-clause-window c = first-of (channel_of false 63 255 65 (two_apids 2047 2047 257) (two_maps 64 64 257)) (take 1 faults_in_order) (drop 2 faults_in_order) faults.BadWindow (lit≤ tt, tt) (λ h. let most = h.most in omega arith)
+
+pub returns-clause-buffer : goal.returns-clause-buffer
+unfolding IsFault
+returns-clause-buffer c = first-of (channel_of false 63 254 65 (two_apids 2047 2047 257) (two_maps 64 64 257)) (take 2 faults_in_order) (drop 3 faults_in_order) faults.BadBuffer (lit≤ tt, (width 254 (lit≤ tt) (lit≤ tt) refl, tt)) (λ h. let most = h.1 in omega arith)
+
+pub returns-clause-apid : goal.returns-clause-apid
+unfolding IsFault
+returns-clause-apid c = first-of (channel_of false 63 254 64 (two_apids 2047 2047 257) (two_maps 64 64 257)) (take 3 faults_in_order) (drop 4 faults_in_order) faults.BadApid (last-front tt) (apids-not 2047 2047 257 (λ h. omega arith))
+
+pub returns-clause-double_apid : goal.returns-clause-double_apid
+unfolding IsFault
+returns-clause-double_apid c = first-of (channel_of false 63 254 64 (two_apids 2046 2046 257) (two_maps 64 64 257)) (take 4 faults_in_order) (drop 5 faults_in_order) faults.DoubleApid (last-front (apids 2046 2046 257 (lit≤ tt) (lit≤ tt), tt)) (not-two-apart (λ (q : QueueSetting). q.apid) (queue 2046 257) (queue 2046 257) refl)
+
+pub returns-clause-capacity : goal.returns-clause-capacity
+unfolding IsFault
+returns-clause-capacity c = first-of (channel_of false 63 254 64 (two_apids 2046 0 257) (two_maps 64 64 257)) (take 5 faults_in_order) (drop 6 faults_in_order) faults.BadCapacity (last-front (apids 2046 0 257 (lit≤ tt) (lit≤ tt), (apart 2046 0 257 (λ e. omega arith), tt))) (capacities-not 2046 0 257 (λ h. let most = h.1 in omega arith))
+
+pub returns-clause-map : goal.returns-clause-map
+unfolding IsFault
+returns-clause-map c = first-of (channel_of false 63 254 64 (two_apids 2046 0 256) (two_maps 64 64 257)) (take 6 faults_in_order) (drop 7 faults_in_order) faults.BadMap (last-queues tt) (maps-not 64 64 257 (λ h. omega arith))
+
+pub returns-clause-double_map : goal.returns-clause-double_map
+unfolding IsFault
+returns-clause-double_map c = first-of (channel_of false 63 254 64 (two_apids 2046 0 256) (two_maps 63 63 257)) (take 7 faults_in_order) (drop 8 faults_in_order) faults.DoubleMap (last-queues (maps 63 63 257 (lit≤ tt) (lit≤ tt), tt)) (not-two-apart (λ (m : MapSetting). m.map) (chosen 63 257) (chosen 63 257) refl)
+
+pub returns-clause-units : goal.returns-clause-units
+unfolding IsFault
+returns-clause-units c = first-of (channel_of false 63 254 64 (two_apids 2046 0 256) (two_maps 63 0 257)) (take 8 faults_in_order) (drop 9 faults_in_order) faults.BadUnits (last-queues (maps 63 0 257 (lit≤ tt) (lit≤ tt), (maps_apart 63 0 257 (λ e. omega arith), tt))) (units-not 63 0 257 (λ h. let most = h.1 in omega arith))
+
+pub returns-clause-plain_map : goal.returns-clause-plain_map
+unfolding IsFault
+returns-clause-plain_map c = first-of (channel_of false 63 254 64 (two_apids 2046 0 256) (two_maps 63 0 256)) (take 9 faults_in_order) (drop 10 faults_in_order) faults.PlainMap (last-queues (maps 63 0 256 (lit≤ tt) (lit≤ tt), (maps_apart 63 0 256 (λ e. omega arith), (units 63 0 256 (lit≤ tt) (lit≤ tt), tt)))) (λ none. let there : two_maps 63 0 256 ≡ [] = none refl in cc)
+
+pub returns-clause-largest : goal.returns-clause-largest
+returns-clause-largest c = record {
+  vcid = lit≤ tt;
+  width = width 254 (lit≤ tt) (lit≤ tt) refl;
+  buffer = (lit≤ tt, lit≤ tt);
+  first = lit< tt;
+  apids = apids 2046 0 256 (lit≤ tt) (lit≤ tt);
+  apart = apart 2046 0 256 (λ e. omega arith);
+  capacities = capacities 2046 0 256 (lit≤ tt) (lit≤ tt);
+  maps = maps 63 0 256 (lit≤ tt) (lit≤ tt);
+  maps_apart = maps_apart 63 0 256 (λ e. omega arith);
+  unit_capacities = units 63 0 256 (lit≤ tt) (lit≤ tt);
+  by_headers = λ plain. absurd cc;
+}
+
+pub returns-clause-least : goal.returns-clause-least
+returns-clause-least c = record {
+  vcid = lit≤ tt;
+  width = width 2 (lit≤ tt) (lit≤ tt) refl;
+  buffer = (lit≤ tt, lit≤ tt);
+  first = lit< tt;
+  apids = apids 0 2046 1 (lit≤ tt) (lit≤ tt);
+  apart = apart 0 2046 1 (λ e. omega arith);
+  capacities = capacities 0 2046 1 (lit≤ tt) (lit≤ tt);
+  maps = maps 0 63 1 (lit≤ tt) (lit≤ tt);
+  maps_apart = maps_apart 0 63 1 (λ e. omega arith);
+  unit_capacities = units 0 63 1 (lit≤ tt) (lit≤ tt);
+  by_headers = λ plain. absurd cc;
+}
+
+pub returns-clause-odd_window : goal.returns-clause-odd_window
+unfolding IsFault
+returns-clause-odd_window c = first-of (channel_of true 0 3 1 (two_apids 0 2046 1) (two_maps 0 63 1)) (take 1 faults_in_order) (drop 2 faults_in_order) faults.BadWindow (lit≤ tt, tt) (λ h. let even : 1 ≡ 0 = h.even in omega arith)
+
+pub returns-clause-no_buffer : goal.returns-clause-no_buffer
+unfolding IsFault
+returns-clause-no_buffer c = first-of (channel_of true 0 2 0 (two_apids 0 2046 1) (two_maps 0 63 1)) (take 2 faults_in_order) (drop 3 faults_in_order) faults.BadBuffer (lit≤ tt, (width 2 (lit≤ tt) (lit≤ tt) refl, tt)) (λ h. let least = h.0 in omega arith)
+
+pub returns-clause-no_packet : goal.returns-clause-no_packet
+unfolding IsFault
+returns-clause-no_packet c = first-of (channel_of true 0 2 1 (two_apids 0 2046 0) (two_maps 0 63 1)) (take 5 faults_in_order) (drop 6 faults_in_order) faults.BadCapacity (least-front (apids 0 2046 0 (lit≤ tt) (lit≤ tt), (apart 0 2046 0 (λ e. omega arith), tt))) (capacities-not 0 2046 0 (λ h. let least = h.0 in omega arith))
+
+pub returns-clause-no_unit : goal.returns-clause-no_unit
+unfolding IsFault
+returns-clause-no_unit c = first-of (channel_of true 0 2 1 (two_apids 0 2046 1) (two_maps 0 63 0)) (take 8 faults_in_order) (drop 9 faults_in_order) faults.BadUnits (least-queues (maps 0 63 0 (lit≤ tt) (lit≤ tt), (maps_apart 0 63 0 (λ e. omega arith), tt))) (units-not 0 63 0 (λ h. let least = h.0 in omega arith))

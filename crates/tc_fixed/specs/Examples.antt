@@ -1,0 +1,7 @@
+-- Limits whose faults are worked out by hand.
+use Rattle.std.specs.Prelude.{ℕ, [], ◌∷◌}
+use Rattle.tc_fixed.specs.declared.limits.Limits.{Limits}
+
+-- this limit for the other MAPs, and two MAPs with one limit each of so many octets
+abbrev pub limits_on : ℕ → ℕ → ℕ → ℕ → Limits
+limits_on others one other octets = record { others = others; maps = record { map = one; octets = octets } ∷ record { map = other; octets = octets } ∷ [] }
