@@ -1,6 +1,6 @@
 //! Laws over the definitions of these calls.
 
-ghost use Rattle.std.specs.Prelude.{◌≡◌, ◌<◌, ℕ, Bool, List, Ok, Some, IsSome, length};
+ghost use Rattle.std.specs.Prelude.{◌≡◌, ◌<◌, ◌∷◌, [], ℕ, Bool, List, Ok, Err, Some, IsSome, length, map};
 ghost use Rattle.tc_link.specs.Bits.{bit};
 ghost use Rattle.tc_link.specs.declared.command.Kind.{Kind};
 ghost use Rattle.tc_link.specs.declared.farm.Arrival.{Arrival};
@@ -16,6 +16,7 @@ ghost use Rattle.tc_channel.specs.Run.{IsLawfulWithin, run_within};
 ghost use Rattle.tc_fixed.specs.declared.limits.LimitsFault.{LimitsFault};
 ghost use Rattle.tc_c.specs.declared.farm.FarmRecord.{FarmRecord};
 ghost use Rattle.tc_c.specs.declared.status.Status.{Status};
+ghost use Rattle.tc_c.specs.declared.status.Status.TheVariants as st;
 ghost use Rattle.tc_c.specs.Status.{code_of, status_of, text_of, frame_status, write_status, settings_status, limits_status};
 ghost use Rattle.tc_c.specs.Farm.{IsFarm, first_farm, record_of, farm_of, arrival_of, left};
 ghost use Rattle.tc_c.specs.Frame.{kind_number, kind_value};
@@ -58,6 +59,23 @@ pub fn each_fault_has_a_status_of_its_own()
     ensures writing { (one other : WriteFault) → write_status one ≡ write_status other → one ≡ other }
     ensures settings { (one other : SettingsFault) → settings_status one ≡ settings_status other → one ≡ other }
     ensures limits { (one other : LimitsFault) → limits_status one ≡ limits_status other → one ≡ other }
+{}
+
+/// The numbers are those of `c/tcrx.h`, in its order: those of frames that are read and written; of FARM-1, CLCWs, packets and buffers; and
+/// of channels, their settings and their limits.
+pub fn statuses_have_these_numbers()
+    ensures frames { map code_of (st.Done ∷ st.Short ∷ st.Version ∷ st.Spare ∷ st.LengthSmall ∷ st.Truncated ∷ st.BadField ∷ st.EmptyData ∷ st.TooLong ∷ st.NoMemory ∷ []) ≡ 0 ∷ 1 ∷ 2 ∷ 3 ∷ 4 ∷ 5 ∷ 10 ∷ 11 ∷ 12 ∷ 13 ∷ [] }
+    ensures parts { map code_of (st.BadWidth ∷ st.BadState ∷ st.BadFarmB ∷ st.BadFlag ∷ st.FlagsDisagree ∷ st.BadArrival ∷ st.NoEntry ∷ st.BadVcid ∷ st.NoClcw ∷ st.NoPacket ∷ st.NoRoom ∷ st.Null ∷ st.NoStatus ∷ []) ≡ 20 ∷ 21 ∷ 22 ∷ 23 ∷ 24 ∷ 25 ∷ 26 ∷ 30 ∷ 31 ∷ 40 ∷ 50 ∷ 51 ∷ 52 ∷ [] }
+    ensures settings { map code_of (st.BadBuffer ∷ st.BadApid ∷ st.DoubleApid ∷ st.BadCapacity ∷ st.BadMap ∷ st.DoubleMap ∷ st.BadUnits ∷ st.PlainMap ∷ []) ≡ 60 ∷ 61 ∷ 62 ∷ 63 ∷ 64 ∷ 65 ∷ 66 ∷ 67 ∷ [] }
+    ensures channels { map code_of (st.NoChannel ∷ st.InUse ∷ st.NoQueue ∷ st.NoMap ∷ st.Empty ∷ []) ≡ 70 ∷ 71 ∷ 72 ∷ 73 ∷ 74 ∷ [] }
+    ensures limits { map code_of (st.BadOthers ∷ st.BadLimitMap ∷ st.DoubleLimit ∷ st.BadLimit ∷ st.PlainLimit ∷ st.UnlistedMap ∷ []) ≡ 80 ∷ 81 ∷ 82 ∷ 83 ∷ 84 ∷ 85 ∷ [] }
+{}
+
+/// FARM-1 asks for a frame again where it has no room, and Wait stays set with Retransmit until there is room: so there is no Wait without
+/// Retransmit in S2, nor in S3, into which a frame outside the window leads.
+pub fn no_farm_waits_without_retransmit()
+    ensures wait { farm_of (record { width = 10; state = 2; vr = 0; farm_b = 0; lockout = 0; wait = 1; retransmit = 0 }) ≡ Err st.FlagsDisagree }
+    ensures lockout { farm_of (record { width = 10; state = 3; vr = 0; farm_b = 0; lockout = 1; wait = 1; retransmit = 0 }) ≡ Err st.FlagsDisagree }
 {}
 
 /// Each text fits 64 octets with the octet 0 after it.

@@ -38,7 +38,7 @@ pub use frames::{
 pub use laws::{
     a_record_reads_back, a_step_leaves_a_farm, each_channel_has_a_farm,
     each_fault_has_a_status_of_its_own, each_kind_comes_to_farm_1, each_status_has_a_number,
-    each_text_fits_64_octets,
+    each_text_fits_64_octets, no_farm_waits_without_retransmit, statuses_have_these_numbers,
 };
 pub use packets::{PacketRecord, tcrx_read_packet_at};
 pub use place::Place;
