@@ -4,7 +4,9 @@ ghost use Rattle.std.specs.Prelude.{ℕ, List, ◌≡◌, ◌≢◌, [], ◌∷�
 ghost use Rattle.tc_channel.specs.declared.event.Event.{Event};
 ghost use Rattle.logged_lock.specs.Log.{IsBeginning, IsMergeOf, made_by};
 ghost use Rattle.tc_desk.specs.Log.{Moment, Own};
-ghost use Rattle.tc_desk.specs.Call.{made, looked};
+ghost use Rattle.tc_channel.specs.declared.reply.Delivery.{Delivery};
+ghost use Rattle.tc_channel.specs.declared.reply.ReleaseFault.{ReleaseFault};
+ghost use Rattle.tc_desk.specs.Call.{IsReleased, IsReleaseFault, made, looked};
 ghost use Rattle.tc_desk.specs.Alone.{HasMadeAll, HasSeenItsOwn};
 
 /// Where a journal is a merge of what one operator made, that operator has made, and seen, all of it.
@@ -33,4 +35,9 @@ pub fn one_alone_is_answered_after_its_own_events()
 pub fn each_event_stands_at_its_place()
     ensures { (before : Own) (now : Moment) (e : Event) (closed : Moment) → IsBeginning (made e now before).seen closed
         → (slice_get closed.entries (length now.entries) ≡ Some e) × (now ≡ record { head = closed.head; entries = take (length now.entries) closed.entries }) }
+{}
+
+/// A release is answered where a data field waits, and refused as empty where none does: never both.
+pub fn a_release_finds_a_data_field()
+    ensures { (m : Moment) (delivery : Delivery) → IsReleased m delivery → IsReleaseFault m ReleaseFault.Empty → ⊥ }
 {}

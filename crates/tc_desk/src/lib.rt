@@ -19,8 +19,9 @@ mod together;
 pub use closing::{Obstacle, Unclosed};
 pub use kept::{DeskHead, KeptDesk};
 pub use laws::{
-    each_event_stands_at_its_place, one_alone_is_answered_after_its_own_events,
-    the_only_maker_made_the_whole_journal, the_only_operator_made_the_whole_journal,
+    a_release_finds_a_data_field, each_event_stands_at_its_place,
+    one_alone_is_answered_after_its_own_events, the_only_maker_made_the_whole_journal,
+    the_only_operator_made_the_whole_journal,
 };
 pub use locked::{DeskKeeper, DeskOperator, LockedDesk};
 pub use operation::{
