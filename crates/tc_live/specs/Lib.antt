@@ -3,3 +3,4 @@ pub mod Receiver
 pub mod Serving
 pub mod Printed
 pub mod Hint
+pub mod Examples

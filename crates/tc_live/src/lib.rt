@@ -7,10 +7,12 @@
 mod answer;
 mod check;
 mod hint;
+mod laws;
 mod receiver;
 mod serving;
 
 pub use answer::LiveAnswer;
 pub use check::FrameCheck;
+pub use laws::lines_are_answered_so;
 pub use receiver::Receiver;
 pub use serving::{MAX_LINE, ServingFault, answer_lines};

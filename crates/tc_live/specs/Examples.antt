@@ -1,0 +1,15 @@
+-- A receiver of spacecraft 42 whose frames have no frame error control field, worked out by hand.
+use Rattle.std.specs.Prelude.{false, [], ◌∷◌}
+use Rattle.tc_link.specs.declared.clcw.Link.{Link}
+use Rattle.tc_channel.specs.declared.settings.Settings.{Settings}
+use Rattle.tc_rack.specs.declared.stage.Stage.TheVariants.{Operating}
+use Rattle.tc_live.specs.Receiver.{Receiving}
+use Rattle.tc_live.specs.declared.check.FrameCheck.TheVariants.{Nothing}
+
+-- channel 1 without segment headers, with a window of 10, a buffer for one data field and V(R) 0
+abbrev pub plain : Settings
+plain = record { vcid = 1; width = 10; buffer = 1; first = 0; segmented = false; queues = []; maps = [] }
+
+-- the receiver with that channel, which nothing was brought to, and these flags of its link
+abbrev pub receiver_with : Link → Receiving
+receiver_with link = record { check = Nothing; scid = 42; stage = Operating (record { scid = 42; channels = record { history = record { settings = plain; journal = [] }; link = link } ∷ [] }) }
