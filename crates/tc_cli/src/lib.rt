@@ -5,6 +5,7 @@
 //! own, and writes the report alone. `parse_line` reads one line.
 #![tactic(auto)]
 
+mod answered;
 mod closing;
 mod founding;
 mod laws;
@@ -15,6 +16,7 @@ mod script;
 mod session;
 mod watchers;
 
+pub use answered::a_script_writes_this;
 pub use laws::{
     the_lines_before_memory_ran_out_are_good, what_a_script_does_follows_from_its_lines,
 };
