@@ -822,8 +822,8 @@ static inline tcrx_status tcrx_channel_free(tcrx_channel *channel) {
  * segment headers at most 1019.
  */
 #define TCRX_STORAGE_OF(segmented, buffer, queues, maps, items, limits, sum, largest) \
-    ((size_t)(buffer) * 1083u + ((segmented) ? 5120u + 2u * (size_t)(sum) : 0u) + ((size_t)(queues) + (size_t)(maps)) * 76u \
-     + (size_t)(items) * (64u + (size_t)(largest)) + (size_t)(limits) * 8u + TCRX_OWN_STORAGE)
+    ((size_t)(buffer) * 1051u + ((segmented) ? 5120u + 2u * (size_t)(sum) : 0u) + ((size_t)(queues) + (size_t)(maps)) * 68u \
+     + (size_t)(items) * (32u + (size_t)(largest)) + (size_t)(limits) * 8u + TCRX_OWN_STORAGE)
 
 /** What each channel takes for itself. */
 #define TCRX_OWN_STORAGE 320u
