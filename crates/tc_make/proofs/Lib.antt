@@ -1,2 +1,4 @@
 mod Segments
+mod Fed
+mod Lines
 pub mod Written

@@ -9,5 +9,8 @@ pub mod Explanation
 pub mod Ending
 pub mod Segments
 pub mod Printed
+pub mod Decoders
+pub mod LinkAnswer
 pub mod Answer
+pub mod Making
 pub mod Serving

@@ -8,6 +8,7 @@
 #![tactic(auto)]
 
 mod answer;
+mod decoders;
 mod ending;
 mod explained;
 mod explaining;
@@ -16,6 +17,8 @@ mod form;
 mod frames;
 mod laws;
 mod line;
+mod link;
+mod maker;
 mod octets;
 mod packets;
 mod parting;
@@ -23,13 +26,15 @@ mod printed;
 mod serving;
 
 pub use answer::answer_line;
+pub use decoders::Decoders;
 pub use ending::Ending;
 pub use explaining::{Explanation, explain};
 pub use fault::Reason;
 pub use form::Form;
 pub use frames::{make_command, make_frame};
 pub use laws::the_segments_of_a_unit_make_the_unit;
-pub use line::{Line, Sizing, Stream, parse_line};
+pub use line::{Line, Sizing, Stream, TmOrder, parse_line};
+pub use maker::Maker;
 pub use octets::Octets;
 pub use packets::make_packet;
 pub use parting::Parting;
