@@ -397,9 +397,10 @@ def check_declarations() -> None:
     for kind in kinds:
         in_python[name_in_c(kind)] = kind
         in_python[f"{name_in_c(kind)} *"] = in_python[f"const {name_in_c(kind)} *"] = ctypes.POINTER(kind)
+    exports = HEADER.read_text() + HEADER.with_name("tcrx_at.h").read_text()
     for call, declared in tcrx_channel.CALLS.items():
-        found = re.search(rf"^(\w+) {call}\(([^)]*)\);", HEADER.read_text(), re.M)
-        tell(found, f"the header has no {call}")
+        found = re.search(rf"^(\w+) {call}\(([^)]*)\);", exports, re.M)
+        tell(found, f"the headers have no {call}")
         if found:
             types = [re.sub(r"\w+$", "", " ".join(each.split())).strip() for each in found[2].split(",")]
             same(declared, (in_python[found[1]], [in_python[each] for each in types]), f"the declaration of {call}")

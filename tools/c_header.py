@@ -11,7 +11,7 @@ from dataclasses import dataclass, field
 from typing import Dict, List, NamedTuple, Tuple
 
 COMMENT = r"/\*[*!]?(?!\<)(?P<comment>.*?)\*/"
-DEFINE = r"^#define[ \t]+(?P<macro>TCRX_\w+)(?P<value>(?:[^\n\\]|\\\n)+)"
+DEFINE = r"^#define[ \t]+(?P<macro>TCRX_\w+)\b(?P<value>(?:[^\n\\]|\\\n)+)"
 STRUCT = r"^typedef struct \{(?P<fields>[^}]*)\} (?P<record>\w+);"
 ALIAS = r"^typedef (?P<kind>\w+) (?P<alias>\w+);"
 ENUM = r"^enum \{(?P<constants>[^}]*)\};"
@@ -159,7 +159,7 @@ def exported_calls(calls: Dict[str, Item]) -> List[Call]:
     """The calls of the library, of all that the header declares. To them a text is octets."""
     exported = []
     for name, item in calls.items():
-        if item.text.startswith("tcrx_") and not name.endswith("_at"):
+        if item.text.startswith("tcrx_"):
             answer, _, listed = item.text.rstrip(")").partition("(")
             parameters = [parameter_of(each.replace("char *", "uint8_t *")) for each in listed.split(", ")]
             exported.append(Call(name, f"{name}_at" if item.is_inline else name, answer.split()[0], parameters, item.comment))

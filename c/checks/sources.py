@@ -68,6 +68,7 @@ def layouts() -> list[tuple[str, str]]:
     changed = changed_records(HEADER.read_text())
     said = [("the changed records", "" if len(changed) > 60 else f"there are {len(changed)}")]
     with tempfile.TemporaryDirectory() as folder:
+        shutil.copy(HEADER.with_name("tcrx_at.h"), folder)
         for number, (name, text) in enumerate(changed):
             (Path(folder) / "tcrx.h").write_text(text)
             for compiler in (C[0], CXX[0]):

@@ -65,7 +65,7 @@ fn names<'text>(text: &'text str, begins: &str, ends: &str) -> BTreeSet<&'text s
 
 #[test]
 fn each_name_of_the_header_is_declared() {
-    let header = fs::read_to_string(folder_of_header().join("tcrx.h")).expect("the header");
+    let [header, exports] = ["tcrx.h", "tcrx_at.h"].map(|name| fs::read_to_string(folder_of_header().join(name)).expect("a header"));
     let declared = fs::read_to_string(PathBuf::from(env!("CARGO_MANIFEST_DIR")).join("src/lib.rs")).expect("the declarations");
     let records: BTreeSet<&str> = LAYOUTS.iter().map(|(record, _, _)| *record).collect();
     assert_eq!(records, names(&header, "} ", ";").into_iter().filter(|name| name.starts_with("tcrx_")).collect());
@@ -73,9 +73,8 @@ fn each_name_of_the_header_is_declared() {
     assert_eq!(numbers, header.lines().filter_map(constant).collect());
     let calls: BTreeSet<&str> =
         declared.lines().filter_map(|line| line.trim().strip_prefix("pub fn ")?.split('(').next()).collect();
-    let exported =
-        header.lines().filter(|line| line.starts_with("tcrx_")).filter_map(|line| line.split('(').next()?.rsplit(' ').next());
-    assert_eq!(calls, exported.collect());
+    let declarations = header.lines().chain(exports.lines()).filter(|line| line.starts_with("tcrx_"));
+    assert_eq!(calls, declarations.filter_map(|line| line.split('(').next()?.rsplit(' ').next()).collect());
     assert!(calls.len() > 20 && records.len() > 15 && numbers.len() > 40);
 }
 
