@@ -346,15 +346,26 @@ class Crate:
             raise Fault(f"{path.name}: its '{ALIKE.strip()}' text {max(faults)}")
         edit.function = self.edited_function(edit)
         clauses = self.clauses_of(edit.function) if edit.function else []
-        if edit.turned and clauses and edit.turned not in (*clauses, *NO_CLAUSE):
+        if edit.turned and clauses is not None and edit.turned not in (*clauses, *NO_CLAUSE):
             raise Fault(f"{path.name}: its function has no clause '{edit.turned}'")
         return edit
 
-    def clauses_of(self, function: Function) -> list[str]:
-        """The names of the clauses that a function ensures, as far as they stand with its body."""
-        head = self.texts[function.file].split("\n")[function.first : function.body]
-        found = [CLAUSE.match(line) for line in head if line.strip().startswith("ensures")]
-        return [clause[1] for clause in found if clause and clause[1]]
+    def clauses_of(self, function: Function) -> list[str] | None:
+        """The names of the clauses that a function ensures, with its body or in the trait that it is of; None where the trait is
+        the kit's."""
+        head: str | None = "\n".join(self.texts[function.file].split("\n")[function.first : function.body])
+        if found := OF_A_TRAIT.match(function.block):
+            head = self.declared(found[1], function.name)
+        return None if head is None else re.findall(r"^ +ensures\*? (\w+) \{", head, re.M)
+
+    def declared(self, trait: str, name: str) -> str | None:
+        """What a trait of this crate or of one that it names declares of a function, if there is one."""
+        for crate in (self.name, *self.named):
+            for path in sorted((TOP / "crates" / crate / "src").rglob("*.rt")):
+                block = re.search(rf"^pub trait {trait}\b.*?^\}}", path.read_text(encoding="utf-8"), re.M | re.S)
+                if found := block and re.search(rf"^    fn {name}\b.*?(?:;$|^    \{{$)", block[0], re.M | re.S):
+                    return found[0]
+        return None
 
     def edited_function(self, edit: Edit) -> Function | None:
         """The function whose body is all that the edit changes, if there is one."""
