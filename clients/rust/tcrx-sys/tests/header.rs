@@ -65,7 +65,8 @@ fn names<'text>(text: &'text str, begins: &str, ends: &str) -> BTreeSet<&'text s
 
 #[test]
 fn each_name_of_the_header_is_declared() {
-    let [header, exports] = ["tcrx.h", "tcrx_at.h"].map(|name| fs::read_to_string(folder_of_header().join(name)).expect("a header"));
+    let [header, exports] =
+        ["tcrx.h", "tcrx_at.h"].map(|name| fs::read_to_string(folder_of_header().join(name)).expect("a header"));
     let declared = fs::read_to_string(PathBuf::from(env!("CARGO_MANIFEST_DIR")).join("src/lib.rs")).expect("the declarations");
     let records: BTreeSet<&str> = LAYOUTS.iter().map(|(record, _, _)| *record).collect();
     assert_eq!(records, names(&header, "} ", ";").into_iter().filter(|name| name.starts_with("tcrx_")).collect());
