@@ -19,11 +19,12 @@ import subprocess
 import sys
 import tempfile
 import threading
+import time
 from functools import partial
 from pathlib import Path
 from typing import Any, Callable, Dict, List, Tuple, Type
 
-from comparing import TOP, close, good_cases, run, tell
+from comparing import PATIENCE, TOP, close, good_cases, run, tell
 from client_parts import NOTHING, ONE, UNLOCK, frame, packet, raises, same, whole
 import tcrx
 import tcrx_channel
@@ -299,6 +300,23 @@ def check_threads() -> None:
         same((shared.events, shared.clcw().farm_b), (4000, 0), "a channel that four threads share")
 
 
+def check_turns() -> None:
+    """Each call of a channel waits for one of another thread, which holds the channel's lock here."""
+    with Channel(1, **SETTINGS) as channel:
+        calls: Tuple[Callable[[], object], ...] = (
+            partial(channel.bring, UNLOCK), channel.release, partial(channel.take, 5), partial(channel.take_unit, 2), channel.clcw,
+            channel.report, lambda: channel.events)
+        threads = [threading.Thread(target=call, daemon=True) for call in calls]
+        with channel._lock:  # pylint: disable=protected-access  # nothing else shows that a call waits
+            for thread in threads:
+                thread.start()
+            time.sleep(0.2)
+            same([thread.is_alive() for thread in threads], [True] * len(threads), "the calls that wait")
+        for thread in threads:
+            thread.join(PATIENCE)
+        same([thread.is_alive() for thread in threads], [False] * len(threads), "the calls that still wait")
+
+
 def check_fork() -> None:
     """After a fork each process has its own."""
     with Channel(1, **SETTINGS) as channel:
@@ -445,6 +463,7 @@ def main() -> int:
     check_refused()
     check_ends()
     check_threads()
+    check_turns()
     check_fork()
     check_growths(refusing)
     return close(f"channel in Python {sys.version_info.major}.{sys.version_info.minor}")
