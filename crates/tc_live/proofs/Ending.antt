@@ -1,13 +1,17 @@
 -- What was written at the end of the lines.
-use Rattle.std.proofs.Common.{◌≡◌, ◌⊎◌, ℕ, List, Option, None, Some, IfSome, Result, Ok, Err, inl, inr, sym, subst}
+use Rattle.std.proofs.Common.{◌≡◌, ◌⊎◌, ℕ, Bool, false, List, Option, None, Some, IfSome, Result, Ok, Err, inl, inr, sym, subst}
+use Rattle.std.proofs.lemmas.Bool.{both_ways}
+use Rattle.std.proofs.lemmas.List.Sorted.{All-permutation}
 use Rattle.std.proofs.KnownBytes.{Appends-trans, Appends-kept}
-use Rattle.std.specs.Prelude.{OnOk, IfErr}
+use Rattle.std.specs.Prelude.{◌↔◌, All, IsPermutation, IsTrue, OnOk, IfErr}
 use Rattle.std.specs.Io.KnownBytes.{Keeps}
 use Rattle.tc_lines.specs.Answering as lines
 use Rattle.tc_lines.specs.declared.answering.ServingFault.{ServingFault as AnsweringFault}
 use Rattle.tc_lines.specs.declared.answering.ServingFault.TheVariants as answering
-use Rattle.tc_live.specs.Receiver.{Receiving}
-use Rattle.tc_live.specs.Serving.{IsClosingFault, IsCutShort, IsLineSaid, IsReportWritten, IsWritten, fault_of, limit}
+use Rattle.tc_channel.specs.Journal.{History, IsNumberTold}
+use Rattle.tc_rack.specs.Rack.{histories}
+use Rattle.tc_live.specs.Receiver.{Receiving, rack_at}
+use Rattle.tc_live.specs.Serving.{IsClosingFault, IsCutShort, IsLineSaid, IsReportWritten, IsUntold, IsWritten, fault_of, limit}
 use Rattle.tc_live.specs.declared.serving.ServingFault.{ServingFault}
 use Rattle.tc_live.specs.declared.serving.ServingFault.TheVariants.{Write}
 
@@ -23,7 +27,7 @@ all-written (Ok done) receiver last (Some octets) a b c (answers, is, before) (c
 -- there is no report, or not the whole of it
 pub not-reported : (closed : Result (Unit {0}) ServingFault) (receiver last : Receiving) (known a b c : Option (List ℕ))
     → IfSome known (λ octets. lines.AreAllWritten limit IsLineSaid receiver octets last a b)
-    → IfErr closed IsClosingFault → IfErr closed (λ fault. (fault ≡ Write) ⊎ Keeps b c)
+    → IfErr closed (IsClosingFault last) → IfErr closed (λ fault. (fault ≡ Write) ⊎ Keeps b c)
     → IfErr closed (λ fault. IfSome known (λ octets. IsCutShort receiver octets a c fault))
 not-reported (Ok done) receiver last known a b c answered why kept = tt
 not-reported (Err fault) receiver last None a b c answered why kept = tt
@@ -31,8 +35,8 @@ not-reported (Err fault) receiver last (Some octets) a b c answered why (inl wri
 not-reported (Err fault) receiver last (Some octets) a b c answered (inl write) (inr kept) = subst (IsCutShort receiver octets a c) (sym write) tt
 not-reported (Err fault) receiver last (Some octets) a b c (answers, is, before) (inr (inl memory)) (inr kept) =
     subst (IsCutShort receiver octets a c) (sym memory) (inr (last, (answers, is, Appends-kept a b c answers before kept)))
-not-reported (Err fault) receiver last (Some octets) a b c (answers, is, before) (inr (inr unbalanced)) (inr kept) =
-    subst (IsCutShort receiver octets a c) (sym unbalanced) (last, (answers, is, Appends-kept a b c answers before kept))
+not-reported (Err fault) receiver last (Some octets) a b c (answers, is, before) (inr (inr (unbalanced, untold))) (inr kept) =
+    subst (IsCutShort receiver octets a c) (sym unbalanced) (last, (answers, is, Appends-kept a b c answers before kept), untold)
 
 -- no more lines are answered
 pub lines-cut : (fault : AnsweringFault) (receiver last : Receiving) (known a b : Option (List ℕ))
@@ -42,3 +46,9 @@ lines-cut fault receiver last None a b cut = tt
 lines-cut answering.Read receiver last (Some octets) a b cut = (last, cut)
 lines-cut answering.Write receiver last (Some octets) a b cut = tt
 lines-cut answering.NoMemory receiver last (Some octets) a b cut = inl cut.1
+
+-- the channels of a receiver, in another order, aren't all told
+pub is-untold : (receiver : Receiving) (told : Bool) (shown before after : List History) → IsTrue told ↔ All IsNumberTold shown → told ≡ false
+    → shown ≡ after → IsPermutation before after → before ≡ histories (rack_at receiver) → IsUntold receiver
+is-untold receiver told shown before after just not same shuffled is all =
+    both_ways told not (just.1 (subst (All IsNumberTold) (sym same) (All-permutation IsNumberTold before after shuffled (subst (All IsNumberTold) (sym is) all))))

@@ -1,5 +1,5 @@
 -- What is written of lines and at the end, and why a live receiver ends without a report.
-use Rattle.std.specs.Prelude.{◌≡◌, ◌⊎◌, ◌++◌, ℕ, List, Option, IsPermutation, map}
+use Rattle.std.specs.Prelude.{◌≡◌, ◌⊎◌, ◌++◌, ℕ, List, Option, All, IsPermutation}
 use Rattle.std.specs.Io.KnownBytes.{Appends, Keeps}
 use Rattle.tc_lines.specs.Answering as lines
 use Rattle.tc_lines.specs.declared.answering.ServingFault.{ServingFault as AnsweringFault}
@@ -10,15 +10,19 @@ use Rattle.tc_text.specs.declared.fault.Reason.TheVariants as reasons
 use Rattle.tc_live.specs.declared.answer.LiveAnswer.{LiveAnswer}
 use Rattle.tc_live.specs.Printed.{live_text, bad_text}
 use Rattle.tc_live.specs.Receiver.{Receiving, rack_at, IsLineAnswered, IsBadLiveLine, IsReceiverLeft}
-use Rattle.tc_channel.specs.Journal.{History}
+use Rattle.tc_channel.specs.Journal.{History, IsNumberTold}
+use Rattle.tc_rack.specs.Rack.{histories}
 use Rattle.tc_rack.specs.Report.{AreRising, report_text}
-use Rattle.tc_rack.specs.Linked.{Linked}
 use Rattle.tc_live.specs.declared.serving.ServingFault.{ServingFault}
 use Rattle.tc_live.specs.declared.serving.ServingFault.TheVariants.{Read, Write, NoMemory, Unbalanced}
 
+-- some channel has had more events than the final report can give
+abbrev pub IsUntold : Receiving → Type 0
+IsUntold receiver = ¬ All IsNumberTold (histories (rack_at receiver))
+
 -- why there is no final report, or not the whole of it
-abbrev pub IsClosingFault : ServingFault → Type 0
-IsClosingFault fault = (fault ≡ Write) ⊎ (fault ≡ NoMemory) ⊎ (fault ≡ Unbalanced)
+abbrev pub IsClosingFault : Receiving → ServingFault → Type 0
+IsClosingFault receiver fault = (fault ≡ Write) ⊎ (fault ≡ NoMemory) ⊎ ((fault ≡ Unbalanced) × IsUntold receiver)
 
 -- a line is done, and answered by the text of its answer
 abbrev pub IsAnswerSaid : Receiving → List ℕ → Receiving → List ℕ → Type 0
@@ -37,8 +41,8 @@ IsLineSaid old octets new text = IsAnswerSaid old octets new text ⊎ IsReasonSa
 -- the final report was written: of the receiver's channels, each once, in rising order of their ids
 abbrev pub IsReportWritten : Receiving → Option (List ℕ) → Option (List ℕ) → Type 0
 IsReportWritten receiver before after =
-    (channels : List History) × IsPermutation (map (λ (channel : Linked). channel.history) (rack_at receiver).channels) channels
-    × AreRising channels × Appends before after (report_text channels)
+    (channels : List History) × IsPermutation (histories (rack_at receiver)) channels × AreRising channels
+    × Appends before after (report_text channels)
 
 -- how many octets a line may have, without its line feed
 abbrev pub limit : ℕ
@@ -48,8 +52,7 @@ limit = 8192
 abbrev pub IsWritten : Receiving → List ℕ → Option (List ℕ) → Option (List ℕ) → Type 0
 IsWritten receiver octets before after =
     (last : Receiving) × (answers : List ℕ) × (channels : List History) × lines.AreAnswered limit IsLineSaid receiver (lines.lines_of octets) last answers
-    × IsPermutation (map (λ (channel : Linked). channel.history) (rack_at last).channels) channels
-    × AreRising channels × Appends before after (answers ++ report_text channels)
+    × IsPermutation (histories (rack_at last)) channels × AreRising channels × Appends before after (answers ++ report_text channels)
 
 -- the answers of all lines were written, and no report
 abbrev pub IsUnreported : Receiving → List ℕ → Option (List ℕ) → Option (List ℕ) → Type 0
@@ -60,7 +63,8 @@ abbrev pub IsCutShort : Receiving → List ℕ → Option (List ℕ) → Option 
 IsCutShort receiver octets before after Read = (last : Receiving) × lines.AreFirstWritten limit IsLineSaid receiver octets last before after
 IsCutShort receiver octets before after Write = Unit {0}
 IsCutShort receiver octets before after NoMemory = Keeps before after ⊎ IsUnreported receiver octets before after
-IsCutShort receiver octets before after Unbalanced = IsUnreported receiver octets before after
+IsCutShort receiver octets before after Unbalanced =
+    (last : Receiving) × lines.AreAllWritten limit IsLineSaid receiver octets last before after × IsUntold last
 
 -- the same fault, met at the lines
 abbrev pub fault_of : AnsweringFault → ServingFault

@@ -1,13 +1,12 @@
 //! A receiver that does lines.
 
-ghost use Rattle.std.specs.Prelude.{◌≡◌, ◌≢◌, ◌⊎◌, true, [], All, IsPermutation, map, IfOk, IfErr, OnOk, OnErr};
+ghost use Rattle.std.specs.Prelude.{◌≡◌, ◌≢◌, ◌⊎◌, ◌↔◌, [], All, IsPermutation, IsTrue, IfOk, IfErr, OnOk, OnErr};
 ghost use Rattle.std.specs.Io.KnownBytes.{Keeps};
 ghost use Rattle.tc_rack.specs.Report.{AreRising};
 ghost use Rattle.tc_rack.specs.Stage.{phase_of};
 ghost use Rattle.tc_live.specs.Receiver.{new_receiver, begun, rack_at, IsInstructed, IsOperated, IsScriptDone, IsPerformed, IsLinked, IsReportDone, IsLineAnswered, IsBadLiveLine, IsBadScript, IsReceiverLeft};
 ghost use Rattle.tc_live.specs.Serving.{IsClosingFault, IsReportWritten};
-ghost use Rattle.tc_rack.specs.Linked.{Linked};
-ghost use Rattle.tc_rack.specs.Rack.{new_rack};
+ghost use Rattle.tc_rack.specs.Rack.{histories, new_rack};
 ghost use Rattle.tc_setup.specs.Instruction.{instruction_of};
 ghost use Rattle.tc_setup.specs.Phase.{Does, IsBad, IsBadOperation, Operates, Setup};
 ghost use Rattle.tc_channel.specs.Journal.{IsNumberTold};
@@ -183,7 +182,7 @@ impl Receiver {
     /// report can be made, nothing is written.
     pub fn close<W: Write>(self, alloc: Global, writer: &mut W) -> Result<(), ServingFault>
         ensures written { OnOk result (IsReportWritten self (W.contents writer.old) (W.contents writer.new)) }
-        ensures fault { IfErr result IsClosingFault }
+        ensures fault { IfErr result (IsClosingFault self) }
         ensures kept { IfErr result (λ fault. (fault ≡ ServingFault.Write) ⊎ Keeps (W.contents writer.old) (W.contents writer.new)) }
     {
         let channels = self.into_channels(alloc)?;
@@ -195,10 +194,10 @@ impl Receiver {
 
     // The channels in rising order of their ids, as an operation would find them.
     fn into_channels(self, alloc: Global) -> Result<Vec<FlightChannel>, ServingFault>
-        ensures channels { IfOk result (λ channels. IsPermutation (map (λ (channel : Linked). channel.history) (rack_at self).channels) channels.items) }
+        ensures channels { IfOk result (λ channels. IsPermutation (histories (rack_at self)) channels.items) }
         ensures rising { IfOk result (λ channels. AreRising channels.items) }
         ensures told { IfOk result (λ channels. All IsNumberTold channels.items) }
-        ensures fault { IfErr result IsClosingFault }
+        ensures fault { IfErr result (IsClosingFault self) }
     {
         let rack = self.into_rack(alloc)?;
         let Ok(mut channels) = rack.into_channels(alloc) else {
@@ -248,7 +247,7 @@ fn begin_with(alloc: Global, scid: u16, list: &Configuration) -> Result<Rack, Re
 
 // Whether each channel tells the number of its events as it is.
 fn are_told(channels: &[FlightChannel]) -> bool
-    ensures { result ≡ true → All IsNumberTold channels.now }
+    ensures { IsTrue result ↔ All IsNumberTold channels.now }
 {
     channels.iter().all(|channel| channel.events() < u64::MAX)
 }

@@ -117,7 +117,7 @@ fn write_bad<W: Write>(octets: &[u8], reason: Reason, writer: &mut W) -> io::Res
 // The final report.
 fn close<W: Write>(alloc: Global, receiver: Receiver, writer: &mut W) -> Result<(), ServingFault>
     ensures written { OnOk result (IsReportWritten receiver (W.contents writer.old) (W.contents writer.new)) }
-    ensures fault { IfErr result IsClosingFault }
+    ensures fault { IfErr result (IsClosingFault receiver) }
     ensures kept { IfErr result (λ fault. (fault ≡ ServingFault.Write) ⊎ Keeps (W.contents writer.old) (W.contents writer.new)) }
 {
     receiver.close(alloc, writer)?;
