@@ -23,8 +23,10 @@ pub(super) enum Role {
     WriteBehind,
     // Takes the lock over and over until the flag is set.
     HaveAllTheTime,
-    // Writes a hundred numbers, and then sets the flag.
-    WriteNowAndThen,
+    // Has the lock for a millisecond, so many times at most, over and over until the flag is set.
+    HaveAgain(u32),
+    // Writes so many numbers, and then sets the flag.
+    WriteNowAndThen(u32),
 }
 
 // Writes the numbers from this one on, one a turn. Says whether none was refused.
@@ -97,17 +99,41 @@ fn have_it_all_the_time<R: Wait>(
     false
 }
 
+// Has the lock for longer than a thread that sleeps takes to wake, over and over until the flag is set, and says whether it was set
+// within so many times.
+fn have_again<R: Wait + Clock>(
+    rt: &R,
+    lock: &BookLock,
+    seat: &mut BookSeat,
+    done: &AtomicBool,
+    most: u32,
+) -> bool
+    requires { IsAtRest lock.now seat.old }
+    ensures { IsAtRest lock.now seat.new }
+{
+    for _ in 0..most {
+        if done.load(Ordering::SeqCst) {
+            return true;
+        }
+        lock.lock(rt, seat);
+        sleep(rt, Duration::from_millis(1));
+        lock.unlock(seat);
+    }
+    false
+}
+
 // Writes so many numbers, and then sets the flag.
 fn write_now_and_then<R: Wait>(
     rt: &R,
     lock: &BookLock,
     seat: &mut BookSeat,
     done: &AtomicBool,
+    count: u32,
 ) -> bool
     requires { IsAtRest lock.now seat.old }
     ensures { IsAtRest lock.now seat.new }
 {
-    for number in 0..100u32 {
+    for number in 0..count {
         write(rt, lock, seat, number);
         yield_now();
     }
@@ -131,7 +157,8 @@ fn act<R: Wait + Clock>(
         Role::HaveForLong => have_for_long(rt, lock, seat, flag),
         Role::WriteBehind => write_behind(rt, lock, seat, flag),
         Role::HaveAllTheTime => have_it_all_the_time(rt, lock, seat, flag),
-        Role::WriteNowAndThen => write_now_and_then(rt, lock, seat, flag),
+        Role::HaveAgain(most) => have_again(rt, lock, seat, flag, most),
+        Role::WriteNowAndThen(count) => write_now_and_then(rt, lock, seat, flag, count),
     }
 }
 
