@@ -187,6 +187,9 @@ def check_fields() -> None:
         flags = (clcw.no_rf, clcw.no_bit_lock, clcw.lockout, clcw.wait, clcw.retransmit)
         same(flags, tuple(place == flag for flag in range(5)), f"the flags of the CLCW {number:08x}")
         same((clcw.channel, clcw.farm_b, clcw.vr), (37, 2, 181), f"the numbers of the CLCW {number:08x}")
+        names = ("norf", "nobitlock", "lockout", "wait", "retransmit")
+        said = " ".join(f"{name} {int(place == flag)}" for flag, name in enumerate(names))
+        same(str(clcw), f"vc 37 status {7 if place == 5 else 0} {said} farmb 2 vr 181", f"the CLCW {number:08x} as text")
     with Channel(1, width=10, buffer=1, first=250, limits={}, others=16) as channel:
         for octets, report in STEPS:
             tell(channel.bring(octets), "a frame of a step")

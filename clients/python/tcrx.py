@@ -264,6 +264,10 @@ class Clcw(Answered):
         """V(R), 0 to 255: the number of the frame that is expected next."""
         return self.word & 255
 
+    def __str__(self) -> str:
+        return (f"vc {self.channel} status {self.word >> 26 & 7} norf {self.no_rf:d} nobitlock {self.no_bit_lock:d} lockout {self.lockout:d} "
+                f"wait {self.wait:d} retransmit {self.retransmit:d} farmb {self.farm_b} vr {self.vr}")
+
 
 @dataclass(frozen=True)
 class Report(Answered):

@@ -1,6 +1,7 @@
 //! Single calls, which keep no state and ask for no memory: frames, packets, CLCWs and FARM-1.
 
 use crate::errors::{FarmError, FrameError, WriteError};
+use core::fmt;
 use tcrx_sys as sys;
 
 /// The primary header of a frame, apart from the frame length.
@@ -142,8 +143,8 @@ impl<'octets> Packet<'octets> {
     }
 }
 
-/// A CLCW of COP-1.
-#[derive(Clone, Copy, Debug, PartialEq, Eq, Hash)]
+/// A CLCW of COP-1. Its `Debug` has its fields, and its `Display` the words that `tcmake` has for them.
+#[derive(Clone, Copy, PartialEq, Eq, Hash)]
 pub struct Clcw(u32);
 
 impl Clcw {
@@ -210,6 +211,21 @@ impl Clcw {
     /// V(R), the number of the frame that is expected next.
     pub fn vr(self) -> u8 {
         self.bits(0, 255)
+    }
+}
+
+impl fmt::Debug for Clcw {
+    fn fmt(&self, to: &mut fmt::Formatter<'_>) -> fmt::Result {
+        write!(to, "Clcw({:#010x}: {self})", self.0)
+    }
+}
+
+impl fmt::Display for Clcw {
+    fn fmt(&self, to: &mut fmt::Formatter<'_>) -> fmt::Result {
+        let (no_rf, no_bit_lock) = (u8::from(self.no_rf()), u8::from(self.no_bit_lock()));
+        write!(to, "vc {} status {} norf {no_rf} nobitlock {no_bit_lock} ", self.vcid(), self.status_field())?;
+        let (lockout, wait, retransmit) = (u8::from(self.lockout()), u8::from(self.wait()), u8::from(self.retransmit()));
+        write!(to, "lockout {lockout} wait {wait} retransmit {retransmit} farmb {} vr {}", self.farm_b(), self.vr())
     }
 }
 

@@ -217,6 +217,11 @@ fn clcws_field_by_field() {
         let (alone, status): ([bool; 5], u8) = (std::array::from_fn(|flag| flag == place), if place == 5 { 7 } else { 0 });
         assert_eq!(flags, alone, "{word:08x}");
         assert_eq!((read.word(), read.status_field(), read.vcid(), read.farm_b(), read.vr()), (word, status, 37, 2, 181));
+        let [no_rf, no_bit_lock, lockout, wait, retransmit] = alone.map(u8::from);
+        let said = format!(
+            "vc 37 status {status} norf {no_rf} nobitlock {no_bit_lock} lockout {lockout} wait {wait} retransmit {retransmit} farmb 2 vr 181"
+        );
+        assert_eq!((format!("{read:?}"), read.to_string()), (format!("Clcw({word:#010x}: {said})"), said));
     }
 }
 
