@@ -7,7 +7,12 @@ ghost use Rattle.tc_link.specs.declared.farm.Arrival.{Arrival};
 ghost use Rattle.tc_link.specs.declared.farm.Arrival.TheVariants.{Frame};
 ghost use Rattle.tc_link.specs.declared.frame.FrameFault.{FrameFault};
 ghost use Rattle.tc_link.specs.declared.writing.WriteFault.{WriteFault};
+ghost use Rattle.tc_link.specs.declared.frame.Header.{Header};
 ghost use Rattle.tc_link.specs.Farm.{Machine, row_of, entry};
+ghost use Rattle.tc_link.specs.Frame.{IsFrame};
+ghost use Rattle.tc_fecf.specs.declared.frames.FieldFault.{FieldFault};
+ghost use Rattle.tc_write.specs.declared.packets.PacketHeader.{PacketHeader};
+ghost use Rattle.tc_write.specs.Packets.{IsPacketOf};
 ghost use Rattle.tc_channel.specs.declared.settings.Settings.{Settings};
 ghost use Rattle.tc_channel.specs.declared.settings.SettingsFault.{SettingsFault};
 ghost use Rattle.tc_channel.specs.declared.event.Event.{Event};
@@ -16,9 +21,10 @@ ghost use Rattle.tc_channel.specs.Run.{IsLawfulWithin, run_within};
 ghost use Rattle.tc_fixed.specs.declared.limits.LimitsFault.{LimitsFault};
 ghost use Rattle.tc_c.specs.declared.farm.FarmRecord.{FarmRecord};
 ghost use Rattle.tc_c.specs.declared.status.Status.{Status};
-ghost use Rattle.tc_c.specs.Status.{code_of, status_of, text_of, frame_status, write_status, settings_status, limits_status};
+ghost use Rattle.tc_c.specs.Status.{code_of, status_of, text_of, frame_status, write_status, field_status, settings_status, limits_status};
 ghost use Rattle.tc_c.specs.Farm.{IsFarm, first_farm, record_of, farm_of, arrival_of, left};
-ghost use Rattle.tc_c.specs.Frame.{kind_number, kind_value};
+ghost use Rattle.tc_c.specs.Frame.{kind_number, kind_value, header_record, frame_record};
+ghost use Rattle.tc_c.specs.Packet.{packet_record, written_packet};
 
 /// Each FARM-1 is read from its record, and a record from which one is read is that one's.
 pub fn a_record_reads_back()
@@ -51,13 +57,21 @@ pub fn each_status_has_a_number()
     ensures { (st : Status) → status_of (code_of st) ≡ Some st }
 {}
 
-/// No two faults have one status: those of octets with which no frame begins, of frames that aren't written, of settings, and of
-/// settings with limits.
+/// No two faults have one status: those of octets with which no frame begins, of frames that aren't written, of frame error control
+/// fields, of settings, and of settings with limits.
 pub fn each_fault_has_a_status_of_its_own()
     ensures frames { (one other : FrameFault) → frame_status one ≡ frame_status other → one ≡ other }
     ensures writing { (one other : WriteFault) → write_status one ≡ write_status other → one ≡ other }
+    ensures fields { (one other : FieldFault) → field_status one ≡ field_status other → one ≡ other }
     ensures settings { (one other : SettingsFault) → settings_status one ≡ settings_status other → one ≡ other }
     ensures limits { (one other : LimitsFault) → limits_status one ≡ limits_status other → one ≡ other }
+{}
+
+/// A frame and a packet that were written read back with the header that they were written with.
+pub fn what_was_written_reads_back()
+    ensures frame { (frame field : List ℕ) (header : Header) → IsFrame frame header field
+        → frame_record frame ≡ record { status = code_of Status.Done; header = header_record header; length = length frame } }
+    ensures packet { (packet field : List ℕ) (header : PacketHeader) → IsPacketOf packet header field → packet_record packet ≡ written_packet (length packet) header }
 {}
 
 /// Each text fits 64 octets with the octet 0 after it.
