@@ -1,2 +1,1 @@
-mod Segments
 pub mod Written

@@ -16,7 +16,7 @@ use Rattle.tc_make.specs.Explanation.{Explains}
 use Rattle.tc_make.specs.Frames.{IsMadeFrame, IsCommandFrame, frame_reason_of, command_reason_of}
 use Rattle.tc_make.specs.Packets.{IsMadePacket, packet_reason_of}
 use Rattle.tc_make.specs.Parting.{IsFrameAt, parting_reason_of}
-use Rattle.tc_make.specs.Parts.{count_of}
+use Rattle.tc_write.specs.Parts.{count_of}
 use Rattle.tc_make.specs.Printed.{bad_text, named_text, refused_text, frame_fault_text, explanation_text, clcw_text}
 use Rattle.tc_make.specs.declared.ending.Ending.{Ending}
 use Rattle.tc_make.specs.declared.ending.Ending.TheVariants.{DataField, ErrorControl}

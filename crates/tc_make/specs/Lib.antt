@@ -3,11 +3,9 @@ pub use Rattle.tc_lines.specs.Number
 pub mod Line
 pub mod Packets
 pub mod Frames
-pub mod Parts
 pub mod Parting
 pub mod Explanation
 pub mod Ending
-pub mod Segments
 pub mod Printed
 pub mod Answer
 pub mod Serving

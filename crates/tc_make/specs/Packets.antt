@@ -1,19 +1,16 @@
 -- Telecommand packets that are made (CCSDS 133.0-B, 4.1).
-use Rattle.std.specs.Prelude.{◌≡◌, ℕ, true, List, length, drop, Option, Some, None, nat_lt, if◌then◌else◌}
-use Rattle.tc_packet.specs.Bits.{word_at, bits}
-use Rattle.tc_packet.specs.SpacePacket.{IsPacket, apid_of, is_telecommand}
+use Rattle.std.specs.Prelude.{ℕ, true, false, List, length, Option, Some, None, nat_lt, if◌then◌else◌}
+use Rattle.tc_write.specs.declared.packets.PacketHeader.{PacketHeader}
+use Rattle.tc_write.specs.Packets.{IsPacketOf}
 use Rattle.tc_make.specs.declared.fault.Reason.{Reason}
 use Rattle.tc_make.specs.declared.fault.Reason.TheVariants.{BadApid, BadCount, NoData, TooMuchData}
 
--- the packet is one of telecommand without a secondary header, unsegmented, of this application, with this count and data field
-pub record IsMadePacket (packet : List ℕ) (apid count : ℕ) (octets : List ℕ) : Type 0 where
-  pub whole : IsPacket packet
-  pub kind : is_telecommand packet ≡ true
-  pub secondary : bits (word_at packet 0) 11 1 ≡ 0
-  pub application : apid_of packet ≡ apid
-  pub flags : bits (word_at packet 2) 14 2 ≡ 3
-  pub sequence : bits (word_at packet 2) 0 14 ≡ count
-  pub rest : drop 6 packet ≡ octets
+-- a packet of telecommand without a secondary header, unsegmented, of this application, with this count
+abbrev pub made_header : ℕ → ℕ → PacketHeader
+made_header apid count = record { telecommand = true; secondary = false; apid = apid; flags = 3; count = count }
+
+abbrev pub IsMadePacket : List ℕ → ℕ → ℕ → List ℕ → Type 0
+IsMadePacket packet apid count octets = IsPacketOf packet (made_header apid count) octets
 
 -- the first reason for which a packet isn't made, in this order
 abbrev pub packet_reason_of : ℕ → ℕ → List ℕ → Option Reason

@@ -3,7 +3,7 @@ use Rattle.std.specs.Prelude.{ℕ, ◌+◌, ◌%◌, false, List, length, Option
 use Rattle.tc_link.specs.declared.frame.Header.{Header}
 use Rattle.tc_packet.specs.declared.segment.Segment.{Segment}
 use Rattle.tc_make.specs.Frames.{IsMadeFrame}
-use Rattle.tc_make.specs.Parts.{count_of, part_at, piece_at}
+use Rattle.tc_write.specs.Parts.{count_of, part_at, piece_at}
 use Rattle.tc_make.specs.declared.parting.Parting.{Parting}
 use Rattle.tc_make.specs.declared.fault.Reason.{Reason}
 use Rattle.tc_make.specs.declared.fault.Reason.TheVariants.{BadScid, BadVcid, BadMap, BadSize, NoData, TooMuchData}

@@ -5,7 +5,7 @@ ghost use Rattle.tc_lines.specs.Answering.{Writes};
 ghost use Rattle.tc_make.specs.Answer.{OrNoMemory, IsAnswer, IsSaid, IsMadePacketSaid, IsMadeFrameSaid, IsCommandSaid, IsEnded, IsUnitSaid, IsFramesSaid, IsPart};
 ghost use Rattle.tc_link.specs.Frame.{IsWhole};
 ghost use Rattle.tc_make.specs.Line.{line_of};
-ghost use Rattle.tc_make.specs.Parts.{count_of};
+ghost use Rattle.tc_write.specs.Parts.{count_of};
 ghost use Rattle.tc_make.specs.Parting.{parting_reason_of};
 ghost use Rattle.tc_lines.specs.Word.{words as words_of};
 

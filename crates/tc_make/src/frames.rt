@@ -3,13 +3,13 @@
 ghost use Rattle.std.specs.Prelude.{◌≡◌, ◌<◌, ◌≤◌, None, length, unwrap_or, IfOk, IfErr, OnOk};
 ghost use Rattle.tc_link.specs.Frame.{IsFrame};
 ghost use Rattle.tc_link.specs.Command.{command_of};
-ghost use Rattle.tc_packet.specs.Segment.{segment_of};
 ghost use Rattle.tc_make.specs.Frames.{IsMadeFrame, IsCommandFrame, frame_reason_of, command_reason_of};
 
 use crate::fault::Reason;
 use std::alloc::Global;
 use tc_link::{Command, Header, WriteFault, write_frame};
-use tc_packet::{Part, Segment};
+use tc_packet::Segment;
+use tc_write::segment_octet;
 
 /// The frame with this header whose data field carries the octets, behind a segment header if one is given
 /// (CCSDS 232.0-B, 4.1.2 and 4.1.3).
@@ -63,20 +63,6 @@ fn segmented(
     field.push(segment_octet(segment)).unwrap();
     field.extend_from_slice(octets).unwrap();
     framed(alloc, header, &field)
-}
-
-// The octet that is this segment header.
-fn segment_octet(segment: Segment) -> u8
-    requires { segment.map < 64 }
-    ensures { segment_of result ≡ segment }
-{
-    let flags = match segment.part {
-        Part::Continuing => 0,
-        Part::First => 1,
-        Part::Last => 2,
-        Part::Unsegmented => 3,
-    };
-    flags * 64 + segment.map
 }
 
 // The frame with this data field.

@@ -3,8 +3,6 @@
 //! [`answer_lines`] does lines, and [`answer_line`] one. [`parse_line`] says what a line asks for. What is made is made by
 //! [`make_packet`], [`make_frame`], [`make_command`], [`Parting::frame`] and [`Ending::end`], and what is explained is read by
 //! [`explain`].
-//!
-//! A law stands as the contract of a function with an empty body: [`the_segments_of_a_unit_make_the_unit`].
 #![tactic(auto)]
 
 mod answer;
@@ -14,7 +12,6 @@ mod explaining;
 mod fault;
 mod form;
 mod frames;
-mod laws;
 mod line;
 mod octets;
 mod packets;
@@ -28,7 +25,6 @@ pub use explaining::{Explanation, explain};
 pub use fault::Reason;
 pub use form::Form;
 pub use frames::{make_command, make_frame};
-pub use laws::the_segments_of_a_unit_make_the_unit;
 pub use line::{Line, Sizing, Stream, parse_line};
 pub use octets::Octets;
 pub use packets::make_packet;

@@ -5,6 +5,7 @@ ghost use Rattle.tc_make.specs.Packets.{IsMadePacket, packet_reason_of};
 
 use crate::fault::Reason;
 use std::alloc::Global;
+use tc_write::{PacketHeader, packet_front};
 
 /// The telecommand packet of this application with this sequence count and this packet data field (CCSDS 133.0-B, 4.1).
 ///
@@ -30,10 +31,15 @@ pub fn make_packet(alloc: Global, apid: u16, count: u16, octets: &[u8]) -> Resul
     let Ok(mut packet) = Vec::with_capacity(alloc, octets.len() + 6) else {
         return Err(Reason::NoMemory);
     };
-    let [a, b] = ((1 << 12) + apid).to_be_bytes();
-    let [c, d] = ((3 << 14) + count).to_be_bytes();
-    let [e, f] = ((octets.len() - 1) as u16).to_be_bytes();
-    packet.extend_from_slice(&[a, b, c, d, e, f]).unwrap();
+    let header = PacketHeader {
+        telecommand: true,
+        secondary: false,
+        apid,
+        flags: 3,
+        count,
+    };
+    let front = packet_front(&header, octets);
+    packet.extend_from_slice(&front).unwrap();
     packet.extend_from_slice(octets).unwrap();
     Ok(packet)
 }

@@ -1,13 +1,11 @@
 //! Units that are parted into segments.
 
-ghost use Rattle.std.specs.Prelude.{◌≡◌, ◌<◌, ◌≤◌, length};
-ghost use Rattle.tc_make.specs.Parts.{count_of, part_at, piece_at};
-
 use crate::fault::Reason;
 use crate::frames::make_frame;
 use std::alloc::Global;
 use tc_link::Header;
-use tc_packet::{LARGEST_UNIT, Part, Segment};
+use tc_packet::LARGEST_UNIT;
+use tc_write::{piece, segment_count, segment_header};
 
 /// A unit that is to be sent in segments, by Type-AD frames of one virtual channel.
 #[derive(Clone, Copy, Debug, PartialEq, Eq)]
@@ -24,7 +22,7 @@ pub struct Parting<'a> {
 
 impl<'a> Parting<'a> {
     ghost use Rattle.std.specs.Prelude.{◌≡◌, ◌<◌, ◌≤◌, None, length, unwrap_or, IfOk, IfErr, OnOk};
-    ghost use Rattle.tc_make.specs.Parts.{count_of};
+    ghost use Rattle.tc_write.specs.Parts.{count_of};
     ghost use Rattle.tc_make.specs.Parting.{IsFrameAt, parting_reason_of};
 
     /// How many frames the unit is parted into.
@@ -53,8 +51,7 @@ impl<'a> Parting<'a> {
         if self.unit.len() > LARGEST_UNIT {
             return Err(Reason::TooMuchData);
         }
-        let size = usize::from(self.size);
-        Ok((self.unit.len() + size - 1) / size)
+        Ok(segment_count(usize::from(self.size), self.unit.len()))
     }
 
     /// The frame at this place, from 0 on, of those that [`Parting::count`] has counted.
@@ -66,8 +63,6 @@ impl<'a> Parting<'a> {
         ensures frame { IfOk result (λ frame. IsFrameAt self.now place frame.items) }
         ensures refused { IfErr result (λ reason. reason ≡ Reason.NoMemory) }
     {
-        let size = usize::from(self.size);
-        let count = (self.unit.len() + size - 1) / size;
         let header = Header {
             bypass: false,
             control: false,
@@ -75,41 +70,8 @@ impl<'a> Parting<'a> {
             vcid: self.vcid,
             ns: self.ns.wrapping_add((place % 256) as u8),
         };
-        let segment = Segment {
-            part: part(place, count),
-            map: self.map,
-        };
+        let size = usize::from(self.size);
+        let segment = segment_header(self.map, place, segment_count(size, self.unit.len()));
         make_frame(alloc, &header, Some(segment), piece(self.unit, size, place))
-    }
-}
-
-// Which part of a unit the segment at this place carries.
-fn part(place: usize, count: usize) -> Part
-    requires { place < count }
-    ensures { result ≡ part_at place count }
-{
-    if count == 1 {
-        Part::Unsegmented
-    } else if place == 0 {
-        Part::First
-    } else if place == count - 1 {
-        Part::Last
-    } else {
-        Part::Continuing
-    }
-}
-
-// What the segment at this place carries.
-fn piece(unit: &[u8], size: usize, place: usize) -> &[u8]
-    requires some { 1 ≤ size }
-    requires most { length unit.now ≤ 65542 }
-    requires there { place < count_of size (length unit.now) }
-    ensures { result.now ≡ piece_at size unit.now place }
-{
-    let (_, rest) = unit.split_at(place * size);
-    if rest.len() > size {
-        &rest[..size]
-    } else {
-        rest
     }
 }

@@ -10,8 +10,8 @@ use Rattle.tc_packet.specs.declared.segment.Part.TheVariants.{First, Continuing,
 use Rattle.tc_packet.specs.Segment.{header_of, body_of}
 use Rattle.tc_packet.specs.Reassembly.{IsPart, joined_bodies}
 use Rattle.tc_packet.specs.declared.segment.Segment.{Segment}
-use Rattle.tc_make.specs.Parts.{count_of, part_at}
-use Rattle.tc_make.specs.Segments.{AreSegments, MakeUnit}
+use Rattle.tc_write.specs.Parts.{count_of, part_at}
+use Rattle.tc_write.specs.Segments.{AreSegments, MakeUnit}
 
 -- a list without its first place, and its places
 abbrev Places : List (List ℕ) → (ℕ → List ℕ → Type 0) → Type 0

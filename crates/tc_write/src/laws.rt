@@ -1,7 +1,7 @@
 //! A law over the definitions.
 
 ghost use Rattle.std.specs.Prelude.{ℕ, ◌≤◌, List, length};
-ghost use Rattle.tc_make.specs.Segments.{AreSegments, MakeUnit};
+ghost use Rattle.tc_write.specs.Segments.{AreSegments, MakeUnit};
 
 /// Data fields that carry the segments of a unit make that unit, by what reassembly is in tc_packet.
 pub fn the_segments_of_a_unit_make_the_unit()

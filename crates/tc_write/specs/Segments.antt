@@ -1,8 +1,8 @@
 -- What the segments of a unit make where they are put together again (CCSDS 232.0-B, 4.4).
 use Rattle.std.specs.Prelude.{◌≡◌, ℕ, ◌<◌, List, [], ◌∷◌, ◌++◌, length, slice_index_or, Some}
 use Rattle.tc_packet.specs.Reassembly.{IsUnit}
-use Rattle.tc_make.specs.Frames.{Carries}
-use Rattle.tc_make.specs.Parts.{count_of, part_at, piece_at}
+use Rattle.tc_write.specs.Frames.{Carries}
+use Rattle.tc_write.specs.Parts.{count_of, part_at, piece_at}
 
 -- the data fields carry the pieces of a unit of so many octets each, on this MAP, one after the other
 pub record AreSegments (map size : ℕ) (unit : List ℕ) (fields : List (List ℕ)) : Type 0 where

@@ -1,5 +1,0 @@
-use Rattle.tc_make.proofs.Segments.{segments-make}
-use Rattle.tc_make.proofs.laws.the_segments_of_a_unit_make_the_unit.Goals as goal
-
-pub returns : goal.returns
-returns c = segments-make

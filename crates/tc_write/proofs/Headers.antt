@@ -1,0 +1,20 @@
+-- Six octets and a packet data field are a packet, where the six say so.
+use Rattle.std.proofs.Common.{◌≡◌, ℕ, ◌+◌, ◌≤◌, List, [], ◌∷◌, ◌++◌, length, refl, arith}
+use Rattle.tc_packet.specs.SpacePacket.{version_of, named_length}
+use Rattle.tc_write.specs.declared.packets.PacketHeader.{PacketHeader}
+use Rattle.tc_write.specs.Packets.{IsPacketOf, header_of}
+
+pub packeted : (six field : List ℕ) (header : PacketHeader) → length six ≡ 6 → header_of six ≡ header → version_of six ≡ 0
+    → named_length six ≡ length field + 6 → 1 ≤ length field → length field ≤ 65536 → IsPacketOf (six ++ field) header field
+packeted (a ∷ b ∷ c ∷ d ∷ e ∷ f ∷ []) field header six says version named least most = record {
+  whole = record { least = omega arith; most = omega arith; version = version; named = omega arith };
+  header_bits = says;
+  rest = refl;
+}
+packeted [] field header six says version named least most = absurd (omega arith)
+packeted (a ∷ []) field header six says version named least most = absurd (omega arith)
+packeted (a ∷ b ∷ []) field header six says version named least most = absurd (omega arith)
+packeted (a ∷ b ∷ c ∷ []) field header six says version named least most = absurd (omega arith)
+packeted (a ∷ b ∷ c ∷ d ∷ []) field header six says version named least most = absurd (omega arith)
+packeted (a ∷ b ∷ c ∷ d ∷ e ∷ []) field header six says version named least most = absurd (omega arith)
+packeted (a ∷ b ∷ c ∷ d ∷ e ∷ f ∷ g ∷ more) field header six says version named least most = absurd (omega arith)

@@ -1,0 +1,4 @@
+mod Units
+pub mod Frames
+mod Headers
+mod Ends

@@ -1,0 +1,4 @@
+pub mod Packets
+pub mod Frames
+pub mod Parts
+pub mod Segments

@@ -1,0 +1,85 @@
+//! The frame error control field.
+
+ghost use Rattle.std.specs.Prelude.{◌≡◌, ◌≤◌, ◌+◌, Some, None, length, IfErr, OnOk};
+ghost use Rattle.tc_link.specs.Frame.{IsWhole};
+ghost use Rattle.tc_fecf.specs.Changes.{Passes};
+ghost use Rattle.tc_fecf.specs.FrameWithField.{frame_with_field, frame_fault_of, adding_fault_of, taking_fault_of};
+
+use tc_fecf::{FieldFault, checksum, passes};
+use tc_link::read_frame;
+
+// That the octets are one frame, and nothing after it.
+fn whole_frame(octets: &[u8]) -> Result<(), FieldFault>
+    ensures whole { OnOk result (IsWhole octets.now) }
+    ensures right { OnOk result (frame_fault_of octets.now ≡ None) }
+    ensures fault { IfErr result (λ fault. frame_fault_of octets.now ≡ Some fault) }
+{
+    let frame = read_frame(octets).map_err(FieldFault::NoFrame)?;
+    if frame.octets().len() < octets.len() {
+        return Err(FieldFault::Fill);
+    }
+    Ok(())
+}
+
+/// Looks whether a field can go onto octets: they are to be one frame, of at most 1,022 octets, with nothing after it.
+pub fn check_adding(octets: &[u8]) -> Result<(), FieldFault>
+    ensures whole { OnOk result (IsWhole octets.now) }
+    ensures most { OnOk result (length octets.now ≤ 1022) }
+    ensures right { OnOk result (adding_fault_of octets.now ≡ None) }
+    ensures fault { IfErr result (λ fault. adding_fault_of octets.now ≡ Some fault) }
+{
+    whole_frame(octets)?;
+    if octets.len() > 1022 {
+        return Err(FieldFault::TooLong);
+    }
+    Ok(())
+}
+
+/// Writes the frame with its field, as `with_field` of tc_fecf makes it, over two octets more than it has.
+pub fn write_with_field(octets: &[u8], made: &mut [u8])
+    requires whole { IsWhole octets.now }
+    requires most { length octets.now ≤ 1022 }
+    requires all { length made.old ≡ length octets.now + 2 }
+    ensures { made.new ≡ frame_with_field octets.now }
+{
+    let [c, d] = (u16::from_be_bytes([octets[2], octets[3]]) + 2).to_be_bytes();
+    let (before, field) = made.split_at_mut(octets.len());
+    before.copy_from_slice(octets);
+    before[2] = c;
+    before[3] = d;
+    field.copy_from_slice(&checksum(before).to_be_bytes());
+}
+
+/// Looks whether octets end with a right field: they are to be one frame, of at least 8 octets, with nothing after it.
+pub fn check_taking(octets: &[u8]) -> Result<(), FieldFault>
+    ensures whole { OnOk result (IsWhole octets.now) }
+    ensures least { OnOk result (8 ≤ length octets.now) }
+    ensures passes { OnOk result (Passes octets.now) }
+    ensures right { OnOk result (taking_fault_of octets.now ≡ None) }
+    ensures fault { IfErr result (λ fault. taking_fault_of octets.now ≡ Some fault) }
+{
+    whole_frame(octets)?;
+    if octets.len() < 8 {
+        return Err(FieldFault::TooShort);
+    }
+    if !passes(octets) {
+        return Err(FieldFault::WrongSum);
+    }
+    Ok(())
+}
+
+/// Writes the frame without its field, as `without_field` of tc_fecf makes it, over two octets fewer than it has.
+pub fn write_without_field(octets: &[u8], plain: &mut [u8])
+    requires whole { IsWhole octets.now }
+    requires least { 8 ≤ length octets.now }
+    requires passes { Passes octets.now }
+    requires all { length plain.old + 2 ≡ length octets.now }
+    ensures frame { octets.now ≡ frame_with_field plain.new }
+    ensures whole { IsWhole plain.new }
+{
+    let [c, d] = (u16::from_be_bytes([octets[2], octets[3]]) - 2).to_be_bytes();
+    let (before, _) = octets.split_at(plain.len());
+    plain.copy_from_slice(before);
+    plain[2] = c;
+    plain[3] = d;
+}

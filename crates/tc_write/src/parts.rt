@@ -1,0 +1,64 @@
+//! The segments of a unit, place by place.
+
+ghost use Rattle.std.specs.Prelude.{◌≡◌, ◌<◌, ◌≤◌, length};
+ghost use Rattle.tc_write.specs.Frames.{header_later};
+ghost use Rattle.tc_write.specs.Parts.{count_of, part_at, piece_at};
+
+use tc_link::Header;
+use tc_packet::{Part, Segment};
+
+/// How many segments carry a unit of so many octets, where each carries `size` of them, and the last one what is left.
+pub fn segment_count(size: usize, octets: usize) -> usize
+    requires some { 1 ≤ size }
+    requires few { size ≤ 1018 }
+    requires most { octets ≤ 65542 }
+    ensures { result ≡ count_of size octets }
+{
+    (octets + size - 1) / size
+}
+
+/// The header of the segment at this place, from 0 on, of so many.
+pub fn segment_header(map: u8, place: usize, count: usize) -> Segment
+    requires { place < count }
+    ensures { result ≡ record { part = part_at place count; map = map } }
+{
+    let part = if count == 1 {
+        Part::Unsegmented
+    } else if place == 0 {
+        Part::First
+    } else if place == count - 1 {
+        Part::Last
+    } else {
+        Part::Continuing
+    };
+    Segment { part, map }
+}
+
+/// What the segment at this place carries.
+pub fn piece(unit: &[u8], size: usize, place: usize) -> &[u8]
+    requires some { 1 ≤ size }
+    requires most { length unit.now ≤ 65542 }
+    requires there { place < count_of size (length unit.now) }
+    ensures { result.now ≡ piece_at size unit.now place }
+{
+    let (_, rest) = unit.split_at(place * size);
+    if rest.len() > size {
+        &rest[..size]
+    } else {
+        rest
+    }
+}
+
+/// The header of the frame that carries the segment at this place, by that of the first one: the N(S) of Type-AD frames counts up
+/// modulo 256.
+pub fn later_header(first: &Header, place: usize) -> Header
+    ensures { result ≡ header_later first.now place }
+{
+    if first.bypass {
+        return *first;
+    }
+    Header {
+        ns: first.ns.wrapping_add((place % 256) as u8),
+        ..*first
+    }
+}
