@@ -57,155 +57,100 @@ pub enum Status {
     UnlistedMap,
 }
 
+/// Each status with its number and its text in ASCII: the one list, which another macro reads for a value.
+macro_rules! each_status {
+    ($read:ident of $value:expr) => {
+        $read! { $value;
+            Done 0 b"done",
+            Short 1 b"fewer than 5 octets",
+            Version 2 b"the version isn't 0",
+            Spare 3 b"the spare bits aren't 0",
+            LengthSmall 4 b"the frame length names fewer than 6 octets",
+            Truncated 5 b"the frame length names more octets than there are",
+            BadField 10 b"a field of the header is over its bound",
+            EmptyData 11 b"the data field is empty",
+            TooLong 12 b"the data field has more than 1,019 octets",
+            NoMemory 13 b"no memory",
+            BadWidth 20 b"the width of the window isn't even and 2 to 254",
+            BadState 21 b"the state isn't 1 to 3",
+            BadFarmB 22 b"the FARM-B counter is over 3",
+            BadFlag 23 b"a flag is neither 0 nor 1",
+            FlagsDisagree 24 b"the flags don't agree with the state",
+            BadArrival 25 b"the arrival isn't 1 to 6",
+            NoEntry 26 b"in S2 no expected AD frame finds room",
+            BadVcid 30 b"the virtual channel id is over 63",
+            NoClcw 31 b"the word is no CLCW of COP-1",
+            NoPacket 40 b"no whole packet is there",
+            NoRoom 50 b"the buffer is too short",
+            Null 51 b"a pointer is null",
+            NoStatus 52 b"no such status",
+            BadBuffer 60 b"the buffer isn't for 1 to 64 data fields",
+            BadApid 61 b"the APID of a queue is over 2,046",
+            DoubleApid 62 b"two queues have one APID",
+            BadCapacity 63 b"a queue isn't for 1 to 256 packets",
+            BadMap 64 b"a MAP is over 63",
+            DoubleMap 65 b"a MAP is chosen twice",
+            BadUnits 66 b"the queue of a MAP isn't for 1 to 256 units",
+            PlainMap 67 b"a channel without segment headers has no MAPs",
+            NoChannel 70 b"no channel is held",
+            InUse 71 b"a channel is held already",
+            NoQueue 72 b"no queue has that APID",
+            NoMap 73 b"that MAP isn't chosen",
+            Empty 74 b"nothing waits there",
+            BadOthers 80 b"the limit of the other MAPs is out of its range",
+            BadLimitMap 81 b"the MAP of a limit is over 63",
+            DoubleLimit 82 b"a MAP has two limits",
+            BadLimit 83 b"the limit of a MAP isn't 1 to 65,542 octets",
+            PlainLimit 84 b"a channel without segment headers has no limits by MAP",
+            UnlistedMap 85 b"a chosen MAP has no limit",
+        }
+    };
+}
+
+macro_rules! number_of_status {
+    ($value:expr; $($status:ident $number:literal $text:literal,)*) => {
+        match $value {
+            $(Status::$status => $number,)*
+        }
+    };
+}
+
+macro_rules! status_of_number {
+    ($value:expr; $($status:ident $number:literal $text:literal,)*) => {
+        match $value {
+            $($number => Some(Status::$status),)*
+            _ => None,
+        }
+    };
+}
+
+macro_rules! text_of_status {
+    ($value:expr; $($status:ident $number:literal $text:literal,)*) => {
+        match $value {
+            $(Status::$status => $text,)*
+        }
+    };
+}
+
 /// The number of a status.
 pub(crate) fn code(status: Status) -> u32
     ensures { result ≡ code_of status }
 {
-    match status {
-        Status::Done => 0,
-        Status::Short => 1,
-        Status::Version => 2,
-        Status::Spare => 3,
-        Status::LengthSmall => 4,
-        Status::Truncated => 5,
-        Status::BadField => 10,
-        Status::EmptyData => 11,
-        Status::TooLong => 12,
-        Status::NoMemory => 13,
-        Status::BadWidth => 20,
-        Status::BadState => 21,
-        Status::BadFarmB => 22,
-        Status::BadFlag => 23,
-        Status::FlagsDisagree => 24,
-        Status::BadArrival => 25,
-        Status::NoEntry => 26,
-        Status::BadVcid => 30,
-        Status::NoClcw => 31,
-        Status::NoPacket => 40,
-        Status::NoRoom => 50,
-        Status::Null => 51,
-        Status::NoStatus => 52,
-        Status::BadBuffer => 60,
-        Status::BadApid => 61,
-        Status::DoubleApid => 62,
-        Status::BadCapacity => 63,
-        Status::BadMap => 64,
-        Status::DoubleMap => 65,
-        Status::BadUnits => 66,
-        Status::PlainMap => 67,
-        Status::NoChannel => 70,
-        Status::InUse => 71,
-        Status::NoQueue => 72,
-        Status::NoMap => 73,
-        Status::Empty => 74,
-        Status::BadOthers => 80,
-        Status::BadLimitMap => 81,
-        Status::DoubleLimit => 82,
-        Status::BadLimit => 83,
-        Status::PlainLimit => 84,
-        Status::UnlistedMap => 85,
-    }
+    each_status!(number_of_status of status)
 }
 
 /// The status of a number.
 pub(crate) fn from_number(number: u32) -> Option<Status>
     ensures { result ≡ status_of number }
 {
-    match number {
-        0 => Some(Status::Done),
-        1 => Some(Status::Short),
-        2 => Some(Status::Version),
-        3 => Some(Status::Spare),
-        4 => Some(Status::LengthSmall),
-        5 => Some(Status::Truncated),
-        10 => Some(Status::BadField),
-        11 => Some(Status::EmptyData),
-        12 => Some(Status::TooLong),
-        13 => Some(Status::NoMemory),
-        20 => Some(Status::BadWidth),
-        21 => Some(Status::BadState),
-        22 => Some(Status::BadFarmB),
-        23 => Some(Status::BadFlag),
-        24 => Some(Status::FlagsDisagree),
-        25 => Some(Status::BadArrival),
-        26 => Some(Status::NoEntry),
-        30 => Some(Status::BadVcid),
-        31 => Some(Status::NoClcw),
-        40 => Some(Status::NoPacket),
-        50 => Some(Status::NoRoom),
-        51 => Some(Status::Null),
-        52 => Some(Status::NoStatus),
-        60 => Some(Status::BadBuffer),
-        61 => Some(Status::BadApid),
-        62 => Some(Status::DoubleApid),
-        63 => Some(Status::BadCapacity),
-        64 => Some(Status::BadMap),
-        65 => Some(Status::DoubleMap),
-        66 => Some(Status::BadUnits),
-        67 => Some(Status::PlainMap),
-        70 => Some(Status::NoChannel),
-        71 => Some(Status::InUse),
-        72 => Some(Status::NoQueue),
-        73 => Some(Status::NoMap),
-        74 => Some(Status::Empty),
-        80 => Some(Status::BadOthers),
-        81 => Some(Status::BadLimitMap),
-        82 => Some(Status::DoubleLimit),
-        83 => Some(Status::BadLimit),
-        84 => Some(Status::PlainLimit),
-        85 => Some(Status::UnlistedMap),
-        _ => None,
-    }
+    each_status!(status_of_number of number)
 }
 
 /// The text of a status, in ASCII.
 pub(crate) fn text(status: Status) -> &'static [u8]
     ensures { result.now ≡ text_of status }
 {
-    match status {
-        Status::Done => b"done",
-        Status::Short => b"fewer than 5 octets",
-        Status::Version => b"the version isn't 0",
-        Status::Spare => b"the spare bits aren't 0",
-        Status::LengthSmall => b"the frame length names fewer than 6 octets",
-        Status::Truncated => b"the frame length names more octets than there are",
-        Status::BadField => b"a field of the header is over its bound",
-        Status::EmptyData => b"the data field is empty",
-        Status::TooLong => b"the data field has more than 1,019 octets",
-        Status::NoMemory => b"no memory",
-        Status::BadWidth => b"the width of the window isn't even and 2 to 254",
-        Status::BadState => b"the state isn't 1 to 3",
-        Status::BadFarmB => b"the FARM-B counter is over 3",
-        Status::BadFlag => b"a flag is neither 0 nor 1",
-        Status::FlagsDisagree => b"the flags don't agree with the state",
-        Status::BadArrival => b"the arrival isn't 1 to 6",
-        Status::NoEntry => b"in S2 no expected AD frame finds room",
-        Status::BadVcid => b"the virtual channel id is over 63",
-        Status::NoClcw => b"the word is no CLCW of COP-1",
-        Status::NoPacket => b"no whole packet is there",
-        Status::NoRoom => b"the buffer is too short",
-        Status::Null => b"a pointer is null",
-        Status::NoStatus => b"no such status",
-        Status::BadBuffer => b"the buffer isn't for 1 to 64 data fields",
-        Status::BadApid => b"the APID of a queue is over 2,046",
-        Status::DoubleApid => b"two queues have one APID",
-        Status::BadCapacity => b"a queue isn't for 1 to 256 packets",
-        Status::BadMap => b"a MAP is over 63",
-        Status::DoubleMap => b"a MAP is chosen twice",
-        Status::BadUnits => b"the queue of a MAP isn't for 1 to 256 units",
-        Status::PlainMap => b"a channel without segment headers has no MAPs",
-        Status::NoChannel => b"no channel is held",
-        Status::InUse => b"a channel is held already",
-        Status::NoQueue => b"no queue has that APID",
-        Status::NoMap => b"that MAP isn't chosen",
-        Status::Empty => b"nothing waits there",
-        Status::BadOthers => b"the limit of the other MAPs is out of its range",
-        Status::BadLimitMap => b"the MAP of a limit is over 63",
-        Status::DoubleLimit => b"a MAP has two limits",
-        Status::BadLimit => b"the limit of a MAP isn't 1 to 65,542 octets",
-        Status::PlainLimit => b"a channel without segment headers has no limits by MAP",
-        Status::UnlistedMap => b"a chosen MAP has no limit",
-    }
+    each_status!(text_of_status of status)
 }
 
 /// The status of octets with which no frame begins.
