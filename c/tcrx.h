@@ -34,7 +34,8 @@
  * @par The library as portable C
  * Where TCRX_MODULE is defined this header is that of the portable C of tools/portable. There the calls without a channel share one
  * memory. Without a lock, which its README shows how to give, they are for one thread at a time, and none is for an interrupt or
- * signal handler. tcrx_read_packet(), tcrx_storage() and tcrx_storage_with_limits() can be refused by #TCRX_NO_MEMORY there.
+ * signal handler. tcrx_write_segment(), tcrx_read_packet(), tcrx_write_packet(), tcrx_storage() and tcrx_storage_with_limits() can be
+ * refused by #TCRX_NO_MEMORY there.
  */
 #ifndef TCRX_H
 #define TCRX_H
@@ -80,11 +81,20 @@ enum {
     TCRX_SPARE = 3,        /**< No frame: spare bits that aren't 0. */
     TCRX_LENGTH_SMALL = 4, /**< No frame: a frame length of fewer than 6 octets. */
     TCRX_TRUNCATED = 5,    /**< No frame: a frame length of more octets than there are. */
+    TCRX_FILL = 6,         /**< No frame alone: octets follow it. */
+    TCRX_NO_FECF = 7,      /**< No frame error control field: a frame of fewer than 8 octets. */
+    TCRX_WRONG_FECF = 8,   /**< The frame error control field is wrong. */
 
-    TCRX_BAD_FIELD = 10,  /**< No frame is written: a spacecraft id over 1,023 or a virtual channel id over 63. */
-    TCRX_EMPTY_DATA = 11, /**< No frame is written: an empty data field. */
-    TCRX_TOO_LONG = 12,   /**< No frame is written: a data field of more than 1,019 octets. */
-    TCRX_NO_MEMORY = 13,  /**< Out of memory: no channel is made. */
+    TCRX_BAD_FIELD = 10,   /**< Nothing is written: a field of the header is over its bound. */
+    TCRX_EMPTY_DATA = 11,  /**< Nothing is written: a data field or a unit is empty. */
+    TCRX_TOO_LONG = 12,    /**< No frame is written: a data field of more than 1,019 octets. */
+    TCRX_NO_MEMORY = 13,   /**< Out of memory: no channel is made. */
+    TCRX_LONG_PACKET = 14, /**< No packet is written: a packet data field of more than 65,536 octets. */
+    TCRX_LONG_UNIT = 15,   /**< No segment is written: a unit of more than 65,542 octets. */
+    TCRX_LONG_FRAME = 16,  /**< No frame error control field is added: a frame of more than 1,022 octets. */
+    TCRX_BAD_SIZE = 17,    /**< No segment is written: segments that aren't for 1 to 1,018 octets. */
+    TCRX_NO_SEGMENT = 18,  /**< No segment is written: the unit has none at that place. */
+    TCRX_BAD_COMMAND = 19, /**< No command is written: the kind is neither #TCRX_UNLOCK nor #TCRX_SET_VR. */
 
     TCRX_BAD_WIDTH = 20,      /**< The width of the window isn't even and 2 to 254. */
     TCRX_BAD_STATE = 21,      /**< The state isn't 1 to 3. */
@@ -107,7 +117,7 @@ enum {
     TCRX_BAD_APID = 61,     /**< Settings: an APID is over 2,046. */
     TCRX_DOUBLE_APID = 62,  /**< Settings: two queues have one APID. */
     TCRX_BAD_CAPACITY = 63, /**< Settings: the capacity of a packet queue isn't 1 to 256. */
-    TCRX_BAD_MAP = 64,      /**< Settings: a MAP is over 63. */
+    TCRX_BAD_MAP = 64,      /**< Settings, or a segment: a MAP is over 63. */
     TCRX_DOUBLE_MAP = 65,   /**< Settings: a MAP is chosen twice. */
     TCRX_BAD_UNITS = 66,    /**< Settings: the capacity of a MAP isn't 1 to 256. */
     TCRX_PLAIN_MAP = 67,    /**< Settings: MAPs without segment headers. */
@@ -230,6 +240,15 @@ typedef struct {
     uint8_t secondary;   /**< The secondary header flag. */
     uint8_t sequence;    /**< The sequence flags, at most 3. */
 } tcrx_packet;
+
+/** The primary header of a packet, apart from the version and the length. */
+typedef struct {
+    uint16_t apid;       /**< The APID, at most 2,047, which marks idle packets. */
+    uint16_t count;      /**< The sequence count or the name, at most 16,383. */
+    uint8_t telecommand; /**< The packet type: 1 for telecommand, 0 for telemetry. */
+    uint8_t secondary;   /**< The secondary header flag. */
+    uint8_t sequence;    /**< The sequence flags, at most 3; of an unsegmented packet 3. */
+} tcrx_packet_header;
 
 /** What was written into a buffer. */
 typedef struct {
@@ -410,6 +429,107 @@ static inline tcrx_written tcrx_write_frame(tcrx_header header, const uint8_t *f
         return refused;
     }
     return tcrx_write_frame_at(header, field, field_count, octets, room);
+}
+
+/**
+ * Writes the frame that carries the segment at a place of a unit to the front of a buffer. Ask for place 0, 1, 2 and so on until
+ * #TCRX_NO_SEGMENT; the N(S) of Type-AD frames counts up modulo 256. A unit of no more than `size` octets is one unsegmented segment.
+ *
+ * @param header     the header of the first frame
+ * @param map        the MAP
+ * @param size       how many octets of the unit a segment carries, 1 to 1,018; the last one carries what is left
+ * @param place      the place of the segment, from 0 on
+ * @param unit       the unit, of 1 to 65,542 octets
+ * @param unit_count how many there are
+ * @param octets     the buffer that is written
+ * @param room       how many octets the buffer has
+ * @return the length of the frame, 6 more than the segment carries. Refused by #TCRX_NULL, #TCRX_BAD_FLAG, #TCRX_BAD_FIELD,
+ * #TCRX_BAD_MAP, #TCRX_BAD_SIZE, #TCRX_EMPTY_DATA, #TCRX_LONG_UNIT, #TCRX_NO_SEGMENT, #TCRX_NO_ROOM.
+ */
+static inline tcrx_written tcrx_write_segment(tcrx_header header, uint8_t map, uint16_t size, uint32_t place, const uint8_t *unit,
+                                              size_t unit_count, uint8_t *octets, size_t room) {
+    if (unit == NULL || octets == NULL) {
+        const tcrx_written refused = {TCRX_NULL, 0};
+        return refused;
+    }
+    return tcrx_write_segment_at(header, map, size, place, unit, unit_count, octets, room);
+}
+
+/**
+ * Writes the Type-BC frame with a control command to the front of a buffer. Its N(S) is 0.
+ *
+ * @param scid   the spacecraft id
+ * @param vcid   the virtual channel id
+ * @param kind   #TCRX_UNLOCK or #TCRX_SET_VR
+ * @param number the new V(R) of #TCRX_SET_VR; for #TCRX_UNLOCK any
+ * @param octets the buffer that is written
+ * @param room   how many octets the buffer has
+ * @return the length of the frame, 6 or 8. Refused by #TCRX_NULL, #TCRX_BAD_FIELD, #TCRX_BAD_COMMAND, #TCRX_NO_ROOM.
+ */
+static inline tcrx_written tcrx_write_command(uint16_t scid, uint8_t vcid, uint8_t kind, uint8_t number, uint8_t *octets,
+                                              size_t room) {
+    if (octets == NULL) {
+        const tcrx_written refused = {TCRX_NULL, 0};
+        return refused;
+    }
+    return tcrx_write_command_at(scid, vcid, kind, number, octets, room);
+}
+
+/**
+ * Writes a frame with its frame error control field to the front of a buffer. It has two octets more, which its length counts.
+ *
+ * @param frame       the frame, with nothing after it
+ * @param frame_count how many there are
+ * @param octets      the buffer that is written
+ * @param room        how many octets the buffer has
+ * @return the length of the frame with the field. Refused by #TCRX_NULL, #TCRX_SHORT to #TCRX_TRUNCATED, #TCRX_FILL, #TCRX_LONG_FRAME,
+ * #TCRX_NO_ROOM.
+ */
+static inline tcrx_written tcrx_add_fecf(const uint8_t *frame, size_t frame_count, uint8_t *octets, size_t room) {
+    if (frame == NULL || octets == NULL) {
+        const tcrx_written refused = {TCRX_NULL, 0};
+        return refused;
+    }
+    return tcrx_add_fecf_at(frame, frame_count, octets, room);
+}
+
+/**
+ * Checks the frame error control field with which a frame ends, and writes the frame without it to the front of a buffer: the one that
+ * tcrx_add_fecf() makes these octets of. Give that to tcrx_channel_frame().
+ *
+ * @param frame       the frame with its field, with nothing after it
+ * @param frame_count how many there are
+ * @param octets      the buffer that is written
+ * @param room        how many octets the buffer has
+ * @return the length of the frame without the field. Refused by #TCRX_NULL, #TCRX_SHORT to #TCRX_TRUNCATED, #TCRX_FILL, #TCRX_NO_FECF,
+ * #TCRX_WRONG_FECF, #TCRX_NO_ROOM.
+ */
+static inline tcrx_written tcrx_check_fecf(const uint8_t *frame, size_t frame_count, uint8_t *octets, size_t room) {
+    if (frame == NULL || octets == NULL) {
+        const tcrx_written refused = {TCRX_NULL, 0};
+        return refused;
+    }
+    return tcrx_check_fecf_at(frame, frame_count, octets, room);
+}
+
+/**
+ * Writes a packet to the front of a buffer: its primary header, and its packet data field of 1 to 65,536 octets.
+ *
+ * @param header      the header
+ * @param field       the packet data field
+ * @param field_count how many there are
+ * @param octets      the buffer that is written
+ * @param room        how many octets the buffer has
+ * @return the length of the packet. Refused by #TCRX_NULL, #TCRX_BAD_FLAG, #TCRX_BAD_FIELD, #TCRX_EMPTY_DATA, #TCRX_LONG_PACKET,
+ * #TCRX_NO_ROOM.
+ */
+static inline tcrx_written tcrx_write_packet(tcrx_packet_header header, const uint8_t *field, size_t field_count, uint8_t *octets,
+                                             size_t room) {
+    if (field == NULL || octets == NULL) {
+        const tcrx_written refused = {TCRX_NULL, 0};
+        return refused;
+    }
+    return tcrx_write_packet_at(header, field, field_count, octets, room);
 }
 
 /**

@@ -38,10 +38,19 @@ enum class Status : tcrx_status {
     spare = TCRX_SPARE,
     length_small = TCRX_LENGTH_SMALL,
     truncated = TCRX_TRUNCATED,
+    fill = TCRX_FILL,
+    no_fecf = TCRX_NO_FECF,
+    wrong_fecf = TCRX_WRONG_FECF,
     bad_field = TCRX_BAD_FIELD,
     empty_data = TCRX_EMPTY_DATA,
     too_long = TCRX_TOO_LONG,
     no_memory = TCRX_NO_MEMORY,
+    long_packet = TCRX_LONG_PACKET,
+    long_unit = TCRX_LONG_UNIT,
+    long_frame = TCRX_LONG_FRAME,
+    bad_size = TCRX_BAD_SIZE,
+    no_segment = TCRX_NO_SEGMENT,
+    bad_command = TCRX_BAD_COMMAND,
     bad_width = TCRX_BAD_WIDTH,
     bad_state = TCRX_BAD_STATE,
     bad_farm_b = TCRX_BAD_FARM_B,
@@ -297,6 +306,8 @@ struct Header {
     bool bypass = false;
     /** Type-C in place of Type-D. */
     bool control = false;
+
+    constexpr tcrx_header record() const noexcept { return {scid, vcid, ns, detail::flag(bypass), detail::flag(control)}; }
 };
 
 /** The frame at the front of octets. */
@@ -326,10 +337,59 @@ inline Result<Kind> kind(Octets octets) noexcept {
 /** Writes a frame to the front of room: tcrx_write_frame(). The answer is the frame, there. */
 inline Result<Octets> write_frame(const Header &header, Octets field, Room room) noexcept {
     std::uint8_t nothing = 0;
-    const tcrx_header record = {header.scid, header.vcid, header.ns, detail::flag(header.bypass), detail::flag(header.control)};
     std::uint8_t *const to = detail::pointer(room, nothing);
-    return detail::written(tcrx_write_frame(record, detail::pointer(field), field.size(), to, room.size()), room);
+    return detail::written(tcrx_write_frame(header.record(), detail::pointer(field), field.size(), to, room.size()), room);
 }
+
+/** How a unit is sent in segments. */
+struct Segments {
+    /** The header of the first frame; the N(S) of Type-AD frames counts up. */
+    Header header;
+    /** The MAP, at most 63. */
+    std::uint8_t map = 0;
+    /** How many octets of the unit a segment carries, 1 to 1,018; the last one carries what is left. */
+    std::uint16_t size = 1018;
+};
+
+/** Writes the frame that carries the segment at a place of a unit, from 0 on: tcrx_write_segment(). Behind the last one the status is
+ * Status::no_segment. */
+inline Result<Octets> write_segment(const Segments &how, std::uint32_t place, Octets unit, Room room) noexcept {
+    std::uint8_t nothing = 0;
+    const std::uint8_t *const from = detail::pointer(unit);
+    std::uint8_t *const to = detail::pointer(room, nothing);
+    return detail::written(tcrx_write_segment(how.header.record(), how.map, how.size, place, from, unit.size(), to, room.size()), room);
+}
+
+/** Writes the Type-BC frame with a control command, of the kind Arrival::unlock or Arrival::set_vr: tcrx_write_command(). */
+inline Result<Octets> write_command(std::uint16_t scid, std::uint8_t vcid, Kind command, Room room) noexcept {
+    std::uint8_t nothing = 0;
+    std::uint8_t *const to = detail::pointer(room, nothing);
+    return detail::written(tcrx_write_command(scid, vcid, static_cast<std::uint8_t>(command.arrival), command.number, to, room.size()), room);
+}
+
+/** Writes a frame with its frame error control field: tcrx_add_fecf(). */
+inline Result<Octets> add_fecf(Octets frame, Room room) noexcept {
+    std::uint8_t nothing = 0;
+    return detail::written(tcrx_add_fecf(detail::pointer(frame), frame.size(), detail::pointer(room, nothing), room.size()), room);
+}
+
+/** Checks the frame error control field of a frame, and writes the frame without it: tcrx_check_fecf(). */
+inline Result<Octets> check_fecf(Octets frame, Room room) noexcept {
+    std::uint8_t nothing = 0;
+    return detail::written(tcrx_check_fecf(detail::pointer(frame), frame.size(), detail::pointer(room, nothing), room.size()), room);
+}
+
+/** The primary header of a packet, apart from the packet length. Unless others are named, it is that of a telecommand packet without a
+ * secondary header, unsegmented. */
+struct PacketHeader {
+    std::uint16_t apid = 0;
+    /** The sequence count or the name. */
+    std::uint16_t count = 0;
+    bool telecommand = true;
+    bool secondary = false;
+    /** The sequence flags. */
+    std::uint8_t sequence = 3;
+};
 
 /** The packet at the front of octets, of which the first six are its primary header. */
 struct Packet {
@@ -341,6 +401,15 @@ struct Packet {
     /** The sequence flags. */
     std::uint8_t sequence = 0;
     Octets octets;
+
+    /** Writes a packet to the front of room: tcrx_write_packet(). The answer is the packet, there. */
+    static Result<Octets> write(const PacketHeader &header, Octets field, Room room) noexcept {
+        std::uint8_t nothing = 0;
+        const tcrx_packet_header record = {header.apid, header.count, detail::flag(header.telecommand), detail::flag(header.secondary),
+                                           header.sequence};
+        std::uint8_t *const to = detail::pointer(room, nothing);
+        return detail::written(tcrx_write_packet(record, detail::pointer(field), field.size(), to, room.size()), room);
+    }
 };
 
 /** Reads the packet at the front of octets: tcrx_read_packet(). The answer refers to these octets. */

@@ -41,6 +41,9 @@ TCRX_LAYOUT(tcrx_packet, sizeof(tcrx_packet) == 16 && TCRX_AT(tcrx_packet, statu
                              && TCRX_AT(tcrx_packet, apid, 8) && TCRX_AT(tcrx_packet, count, 10)
                              && TCRX_AT(tcrx_packet, telecommand, 12) && TCRX_AT(tcrx_packet, secondary, 13)
                              && TCRX_AT(tcrx_packet, sequence, 14));
+TCRX_LAYOUT(tcrx_packet_header, sizeof(tcrx_packet_header) == 8 && TCRX_AT(tcrx_packet_header, apid, 0)
+                                    && TCRX_AT(tcrx_packet_header, count, 2) && TCRX_AT(tcrx_packet_header, telecommand, 4)
+                                    && TCRX_AT(tcrx_packet_header, secondary, 5) && TCRX_AT(tcrx_packet_header, sequence, 6));
 TCRX_LAYOUT(tcrx_written, sizeof(tcrx_written) == 2 * sizeof(size_t) && TCRX_AT(tcrx_written, status, 0)
                               && TCRX_AT(tcrx_written, length, sizeof(size_t)));
 TCRX_LAYOUT(tcrx_channel, sizeof(tcrx_channel) == 2 * sizeof(void *) && TCRX_AT(tcrx_channel, held, 0)
@@ -77,6 +80,18 @@ tcrx_frame tcrx_read_frame_at(const uint8_t *octets, size_t count);
 tcrx_kind_answer tcrx_kind_at(const uint8_t *octets, size_t count);
 /** @copydoc tcrx_write_frame */
 tcrx_written tcrx_write_frame_at(tcrx_header header, const uint8_t *field, size_t field_count, uint8_t *octets, size_t room);
+/** @copydoc tcrx_write_segment */
+tcrx_written tcrx_write_segment_at(tcrx_header header, uint8_t map, uint16_t size, uint32_t place, const uint8_t *unit,
+                                   size_t unit_count, uint8_t *octets, size_t room);
+/** @copydoc tcrx_write_command */
+tcrx_written tcrx_write_command_at(uint16_t scid, uint8_t vcid, uint8_t kind, uint8_t number, uint8_t *octets, size_t room);
+/** @copydoc tcrx_add_fecf */
+tcrx_written tcrx_add_fecf_at(const uint8_t *frame, size_t frame_count, uint8_t *octets, size_t room);
+/** @copydoc tcrx_check_fecf */
+tcrx_written tcrx_check_fecf_at(const uint8_t *frame, size_t frame_count, uint8_t *octets, size_t room);
+/** @copydoc tcrx_write_packet */
+tcrx_written tcrx_write_packet_at(tcrx_packet_header header, const uint8_t *field, size_t field_count, uint8_t *octets,
+                                  size_t room);
 /** @copydoc tcrx_read_packet */
 tcrx_packet tcrx_read_packet_at(const uint8_t *octets, size_t count);
 /** @copydoc tcrx_storage */

@@ -30,7 +30,8 @@ import tcrx
 import tcrx_channel
 from tcrx import (Brought, Channel, Clcw, Delivery, Ended, Event, Final, NotSetUp, NotStarted, Outcome, Packet, Refusal, Refused,
                   Released, Report, State, Unit)
-from tcrx_channel import BadSettings, Frame, NoMemory, read_frame, storage
+from tcrx_channel import (BadSettings, Frame, NoMemory, NotWritten, add_fecf, check_fecf, read_frame, storage, write_frame, write_packet,
+                          write_segments, write_set_vr, write_unlock)
 
 HEADER = TOP / "c/tcrx.h"
 SETTINGS: Dict[str, Any] = {"width": 10, "buffer": 4, "first": 0, "queues": {5: 4, 9: 2}, "maps": {2: 3}}
@@ -178,11 +179,39 @@ STEPS = ((frame(252, b"\xc0"), Report(1, State.OPEN, 250, False, False, True, 0,
          (frame(100, b"\xc0"), Report(1, State.LOCKOUT, 251, True, False, False, 1, 1, {}, {})))
 
 
+# Packets by their fields, as c/checks/fields.h has them: APID, count, packet data field, packet type, secondary header flag, sequence flags.
+PACKETS: Tuple[Tuple[str, Tuple[int, int, bytes], Dict[str, Any]], ...] = (
+    ("1da512340002aabbcc", (1445, 4660, b"\xaa\xbb\xcc"), {"secondary": True, "sequence": 0}),
+    ("000540010000aa", (5, 1, b"\xaa"), {"telecommand": False, "sequence": 1}),
+    ("17febfff012b" + 300 * "00", (2046, 16383, bytes(300)), {"sequence": 2}),
+    ("0800eaaa0000aa", (0, 10922, b"\xaa"), {"telecommand": False, "secondary": True}))
+
+
+def check_made() -> None:
+    """Frames and packets that are made, as c/checks/fields.h has them, and one of each making that is refused."""
+    for digits, (apid, count, field), others in PACKETS:
+        same(write_packet(apid, count, field, **others).hex(), digits, f"the packet {digits[:12]}")
+    unit, plain = bytes(range(1, 8)), "22a39407c8c0aabb"
+    three = write_segments(unit, scid=675, vcid=37, ns=255, map=37, size=3)
+    same([each.hex() for each in three], ["02a39408ff65010203", "02a394080025040506", "02a3940601a507"], "segments")
+    same([each.hex() for each in write_segments(unit, scid=675, vcid=37, ns=200, map=37, bypass=True)], ["22a3940cc8e501020304050607"], "one segment")
+    same((write_unlock(675, 12).hex(), write_set_vr(675, 12, 9).hex()), ("32a330050000", "32a3300700820009"), "commands")
+    ended = add_fecf(bytes.fromhex(plain))
+    same((ended.hex(), check_fecf(ended)), ("22a39409c8c0aabb4c91", bytes.fromhex(plain)), "a frame with its field, and without it")
+    same(check_fecf(bytes.fromhex(plain)), Refused(Refusal.CHECK), "a frame without a field")
+    for call in (lambda: write_packet(2048, 0, b"\0"), lambda: write_frame(0, 0, 0, b""), lambda: write_segments(unit, scid=0, vcid=0, ns=0, map=64),
+                 lambda: write_unlock(1024, 0), lambda: add_fecf(b"")):
+        raises(NotWritten, call, "a making that is refused")
+    same(str(Clcw(0x1d9484b5)), "vc 37 status 7 norf 1 nobitlock 0 lockout 0 wait 0 retransmit 0 farmb 2 vr 181", "a CLCW as text")
+
+
 def check_fields() -> None:
     """Each field of frames, of CLCWs, and of what a channel reports after each step, and its CLCW with each flag of the link alone. All of
     it is worked out by hand, by the layouts of docs/reference/formats.md and the state table of CCSDS 232.1-B, 6.3."""
     for digits, wanted in FRAMES:
         same(read_frame(bytes.fromhex(digits)), wanted, f"the fields of the frame {digits[:10]}")
+        made = write_frame(wanted.scid, wanted.vcid, wanted.ns, bytes.fromhex(digits)[5:wanted.length], bypass=wanted.bypass, control=wanted.control)
+        same(made, bytes.fromhex(digits)[:wanted.length], f"the frame {digits[:10]} of its fields")
     for place, number in enumerate(WORDS):
         clcw = Clcw(number)
         flags = (clcw.no_rf, clcw.no_bit_lock, clcw.lockout, clcw.wait, clcw.retransmit)
@@ -462,6 +491,7 @@ def main() -> int:
     check_cases()
     check_values()
     check_fields()
+    check_made()
     check_long_units()
     check_refused()
     check_ends()

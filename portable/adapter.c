@@ -12,7 +12,8 @@
 
 typedef uint32_t u32;
 
-enum { MOST_FRAME = 1024 };
+/* The most octets of a frame with one more, which shows that octets follow it. */
+enum { MOST_FRAME = 1025 };
 
 static u32 numbers[16];
 /* Where a frame or a data field that a call reads stands, and then one that it writes. */
@@ -89,6 +90,12 @@ static tcrx_header header_given(void) {
     return given;
 }
 
+static tcrx_packet_header packet_header_given(void) {
+    const tcrx_packet_header given = {(uint16_t)numbers[0], (uint16_t)numbers[1], (uint8_t)numbers[2], (uint8_t)numbers[3],
+                                      (uint8_t)numbers[4]};
+    return given;
+}
+
 static tcrx_settings settings_given(void) {
     const tcrx_settings given = {(uint8_t)numbers[0], (uint8_t)numbers[1], (uint8_t)numbers[2], (uint8_t)numbers[3],
                                  (uint8_t)numbers[4]};
@@ -155,6 +162,37 @@ u32 EXPORT(module_kind)(const uint8_t *octets, u32 count) {
 
 u32 EXPORT(module_write_frame)(const uint8_t *field, u32 field_count, uint8_t *octets, u32 room) {
     const tcrx_written answer = tcrx_write_frame_at(header_given(), field, field_count, octets, room);
+    answer_count(0, answer.length);
+    return answer.status;
+}
+
+u32 EXPORT(module_write_segment)(u32 map, u32 size, u32 place, const uint8_t *unit, u32 unit_count, uint8_t *octets, u32 room) {
+    const tcrx_written answer = tcrx_write_segment_at(header_given(), (uint8_t)map, (uint16_t)size, place, unit, unit_count,
+                                                      octets, room);
+    answer_count(0, answer.length);
+    return answer.status;
+}
+
+u32 EXPORT(module_write_command)(u32 scid, u32 vcid, u32 kind, u32 number, uint8_t *octets, u32 room) {
+    const tcrx_written answer = tcrx_write_command_at((uint16_t)scid, (uint8_t)vcid, (uint8_t)kind, (uint8_t)number, octets, room);
+    answer_count(0, answer.length);
+    return answer.status;
+}
+
+u32 EXPORT(module_add_fecf)(const uint8_t *frame, u32 frame_count, uint8_t *octets, u32 room) {
+    const tcrx_written answer = tcrx_add_fecf_at(frame, frame_count, octets, room);
+    answer_count(0, answer.length);
+    return answer.status;
+}
+
+u32 EXPORT(module_check_fecf)(const uint8_t *frame, u32 frame_count, uint8_t *octets, u32 room) {
+    const tcrx_written answer = tcrx_check_fecf_at(frame, frame_count, octets, room);
+    answer_count(0, answer.length);
+    return answer.status;
+}
+
+u32 EXPORT(module_write_packet)(const uint8_t *field, u32 field_count, uint8_t *octets, u32 room) {
+    const tcrx_written answer = tcrx_write_packet_at(packet_header_given(), field, field_count, octets, room);
     answer_count(0, answer.length);
     return answer.status;
 }

@@ -242,7 +242,40 @@ void check_words_and_packets() {
         const std::array<std::size_t, OF_PACKET> found = {read->octets.size(), read->apid,      read->count,
                                                           read->telecommand,   read->secondary, read->sequence};
         tell(read && are_fields(found, row.fields) && read->octets.data() == row.octets, "the fields of a packet");
+        const tcrx::PacketHeader header = {read->apid, read->count, read->telecommand, read->secondary, read->sequence};
+        Bytes room(MOST_OCTETS);
+        const tcrx::Result<tcrx::Octets> written = tcrx::Packet::write(header, read->octets.part(6), room);
+        tell(Bytes(written->begin(), written->end()) == Bytes(row.octets, row.octets + row.fields[0]), "a packet of fields");
     }
+}
+
+// Whether these are the octets of a row.
+bool is_made(const tcrx::Result<tcrx::Octets> &made, const made_row &row) {
+    return made && Bytes(made->begin(), made->end()) == Bytes(row.octets, row.octets + row.count);
+}
+
+// Each row of frames that are made; then one of each making that is refused.
+void check_made() {
+    using tcrx::Arrival;
+    using tcrx::Status;
+    const tcrx::Segments three = {{675, 37, 255}, 37, 3}, whole = {{675, 37, 200, true}, 37};
+    Bytes room(16), again(16);
+    for (std::uint32_t place = 0; place < 3; place++) {
+        tell(is_made(tcrx::write_segment(three, place, made_unit, room), segment_rows[place]), "a segment");
+    }
+    tell(tcrx::write_segment(three, 3, made_unit, room).status() == Status::no_segment, "a segment behind the last one");
+    tell(is_made(tcrx::write_segment(whole, 0, made_unit, room), whole_row), "a unit in one segment");
+    tell(is_made(tcrx::write_command(675, 12, {Arrival::unlock, 77}, room), command_rows[0]), "Unlock");
+    tell(is_made(tcrx::write_command(675, 12, {Arrival::set_vr, 9}, room), command_rows[1]), "Set V(R)");
+    const tcrx::Octets plain = {frame_rows[0].octets, frame_rows[0].fields[5]};
+    tell(is_made(tcrx::add_fecf(plain, room), fecf_row), "a frame with its field");
+    const tcrx::Result<tcrx::Octets> taken = tcrx::check_fecf({fecf_row.octets, fecf_row.count}, again);
+    tell(taken && Bytes(taken->begin(), taken->end()) == Bytes(plain.begin(), plain.end()), "a frame without its field");
+    tell(tcrx::write_segment(three, 0, {}, {}).status() == Status::empty_data, "a segment of nothing");
+    tell(tcrx::write_command(675, 12, {Arrival::bd, 0}, room).status() == Status::bad_command, "a command that is none");
+    tell(tcrx::Packet::write({}, {}, {}).status() == Status::empty_data, "a packet of nothing");
+    tell(tcrx::add_fecf(plain, {}).error().needed == 10, "no room for a field");
+    tell(tcrx::check_fecf(plain, {}).status() == Status::wrong_fecf, "a frame without a field");
 }
 
 // What a channel reports after each step, whose states are in the order of the rows, and its CLCW with each flag of the link alone.
@@ -322,6 +355,7 @@ int main() {
     check_views();
     check_frames();
     check_words_and_packets();
+    check_made();
     check_reports();
     check_settings();
     tell(tcrx_blocks() == 0, "no block is left");

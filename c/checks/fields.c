@@ -1,5 +1,5 @@
 /*
- * Each row of fields.h, field by field: frames, which are written again, CLCWs and packets. Then what a channel reports after each step,
+ * Each row of fields.h, field by field: frames and packets, which are written again, CLCWs, and frames that are made. Then what a channel reports after each step,
  * and its CLCW with each flag of the link alone. The last line says how many things were as they must be.
  */
 #include "expecting.h"
@@ -40,7 +40,35 @@ static void check_packets(void) {
         const tcrx_packet read = tcrx_read_packet(row->octets, row->count);
         const uint32_t found[OF_PACKET] = {read.length, read.apid, read.count, read.telecommand, read.secondary, read.sequence};
         expect(read.status == TCRX_DONE && memcmp(found, row->fields, sizeof found) == 0, "the fields of a packet", i);
+        const tcrx_packet_header header = {read.apid, read.count, read.telecommand, read.secondary, read.sequence};
+        uint8_t octets[MOST_OCTETS];
+        const tcrx_written written = tcrx_write_packet(header, row->octets + 6, read.length - 6, octets, sizeof octets);
+        expect(written.status == TCRX_DONE && written.length == read.length, "the length of a packet of fields", i);
+        expect(memcmp(octets, row->octets, read.length) == 0, "the octets of a packet of fields", i);
     }
+}
+
+static void expect_made(tcrx_written written, const uint8_t *octets, const uint8_t *wanted, size_t count, uint64_t place) {
+    expect(written.status == TCRX_DONE && written.length == count, "the length of a frame that is made", place);
+    expect(memcmp(octets, wanted, count) == 0, "the octets of a frame that is made", place);
+}
+
+static void check_made(void) {
+    const tcrx_header first = {675, 37, 255, 0, 0}, bypass = {675, 37, 200, 1, 0};
+    const size_t unit_count = sizeof made_unit;
+    const frame_row *plain = &frame_rows[0];
+    uint8_t octets[16], again[16];
+    for (uint32_t i = 0; i < 3; i++) {
+        const tcrx_written written = tcrx_write_segment(first, 37, 3, i, made_unit, unit_count, octets, sizeof octets);
+        expect_made(written, octets, segment_rows[i].octets, segment_rows[i].count, i);
+    }
+    expect(tcrx_write_segment(first, 37, 3, 3, made_unit, unit_count, octets, sizeof octets).status == TCRX_NO_SEGMENT, "the last one", 3);
+    expect_made(tcrx_write_segment(bypass, 37, 7, 0, made_unit, unit_count, octets, sizeof octets), octets, whole_row.octets, whole_row.count, 4);
+    expect_made(tcrx_write_command(675, 12, TCRX_UNLOCK, 77, octets, sizeof octets), octets, command_rows[0].octets, command_rows[0].count, 5);
+    expect_made(tcrx_write_command(675, 12, TCRX_SET_VR, 9, octets, sizeof octets), octets, command_rows[1].octets, command_rows[1].count, 6);
+    const size_t length = plain->fields[5];
+    expect_made(tcrx_add_fecf(plain->octets, length, octets, sizeof octets), octets, fecf_row.octets, fecf_row.count, 7);
+    expect_made(tcrx_check_fecf(octets, fecf_row.count, again, sizeof again), again, plain->octets, length, 8);
 }
 
 static void check_reports(void) {
@@ -63,6 +91,7 @@ int main(void) {
     check_frames();
     check_clcws();
     check_packets();
+    check_made();
     check_reports();
     return close_with("things that are read");
 }

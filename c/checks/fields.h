@@ -1,6 +1,6 @@
 /*
- * Frames, CLCWs and packets with their fields, and the steps of a channel with FARM-1 after each, for fields.c and ends.cc. All of it is
- * worked out by hand, from CCSDS 232.0-B, 4.1 and 4.2, CCSDS 133.0-B, 4.1, and CCSDS 232.1-B, 6.3. Fill follows each frame and packet.
+ * Frames, CLCWs and packets with their fields, frames that are made, and the steps of a channel with FARM-1 after each, for fields.c and
+ * ends.cc. All of it is worked out by hand, from CCSDS 232.0-B, 4.1 and 4.2, CCSDS 133.0-B, 4.1, and CCSDS 232.1-B, 6.3. Fill follows each frame and packet.
  *
  * Fields are numbers here, in no record of the header, so that a record whose fields have each other's names is found.
  */
@@ -54,6 +54,30 @@ static const packet_row packet_rows[] = {
     {{0x17, 0xfe, 0xbf, 0xff, 0x01, 0x2b}, 308, {306, 2046, 16383, 1, 0, 2}},
     {{0x08, 0x00, 0xea, 0xaa, 0x00, 0x00, 0xaa, 0x55}, 8, {7, 0, 10922, 0, 1, 3}},
 };
+
+/* A frame that is made. */
+typedef struct {
+    uint8_t octets[16];
+    size_t count;
+} made_row;
+
+/*
+ * For spacecraft 675: a unit in segments of three octets for MAP 37, over Type-AD frames of channel 37 from N(S) 255 on, and whole over
+ * one Type-BD frame with N(S) 200; Unlock and Set V(R) to 9 for channel 12; and the first frame of frame_rows with its frame error
+ * control field, by the CRC of another implementation (Python's binascii.crc_hqx, preset to ones).
+ */
+static const uint8_t made_unit[] = {1, 2, 3, 4, 5, 6, 7};
+static const made_row segment_rows[] = {
+    {{0x02, 0xa3, 0x94, 0x08, 0xff, 0x65, 1, 2, 3}, 9},
+    {{0x02, 0xa3, 0x94, 0x08, 0x00, 0x25, 4, 5, 6}, 9},
+    {{0x02, 0xa3, 0x94, 0x06, 0x01, 0xa5, 7}, 7},
+};
+static const made_row whole_row = {{0x22, 0xa3, 0x94, 0x0c, 0xc8, 0xe5, 1, 2, 3, 4, 5, 6, 7}, 13};
+static const made_row command_rows[] = {
+    {{0x32, 0xa3, 0x30, 0x05, 0x00, 0x00}, 6},
+    {{0x32, 0xa3, 0x30, 0x07, 0x00, 0x82, 0x00, 0x09}, 8},
+};
+static const made_row fecf_row = {{0x22, 0xa3, 0x94, 0x09, 0xc8, 0xc0, 0xaa, 0xbb, 0x4c, 0x91}, 10};
 
 /* Width, state, V(R), FARM-B counter, Lockout, Wait, Retransmit: of FARM-1 after the frame. */
 typedef struct {

@@ -198,6 +198,98 @@ static void check_writing(void) {
     expect(no_buffer.status == TCRX_NULL && no_buffer.length == 0, "no buffer", 0);
 }
 
+/* What is made goes here. */
+static uint8_t made[1030];
+
+static uint8_t *fresh(void) {
+    memset(made, 0xee, sizeof made);
+    return made;
+}
+
+static void expect_refused(tcrx_written written, tcrx_status status, size_t length, unsigned long place) {
+    expect(written.status == status && written.length == length, "the status of a making that is refused", place);
+    expect(is_filled(made, sizeof made), "the buffer of a making that is refused", place);
+}
+
+static void check_packets_made(void) {
+    static uint8_t field[65537];
+    const size_t all = sizeof made;
+    const tcrx_packet_header good = {2047, 16383, 1, 1, 3}, telecommand = {2048, 0, 2, 0, 0}, secondary = {0, 0, 0, 255, 4};
+    const tcrx_packet_header apid = {2048, 0, 1, 0, 0}, count = {0, 16384, 1, 0, 0}, sequence = {0, 0, 1, 0, 4};
+    expect_refused(tcrx_write_packet(telecommand, field, 0, fresh(), all), TCRX_BAD_FLAG, 0, 100);
+    expect_refused(tcrx_write_packet(secondary, field, 0, fresh(), all), TCRX_BAD_FLAG, 0, 101);
+    expect_refused(tcrx_write_packet(apid, field, 0, fresh(), all), TCRX_BAD_FIELD, 0, 102);
+    expect_refused(tcrx_write_packet(count, field, 0, fresh(), all), TCRX_BAD_FIELD, 0, 103);
+    expect_refused(tcrx_write_packet(sequence, field, 0, fresh(), all), TCRX_BAD_FIELD, 0, 104);
+    expect_refused(tcrx_write_packet(good, field, 0, fresh(), 0), TCRX_EMPTY_DATA, 0, 105);
+    expect_refused(tcrx_write_packet(good, field, 65537, fresh(), 0), TCRX_LONG_PACKET, 0, 106);
+    expect_refused(tcrx_write_packet(good, field, 65536, fresh(), all), TCRX_NO_ROOM, 65542, 107);
+    expect_refused(tcrx_write_packet(good, field, 1, fresh(), 6), TCRX_NO_ROOM, 7, 108);
+    expect_refused(tcrx_write_packet(good, NULL, 1, fresh(), all), TCRX_NULL, 0, 109);
+    expect_refused(tcrx_write_packet(good, field, 1, NULL, 7), TCRX_NULL, 0, 110);
+}
+
+static void check_segments_made(void) {
+    static uint8_t unit[65543];
+    const size_t all = sizeof made;
+    const tcrx_header good = {1023, 63, 255, 0, 0}, flag = {1024, 63, 255, 0, 2}, scid = {1024, 63, 255, 0, 0}, vcid = {0, 64, 0, 1, 0};
+    expect_refused(tcrx_write_segment(flag, 64, 0, 0, unit, 0, fresh(), all), TCRX_BAD_FLAG, 0, 120);
+    expect_refused(tcrx_write_segment(scid, 64, 0, 0, unit, 0, fresh(), all), TCRX_BAD_FIELD, 0, 121);
+    expect_refused(tcrx_write_segment(vcid, 64, 0, 0, unit, 0, fresh(), all), TCRX_BAD_FIELD, 0, 122);
+    expect_refused(tcrx_write_segment(good, 64, 0, 0, unit, 0, fresh(), all), TCRX_BAD_MAP, 0, 123);
+    expect_refused(tcrx_write_segment(good, 63, 0, 0, unit, 0, fresh(), all), TCRX_BAD_SIZE, 0, 124);
+    expect_refused(tcrx_write_segment(good, 63, 1019, 0, unit, 0, fresh(), all), TCRX_BAD_SIZE, 0, 125);
+    expect_refused(tcrx_write_segment(good, 63, 1018, 0, unit, 0, fresh(), all), TCRX_EMPTY_DATA, 0, 126);
+    expect_refused(tcrx_write_segment(good, 63, 1018, 99, unit, 65543, fresh(), all), TCRX_LONG_UNIT, 0, 127);
+    expect_refused(tcrx_write_segment(good, 63, 1, 65542, unit, 65542, fresh(), 0), TCRX_NO_SEGMENT, 0, 128);
+    expect_refused(tcrx_write_segment(good, 63, 1, 65541, unit, 65542, fresh(), 6), TCRX_NO_ROOM, 7, 129);
+    expect_refused(tcrx_write_segment(good, 63, 1018, 0, unit, 65542, fresh(), 1023), TCRX_NO_ROOM, 1024, 130);
+    expect_refused(tcrx_write_segment(good, 63, 1018, UINT32_MAX, unit, 65542, fresh(), all), TCRX_NO_SEGMENT, 0, 131);
+    expect_refused(tcrx_write_segment(good, 63, 1018, 0, NULL, 1, fresh(), all), TCRX_NULL, 0, 132);
+    expect_refused(tcrx_write_segment(good, 63, 1018, 0, unit, 1, NULL, 7), TCRX_NULL, 0, 133);
+}
+
+static void check_commands_made(void) {
+    const size_t all = sizeof made;
+    expect_refused(tcrx_write_command(1024, 0, 0, 0, fresh(), all), TCRX_BAD_FIELD, 0, 140);
+    expect_refused(tcrx_write_command(0, 64, 0, 0, fresh(), all), TCRX_BAD_FIELD, 0, 141);
+    for (unsigned kind = 0; kind < 256; kind++) {
+        if (kind != TCRX_UNLOCK && kind != TCRX_SET_VR) {
+            expect_refused(tcrx_write_command(1023, 63, (uint8_t)kind, 0, fresh(), 0), TCRX_BAD_COMMAND, 0, kind);
+        }
+    }
+    expect_refused(tcrx_write_command(1023, 63, TCRX_UNLOCK, 0, fresh(), 5), TCRX_NO_ROOM, 6, 142);
+    expect_refused(tcrx_write_command(1023, 63, TCRX_SET_VR, 0, fresh(), 7), TCRX_NO_ROOM, 8, 143);
+    expect_refused(tcrx_write_command(1023, 63, TCRX_UNLOCK, 0, NULL, 6), TCRX_NULL, 0, 144);
+}
+
+static void check_fields_made(void) {
+    static uint8_t frame[1025], field[1019];
+    const size_t all = sizeof made;
+    const tcrx_header header = {1, 2, 3, 0, 0};
+    expect_refused(tcrx_add_fecf(frame, 4, fresh(), all), TCRX_SHORT, 0, 150);
+    expect_refused(tcrx_check_fecf(frame, 4, fresh(), all), TCRX_SHORT, 0, 151);
+    expect(tcrx_write_frame(header, field, 1, frame, sizeof frame).length == 6, "a short frame", 152);
+    expect_refused(tcrx_add_fecf(frame, 7, fresh(), all), TCRX_FILL, 0, 153);
+    expect_refused(tcrx_check_fecf(frame, 7, fresh(), all), TCRX_FILL, 0, 154);
+    expect_refused(tcrx_add_fecf(frame, 5, fresh(), all), TCRX_TRUNCATED, 0, 155);
+    expect_refused(tcrx_check_fecf(frame, 6, fresh(), all), TCRX_NO_FECF, 0, 156);
+    expect_refused(tcrx_add_fecf(frame, 6, fresh(), 7), TCRX_NO_ROOM, 8, 157);
+    expect(tcrx_add_fecf(frame, 6, field, 8).length == 8, "a field on a short frame", 158);
+    expect_refused(tcrx_check_fecf(field, 8, fresh(), 5), TCRX_NO_ROOM, 6, 159);
+    field[6] ^= 1;
+    expect_refused(tcrx_check_fecf(field, 8, fresh(), 0), TCRX_WRONG_FECF, 0, 160);
+    expect(tcrx_write_frame(header, field, 1018, frame, sizeof frame).length == 1023, "a long frame", 161);
+    expect_refused(tcrx_add_fecf(frame, 1023, fresh(), 0), TCRX_LONG_FRAME, 0, 162);
+    expect(tcrx_write_frame(header, field, 1019, frame, sizeof frame).length == 1024, "the longest frame", 163);
+    expect_refused(tcrx_add_fecf(frame, 1025, fresh(), all), TCRX_FILL, 0, 164);
+    expect_refused(tcrx_check_fecf(frame, 1025, fresh(), all), TCRX_FILL, 0, 165);
+    expect_refused(tcrx_add_fecf(NULL, 6, fresh(), all), TCRX_NULL, 0, 166);
+    expect_refused(tcrx_check_fecf(NULL, 8, fresh(), all), TCRX_NULL, 0, 167);
+    expect_refused(tcrx_add_fecf(frame, 6, NULL, 8), TCRX_NULL, 0, 168);
+    expect_refused(tcrx_check_fecf(frame, 8, NULL, 6), TCRX_NULL, 0, 169);
+}
+
 static void check_text(tcrx_status status, const char *wanted) {
     char text[TCRX_TEXT_ROOM + 1];
     const size_t needed = strlen(wanted) + 1;
@@ -220,10 +312,19 @@ static void check_texts(void) {
         {TCRX_SPARE, "the spare bits aren't 0"},
         {TCRX_LENGTH_SMALL, "the frame length names fewer than 6 octets"},
         {TCRX_TRUNCATED, "the frame length names more octets than there are"},
+        {TCRX_FILL, "octets follow the frame"},
+        {TCRX_NO_FECF, "the frame has fewer than 8 octets"},
+        {TCRX_WRONG_FECF, "the frame error control field is wrong"},
         {TCRX_BAD_FIELD, "a field of the header is over its bound"},
         {TCRX_EMPTY_DATA, "the data field is empty"},
         {TCRX_TOO_LONG, "the data field has more than 1,019 octets"},
         {TCRX_NO_MEMORY, "no memory"},
+        {TCRX_LONG_PACKET, "the packet data field has more than 65,536 octets"},
+        {TCRX_LONG_UNIT, "the unit has more than 65,542 octets"},
+        {TCRX_LONG_FRAME, "the frame has more than 1,022 octets"},
+        {TCRX_BAD_SIZE, "a segment isn't for 1 to 1,018 octets"},
+        {TCRX_NO_SEGMENT, "the unit has no segment at that place"},
+        {TCRX_BAD_COMMAND, "the command is neither Unlock nor Set V(R)"},
         {TCRX_BAD_WIDTH, "the width of the window isn't even and 2 to 254"},
         {TCRX_BAD_STATE, "the state isn't 1 to 3"},
         {TCRX_BAD_FARM_B, "the FARM-B counter is over 3"},
@@ -276,6 +377,10 @@ int main(void) {
     check_clcws();
     check_reading();
     check_writing();
+    check_packets_made();
+    check_segments_made();
+    check_commands_made();
+    check_fields_made();
     check_texts();
     return close_with("answers of refused and bounded calls");
 }

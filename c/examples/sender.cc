@@ -1,4 +1,4 @@
-// Frames of given fields, as a ground test in C++ makes them: written into a buffer, printed, and read back.
+// What a ground test in C++ sends: commands, and a packet over both services, written into a buffer, printed, and read back.
 #include <tcrx.hpp>
 
 #include <array>
@@ -11,28 +11,29 @@ constexpr std::uint16_t spacecraft = 42;
 constexpr std::uint8_t channel = 1;
 
 // Whether the frame was written and reads back.
-bool send(const tcrx::Header &header, tcrx::Octets field) {
-    std::array<std::uint8_t, 1024> room{};
-    const tcrx::Result<tcrx::Octets> written = tcrx::write_frame(header, field, room);
-    if (!written) {
+bool send(const tcrx::Result<tcrx::Octets> &frame) {
+    if (!frame) {
         return false;
     }
-    for (const std::uint8_t octet : *written) {
+    for (const std::uint8_t octet : *frame) {
         std::printf("%02x", octet);
     }
-    const tcrx::Result<tcrx::Kind> kind = tcrx::kind(*written);
+    const tcrx::Result<tcrx::Kind> kind = tcrx::kind(*frame);
     std::printf(" kind %u number %u\n", static_cast<unsigned>(kind->arrival), static_cast<unsigned>(kind->number));
-    const tcrx::Result<tcrx::Frame> read = tcrx::read_frame(*written);
-    return read && read->octets.size() == written->size() && read->header.ns == header.ns;
+    const tcrx::Result<tcrx::Frame> read = tcrx::read_frame(*frame);
+    return read && read->octets.size() == frame->size() && read->header.scid == spacecraft && read->header.vcid == channel;
 }
 
 }  // namespace
 
 int main() {
-    const std::uint8_t unlock[] = {0x00};
-    const std::uint8_t set_vr[] = {0x82, 0x00, 77};
-    const std::uint8_t packet[] = {0xc0, 0x10, 0x05, 0xc0, 0x00, 0x00, 0x00, 0xaa};
-    const bool sent = send({spacecraft, channel, 0, true, true}, unlock) && send({spacecraft, channel, 0, true, true}, set_vr)
-        && send({spacecraft, channel, 0, false, false}, packet) && send({spacecraft, channel, 7, true, false}, packet);
+    const std::uint8_t field[] = {0xaa};
+    std::array<std::uint8_t, 7> packet_room{};
+    std::array<std::uint8_t, 1024> room{};
+    const tcrx::Result<tcrx::Octets> packet = tcrx::Packet::write({5}, field, packet_room);
+    const tcrx::Segments type_ad = {{spacecraft, channel, 0}}, type_bd = {{spacecraft, channel, 7, true}};
+    const bool sent = packet && send(tcrx::write_command(spacecraft, channel, {tcrx::Arrival::unlock}, room))
+        && send(tcrx::write_command(spacecraft, channel, {tcrx::Arrival::set_vr, 77}, room))
+        && send(tcrx::write_segment(type_ad, 0, *packet, room)) && send(tcrx::write_segment(type_bd, 0, *packet, room));
     return sent ? 0 : 1;
 }

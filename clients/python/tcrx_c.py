@@ -2,14 +2,15 @@
 from ctypes import POINTER, Structure, c_char_p, c_size_t, c_uint8, c_uint16, c_uint32, c_uint64, c_void_p
 from typing import Any, Dict, List, Tuple
 
-__all__ = ["CALLS", "DONE", "SHORT", "BAD_VERSION", "SPARE", "LENGTH_SMALL", "TRUNCATED", "BAD_FIELD", "EMPTY_DATA", "TOO_LONG",
-           "NO_MEMORY", "BAD_WIDTH", "BAD_STATE", "BAD_FARM_B", "BAD_FLAG", "FLAGS_DISAGREE", "BAD_ARRIVAL", "NO_ENTRY",
+__all__ = ["CALLS", "DONE", "SHORT", "BAD_VERSION", "SPARE", "LENGTH_SMALL", "TRUNCATED", "FILL", "NO_FECF", "WRONG_FECF",
+           "BAD_FIELD", "EMPTY_DATA", "TOO_LONG", "NO_MEMORY", "LONG_PACKET", "LONG_UNIT", "LONG_FRAME", "BAD_SIZE", "NO_SEGMENT",
+           "BAD_COMMAND", "BAD_WIDTH", "BAD_STATE", "BAD_FARM_B", "BAD_FLAG", "FLAGS_DISAGREE", "BAD_ARRIVAL", "NO_ENTRY",
            "BAD_VCID", "NO_CLCW", "NO_PACKET", "NO_ROOM", "NULL", "NO_STATUS", "BAD_BUFFER", "BAD_APID", "DOUBLE_APID",
            "BAD_CAPACITY", "BAD_MAP", "DOUBLE_MAP", "BAD_UNITS", "PLAIN_MAP", "NO_CHANNEL", "IN_USE", "NO_QUEUE", "NO_MAP",
            "EMPTY", "BAD_OTHERS", "BAD_LIMIT_MAP", "DOUBLE_LIMIT", "BAD_LIMIT", "PLAIN_LIMIT", "UNLISTED_MAP", "TEXT_ROOM", "OPEN",
            "WAIT", "LOCKOUT", "AD", "BD", "UNLOCK", "SET_VR", "INVALID", "RELEASE", "_Farm", "_FarmAnswer", "_StepAnswer",
-           "_ClcwAnswer", "_ClcwFields", "_Header", "_Frame", "_KindAnswer", "_Packet", "_Written", "_Channel", "_Settings",
-           "_Queue", "_Map", "_Limit", "_Reply", "_Delivery", "_Count"]
+           "_ClcwAnswer", "_ClcwFields", "_Header", "_Frame", "_KindAnswer", "_Packet", "_PacketHeader", "_Written", "_Channel",
+           "_Settings", "_Queue", "_Map", "_Limit", "_Reply", "_Delivery", "_Count"]
 
 DONE = 0
 SHORT = 1
@@ -17,10 +18,19 @@ BAD_VERSION = 2
 SPARE = 3
 LENGTH_SMALL = 4
 TRUNCATED = 5
+FILL = 6
+NO_FECF = 7
+WRONG_FECF = 8
 BAD_FIELD = 10
 EMPTY_DATA = 11
 TOO_LONG = 12
 NO_MEMORY = 13
+LONG_PACKET = 14
+LONG_UNIT = 15
+LONG_FRAME = 16
+BAD_SIZE = 17
+NO_SEGMENT = 18
+BAD_COMMAND = 19
 BAD_WIDTH = 20
 BAD_STATE = 21
 BAD_FARM_B = 22
@@ -106,6 +116,10 @@ class _Packet(Structure):
                 ("secondary", c_uint8), ("sequence", c_uint8)]
 
 
+class _PacketHeader(Structure):
+    _fields_ = [("apid", c_uint16), ("count", c_uint16), ("telecommand", c_uint8), ("secondary", c_uint8), ("sequence", c_uint8)]
+
+
 class _Written(Structure):
     _fields_ = [("status", c_uint32), ("length", c_size_t)]
 
@@ -153,6 +167,11 @@ CALLS: Dict[str, Tuple[Any, List[Any]]] = {
     "tcrx_read_frame_at": (_Frame, [c_char_p, c_size_t]),
     "tcrx_kind_at": (_KindAnswer, [c_char_p, c_size_t]),
     "tcrx_write_frame_at": (_Written, [_Header, c_char_p, c_size_t, c_void_p, c_size_t]),
+    "tcrx_write_segment_at": (_Written, [_Header, c_uint8, c_uint16, c_uint32, c_char_p, c_size_t, c_void_p, c_size_t]),
+    "tcrx_write_command_at": (_Written, [c_uint16, c_uint8, c_uint8, c_uint8, c_void_p, c_size_t]),
+    "tcrx_add_fecf_at": (_Written, [c_char_p, c_size_t, c_void_p, c_size_t]),
+    "tcrx_check_fecf_at": (_Written, [c_char_p, c_size_t, c_void_p, c_size_t]),
+    "tcrx_write_packet_at": (_Written, [_PacketHeader, c_char_p, c_size_t, c_void_p, c_size_t]),
     "tcrx_read_packet_at": (_Packet, [c_char_p, c_size_t]),
     "tcrx_storage_at": (_Count, [_Settings, POINTER(_Queue), c_size_t, POINTER(_Map), c_size_t]),
     "tcrx_storage_with_limits_at": (_Count, [_Settings, POINTER(_Queue), c_size_t, POINTER(_Map), c_size_t, c_uint32,

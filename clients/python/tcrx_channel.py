@@ -38,16 +38,19 @@ from dataclasses import dataclass
 from operator import index
 from pathlib import Path
 from types import TracebackType
-from typing import Any, Dict, Iterator, Mapping, NoReturn, Optional, Tuple, Type, Union
+from typing import Any, Dict, Iterator, List, Mapping, NoReturn, Optional, Tuple, Type, Union
 
 from tcrx import (Brought, Clcw, Delivery, Ended, Event, Fault, Final, NotSetUp, NotStarted, Packet, Refusal, Refused, Released, Report,
                   State, Unit)
 from tcrx_c import *  # pylint: disable=wildcard-import,unused-wildcard-import  # all that the header declares
-from tcrx_c import _Channel, _Limit, _Map, _Queue, _Settings
+from tcrx_c import _Channel, _Header, _Limit, _Map, _PacketHeader, _Queue, _Settings
 
-__all__ = ["BadSettings", "Channel", "Frame", "NoMemory", "find_library", "read_frame", "storage"]
+__all__ = ["BadSettings", "Channel", "Frame", "NoMemory", "NotWritten", "add_fecf", "check_fecf", "find_library", "read_frame", "storage",
+           "write_frame", "write_packet", "write_segments", "write_set_vr", "write_unlock"]
 
 LIBRARY = "libtcrx.so.0"
+Octets = Union[bytes, bytearray, memoryview]
+Library = Union[str, "os.PathLike[str]", None]
 # The statuses that are answers.
 REFUSED = {SHORT: Refused(Refusal.SHORT), BAD_VERSION: Refused(Refusal.VERSION), SPARE: Refused(Refusal.SPARE),
            LENGTH_SMALL: Refused(Refusal.LENGTH), TRUNCATED: Refused(Refusal.TRUNCATED), NO_QUEUE: Refused(Refusal.NO_QUEUE),
@@ -82,7 +85,7 @@ def find_library() -> str:
 _libraries: Dict[str, ctypes.PyDLL] = {}
 
 
-def load(path: Union[str, "os.PathLike[str]", None]) -> ctypes.PyDLL:
+def load(path: Library) -> ctypes.PyDLL:
     """The library, with the types of its calls. Raises `NotStarted` where it isn't there."""
     name = find_library() if path is None else os.fspath(path)
     if name not in _libraries:
@@ -142,7 +145,7 @@ def check_made(library: ctypes.PyDLL, status: int) -> None:
 def storage(vcid: int, *, width: int, buffer: int, first: int, plain: bool = False,
             queues: Optional[Mapping[int, int]] = None, maps: Optional[Mapping[int, int]] = None,
             limits: Optional[Mapping[int, int]] = None, others: int = 0,
-            library: Union[str, "os.PathLike[str]", None] = None) -> int:
+            library: Library = None) -> int:
     """How many octets the making of a channel of these settings and limits asks for. No other call of the channel asks for any."""
     loaded = load(library)
     lists = lists_of(vcid, width, buffer, first, plain, queues, maps)
@@ -167,7 +170,7 @@ class Frame:
     length: int
 
 
-def read_frame(octets: Union[bytes, bytearray, memoryview], *, library: Union[str, "os.PathLike[str]", None] = None) -> Union[Frame, Refused]:
+def read_frame(octets: Octets, *, library: Library = None) -> Union[Frame, Refused]:
     """The header of the frame at the front of octets, by which a caller gives it to the channel that it is for."""
     whole = bytes(octets)
     frame = load(library).tcrx_read_frame_at(whole, len(whole))
@@ -175,6 +178,93 @@ def read_frame(octets: Union[bytes, bytearray, memoryview], *, library: Union[st
         return REFUSED[frame.status]
     read = frame.header
     return Frame(read.scid, read.vcid, read.ns, read.bypass == 1, read.control == 1, frame.length)
+
+
+# --- What a sender makes ---
+
+MOST_FRAME = 1024
+
+
+class NotWritten(Fault):
+    """Nothing is written of these values."""
+
+
+def written_by(library: ctypes.PyDLL, name: str, *given: Any, room: int = MOST_FRAME) -> Tuple[int, bytes]:
+    """The status of a call that writes, and what it wrote."""
+    octets = ctypes.create_string_buffer(room)
+    written = getattr(library, name)(*given, octets, room)
+    return written.status, octets.raw[:written.length] if written.status == DONE else b""
+
+
+def made_by(library: ctypes.PyDLL, name: str, *given: Any, room: int = MOST_FRAME) -> bytes:
+    """What a call writes. Raises `NotWritten` with the reason why it writes nothing."""
+    status, octets = written_by(library, name, *given, room=room)
+    if status != DONE:
+        raise NotWritten(text_of(library, status))
+    return octets
+
+
+def header_of(scid: int, vcid: int, ns: int, bypass: bool, control: bool) -> _Header:
+    """The record of a header."""
+    return _Header(in_range(scid, 65535, "scid"), in_range(vcid, 255, "vcid"), in_range(ns, 255, "ns"), int(bool(bypass)), int(bool(control)))
+
+
+# pylint: disable-next=too-many-arguments  # they are the fields of a header
+def write_packet(apid: int, count: int, field: Octets, *, telecommand: bool = True, secondary: bool = False, sequence: int = 3,
+                 library: Library = None) -> bytes:
+    """A packet with a packet data field of 1 to 65,536 octets. Raises `NotWritten`."""
+    whole = bytes(field)
+    header = _PacketHeader(in_range(apid, 65535, "apid"), in_range(count, 65535, "count"), int(bool(telecommand)), int(bool(secondary)),
+                           in_range(sequence, 255, "sequence"))
+    return made_by(load(library), "tcrx_write_packet_at", header, whole, len(whole), room=len(whole) + 6)
+
+
+# pylint: disable-next=too-many-arguments  # they are the fields of a header
+def write_frame(scid: int, vcid: int, ns: int, field: Octets, *, bypass: bool = False, control: bool = False, library: Library = None) -> bytes:
+    """A frame with a data field of 1 to 1,019 octets. Raises `NotWritten`."""
+    whole = bytes(field)
+    return made_by(load(library), "tcrx_write_frame_at", header_of(scid, vcid, ns, bypass, control), whole, len(whole))
+
+
+# pylint: disable-next=too-many-arguments,redefined-builtin  # they are the fields of two headers, by their names in tcrx
+def write_segments(unit: Octets, *, scid: int, vcid: int, ns: int, map: int, size: int = 1018, bypass: bool = False,
+                   library: Library = None) -> List[bytes]:
+    """The frames of a unit of 1 to 65,542 octets in segments, of which each carries `size` octets (1 to 1,018), and the last one what is
+    left. The N(S) of Type-AD frames counts up from `ns`. Raises `NotWritten`."""
+    loaded, whole = load(library), bytes(unit)
+    frames: List[bytes] = []
+    given = (header_of(scid, vcid, ns, bypass, False), in_range(map, 255, "map"), in_range(size, 65535, "size"))
+    while True:
+        status, frame = written_by(loaded, "tcrx_write_segment_at", *given, len(frames), whole, len(whole))
+        if status == NO_SEGMENT:
+            return frames
+        if status != DONE:
+            raise NotWritten(text_of(loaded, status))
+        frames.append(frame)
+
+
+def write_unlock(scid: int, vcid: int, *, library: Library = None) -> bytes:
+    """The Type-BC frame with the control command Unlock. Raises `NotWritten`."""
+    return made_by(load(library), "tcrx_write_command_at", in_range(scid, 65535, "scid"), in_range(vcid, 255, "vcid"), UNLOCK, 0)
+
+
+def write_set_vr(scid: int, vcid: int, vr: int, *, library: Library = None) -> bytes:
+    """The Type-BC frame with the control command Set V(R). Raises `NotWritten`."""
+    given = in_range(scid, 65535, "scid"), in_range(vcid, 255, "vcid"), SET_VR, in_range(vr, 255, "vr")
+    return made_by(load(library), "tcrx_write_command_at", *given)
+
+
+def add_fecf(frame: Octets, *, library: Library = None) -> bytes:
+    """A frame with its frame error control field. Raises `NotWritten`."""
+    whole = bytes(frame)
+    return made_by(load(library), "tcrx_add_fecf_at", whole, len(whole))
+
+
+def check_fecf(frame: Octets, *, library: Library = None) -> Union[bytes, Refused]:
+    """A frame without its frame error control field, where that is right, and `CHECK` where it isn't, as with `fecf` of a `Receiver`."""
+    whole = bytes(frame)
+    status, plain = written_by(load(library), "tcrx_check_fecf_at", whole, len(whole))
+    return plain if status == DONE else Refused(Refusal.CHECK)
 
 
 def delivery_of(answer: Any) -> Delivery:
@@ -197,7 +287,7 @@ class Channel:
     def __init__(self, vcid: int, *, width: int, buffer: int, first: int, plain: bool = False,
                  queues: Optional[Mapping[int, int]] = None, maps: Optional[Mapping[int, int]] = None,
                  limits: Optional[Mapping[int, int]] = None, others: int = 0,
-                 library: Union[str, "os.PathLike[str]", None] = None) -> None:
+                 library: Library = None) -> None:
         """Makes a virtual channel (0 to 63): the width of its window (even, 2 to 254), how many data fields its buffer holds (1 to
         64), its first V(R) (0 to 255), and whether its data fields have no segment headers; the room of its queues by application,
         and of those by MAP, 1 to 256 each. `limits` has the most octets of a unit by MAP, 1 to 65,542, and `others` is the limit of
@@ -242,7 +332,7 @@ class Channel:
 
     # --- Operations ---
 
-    def bring(self, octets: Union[bytes, bytearray, memoryview]) -> Union[Brought, Refused]:
+    def bring(self, octets: Octets) -> Union[Brought, Refused]:
         """Brings octets that arrive, with the frame at their front. Which spacecraft and channel it is for isn't looked at: `read_frame`
         says it."""
         whole = octets if isinstance(octets, bytes) else bytes(octets)

@@ -151,6 +151,33 @@ tcrx_written tcrx_write_frame_at(tcrx_header header, const uint8_t *field, size_
     return answer;
 }
 
+tcrx_written tcrx_write_command_at(uint16_t scid, uint8_t vcid, uint8_t kind, uint8_t number, uint8_t *octets, size_t room) {
+    tcrx_instance *at = tcrx_instance_shared();
+    const tcrx_status done = Z_tcrxZ_module_write_command(&at->module, scid, vcid, kind, number, at->written,
+                                                          least(room, TCRX_MODULE_FRAME));
+    const tcrx_written answer = written_of(at, done, at->written, octets);
+    tcrx_instance_back();
+    return answer;
+}
+
+tcrx_written tcrx_add_fecf_at(const uint8_t *frame, size_t frame_count, uint8_t *octets, size_t room) {
+    tcrx_instance *at = tcrx_instance_shared();
+    const tcrx_status done = Z_tcrxZ_module_add_fecf(&at->module, at->read, put_frame(at, frame, frame_count), at->written,
+                                                     least(room, TCRX_MODULE_FRAME));
+    const tcrx_written answer = written_of(at, done, at->written, octets);
+    tcrx_instance_back();
+    return answer;
+}
+
+tcrx_written tcrx_check_fecf_at(const uint8_t *frame, size_t frame_count, uint8_t *octets, size_t room) {
+    tcrx_instance *at = tcrx_instance_shared();
+    const tcrx_status done = Z_tcrxZ_module_check_fecf(&at->module, at->read, put_frame(at, frame, frame_count), at->written,
+                                                       least(room, TCRX_MODULE_FRAME));
+    const tcrx_written answer = written_of(at, done, at->written, octets);
+    tcrx_instance_back();
+    return answer;
+}
+
 tcrx_reply tcrx_channel_frame_at(tcrx_channel *channel, const uint8_t *octets, size_t count) {
     tcrx_reply answer;
     tcrx_instance *at = begin(channel);
@@ -246,6 +273,13 @@ tcrx_count tcrx_channel_events_at(tcrx_channel *channel) {
 }
 /* This is the end of what tools/c_interface writes. */
 
+/* The five numbers of a record that goes into the module. */
+static void set_numbers(tcrx_instance *at, const uint32_t *numbers) {
+    for (uint32_t i = 0; i < 5; i++) {
+        tcrx_set_number(at, i, numbers[i]);
+    }
+}
+
 /* Octets in the memory of an instance, until they are given back: 0 where it has no room for them. */
 static uint32_t copied(tcrx_instance *at, const uint8_t *octets, uint32_t count) {
     const uint32_t place = (uint32_t)Z_tcrxZ_module_room(&at->module, count);
@@ -253,6 +287,47 @@ static uint32_t copied(tcrx_instance *at, const uint8_t *octets, uint32_t count)
         tcrx_put(at, place, octets, count);
     }
     return place;
+}
+
+/* A unit of more octets than are copied is too long, and so are those that are. */
+tcrx_written tcrx_write_segment_at(tcrx_header header, uint8_t map, uint16_t size, uint32_t place, const uint8_t *unit,
+                                   size_t unit_count, uint8_t *octets, size_t room) {
+    tcrx_written answer = {TCRX_NO_MEMORY, 0};
+    tcrx_instance *at = tcrx_instance_shared();
+    const uint32_t read = least(unit_count, TCRX_MODULE_PACKET + 1), from = copied(at, unit, read);
+    const uint32_t numbers[] = {header.scid, header.vcid, header.ns, header.bypass, header.control};
+    if (from != 0) {
+        set_numbers(at, numbers);
+        const tcrx_status done = Z_tcrxZ_module_write_segment(&at->module, map, size, place, from, read, at->written,
+                                                              least(room, TCRX_MODULE_FRAME));
+        answer = written_of(at, done, at->written, octets);
+        Z_tcrxZ_module_room_back(&at->module, from);
+    }
+    tcrx_instance_back();
+    return answer;
+}
+
+/* A packet data field of more octets than are copied is too long, and so are those that are. */
+tcrx_written tcrx_write_packet_at(tcrx_packet_header header, const uint8_t *field, size_t field_count, uint8_t *octets,
+                                  size_t room) {
+    tcrx_written answer = {TCRX_NO_MEMORY, 0};
+    tcrx_instance *at = tcrx_instance_shared();
+    const uint32_t read = least(field_count, TCRX_MODULE_PACKET), from = copied(at, field, read);
+    const uint32_t most = least(room, TCRX_MODULE_PACKET), to = (uint32_t)Z_tcrxZ_module_room(&at->module, most);
+    const uint32_t numbers[] = {header.apid, header.count, header.telecommand, header.secondary, header.sequence};
+    if (from != 0 && to != 0) {
+        set_numbers(at, numbers);
+        const tcrx_status done = Z_tcrxZ_module_write_packet(&at->module, from, read, to, most);
+        answer = written_of(at, done, to, octets);
+    }
+    if (to != 0) {
+        Z_tcrxZ_module_room_back(&at->module, to);
+    }
+    if (from != 0) {
+        Z_tcrxZ_module_room_back(&at->module, from);
+    }
+    tcrx_instance_back();
+    return answer;
 }
 
 tcrx_packet tcrx_read_packet_at(const uint8_t *octets, size_t count) {
@@ -331,9 +406,7 @@ static bool put_lists(tcrx_instance *at, plan *put) {
 
 static void put_settings(tcrx_instance *at, tcrx_settings settings) {
     const uint32_t numbers[] = {settings.vcid, settings.width, settings.buffer, settings.first_vr, settings.segmented};
-    for (uint32_t i = 0; i < 5; i++) {
-        tcrx_set_number(at, i, numbers[i]);
-    }
+    set_numbers(at, numbers);
 }
 
 static tcrx_count storage(plan *asked) {

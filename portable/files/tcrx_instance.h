@@ -28,8 +28,8 @@
 #define TCRX_MODULE_UNLOCK() ((void)0)
 #endif
 
-/* The most octets of a frame, and of a packet. */
-enum { TCRX_MODULE_FRAME = 1024, TCRX_MODULE_PACKET = 65542 };
+/* The most octets of a frame with one more, which shows that octets follow it; and the most of a packet. */
+enum { TCRX_MODULE_FRAME = 1025, TCRX_MODULE_PACKET = 65542 };
 
 /* Where the areas stand in the memory: for numbers, for a frame that is read and one that is written, and for a packet or a unit. */
 typedef struct {

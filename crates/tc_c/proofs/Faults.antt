@@ -3,11 +3,13 @@ use Rattle.std.proofs.Common.{◌≡◌, Option, Some, None, refl, sym, ap, ◌�
 use Rattle.std.specs.Prelude.{option_map}
 use Rattle.tc_c.specs.declared.status.Status.{Status}
 use Rattle.tc_c.specs.declared.status.Status.TheVariants as st
-use Rattle.tc_c.specs.Status.{frame_status, write_status, settings_status, limits_status}
+use Rattle.tc_c.specs.Status.{frame_status, write_status, field_status, settings_status, limits_status}
 use Rattle.tc_link.specs.declared.frame.FrameFault.{FrameFault}
 use Rattle.tc_link.specs.declared.frame.FrameFault.TheVariants as frames
 use Rattle.tc_link.specs.declared.writing.WriteFault.{WriteFault}
 use Rattle.tc_link.specs.declared.writing.WriteFault.TheVariants as writing
+use Rattle.tc_fecf.specs.declared.frames.FieldFault.{FieldFault}
+use Rattle.tc_fecf.specs.declared.frames.FieldFault.TheVariants as fields
 use Rattle.tc_channel.specs.declared.settings.SettingsFault.{SettingsFault}
 use Rattle.tc_channel.specs.declared.settings.SettingsFault.TheVariants as settings
 use Rattle.tc_fixed.specs.declared.limits.LimitsFault.{LimitsFault}
@@ -49,6 +51,31 @@ write-found writing.NoMemory = refl
 pub write-apart : (one other : WriteFault) → write_status one ≡ write_status other → one ≡ other
 write-apart one other e =
     let same : Some one ≡ Some other = sym (write-found one) ∙ (ap write_of e ∙ write-found other) in
+    cc
+
+abbrev field_of : Status → Option FieldFault
+field_of st.Fill = Some fields.Fill
+field_of st.LongFrame = Some fields.TooLong
+field_of st.NoFecf = Some fields.TooShort
+field_of st.WrongFecf = Some fields.WrongSum
+field_of st.NoMemory = Some fields.NoMemory
+field_of other = option_map fields.NoFrame (frame_of other)
+
+field-found : (fault : FieldFault) → field_of (field_status fault) ≡ Some fault
+field-found (fields.NoFrame frames.Short) = refl
+field-found (fields.NoFrame frames.Version) = refl
+field-found (fields.NoFrame frames.Spare) = refl
+field-found (fields.NoFrame frames.LengthSmall) = refl
+field-found (fields.NoFrame frames.Truncated) = refl
+field-found fields.Fill = refl
+field-found fields.TooLong = refl
+field-found fields.TooShort = refl
+field-found fields.WrongSum = refl
+field-found fields.NoMemory = refl
+
+pub field-apart : (one other : FieldFault) → field_status one ≡ field_status other → one ≡ other
+field-apart one other e =
+    let same : Some one ≡ Some other = sym (field-found one) ∙ (ap field_of e ∙ field-found other) in
     cc
 
 abbrev settings_of : Status → Option SettingsFault

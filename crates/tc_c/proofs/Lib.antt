@@ -3,3 +3,4 @@ mod Places
 mod Records
 mod Farms
 mod Faults
+mod Commands

@@ -5,3 +5,4 @@ pub mod Frame
 pub mod Packet
 pub mod Place
 pub mod Channel
+pub mod Writing

@@ -4,6 +4,8 @@ use Rattle.tc_link.specs.declared.frame.FrameFault.{FrameFault}
 use Rattle.tc_link.specs.declared.frame.FrameFault.TheVariants as frames
 use Rattle.tc_link.specs.declared.writing.WriteFault.{WriteFault}
 use Rattle.tc_link.specs.declared.writing.WriteFault.TheVariants as writing
+use Rattle.tc_fecf.specs.declared.frames.FieldFault.{FieldFault}
+use Rattle.tc_fecf.specs.declared.frames.FieldFault.TheVariants as fields
 use Rattle.tc_channel.specs.declared.settings.SettingsFault.{SettingsFault}
 use Rattle.tc_channel.specs.declared.settings.SettingsFault.TheVariants as settings
 use Rattle.tc_fixed.specs.declared.limits.LimitsFault.{LimitsFault}
@@ -11,9 +13,9 @@ use Rattle.tc_fixed.specs.declared.limits.LimitsFault.TheVariants as limits
 use Rattle.tc_c.specs.declared.status.Status.{Status}
 use Rattle.tc_c.specs.declared.status.Status.TheVariants as st
 
--- each status: its number, and its text in ASCII. 0 is done; from 1 on no frame stands there, from 10 on none is written, from 20 on
--- FARM-1 refuses, from 30 on CLCWs, from 40 on packets, from 50 on buffers and pointers, from 60 on no channel is made of settings,
--- from 70 on one can't be asked, and from 80 on no channel is made with limits
+-- each status: its number, and its text in ASCII. 0 is done; from 1 on no frame stands there, or none with a right frame error
+-- control field, from 10 on nothing is written, from 20 on FARM-1 refuses, from 30 on CLCWs, from 40 on packets, from 50 on buffers and
+-- pointers, from 60 on no channel is made of settings, from 70 on one can't be asked, and from 80 on no channel is made with limits
 abbrev pub entry_of : Status → ℕ × List ℕ
 entry_of st.Done = (0, codes "done")
 entry_of st.Short = (1, codes "fewer than 5 octets")
@@ -21,10 +23,19 @@ entry_of st.Version = (2, codes "the version isn't 0")
 entry_of st.Spare = (3, codes "the spare bits aren't 0")
 entry_of st.LengthSmall = (4, codes "the frame length names fewer than 6 octets")
 entry_of st.Truncated = (5, codes "the frame length names more octets than there are")
+entry_of st.Fill = (6, codes "octets follow the frame")
+entry_of st.NoFecf = (7, codes "the frame has fewer than 8 octets")
+entry_of st.WrongFecf = (8, codes "the frame error control field is wrong")
 entry_of st.BadField = (10, codes "a field of the header is over its bound")
 entry_of st.EmptyData = (11, codes "the data field is empty")
 entry_of st.TooLong = (12, codes "the data field has more than 1,019 octets")
 entry_of st.NoMemory = (13, codes "no memory")
+entry_of st.LongPacket = (14, codes "the packet data field has more than 65,536 octets")
+entry_of st.LongUnit = (15, codes "the unit has more than 65,542 octets")
+entry_of st.LongFrame = (16, codes "the frame has more than 1,022 octets")
+entry_of st.BadSize = (17, codes "a segment isn't for 1 to 1,018 octets")
+entry_of st.NoSegment = (18, codes "the unit has no segment at that place")
+entry_of st.BadCommand = (19, codes "the command is neither Unlock nor Set V(R)")
 entry_of st.BadWidth = (20, codes "the width of the window isn't even and 2 to 254")
 entry_of st.BadState = (21, codes "the state isn't 1 to 3")
 entry_of st.BadFarmB = (22, codes "the FARM-B counter is over 3")
@@ -66,11 +77,12 @@ text_of status = (entry_of status).1
 
 abbrev pub statuses : List Status
 statuses =
-    st.Done ∷ st.Short ∷ st.Version ∷ st.Spare ∷ st.LengthSmall ∷ st.Truncated ∷ st.BadField ∷ st.EmptyData ∷ st.TooLong ∷
-    st.NoMemory ∷ st.BadWidth ∷ st.BadState ∷ st.BadFarmB ∷ st.BadFlag ∷ st.FlagsDisagree ∷ st.BadArrival ∷ st.NoEntry ∷
-    st.BadVcid ∷ st.NoClcw ∷ st.NoPacket ∷ st.NoRoom ∷ st.Null ∷ st.NoStatus ∷ st.BadBuffer ∷ st.BadApid ∷ st.DoubleApid ∷
-    st.BadCapacity ∷ st.BadMap ∷ st.DoubleMap ∷ st.BadUnits ∷ st.PlainMap ∷ st.NoChannel ∷ st.InUse ∷ st.NoQueue ∷ st.NoMap ∷
-    st.Empty ∷ st.BadOthers ∷ st.BadLimitMap ∷ st.DoubleLimit ∷ st.BadLimit ∷ st.PlainLimit ∷ st.UnlistedMap ∷ []
+    st.Done ∷ st.Short ∷ st.Version ∷ st.Spare ∷ st.LengthSmall ∷ st.Truncated ∷ st.Fill ∷ st.NoFecf ∷ st.WrongFecf ∷
+    st.BadField ∷ st.EmptyData ∷ st.TooLong ∷ st.NoMemory ∷ st.LongPacket ∷ st.LongUnit ∷ st.LongFrame ∷ st.BadSize ∷
+    st.NoSegment ∷ st.BadCommand ∷ st.BadWidth ∷ st.BadState ∷ st.BadFarmB ∷ st.BadFlag ∷ st.FlagsDisagree ∷ st.BadArrival ∷
+    st.NoEntry ∷ st.BadVcid ∷ st.NoClcw ∷ st.NoPacket ∷ st.NoRoom ∷ st.Null ∷ st.NoStatus ∷ st.BadBuffer ∷ st.BadApid ∷
+    st.DoubleApid ∷ st.BadCapacity ∷ st.BadMap ∷ st.DoubleMap ∷ st.BadUnits ∷ st.PlainMap ∷ st.NoChannel ∷ st.InUse ∷ st.NoQueue
+    ∷ st.NoMap ∷ st.Empty ∷ st.BadOthers ∷ st.BadLimitMap ∷ st.DoubleLimit ∷ st.BadLimit ∷ st.PlainLimit ∷ st.UnlistedMap ∷ []
 
 -- the first of some that has this number
 abbrev pub with_number : ℕ → List Status → Option Status
@@ -93,6 +105,15 @@ write_status writing.BadField = st.BadField
 write_status writing.EmptyData = st.EmptyData
 write_status writing.TooLong = st.TooLong
 write_status writing.NoMemory = st.NoMemory
+
+-- why a field isn't added, and why none is taken
+abbrev pub field_status : FieldFault → Status
+field_status (fields.NoFrame fault) = frame_status fault
+field_status fields.Fill = st.Fill
+field_status fields.TooLong = st.LongFrame
+field_status fields.TooShort = st.NoFecf
+field_status fields.WrongSum = st.WrongFecf
+field_status fields.NoMemory = st.NoMemory
 
 -- the faults of settings, by their names
 abbrev pub settings_status : SettingsFault → Status

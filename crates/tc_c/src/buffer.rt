@@ -1,6 +1,7 @@
 //! Octets into the caller's buffer.
 
 ghost use Rattle.std.specs.Prelude.{◌≡◌, ◌<◌, ◌≤◌, ◌+◌, ◌∷◌, [], ◌++◌, length, take, drop, IfSome, IfNone};
+ghost use Rattle.tc_c.specs.Channel.{no_octets, taken, too_short};
 ghost use Rattle.tc_c.specs.Status.{code_of, status_of, text_of};
 
 use crate::status::{Status, code, from_number, text};
@@ -14,6 +15,36 @@ pub struct WrittenRecord {
     pub length: usize,
 }
 
+/// The answer of a call that is refused.
+pub(crate) fn not_written(fault: Status) -> WrittenRecord
+    ensures { result ≡ no_octets fault }
+{
+    WrittenRecord {
+        status: code(fault),
+        length: 0,
+    }
+}
+
+/// The answer of a call that wrote so many octets.
+pub(crate) fn written(length: usize) -> WrittenRecord
+    ensures { result ≡ taken length }
+{
+    WrittenRecord {
+        status: code(Status::Done),
+        length,
+    }
+}
+
+/// The answer where a buffer is too short for so many octets.
+pub(crate) fn no_room(needed: usize) -> WrittenRecord
+    ensures { result ≡ too_short needed }
+{
+    WrittenRecord {
+        status: code(Status::NoRoom),
+        length: needed,
+    }
+}
+
 /// Writes two runs of octets to the front of a buffer, one after the other; a shorter buffer stays as it was.
 pub(crate) fn put(first: &[u8], second: &[u8], to: &mut [u8]) -> WrittenRecord
     ensures put { length first.now + length second.now ≤ length to.old → result ≡ record { status = code_of Status.Done; length = length first.now + length second.now } }
@@ -24,19 +55,13 @@ pub(crate) fn put(first: &[u8], second: &[u8], to: &mut [u8]) -> WrittenRecord
 {
     let needed = first.len() + second.len();
     if to.len() < needed {
-        return WrittenRecord {
-            status: code(Status::NoRoom),
-            length: needed,
-        };
+        return no_room(needed);
     }
     let (front, rest) = to.split_at_mut(first.len());
     front.copy_from_slice(first);
     let (middle, _) = rest.split_at_mut(second.len());
     middle.copy_from_slice(second);
-    WrittenRecord {
-        status: code(Status::Done),
-        length: needed,
-    }
+    written(needed)
 }
 
 /// Writes the text of a status to the front of a buffer, in ASCII, with an octet 0 after it.
@@ -53,9 +78,6 @@ pub extern "C" fn tcrx_text_at(number: u32, buffer: &mut [u8]) -> WrittenRecord
 {
     match from_number(number) {
         Some(status) => put(text(status), &[0], buffer),
-        None => WrittenRecord {
-            status: code(Status::NoStatus),
-            length: 0,
-        },
+        None => not_written(Status::NoStatus),
     }
 }

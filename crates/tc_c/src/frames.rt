@@ -6,7 +6,7 @@ ghost use Rattle.tc_link.specs.Command.{kind_of};
 ghost use Rattle.tc_c.specs.Status.{code_of, frame_status};
 ghost use Rattle.tc_c.specs.Frame.{header_record, frame_record, no_frame, kind_record, no_kind, header_in, header_to_write};
 
-use crate::buffer::{WrittenRecord, put};
+use crate::buffer::{WrittenRecord, not_written, put};
 use crate::farm::flag;
 use crate::status::{Status, code, frame_fault, write_fault};
 use tc_link::{Command, Header, Kind, kind, read_frame, written_header};
@@ -143,10 +143,7 @@ pub extern "C" fn tcrx_write_frame_at(
 {
     match front(header, field) {
         Ok(front) => put(&front, field, octets),
-        Err(fault) => WrittenRecord {
-            status: code(fault),
-            length: 0,
-        },
+        Err(fault) => not_written(fault),
     }
 }
 
@@ -163,7 +160,7 @@ fn front(header: HeaderRecord, field: &[u8]) -> Result<[u8; 5], Status>
     }
 }
 
-fn read_header(header: HeaderRecord) -> Result<Header, Status>
+pub(crate) fn read_header(header: HeaderRecord) -> Result<Header, Status>
     ensures { result ≡ header_in header }
 {
     Ok(Header {

@@ -7,7 +7,12 @@ ghost use Rattle.tc_link.specs.declared.farm.Arrival.{Arrival};
 ghost use Rattle.tc_link.specs.declared.farm.Arrival.TheVariants.{Frame};
 ghost use Rattle.tc_link.specs.declared.frame.FrameFault.{FrameFault};
 ghost use Rattle.tc_link.specs.declared.writing.WriteFault.{WriteFault};
+ghost use Rattle.tc_link.specs.declared.frame.Header.{Header};
 ghost use Rattle.tc_link.specs.Farm.{Machine, row_of, entry};
+ghost use Rattle.tc_link.specs.Frame.{IsFrame};
+ghost use Rattle.tc_fecf.specs.declared.frames.FieldFault.{FieldFault};
+ghost use Rattle.tc_write.specs.declared.packets.PacketHeader.{PacketHeader};
+ghost use Rattle.tc_write.specs.Packets.{IsPacketOf};
 ghost use Rattle.tc_channel.specs.declared.settings.Settings.{Settings};
 ghost use Rattle.tc_channel.specs.declared.settings.SettingsFault.{SettingsFault};
 ghost use Rattle.tc_channel.specs.declared.event.Event.{Event};
@@ -17,9 +22,10 @@ ghost use Rattle.tc_fixed.specs.declared.limits.LimitsFault.{LimitsFault};
 ghost use Rattle.tc_c.specs.declared.farm.FarmRecord.{FarmRecord};
 ghost use Rattle.tc_c.specs.declared.status.Status.{Status};
 ghost use Rattle.tc_c.specs.declared.status.Status.TheVariants as st;
-ghost use Rattle.tc_c.specs.Status.{code_of, status_of, text_of, frame_status, write_status, settings_status, limits_status};
+ghost use Rattle.tc_c.specs.Status.{code_of, status_of, text_of, frame_status, write_status, field_status, settings_status, limits_status};
 ghost use Rattle.tc_c.specs.Farm.{IsFarm, first_farm, record_of, farm_of, arrival_of, left};
-ghost use Rattle.tc_c.specs.Frame.{kind_number, kind_value};
+ghost use Rattle.tc_c.specs.Frame.{kind_number, kind_value, header_record, frame_record};
+ghost use Rattle.tc_c.specs.Packet.{packet_record, written_packet};
 
 /// Each FARM-1 is read from its record, and a record from which one is read is that one's.
 pub fn a_record_reads_back()
@@ -52,19 +58,21 @@ pub fn each_status_has_a_number()
     ensures { (st : Status) → status_of (code_of st) ≡ Some st }
 {}
 
-/// No two faults have one status: those of octets with which no frame begins, of frames that aren't written, of settings, and of
-/// settings with limits.
+/// No two faults have one status: those of octets with which no frame begins, of frames that aren't written, of frame error control
+/// fields, of settings, and of settings with limits.
 pub fn each_fault_has_a_status_of_its_own()
     ensures frames { (one other : FrameFault) → frame_status one ≡ frame_status other → one ≡ other }
     ensures writing { (one other : WriteFault) → write_status one ≡ write_status other → one ≡ other }
+    ensures fields { (one other : FieldFault) → field_status one ≡ field_status other → one ≡ other }
     ensures settings { (one other : SettingsFault) → settings_status one ≡ settings_status other → one ≡ other }
     ensures limits { (one other : LimitsFault) → limits_status one ≡ limits_status other → one ≡ other }
 {}
 
-/// The numbers are those of `c/tcrx.h`, in its order: those of frames that are read and written; of FARM-1, CLCWs, packets and buffers; and
+/// The numbers are those of `c/tcrx.h`, in its order: those of frames that are read; of what is written; of FARM-1, CLCWs, packets and buffers; and
 /// of channels, their settings and their limits.
 pub fn statuses_have_these_numbers()
-    ensures frames { map code_of (st.Done ∷ st.Short ∷ st.Version ∷ st.Spare ∷ st.LengthSmall ∷ st.Truncated ∷ st.BadField ∷ st.EmptyData ∷ st.TooLong ∷ st.NoMemory ∷ []) ≡ 0 ∷ 1 ∷ 2 ∷ 3 ∷ 4 ∷ 5 ∷ 10 ∷ 11 ∷ 12 ∷ 13 ∷ [] }
+    ensures frames { map code_of (st.Done ∷ st.Short ∷ st.Version ∷ st.Spare ∷ st.LengthSmall ∷ st.Truncated ∷ st.Fill ∷ st.NoFecf ∷ st.WrongFecf ∷ []) ≡ 0 ∷ 1 ∷ 2 ∷ 3 ∷ 4 ∷ 5 ∷ 6 ∷ 7 ∷ 8 ∷ [] }
+    ensures writing { map code_of (st.BadField ∷ st.EmptyData ∷ st.TooLong ∷ st.NoMemory ∷ st.LongPacket ∷ st.LongUnit ∷ st.LongFrame ∷ st.BadSize ∷ st.NoSegment ∷ st.BadCommand ∷ []) ≡ 10 ∷ 11 ∷ 12 ∷ 13 ∷ 14 ∷ 15 ∷ 16 ∷ 17 ∷ 18 ∷ 19 ∷ [] }
     ensures parts { map code_of (st.BadWidth ∷ st.BadState ∷ st.BadFarmB ∷ st.BadFlag ∷ st.FlagsDisagree ∷ st.BadArrival ∷ st.NoEntry ∷ st.BadVcid ∷ st.NoClcw ∷ st.NoPacket ∷ st.NoRoom ∷ st.Null ∷ st.NoStatus ∷ []) ≡ 20 ∷ 21 ∷ 22 ∷ 23 ∷ 24 ∷ 25 ∷ 26 ∷ 30 ∷ 31 ∷ 40 ∷ 50 ∷ 51 ∷ 52 ∷ [] }
     ensures settings { map code_of (st.BadBuffer ∷ st.BadApid ∷ st.DoubleApid ∷ st.BadCapacity ∷ st.BadMap ∷ st.DoubleMap ∷ st.BadUnits ∷ st.PlainMap ∷ []) ≡ 60 ∷ 61 ∷ 62 ∷ 63 ∷ 64 ∷ 65 ∷ 66 ∷ 67 ∷ [] }
     ensures channels { map code_of (st.NoChannel ∷ st.InUse ∷ st.NoQueue ∷ st.NoMap ∷ st.Empty ∷ []) ≡ 70 ∷ 71 ∷ 72 ∷ 73 ∷ 74 ∷ [] }
@@ -76,6 +84,13 @@ pub fn statuses_have_these_numbers()
 pub fn no_farm_waits_without_retransmit()
     ensures wait { farm_of (record { width = 10; state = 2; vr = 0; farm_b = 0; lockout = 0; wait = 1; retransmit = 0 }) ≡ Err st.FlagsDisagree }
     ensures lockout { farm_of (record { width = 10; state = 3; vr = 0; farm_b = 0; lockout = 1; wait = 1; retransmit = 0 }) ≡ Err st.FlagsDisagree }
+{}
+
+/// A frame and a packet that were written read back with the header that they were written with.
+pub fn what_was_written_reads_back()
+    ensures frame { (frame field : List ℕ) (header : Header) → IsFrame frame header field
+        → frame_record frame ≡ record { status = code_of Status.Done; header = header_record header; length = length frame } }
+    ensures packet { (packet field : List ℕ) (header : PacketHeader) → IsPacketOf packet header field → packet_record packet ≡ written_packet (length packet) header }
 {}
 
 /// Each text fits 64 octets with the octet 0 after it.

@@ -20,6 +20,7 @@ mod settings;
 mod status;
 mod storage;
 mod takes;
+mod writing;
 
 pub use buffer::{WrittenRecord, tcrx_text_at};
 pub use channel::{
@@ -39,6 +40,7 @@ pub use laws::{
     a_record_reads_back, a_step_leaves_a_farm, each_channel_has_a_farm,
     each_fault_has_a_status_of_its_own, each_kind_comes_to_farm_1, each_status_has_a_number,
     each_text_fits_64_octets, no_farm_waits_without_retransmit, statuses_have_these_numbers,
+    what_was_written_reads_back,
 };
 pub use packets::{PacketRecord, tcrx_read_packet_at};
 pub use place::Place;
@@ -47,3 +49,7 @@ pub use settings::{SettingsRecord, tcrx_channel_new_at, tcrx_channel_new_with_li
 pub use status::Status;
 pub use storage::{tcrx_storage_at, tcrx_storage_with_limits_at};
 pub use takes::{tcrx_channel_take_at, tcrx_channel_take_unit_at};
+pub use writing::{
+    PacketHeaderRecord, tcrx_add_fecf_at, tcrx_check_fecf_at, tcrx_write_command_at,
+    tcrx_write_packet_at, tcrx_write_segment_at,
+};

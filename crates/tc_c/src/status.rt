@@ -1,9 +1,10 @@
 //! What a call came to.
 
 ghost use Rattle.std.specs.Prelude.{◌≡◌, ◌<◌};
-ghost use Rattle.tc_c.specs.Status.{code_of, status_of, text_of, frame_status, write_status, settings_status, limits_status};
+ghost use Rattle.tc_c.specs.Status.{code_of, status_of, text_of, frame_status, write_status, field_status, settings_status, limits_status};
 
 use tc_channel::SettingsFault;
+use tc_fecf::FieldFault;
 use tc_fixed::LimitsFault;
 use tc_link::{FrameFault, WriteFault};
 
@@ -18,10 +19,19 @@ pub enum Status {
     Spare,
     LengthSmall,
     Truncated,
+    Fill,
+    NoFecf,
+    WrongFecf,
     BadField,
     EmptyData,
     TooLong,
     NoMemory,
+    LongPacket,
+    LongUnit,
+    LongFrame,
+    BadSize,
+    NoSegment,
+    BadCommand,
     BadWidth,
     BadState,
     BadFarmB,
@@ -67,10 +77,19 @@ macro_rules! each_status {
             Spare 3 b"the spare bits aren't 0",
             LengthSmall 4 b"the frame length names fewer than 6 octets",
             Truncated 5 b"the frame length names more octets than there are",
+            Fill 6 b"octets follow the frame",
+            NoFecf 7 b"the frame has fewer than 8 octets",
+            WrongFecf 8 b"the frame error control field is wrong",
             BadField 10 b"a field of the header is over its bound",
             EmptyData 11 b"the data field is empty",
             TooLong 12 b"the data field has more than 1,019 octets",
             NoMemory 13 b"no memory",
+            LongPacket 14 b"the packet data field has more than 65,536 octets",
+            LongUnit 15 b"the unit has more than 65,542 octets",
+            LongFrame 16 b"the frame has more than 1,022 octets",
+            BadSize 17 b"a segment isn't for 1 to 1,018 octets",
+            NoSegment 18 b"the unit has no segment at that place",
+            BadCommand 19 b"the command is neither Unlock nor Set V(R)",
             BadWidth 20 b"the width of the window isn't even and 2 to 254",
             BadState 21 b"the state isn't 1 to 3",
             BadFarmB 22 b"the FARM-B counter is over 3",
@@ -176,6 +195,20 @@ pub(crate) fn write_fault(fault: WriteFault) -> Status
         WriteFault::EmptyData => Status::EmptyData,
         WriteFault::TooLong => Status::TooLong,
         WriteFault::NoMemory => Status::NoMemory,
+    }
+}
+
+/// The status of octets which get no frame error control field, or from which none is taken.
+pub(crate) fn field_fault(fault: FieldFault) -> Status
+    ensures { result ≡ field_status fault }
+{
+    match fault {
+        FieldFault::NoFrame(fault) => frame_fault(fault),
+        FieldFault::Fill => Status::Fill,
+        FieldFault::TooLong => Status::LongFrame,
+        FieldFault::TooShort => Status::NoFecf,
+        FieldFault::WrongSum => Status::WrongFecf,
+        FieldFault::NoMemory => Status::NoMemory,
     }
 }
 

@@ -7,28 +7,10 @@ ghost use Rattle.tc_fixed.specs.History.{with_event};
 ghost use Rattle.tc_fixed.specs.Limits.{limit_of};
 ghost use Rattle.tc_c.specs.Channel.{no_octets, too_short, taken, IsCopied};
 
-use crate::buffer::WrittenRecord;
+use crate::buffer::{WrittenRecord, not_written, written};
 use crate::seat::Seat;
 use crate::status::{Status, code};
 use tc_fixed::{FixedChannel, NoUnitTaken, NothingTaken};
-
-fn not_written(fault: Status) -> WrittenRecord
-    ensures { result ≡ no_octets fault }
-{
-    WrittenRecord {
-        status: code(fault),
-        length: 0,
-    }
-}
-
-fn written(length: usize) -> WrittenRecord
-    ensures { result ≡ taken length }
-{
-    WrittenRecord {
-        status: code(Status::Done),
-        length,
-    }
-}
 
 // The answer where there is no room for an item of so many octets.
 fn no_room(needed: Option<usize>) -> WrittenRecord

@@ -64,14 +64,32 @@ numbers! {
     LENGTH_SMALL: Status = 4;
     /// No frame: a frame length of more octets than there are.
     TRUNCATED: Status = 5;
-    /// No frame is written: a spacecraft id over 1,023 or a virtual channel id over 63.
+    /// No frame alone: octets follow it.
+    FILL: Status = 6;
+    /// No frame error control field: a frame of fewer than 8 octets.
+    NO_FECF: Status = 7;
+    /// The frame error control field is wrong.
+    WRONG_FECF: Status = 8;
+    /// Nothing is written: a field of the header is over its bound.
     BAD_FIELD: Status = 10;
-    /// No frame is written: an empty data field.
+    /// Nothing is written: a data field or a unit is empty.
     EMPTY_DATA: Status = 11;
     /// No frame is written: a data field of more than 1,019 octets.
     TOO_LONG: Status = 12;
     /// Out of memory: no channel is made.
     NO_MEMORY: Status = 13;
+    /// No packet is written: a packet data field of more than 65,536 octets.
+    LONG_PACKET: Status = 14;
+    /// No segment is written: a unit of more than 65,542 octets.
+    LONG_UNIT: Status = 15;
+    /// No frame error control field is added: a frame of more than 1,022 octets.
+    LONG_FRAME: Status = 16;
+    /// No segment is written: segments that aren't for 1 to 1,018 octets.
+    BAD_SIZE: Status = 17;
+    /// No segment is written: the unit has none at that place.
+    NO_SEGMENT: Status = 18;
+    /// No command is written: the kind is neither `TCRX_UNLOCK` nor `TCRX_SET_VR`.
+    BAD_COMMAND: Status = 19;
     /// The width of the window isn't even and 2 to 254.
     BAD_WIDTH: Status = 20;
     /// The state isn't 1 to 3.
@@ -106,7 +124,7 @@ numbers! {
     DOUBLE_APID: Status = 62;
     /// Settings: the capacity of a packet queue isn't 1 to 256.
     BAD_CAPACITY: Status = 63;
-    /// Settings: a MAP is over 63.
+    /// Settings, or a segment: a MAP is over 63.
     BAD_MAP: Status = 64;
     /// Settings: a MAP is chosen twice.
     DOUBLE_MAP: Status = 65;
@@ -272,6 +290,19 @@ records! {
         /// The sequence flags, at most 3.
         sequence: u8,
     }
+    /// The primary header of a packet, apart from the version and the length.
+    PacketHeader as "tcrx_packet_header" {
+        /// The APID, at most 2,047, which marks idle packets.
+        apid: u16,
+        /// The sequence count or the name, at most 16,383.
+        count: u16,
+        /// The packet type: 1 for telecommand, 0 for telemetry.
+        telecommand: u8,
+        /// The secondary header flag.
+        secondary: u8,
+        /// The sequence flags, at most 3; of an unsegmented packet 3.
+        sequence: u8,
+    }
     /// What was written into a buffer.
     Written as "tcrx_written" {
         /// `TCRX_DONE`, or why not.
@@ -386,6 +417,48 @@ extern "C" {
     /// Answer: the length of the frame. Refused by `TCRX_BAD_FLAG`, `TCRX_BAD_FIELD`, `TCRX_EMPTY_DATA`, `TCRX_TOO_LONG`,
     /// `TCRX_NO_ROOM`.
     pub fn tcrx_write_frame_at(header: Header, field: *const u8, field_count: usize, octets: *mut u8, room: usize) -> Written;
+    /// Writes the frame that carries the segment at a place of a unit to the front of a buffer. Ask for place 0, 1, 2 and so on
+    /// until `TCRX_NO_SEGMENT`; the N(S) of Type-AD frames counts up modulo 256. A unit of no more than `size` octets is one
+    /// unsegmented segment.
+    ///
+    /// Answer: the length of the frame, 6 more than the segment carries. Refused by `TCRX_BAD_FLAG`, `TCRX_BAD_FIELD`,
+    /// `TCRX_BAD_MAP`, `TCRX_BAD_SIZE`, `TCRX_EMPTY_DATA`, `TCRX_LONG_UNIT`, `TCRX_NO_SEGMENT`, `TCRX_NO_ROOM`.
+    pub fn tcrx_write_segment_at(
+        header: Header,
+        map: u8,
+        size: u16,
+        place: u32,
+        unit: *const u8,
+        unit_count: usize,
+        octets: *mut u8,
+        room: usize,
+    ) -> Written;
+    /// Writes the Type-BC frame with a control command to the front of a buffer. Its N(S) is 0.
+    ///
+    /// Answer: the length of the frame, 6 or 8. Refused by `TCRX_BAD_FIELD`, `TCRX_BAD_COMMAND`, `TCRX_NO_ROOM`.
+    pub fn tcrx_write_command_at(scid: u16, vcid: u8, kind: u8, number: u8, octets: *mut u8, room: usize) -> Written;
+    /// Writes a frame with its frame error control field to the front of a buffer. It has two octets more, which its length counts.
+    ///
+    /// Answer: the length of the frame with the field. Refused by `TCRX_SHORT` to `TCRX_TRUNCATED`, `TCRX_FILL`, `TCRX_LONG_FRAME`,
+    /// `TCRX_NO_ROOM`.
+    pub fn tcrx_add_fecf_at(frame: *const u8, frame_count: usize, octets: *mut u8, room: usize) -> Written;
+    /// Checks the frame error control field with which a frame ends, and writes the frame without it to the front of a buffer: the
+    /// one that `tcrx_add_fecf` makes these octets of. Give that to `tcrx_channel_frame`.
+    ///
+    /// Answer: the length of the frame without the field. Refused by `TCRX_SHORT` to `TCRX_TRUNCATED`, `TCRX_FILL`, `TCRX_NO_FECF`,
+    /// `TCRX_WRONG_FECF`, `TCRX_NO_ROOM`.
+    pub fn tcrx_check_fecf_at(frame: *const u8, frame_count: usize, octets: *mut u8, room: usize) -> Written;
+    /// Writes a packet to the front of a buffer: its primary header, and its packet data field of 1 to 65,536 octets.
+    ///
+    /// Answer: the length of the packet. Refused by `TCRX_BAD_FLAG`, `TCRX_BAD_FIELD`, `TCRX_EMPTY_DATA`, `TCRX_LONG_PACKET`,
+    /// `TCRX_NO_ROOM`.
+    pub fn tcrx_write_packet_at(
+        header: PacketHeader,
+        field: *const u8,
+        field_count: usize,
+        octets: *mut u8,
+        room: usize,
+    ) -> Written;
     /// Answer: the primary header and the length of the packet at the front of octets. The secondary header, the sequence flags and
     /// the sequence count may have any value. Refused by `TCRX_NO_PACKET`.
     pub fn tcrx_read_packet_at(octets: *const u8, count: usize) -> Packet;

@@ -79,16 +79,50 @@ refusals! {
 }
 
 refusals! {
-    /// Why no frame is written.
+    /// Why nothing is written.
     WriteError {
-        /// No frame is written: a spacecraft id over 1,023 or a virtual channel id over 63.
+        /// Nothing is written: a field of the header is over its bound.
         BadField = BAD_FIELD,
-        /// No frame is written: an empty data field.
+        /// Nothing is written: a data field or a unit is empty.
         EmptyData = EMPTY_DATA,
         /// No frame is written: a data field of more than 1,019 octets.
         TooLong = TOO_LONG,
         /// The buffer is too short.
         NoRoom { needed } = NO_ROOM,
+        /// Settings, or a segment: a MAP is over 63.
+        BadMap = BAD_MAP,
+        /// No segment is written: segments that aren't for 1 to 1,018 octets.
+        BadSize = BAD_SIZE,
+        /// No segment is written: a unit of more than 65,542 octets.
+        LongUnit = LONG_UNIT,
+        /// No packet is written: a packet data field of more than 65,536 octets.
+        LongPacket = LONG_PACKET,
+    }
+}
+
+refusals! {
+    /// Why no frame error control field is added, or none is taken off.
+    FecfError {
+        /// No frame: fewer than 5 octets.
+        Short = SHORT,
+        /// No frame: version bits that aren't 0.
+        BadVersion = BAD_VERSION,
+        /// No frame: spare bits that aren't 0.
+        Spare = SPARE,
+        /// No frame: a frame length of fewer than 6 octets.
+        LengthSmall = LENGTH_SMALL,
+        /// No frame: a frame length of more octets than there are.
+        Truncated = TRUNCATED,
+        /// No frame alone: octets follow it.
+        Fill = FILL,
+        /// No frame error control field is added: a frame of more than 1,022 octets.
+        LongFrame = LONG_FRAME,
+        /// The buffer is too short.
+        NoRoom { needed } = NO_ROOM,
+        /// No frame error control field: a frame of fewer than 8 octets.
+        NoFecf = NO_FECF,
+        /// The frame error control field is wrong.
+        WrongFecf = WRONG_FECF,
     }
 }
 
@@ -123,7 +157,7 @@ refusals! {
         DoubleApid = DOUBLE_APID,
         /// Settings: the capacity of a packet queue isn't 1 to 256.
         BadCapacity = BAD_CAPACITY,
-        /// Settings: a MAP is over 63.
+        /// Settings, or a segment: a MAP is over 63.
         BadMap = BAD_MAP,
         /// Settings: a MAP is chosen twice.
         DoubleMap = DOUBLE_MAP,

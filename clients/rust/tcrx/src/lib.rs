@@ -32,6 +32,8 @@ mod errors;
 mod link;
 
 pub use channel::{Brought, Channel, Delivery, Limits, Link, Settings};
-pub use errors::{BringError, FarmError, FrameError, ReleaseError, SettingsError, TakeError, WriteError};
-pub use link::{Arrival, Clcw, Event, Farm, Frame, Header, Kind, Packet, State, Step};
+pub use errors::{BringError, FarmError, FecfError, FrameError, ReleaseError, SettingsError, TakeError, WriteError};
+pub use link::{
+    add_fecf, check_fecf, Arrival, Clcw, Command, Event, Farm, Frame, Header, Kind, Packet, PacketHeader, Segments, State, Step,
+};
 pub use tcrx_sys::{Limit, Map, Queue};

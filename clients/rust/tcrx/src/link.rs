@@ -1,6 +1,6 @@
 //! Single calls, which keep no state and ask for no memory: frames, packets, CLCWs and FARM-1.
 
-use crate::errors::{FarmError, FrameError, WriteError};
+use crate::errors::{FarmError, FecfError, FrameError, WriteError};
 use core::fmt;
 use tcrx_sys as sys;
 
@@ -19,17 +19,90 @@ pub struct Header {
     pub control: bool,
 }
 
+/// What was written to the front of `room`.
+fn written(answer: sys::Written, room: &[u8]) -> Result<&[u8], WriteError> {
+    match answer.status {
+        sys::DONE => Ok(&room[..answer.length]),
+        status => Err(WriteError::of(status, answer.length)),
+    }
+}
+
 impl Header {
+    fn record(&self) -> sys::Header {
+        sys::Header { scid: self.scid, vcid: self.vcid, ns: self.ns, bypass: self.bypass.into(), control: self.control.into() }
+    }
+
     /// Writes a frame of this header and a data field of 1 to 1,019 octets to the front of `room`; the answer is the frame, there.
     pub fn write<'room>(&self, field: &[u8], room: &'room mut [u8]) -> Result<&'room [u8], WriteError> {
-        let header =
-            sys::Header { scid: self.scid, vcid: self.vcid, ns: self.ns, bypass: self.bypass.into(), control: self.control.into() };
         // SAFETY: both pointers are to as many octets as the counts say, and only one of them is written to.
-        let written = unsafe { sys::tcrx_write_frame_at(header, field.as_ptr(), field.len(), room.as_mut_ptr(), room.len()) };
-        match written.status {
-            sys::DONE => Ok(&room[..written.length]),
-            status => Err(WriteError::of(status, written.length)),
+        let answer = unsafe { sys::tcrx_write_frame_at(self.record(), field.as_ptr(), field.len(), room.as_mut_ptr(), room.len()) };
+        written(answer, room)
+    }
+}
+
+/// How a unit is sent in segments.
+#[derive(Clone, Copy, Debug, PartialEq, Eq, Hash)]
+pub struct Segments {
+    /// The header of the first frame; the N(S) of Type-AD frames counts up.
+    pub header: Header,
+    /// The MAP, at most 63.
+    pub map: u8,
+    /// How many octets of the unit a segment carries, 1 to 1,018; the last one carries what is left.
+    pub size: u16,
+}
+
+impl Segments {
+    /// Writes the frame that carries the segment at a place of a unit, from 0 on, to the front of `room`; none behind the last one.
+    pub fn write<'room>(&self, place: u32, unit: &[u8], room: &'room mut [u8]) -> Result<Option<&'room [u8]>, WriteError> {
+        let (header, from, to) = (self.header.record(), unit.as_ptr(), room.as_mut_ptr());
+        // SAFETY: both pointers are to as many octets as the counts say, and only one of them is written to.
+        let answer = unsafe { sys::tcrx_write_segment_at(header, self.map, self.size, place, from, unit.len(), to, room.len()) };
+        if answer.status == sys::NO_SEGMENT {
+            return Ok(None);
         }
+        written(answer, room).map(Some)
+    }
+}
+
+/// A control command.
+#[derive(Clone, Copy, Debug, PartialEq, Eq, Hash)]
+pub enum Command {
+    /// Unlock.
+    Unlock,
+    /// Set V(R), to this number.
+    SetVr(u8),
+}
+
+impl Command {
+    /// Writes the Type-BC frame with this command to the front of `room`; the answer is the frame, there.
+    pub fn write(self, scid: u16, vcid: u8, room: &mut [u8]) -> Result<&[u8], WriteError> {
+        let (kind, number) = match self {
+            Command::Unlock => (sys::UNLOCK, 0),
+            Command::SetVr(vr) => (sys::SET_VR, vr),
+        };
+        // SAFETY: the pointer is to as many octets as the room has.
+        let answer = unsafe { sys::tcrx_write_command_at(scid, vcid, kind, number, room.as_mut_ptr(), room.len()) };
+        written(answer, room)
+    }
+}
+
+/// Writes a frame, which is to stand alone, with its frame error control field to the front of `room`: two octets more.
+pub fn add_fecf<'room>(frame: &[u8], room: &'room mut [u8]) -> Result<&'room [u8], FecfError> {
+    // SAFETY: both pointers are to as many octets as the counts say, and only one of them is written to.
+    let answer = unsafe { sys::tcrx_add_fecf_at(frame.as_ptr(), frame.len(), room.as_mut_ptr(), room.len()) };
+    match answer.status {
+        sys::DONE => Ok(&room[..answer.length]),
+        status => Err(FecfError::of(status, answer.length)),
+    }
+}
+
+/// Checks the frame error control field of a frame, which is to stand alone, and writes the frame without it to the front of `room`.
+pub fn check_fecf<'room>(frame: &[u8], room: &'room mut [u8]) -> Result<&'room [u8], FecfError> {
+    // SAFETY: both pointers are to as many octets as the counts say, and only one of them is written to.
+    let answer = unsafe { sys::tcrx_check_fecf_at(frame.as_ptr(), frame.len(), room.as_mut_ptr(), room.len()) };
+    match answer.status {
+        sys::DONE => Ok(&room[..answer.length]),
+        status => Err(FecfError::of(status, answer.length)),
     }
 }
 
@@ -110,6 +183,28 @@ impl<'octets> Frame<'octets> {
     }
 }
 
+/// The primary header of a packet, apart from the packet length.
+#[derive(Clone, Copy, Debug, PartialEq, Eq, Hash)]
+pub struct PacketHeader {
+    /// The application process id, at most 2,047.
+    pub apid: u16,
+    /// The sequence count or the name, at most 16,383.
+    pub count: u16,
+    /// Telecommand, not telemetry.
+    pub telecommand: bool,
+    /// The secondary header flag.
+    pub secondary: bool,
+    /// The sequence flags, at most 3.
+    pub sequence: u8,
+}
+
+impl PacketHeader {
+    /// That of a telecommand packet without a secondary header, unsegmented.
+    pub fn telecommand(apid: u16, count: u16) -> Self {
+        PacketHeader { apid, count, telecommand: true, secondary: false, sequence: 3 }
+    }
+}
+
 /// The packet at the front of octets.
 #[derive(Clone, Copy, Debug, PartialEq, Eq, Hash)]
 pub struct Packet<'octets> {
@@ -140,6 +235,21 @@ impl<'octets> Packet<'octets> {
             sequence: packet.sequence,
             octets: &octets[..packet.length as usize],
         })
+    }
+
+    /// Writes a packet of this header and a packet data field of 1 to 65,536 octets to the front of `room`; the answer is the packet,
+    /// there.
+    pub fn write<'room>(header: &PacketHeader, field: &[u8], room: &'room mut [u8]) -> Result<&'room [u8], WriteError> {
+        let header = sys::PacketHeader {
+            apid: header.apid,
+            count: header.count,
+            telecommand: header.telecommand.into(),
+            secondary: header.secondary.into(),
+            sequence: header.sequence,
+        };
+        // SAFETY: both pointers are to as many octets as the counts say, and only one of them is written to.
+        let answer = unsafe { sys::tcrx_write_packet_at(header, field.as_ptr(), field.len(), room.as_mut_ptr(), room.len()) };
+        written(answer, room)
     }
 }
 

@@ -4,8 +4,8 @@
 use std::error::Error;
 use std::thread;
 use tcrx::{
-    Arrival, Channel, Clcw, Delivery, Event, Farm, FarmError, Frame, Header, Kind, Limit, Limits, Link, Map, Packet, Queue,
-    ReleaseError, Settings, SettingsError, State, TakeError, WriteError,
+    add_fecf, check_fecf, Arrival, Channel, Clcw, Command, Delivery, Event, Farm, FarmError, FecfError, Frame, Header, Kind, Limit,
+    Limits, Link, Map, Packet, PacketHeader, Queue, ReleaseError, Segments, Settings, SettingsError, State, TakeError, WriteError,
 };
 
 const PACKET: [u8; 7] = [0x10, 0x05, 0xc0, 0x00, 0x00, 0x00, 0xaa];
@@ -225,6 +225,37 @@ fn clcws_field_by_field() {
     }
 }
 
+/// As in c/checks/fields.h: segments of a unit, commands, and a frame with its field; then one of each making that is refused.
+#[test]
+fn what_is_made() -> Result<(), Box<dyn Error>> {
+    let (unit, mut room) = ([1, 2, 3, 4, 5, 6, 7], [0; 16]);
+    let header = |ns, bypass| Header { scid: 675, vcid: 37, ns, bypass, control: false };
+    let three = Segments { header: header(255, false), map: 37, size: 3 };
+    let segments: [&[u8]; 3] = [
+        &[0x02, 0xa3, 0x94, 0x08, 0xff, 0x65, 1, 2, 3],
+        &[0x02, 0xa3, 0x94, 0x08, 0x00, 0x25, 4, 5, 6],
+        &[0x02, 0xa3, 0x94, 0x06, 0x01, 0xa5, 7],
+    ];
+    for (place, segment) in (0..).zip(segments) {
+        assert_eq!(three.write(place, &unit, &mut room), Ok(Some(segment)));
+    }
+    assert_eq!(three.write(3, &unit, &mut room), Ok(None));
+    let whole = Segments { header: header(200, true), size: 1018, ..three };
+    assert_eq!(whole.write(0, &unit, &mut room)?, Some(&[0x22, 0xa3, 0x94, 0x0c, 0xc8, 0xe5, 1, 2, 3, 4, 5, 6, 7][..]));
+    assert_eq!(Command::Unlock.write(675, 12, &mut room)?, [0x32, 0xa3, 0x30, 0x05, 0x00, 0x00]);
+    assert_eq!(Command::SetVr(9).write(675, 12, &mut room)?, [0x32, 0xa3, 0x30, 0x07, 0x00, 0x82, 0x00, 0x09]);
+    let plain = [0x22, 0xa3, 0x94, 0x07, 0xc8, 0xc0, 0xaa, 0xbb];
+    let ended = [0x22, 0xa3, 0x94, 0x09, 0xc8, 0xc0, 0xaa, 0xbb, 0x4c, 0x91];
+    assert_eq!(add_fecf(&plain, &mut room)?, ended);
+    assert_eq!(check_fecf(&ended, &mut room)?, plain);
+    assert_eq!(three.write(0, &[], &mut room), Err(WriteError::EmptyData));
+    assert_eq!(Command::Unlock.write(675, 12, &mut [0; 5]), Err(WriteError::NoRoom { needed: 6 }));
+    assert_eq!(Packet::write(&PacketHeader::telecommand(2048, 0), &[0], &mut room), Err(WriteError::BadField));
+    assert_eq!(add_fecf(&plain, &mut []), Err(FecfError::NoRoom { needed: 10 }));
+    assert_eq!(check_fecf(&plain, &mut room), Err(FecfError::WrongFecf));
+    Ok(())
+}
+
 /// With each value of the sequence flags. An octet of fill follows each packet.
 #[test]
 fn packets_field_by_field() {
@@ -239,6 +270,9 @@ fn packets_field_by_field() {
     for (length, row) in rows {
         let octets = octets_of(row.octets, length + 1);
         assert_eq!(Packet::read(&octets), Some(Packet { octets: &octets[..length], ..row }));
+        let Packet { apid, count, telecommand, secondary, sequence, .. } = row;
+        let header = PacketHeader { apid, count, telecommand, secondary, sequence };
+        assert_eq!(Packet::write(&header, &octets[6..length], &mut [0; 306]), Ok(&octets[..length]));
     }
 }
 
