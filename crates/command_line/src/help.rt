@@ -66,6 +66,13 @@ pub(crate) const MAKER_LINES: &str = "Lines, each of which is answered before th
                                        (1 to 1018)
   explain HEX                          takes a frame apart
   clcw HEX                             takes a CLCW apart, four octets
+  cltu HEX                             makes the CLTU that carries the octets (1 to 1029)
+  random HEX                           adds the random sequence to the octets, or takes it off
+  tm SCID VC SIZE HEX                  makes the next telemetry frame of a virtual channel (0 to 7): SIZE octets (11 to 2048),
+                                       with a CLCW, four octets
+  telemetry HEX                        takes a telemetry frame apart
+  decoder ID MODE                      gives a stream (0 to 255) a new decoder of CLTUs, which does detect or correct
+  octets ID HEX                        gives the decoder of a stream its next octets
   # WORDS                              is a comment
 The word plain in the place of a MAP of ad and bd leaves the segment header out. A bad line is answered bad and why. A line
 has at most 262143 octets.

@@ -37,7 +37,7 @@ fn command<'a>(alloc: Global) -> Result<Command<'a>, Error> {
         .help("Ends each frame with a frame error control field");
     let command = Command::new(alloc, "tcmake")
         .about(
-            "Makes telecommand frames and packets, and explains frames and CLCWs: answers the lines of standard input",
+            "Makes and explains telecommand frames, packets, CLTUs and telemetry frames: answers the lines of standard input",
         )
         .version(VERSION)
         .after_help(MAKER_LINES)

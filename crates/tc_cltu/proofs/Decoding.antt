@@ -7,7 +7,8 @@ use lib.Bits.{xor_self}
 use Rattle.tc_cltu.specs.Bits.{IsOctets, octet_bits}
 use Rattle.tc_cltu.specs.CodeBlock.{IsInformation, parity_of, times_x, code_block, decoded}
 use Rattle.tc_cltu.specs.Cltu.{cltu, start_sequence, tail_sequence, code_blocks, fill, filled, fault_of}
-use Rattle.tc_cltu.specs.Reception.{Receiver, Reception, Searching, Decoding, Step, step, after_block, state_after, frames_of, HasNoStart, IsSearching, IsReception, idle}
+use Rattle.tc_cltu.specs.Reception.{Receiver, Reception, Searching, Decoding, Step, step, after_block, fate_in, fate_of, state_after, frames_of, HasNoStart, IsSearching, IsReception, idle}
+use Rattle.tc_cltu.specs.declared.block.Fate.{Fate}
 use Rattle.tc_cltu.specs.declared.block.Mode.{Mode}
 use Rattle.tc_cltu.specs.declared.block.Mode.TheVariants.{Detect, Correct}
 use Rattle.tc_cltu.proofs.Words.{AreOctets, are-octets, is-octets, parity-fits}
@@ -387,6 +388,21 @@ last-step mode room octet last count frame block decoding value o on more less l
     let is : o ≡ decoded mode (take 7 block ++ octet ∷ []) = h ∙ ap (λ (n : ℕ). decoded mode (set block n octet)) (sym at) ∙ ap (decoded mode) s.0 in
     subst (λ (v : Receiver). step v.mode room v.state octet ≡ after_block room frame o) view
     (ap (λ (x : Reception). step mode room x octet) state ∙ whole-step mode room octet frame (take 7 block) (omega arith) ∙ ap (after_block room frame) (sym is))
+
+pub last-fate : (mode : Mode) (octet last count : ℕ) (frame block : List ℕ) (decoding : Bool) (value : Receiver) (f : Fate)
+    → decoding ≡ true → 7 ≤ count → count < 8 → length block ≡ 8
+    → record { mode = mode; state = (if decoding then Decoding frame (take count block) else Searching last); held = frame } ≡ value
+    → f ≡ fate_in mode (set block count octet) → Some f ≡ fate_of value.mode value.state octet
+last-fate mode octet last count frame block decoding value f on more less l view h =
+    let at : 7 ≡ count = omega arith in
+    let s = set-last block octet l in
+    let s1 = s.1 in
+    let state : (if decoding then Decoding frame (take count block) else Searching last) ≡ Decoding frame (take 7 block) =
+    ap (λ (t : Bool). if t then Decoding frame (take count block) else Searching last) on ∙ ap (λ (n : ℕ). Decoding frame (take n block)) (sym at) in
+    let is : f ≡ fate_in mode (take 7 block ++ octet ∷ []) = h ∙ ap (λ (n : ℕ). fate_in mode (set block n octet)) (sym at) ∙ ap (fate_in mode) s.0 in
+    let whole : nat_lt (length (take 7 block)) 7 ≡ false = ap (λ (n : ℕ). nat_lt n 7) s1 in
+    subst (λ (v : Receiver). Some f ≡ fate_of v.mode v.state octet) view
+    (sym (ap (λ (x : Reception). fate_of mode x octet) state ∙ ap (λ (t : Bool). if t then None else Some (fate_in mode (take 7 block ++ octet ∷ []))) whole ∙ ap Some (sym is)))
 
 pub given-none : (room n : ℕ) (frame : List ℕ) → n ≡ length frame → (if nat_lt 0 n then frame ∷ [] else []) ≡ (after_block room frame None).1
 given-none room n [] l = ap (λ (x : ℕ). if nat_lt 0 x then [] ∷ [] else []) l

@@ -1,7 +1,12 @@
 -- The receiving end (CCSDS 231.0-B): it searches for a start sequence, and then decodes code blocks until it rejects one.
-use Rattle.std.specs.Prelude.{◌≡◌, ℕ, zero, suc, ◌+◌, ◌<◌, ◌≤◌, ◌==◌, ◌&&◌, List, [], ◌∷◌, ◌++◌, length, take, Option, Some, None, nat_lt, if◌then◌else◌}
+use Rattle.std.specs.Prelude.{◌≡◌, ℕ, zero, suc, ◌+◌, ◌<◌, ◌≤◌, ◌==◌, ◌&&◌, List, [], ◌∷◌, ◌++◌, length, take, Option, Some, None, is_some, nat_eq, nat_lt, if◌then◌else◌}
+use Rattle.std.specs.Cmp.Lexicographic.{pointwise}
 use Rattle.tc_cltu.specs.CodeBlock.{decoded}
+use Rattle.tc_cltu.specs.Cltu.{tail_sequence}
+use Rattle.tc_cltu.specs.declared.block.Fate.{Fate}
+use Rattle.tc_cltu.specs.declared.block.Fate.TheVariants.{Right, Corrected, Tail, Rejected}
 use Rattle.tc_cltu.specs.declared.block.Mode.{Mode}
+use Rattle.tc_cltu.specs.declared.block.Mode.TheVariants.{Detect}
 
 -- searching, with the last octet that came (0 at first); or decoding, with the octets of the blocks that were taken, and what has
 -- come of the next block
@@ -34,6 +39,19 @@ state_after mode room state (octet ∷ octets) = state_after mode room (step mod
 abbrev pub frames_of : Mode → ℕ → Reception → List ℕ → List (List ℕ)
 frames_of mode room state [] = []
 frames_of mode room state (octet ∷ octets) = (step mode room state octet).1 ++ frames_of mode room (step mode room state octet).0 octets
+
+-- what becomes of a code block
+abbrev pub fate_in : Mode → List ℕ → Fate
+fate_in mode block =
+    if is_some (decoded Detect block) then Right
+    else if is_some (decoded mode block) then Corrected
+    else if pointwise nat_eq block tail_sequence then Tail
+    else Rejected
+
+-- what becomes of the code block that an octet ends, if it ends one
+abbrev pub fate_of : Mode → Reception → ℕ → Option Fate
+fate_of mode (Searching last) octet = None
+fate_of mode (Decoding frame block) octet = if nat_lt (length block) 7 then None else Some (fate_in mode (block ++ octet ∷ []))
 
 -- what contracts see of a decoder: how it takes code blocks, where it is, and the octets of the blocks that it has taken since the last
 -- start sequence

@@ -3,8 +3,10 @@
 ghost use Rattle.std.specs.Prelude.{◌≡◌, ◌+◌, ◌<◌, ◌≤◌, ◌++◌, ◌∷◌, [], ℕ, List, Some, None, length, IfSome, MatchOption};
 ghost use Rattle.tc_cltu.specs.Bits.{IsOctets};
 ghost use Rattle.tc_cltu.specs.CodeBlock.{parity_of, code_block, decoded, errors, most_errors, turned, IsInformation};
+ghost use Rattle.tc_cltu.specs.Reception.{fate_in};
 
 use crate::tables::{PLACES, REMAINDERS};
+use crate::writer::TAIL;
 
 /// What becomes of a code block with wrong bits.
 #[derive(Clone, Copy, Debug, PartialEq, Eq)]
@@ -13,6 +15,19 @@ pub enum Mode {
     Detect,
     /// One wrong bit is corrected, and two are always detected (single error correction).
     Correct,
+}
+
+/// What becomes of a code block.
+#[derive(Clone, Copy, Debug, PartialEq, Eq)]
+pub enum Fate {
+    /// It is taken as it is.
+    Right,
+    /// One of its bits is corrected.
+    Corrected,
+    /// It is rejected, and is the tail sequence.
+    Tail,
+    /// It is rejected, and isn't the tail sequence.
+    Rejected,
 }
 
 // The seven parity bits over octets.
@@ -93,4 +108,19 @@ fn turn(octets: &mut [u8], place: u8)
         return;
     }
     octets[at] ^= 0x80 >> (place % 8);
+}
+
+// What becomes of a code block.
+pub(crate) fn judge(block: [u8; 8], mode: Mode) -> Fate
+    ensures { result ≡ fate_in mode block }
+{
+    if decode_block(block, Mode::Detect).is_some() {
+        Fate::Right
+    } else if decode_block(block, mode).is_some() {
+        Fate::Corrected
+    } else if block.as_slice() == TAIL.as_slice() {
+        Fate::Tail
+    } else {
+        Fate::Rejected
+    }
 }

@@ -2,9 +2,9 @@
 
 ghost use Rattle.std.specs.Prelude.{◌≡◌, ◌++◌, ◌∷◌, [], List, ℕ, map, IfOk, OnOk, OnErr, if◌then◌else◌};
 ghost use Rattle.tc_cltu.specs.Cltu.{most_octets};
-ghost use Rattle.tc_cltu.specs.Reception.{Receiver, Searching, StopsShort, step, state_after, frames_of};
+ghost use Rattle.tc_cltu.specs.Reception.{Receiver, Searching, StopsShort, step, state_after, frames_of, fate_of};
 
-use crate::block::{Mode, decode_block};
+use crate::block::{Fate, Mode, decode_block, judge};
 use crate::writer::MOST_OCTETS;
 use std::alloc::{AllocError, Global};
 use std::marker::Model;
@@ -25,7 +25,7 @@ pub struct Decoder {
 }
 
 impl Model for Decoder {
-    ghost use Rattle.std.specs.Prelude.{◌≡◌, ◌<◌, ◌≤◌, take, vec_capacity, if◌then◌else◌};
+    ghost use Rattle.std.specs.Prelude.{◌≡◌, ◌<◌, ◌≤◌, length, take, vec_capacity, if◌then◌else◌};
     ghost use Rattle.tc_cltu.specs.Cltu.{most_octets};
     ghost use Rattle.tc_cltu.specs.Reception.{Receiver, Searching, Decoding};
 
@@ -37,7 +37,7 @@ impl Model for Decoder {
       held = d.frame.items;
     } };
 
-    ghost invariant = { λ d. (d.count < 8) × (most_octets ≤ vec_capacity d.frame) };
+    ghost invariant = { λ d. (d.count < 8) × (most_octets ≤ vec_capacity d.frame) × (length d.block ≡ 8) };
 }
 
 impl Decoder {
@@ -103,6 +103,21 @@ impl Decoder {
         ensures { result.now ≡ self.now.held }
     {
         &self.frame
+    }
+
+    /// What is to become of the code block that the next octet ends, if it is this octet and ends one. Nothing is taken.
+    pub fn fate(&self, octet: u8) -> Option<Fate>
+        ensures { result ≡ fate_of self.now.mode self.now.state octet }
+    {
+        if !self.decoding {
+            return None;
+        }
+        if self.count < 7 {
+            return None;
+        }
+        let mut block = self.block;
+        block[self.count] = octet;
+        Some(judge(block, self.mode))
     }
 
     /// Takes the next piece of the stream, of any length, and adds a copy of each candidate frame that ends in it.

@@ -13,7 +13,7 @@ mod randomiser;
 mod tables;
 mod writer;
 
-pub use block::{Mode, decode_block, encode_block};
+pub use block::{Fate, Mode, decode_block, encode_block};
 pub use decoder::Decoder;
 pub use laws::{
     a_cltu_gives_its_frame, code_blocks_differ_in_four_places, each_turned_bit_is_an_error,

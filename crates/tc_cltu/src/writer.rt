@@ -14,7 +14,7 @@ pub const MOST_OCTETS: usize = 1029;
 
 const START: [u8; 2] = [0xeb, 0x90];
 
-const TAIL: [u8; 8] = [0xc5, 0xc5, 0xc5, 0xc5, 0xc5, 0xc5, 0xc5, 0x79];
+pub(crate) const TAIL: [u8; 8] = [0xc5, 0xc5, 0xc5, 0xc5, 0xc5, 0xc5, 0xc5, 0x79];
 
 /// Why octets get no CLTU: the first of these that applies.
 #[derive(Clone, Copy, Debug, PartialEq, Eq, Error)]

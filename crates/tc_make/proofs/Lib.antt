@@ -1,1 +1,3 @@
+mod Fed
+mod Lines
 pub mod Written

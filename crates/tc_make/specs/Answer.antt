@@ -17,6 +17,9 @@ use Rattle.tc_make.specs.Frames.{IsMadeFrame, IsCommandFrame, frame_reason_of, c
 use Rattle.tc_make.specs.Packets.{IsMadePacket, packet_reason_of}
 use Rattle.tc_make.specs.Parting.{IsFrameAt, parting_reason_of}
 use Rattle.tc_write.specs.Parts.{count_of}
+use Rattle.tc_make.specs.Decoders.{IsDecoderSaid, IsPieceSaid}
+use Rattle.tc_make.specs.LinkAnswer.{IsCltuSaid, IsRandomSaid, IsTelemetrySaid, IsTmSaid}
+pub use Rattle.tc_make.specs.Printed.{OrNoMemory, Unless}
 use Rattle.tc_make.specs.Printed.{bad_text, named_text, refused_text, frame_fault_text, explanation_text, clcw_text}
 use Rattle.tc_make.specs.declared.ending.Ending.{Ending}
 use Rattle.tc_make.specs.declared.ending.Ending.TheVariants.{DataField, ErrorControl}
@@ -24,19 +27,11 @@ use Rattle.tc_make.specs.declared.explaining.Explanation.{Explanation}
 use Rattle.tc_make.specs.declared.fault.Reason.{Reason}
 use Rattle.tc_make.specs.declared.fault.Reason.TheVariants.{NoMemory, BadClcw}
 use Rattle.tc_make.specs.declared.line.Line.{Line}
-use Rattle.tc_make.specs.declared.line.Line.TheVariants.{Blank, Packet, Frame, Command as CommandLine, Segments, Explain, Clcw}
+use Rattle.tc_make.specs.declared.line.Line.TheVariants.{Blank, Packet, Frame, Command as CommandLine, Segments, Explain, Clcw, Cltu, Random, Tm, Telemetry, Decoder, Piece}
 use Rattle.tc_make.specs.declared.line.Sizing.{Sizing}
 use Rattle.tc_make.specs.declared.line.Stream.{Stream}
+use Rattle.tc_make.specs.declared.maker.Maker.{Maker}
 use Rattle.tc_make.specs.declared.parting.Parting.{Parting}
-
--- such a text, or that memory ran out
-abbrev pub OrNoMemory : (List ℕ → Type 0) → List ℕ → Type 0
-OrNoMemory Is text = Is text ⊎ (text ≡ bad_text NoMemory)
-
--- why nothing is made, where there is a reason; such a text, where there is none
-abbrev pub Unless : Option Reason → (List ℕ → Type 0) → List ℕ → Type 0
-Unless (Some reason) Is text = text ≡ bad_text reason
-Unless None Is text = Is text
 
 abbrev pub IsMadePacketSaid : ℕ → ℕ → List ℕ → List ℕ → Type 0
 IsMadePacketSaid apid count octets =
@@ -127,20 +122,33 @@ IsWordSaid word text = (IsClcw word × (text ≡ clcw_text (fields_of word))) �
 abbrev pub IsClcwSaid : List ℕ → List ℕ → Type 0
 IsClcwSaid octets = Unless (if length octets == 4 then None else Some BadClcw) (IsWordSaid (from_be_bytes w32 octets))
 
--- what a line that says this is answered
-abbrev pub IsSaid : Ending → Line → List ℕ → Type 0
-IsSaid ending Blank text = text ≡ []
-IsSaid ending (Packet apid count octets) text = IsMadePacketSaid apid count octets text
-IsSaid ending (Frame header segment octets) text = IsMadeFrameSaid ending header segment octets text
-IsSaid ending (CommandLine scid vcid command) text = IsCommandSaid ending scid vcid command text
-IsSaid ending (Segments stream sizing unit) text = IsUnitSaid ending stream sizing unit text
-IsSaid ending (Explain octets) text = IsExplained ending octets text
-IsSaid ending (Clcw octets) text = IsClcwSaid octets text
+-- what a line that says this is answered, and what it does to the counts and the decoders
+abbrev pub IsSaid : Maker → Line → Maker → List ℕ → Type 0
+IsSaid old Blank new = OrNoMemory (λ text. text ≡ [])
+IsSaid old (Packet apid count octets) new = OrNoMemory (IsMadePacketSaid apid count octets)
+IsSaid old (Frame header segment octets) new = OrNoMemory (IsMadeFrameSaid old.ending header segment octets)
+IsSaid old (CommandLine scid vcid command) new = OrNoMemory (IsCommandSaid old.ending scid vcid command)
+IsSaid old (Segments stream sizing unit) new = OrNoMemory (IsUnitSaid old.ending stream sizing unit)
+IsSaid old (Explain octets) new = OrNoMemory (IsExplained old.ending octets)
+IsSaid old (Clcw octets) new = OrNoMemory (IsClcwSaid octets)
+IsSaid old (Cltu octets) new = OrNoMemory (IsCltuSaid octets)
+IsSaid old (Random octets) new = OrNoMemory (IsRandomSaid octets)
+IsSaid old (Telemetry octets) new = OrNoMemory (IsTelemetrySaid old.ending octets)
+IsSaid old (Tm order) new = IsTmSaid old.ending old.counts order new.counts
+IsSaid old (Decoder id mode) new = IsDecoderSaid old.decoders id mode new.decoders
+IsSaid old (Piece id octets) new = IsPieceSaid old.decoders id octets new.decoders
+
+-- what a line leaves as it was: the counts but for a telemetry frame, the decoders but for those of streams, and all else
+abbrev pub IsKept : Maker → Line → Maker → Type 0
+IsKept old (Tm order) new = new ≡ record old { counts = new.counts }
+IsKept old (Decoder id mode) new = new ≡ record old { decoders = new.decoders }
+IsKept old (Piece id octets) new = new ≡ record old { decoders = new.decoders }
+IsKept old line new = new ≡ old
 
 -- what a line is answered: by what it says, or why it says nothing
-abbrev pub IsLineSaid : Ending → Result Line Reason → List ℕ → Type 0
-IsLineSaid ending (Ok line) text = IsSaid ending line text
-IsLineSaid ending (Err reason) text = text ≡ bad_text reason
+abbrev pub IsLineSaid : Maker → Result Line Reason → Maker → List ℕ → Type 0
+IsLineSaid old (Ok line) new text = IsSaid old line new text × IsKept old line new
+IsLineSaid old (Err reason) new text = (text ≡ bad_text reason) × (new ≡ old)
 
-abbrev pub IsAnswer : Ending → Result Line Reason → List ℕ → Type 0
-IsAnswer ending said = OrNoMemory (IsLineSaid ending said)
+abbrev pub IsAnswer : Maker → Result Line Reason → Maker → List ℕ → Type 0
+IsAnswer old said new text = IsLineSaid old said new text ⊎ ((text ≡ bad_text NoMemory) × (new ≡ old))

@@ -7,5 +7,8 @@ pub mod Parting
 pub mod Explanation
 pub mod Ending
 pub mod Printed
+pub mod Decoders
+pub mod LinkAnswer
 pub mod Answer
+pub mod Making
 pub mod Serving

@@ -1,20 +1,22 @@
 -- What a line asks for, by its words.
-use Rattle.std.specs.Prelude.{ℕ, Bool, true, false, Option, ◌==◌, List, [], ◌∷◌, slice_index, nat_eq, codes, Some, None, Result, Ok, Err, if◌then◌else◌}
+use Rattle.std.specs.Prelude.{ℕ, Bool, true, false, Option, ◌==◌, List, [], ◌∷◌, length, slice_index, nat_eq, codes, Some, None, Result, Ok, Err, if◌then◌else◌}
 use Rattle.std.specs.Cmp.Lexicographic.{pointwise}
 use Rattle.hex.specs.Hex.{decode_of}
+use Rattle.tc_cltu.specs.declared.block.Mode.{Mode}
+use Rattle.tc_cltu.specs.declared.block.Mode.TheVariants.{Detect, Correct}
 use Rattle.tc_link.specs.declared.command.Command.TheVariants.{Unlock, SetVr}
 use Rattle.tc_packet.specs.declared.segment.Part.TheVariants.{Unsegmented}
 use Rattle.tc_packet.specs.declared.segment.Segment.{Segment}
 use Rattle.tc_lines.specs.Number.{number_of}
 use Rattle.tc_make.specs.declared.fault.Reason.{Reason}
-use Rattle.tc_make.specs.declared.fault.Reason.TheVariants.{UnknownCommand, WordCount, BadNumber, BadHex}
+use Rattle.tc_make.specs.declared.fault.Reason.TheVariants.{UnknownCommand, WordCount, BadNumber, BadHex, BadMode, BadClcw}
 use Rattle.tc_link.specs.declared.frame.Header.{Header}
 use Rattle.tc_make.specs.declared.form.Form.{Form}
 use Rattle.tc_make.specs.declared.form.Form.TheVariants as forms
 use Rattle.tc_make.specs.declared.line.Stream.{Stream}
 use Rattle.tc_make.specs.declared.line.Sizing.{Sizing}
 use Rattle.tc_make.specs.declared.line.Line.{Line}
-use Rattle.tc_make.specs.declared.line.Line.TheVariants.{Blank, Packet, Frame, Command, Segments, Explain, Clcw}
+use Rattle.tc_make.specs.declared.line.Line.TheVariants.{Blank, Packet, Frame, Command, Segments, Explain, Clcw, Cltu, Random, Tm, Telemetry, Decoder, Piece}
 
 abbrev pub Words : Type 0
 Words = List (List ℕ)
@@ -139,8 +141,48 @@ explain_of words = with_one forms.Explain words (λ o. with_octets o (λ octets.
 abbrev pub clcw_of : Words → Said
 clcw_of words = with_one forms.Clcw words (λ o. with_octets o (λ octets. Ok (Clcw octets)))
 
+abbrev pub cltu_of : Words → Said
+cltu_of words = with_one forms.Cltu words (λ o. with_octets o (λ octets. Ok (Cltu octets)))
+
+abbrev pub random_of : Words → Said
+random_of words = with_one forms.Random words (λ o. with_octets o (λ octets. Ok (Random octets)))
+
+-- the four octets of a CLCW
+abbrev pub four_of : List ℕ → Result (List ℕ) Reason
+four_of word = elim (decode_of word) [ Ok octets ↦ (if length octets == 4 then Ok octets else Err BadClcw) | Err fault ↦ Err BadHex ]
+
+abbrev pub tm_of : Words → Said
+tm_of words = with_four forms.Tm words (λ s v z o. with_number 65535 s (λ scid. with_number 255 v (λ vcid. with_number 65535 z (λ size.
+    with_ok (four_of o) (λ control. Ok (Tm (record { scid = scid; vcid = vcid; size = size; control = control })))))))
+
+abbrev pub telemetry_of : Words → Said
+telemetry_of words = with_one forms.Telemetry words (λ o. with_octets o (λ octets. Ok (Telemetry octets)))
+
+abbrev pub mode_of : List ℕ → Result Mode Reason
+mode_of word =
+    if is word (codes "detect") then Ok Detect
+    else if is word (codes "correct") then Ok Correct
+    else Err BadMode
+
+abbrev pub decoder_of : Words → Said
+decoder_of words = with_two forms.Decoder words (λ i m. with_number 255 i (λ id. with_ok (mode_of m) (λ mode. Ok (Decoder id mode))))
+
+abbrev pub octets_of : Words → Said
+octets_of words = with_two forms.Octets words (λ i o. with_number 255 i (λ id. with_octets o (λ octets. Ok (Piece id octets))))
+
 abbrev pub is_comment : List ℕ → Bool
 is_comment word = slice_index word 0 == 35
+
+-- what a line about the link asks for: its CLTUs and its telemetry frames
+unfoldable pub link_line_of : List ℕ → Words → Said
+link_line_of command arguments =
+    if is command (codes "cltu") then cltu_of arguments
+    else if is command (codes "random") then random_of arguments
+    else if is command (codes "tm") then tm_of arguments
+    else if is command (codes "telemetry") then telemetry_of arguments
+    else if is command (codes "decoder") then decoder_of arguments
+    else if is command (codes "octets") then octets_of arguments
+    else Err UnknownCommand
 
 -- what the words of a line ask for, or the first of the reasons why they ask for nothing
 unfoldable pub line_of : Words → Said
@@ -155,4 +197,4 @@ line_of (command ∷ arguments) =
     else if is command (codes "segments") then segments_of arguments
     else if is command (codes "explain") then explain_of arguments
     else if is command (codes "clcw") then clcw_of arguments
-    else Err UnknownCommand
+    else link_line_of command arguments

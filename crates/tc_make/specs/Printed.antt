@@ -1,5 +1,5 @@
 -- What lines are answered, as text: docs/reference/tcmake.md shows it.
-use Rattle.std.specs.Prelude.{ℕ, Bool, true, false, ◌==◌, if◌then◌else◌, List, [], ◌∷◌, ◌++◌, length, codes, decimal}
+use Rattle.std.specs.Prelude.{◌≡◌, ◌⊎◌, ℕ, Bool, true, false, ◌==◌, if◌then◌else◌, List, [], ◌∷◌, ◌++◌, length, codes, decimal, Option, Some, None}
 use Rattle.std.specs.List.{flat_map}
 use Rattle.tc_link.specs.declared.clcw.ClcwFields.{ClcwFields}
 use Rattle.tc_link.specs.declared.command.Command.TheVariants.{Unlock, SetVr}
@@ -16,9 +16,12 @@ use Rattle.tc_packet.specs.declared.segment.Part.{Part}
 use Rattle.tc_packet.specs.declared.segment.Part.TheVariants.{First, Continuing, Last, Unsegmented}
 use Rattle.tc_packet.specs.declared.segment.Segment.{Segment}
 pub use Rattle.tc_lines.specs.Printed.{octets_text, flag_text}
+use Rattle.tc_tm.specs.declared.reading.TmFields.{TmFields}
+use Rattle.tc_tm.specs.declared.reading.TmReadFault.{TmReadFault}
+use Rattle.tc_tm.specs.declared.reading.TmReadFault.TheVariants as telemetry
 use Rattle.tc_make.specs.declared.explaining.Explanation.{Explanation}
 use Rattle.tc_make.specs.declared.fault.Reason.{Reason}
-use Rattle.tc_make.specs.declared.fault.Reason.TheVariants.{UnknownCommand, WordCount, BadNumber, BadHex, BadScid, BadVcid, BadMap, BadApid, BadCount, BadSize, NoData, TooMuchData, BadClcw, NoMemory}
+use Rattle.tc_make.specs.declared.fault.Reason.TheVariants.{UnknownCommand, WordCount, BadNumber, BadHex, BadMode, BadClcw, BadScid, BadVcid, BadMap, BadApid, BadCount, BadSize, NoData, TooMuchData, NoDecoder, NoMemory}
 use Rattle.tc_make.specs.declared.form.Form.{Form}
 use Rattle.tc_make.specs.declared.form.Form.TheVariants as forms
 
@@ -28,6 +31,8 @@ reason_text UnknownCommand = codes "unknown command"
 reason_text (WordCount form) = codes "wrong number of words"
 reason_text BadNumber = codes "bad number"
 reason_text BadHex = codes "bad hex"
+reason_text BadMode = codes "bad mode"
+reason_text BadClcw = codes "bad clcw"
 reason_text BadScid = codes "bad spacecraft"
 reason_text BadVcid = codes "bad channel"
 reason_text BadMap = codes "bad map"
@@ -36,7 +41,7 @@ reason_text BadCount = codes "bad count"
 reason_text BadSize = codes "bad size"
 reason_text NoData = codes "no data"
 reason_text TooMuchData = codes "too much data"
-reason_text BadClcw = codes "bad clcw"
+reason_text NoDecoder = codes "no decoder"
 reason_text NoMemory = codes "no memory"
 
 -- a command and the names of its words
@@ -49,16 +54,23 @@ form_text forms.SetVr = codes "setvr SCID VC X"
 form_text forms.Segments = codes "segments SCID VC NS MAP SIZE HEX"
 form_text forms.Explain = codes "explain HEX"
 form_text forms.Clcw = codes "clcw HEX"
+form_text forms.Cltu = codes "cltu HEX"
+form_text forms.Random = codes "random HEX"
+form_text forms.Tm = codes "tm SCID VC SIZE HEX"
+form_text forms.Telemetry = codes "telemetry HEX"
+form_text forms.Decoder = codes "decoder ID MODE"
+form_text forms.Octets = codes "octets ID HEX"
 
--- what is said of the octets with which a form ends; two end with none
+-- what is said of the octets with which a form ends; three end with none
 abbrev pub note_text : Form → List ℕ
 note_text forms.Unlock = []
 note_text forms.SetVr = []
+note_text forms.Decoder = []
 note_text form = codes ", octets without spaces"
 
 -- what follows a reason: what to write, where that is known, and the end of the line
 abbrev pub hint_text : Reason → List ℕ
-hint_text UnknownCommand = codes ": use packet, ad, bd, unlock, setvr, segments, explain or clcw\n"
+hint_text UnknownCommand = codes ": use packet, ad, bd, unlock, setvr, segments, explain, clcw, cltu, random, tm, telemetry, decoder or octets\n"
 hint_text (WordCount form) = codes ": write " ++ form_text form ++ note_text form ++ codes "\n"
 hint_text reason = codes "\n"
 
@@ -184,3 +196,32 @@ numbers_text f = codes " farmb " ++ decimal f.farm_b ++ codes " vr " ++ decimal 
 
 abbrev pub clcw_text : ClcwFields → List ℕ
 clcw_text f = link_text f ++ (flags_text f ++ numbers_text f)
+
+-- why octets are no telemetry frame
+abbrev pub tm_fault_text : TmReadFault → List ℕ
+tm_fault_text telemetry.Short = codes "short"
+tm_fault_text telemetry.Version = codes "version"
+tm_fault_text telemetry.NoControl = codes "control"
+tm_fault_text telemetry.WrongSum = codes "check"
+
+-- the front of the line `tm ..`: whose frame it is, and its counts
+abbrev pub tm_front_text : TmFields → List ℕ
+tm_front_text f =
+    codes "tm scid " ++ decimal f.header.scid ++ codes " vc " ++ decimal f.header.vcid ++ codes " master " ++ decimal f.header.master_count
+    ++ codes " channel " ++ decimal f.header.channel_count
+
+-- its end: the first header pointer and the operational control field
+abbrev pub tm_end_text : TmFields → List ℕ
+tm_end_text f = codes " pointer " ++ decimal f.pointer ++ codes " clcw " ++ octets_text f.control ++ codes "\n"
+
+abbrev pub tm_text : TmFields → List ℕ
+tm_text f = tm_front_text f ++ tm_end_text f
+
+-- such a text, or that memory ran out
+abbrev pub OrNoMemory : (List ℕ → Type 0) → List ℕ → Type 0
+OrNoMemory Is text = Is text ⊎ (text ≡ bad_text NoMemory)
+
+-- why nothing is made, where there is a reason; such a text, where there is none
+abbrev pub Unless : Option Reason → (List ℕ → Type 0) → List ℕ → Type 0
+Unless (Some reason) Is text = text ≡ bad_text reason
+Unless None Is text = Is text

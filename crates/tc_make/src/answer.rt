@@ -2,24 +2,29 @@
 
 ghost use Rattle.std.specs.Prelude.{◌≡◌, ◌<◌, None, codes, length, IfOk, OnOk};
 ghost use Rattle.tc_lines.specs.Answering.{Writes};
-ghost use Rattle.tc_make.specs.Answer.{OrNoMemory, IsAnswer, IsSaid, IsMadePacketSaid, IsMadeFrameSaid, IsCommandSaid, IsEnded, IsUnitSaid, IsFramesSaid, IsPart};
+ghost use Rattle.tc_make.specs.Answer.{OrNoMemory, IsAnswer, IsSaid, IsKept, IsMadePacketSaid, IsMadeFrameSaid, IsCommandSaid, IsEnded, IsUnitSaid, IsFramesSaid, IsPart};
 ghost use Rattle.tc_link.specs.Frame.{IsWhole};
 ghost use Rattle.tc_make.specs.Line.{line_of};
 ghost use Rattle.tc_write.specs.Parts.{count_of};
+ghost use Rattle.tc_make.specs.Decoders.{IsDecoderSaid};
 ghost use Rattle.tc_make.specs.Parting.{parting_reason_of};
 ghost use Rattle.tc_lines.specs.Word.{words as words_of};
 
+use crate::decoders::Decoders;
 use crate::ending::Ending;
 use crate::explained::{write_clcw, write_explained};
+use crate::fault::Reason;
 use crate::frames::{make_command, make_frame};
 use crate::line::{Line, Sizing, Stream, parse_line};
-use crate::octets::Octets;
+use crate::link::{write_coded, write_random, write_telemetry, write_tm};
+use crate::maker::Maker;
 use crate::packets::make_packet;
 use crate::parting::Parting;
 use crate::printed::{write_bad, write_named};
 use std::alloc::Global;
 use std::io;
 use std::io::Write;
+use tc_cltu::Mode;
 use tc_link::{Command, Header};
 use tc_packet::Segment;
 
@@ -29,21 +34,28 @@ use tc_packet::Segment;
 /// what was to come; amid the frames of a unit, the frames before were written.
 pub fn answer_line<W: Write>(
     alloc: Global,
-    ending: Ending,
+    maker: &mut Maker,
     octets: &[u8],
     writer: &mut W,
 ) -> io::Result<()>
-    ensures answer { OnOk result (Writes (W.contents writer.old) (W.contents writer.new) (IsAnswer ending (line_of (words_of octets.now)))) }
+    ensures answer { OnOk result (Writes (W.contents writer.old) (W.contents writer.new) (IsAnswer maker.old (line_of (words_of octets.now)) maker.new)) }
 {
     match parse_line(alloc, octets) {
-        Ok(line) => answer(alloc, ending, &line, writer),
+        Ok(line) => answer(alloc, maker, &line, writer),
         Err(reason) => write_bad(reason, writer),
     }
 }
 
-fn answer<W: Write>(alloc: Global, ending: Ending, line: &Line, writer: &mut W) -> io::Result<()>
-    ensures { OnOk result (Writes (W.contents writer.old) (W.contents writer.new) (OrNoMemory (IsSaid ending line.now))) }
+fn answer<W: Write>(
+    alloc: Global,
+    maker: &mut Maker,
+    line: &Line,
+    writer: &mut W,
+) -> io::Result<()>
+    ensures said { OnOk result (Writes (W.contents writer.old) (W.contents writer.new) (IsSaid maker.old line.now maker.new)) }
+    ensures kept { IsKept maker.old line.now maker.new }
 {
+    let ending = maker.ending;
     match line {
         Line::Blank => Ok(()),
         Line::Packet {
@@ -68,6 +80,32 @@ fn answer<W: Write>(alloc: Global, ending: Ending, line: &Line, writer: &mut W) 
         } => write_segments(alloc, ending, *stream, *sizing, unit.as_slice(), writer),
         Line::Explain(octets) => write_explained(alloc, ending, octets.as_slice(), writer),
         Line::Clcw(octets) => write_clcw(octets.as_slice(), writer),
+        Line::Cltu(octets) => write_coded(alloc, octets.as_slice(), writer),
+        Line::Random(octets) => write_random(alloc, octets.as_slice(), writer),
+        Line::Telemetry(octets) => write_telemetry(ending, octets.as_slice(), writer),
+        Line::Tm(order) => write_tm(alloc, ending, &mut maker.counts, *order, writer),
+        Line::Decoder { id, mode } => begin(alloc, &mut maker.decoders, *id, *mode, writer),
+        Line::Piece { id, octets } => {
+            maker
+                .decoders
+                .write_piece(*id, octets.as_slice(), writer)
+        }
+    }
+}
+
+// A stream gets a new decoder, which has no answer.
+fn begin<W: Write>(
+    alloc: Global,
+    decoders: &mut Decoders,
+    id: u8,
+    mode: Mode,
+    writer: &mut W,
+) -> io::Result<()>
+    ensures { OnOk result (Writes (W.contents writer.old) (W.contents writer.new) (IsDecoderSaid decoders.old id mode decoders.new)) }
+{
+    match decoders.begin(alloc, id, mode) {
+        Ok(()) => Ok(()),
+        Err(_) => write_bad(Reason::NoMemory, writer),
     }
 }
 

@@ -20,9 +20,13 @@ pub enum Reason {
     BadNumber,
     /// Octets aren't an even number of hexadecimal digits.
     BadHex,
+    /// A decoder neither detects nor corrects.
+    BadMode,
+    /// A CLCW isn't of 4 octets.
+    BadClcw,
     /// The spacecraft id is over 1,023.
     BadScid,
-    /// The virtual channel id is over 63.
+    /// The virtual channel id is over 63, or that of a telemetry frame over 7.
     BadVcid,
     /// The MAP id is over 63.
     BadMap,
@@ -30,14 +34,14 @@ pub enum Reason {
     BadApid,
     /// The sequence count is over 16,383.
     BadCount,
-    /// Segments aren't to carry 1 to 1,018 octets.
+    /// Segments aren't to carry 1 to 1,018 octets, or a telemetry frame isn't to have 11 to 2,048.
     BadSize,
     /// There are no octets to be carried.
     NoData,
-    /// There are more octets than a frame, a packet or a unit has room for.
+    /// There are more octets than a frame, a packet, a unit or a CLTU has room for.
     TooMuchData,
-    /// A CLCW isn't of 4 octets.
-    BadClcw,
+    /// No decoder has the id.
+    NoDecoder,
     /// Memory was wanting for what the line needs.
     NoMemory,
 }
@@ -52,6 +56,8 @@ impl Reason {
             Reason::WordCount(_) => "wrong number of words",
             Reason::BadNumber => "bad number",
             Reason::BadHex => "bad hex",
+            Reason::BadMode => "bad mode",
+            Reason::BadClcw => "bad clcw",
             Reason::BadScid => "bad spacecraft",
             Reason::BadVcid => "bad channel",
             Reason::BadMap => "bad map",
@@ -60,7 +66,7 @@ impl Reason {
             Reason::BadSize => "bad size",
             Reason::NoData => "no data",
             Reason::TooMuchData => "too much data",
-            Reason::BadClcw => "bad clcw",
+            Reason::NoDecoder => "no decoder",
             Reason::NoMemory => "no memory",
         }
     }

@@ -14,6 +14,12 @@ pub enum Form {
     Segments,
     Explain,
     Clcw,
+    Cltu,
+    Random,
+    Tm,
+    Telemetry,
+    Decoder,
+    Octets,
 }
 
 impl Form {
@@ -30,6 +36,12 @@ impl Form {
             Form::Segments => "segments SCID VC NS MAP SIZE HEX",
             Form::Explain => "explain HEX",
             Form::Clcw => "clcw HEX",
+            Form::Cltu => "cltu HEX",
+            Form::Random => "random HEX",
+            Form::Tm => "tm SCID VC SIZE HEX",
+            Form::Telemetry => "telemetry HEX",
+            Form::Decoder => "decoder ID MODE",
+            Form::Octets => "octets ID HEX",
         }
     }
 
@@ -40,6 +52,7 @@ impl Form {
         match self {
             Form::Unlock => "",
             Form::SetVr => "",
+            Form::Decoder => "",
             _ => ", octets without spaces",
         }
     }

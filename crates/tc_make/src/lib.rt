@@ -6,6 +6,7 @@
 #![tactic(auto)]
 
 mod answer;
+mod decoders;
 mod ending;
 mod explained;
 mod explaining;
@@ -13,6 +14,8 @@ mod fault;
 mod form;
 mod frames;
 mod line;
+mod link;
+mod maker;
 mod octets;
 mod packets;
 mod parting;
@@ -20,12 +23,14 @@ mod printed;
 mod serving;
 
 pub use answer::answer_line;
+pub use decoders::Decoders;
 pub use ending::Ending;
 pub use explaining::{Explanation, explain};
 pub use fault::Reason;
 pub use form::Form;
 pub use frames::{make_command, make_frame};
-pub use line::{Line, Sizing, Stream, parse_line};
+pub use line::{Line, Sizing, Stream, TmOrder, parse_line};
+pub use maker::Maker;
 pub use octets::Octets;
 pub use packets::make_packet;
 pub use parting::Parting;

@@ -3,13 +3,14 @@
 ghost use Rattle.std.specs.Prelude.{◌≡◌, ◌⊎◌, map, IfOk, IfErr, IsErr, MatchResult};
 ghost use Rattle.hex.specs.Hex.{decode_of};
 ghost use Rattle.tc_lines.specs.Word.{words as words_of};
-ghost use Rattle.tc_make.specs.Line.{line_of, packet_of, ad_of, bd_of, unlock_of, setvr_of, segments_of, explain_of, clcw_of, segment_of, stream_of, sizing_of, framed_of, parted_of, sized_of, ad_header as ad_header_of, bd_header as bd_header_of, is_comment as is_comment_word};
+ghost use Rattle.tc_make.specs.Line.{line_of, link_line_of, packet_of, ad_of, bd_of, unlock_of, setvr_of, segments_of, explain_of, clcw_of, cltu_of, random_of, tm_of, telemetry_of, decoder_of, octets_of, four_of, mode_of, segment_of, stream_of, sizing_of, framed_of, parted_of, sized_of, ad_header as ad_header_of, bd_header as bd_header_of, is_comment as is_comment_word};
 
 use crate::fault::Reason;
 use crate::form::Form;
 use crate::octets::Octets;
 use hex::FromHexError;
 use std::alloc::{AllocError, Global};
+use tc_cltu::Mode;
 use tc_lines::{is_separator, large_number, small_number};
 use tc_link::{Command, Header};
 use tc_packet::{Part, Segment};
@@ -27,6 +28,15 @@ pub struct Stream {
 pub struct Sizing {
     pub map: u8,
     pub size: u16,
+}
+
+/// A telemetry frame that is asked for: of which spacecraft and virtual channel, how many octets it has, and its CLCW.
+#[derive(Clone, Copy, Debug, PartialEq, Eq)]
+pub struct TmOrder {
+    pub scid: u16,
+    pub vcid: u8,
+    pub size: u16,
+    pub control: [u8; 4],
 }
 
 /// What a line asks for.
@@ -62,6 +72,18 @@ pub enum Line {
     Explain(Octets),
     /// Octets that are to be explained as a CLCW.
     Clcw(Octets),
+    /// Octets that a CLTU is to carry.
+    Cltu(Octets),
+    /// Octets to which the random sequence is to be added.
+    Random(Octets),
+    /// The next telemetry frame of a virtual channel.
+    Tm(TmOrder),
+    /// Octets that are to be explained as a telemetry frame.
+    Telemetry(Octets),
+    /// A new decoder for the stream with this id.
+    Decoder { id: u8, mode: Mode },
+    /// The next octets of the stream with this id.
+    Piece { id: u8, octets: Octets },
 }
 
 /// Reads a line, which is given without its line feed. Its words and its octets take memory.
@@ -94,6 +116,29 @@ pub fn parse_line(alloc: Global, octets: &[u8]) -> Result<Line, Reason>
         explain(alloc, arguments)
     } else if *command == b"clcw".as_slice() {
         clcw(alloc, arguments)
+    } else {
+        link_line(alloc, command, arguments)
+    }
+}
+
+// A line that is about the link: its CLTUs and its telemetry frames.
+#[tactic(auto, unfolding(crate::specs::Line::link_line_of))]
+fn link_line(alloc: Global, command: &[u8], arguments: &[&[u8]]) -> Result<Line, Reason>
+    ensures line { IfOk result (λ line. link_line_of command.now (map (λ word. word.now) arguments.now) ≡ Ok line) }
+    ensures reason { IfErr result (λ reason. (reason ≡ Reason.NoMemory) ⊎ (link_line_of command.now (map (λ word. word.now) arguments.now) ≡ Err reason)) }
+{
+    if command == b"cltu".as_slice() {
+        cltu(alloc, arguments)
+    } else if command == b"random".as_slice() {
+        random(alloc, arguments)
+    } else if command == b"tm".as_slice() {
+        tm(alloc, arguments)
+    } else if command == b"telemetry".as_slice() {
+        telemetry(alloc, arguments)
+    } else if command == b"decoder".as_slice() {
+        decoder(arguments)
+    } else if command == b"octets".as_slice() {
+        piece(alloc, arguments)
     } else {
         Err(Reason::UnknownCommand)
     }
@@ -256,6 +301,77 @@ fn clcw(alloc: Global, words: &[&[u8]]) -> Result<Line, Reason>
     Ok(Line::Clcw(octets(alloc, digits)?))
 }
 
+fn cltu(alloc: Global, words: &[&[u8]]) -> Result<Line, Reason>
+    ensures line { IfOk result (λ line. cltu_of (map (λ word. word.now) words.now) ≡ Ok line) }
+    ensures reason { IfErr result (λ reason. (reason ≡ Reason.NoMemory) ⊎ (cltu_of (map (λ word. word.now) words.now) ≡ Err reason)) }
+{
+    let [digits] = words else {
+        return Err(Reason::WordCount(Form::Cltu));
+    };
+    Ok(Line::Cltu(octets(alloc, digits)?))
+}
+
+fn random(alloc: Global, words: &[&[u8]]) -> Result<Line, Reason>
+    ensures line { IfOk result (λ line. random_of (map (λ word. word.now) words.now) ≡ Ok line) }
+    ensures reason { IfErr result (λ reason. (reason ≡ Reason.NoMemory) ⊎ (random_of (map (λ word. word.now) words.now) ≡ Err reason)) }
+{
+    let [digits] = words else {
+        return Err(Reason::WordCount(Form::Random));
+    };
+    Ok(Line::Random(octets(alloc, digits)?))
+}
+
+fn telemetry(alloc: Global, words: &[&[u8]]) -> Result<Line, Reason>
+    ensures line { IfOk result (λ line. telemetry_of (map (λ word. word.now) words.now) ≡ Ok line) }
+    ensures reason { IfErr result (λ reason. (reason ≡ Reason.NoMemory) ⊎ (telemetry_of (map (λ word. word.now) words.now) ≡ Err reason)) }
+{
+    let [digits] = words else {
+        return Err(Reason::WordCount(Form::Telemetry));
+    };
+    Ok(Line::Telemetry(octets(alloc, digits)?))
+}
+
+fn tm(alloc: Global, words: &[&[u8]]) -> Result<Line, Reason>
+    ensures line { IfOk result (λ line. tm_of (map (λ word. word.now) words.now) ≡ Ok line) }
+    ensures reason { IfErr result (λ reason. (reason ≡ Reason.NoMemory) ⊎ (tm_of (map (λ word. word.now) words.now) ≡ Err reason)) }
+{
+    let [scid, vcid, size, digits] = words else {
+        return Err(Reason::WordCount(Form::Tm));
+    };
+    Ok(Line::Tm(TmOrder {
+        scid: large_number(scid)?,
+        vcid: small_number(vcid)?,
+        size: large_number(size)?,
+        control: four(alloc, digits)?,
+    }))
+}
+
+fn decoder(words: &[&[u8]]) -> Result<Line, Reason>
+    ensures line { IfOk result (λ line. decoder_of (map (λ word. word.now) words.now) ≡ Ok line) }
+    ensures reason { IfErr result (λ reason. decoder_of (map (λ word. word.now) words.now) ≡ Err reason) }
+{
+    let [id, mode] = words else {
+        return Err(Reason::WordCount(Form::Decoder));
+    };
+    Ok(Line::Decoder {
+        id: small_number(id)?,
+        mode: read_mode(mode)?,
+    })
+}
+
+fn piece(alloc: Global, words: &[&[u8]]) -> Result<Line, Reason>
+    ensures line { IfOk result (λ line. octets_of (map (λ word. word.now) words.now) ≡ Ok line) }
+    ensures reason { IfErr result (λ reason. (reason ≡ Reason.NoMemory) ⊎ (octets_of (map (λ word. word.now) words.now) ≡ Err reason)) }
+{
+    let [id, digits] = words else {
+        return Err(Reason::WordCount(Form::Octets));
+    };
+    Ok(Line::Piece {
+        id: small_number(id)?,
+        octets: octets(alloc, digits)?,
+    })
+}
+
 fn ad_header(stream: Stream) -> Header
     ensures { result ≡ ad_header_of stream }
 {
@@ -329,5 +445,32 @@ fn octets(alloc: Global, digits: &[u8]) -> Result<Octets, Reason>
         Ok(octets) => Ok(Octets::from(octets)),
         Err(FromHexError::OutOfMemory) => Err(Reason::NoMemory),
         Err(_) => Err(Reason::BadHex),
+    }
+}
+
+// The four octets that hexadecimal digits spell.
+fn four(alloc: Global, digits: &[u8]) -> Result<[u8; 4], Reason>
+    ensures octets { IfOk result (λ octets. four_of digits.now ≡ Ok octets) }
+    ensures reason { IfErr result (λ reason. (reason ≡ Reason.NoMemory) ⊎ (four_of digits.now ≡ Err reason)) }
+{
+    let octets = octets(alloc, digits)?;
+    let [a, b, c, d] = octets.as_slice() else {
+        return Err(Reason::BadClcw);
+    };
+    Ok([*a, *b, *c, *d])
+}
+
+// How code blocks are decoded, as a word names it.
+fn read_mode(word: &[u8]) -> Result<Mode, Reason>
+    ensures { MatchResult result
+        (λ mode. mode_of word.now ≡ Ok mode)
+        (λ reason. mode_of word.now ≡ Err reason) }
+{
+    if word == b"detect".as_slice() {
+        Ok(Mode::Detect)
+    } else if word == b"correct".as_slice() {
+        Ok(Mode::Correct)
+    } else {
+        Err(Reason::BadMode)
     }
 }

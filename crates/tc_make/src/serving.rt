@@ -5,6 +5,7 @@ ghost use Rattle.tc_make.specs.Serving.{AreWritten, IsCutShort};
 
 use crate::answer;
 use crate::ending::Ending;
+use crate::maker::Maker;
 use std::alloc::Global;
 use std::io;
 use std::io::{BufRead, Write};
@@ -14,7 +15,7 @@ use tc_lines::{LineAnswerer, ServingFault};
 /// octets, fits.
 pub const MAX_LINE: usize = 262_144;
 
-impl LineAnswerer for Ending {
+impl LineAnswerer for Maker {
     ghost use Rattle.tc_make.specs.Serving.{IsAnswered};
 
     ghost answers = { IsAnswered };
@@ -25,7 +26,7 @@ impl LineAnswerer for Ending {
         octets: &[u8],
         writer: &mut W,
     ) -> io::Result<()> {
-        answer::answer_line(alloc, *self, octets, writer)
+        answer::answer_line(alloc, self, octets, writer)
     }
 }
 
@@ -43,6 +44,8 @@ pub fn answer_lines<R: BufRead, W: Write>(
     ensures written { OnOk result (IfSome (R.remaining reader.old) (λ octets. AreWritten ending octets (W.contents writer.old) (W.contents writer.new))) }
     ensures cut_short { IfErr result (λ fault. IfSome (R.remaining reader.old) (λ octets. IsCutShort ending octets (W.contents writer.old) (W.contents writer.new) fault)) }
 {
-    let mut ending = ending;
-    tc_lines::answer_lines(alloc, MAX_LINE - 1, &mut ending, reader, writer)
+    let Ok(mut maker) = Maker::new(alloc, ending) else {
+        return Err(ServingFault::NoMemory);
+    };
+    tc_lines::answer_lines(alloc, MAX_LINE - 1, &mut maker, reader, writer)
 }

@@ -11,7 +11,7 @@ use std::test::Fail;
 use tc_fecf::{FieldFault, with_field, without_field};
 use tc_link::{Command, Header};
 use tc_make::{
-    Ending, Line, Parting, Reason, ServingFault, answer_line, answer_lines, make_command,
+    Ending, Line, Maker, Parting, Reason, ServingFault, answer_line, answer_lines, make_command,
     make_frame, make_packet, parse_line,
 };
 use tc_packet::{Part, Segment};
@@ -171,7 +171,7 @@ fn growth_of_a_line_that_is_read(rt: HostRuntime) -> Result<(), Fail> {
 }
 
 // Lines, and what they are answered where frames end with their field.
-const LINES: [(&str, &str); 6] = [
+const LINES: [(&str, &str); 9] = [
     ("packet 5 0 aa", "packet 1005c0000000aa\n"),
     (
         "ad 42 1 0 0 1005c0000000aa",
@@ -190,6 +190,12 @@ const LINES: [(&str, &str); 6] = [
         "clcw 01041801",
         "clcw vc 1 status 0 norf 0 nobitlock 0 lockout 0 wait 1 retransmit 1 farmb 0 vr 1\n",
     ),
+    (
+        "cltu 22f600ff00421a",
+        "cltu eb9022f600ff00421a12c5c5c5c5c5c5c579\n",
+    ),
+    ("random 00000000", "random ff399e5a\n"),
+    ("tm 42 1 13 01040001", "tm 02a300001ffe550104000138f7\n"),
 ];
 
 // Keeps what is written, in room of its own.
@@ -213,13 +219,27 @@ impl Write for Kept {
     }
 }
 
+// What answers lines where frames end with their field, unless memory was wanting for it.
+fn new_maker(rt: &impl Print, alloc: Global) -> Option<Maker> {
+    match Maker::new(alloc, Ending::ErrorControl) {
+        Ok(maker) => Some(maker),
+        Err(_) => {
+            let _ = println!(rt; "refused: Maker::new");
+            None
+        }
+    }
+}
+
 // A line is answered, or what was written of its answer ends with the want of memory.
 fn answer_once(rt: &(impl Abort + Print), alloc: Global, line: &str, text: &str) {
     let mut kept = Kept {
         room: [0; 256],
         length: 0,
     };
-    answer_line(alloc, Ending::ErrorControl, line.as_bytes(), &mut kept).expect(rt, "an answer");
+    let Some(mut maker) = new_maker(rt, alloc) else {
+        return;
+    };
+    answer_line(alloc, &mut maker, line.as_bytes(), &mut kept).expect(rt, "an answer");
     let written = &kept.room[..kept.length];
     if written != text.as_bytes() {
         let _ = println!(rt; "refused: answer_line");
@@ -236,6 +256,39 @@ fn growth_of_each_answer(rt: HostRuntime) {
         answer_once(&rt, rt.alloc(), line, text);
     }
 }
+
+// A stream whose new decoder finds no memory keeps the one that it had.
+#[test]
+fn growth_of_a_decoder(rt: HostRuntime) {
+    let Some(mut maker) = new_maker(&rt, rt.alloc()) else {
+        return;
+    };
+    let mut kept = Kept {
+        room: [0; 256],
+        length: 0,
+    };
+    let lines = [
+        "decoder 3 detect",
+        "octets 3 eb90616263",
+        "decoder 3 detect",
+        "octets 3 55555555a2c5c5c5c5c5c5c579",
+    ];
+    for line in lines {
+        answer_line(rt.alloc(), &mut maker, line.as_bytes(), &mut kept).expect(&rt, "an answer");
+    }
+    let written = &kept.room[..kept.length];
+    if is_written(written, &[NONE, NONE]) {
+        return;
+    }
+    let _ = println!(rt; "refused: Decoders::begin");
+    let is_good = is_written(written, &[BAD, "bad no decoder\n", NONE])
+        || is_written(written, &[NONE, BAD, "frame 61626355555555\n", NONE])
+        || is_written(written, &[BAD, NONE])
+        || is_written(written, &[NONE, BAD]);
+    assert!(rt; is_good);
+}
+
+const NONE: &str = "blocks corrected 0 rejected 0\n";
 
 // A line that is answered with two frames, each of them, and the answers of other lines.
 const UNIT: &str = "segments 42 1 0 0 4 1005c0000000aa";
@@ -266,10 +319,10 @@ fn growth_amid_the_frames_of_a_unit(rt: HostRuntime) {
         room: [0; 256],
         length: 0,
     };
-    answer_line(rt.alloc(), Ending::ErrorControl, UNIT.as_bytes(), &mut kept).expect(
-        &rt,
-        "an answer",
-    );
+    let Some(mut maker) = new_maker(&rt, rt.alloc()) else {
+        return;
+    };
+    answer_line(rt.alloc(), &mut maker, UNIT.as_bytes(), &mut kept).expect(&rt, "an answer");
     let written = &kept.room[..kept.length];
     if is_written(written, &[BAD]) {
         let _ = println!(rt; "refused: answer_line");

@@ -12,6 +12,8 @@ fn reasons_of_bad_lines(rt: HostRuntime) {
         (Reason::WordCount(Form::Ad), "wrong number of words"),
         (Reason::BadNumber, "bad number"),
         (Reason::BadHex, "bad hex"),
+        (Reason::BadMode, "bad mode"),
+        (Reason::BadClcw, "bad clcw"),
         (Reason::BadScid, "bad spacecraft"),
         (Reason::BadVcid, "bad channel"),
         (Reason::BadMap, "bad map"),
@@ -20,7 +22,7 @@ fn reasons_of_bad_lines(rt: HostRuntime) {
         (Reason::BadSize, "bad size"),
         (Reason::NoData, "no data"),
         (Reason::TooMuchData, "too much data"),
-        (Reason::BadClcw, "bad clcw"),
+        (Reason::NoDecoder, "no decoder"),
         (Reason::NoMemory, "no memory"),
     ];
     assert!(&rt; have_texts(rt.alloc(), reasons.as_slice()));

@@ -1,0 +1,55 @@
+-- What lines about the link are answered: CLTUs, and telemetry frames.
+use Rattle.std.specs.Prelude.{◌≡◌, ◌⊎◌, ℕ, ◌==◌, ◌||◌, if◌then◌else◌, List, length, codes, nat_lt, Option, Some, None, unwrap_or}
+use Rattle.tc_cltu.specs.Cltu.{cltu, most_octets}
+use Rattle.tc_cltu.specs.Randomiser.{randomised}
+use Rattle.tc_tm.specs.Counting.{Counted, next_header, counted}
+use Rattle.tc_tm.specs.TmFrame.{tm_frame, least_length, most_length, fields_of, read_fault_of}
+use Rattle.tc_tm.specs.declared.frame.ErrorControl.{ErrorControl}
+use Rattle.tc_tm.specs.declared.frame.ErrorControl.TheVariants.{Absent, Present}
+use Rattle.tc_tm.specs.declared.reading.TmReadFault.{TmReadFault}
+use Rattle.tc_make.specs.Answer.{Unless}
+use Rattle.tc_make.specs.Printed.{bad_text, named_text, refused_text, tm_fault_text, tm_text}
+use Rattle.tc_make.specs.declared.ending.Ending.{Ending}
+use Rattle.tc_make.specs.declared.ending.Ending.TheVariants as endings
+use Rattle.tc_make.specs.declared.fault.Reason.{Reason}
+use Rattle.tc_make.specs.declared.fault.Reason.TheVariants.{BadScid, BadVcid, BadSize, NoData, TooMuchData, NoMemory}
+use Rattle.tc_make.specs.declared.line.TmOrder.{TmOrder}
+
+-- the first reason for which octets get no CLTU, in this order
+abbrev pub cltu_reason_of : List ℕ → Option Reason
+cltu_reason_of octets =
+    if length octets == 0 then Some NoData
+    else if nat_lt most_octets (length octets) then Some TooMuchData
+    else None
+
+abbrev pub IsCltuSaid : List ℕ → List ℕ → Type 0
+IsCltuSaid octets = Unless (cltu_reason_of octets) (λ text. text ≡ named_text (codes "cltu") (cltu octets))
+
+abbrev pub IsRandomSaid : List ℕ → List ℕ → Type 0
+IsRandomSaid octets text = text ≡ named_text (codes "random") (randomised octets)
+
+-- telemetry frames end as telecommand frames do
+abbrev pub error_of : Ending → ErrorControl
+error_of endings.DataField = Absent
+error_of endings.ErrorControl = Present
+
+-- octets as a telemetry frame, or why they are none
+abbrev pub IsTelemetrySaid : Ending → List ℕ → List ℕ → Type 0
+IsTelemetrySaid ending octets text =
+    ((read_fault_of (error_of ending) octets ≡ None) × (text ≡ tm_text (fields_of (error_of ending) octets)))
+    ⊎ ((fault : TmReadFault) × (read_fault_of (error_of ending) octets ≡ Some fault) × (text ≡ refused_text (tm_fault_text fault)))
+
+-- the first reason for which a telemetry frame isn't made, in this order
+abbrev pub tm_reason_of : Ending → TmOrder → Option Reason
+tm_reason_of ending order =
+    if nat_lt 1023 order.scid then Some BadScid
+    else if nat_lt 7 order.vcid then Some BadVcid
+    else if nat_lt order.size (least_length (error_of ending)) || nat_lt most_length order.size then Some BadSize
+    else None
+
+-- the next frame of a virtual channel, by the counts; or why it isn't made, and they don't go on
+abbrev pub IsTmSaid : Ending → Counted → TmOrder → Counted → List ℕ → Type 0
+IsTmSaid ending old order new text =
+    ((tm_reason_of ending order ≡ None) × (new ≡ counted old order.scid order.vcid)
+    × (text ≡ named_text (codes "tm") (tm_frame (error_of ending) (next_header old order.scid order.vcid) order.control order.size)))
+    ⊎ ((new ≡ old) × (text ≡ bad_text (unwrap_or (tm_reason_of ending order) NoMemory)))

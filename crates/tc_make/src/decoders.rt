@@ -1,0 +1,144 @@
+//! The decoders of streams of CLTUs.
+
+ghost use Rattle.std.specs.Prelude.{◌≡◌, ◌≤◌, OnOk};
+ghost use Rattle.std.specs.Io.KnownBytes.{Appends};
+ghost use Rattle.tc_cltu.specs.Cltu.{most_octets};
+ghost use Rattle.tc_cltu.specs.Reception.{step, state_after};
+ghost use Rattle.tc_lines.specs.Answering.{Writes};
+ghost use Rattle.tc_make.specs.Decoders.{IsFed, fed_text, candidates_text, corrections_of, rejections_of};
+
+use crate::fault::Reason;
+use crate::printed::{write_bad, write_named};
+use std::alloc::{AllocError, Global};
+use std::io;
+use std::io::Write;
+use std::marker::Model;
+use tc_cltu::{Decoder, Fate, Mode};
+
+// How many streams there may be at a time: their ids are octets.
+const STREAMS: usize = 256;
+
+/// The decoders of streams, by the ids of these: 0 to 255.
+#[derive(Drop)]
+pub struct Decoders {
+    slots: Vec<Option<Decoder>>,
+}
+
+impl Model for Decoders {
+    ghost use Rattle.std.specs.Prelude.{◌≡◌, List, Option, length};
+    ghost use Rattle.tc_cltu.specs.Reception.{Receiver};
+
+    ghost Value = { List (Option Receiver) };
+
+    ghost view = { λ d. d.slots.items };
+
+    ghost invariant = { λ d. length d.slots.items ≡ 256 };
+}
+
+impl Decoders {
+    ghost use Rattle.std.specs.Prelude.{◌≡◌, IfOk, OnOk, OnErr};
+    ghost use Rattle.tc_lines.specs.Answering.{Writes};
+    ghost use Rattle.tc_make.specs.Decoders.{no_decoders, begun, IsPieceSaid};
+
+    /// No decoder yet. This asks for memory, for as many as there may be.
+    #[tactic(auto, unfolding(crate::specs::Decoders::no_decoders))]
+    pub fn new(alloc: Global) -> Result<Decoders, AllocError>
+        ensures { IfOk result (λ decoders. decoders ≡ no_decoders) }
+    {
+        let mut slots = Vec::with_capacity(alloc, STREAMS)?;
+        for _ in 0..STREAMS {
+            slots.push(None).unwrap();
+        }
+        Ok(Decoders { slots })
+    }
+
+    /// Gives a stream a new decoder, which searches, in place of one that it may have had. The decoder takes memory.
+    pub fn begin(&mut self, alloc: Global, id: u8, mode: Mode) -> Result<(), AllocError>
+        ensures begun { OnOk result (self.new ≡ begun self.old id mode) }
+        ensures unchanged { OnErr result (self.new ≡ self.old) }
+    {
+        let decoder = Decoder::new(alloc, mode)?;
+        self.slots[usize::from(id)] = Some(decoder);
+        Ok(())
+    }
+
+    /// Gives the decoder of a stream its next octets, and writes the candidate frames that end in them, and how many code blocks were
+    /// corrected and rejected. It asks for no memory. At `Err` some first octets were taken.
+    pub fn write_piece<W: Write>(
+        &mut self,
+        id: u8,
+        octets: &[u8],
+        writer: &mut W,
+    ) -> io::Result<()>
+        ensures { OnOk result (Writes (W.contents writer.old) (W.contents writer.new) (IsPieceSaid self.old id octets.now self.new)) }
+    {
+        let slot = &mut self.slots[usize::from(id)];
+        feed(slot, octets, writer)
+    }
+}
+
+fn feed<W: Write>(
+    slot: &mut Option<Decoder>,
+    octets: &[u8],
+    writer: &mut W,
+) -> io::Result<()>
+    ensures { OnOk result (Writes (W.contents writer.old) (W.contents writer.new) (IsFed slot.old octets.now slot.new)) }
+{
+    let Some(decoder) = slot else {
+        return write_bad(Reason::NoDecoder, writer);
+    };
+    write_fed(decoder, octets, writer)
+}
+
+fn write_fed<W: Write>(
+    decoder: &mut Decoder,
+    octets: &[u8],
+    writer: &mut W,
+) -> io::Result<()>
+    ensures mode { OnOk result (decoder.new.mode ≡ decoder.old.mode) }
+    ensures state { OnOk result (decoder.new.state ≡ state_after decoder.old.mode most_octets decoder.old.state octets.now) }
+    ensures text { OnOk result (Appends (W.contents writer.old) (W.contents writer.new) (fed_text decoder.old octets.now)) }
+{
+    let mut corrected = 0usize;
+    let mut rejected = 0usize;
+    for octet in octets {
+        let fate = decoder.fate(*octet);
+        corrected += corrections(fate);
+        rejected += rejections(fate);
+        write_next(decoder, *octet, writer)?;
+    }
+    writeln!(writer, "blocks corrected {corrected} rejected {rejected}")
+}
+
+// Takes an octet, and writes the candidate frame that it ends.
+fn write_next<W: Write>(decoder: &mut Decoder, octet: u8, writer: &mut W) -> io::Result<()>
+    ensures mode { decoder.new.mode ≡ decoder.old.mode }
+    ensures state { decoder.new.state ≡ (step decoder.old.mode most_octets decoder.old.state octet).0 }
+    ensures text { OnOk result (Appends (W.contents writer.old) (W.contents writer.new)
+        (candidates_text (step decoder.old.mode most_octets decoder.old.state octet).1)) }
+{
+    if decoder.feed_octet(octet) {
+        return write_named("frame", decoder.held(), writer);
+    }
+    Ok(())
+}
+
+fn corrections(fate: Option<Fate>) -> usize
+    ensures count { result ≡ corrections_of fate }
+    ensures one { result ≤ 1 }
+{
+    match fate {
+        Some(Fate::Corrected) => 1,
+        _ => 0,
+    }
+}
+
+fn rejections(fate: Option<Fate>) -> usize
+    ensures count { result ≡ rejections_of fate }
+    ensures one { result ≤ 1 }
+{
+    match fate {
+        Some(Fate::Rejected) => 1,
+        _ => 0,
+    }
+}
