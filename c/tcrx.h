@@ -829,16 +829,30 @@ static inline tcrx_status tcrx_channel_free(tcrx_channel *channel) {
 
 /**
  * The octets of the array that a channel takes, as a constant: those that tcrx_storage_with_limits() answers, and all that it doesn't
- * count. For several channels take the sum.
+ * count. `parts` is the sum of what its settings, lists and limits take, each by its name. For several channels take the sum.
  *
- * `segmented` and `buffer` are those of the settings; `queues`, `maps` and `limits` are how many packet queues, chosen MAPs and listed
- * MAPs there are, and `items` the capacities of all queues and chosen MAPs together. `sum` has the limits of all 64 MAPs together:
- * without limits 64 * 65542, and without segment headers 0. `largest` is the largest limit: without limits 65542, and without
+ * So `TCRX_STORAGE_OF(TCRX_STORAGE_BUFFER(8) + TCRX_STORAGE_SEGMENTED(1024) + TCRX_STORAGE_QUEUES(4, 8, 1024) + TCRX_STORAGE_LIMITS(1))`
+ * is for a buffer for 8 data fields, one listed MAP of 1,024 octets, and four queues for 8 packets of up to 1,024 octets.
+ */
+#define TCRX_STORAGE_OF(parts) ((parts) + TCRX_OWN_STORAGE)
+
+/** A buffer for so many data fields. */
+#define TCRX_STORAGE_BUFFER(fields) ((size_t)(fields) * 1083u)
+
+/** Segment headers: `sum` has the limits of all 64 MAPs together, without limits 64 * 65542. */
+#define TCRX_STORAGE_SEGMENTED(sum) ((size_t)(sum) * 2u + 5120u)
+
+/**
+ * Packet queues with room for so many packets each. `largest` is the largest limit of all MAPs: without limits 65542, and without
  * segment headers at most 1019.
  */
-#define TCRX_STORAGE_OF(segmented, buffer, queues, maps, items, limits, sum, largest) \
-    ((size_t)(buffer) * 1083u + ((segmented) ? 5120u + 2u * (size_t)(sum) : 0u) + ((size_t)(queues) + (size_t)(maps)) * 76u \
-     + (size_t)(items) * (64u + (size_t)(largest)) + (size_t)(limits) * 8u + TCRX_OWN_STORAGE)
+#define TCRX_STORAGE_QUEUES(count, capacity, largest) ((size_t)(count) * ((size_t)(capacity) * (64u + (size_t)(largest)) + 76u))
+
+/** Chosen MAPs with room for so many units each; `largest` is that of the queues. */
+#define TCRX_STORAGE_MAPS(count, capacity, largest) TCRX_STORAGE_QUEUES(count, capacity, largest)
+
+/** So many limits of listed MAPs. */
+#define TCRX_STORAGE_LIMITS(count) ((size_t)(count) * 8u)
 
 /** What each channel takes for itself. */
 #define TCRX_OWN_STORAGE 320u

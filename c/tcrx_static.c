@@ -2,7 +2,8 @@
  * The memory of channels in a static array of the program's, for software that may ask for none once it has started: link it with
  * libtcrx.a in place of tcrx_memory.c. One file of the program has the array, as large as its channels need:
  *
- *     TCRX_STATIC_STORAGE(TCRX_STORAGE_OF(1, 8, 4, 0, 32, 1, 1024, 1024));
+ *     TCRX_STATIC_STORAGE(TCRX_STORAGE_OF(TCRX_STORAGE_BUFFER(8) + TCRX_STORAGE_SEGMENTED(1024) + TCRX_STORAGE_QUEUES(4, 8, 1024)
+ *                                         + TCRX_STORAGE_LIMITS(1)));
  *
  * Blocks of octets are cut from its end and all others from its front, so that no gaps are left between them. A block that is given
  * back isn't given again: make all channels at the start, and keep them. Where the array is too small a channel isn't made, by

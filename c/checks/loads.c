@@ -21,7 +21,9 @@ enum { FIRST = 1, CONTINUING = 0, LAST = 2, UNSEGMENTED = 3, MOST_FRAME = 1024, 
 #define tcrx_storage_used() ((size_t)0)
 #define tcrx_storage_seal() ((void)0)
 #else
-TCRX_STATIC_STORAGE(TCRX_STORAGE_OF(1, 64, 8, 2, 140, 0, MAPS * MOST_PACKET, MOST_PACKET));
+/* For each of the loads: at most 8 queues and 2 chosen MAPs, with room for 140 items together. */
+TCRX_STATIC_STORAGE(TCRX_STORAGE_OF(TCRX_STORAGE_BUFFER(64) + TCRX_STORAGE_SEGMENTED(MAPS * MOST_PACKET) + TCRX_STORAGE_QUEUES(8, 0, 0)
+                                    + TCRX_STORAGE_MAPS(2, 70, MOST_PACKET)));
 #endif
 
 typedef struct {

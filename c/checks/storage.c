@@ -82,6 +82,15 @@ static uint64_t items_of(const plan *p) {
     return items;
 }
 
+/* What a static array has for the channel, by the names of the parts. */
+static uint64_t static_storage(const plan *p) {
+    uint64_t parts = TCRX_STORAGE_BUFFER(p->settings.buffer) + TCRX_STORAGE_LIMITS(p->limited ? p->limit_count : 0);
+    if (p->settings.segmented == 1) parts += TCRX_STORAGE_SEGMENTED(all_limits(p));
+    for (size_t i = 0; i < p->queue_count; i++) parts += TCRX_STORAGE_QUEUES(1, p->queues[i].capacity, largest_of(p));
+    for (size_t i = 0; i < p->map_count; i++) parts += TCRX_STORAGE_MAPS(1, p->maps[i].capacity, largest_of(p));
+    return TCRX_STORAGE_OF(parts);
+}
+
 /* The sum, by the places of the table. */
 static uint64_t sum(const plan *p) {
     const uint64_t buffer = p->settings.buffer * (UINT64_C(64) + 1019);
@@ -115,8 +124,7 @@ static void check(const plan *p, uint64_t place) {
     expect(storage.status == made, "the status of a storage", place);
     if (made == TCRX_DONE) {
         const size_t limits = p->limited ? p->limit_count : 0, lists = 4 * (p->queue_count + p->map_count) + 8 * limits;
-        const uint64_t most = TCRX_STORAGE_OF(p->settings.segmented, p->settings.buffer, p->queue_count, p->map_count, items_of(p),
-                                              limits, all_limits(p), largest_of(p));
+        const uint64_t most = static_storage(p);
         const uint64_t all = storage.count + lists + OWN;
         expect(asked == all || !is_exact, "what the making asks for", place);
         expect(all + 63 < most && most <= all + 128, "what TCRX_STORAGE_OF says", place);
@@ -236,9 +244,7 @@ static const char *number(uint64_t value, char *text) {
 
 static void print_row(const char *settings, const char *limits, const plan *p) {
     char storage[32], array[32];
-    const uint64_t most = TCRX_STORAGE_OF(p->settings.segmented, p->settings.buffer, p->queue_count, p->map_count, items_of(p),
-                                          p->limited ? p->limit_count : 0, all_limits(p), largest_of(p));
-    printf("| %s | %s | %s | %s |\n", settings, limits, number(ask(p).count, storage), number(most, array));
+    printf("| %s | %s | %s | %s |\n", settings, limits, number(ask(p).count, storage), number(static_storage(p), array));
 }
 
 /* The rows of the table of c/README.md. */

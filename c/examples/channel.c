@@ -24,10 +24,12 @@ static void set_mode(const uint8_t *packet, size_t count) {
 }
 
 static const application applications[] = {{5, switch_heater}, {9, set_mode}};
-enum { APPLICATIONS = sizeof applications / sizeof applications[0], ITEMS = APPLICATIONS * PACKETS + PAYLOADS };
+enum { APPLICATIONS = sizeof applications / sizeof applications[0] };
 
 #ifdef SEALED
-TCRX_STATIC_STORAGE(TCRX_STORAGE_OF(1, BUFFER, APPLICATIONS, 1, ITEMS, 2, 2 * MOST_UNIT, MOST_UNIT));
+TCRX_STATIC_STORAGE(TCRX_STORAGE_OF(TCRX_STORAGE_BUFFER(BUFFER) + TCRX_STORAGE_SEGMENTED(2 * MOST_UNIT)
+                                    + TCRX_STORAGE_QUEUES(APPLICATIONS, PACKETS, MOST_UNIT) + TCRX_STORAGE_MAPS(1, PAYLOADS, MOST_UNIT)
+                                    + TCRX_STORAGE_LIMITS(2)));
 #endif
 
 static int print_refusal(tcrx_status status) {
