@@ -1,18 +1,19 @@
 -- What the receiving end gives.
-use Rattle.std.proofs.Common.{◌≡◌, ℕ, zero, suc, ◌+◌, ◌*◌, ◌/◌, ◌<◌, ◌≤◌, ◌==◌, ◌&&◌, Bool, true, false, List, [], ◌∷◌, ◌++◌, Option, Some, None, bit_xor, length, length-append, append_assoc, get_or, take, set, drop, drop-cons, add-one, nat_lt, if◌then◌else◌, subst, refl, ap, sym, ◌∙◌, arith, inl, inr}
-use Rattle.std.proofs.lemmas.Bool.{le-ltb, lt-ltb, cases_lt, cases_eq, ne_eqb}
+use Rattle.std.proofs.Common.{◌≡◌, ℕ, zero, suc, ◌+◌, ◌*◌, ◌/◌, ◌<◌, ◌≤◌, Bool, true, false, List, [], ◌∷◌, ◌++◌, Option, Some, None, bit_xor, length, length-append, append_assoc, get_or, take, set, drop, drop-cons, add-one, nat_lt, if◌then◌else◌, subst, refl, ap, sym, ◌∙◌, arith, inl, inr}
+use Rattle.std.proofs.lemmas.Bool.{le-ltb, lt-ltb, cases_lt}
 use Rattle.std.proofs.lemmas.Bool.Decides.{nat_tests}
 use Rattle.std.proofs.lemmas.List.{append-nil, append_cancel_right, drop_all, length-take-le, take_more, take-append-drop}
 use lib.Bits.{xor_self}
 use Rattle.tc_cltu.specs.Bits.{IsOctets, octet_bits}
-use Rattle.tc_cltu.specs.CodeBlock.{IsInformation, parity_of, times_x, code_block, decoded}
+use Rattle.tc_cltu.specs.CodeBlock.{IsInformation, parity_of, times_x, code_block, decoded, turned}
 use Rattle.tc_cltu.specs.Cltu.{cltu, start_sequence, tail_sequence, code_blocks, fill, filled, fault_of}
-use Rattle.tc_cltu.specs.Reception.{Receiver, Reception, Searching, Decoding, Step, step, after_block, fate_in, fate_of, state_after, frames_of, HasNoStart, IsSearching, IsReception, idle}
+use Rattle.tc_cltu.specs.Reception.{Receiver, Reception, Searching, Decoding, Step, is_start, step, after_block, fate_in, fate_of, state_after, frames_of, HasNoStart, IsSearching, IsReception, idle}
 use Rattle.tc_cltu.specs.declared.block.Fate.{Fate}
 use Rattle.tc_cltu.specs.declared.block.Mode.{Mode}
 use Rattle.tc_cltu.specs.declared.block.Mode.TheVariants.{Detect, Correct}
 use Rattle.tc_cltu.proofs.Words.{AreOctets, are-octets, is-octets, parity-fits}
 use Rattle.tc_cltu.proofs.Distance.{placed}
+use Rattle.tc_cltu.proofs.Starting.{start-far, start-same, first-far, idle-far, one-off}
 use Rattle.tc_cltu.proofs.Taking.{syndrome, none-wrong, some-wrong, more-wrong}
 
 state-append : (mode : Mode) (room : ℕ) (xs ys : List ℕ) (s : Reception) → state_after mode room s (xs ++ ys) ≡ state_after mode room (state_after mode room s xs) ys
@@ -175,15 +176,21 @@ tail-ends mode room f fs rest =
     ∙ ap (λ (o : Option (List ℕ)). (after_block room (f ∷ fs) o).1 ++ frames_of mode room (after_block room (f ∷ fs) o).0 rest) (tail-rejected mode)
 
 -- the start sequence is found, whatever came last
-no-start : (b : Bool) → (b && false) ≡ false
-no-start true = refl
-no-start false = refl
+quiet-step : (mode : Mode) (room last o : ℕ) → is_start mode last o ≡ false → step mode room (Searching last) o ≡ (Searching o, [])
+quiet-step mode room last o h = ap (λ (t : Bool). if t then (Decoding [] [], []) else (Searching o, [])) h
 
-start-step : (mode : Mode) (room last : ℕ) → step mode room (Searching last) 0xEB ≡ (Searching 0xEB, [])
-start-step mode room last = ap (λ (t : Bool). if t then (Decoding [] [], []) else (Searching 0xEB, [])) (no-start (last == 0xEB))
+found-step : (mode : Mode) (room last o : ℕ) → is_start mode last o ≡ true → step mode room (Searching last) o ≡ (Decoding [] [], [])
+found-step mode room last o h = ap (λ (t : Bool). if t then (Decoding [] [], []) else (Searching o, [])) h
+
+-- two octets that count as it, where the first of them doesn't end what does
+pair-found : (mode : Mode) (room last a b : ℕ) (rest : List ℕ) → is_start mode last a ≡ false → is_start mode a b ≡ true
+    → frames_of mode room (Searching last) (a ∷ b ∷ rest) ≡ frames_of mode room (Decoding [] []) rest
+pair-found mode room last a b rest first second =
+    ap (λ (s : Step). s.1 ++ frames_of mode room s.0 (b ∷ rest)) (quiet-step mode room last a first)
+    ∙ ap (λ (s : Step). s.1 ++ frames_of mode room s.0 rest) (found-step mode room a b second)
 
 start-found : (mode : Mode) (room last : ℕ) (rest : List ℕ) → frames_of mode room (Searching last) (start_sequence ++ rest) ≡ frames_of mode room (Decoding [] []) rest
-start-found mode room last rest = ap (λ (s : Step). s.1 ++ frames_of mode room s.0 (0x90 ∷ rest)) (start-step mode room last)
+start-found mode room last rest = pair-found mode room last 0xEB 0x90 rest (start-far mode last 0xEB first-far) (start-same mode)
 
 tail-ends-some : (mode : Mode) (room : ℕ) (fs rest : List ℕ) → 0 < length fs
     → frames_of mode room (Decoding fs []) (tail_sequence ++ rest) ≡ fs ∷ frames_of mode room (Searching 0) rest
@@ -196,32 +203,32 @@ filled-some frame some =
     let e : length (filled frame) ≡ length frame + length (take f.0 fill) = ap length f.2 ∙ length-append frame (take f.0 fill) in
     omega arith
 
--- a CLTU gives what it carries, whatever came last before it, and the search goes on behind it
-pub cltu-given : (mode : Mode) (room last : ℕ) (frame rest : List ℕ) → IsOctets frame → 0 < length frame → length (filled frame) ≤ room
-    → frames_of mode room (Searching last) (cltu frame ++ rest) ≡ filled frame ∷ frames_of mode room (Searching 0) rest
-cltu-given mode room last frame rest each some fits =
-    let body = code_blocks (filled frame) in
-    start-found mode room last (body ++ tail_sequence ++ rest)
-    ∙ ap (frames_of mode room (Decoding [] [])) (append_assoc body tail_sequence rest)
+-- what follows a start sequence gives what it carries, and the search goes on behind it
+body-given : (mode : Mode) (room : ℕ) (frame rest : List ℕ) → IsOctets frame → 0 < length frame → length (filled frame) ≤ room
+    → frames_of mode room (Decoding [] []) ((code_blocks (filled frame) ++ tail_sequence) ++ rest) ≡ filled frame ∷ frames_of mode room (Searching 0) rest
+body-given mode room frame rest each some fits =
+    ap (frames_of mode room (Decoding [] [])) (append_assoc (code_blocks (filled frame)) tail_sequence rest)
     ∙ blocks-taken mode room (filled frame) [] (tail_sequence ++ rest) (filled-octets frame (are-octets frame each)) (filled-sevens frame) (omega arith)
     ∙ tail-ends-some mode room (filled frame) rest (filled-some frame some)
 
+-- so a CLTU does, whatever came last before it
+pub cltu-given : (mode : Mode) (room last : ℕ) (frame rest : List ℕ) → IsOctets frame → 0 < length frame → length (filled frame) ≤ room
+    → frames_of mode room (Searching last) (cltu frame ++ rest) ≡ filled frame ∷ frames_of mode room (Searching 0) rest
+cltu-given mode room last frame rest each some fits =
+    start-found mode room last ((code_blocks (filled frame) ++ tail_sequence) ++ rest) ∙ body-given mode room frame rest each some fits
+
+-- and with correction also one with a wrong bit in its start sequence
+pub cltu-begun : (room last k : ℕ) (frame rest : List ℕ) → k < 16 → IsOctets frame → 0 < length frame → length (filled frame) ≤ room
+    → frames_of Correct room (Searching last) (turned (cltu frame) k ++ rest) ≡ filled frame ∷ frames_of Correct room (Searching 0) rest
+cltu-begun room last k frame rest less each some fits =
+    let body = code_blocks (filled frame) ++ tail_sequence in
+    let s = one-off k body less in
+    ap (λ (x : List ℕ). frames_of Correct room (Searching last) (x ++ rest)) s.2
+    ∙ pair-found Correct room last s.0 s.1 (body ++ rest) (start-far Correct last s.0 s.3) s.4
+    ∙ body-given Correct room frame rest each some fits
+
 -- ---- what has no start sequence gives nothing
-test-false : (a b : ℕ) → (a ≡ 0xEB → b ≡ 0x90 → ⊥) → (a == 0xEB && b == 0x90) ≡ false
-test-false a b h =
-    elim (cases_eq a 0xEB) [
-      | inl is ↦ elim (cases_eq b 0x90) [
-        | inl also ↦ absurd (h is also)
-        | inr other ↦ ap (λ (t : Bool). (a == 0xEB) && t) (ne_eqb b 0x90 other) ∙ no-start (a == 0xEB)
-      ]
-      | inr other ↦ ap (λ (t : Bool). t && (b == 0x90)) (ne_eqb a 0xEB other)
-    ]
-
-quiet-step : (mode : Mode) (room last o : ℕ) → (last ≡ 0xEB → o ≡ 0x90 → ⊥) → step mode room (Searching last) o ≡ (Searching o, [])
-quiet-step mode room last o h =
-    ap (λ (t : Bool). if t then (Decoding [] [], []) else (Searching o, [])) (test-false last o h)
-
-quiet : (mode : Mode) (room last : ℕ) (os rest : List ℕ) → HasNoStart last os
+quiet : (mode : Mode) (room last : ℕ) (os rest : List ℕ) → HasNoStart mode last os
     → (l : ℕ) × (frames_of mode room (Searching last) (os ++ rest) ≡ frames_of mode room (Searching l) rest)
 quiet mode room last [] rest h = (last, refl)
 quiet mode room last (o ∷ os) rest h =
@@ -229,7 +236,7 @@ quiet mode room last (o ∷ os) rest h =
     (more.0, ap (λ (s : Step). s.1 ++ frames_of mode room s.0 (os ++ rest)) (quiet-step mode room last o h.0) ∙ more.1)
 
 -- octets before a CLTU: all that is asked of them is that no start sequence stands in them
-pub found-after : (mode : Mode) (room last : ℕ) (before frame rest : List ℕ) → HasNoStart last before → IsOctets frame → 0 < length frame → length (filled frame) ≤ room
+pub found-after : (mode : Mode) (room last : ℕ) (before frame rest : List ℕ) → HasNoStart mode last before → IsOctets frame → 0 < length frame → length (filled frame) ≤ room
     → frames_of mode room (Searching last) (before ++ (cltu frame ++ rest)) ≡ filled frame ∷ frames_of mode room (Searching 0) rest
 found-after mode room last before frame rest quietly each some fits =
     let q = quiet mode room last before (cltu frame ++ rest) quietly in
@@ -262,7 +269,7 @@ idle-rejected Correct =
 idle-searching : (mode : Mode) (room n l : ℕ) → IsSearching (state_after mode room (Searching l) (idle n))
 idle-searching mode room zero l = tt
 idle-searching mode room (suc n) l =
-    subst (λ (s : Step). IsSearching (state_after mode room s.0 (idle n))) (sym (quiet-step mode room l 0x55 (λ a b. omega arith))) (idle-searching mode room n 0x55)
+    subst (λ (s : Step). IsSearching (state_after mode room s.0 (idle n))) (sym (quiet-step mode room l 0x55 (start-far mode l 0x55 idle-far))) (idle-searching mode room n 0x55)
 
 pub ended : (room : ℕ) (frame : List ℕ) → (after_block room frame None).0 ≡ Searching 0
 ended room [] = refl
@@ -326,18 +333,12 @@ after-kept room frame (Some information) =
 after-kept room [] None = tt
 after-kept room (f ∷ fs) None = tt
 
-found-step : (mode : Mode) (room last octet : ℕ) → (last == 0xEB && octet == 0x90) ≡ true → step mode room (Searching last) octet ≡ (Decoding [] [], [])
-found-step mode room last octet is = ap (λ (t : Bool). if t then (Decoding [] [], []) else (Searching octet, [])) is
-
-other-step : (mode : Mode) (room last octet : ℕ) → (last == 0xEB && octet == 0x90) ≡ false → step mode room (Searching last) octet ≡ (Searching octet, [])
-other-step mode room last octet is = ap (λ (t : Bool). if t then (Decoding [] [], []) else (Searching octet, [])) is
-
-search-kept : (mode : Mode) (room last octet : ℕ) (found : Bool) → (last == 0xEB && octet == 0x90) ≡ found → IsReception (step mode room (Searching last) octet).0
+search-kept : (mode : Mode) (room last octet : ℕ) (found : Bool) → is_start mode last octet ≡ found → IsReception (step mode room (Searching last) octet).0
 search-kept mode room last octet true is = subst (λ (s : Step). IsReception s.0) (sym (found-step mode room last octet is)) none-waits
-search-kept mode room last octet false is = subst (λ (s : Step). IsReception s.0) (sym (other-step mode room last octet is)) tt
+search-kept mode room last octet false is = subst (λ (s : Step). IsReception s.0) (sym (quiet-step mode room last octet is)) tt
 
 step-kept : (mode : Mode) (room octet : ℕ) (state : Reception) → IsReception state → IsReception (step mode room state octet).0
-step-kept mode room octet (Searching last) short = search-kept mode room last octet (last == 0xEB && octet == 0x90) refl
+step-kept mode room octet (Searching last) short = search-kept mode room last octet (is_start mode last octet) refl
 step-kept mode room octet (Decoding frame block) short =
     elim (cases_lt (length block) 7) [
       | inl less ↦ subst (λ (s : Step). IsReception s.0) (sym (part-step mode room octet frame block less)) (one-more block octet less)

@@ -7,6 +7,7 @@ pub mod Taking
 pub mod Turned
 pub mod Octets
 pub mod Fill
+pub mod Starting
 pub mod Decoding
 pub mod Division
 pub mod Random

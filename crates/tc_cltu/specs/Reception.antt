@@ -1,8 +1,9 @@
 -- The receiving end (CCSDS 231.0-B): it searches for a start sequence, and then decodes code blocks until it rejects one.
-use Rattle.std.specs.Prelude.{◌≡◌, ℕ, zero, suc, ◌+◌, ◌<◌, ◌≤◌, ◌==◌, ◌&&◌, List, [], ◌∷◌, ◌++◌, length, take, Option, Some, None, is_some, nat_eq, nat_lt, if◌then◌else◌}
+use Rattle.std.specs.Prelude.{◌≡◌, ℕ, zero, suc, ◌+◌, ◌<◌, ◌≤◌, Bool, true, false, List, [], ◌∷◌, ◌++◌, length, take, Option, Some, None, is_some, nat_eq, nat_lt, if◌then◌else◌}
 use Rattle.std.specs.Cmp.Lexicographic.{pointwise}
-use Rattle.tc_cltu.specs.CodeBlock.{decoded}
-use Rattle.tc_cltu.specs.Cltu.{tail_sequence}
+use Rattle.tc_cltu.specs.Bits.{bits_of, differences}
+use Rattle.tc_cltu.specs.CodeBlock.{decoded, most_errors}
+use Rattle.tc_cltu.specs.Cltu.{start_sequence, tail_sequence}
 use Rattle.tc_cltu.specs.declared.block.Fate.{Fate}
 use Rattle.tc_cltu.specs.declared.block.Fate.TheVariants.{Right, Corrected, Tail, Rejected}
 use Rattle.tc_cltu.specs.declared.block.Mode.{Mode}
@@ -25,8 +26,16 @@ after_block room frame (Some information) = if nat_lt room (length frame + 7) th
 after_block room [] None = (Searching 0, [])
 after_block room (o ∷ frame) None = (Searching 0, (o ∷ frame) ∷ [])
 
+-- at how many of their sixteen bits two octets differ from the start sequence
+unfoldable pub start_errors : ℕ → ℕ → ℕ
+start_errors last octet = differences (bits_of (last ∷ octet ∷ [])) (bits_of start_sequence)
+
+-- whether two octets count as the start sequence: with as many wrong bits as the mode allows a code block
+unfoldable pub is_start : Mode → ℕ → ℕ → Bool
+is_start mode last octet = if nat_lt (most_errors mode) (start_errors last octet) then false else true
+
 abbrev pub step : Mode → ℕ → Reception → ℕ → Step
-step mode room (Searching last) octet = if last == 0xEB && octet == 0x90 then (Decoding [] [], []) else (Searching octet, [])
+step mode room (Searching last) octet = if is_start mode last octet then (Decoding [] [], []) else (Searching octet, [])
 step mode room (Decoding frame block) octet =
     if nat_lt (length block) 7 then (Decoding frame (block ++ octet ∷ []), [])
     else after_block room frame (decoded mode (block ++ octet ∷ []))
@@ -67,10 +76,10 @@ pub record StopsShort (room : ℕ) (before after : Receiver) (octets : List ℕ)
   pub state : after.state ≡ state_after before.mode room before.state (take count octets)
   pub frames : frames_of before.mode room before.state (take count octets) ≡ given ++ after.held ∷ []
 
--- no start sequence is in the octets, nor begins with the one before them
-abbrev pub HasNoStart : ℕ → List ℕ → Type 0
-HasNoStart last [] = Unit {0}
-HasNoStart last (o ∷ os) = (last ≡ 0xEB → o ≡ 0x90 → ⊥) × HasNoStart o os
+-- no two octets in a row count as the start sequence, nor do the first and the one before it
+abbrev pub HasNoStart : Mode → ℕ → List ℕ → Type 0
+HasNoStart mode last [] = Unit {0}
+HasNoStart mode last (o ∷ os) = (is_start mode last o ≡ false) × HasNoStart mode o os
 
 abbrev pub IsSearching : Reception → Type 0
 IsSearching (Searching last) = Unit {0}

@@ -2,17 +2,18 @@
 
 ghost use Rattle.std.specs.Prelude.{◌≡◌, ◌++◌, ◌∷◌, [], List, ℕ, map, IfOk, OnOk, OnErr, if◌then◌else◌};
 ghost use Rattle.tc_cltu.specs.Cltu.{most_octets};
-ghost use Rattle.tc_cltu.specs.Reception.{Receiver, Searching, StopsShort, step, state_after, frames_of, fate_of};
+ghost use Rattle.tc_cltu.specs.Reception.{Receiver, Searching, StopsShort, start_errors, is_start, step, state_after, frames_of, fate_of};
 
 use crate::block::{Fate, Mode, decode_block, judge};
-use crate::writer::MOST_OCTETS;
+use crate::writer::{MOST_OCTETS, START};
 use std::alloc::{AllocError, Global};
 use std::marker::Model;
 
 /// Finds CLTUs in a stream of octets, and gives what each carries: a candidate frame, with fill behind it.
 ///
-/// It looks for the whole start sequence, without a wrong bit. What follows is decoded until a code block is rejected, which the
-/// tail sequence is in each mode. A CLTU that carries more than [`MOST_OCTETS`] gives nothing.
+/// It looks for the start sequence in each two octets in a row, of whose sixteen bits one may be wrong in [`Mode::Correct`], and none
+/// in [`Mode::Detect`]. What follows is decoded until a code block is rejected, which the tail sequence is in each mode. A CLTU that
+/// carries more than [`MOST_OCTETS`] gives nothing.
 #[derive(Drop)]
 pub struct Decoder {
     mode: Mode,
@@ -65,7 +66,7 @@ impl Decoder {
         ensures given { (if result then self.new.held ∷ [] else []) ≡ (step self.old.mode most_octets self.old.state octet).1 }
     {
         if !self.decoding {
-            if self.last == 0xeb && octet == 0x90 {
+            if begins(self.mode, self.last, octet) {
                 self.decoding = true;
                 self.frame.clear();
                 self.count = 0;
@@ -164,4 +165,22 @@ impl Decoder {
         frames.push(frame)?;
         Ok(())
     }
+}
+
+// Whether two octets count as the start sequence.
+fn begins(mode: Mode, last: u8, octet: u8) -> bool
+    ensures { result ≡ is_start mode last octet }
+{
+    let wrong = wrong_bits(last, octet);
+    match mode {
+        Mode::Detect => wrong == 0,
+        Mode::Correct => wrong <= 1,
+    }
+}
+
+// At how many of their bits two octets differ from the start sequence.
+fn wrong_bits(last: u8, octet: u8) -> u32
+    ensures { result ≡ start_errors last octet }
+{
+    (last ^ START[0]).count_ones() + (octet ^ START[1]).count_ones()
 }

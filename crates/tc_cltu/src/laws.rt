@@ -8,6 +8,7 @@ ghost use Rattle.tc_cltu.specs.Cltu.{cltu, filled, fill, most_octets, fault_of};
 ghost use Rattle.tc_cltu.specs.Reception.{Reception, Searching, state_after, frames_of, HasNoStart, IsSearching, IsReception, idle};
 ghost use Rattle.tc_cltu.specs.Randomiser.{randomised, random_octets, random_bits};
 ghost use Rattle.tc_cltu.specs.declared.block.Mode.{Mode};
+ghost use Rattle.tc_cltu.specs.declared.block.Mode.TheVariants.{Correct};
 
 /// The parity bits are the complement of the remainder of the division of the polynomials, and there is no other remainder.
 pub fn the_parity_is_the_remainder()
@@ -29,20 +30,22 @@ pub fn each_turned_bit_is_an_error()
         → errors (turned (turned (turned (code_block information) i) j) k) information ≡ 3 }
 {}
 
-/// While a receiving end searches, a CLTU gives the frame that it carries, with its fill, and the search goes on behind it. A stream
-/// gives the same in any pieces.
+/// While a receiving end searches, a CLTU gives the frame that it carries, with its fill, and the search goes on behind it; with
+/// correction also one with a wrong bit in its start sequence. A stream gives the same in any pieces.
 pub fn a_cltu_gives_its_frame()
     ensures given { (mode : Mode) (last : ℕ) (frame rest : List ℕ) → IsOctets frame → fault_of frame ≡ None
         → frames_of mode most_octets (Searching last) (cltu frame ++ rest) ≡ filled frame ∷ frames_of mode most_octets (Searching 0) rest }
+    ensures begun { (last k : ℕ) (frame rest : List ℕ) → k < 16 → IsOctets frame → fault_of frame ≡ None
+        → frames_of Correct most_octets (Searching last) (turned (cltu frame) k ++ rest) ≡ filled frame ∷ frames_of Correct most_octets (Searching 0) rest }
     ensures fill { (frame : List ℕ) → (k : ℕ) × (k < 7) × (filled frame ≡ frame ++ take k fill) }
     ensures pieces { (mode : Mode) (one other : List ℕ) (state : Reception) → frames_of mode most_octets state (one ++ other)
         ≡ frames_of mode most_octets state one ++ frames_of mode most_octets (state_after mode most_octets state one) other }
 {}
 
-/// Octets without a start sequence don't hide the CLTU behind them. From each state that octets can lead to, 15 octets of the idle
+/// Octets in which nothing counts as a start sequence don't hide the CLTU behind them. From each state that octets can lead to, 15 octets of the idle
 /// sequence lead back to the search, so the CLTU behind them is found.
 pub fn the_next_cltu_is_found()
-    ensures quiet { (mode : Mode) (last : ℕ) (before frame rest : List ℕ) → HasNoStart last before → IsOctets frame → fault_of frame ≡ None
+    ensures quiet { (mode : Mode) (last : ℕ) (before frame rest : List ℕ) → HasNoStart mode last before → IsOctets frame → fault_of frame ≡ None
         → frames_of mode most_octets (Searching last) (before ++ (cltu frame ++ rest)) ≡ filled frame ∷ frames_of mode most_octets (Searching 0) rest }
     ensures kept { (mode : Mode) (octets : List ℕ) (state : Reception) → IsReception state → IsReception (state_after mode most_octets state octets) }
     ensures back { (mode : Mode) (state : Reception) → IsReception state → IsSearching (state_after mode most_octets state (idle 15)) }

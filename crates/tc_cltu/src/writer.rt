@@ -12,7 +12,7 @@ use thiserror::Error;
 /// many.
 pub const MOST_OCTETS: usize = 1029;
 
-const START: [u8; 2] = [0xeb, 0x90];
+pub(crate) const START: [u8; 2] = [0xeb, 0x90];
 
 pub(crate) const TAIL: [u8; 8] = [0xc5, 0xc5, 0xc5, 0xc5, 0xc5, 0xc5, 0xc5, 0x79];
 

@@ -38,7 +38,7 @@ fn check_stream(rt: &impl Abort, alloc: Global, mode: Mode, stream: &str, expect
 }
 
 // Streams that give the same in each mode.
-const ALIKE: [(&str, &str); 8] = [
+const ALIKE: [(&str, &str); 9] = [
     // one CLTU
     ("eb90302a040500005594c5c5c5c5c5c5c579", "302a0405000055 "),
     // two code blocks
@@ -61,8 +61,9 @@ const ALIKE: [(&str, &str); 8] = [
         "eb90c5c5c5c5c5c5c579eb90302a040500005594c5c5c5c5c5c5c579",
         "302a0405000055 ",
     ),
-    // a wrong bit in the start sequence
-    ("eb91302a040500005594c5c5c5c5c5c5c579", ""),
+    // two wrong bits in the start sequence: in one of its octets, and in both
+    ("eb93302a040500005594c5c5c5c5c5c5c579", ""),
+    ("ea91302a040500005594c5c5c5c5c5c5c579", ""),
     // a CLTU without its last octet
     ("eb90302a040500005594c5c5c5c5c5c5c5", ""),
     // a start sequence alone, 15 octets of the idle sequence, and a CLTU
@@ -80,8 +81,25 @@ fn frames_are_found_in_pieces_of_any_length(rt: HostRuntime) {
     }
 }
 
-// Streams with wrong bits in code blocks: the candidate frames if they are detected, and if one is corrected.
-const WRONG: [(&str, &str, &str); 4] = [
+// Streams with wrong bits: the candidate frames if they are detected, and if one is corrected.
+const WRONG: [(&str, &str, &str); 7] = [
+    // the first and the last of the start sequence
+    (
+        "6b90302a040500005594c5c5c5c5c5c5c579",
+        "",
+        "302a0405000055 ",
+    ),
+    (
+        "eb91302a040500005594c5c5c5c5c5c5c579",
+        "",
+        "302a0405000055 ",
+    ),
+    // one in what counts as a start sequence before another one, whose octets are then a code block's
+    (
+        "eb80eb90302a040500005594c5c5c5c5c5c5c579",
+        "302a0405000055 ",
+        "",
+    ),
     // one in the first code block
     (
         "eb90302a040500005d94c5c5c5c5c5c5c579",
