@@ -1,15 +1,17 @@
 -- Octets that a decoder is given, one after the other.
-use Rattle.std.proofs.Common.{◌≡◌, ℕ, ◌+◌, ◌<◌, ◌≤◌, List, [], ◌∷◌, ◌++◌, length, get_or, drop, drop-cons, add-one, Option, refl, ap, sym, subst, ◌∙◌, add_assoc, arith}
+use Rattle.std.proofs.Common.{◌≡◌, ℕ, ◌+◌, ◌<◌, ◌≤◌, List, [], ◌∷◌, ◌++◌, length, get_or, drop, drop-cons, add-one, Option, refl, ap, sym, subst, ◌∙◌, add_assoc, arith, Some, None, slice_index_or, slice_set}
 use Rattle.std.specs.Io.KnownBytes.{Appends}
 use Rattle.std.proofs.KnownBytes.{Appends-nil}
 use Rattle.std.proofs.lemmas.Grind.{flat_map-append}
 use Rattle.std.proofs.lemmas.List.{drop_all}
-use Rattle.std.specs.Prelude.{codes}
-use Rattle.tc_cltu.specs.Reception.{Reception, step, frames_of, fate_of}
+use Rattle.std.proofs.lemmas.Option.{get_or_from_slice_get}
+use Rattle.std.specs.Prelude.{codes, slice_get}
+use Rattle.tc_lines.specs.Answering.{Writes}
+use Rattle.tc_cltu.specs.Reception.{Receiver, Reception, step, frames_of, fate_of}
 use Rattle.tc_cltu.specs.declared.block.Fate.{Fate}
 use Rattle.tc_cltu.specs.declared.block.Mode.{Mode}
 use Rattle.tc_cltu.proofs.Decoding.{fed-frames, fed-all-frames}
-use Rattle.tc_make.specs.Decoders.{counted_in, corrected_in, rejected_in, candidates_text, blocks_text}
+use Rattle.tc_make.specs.Decoders.{IsFed, IsPieceSaid, counted_in, corrected_in, rejected_in, candidates_text, blocks_text}
 use Rattle.tc_make.specs.Printed.{named_text}
 use Rattle.tc_make.proofs.Written.{joined}
 
@@ -25,8 +27,7 @@ pub one-fed : (mode was : Mode) (i : ℕ) (os : List ℕ) (first state next : Re
     → next ≡ (step mode 1029 state (get_or os i 0)).0 → IsSoFar was i os first state a b
     → Appends b c (candidates_text (step mode 1029 state (get_or os i 0)).1) → IsSoFar was (i + 1) os first next a c
 one-fed mode was i os first state next a b c less same is (given, before, h) now =
-    let more = (step mode 1029 state (get_or os i 0)).1 in
-    (
+    let more = (step mode 1029 state (get_or os i 0)).1 in (
       given ++ more,
       subst (Appends a c) (sym (flat_map-append (named_text (codes "frame")) given more)) (joined a b c (candidates_text given) (candidates_text more) before now),
       fed-frames mode was 1029 i os state next given (given ++ more) (frames_of was 1029 first os) less same is refl h,
@@ -63,3 +64,18 @@ all-fed mode i corrected rejected os first state a b c past (given, before, h) e
     joined a b c (candidates_text (frames_of mode 1029 first os)) (blocks_text (corrected_in mode first os) (rejected_in mode first os))
     (subst (λ (x : List (List ℕ)). Appends a b (candidates_text x)) frames before)
     (subst (λ (x : ℕ). Appends b c (blocks_text (corrected_in mode first os) x)) f (subst (λ (x : ℕ). Appends b c (blocks_text x rejected)) e now))
+
+-- the decoder of a stream was given octets
+pub piece-fed : (old items : List (Option Receiver)) (id at : ℕ) (octets : List ℕ) (was slot : Option Receiver) (a b : Option (List ℕ)) → items ≡ old → at ≡ id
+    → slice_get items at ≡ Some was → Writes a b (IsFed was octets slot) → Writes a b (IsPieceSaid old id octets (slice_set items at slot))
+piece-fed old items id at octets was slot a b e f h (text, is, w) =
+    let there : was ≡ slice_index_or old id None =
+    sym (get_or_from_slice_get items at was None h) ∙ ap (λ (xs : List (Option Receiver)). slice_index_or xs at None) e ∙ ap (λ (n : ℕ). slice_index_or old n None) f in (
+      text,
+      (
+        slot,
+        ap (λ (xs : List (Option Receiver)). slice_set xs at slot) e ∙ ap (λ (n : ℕ). slice_set old n slot) f,
+        subst (λ (v : Option Receiver). IsFed v octets slot text) there is,
+      ),
+      w,
+    )

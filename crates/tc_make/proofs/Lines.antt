@@ -3,11 +3,13 @@ use Rattle.std.proofs.Common.{◌≡◌, ◌⊎◌, inl, inr, ℕ, List, Option,
 use Rattle.std.specs.Prelude.{Result, Ok, Err}
 use Rattle.std.specs.Io.KnownBytes.{Appends}
 use Rattle.tc_lines.specs.Answering.{Writes}
-use Rattle.tc_make.specs.Answer.{IsSaid, IsKept, IsLineSaid, IsAnswer}
+use Rattle.tc_make.specs.Answer.{OrNoMemory, IsSaid, IsKept, IsLineSaid, IsAnswer}
 use Rattle.tc_make.specs.Printed.{bad_text}
 use Rattle.tc_make.specs.declared.fault.Reason.{Reason}
 use Rattle.tc_make.specs.declared.fault.Reason.TheVariants.{NoMemory}
+use Rattle.tc_make.specs.LinkAnswer.{IsTelemetrySaid}
 use Rattle.tc_make.specs.declared.line.Line.{Line}
+use Rattle.tc_make.specs.declared.line.Line.TheVariants.{Telemetry}
 use Rattle.tc_make.specs.declared.maker.Maker.{Maker}
 
 pub line-done : (old new : Maker) (said : Result Line Reason) (line : Line) (a b : Option (List ℕ)) → said ≡ Ok line → IsKept old line new
@@ -19,3 +21,8 @@ pub line-refused : (old : Maker) (said : Result Line Reason) (reason : Reason) (
 line-refused old said reason a b (inl e) w = (bad_text reason, inr (ap bad_text e, refl), w)
 line-refused old said reason a b (inr e) w =
     (bad_text reason, inl (subst (λ (v : Result Line Reason). IsLineSaid old v old (bad_text reason)) (sym e) (refl, refl)), w)
+
+pub telemetry-said : (old : Maker) (line : Line) (octets shown : List ℕ) (a b : Option (List ℕ)) → line ≡ Telemetry octets → shown ≡ octets
+    → Writes a b (OrNoMemory (IsTelemetrySaid old.ending shown)) → Writes a b (IsSaid old line old)
+telemetry-said old line octets shown a b e f w =
+    subst (λ (v : Line). Writes a b (IsSaid old v old)) (sym e) (subst (λ (os : List ℕ). Writes a b (OrNoMemory (IsTelemetrySaid old.ending os))) f w)

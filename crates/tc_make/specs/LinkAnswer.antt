@@ -7,8 +7,7 @@ use Rattle.tc_tm.specs.TmFrame.{tm_frame, least_length, most_length, fields_of, 
 use Rattle.tc_tm.specs.declared.frame.ErrorControl.{ErrorControl}
 use Rattle.tc_tm.specs.declared.frame.ErrorControl.TheVariants.{Absent, Present}
 use Rattle.tc_tm.specs.declared.reading.TmReadFault.{TmReadFault}
-use Rattle.tc_make.specs.Answer.{Unless}
-use Rattle.tc_make.specs.Printed.{bad_text, named_text, refused_text, tm_fault_text, tm_text}
+use Rattle.tc_make.specs.Printed.{Unless, bad_text, named_text, refused_text, tm_fault_text, tm_text}
 use Rattle.tc_make.specs.declared.ending.Ending.{Ending}
 use Rattle.tc_make.specs.declared.ending.Ending.TheVariants as endings
 use Rattle.tc_make.specs.declared.fault.Reason.{Reason}

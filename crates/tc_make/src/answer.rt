@@ -46,12 +46,7 @@ pub fn answer_line<W: Write>(
     }
 }
 
-fn answer<W: Write>(
-    alloc: Global,
-    maker: &mut Maker,
-    line: &Line,
-    writer: &mut W,
-) -> io::Result<()>
+fn answer<W: Write>(alloc: Global, maker: &mut Maker, line: &Line, writer: &mut W) -> io::Result<()>
     ensures said { OnOk result (Writes (W.contents writer.old) (W.contents writer.new) (IsSaid maker.old line.now maker.new)) }
     ensures kept { IsKept maker.old line.now maker.new }
 {
@@ -85,11 +80,7 @@ fn answer<W: Write>(
         Line::Telemetry(octets) => write_telemetry(ending, octets.as_slice(), writer),
         Line::Tm(order) => write_tm(alloc, ending, &mut maker.counts, *order, writer),
         Line::Decoder { id, mode } => begin(alloc, &mut maker.decoders, *id, *mode, writer),
-        Line::Piece { id, octets } => {
-            maker
-                .decoders
-                .write_piece(*id, octets.as_slice(), writer)
-        }
+        Line::Piece { id, octets } => { maker.decoders.write_piece(*id, octets.as_slice(), writer) }
     }
 }
 

@@ -5,7 +5,7 @@ ghost use Rattle.std.specs.Io.KnownBytes.{Appends};
 ghost use Rattle.tc_cltu.specs.Cltu.{most_octets};
 ghost use Rattle.tc_cltu.specs.Reception.{step, state_after};
 ghost use Rattle.tc_lines.specs.Answering.{Writes};
-ghost use Rattle.tc_make.specs.Decoders.{IsFed, fed_text, candidates_text, corrections_of, rejections_of};
+ghost use Rattle.tc_make.specs.Decoders.{IsFed, fed_text, candidates_text, blocks_text, corrections_of, rejections_of};
 
 use crate::fault::Reason;
 use crate::printed::{write_bad, write_named};
@@ -64,12 +64,7 @@ impl Decoders {
 
     /// Gives the decoder of a stream its next octets, and writes the candidate frames that end in them, and how many code blocks were
     /// corrected and rejected. It asks for no memory. At `Err` some first octets were taken.
-    pub fn write_piece<W: Write>(
-        &mut self,
-        id: u8,
-        octets: &[u8],
-        writer: &mut W,
-    ) -> io::Result<()>
+    pub fn write_piece<W: Write>(&mut self, id: u8, octets: &[u8], writer: &mut W) -> io::Result<()>
         ensures { OnOk result (Writes (W.contents writer.old) (W.contents writer.new) (IsPieceSaid self.old id octets.now self.new)) }
     {
         let slot = &mut self.slots[usize::from(id)];
@@ -77,11 +72,7 @@ impl Decoders {
     }
 }
 
-fn feed<W: Write>(
-    slot: &mut Option<Decoder>,
-    octets: &[u8],
-    writer: &mut W,
-) -> io::Result<()>
+fn feed<W: Write>(slot: &mut Option<Decoder>, octets: &[u8], writer: &mut W) -> io::Result<()>
     ensures { OnOk result (Writes (W.contents writer.old) (W.contents writer.new) (IsFed slot.old octets.now slot.new)) }
 {
     let Some(decoder) = slot else {
@@ -90,11 +81,7 @@ fn feed<W: Write>(
     write_fed(decoder, octets, writer)
 }
 
-fn write_fed<W: Write>(
-    decoder: &mut Decoder,
-    octets: &[u8],
-    writer: &mut W,
-) -> io::Result<()>
+fn write_fed<W: Write>(decoder: &mut Decoder, octets: &[u8], writer: &mut W) -> io::Result<()>
     ensures mode { OnOk result (decoder.new.mode ≡ decoder.old.mode) }
     ensures state { OnOk result (decoder.new.state ≡ state_after decoder.old.mode most_octets decoder.old.state octets.now) }
     ensures text { OnOk result (Appends (W.contents writer.old) (W.contents writer.new) (fed_text decoder.old octets.now)) }
@@ -107,6 +94,12 @@ fn write_fed<W: Write>(
         rejected += rejections(fate);
         write_next(decoder, *octet, writer)?;
     }
+    write_blocks(corrected, rejected, writer)
+}
+
+fn write_blocks<W: Write>(corrected: usize, rejected: usize, writer: &mut W) -> io::Result<()>
+    ensures { OnOk result (Appends (W.contents writer.old) (W.contents writer.new) (blocks_text corrected rejected)) }
+{
     writeln!(writer, "blocks corrected {corrected} rejected {rejected}")
 }
 

@@ -81,9 +81,15 @@ pub enum Line {
     /// Octets that are to be explained as a telemetry frame.
     Telemetry(Octets),
     /// A new decoder for the stream with this id.
-    Decoder { id: u8, mode: Mode },
+    Decoder {
+        id: u8,
+        mode: Mode,
+    },
     /// The next octets of the stream with this id.
-    Piece { id: u8, octets: Octets },
+    Piece {
+        id: u8,
+        octets: Octets,
+    },
 }
 
 /// Reads a line, which is given without its line feed. Its words and its octets take memory.

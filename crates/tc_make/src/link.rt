@@ -23,11 +23,7 @@ use tc_lines::Digits;
 use tc_tm::{Counts, ErrorControl, TmFault, TmFields, TmReadFault, read_tm};
 
 /// The CLTU that carries the octets.
-pub(crate) fn write_coded<W: Write>(
-    alloc: Global,
-    octets: &[u8],
-    writer: &mut W,
-) -> io::Result<()>
+pub(crate) fn write_coded<W: Write>(alloc: Global, octets: &[u8], writer: &mut W) -> io::Result<()>
     ensures { OnOk result (Writes (W.contents writer.old) (W.contents writer.new) (OrNoMemory (IsCltuSaid octets.now))) }
 {
     match coded(alloc, octets) {
@@ -50,11 +46,7 @@ fn coded(alloc: Global, octets: &[u8]) -> Result<Vec<u8>, Reason>
 }
 
 /// The octets with the random sequence added.
-pub(crate) fn write_random<W: Write>(
-    alloc: Global,
-    octets: &[u8],
-    writer: &mut W,
-) -> io::Result<()>
+pub(crate) fn write_random<W: Write>(alloc: Global, octets: &[u8], writer: &mut W) -> io::Result<()>
     ensures { OnOk result (Writes (W.contents writer.old) (W.contents writer.new) (OrNoMemory (IsRandomSaid octets.now))) }
 {
     match with_random(alloc, octets) {
