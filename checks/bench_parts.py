@@ -31,6 +31,15 @@ def programs(words: List[str]) -> List[Path]:
     return [TOP / f"crates/{name}/out/{name}" for name in names]
 
 
+class Programs:  # pylint: disable=too-few-public-methods  # a record
+    """The programs that are tried: those that were named, or those of this tree."""
+
+    def __init__(self, words: List[str]) -> None:
+        found = programs(words)
+        self.tclive = found[0]
+        self.tcrx, self.tcmake = found[1:] if len(found) == 3 else (TOP / "tcrx", TOP / "tcmake")
+
+
 def attempt_all(checks: List[Callable[[Path, Path], None]]) -> int:
     """Does each check, or those that the variable ONLY names, over a tclive and a folder; the status."""
     tclive, only = programs(sys.argv[1:])[0], os.environ.get("ONLY", "").split()

@@ -7,7 +7,7 @@ import sys
 import tempfile
 from contextlib import contextmanager
 from pathlib import Path
-from typing import Dict, Iterator, List, Optional
+from typing import Callable, Dict, Iterator, List, Optional, Sequence
 
 TOP = Path(__file__).resolve().parent.parent
 sys.path[:0] = [str(TOP / "examples"), str(TOP / "clients/python")]
@@ -17,15 +17,18 @@ from tcrx import Clcw  # pylint: disable=wrong-import-position
 
 # Seconds without a CLCW after which no more are expected, and between two that follow no frame.
 QUIET, PERIOD = 0.004, "0.02"
+# How frames come to the bench, and CLCWs to the place that is put there.
+PORTS = ("--tc-udp", "0", "--clcw-udp", "PLACE", "--period", PERIOD)
 
 
 class Remote:
     """What the sender needs of a receiver, over the ports of a bench that releases and takes by itself."""
 
-    def __init__(self, frames: int, packets: int, clcws: socket.socket) -> None:
-        self.clcws, self.frames = clcws, socket.socket(socket.AF_INET, socket.SOCK_DGRAM)
-        self.frames.connect(("127.0.0.1", frames))
-        self.packets_link = socket.create_connection(("127.0.0.1", packets), 60)
+    def __init__(self, ports: Dict[str, int], clcws: socket.socket) -> None:
+        self.clcws = clcws
+        self.frames = socket.socket(socket.AF_INET, socket.SOCK_DGRAM if "tc-udp" in ports else socket.SOCK_STREAM)
+        self.frames.connect(("127.0.0.1", ports["tc-udp" if "tc-udp" in ports else "tc-tcp"]))
+        self.packets_link = socket.create_connection(("127.0.0.1", ports["packets-tcp"]), 60)
         self.left = b""
 
     def bring(self, octets: bytes) -> None:
@@ -60,7 +63,8 @@ class Remote:
 
 
 @contextmanager
-def start(fecf: bool, tclive: Optional[Path]) -> Iterator[Remote]:
+def start(fecf: bool, tclive: Optional[Path], words: Sequence[str] = PORTS,
+          made: Callable[[Dict[str, int], socket.socket], Remote] = Remote) -> Iterator[Remote]:
     """Starts a bench on free ports."""
     clcws = socket.socket(socket.AF_INET, socket.SOCK_DGRAM)
     clcws.bind(("127.0.0.1", 0))
@@ -68,16 +72,16 @@ def start(fecf: bool, tclive: Optional[Path]) -> Iterator[Remote]:
     with tempfile.NamedTemporaryFile("w") as setup:
         setup.write("channel 1 20 4 0\nqueue 1 5 4\n")
         setup.flush()
-        words: List[str] = [sys.executable, str(TOP / "clients/python/tcrx_bench.py"), "--scid", "42", "--setup", setup.name, "--tc-udp", "0",
-                            "--packets-tcp", "0", "--clcw-udp", f"127.0.0.1:{clcws.getsockname()[1]}", "--period", PERIOD, *["--fecf"] * fecf]
-        words += ["--program", str(tclive)] if tclive else []
-        with subprocess.Popen(words, stdout=subprocess.PIPE, text=True) as child:
+        given: List[str] = [sys.executable, str(TOP / "clients/python/tcrx_bench.py"), "--scid", "42", "--setup", setup.name, "--packets-tcp", "0",
+                            *["--fecf"] * fecf, *(word.replace("PLACE", f"127.0.0.1:{clcws.getsockname()[1]}") for word in words)]
+        given += ["--program", str(tclive)] if tclive else []
+        with subprocess.Popen(given, stdout=subprocess.PIPE, text=True) as child:
             assert child.stdout
             ports: Dict[str, int] = {}
             for line in iter(child.stdout.readline, "ready\n"):
                 kind, _, port = line.replace(":", " ").split()
                 ports[kind] = int(port)
-            remote = Remote(ports["tc-udp"], ports["packets-tcp"], clcws)
+            remote = made(ports, clcws)
             try:
                 yield remote
             finally:

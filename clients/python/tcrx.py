@@ -492,16 +492,16 @@ class Process(Link):
             return status, self.errors.read().decode(errors="replace").strip()
 
 
-def find_program() -> str:
-    """Where `tclive` is: at the root of the repository where this file is in its folder there, or else on the path."""
+def find_program(name: str = "tclive") -> str:
+    """Where a program is: at the root of the repository where this file is in its folder there, or else on the path."""
     here = Path(__file__).resolve()
-    at_root = here.parents[2] / "tclive" if here.parts[-3:-1] == ("clients", "python") else None
+    at_root = here.parents[2] / name if here.parts[-3:-1] == ("clients", "python") else None
     if at_root and os.access(at_root, os.X_OK):
         return str(at_root)
-    found = shutil.which("tclive")
+    found = shutil.which(name)
     if found is None:
         places = f"{f'at {at_root}, nor ' if at_root else ''}in a folder of the path ({os.environ.get('PATH', '')})"
-        raise NotStarted(f"there is no program tclive {places}; name it by program=, or put its folder on the path")
+        raise NotStarted(f"there is no program {name} {places}; name it by program=, or put its folder on the path")
     return found
 
 

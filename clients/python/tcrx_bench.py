@@ -1,7 +1,7 @@
 """A bench that several can share: one spacecraft's telecommand receiver for many connections.
 
-Frames come in over TCP and UDP as they are, and people's lines; all go to one `tclive`, in the order of their arrival. CLCWs, packets
-and units go out to whoever listens, and a page shows the state. docs/howto/bench.md has the first three commands, and
+Frames come in over TCP and UDP as they are, or in CLTUs, and people's lines; all go to one `tclive`, in the order of their arrival. CLCWs,
+packets, units and telemetry frames go out to whoever listens, and a page shows the state. docs/howto/bench.md has the first three commands, and
 docs/reference/tcrx-bench.md each option.
 
 Standard library alone, Python 3.9 or later; tcrx.py and the folder tcrx_bench_parts must be next to this file.
@@ -25,6 +25,7 @@ if sys.version_info < (3, 9):
 import tcrx  # noqa: E402
 from tcrx_bench_parts.craft import Craft, Release, Turn  # noqa: E402
 from tcrx_bench_parts.demo import KEYS, SETUP, Demo  # noqa: E402
+from tcrx_bench_parts.edges import MAKER, CltuConnection, Decoding, Telemetry  # noqa: E402
 from tcrx_bench_parts.engine import Engine  # noqa: E402
 from tcrx_bench_parts.faults import Faults  # noqa: E402
 from tcrx_bench_parts.journal import Journal, replay  # noqa: E402
@@ -89,6 +90,9 @@ class Bench:  # pylint: disable=too-many-instance-attributes  # it is made of th
         self.listening: Dict[str, List[Port]] = {}
         self.targets: List[Target] = []
         self.faults: Optional[Faults] = None
+        self.maker = self._maker_of(options)
+        self.decoding = Decoding(options, self.maker, self.hub) if self.maker and options.cltu else None
+        self.telemetry = Telemetry(options, self.maker, self.craft) if self.maker and options.has_telemetry else None
         self.said_fault = False
         self.link_watch: Optional[LinkWatch] = None
         self.renewal: Optional["asyncio.Task[None]"] = None
@@ -104,10 +108,33 @@ class Bench:  # pylint: disable=too-many-instance-attributes  # it is made of th
         engine.over.add_done_callback(ended)
         return engine
 
+    def _maker_of(self, options: Namespace) -> Optional[Engine]:
+        """What decodes CLTUs and makes telemetry frames, where one of both is asked for. If it ends, so does the bench."""
+        def ended(over: "asyncio.Future[str]") -> None:
+            if over.result() and not self.over.done():
+                self.over.set_result(over.result())
+        if not options.cltu and not options.has_telemetry:
+            return None
+        maker = Engine(tcrx.Process([options.tcmake or tcrx.find_program("tcmake"), *["--fecf"] * options.tm_fecf]), options.patience, MAKER)
+        maker.over.add_done_callback(ended)
+        return maker
+
+    async def _is_up(self, engine: Engine, name: str) -> None:
+        """Waits until a program answers. Raises `NotUp` where it has ended."""
+        first: "asyncio.Future[str]" = engine.loop.create_future()
+        engine.ask(tcrx.PROBE, first.set_result)
+        either = {first, engine.over}
+        started, _ = await asyncio.wait(either, timeout=SLOW_START, return_when=asyncio.FIRST_COMPLETED)
+        if not started:
+            self.notes.say_once(f"{name} isn't up yet")
+            await asyncio.wait(either, return_when=asyncio.FIRST_COMPLETED)
+        if engine.over.done():
+            is_built = engine.status != tcrx.NOT_BUILT
+            raise NotUp((engine.over.result() if is_built else engine.error) or f"{engine.speech.name} has ended", 1)
+
     async def set_up(self) -> None:
         """Has the program set up. Raises `NotUp` where that can't be done."""
         bad: List[str] = []
-        first: "asyncio.Future[str]" = self.engine.loop.create_future()
 
         def answered(number: int, line: str, answer: str) -> None:
             if answer:
@@ -118,15 +145,9 @@ class Bench:  # pylint: disable=too-many-instance-attributes  # it is made of th
                 self.journal.write(line)
         for number, line in self.options.lines:
             self.engine.set_up(line, partial(answered, number, line))
-        self.engine.ask(tcrx.PROBE, first.set_result)
-        either = {first, self.engine.over}
-        started, _ = await asyncio.wait(either, timeout=SLOW_START, return_when=asyncio.FIRST_COMPLETED)
-        if not started:
-            self.notes.say_once("tclive isn't up yet")
-            await asyncio.wait(either, return_when=asyncio.FIRST_COMPLETED)
-        if self.engine.over.done():
-            is_built = self.engine.status != tcrx.NOT_BUILT
-            raise NotUp((self.engine.over.result() if is_built else self.engine.error) or "the receiver has ended", 1)
+        await self._is_up(self.engine, "tclive")
+        if self.maker:
+            await self._is_up(self.maker, "tcmake")
         if bad:
             raise NotUp(bad[0], 2)
 
@@ -135,14 +156,14 @@ class Bench:  # pylint: disable=too-many-instance-attributes  # it is made of th
         hosts = [place.host for place in self.options.places if place.kind == "http"]
         self.web = Web(self.hub, hosts) if hosts else None
         makers: Dict[str, Callable[[Port], Connection]] = {
-            "tc-tcp": lambda port: FrameConnection(port, Cutter(self.options.scid, self.options.fill, self.options.resync, self.options.fecf)),
-            "lines": LineConnection, "clcw-tcp": Reader, "packets-tcp": Reader, "units-tcp": Reader, "http": self._visitor}
+            "tc-tcp": self._sender_of_frames, "lines": LineConnection, "clcw-tcp": Reader, "packets-tcp": Reader, "units-tcp": Reader,
+            "tm-tcp": Reader, "http": self._visitor}
         for place in self.options.places:
             try:
                 if place.kind in makers:
                     self.listening.setdefault(place.kind, []).append(await self.hub.listen(place, makers[place.kind]))
                 elif place.kind == "tc-udp":
-                    Datagrams(place, self.hub, self.options.fill)
+                    Datagrams(place, self.hub, self.options.fill, self.decoding.feed_datagram if self.decoding else None)
                 else:
                     self.targets.append(Target(place, self.hub))
             except (OSError, OverflowError) as error:
@@ -151,6 +172,19 @@ class Bench:  # pylint: disable=too-many-instance-attributes  # it is made of th
             self.faults = Faults(self.options, self.hub)
         for name, kind in (("send_clcw", "clcw"), ("send_packet", "packets"), ("send_unit", "units")):
             setattr(self.craft, name, self._sender(kind))
+        self.craft.edges = self._edges
+        if self.telemetry:
+            self.telemetry.send = self._sender("tm")
+
+    def _sender_of_frames(self, port: Port) -> Connection:
+        """A connection of one that sends frames, or CLTUs."""
+        if self.decoding:
+            return CltuConnection(port, self.decoding)
+        return FrameConnection(port, Cutter(self.options.scid, self.options.fill, self.options.resync, self.options.fecf))
+
+    def _edges(self) -> Dict[str, object]:
+        """What is known of CLTUs and telemetry frames, as values of JSON."""
+        return {"cltu": self.decoding.state() if self.decoding else None, "telemetry": self.telemetry.state() if self.telemetry else None}
 
     def _visitor(self, port: Port) -> Visitor:
         """A connection of the page."""
@@ -161,7 +195,7 @@ class Bench:  # pylint: disable=too-many-instance-attributes  # it is made of th
         """What sends to all places of a kind."""
         targets, ports = [target for target in self.targets if target.port.place.kind == f"{kind}-udp"], self.listening.get(f"{kind}-tcp", [])
         send = all_senders([*(target.send for target in targets), readers_sender(ports)])
-        return self.faults.sender(send, [*ports, *(target.port for target in targets)]) if self.faults and kind == "clcw" else send
+        return self.faults.sender(send, [*ports, *(target.port for target in targets)]) if self.faults and kind in ("clcw", "tm") else send
 
     def say_ports(self) -> None:
         """Says where it listens, one line a port. Raises `NotUp` where that can't be written."""
@@ -188,6 +222,8 @@ class Bench:  # pylint: disable=too-many-instance-attributes  # it is made of th
         if self.options.link_timeout:
             self.link_watch = LinkWatch(self.craft, self.options.link_timeout)
         self.craft.renew = self._renew
+        if self.telemetry:
+            self.telemetry.begin()
         self._write_log()
 
     def _renew(self, turn: Turn) -> None:
@@ -257,12 +293,17 @@ class Bench:  # pylint: disable=too-many-instance-attributes  # it is made of th
         if not self.engine.over.done():
             self.engine.end_lines()
             await self.engine.over
-        why = self.engine.over.result()
+        if self.maker and not self.maker.over.done():
+            self.maker.end_lines()
+            await self.maker.over
+        own = self.engine.over.result()
+        why = own or (self.maker.over.result() if self.maker else "")
+        self._log_edges()
         if left:
             self._say_unanswered(left)
         if why:
             self._tell_all(why)
-        else:
+        if not own:
             self.journal.end(self.engine.report)
         if self.web:
             self.web.end(why)
@@ -272,7 +313,7 @@ class Bench:  # pylint: disable=too-many-instance-attributes  # it is made of th
         await self.hub.close(LAST_READ)
         for target in self.targets:
             target.close()
-        said = bool(why) or self._say_report()
+        said = bool(own) or self._say_report()
         self.notes.say_left_out()
         return 1 if why or left or self.journal.fault or not said else 0
 
@@ -281,7 +322,7 @@ class Bench:  # pylint: disable=too-many-instance-attributes  # it is made of th
         until = time.monotonic() + LAST_ANSWERS * self.options.patience
         while not self._is_answered() and time.monotonic() < until:
             await asyncio.sleep(0.005)
-        left = self.craft.leave()
+        left = self.craft.leave() + (self.decoding.leave() if self.decoding else [])
         # What is under way is answered in any case; a receiver that doesn't answer is ended.
         while not self._is_answered():
             await asyncio.sleep(0.005)
@@ -289,7 +330,20 @@ class Bench:  # pylint: disable=too-many-instance-attributes  # it is made of th
 
     def _is_answered(self) -> bool:
         """Whether there is nothing to be answered, or nobody who answers."""
-        return not self.craft.is_renewing and (self.engine.over.done() or self.craft.idle())
+        is_decoded = not self.maker or not self.decoding or self.maker.over.done() or self.decoding.idle()
+        return is_decoded and not self.craft.is_renewing and (self.engine.over.done() or self.craft.idle())
+
+    def _log_edges(self) -> None:
+        """Adds to the log what was counted of CLTUs and telemetry frames."""
+        for name, counts in self._edges().items():
+            if isinstance(counts, dict):
+                self.journal.write(" ".join([f"# {name}:", *(f"{what} {count}" for what, count in counts.items())]))
+
+    def stop(self, why: str) -> None:
+        """Ends the programs, for this reason."""
+        for engine in (self.engine, self.maker):
+            if engine:
+                engine.stop(why)
 
     def _say_unanswered(self, left: List[Turn]) -> None:
         """Names what had arrived and wasn't answered."""
@@ -335,7 +389,7 @@ async def serve(options: Namespace) -> int:
 
     def ask_to_end() -> None:
         if asked.done():
-            bench.engine.stop("interrupted twice")
+            bench.stop("interrupted twice")
         else:
             asked.set_result("asked to end")
     for number in (signal.SIGTERM, signal.SIGINT, signal.SIGHUP):
@@ -345,7 +399,7 @@ async def serve(options: Namespace) -> int:
         await bench.open_ports()
         bench.say_ports()
     except NotUp as error:
-        bench.engine.stop(str(error))
+        bench.stop(str(error))
         await bench.hub.stop_listening()
         journal.close()
         raise

@@ -94,7 +94,7 @@ class Craft:  # pylint: disable=too-many-instance-attributes  # what is known of
         """What sets up is under way, or the receiver is begun anew: what comes behind it waits."""
         self.refused: Counter[str] = Counter()
         self.bad: Counter[str] = Counter()
-        self.frames = self.packets = self.units = 0
+        self.frames = self.packets = self.units = self.refused_of_ports = 0
         self.last_events: Deque[Event] = deque(maxlen=LAST_EVENTS)
         self.last_notes: Deque[Dict[str, object]] = deque(maxlen=LAST_NOTES)
         """What happened on ports, in a list of its own, so that no peer drives the receiver's events out."""
@@ -102,6 +102,8 @@ class Craft:  # pylint: disable=too-many-instance-attributes  # what is known of
         self.send_clcw: Callable[[bytes], None] = lambda octets: None
         self.send_packet: Callable[[bytes], None] = lambda octets: None
         self.send_unit: Callable[[bytes], None] = lambda octets: None
+        self.edges: Callable[[], Dict[str, object]] = lambda: {"cltu": None, "telemetry": None}
+        """What is known of CLTUs and telemetry frames, as values of JSON."""
         self.arrived: Callable[[], None] = lambda: None
         """Called when a frame arrives."""
         self.slow: Callable[[bool], None] = lambda slow: None
@@ -210,7 +212,10 @@ class Craft:  # pylint: disable=too-many-instance-attributes  # what is known of
         self._note_event(turn, answer)
         if turn.asker:
             turn.asker(answer)
-        (self.bad if answer.startswith("bad ") else self.refused)[without_hint(answer).partition(" ")[2]] += 1
+        is_bad = answer.startswith("bad ")
+        (self.bad if is_bad else self.refused)[without_hint(answer).partition(" ")[2]] += 1
+        # Nobody asks for the answer where a frame came by a port for frames.
+        self.refused_of_ports += not turn.asker and not is_bad
 
     def _frame_answered(self, turn: Turn, answers: List[str]) -> None:
         """Counts a frame, and hands on what came of it. Behind one that was refused nothing did."""
@@ -422,7 +427,7 @@ class Craft:  # pylint: disable=too-many-instance-attributes  # what is known of
     def state(self) -> Dict[str, object]:
         """All that is known of the receiver, as values of JSON."""
         return {"spacecraft": self.scid, "fecf": self.fecf, "release": self.release.value, "frames": self.frames,
-                "packets": self.packets, "units": self.units, "refused": dict(self.refused), "bad": dict(self.bad),
+                "packets": self.packets, "units": self.units, "refused": dict(self.refused), "bad": dict(self.bad), **self.edges(),
                 "channels": [state_of(self.channels[vcid]) for vcid in sorted(self.channels)]}
 
 

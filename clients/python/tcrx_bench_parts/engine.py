@@ -1,4 +1,4 @@
-"""The one receiver of the bench: a `tclive` that lines go to without waiting for the answers of those before them.
+"""The programs of the bench, its one receiver `tclive` and its `tcmake`: lines go to them without waiting for the answers of those before.
 
 All happens in the thread of the event loop. Answers come in the order of the lines, so each belongs to the line that waits longest.
 """
@@ -8,14 +8,11 @@ import asyncio
 import re
 import time
 from collections import deque
-from typing import Callable, Deque, List, Optional, Protocol, Set, Tuple, TypeVar
+from typing import Callable, Deque, Dict, FrozenSet, List, NamedTuple, Optional, Pattern, Protocol, Set, Tuple, TypeVar
 
 from tcrx import COUNTS, LONGEST_ANSWER, LONGEST_REPORT, NUMBER, PROBE, PROBE_ANSWER, Process, without_hint
 
 Answered = Callable[[str], None]
-# The words of what is handed on behind a frame; and how the last answer of a block begins.
-HANDED_ON = frozenset({"release", "take", "unit", "clcw"})
-LAST = ("clcw ", "bad ", "refused channel")
 # Answers whose form isn't looked at twice.
 MOST_FITTING = 4096
 
@@ -30,18 +27,37 @@ class Block(Protocol):  # pylint: disable=too-few-public-methods  # it is what o
 Given = TypeVar("Given", bound=Block)
 # Octets that are read at once.
 CHUNK = 1 << 18
-# The form of each answer, by its first word.
-FORMS = {word: re.compile(rf"{word} {NUMBER} {rest}") for word, rest in (
-    ("frame", f"E[1-9] accepted [01] {COUNTS}"), ("release", COUNTS), ("take", rf"{NUMBER} [0-9a-f]+"), ("clcw", "[0-9a-f]{8}"),
-    ("unit", rf"{NUMBER} (?:-|[0-9a-f]+)"), ("link", "[01] [01]"),
-    ("report", rf"state (?:open|wait|lockout) vr {NUMBER} .* buffered {NUMBER}(?: queue {NUMBER} {NUMBER})*(?: map {NUMBER} {NUMBER})*"))}
+
+
+class Speech(NamedTuple):
+    """How a program answers."""
+
+    name: str
+    """What it is called where it ends, or doesn't answer."""
+    forms: Dict[str, Pattern[str]]
+    """The form of each answer, by its first word."""
+    opens: Tuple[str, ...]
+    """The lines whose answers are of other lines, and so are those behind the first answer of a block: of the words `inner`."""
+    inner: FrozenSet[str]
+    last: Tuple[str, ...]
+    """How the last answer of a block begins."""
+    again: FrozenSet[str]
+    """The words of answers of which there are few, again and again."""
+
+
+RECEIVER = Speech(
+    "the receiver", {word: re.compile(rf"{word} {NUMBER} {rest}") for word, rest in (
+        ("frame", f"E[1-9] accepted [01] {COUNTS}"), ("release", COUNTS), ("take", rf"{NUMBER} [0-9a-f]+"), ("clcw", "[0-9a-f]{8}"),
+        ("unit", rf"{NUMBER} (?:-|[0-9a-f]+)"), ("link", "[01] [01]"),
+        ("report", rf"state (?:open|wait|lockout) vr {NUMBER} .* buffered {NUMBER}(?: queue {NUMBER} {NUMBER})*(?: map {NUMBER} {NUMBER})*"))},
+    ("deliver",), frozenset({"release", "take", "unit", "clcw"}), ("clcw ", "bad ", "refused channel"), frozenset({"frame", "release"}))
 
 
 class Engine:  # pylint: disable=too-many-instance-attributes  # both ways of one connection, and its end
     """Writes lines to the program and hands each answer to the one that waits for it."""
 
-    def __init__(self, process: Process, patience: float) -> None:
-        self.process, self.patience = process, patience
+    def __init__(self, process: Process, patience: float, speech: Speech = RECEIVER) -> None:
+        self.process, self.patience, self.speech = process, patience, speech
         self.loop = asyncio.get_running_loop()
         self.pending: Deque[Tuple[str, Callable[..., None], Optional[Block]]] = deque()
         """The lines that are under way, each with what is called with its answer, or with its block and all answers of that."""
@@ -78,6 +94,11 @@ class Engine:  # pylint: disable=too-many-instance-attributes  # both ways of on
     def ask_block(self, line: str, answered: Callable[[Given, List[str]], None], block: Given) -> None:
         """Writes a line, or two, whose answers end with a CLCW, and are handed on together."""
         self._ask(line, answered, block)
+
+    def tell(self, line: str) -> None:
+        """Writes a line that has no answer, in front of the next one that has."""
+        if not self._ending:
+            self._out.append(line)
 
     def _ask(self, line: str, answered: Callable[..., None], block: Optional[Block]) -> None:
         if self._ending:
@@ -159,12 +180,12 @@ class Engine:  # pylint: disable=too-many-instance-attributes  # both ways of on
         self._lines += lines
         self._hand_on()
         if len(self._begun) > LONGEST_ANSWER:
-            self.stop("an answer of the receiver has no end")
+            self.stop(f"an answer of {self.speech.name} has no end")
         self.answered()
 
     def _hand_on(self) -> None:
         """Gives each answer to the line that waits longest, and each whole block of answers to its own, or adds to the final report."""
-        lines, pending, at = self._lines, self.pending, 0
+        lines, pending, at, its_last = self._lines, self.pending, 0, self.speech.last
         end = len(lines)
         while at < end and not self.over.done():
             if not pending:
@@ -173,7 +194,7 @@ class Engine:  # pylint: disable=too-many-instance-attributes  # both ways of on
                 continue
             line, answered, block = pending[0]
             last = at + block.first if block else at
-            while block and last < end and not lines[last].startswith(LAST):
+            while block and last < end and not lines[last].startswith(its_last):
                 last += 1
             if last >= end:
                 break
@@ -195,15 +216,16 @@ class Engine:  # pylint: disable=too-many-instance-attributes  # both ways of on
         del lines[:at]
 
     def _unfit(self, line: str, answers: List[str]) -> Optional[int]:
-        """The first of the answers to a line, or two, that hasn't their form, if there is one. Those to `deliver` are of other lines."""
+        """The first of the answers to a line, or two, that hasn't their form, if there is one. Those to some are of other lines."""
+        _, forms, opens, inner, _, again = self.speech
         for place, answer in enumerate(answers):
             word = answer.partition(" ")[0]
             if word in ("bad", "refused"):
                 continue
-            may_be = word in HANDED_ON if place or line.startswith("deliver") else line.startswith(word)
-            if not may_be or not (answer in self._fitting or (word in FORMS and FORMS[word].fullmatch(answer))):
+            may_be = word in inner if place or line.startswith(opens) else line.startswith(word)
+            if not may_be or not (answer in self._fitting or (word in forms and forms[word].fullmatch(answer))):
                 return place
-            if word in ("frame", "release") and len(self._fitting) < MOST_FITTING:
+            if word in again and len(self._fitting) < MOST_FITTING:
                 self._fitting.add(answer)
         return None
 
@@ -224,7 +246,7 @@ class Engine:  # pylint: disable=too-many-instance-attributes  # both ways of on
             return
         self.status, self.error = self.process.end(kill=False)
         in_order = self._ending and not self.pending and self.status == 0
-        self.over.set_result("" if in_order else f"the receiver has ended with status {self.status}{': ' if self.error else ''}{self.error}")
+        self.over.set_result("" if in_order else f"{self.speech.name} has ended with status {self.status}{': ' if self.error else ''}{self.error}")
 
     def stop(self, why: str) -> None:
         """Ends the program, for this reason."""
@@ -246,6 +268,6 @@ class Engine:  # pylint: disable=too-many-instance-attributes  # both ways of on
         late = waits and time.monotonic() - self._heard > self.patience
         self._overdue = self._overdue + 1 if late else 0
         if self._overdue > 2:
-            self.stop(f"the receiver didn't answer within {self.patience:g} seconds")
+            self.stop(f"{self.speech.name} didn't answer within {self.patience:g} seconds")
         else:
             self.loop.call_later(min(1.0, self.patience / 4), self._watch)

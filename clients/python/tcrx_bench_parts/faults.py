@@ -13,7 +13,8 @@ MOST_DELAYED = 2048
 
 
 class Faults:  # pylint: disable=too-few-public-methods  # it is called by the ports
-    """A link that loses, repeats, delays and changes the frames that arrive, and loses CLCWs. Each time is counted at a port."""
+    """A link that loses, repeats, delays and changes the frames that arrive, and loses CLCWs and telemetry frames. Each time is counted at
+    a port."""
 
     def __init__(self, options: Namespace, hub: Hub) -> None:
         self.options, self.craft, self.loop = options, hub.craft, asyncio.get_running_loop()
@@ -55,7 +56,7 @@ class Faults:  # pylint: disable=too-few-public-methods  # it is called by the p
             self.craft.bring(octets, source)
 
     def sender(self, send: Callable[[bytes], None], ports: List[Port]) -> Callable[[bytes], None]:
-        """What sends CLCWs to these ports, but for those that are lost."""
+        """What sends CLCWs or telemetry frames to these ports, but for those that are lost."""
         def send_some(octets: bytes) -> None:
             if self.dice_of_clcws.random() >= self.options.drop_clcw:
                 send(octets)

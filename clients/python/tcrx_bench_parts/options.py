@@ -13,16 +13,22 @@ from .ports import Place, parse_place
 
 # What is listened on: the option's name, and what it is for.
 LISTENS = (
-    ("tc-tcp", "raw frames over TCP, one after the other"),
-    ("tc-udp", "raw frames over UDP, one in each datagram"),
+    ("tc-tcp", "raw frames over TCP, one after the other; with --cltu a stream of CLTUs"),
+    ("tc-udp", "raw frames over UDP, one in each datagram; with --cltu CLTUs"),
     ("lines", "lines of tclive over TCP; answers go to the connection that asked"),
     ("clcw-tcp", "CLCWs to whoever connects, four octets each"),
     ("packets-tcp", "packets to whoever connects, one after the other"),
     ("units-tcp", "units to whoever connects, each after its channel, MAP and length"),
+    ("tm-tcp", "telemetry frames with CLCWs to whoever connects, one after the other"),
     ("http", "a page with the state; /state has it as JSON, /metrics for Prometheus"),
 )
 SENDS = (("clcw-udp", "CLCWs to HOST:PORT, one in each datagram"), ("packets-udp", "packets to HOST:PORT, one in each datagram"),
-         ("units-udp", "units to HOST:PORT, one in each datagram"))
+         ("units-udp", "units to HOST:PORT, one in each datagram"), ("tm-udp", "telemetry frames to HOST:PORT, one in each datagram"))
+
+# Octets of a telemetry frame, frames a second and virtual channel, where they aren't given.
+TM_DEFAULTS = {"tm_length": 1115, "tm_rate": 1.0, "tm_vcid": 0, "tm_fecf": False}
+# The fewest octets of a telemetry frame that ends with its frame error control field.
+SHORTEST_WITH_FECF = 13
 
 # Faults on purpose: the option's name, and of what it is the share.
 FAULTS = (("drop", "of frames that arrive, the share that is lost: 0.2 for a fifth"), ("twice", "the share that comes twice"),
@@ -46,6 +52,17 @@ def seconds(word: str) -> float:
         value = -1.0
     if not 0 <= value <= 1e6:
         raise argparse.ArgumentTypeError(f"{word!r} isn't a number of seconds")
+    return value
+
+
+def rate(word: str) -> float:
+    """A number of frames a second."""
+    try:
+        value = float(word)
+    except ValueError:
+        value = 0.0
+    if not 0.001 <= value <= 1000:
+        raise argparse.ArgumentTypeError(f"{word!r} isn't a number from 0.001 to 1000")
     return value
 
 
@@ -115,14 +132,27 @@ def make_parser() -> argparse.ArgumentParser:
     made.add_argument("--fecf", action="store_true", help="each frame ends with its frame error control field")
     made.add_argument("--setup", type=Path, metavar="<FILE>", help="a file of channel, queue and map lines")
     made.add_argument("--program", metavar="<FILE>", help="the tclive to start")
+    made.add_argument("--tcmake", metavar="<FILE>", help="the tcmake to start, for CLTUs and telemetry frames")
     for name, text in LISTENS:
         made.add_argument(f"--{name}", action=Listen, dest="places", metavar="<PORT>", help=text)
     for name, text in SENDS:
         made.add_argument(f"--{name}", action=Listen, dest="places", metavar="<PORT>", help=text)
     made.add_argument("--allow", action=Allow, dest="last", metavar="<ADDRESS>", help="ADDRESS or ADDRESS/BITS: who may use the port before it; again for more")
+    add_edges(made)
     add_behaviour(made)
     made.set_defaults(places=[], open_to_others=[], last=None)
     return made
+
+
+def add_edges(made: argparse.ArgumentParser) -> None:
+    """Adds the options of CLTUs and telemetry frames."""
+    made.add_argument("--cltu", choices=("correct", "detect"), metavar="<MODE>",
+                      help="frames arrive in CLTUs; correct: one wrong bit of each code block; detect: none")
+    made.add_argument("--randomised", action="store_true", help="the random sequence is on what code blocks carry")
+    made.add_argument("--tm-length", type=number_in(11, 2048), metavar="<N>", help="octets of a telemetry frame, 11 to 2048; 1115 if not given")
+    made.add_argument("--tm-rate", type=rate, metavar="<N>", help="telemetry frames a second, 0.001 to 1000; 1 if not given")
+    made.add_argument("--tm-vcid", type=number_in(0, 7), metavar="<N>", help="the virtual channel of telemetry frames, 0 to 7; 0 if not given")
+    made.add_argument("--tm-fecf", action="store_true", default=None, help="each telemetry frame ends with its frame error control field")
 
 
 def add_behaviour(made: argparse.ArgumentParser) -> None:
@@ -160,10 +190,31 @@ def read_words(words: Sequence[str]) -> argparse.Namespace:
         made.error("argument --release-after: not with --release manual")
     if not options.patience:
         made.error("argument --patience: it must be over 0")
+    if fault := fault_of_edges(options):
+        made.error(fault)
+    for name, value in TM_DEFAULTS.items():
+        setattr(options, name, value if getattr(options, name) is None else getattr(options, name))
     if options.demo:
         set_demo(options)
+    options.has_telemetry = any(place.kind in ("tm-tcp", "tm-udp") for place in options.places)
     options.has_faults = bool(options.delay) or any(getattr(options, name.replace("-", "_")) for name, _ in FAULTS)
     return options
+
+
+def fault_of_edges(options: argparse.Namespace) -> str:
+    """What is wrong with the options of CLTUs and telemetry frames, if anything is: the first in the order of the options."""
+    kinds = {place.kind for place in options.places}
+    has_telemetry = bool(kinds & {"tm-tcp", "tm-udp"})
+    rows = [(options.cltu and options.demo, "--cltu: not with --demo"),
+            (options.cltu and not kinds & {"tc-tcp", "tc-udp"}, "--cltu: not without --tc-tcp or --tc-udp"),
+            (options.randomised and not options.cltu, "--randomised: not without --cltu"),
+            *((getattr(options, name) is not None and not has_telemetry, f"--{name.replace('_', '-')}: not without --tm-tcp or --tm-udp")
+              for name in TM_DEFAULTS),
+            (options.tm_fecf and (options.tm_length or SHORTEST_WITH_FECF) < SHORTEST_WITH_FECF,
+             f"--tm-length: with --tm-fecf it is at least {SHORTEST_WITH_FECF}"),
+            (options.cltu and options.fill > 1, "--fill: not with --cltu, which takes fill off"),
+            (options.cltu and options.resync, "--resync: not with --cltu, which searches in any case")]
+    return next((f"argument {text}" for is_wrong, text in rows if is_wrong), "")
 
 
 def set_demo(options: argparse.Namespace) -> None:

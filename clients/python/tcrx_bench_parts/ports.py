@@ -177,15 +177,17 @@ class Hub:
         self.lingering: Dict[Connection, None] = {}
         """Those that were told why they are closed, in that order."""
         self.closed = False
-        craft.slow = lambda slow: self._hold_all()
+        self.is_held: Callable[[], bool] = lambda: False
+        """Whether nothing is to be read for now, as much waits elsewhere."""
+        craft.slow = lambda slow: self.hold_all()
         self._sweep()
 
     @property
     def holds(self) -> bool:
         """Whether nothing is read that leads to lines for the receiver: while much waits for it, and from the end on."""
-        return self.closed or self.craft.is_slow
+        return self.closed or self.craft.is_slow or self.is_held()
 
-    def _hold_all(self) -> None:
+    def hold_all(self) -> None:
         """Has all connections and datagrams held, or read on."""
         for port in self.ports:
             for connection in port.open:
@@ -222,7 +224,7 @@ class Hub:
         for port in self.ports:
             if port.server:
                 port.server.close()
-        self._hold_all()
+        self.hold_all()
         while self.datagrams:
             self.datagrams.pop().close()
 
@@ -604,10 +606,11 @@ def bound(place: Place) -> socket.socket:
 
 
 class Datagrams:
-    """A port that takes a frame in each datagram. While it is held the kernel keeps what comes, and loses what it has no room for."""
+    """A port that takes a frame in each datagram, or CLTUs, where it is told what to do with them. While it is held the kernel keeps what
+    comes, and loses what it has no room for."""
 
-    def __init__(self, place: Place, hub: Hub, fill: int) -> None:
-        self.port, self.hub, self.fill, self.held = Port(place, hub), hub, fill, False
+    def __init__(self, place: Place, hub: Hub, fill: int, take: Optional[Callable[[Port, str, bytes], None]] = None) -> None:
+        self.port, self.hub, self.fill, self.take, self.held = Port(place, hub), hub, fill, take, False
         self.socket = bound(place)
         self.socket.setsockopt(socket.SOL_SOCKET, socket.SO_RCVBUF, DATAGRAM_BUFFER)
         self.port.address = address_of(self.socket)
@@ -641,6 +644,9 @@ class Datagrams:
                 return
             if not self.port.place.allows(sender[0]):
                 self.port.count("turned_away")
+            elif self.take:
+                self.port.count("datagrams")
+                self.take(self.port, f"{self.port.place.kind} {shown(sender[0], sender[1])}", octets)
             else:
                 self.port.count("frames")
                 if self.fill > 1 and len(octets) >= 4:

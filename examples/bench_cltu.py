@@ -1,0 +1,90 @@
+"""The sender of bench.py over both edges of tcrx-bench: CLTUs go up, and telemetry frames bring CLCWs down. One CLTU in five is lost, and
+of all other octets one bit in a thousand is turned. Usage: python3 examples/bench_cltu.py SEED [--udp] [--detect] [--randomised]"""
+import random
+import select
+import socket
+import subprocess
+import sys
+from functools import partial
+from pathlib import Path
+from typing import Dict, Iterator, List, Optional
+
+TOP = Path(__file__).resolve().parent.parent
+sys.path[:0] = [str(TOP / "examples"), str(TOP / "clients/python")]
+# pylint: disable=wrong-import-position  # all are found by the path above
+import bench
+import bench_udp
+from tcrx import Clcw
+
+# The share of CLTUs that are lost, and of bits that are turned; octets between CLTUs; telemetry frames a second.
+LOST, TURNED, IDLE, RATE = 0.2, 0.001, b"\x55" * 16, "250"
+
+
+def turned(dice: random.Random, octets: bytes) -> bytes:
+    """What a bad link makes of octets."""
+    wrong = sum((dice.random() < TURNED) << bit for bit in range(8 * len(octets)))
+    return (int.from_bytes(octets, "big") ^ wrong).to_bytes(len(octets), "big")
+
+
+class Edges(bench_udp.Remote):
+    """What the sender needs of a receiver, over CLTUs and telemetry frames. A tcmake makes the ones and reads the others."""
+
+    # pylint: disable-next=too-many-arguments  # the bench, and what was chosen
+    def __init__(self, ports: Dict[str, int], clcws: socket.socket, seed: int, randomised: bool, tcmake: Path) -> None:
+        super().__init__(ports, clcws)
+        self.dice, self.randomised, self.heard = random.Random(seed), randomised, 0
+        # pylint: disable-next=consider-using-with  # it is ended in `close`
+        self.maker = subprocess.Popen([tcmake, "--fecf"], stdin=subprocess.PIPE, stdout=subprocess.PIPE, text=True, bufsize=1)
+
+    def ask(self, line: str) -> List[str]:
+        """The words of the answer to a line."""
+        assert self.maker.stdin and self.maker.stdout
+        self.maker.stdin.write(line + "\n")
+        return self.maker.stdout.readline().split()
+
+    def bring(self, octets: bytes) -> None:
+        """Sends what the link makes of a frame in its CLTU, or of what is between CLTUs alone."""
+        digits = self.ask(f"random {octets.hex()}")[1] if self.randomised else octets.hex()
+        cltu = bytes.fromhex(self.ask(f"cltu {digits}")[1])
+        self.frames.send(turned(self.dice, IDLE + (b"" if self.dice.random() < LOST else cltu) + IDLE))
+
+    def clcw(self, vcid: int) -> Clcw:
+        """The CLCW of a telemetry frame that was made when all that was sent had come: the second one from now on."""
+        while select.select([self.clcws], [], [], 0)[0]:
+            self.clcws.recv(2048)
+        self.clcws.recv(2048)
+        _, _, scid, _, _, *_, word = self.ask(f"telemetry {self.clcws.recv(2048).hex()}")
+        clcw = Clcw(int(word, 16))
+        assert scid == "42" and clcw.channel == vcid
+        return clcw
+
+    def close(self) -> None:
+        """Closes its sockets, and ends its program."""
+        super().close()
+        self.maker.communicate()
+
+
+def through(dice: random.Random, past: List[bytes], turning: bool) -> Iterator[bytes]:
+    """A link over which each frame comes, as CLTUs have their own."""
+    del dice, turning
+    yield past[-1]
+
+
+# pylint: disable-next=too-many-arguments  # what may be chosen
+def run(seed: int, udp: bool = False, mode: str = "correct", randomised: bool = False, tclive: Optional[Path] = None,
+        tcmake: Path = TOP / "tcmake") -> str:
+    """Sends packets until each has come, and says how many frames it took."""
+    words = ["--tc-udp" if udp else "--tc-tcp", "0", "--cltu", mode, *["--randomised"] * randomised, "--tcmake", str(tcmake), "--tm-udp", "PLACE",
+             "--tm-rate", RATE, "--tm-length", "64", "--tm-fecf"]
+    begin = partial(bench_udp.start, words=words, made=partial(Edges, seed=seed, randomised=randomised, tcmake=tcmake))
+    good, bench.link = bench.link, through
+    try:
+        return bench.run(seed, True, tclive=tclive, tcmake=tcmake, begin=begin)
+    finally:
+        bench.link = good
+
+
+if __name__ == "__main__":
+    if not sys.argv[1:] or not sys.argv[1].isdecimal():
+        sys.exit(__doc__)
+    print(run(int(sys.argv[1]), "--udp" in sys.argv, "detect" if "--detect" in sys.argv else "correct", "--randomised" in sys.argv))
