@@ -217,16 +217,19 @@ class Engine:  # pylint: disable=too-many-instance-attributes  # both ways of on
 
     def _unfit(self, line: str, answers: List[str]) -> Optional[int]:
         """The first of the answers to a line, or two, that hasn't their form, if there is one. Those to some are of other lines."""
-        _, forms, opens, inner, _, again = self.speech
+        speech, fitting = self.speech, self._fitting
         for place, answer in enumerate(answers):
             word = answer.partition(" ")[0]
             if word in ("bad", "refused"):
                 continue
-            may_be = word in inner if place or line.startswith(opens) else line.startswith(word)
-            if not may_be or not (answer in self._fitting or (word in forms and forms[word].fullmatch(answer))):
+            may_be = word in speech.inner if place or line.startswith(speech.opens) else line.startswith(word)
+            if not may_be:
                 return place
-            if word in again and len(self._fitting) < MOST_FITTING:
-                self._fitting.add(answer)
+            if answer not in fitting:
+                if word not in speech.forms or not speech.forms[word].fullmatch(answer):
+                    return place
+                if word in speech.again and len(fitting) < MOST_FITTING:
+                    fitting.add(answer)
         return None
 
     def _report(self, answer: str) -> None:
