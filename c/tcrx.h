@@ -128,6 +128,9 @@ enum {
     TCRX_NO_MAP = 73,     /**< That MAP isn't chosen. */
     TCRX_EMPTY = 74,      /**< Nothing waits there. */
 
+    TCRX_OTHER_SPACECRAFT = 75, /**< The frame is for another spacecraft. */
+    TCRX_UNKNOWN_CHANNEL = 76,  /**< No channel has that virtual channel id. */
+
     TCRX_BAD_OTHERS = 80,    /**< Limits: `others` is over 65,542, or 0 without segment headers. */
     TCRX_BAD_LIMIT_MAP = 81, /**< Limits: a MAP is over 63. */
     TCRX_DOUBLE_LIMIT = 82,  /**< Limits: a MAP is listed twice. */
@@ -314,6 +317,23 @@ typedef struct {
     uint32_t dropped;   /**< As in #tcrx_reply. */
     uint8_t rest;       /**< As in #tcrx_reply. */
 } tcrx_delivery;
+
+/** What a frame came to, and the channel that took it in. */
+typedef struct {
+    tcrx_status status; /**< #TCRX_DONE, or why not. */
+    uint32_t queued;    /**< As in #tcrx_reply. */
+    uint32_t dropped;   /**< As in #tcrx_reply. */
+    uint8_t event;      /**< As in #tcrx_reply. */
+    uint8_t accepted;   /**< As in #tcrx_reply. */
+    uint8_t rest;       /**< As in #tcrx_reply. */
+    uint8_t vcid;       /**< The virtual channel id, 0 to 63. */
+} tcrx_rack_reply;
+
+/** A place in an array. */
+typedef struct {
+    tcrx_status status; /**< #TCRX_DONE, or why not. */
+    size_t place;       /**< The place, from 0 on. */
+} tcrx_place;
 
 /** A count. */
 typedef struct {
@@ -664,7 +684,7 @@ static inline tcrx_status tcrx_channel_new_with_limits(tcrx_channel *channel, tc
 /**
  * Gives the channel the frame at the front of octets. What follows it is fill. The data field of an accepted Type-AD frame waits in the
  * buffer; the unit that an accepted Type-BD frame ends is queued at once. The frame's spacecraft id and virtual channel id are not
- * looked at: the caller chooses the channel by what tcrx_read_frame() answers.
+ * looked at: tcrx_rack_frame() chooses a channel by them.
  *
  * @param channel the channel
  * @param octets  the octets that are read
@@ -817,6 +837,56 @@ static inline tcrx_status tcrx_channel_free(tcrx_channel *channel) {
         return TCRX_NULL;
     }
     return tcrx_channel_free_at(channel);
+}
+/** @} */
+
+/**
+ * @defgroup tcrx_racks Calls of a rack
+ *
+ * A rack is an array of channels in the caller's memory: all those of a spacecraft, each made, asked and freed by the calls of a channel.
+ * Places where no channel is held are passed over. A rack is for one call at a time, and none of its channels is for another one
+ * meanwhile. A refused call leaves each channel as it was.
+ * @{
+ */
+
+/**
+ * Gives the frame at the front of octets to the channel that it is for: of the spacecraft's the first one with the virtual channel id of
+ * the frame. Where frames end with the frame error control field, that is checked first, and the channel is given the frame without it.
+ *
+ * @param channels      the channels; null where there are none
+ * @param channel_count how many there are
+ * @param scid          the spacecraft id
+ * @param fecf          1 where frames end with the frame error control field; then nothing may follow it. 0 where they don't; then what
+ *                      follows the frame is fill.
+ * @param octets        the octets that are read
+ * @param count         how many there are
+ * @return the event, what became of the unit, and the channel. Refused by #TCRX_NULL, #TCRX_BAD_FLAG; where `fecf` is 1 as
+ * tcrx_check_fecf(), by #TCRX_SHORT to #TCRX_TRUNCATED, #TCRX_FILL, #TCRX_NO_FECF, #TCRX_WRONG_FECF, and where it is 0 by #TCRX_SHORT
+ * to #TCRX_TRUNCATED; then by #TCRX_OTHER_SPACECRAFT, #TCRX_UNKNOWN_CHANNEL.
+ */
+static inline tcrx_rack_reply tcrx_rack_frame(tcrx_channel *channels, size_t channel_count, uint16_t scid, uint8_t fecf,
+                                              const uint8_t *octets, size_t count) {
+    tcrx_channel no_channel = TCRX_HOLDS_NONE;
+    if ((channels == NULL && channel_count != 0) || octets == NULL) {
+        const tcrx_rack_reply refused = {TCRX_NULL, 0, 0, 0, 0, 0, 0};
+        return refused;
+    }
+    return tcrx_rack_frame_at(channels == NULL ? &no_channel : channels, channel_count, scid, fecf, octets, count);
+}
+
+/**
+ * @param channels      the channels; null where there are none
+ * @param channel_count how many there are
+ * @param vcid          the virtual channel id
+ * @return the place of the first channel with this virtual channel id. Refused by #TCRX_NULL, #TCRX_UNKNOWN_CHANNEL.
+ */
+static inline tcrx_place tcrx_rack_find(tcrx_channel *channels, size_t channel_count, uint8_t vcid) {
+    tcrx_channel no_channel = TCRX_HOLDS_NONE;
+    if (channels == NULL && channel_count != 0) {
+        const tcrx_place refused = {TCRX_NULL, 0};
+        return refused;
+    }
+    return tcrx_rack_find_at(channels == NULL ? &no_channel : channels, channel_count, vcid);
 }
 /** @} */
 

@@ -77,6 +77,8 @@ enum class Status : tcrx_status {
     no_queue = TCRX_NO_QUEUE,
     no_map = TCRX_NO_MAP,
     empty = TCRX_EMPTY,
+    other_spacecraft = TCRX_OTHER_SPACECRAFT,
+    unknown_channel = TCRX_UNKNOWN_CHANNEL,
     bad_others = TCRX_BAD_OTHERS,
     bad_limit_map = TCRX_BAD_LIMIT_MAP,
     double_limit = TCRX_DOUBLE_LIMIT,
@@ -528,7 +530,7 @@ public:
     /** Whether a channel is held. */
     bool is_held() const noexcept { return held_.held == 1; }
 
-    /** Gives it the frame at the front of octets. Which spacecraft and channel the frame is for isn't looked at: read_frame() is. */
+    /** Gives it the frame at the front of octets. Which spacecraft and channel the frame is for isn't looked at: a Rack does that. */
     Result<Brought> frame(Octets octets) noexcept {
         const tcrx_reply answer = tcrx_channel_frame(&held_, detail::pointer(octets), octets.size());
         if (answer.status != TCRX_DONE) {
@@ -591,6 +593,50 @@ private:
     }
 
     tcrx_channel held_ = {0, nullptr};
+};
+
+/** What a frame came to, and the virtual channel id of the channel that took it in. */
+struct Located {
+    std::uint8_t vcid = 0;
+    Brought brought;
+};
+
+/**
+ * The channels of a spacecraft, in an array that is somewhere else and outlives this. Those that hold none are passed over.
+ *
+ * A rack is for one call at a time, and none of its channels is for another one meanwhile.
+ */
+class Rack {
+public:
+    /** `fecf` says whether frames end with the frame error control field, which is then checked. */
+    Rack(std::uint16_t scid, View<Channel> channels, bool fecf = false) noexcept : channels_(channels), scid_(scid), fecf_(fecf) {}
+
+    /** Gives the frame at the front of octets to the channel that it is for: tcrx_rack_frame(). */
+    Result<Located> frame(Octets octets) noexcept {
+        const tcrx_rack_reply answer =
+            tcrx_rack_frame(first(), channels_.size(), scid_, detail::flag(fecf_), detail::pointer(octets), octets.size());
+        if (answer.status != TCRX_DONE) {
+            return detail::refused(answer.status);
+        }
+        const Delivery delivery = {answer.queued, answer.dropped, answer.rest == 1};
+        return Located{answer.vcid, Brought{static_cast<Event>(answer.event), answer.accepted == 1, delivery}};
+    }
+
+    /** The first channel with this virtual channel id, or a null pointer: tcrx_rack_find(). */
+    Channel *find(std::uint8_t vcid) noexcept {
+        const tcrx_place answer = tcrx_rack_find(first(), channels_.size(), vcid);
+        return answer.status == TCRX_DONE ? channels_.data() + answer.place : nullptr;
+    }
+
+private:
+    // To the library an array of channels is one of their records.
+    static_assert(std::is_standard_layout_v<Channel> && sizeof(Channel) == sizeof(tcrx_channel), "a channel is its record alone");
+
+    tcrx_channel *first() noexcept { return channels_.empty() ? nullptr : channels_.data()->get(); }
+
+    View<Channel> channels_;
+    std::uint16_t scid_;
+    bool fecf_;
 };
 
 }  // namespace tcrx

@@ -59,6 +59,12 @@ TCRX_LAYOUT(tcrx_reply, sizeof(tcrx_reply) == 16 && TCRX_AT(tcrx_reply, status, 
                             && TCRX_AT(tcrx_reply, accepted, 13) && TCRX_AT(tcrx_reply, rest, 14));
 TCRX_LAYOUT(tcrx_delivery, sizeof(tcrx_delivery) == 16 && TCRX_AT(tcrx_delivery, status, 0) && TCRX_AT(tcrx_delivery, queued, 4)
                                && TCRX_AT(tcrx_delivery, dropped, 8) && TCRX_AT(tcrx_delivery, rest, 12));
+TCRX_LAYOUT(tcrx_rack_reply, sizeof(tcrx_rack_reply) == 16 && TCRX_AT(tcrx_rack_reply, status, 0)
+                                 && TCRX_AT(tcrx_rack_reply, queued, 4) && TCRX_AT(tcrx_rack_reply, dropped, 8)
+                                 && TCRX_AT(tcrx_rack_reply, event, 12) && TCRX_AT(tcrx_rack_reply, accepted, 13)
+                                 && TCRX_AT(tcrx_rack_reply, rest, 14) && TCRX_AT(tcrx_rack_reply, vcid, 15));
+TCRX_LAYOUT(tcrx_place, sizeof(tcrx_place) == 2 * sizeof(size_t) && TCRX_AT(tcrx_place, status, 0)
+                            && TCRX_AT(tcrx_place, place, sizeof(size_t)));
 TCRX_LAYOUT(tcrx_count, sizeof(tcrx_count) == 16 && TCRX_AT(tcrx_count, status, 0) && TCRX_AT(tcrx_count, count, 8));
 #undef TCRX_AT
 #undef TCRX_LAYOUT
@@ -129,6 +135,11 @@ tcrx_count tcrx_channel_units_at(tcrx_channel *channel, uint8_t map);
 tcrx_count tcrx_channel_events_at(tcrx_channel *channel);
 /** @copydoc tcrx_channel_free */
 tcrx_status tcrx_channel_free_at(tcrx_channel *channel);
+/** @copydoc tcrx_rack_frame */
+tcrx_rack_reply tcrx_rack_frame_at(tcrx_channel *channels, size_t channel_count, uint16_t scid, uint8_t fecf,
+                                   const uint8_t *octets, size_t count);
+/** @copydoc tcrx_rack_find */
+tcrx_place tcrx_rack_find_at(tcrx_channel *channels, size_t channel_count, uint8_t vcid);
 /** @} */
 
 #endif

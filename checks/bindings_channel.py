@@ -30,8 +30,8 @@ import tcrx
 import tcrx_channel
 from tcrx import (Brought, Channel, Clcw, Delivery, Ended, Event, Final, NotSetUp, NotStarted, Outcome, Packet, Refusal, Refused,
                   Released, Report, State, Unit)
-from tcrx_channel import (BadSettings, Frame, NoMemory, NotWritten, add_fecf, check_fecf, read_frame, storage, write_frame, write_packet,
-                          write_segments, write_set_vr, write_unlock)
+from tcrx_channel import (BadSettings, Frame, NoMemory, NotWritten, Rack, add_fecf, check_fecf, read_frame, storage, write_frame,
+                          write_packet, write_segments, write_set_vr, write_unlock)
 
 HEADER = TOP / "c/tcrx.h"
 SETTINGS: Dict[str, Any] = {"width": 10, "buffer": 4, "first": 0, "queues": {5: 4, 9: 2}, "maps": {2: 3}}
@@ -46,6 +46,8 @@ class Script:
         self.scid = scid
         self.settings: Dict[int, Dict[str, Any]] = {}
         self.channels: Dict[int, Channel] = {}
+        self.rack = Rack(scid, [])
+        self.frames = 0
         self.printed: List[str] = []
 
     def set_up(self, words: List[str]) -> None:
@@ -58,22 +60,25 @@ class Script:
 
     def make_all(self) -> None:
         """Makes the channels that aren't made."""
-        for vcid, settings in self.settings.items():
-            if vcid not in self.channels:
-                self.channels[vcid] = Channel(vcid, **settings)
+        if not self.channels:
+            self.channels = {vcid: Channel(vcid, **settings) for vcid, settings in self.settings.items()}
+            self.rack = Rack(self.scid, self.channels.values())
+
+    def bring(self, octets: bytes) -> Any:
+        """What is answered to a frame: every other time with its frame error control field, where it can have one."""
+        self.frames += 1
+        try:
+            ended = add_fecf(octets) if self.frames % 2 == 0 else b""
+        except NotWritten:
+            ended = b""
+        self.rack.fecf = ended != b""
+        return self.rack.bring(ended or octets)
 
     def answer(self, words: List[str]) -> Any:
         """What is answered to an operation."""
         if words[0] == "frame":
-            octets = bytes.fromhex(words[1])
-            read = read_frame(octets)
-            if not isinstance(read, Frame):
-                return read
-            if read.scid != self.scid:
-                return Refused(Refusal.SPACECRAFT)
-            channel = self.channels.get(read.vcid)
-            return channel.bring(octets) if channel else Refused(Refusal.CHANNEL)
-        channel = self.channels.get(int(words[1]))
+            return self.bring(bytes.fromhex(words[1]))
+        channel = self.rack.channel(int(words[1]))
         if channel is None:
             return Refused(Refusal.CHANNEL)
         calls: Dict[str, Callable[..., Any]] = {"release": channel.release, "clcw": channel.clcw, "take": channel.take,
@@ -163,6 +168,36 @@ def check_values() -> None:
         raises(NotSetUp, lambda: list(channel.units(6)), "units of no MAP")
     same(channel.final, Final(Clcw(0x01040001), 10, 0, {5: 0, 9: 0}, {2: 0}), "the report at the end")
     same((bool(brought), bool(Refused(Refusal.EMPTY))), (True, False), "the truth of answers")
+
+
+def check_racks() -> None:
+    """A rack: which channel a frame goes to, each refusal, channels that are closed and moved to another rack."""
+    refused = {reason: Refused(reason) for reason in Refusal}
+    at_seven: Dict[str, Any] = {"width": 10, "buffer": 4, "first": 7, "limits": {0: 64}}
+    first, second, other = (Channel(vcid, **at_seven) for vcid in (5, 5, 8))
+    rack = Rack(675, [first, second, other])
+    sent = write_frame(675, 5, 7, b"\xc0\xaa")
+    same(rack.bring(sent + b"\0"), Brought(5, Event.E1, True, NOTHING), "a frame with fill")
+    same((rack.channel(5) is first, rack.channel(8) is other, rack.channel(6), rack.channel(255)), (True, True, None, None), "channels by their ids")
+    same([rack.bring(octets) for octets in (b"", b"\x40" + sent[1:], b"\x04" + sent[1:], sent[:3] + b"\4" + sent[4:], sent[:7])],
+         [refused[it] for it in (Refusal.SHORT, Refusal.VERSION, Refusal.SPARE, Refusal.LENGTH, Refusal.TRUNCATED)], "no frames")
+    same(rack.bring(write_frame(676, 9, 0, b"\0")), refused[Refusal.SPACECRAFT], "another spacecraft")
+    same(rack.bring(write_frame(675, 9, 0, b"\0")), refused[Refusal.CHANNEL], "another channel")
+    rack.fecf = True
+    ended = add_fecf(write_frame(675, 8, 7, b"\xc0\xaa"))
+    same([rack.bring(octets) for octets in (sent, b"", ended + b"\0", ended[:-1] + b"\0", sent[:3] + b"\5" + sent[4:6])],
+         [refused[Refusal.CHECK]] * 5, "frames without the field")
+    same(rack.bring(ended), Brought(8, Event.E1, True, NOTHING), "a frame with the field")
+    same(rack.bring(add_fecf(write_frame(676, 9, 0, b"\0"))), refused[Refusal.SPACECRAFT], "another spacecraft behind the check")
+    same((first.events, second.events, other.events), (1, 0, 1), "the events of each")
+    first.close()
+    same((rack.channel(5) is second, rack.bring(add_fecf(sent))), (True, Brought(5, Event.E1, True, NOTHING)), "the next of that id")
+    moved = Rack(675, [other])
+    same((rack.channel(8), moved.channel(8) is other, other.events), (None, True, 1), "a channel that is moved")
+    same(other.release(), Released(8, Delivery(0, 0, True)), "its release")
+    same((second.close().events, other.close().events), (1, 2), "the events at the end")
+    same(Rack(675, []).bring(sent), refused[Refusal.CHANNEL], "a rack of no channel")
+    raises(ValueError, lambda: Rack(65536, []), "a spacecraft that C's type doesn't have")
 
 
 # Of spacecraft 675, with fill behind each: Type-BD has bypass alone, Type-BC both flags, Type-AD none, and Type-AC control alone.
@@ -486,10 +521,11 @@ def main() -> int:
     check_found(library)
     os.environ["TCRX_LIB_DIR"] = str(Path(library).parent)
     same(tcrx_channel.find_library(), library, "the library that is found")
-    same((tcrx.Channel, hasattr(tcrx, "Channel")), (Channel, True), "the channel of tcrx")
+    same((tcrx.Channel, tcrx.Rack, hasattr(tcrx, "Channel")), (Channel, Rack, True), "the channel and the rack of tcrx")
     check_declarations()
     check_cases()
     check_values()
+    check_racks()
     check_fields()
     check_made()
     check_long_units()

@@ -291,6 +291,23 @@ u32 EXPORT(module_channel_events)(void) {
 u32 EXPORT(module_channel_free)(void) {
     return tcrx_channel_free_at(&channel);
 }
+
+u32 EXPORT(module_rack_frame)(u32 scid, u32 fecf, const uint8_t *octets, u32 count) {
+    const tcrx_rack_reply answer = tcrx_rack_frame_at(&channel, 1, (uint16_t)scid, (uint8_t)fecf, octets, count);
+    numbers[0] = answer.queued;
+    numbers[1] = answer.dropped;
+    numbers[2] = answer.event;
+    numbers[3] = answer.accepted;
+    numbers[4] = answer.rest;
+    numbers[5] = answer.vcid;
+    return answer.status;
+}
+
+u32 EXPORT(module_rack_find)(u32 vcid) {
+    const tcrx_place answer = tcrx_rack_find_at(&channel, 1, (uint8_t)vcid);
+    answer_count(0, answer.place);
+    return answer.status;
+}
 /* This is the end of what tools/c_interface writes. */
 
 /* Whether there is room for a channel of this storage, with its own block and a copy of each list; or it has a fault. */

@@ -4,6 +4,7 @@
 //   cases SCID    for the spacecraft with this id
 #include "../tcrx.hpp"
 
+#include <algorithm>
 #include <cstdint>
 #include <cstdio>
 #include <cstdlib>
@@ -25,11 +26,12 @@ struct Receiver {
     tcrx::Settings settings;
     std::vector<tcrx::Queue> queues;
     std::vector<tcrx::Map> maps;
-    tcrx::Channel channel;
+    std::size_t place = 0;
 };
 
-// A channel is moved wherever it goes: as a value into the map, and between two maps at the end.
 std::map<unsigned, Receiver> receivers;
+// A channel is moved wherever it goes: as a value into the array, with that as it grows, and between two arrays at the end.
+std::vector<tcrx::Channel> channels;
 bool made = false;
 
 [[noreturn]] void fail(const char *what, tcrx::Status status) {
@@ -73,7 +75,8 @@ void make_all() {
             if (!result) {
                 fail("channel", result.status());
             }
-            at.channel = std::move(*result);
+            at.place = channels.size();
+            channels.push_back(std::move(*result));
         }
     }
     made = true;
@@ -89,6 +92,8 @@ const char *refusal(tcrx::Status status) {
     case tcrx::Status::no_queue: return "no queue";
     case tcrx::Status::no_map: return "no map";
     case tcrx::Status::empty: return "empty";
+    case tcrx::Status::other_spacecraft: return "spacecraft";
+    case tcrx::Status::unknown_channel: return "channel";
     default: return "by another status";
     }
 }
@@ -101,34 +106,30 @@ std::vector<std::uint8_t> octets_of(const std::string &digits) {
     return octets;
 }
 
-Receiver *find(unsigned vcid) {
+// What the rack finds, where there are such ids at all.
+Receiver *find(unsigned vcid, unsigned scid) {
     const auto found = receivers.find(vcid);
-    return found == receivers.end() ? nullptr : &found->second;
+    tcrx::Channel *const wanted = found == receivers.end() ? nullptr : &channels[found->second.place];
+    if (tcrx::Rack(static_cast<std::uint16_t>(scid), channels).find(static_cast<std::uint8_t>(vcid)) != wanted) {
+        fail("find", tcrx::Status::unknown_channel);
+    }
+    return wanted == nullptr ? nullptr : &found->second;
 }
 
 void bring(const std::string &digits, unsigned scid) {
-    const std::vector<std::uint8_t> octets = octets_of(digits);
-    const tcrx::Result<tcrx::Frame> frame = tcrx::read_frame(octets);
-    if (!frame) {
-        std::printf("refused %s\n", refusal(frame.status()));
+    const tcrx::Result<tcrx::Located> located = tcrx::Rack(static_cast<std::uint16_t>(scid), channels).frame(octets_of(digits));
+    if (!located) {
+        std::printf("refused %s\n", refusal(located.status()));
         return;
     }
-    Receiver *at = find(frame->header.vcid);
-    if (frame->header.scid != scid || at == nullptr) {
-        std::printf("refused %s\n", frame->header.scid != scid ? "spacecraft" : "channel");
-        return;
-    }
-    const tcrx::Result<tcrx::Brought> brought = at->channel.frame(octets);
-    if (!brought) {
-        fail("frame", brought.status());
-    }
-    const tcrx::Delivery &delivery = brought->delivery;
-    std::printf("frame %u E%u accepted %u", frame->header.vcid, static_cast<unsigned>(brought->event), brought->accepted ? 1U : 0U);
+    const tcrx::Brought &brought = located->brought;
+    const tcrx::Delivery &delivery = brought.delivery;
+    std::printf("frame %u E%u accepted %u", located->vcid, static_cast<unsigned>(brought.event), brought.accepted ? 1U : 0U);
     std::printf(" queued %u dropped %u rest %u\n", delivery.queued, delivery.dropped, delivery.rest ? 1U : 0U);
 }
 
-void release(unsigned vcid, Receiver &at) {
-    const tcrx::Result<tcrx::Delivery> delivery = at.channel.release();
+void release(unsigned vcid, const Receiver &at) {
+    const tcrx::Result<tcrx::Delivery> delivery = channels[at.place].release();
     if (!delivery) {
         std::printf("refused %s\n", refusal(delivery.status()));
         return;
@@ -137,16 +138,16 @@ void release(unsigned vcid, Receiver &at) {
 }
 
 // First into no room, which must take nothing, then into room that is just long enough.
-void take(const std::string &what, unsigned vcid, Receiver &at, unsigned key) {
+void take(const std::string &what, unsigned vcid, const Receiver &at, unsigned key) {
     const bool unit = what == "unit";
     const auto into = [&](tcrx::Room room) {
-        return unit ? at.channel.take_unit(static_cast<std::uint8_t>(key), room) : at.channel.take(static_cast<std::uint16_t>(key), room);
+        return unit ? channels[at.place].take_unit(static_cast<std::uint8_t>(key), room) : channels[at.place].take(static_cast<std::uint16_t>(key), room);
     };
-    const std::uint64_t events = at.channel.events().value();
+    const std::uint64_t events = channels[at.place].events().value();
     std::vector<std::uint8_t> room;
     tcrx::Result<tcrx::Octets> taken = into(room);
     if (taken.status() == tcrx::Status::no_room) {
-        if (at.channel.events().value() != events) {
+        if (channels[at.place].events().value() != events) {
             fail("room that is short", taken.status());
         }
         room.resize(taken.error().needed);
@@ -172,34 +173,34 @@ void operate(const std::string &what, std::istream &words, unsigned scid) {
         return;
     }
     const unsigned vcid = number(words);
-    Receiver *at = find(vcid);
+    Receiver *at = find(vcid, scid);
     if (at == nullptr) {
         std::printf("refused channel\n");
     } else if (what == "release") {
         release(vcid, *at);
     } else if (what == "clcw") {
-        std::printf("clcw %u %08x\n", vcid, at->channel.clcw()->word);
+        std::printf("clcw %u %08x\n", vcid, channels[at->place].clcw()->word);
     } else {
         take(what, vcid, *at, number(words));
     }
 }
 
 // FARM-1's record makes the same CLCW as the channel, and the CLCW reads back.
-void report(unsigned vcid, Receiver &at) {
-    const tcrx::Result<tcrx::Farm> farm = at.channel.report();
-    const tcrx::Clcw clcw = *at.channel.clcw(true, false);
+void report(unsigned vcid, const Receiver &at) {
+    const tcrx::Result<tcrx::Farm> farm = channels[at.place].report();
+    const tcrx::Clcw clcw = *channels[at.place].clcw(true, false);
     const tcrx::Result<tcrx::Clcw> again = tcrx::clcw(*farm, static_cast<std::uint8_t>(vcid), true, false);
     const tcrx::Result<tcrx::Clcw> read = tcrx::read_clcw(clcw.word);
     if (!again || !read || again->word != clcw.word || read->vr() != farm->vr || clcw.lockout() != farm->lockout || !clcw.no_rf()) {
         fail("report", farm.status());
     }
-    std::printf("final %u %08x events %llu buffered %llu\n", vcid, at.channel.clcw()->word,
-                static_cast<unsigned long long>(*at.channel.events()), static_cast<unsigned long long>(*at.channel.buffered()));
+    std::printf("final %u %08x events %llu buffered %llu\n", vcid, channels[at.place].clcw()->word,
+                static_cast<unsigned long long>(*channels[at.place].events()), static_cast<unsigned long long>(*channels[at.place].buffered()));
     for (const tcrx::Queue &queue : at.queues) {
-        std::printf("queue %u %u %llu\n", vcid, queue.apid, static_cast<unsigned long long>(*at.channel.queued(queue.apid)));
+        std::printf("queue %u %u %llu\n", vcid, queue.apid, static_cast<unsigned long long>(*channels[at.place].queued(queue.apid)));
     }
     for (const tcrx::Map &map : at.maps) {
-        std::printf("map %u %u %llu\n", vcid, map.map, static_cast<unsigned long long>(*at.channel.units(map.map)));
+        std::printf("map %u %u %llu\n", vcid, map.map, static_cast<unsigned long long>(*channels[at.place].units(map.map)));
     }
 }
 
@@ -235,8 +236,10 @@ int main(int count, char **arguments) {
         }
     }
     make_all();
-    std::map<unsigned, Receiver> moved = std::move(receivers);
-    for (auto &[vcid, at] : moved) {
+    std::vector<tcrx::Channel> moved(channels.size());
+    std::move(channels.begin(), channels.end(), moved.begin());
+    channels.swap(moved);
+    for (auto &[vcid, at] : receivers) {
         report(vcid, at);
     }
     return 0;

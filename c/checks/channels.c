@@ -1,5 +1,5 @@
 /*
- * Does a script on standard input through channels that the library holds, one for each `channel` line, and prints its answers
+ * Does a script on standard input through a rack of channels that the library holds, one for each `channel` line, and prints its answers
  * and its final report in the words of the program tcrx, for checks/c.
  *
  *   channels SCID    for the spacecraft with this id
@@ -18,7 +18,6 @@ enum { MOST_ENTRIES = 2048, MOST_OCTETS = 70000 };
 
 typedef struct {
     bool there;
-    tcrx_channel held;
     tcrx_settings settings;
     tcrx_queue queues[MOST_ENTRIES];
     size_t queue_count;
@@ -31,11 +30,17 @@ TCRX_STATIC_STORAGE(SEALED);
 #endif
 
 static receiver receivers[CHANNELS];
+/* The rack: the channel of the largest id first, and places of none between. */
+static tcrx_channel rack[CHANNELS];
 static bool made;
 static uint8_t taken[MOST_OCTETS];
 
 static receiver *find(unsigned vcid) {
     return vcid < CHANNELS && receivers[vcid].there ? &receivers[vcid] : NULL;
+}
+
+static tcrx_channel *held_by(const receiver *at) {
+    return &rack[CHANNELS - 1 - at->settings.vcid];
 }
 
 static void set_up(const char *what) {
@@ -47,9 +52,7 @@ static void set_up(const char *what) {
     if (strcmp(what, "channel") == 0) {
         const unsigned width = number(), buffer = number(), first = number();
         const tcrx_settings settings = {(uint8_t)vcid, (uint8_t)width, (uint8_t)buffer, (uint8_t)first, next_word() == NULL ? 1 : 0};
-        const tcrx_channel none = TCRX_HOLDS_NONE;
         at->there = true;
-        at->held = none;
         at->settings = settings;
     } else if (strcmp(what, "queue") == 0) {
         at->queues[at->queue_count].apid = (uint16_t)number();
@@ -114,11 +117,11 @@ static void find_limits(void) {
 static tcrx_status make(receiver *at) {
     const size_t all = 1 + octets_for[at->settings.vcid];
     const uint32_t limit = (uint32_t)(all < 65542 ? all : 65542);
-    return tcrx_channel_new_with_limits(&at->held, at->settings, at->queues, at->queue_count, at->maps, at->map_count, limit, NULL, 0);
+    return tcrx_channel_new_with_limits(held_by(at), at->settings, at->queues, at->queue_count, at->maps, at->map_count, limit, NULL, 0);
 }
 #else
 static tcrx_status make(receiver *at) {
-    return tcrx_channel_new(&at->held, at->settings, at->queues, at->queue_count, at->maps, at->map_count);
+    return tcrx_channel_new(held_by(at), at->settings, at->queues, at->queue_count, at->maps, at->map_count);
 }
 #endif
 
@@ -140,28 +143,34 @@ static void make_all(void) {
     made = true;
 }
 
-static void bring(unsigned scid) {
-    const size_t count = read_octets();
-    const tcrx_frame frame = tcrx_read_frame(octets, count);
-    receiver *at = frame.status == TCRX_DONE ? find(frame.header.vcid) : NULL;
-    if (frame.status != TCRX_DONE) {
-        printf("refused %s\n", refusal(frame.status));
-    } else if (frame.header.scid != scid) {
-        printf("refused spacecraft\n");
-    } else if (at == NULL) {
-        printf("refused channel\n");
-    } else {
-        const tcrx_reply reply = tcrx_channel_frame(&at->held, octets, count);
-        if (reply.status != TCRX_DONE) {
-            fail("frame", reply.status);
-        }
-        printf("frame %u E%u accepted %u", (unsigned)frame.header.vcid, (unsigned)reply.event, (unsigned)reply.accepted);
-        printf(" queued %" PRIu32 " dropped %" PRIu32 " rest %u\n", reply.queued, reply.dropped, (unsigned)reply.rest);
+/* A frame without fill, of which there is room for the frame error control field, is brought with it every other time. */
+static tcrx_rack_reply bring_octets(unsigned scid, size_t count) {
+    static uint8_t ended[1024];
+    static unsigned frames;
+    const tcrx_written added = tcrx_add_fecf(octets, count, ended, sizeof ended);
+    if (added.status != TCRX_DONE || frames++ % 2 == 0) {
+        return tcrx_rack_frame(rack, CHANNELS, (uint16_t)scid, 0, octets, count);
     }
+    ended[added.length - 1] ^= 1;
+    if (tcrx_rack_frame(rack, CHANNELS, (uint16_t)scid, 1, ended, added.length).status != TCRX_WRONG_FECF) {
+        fail("a wrong frame error control field", TCRX_DONE);
+    }
+    ended[added.length - 1] ^= 1;
+    return tcrx_rack_frame(rack, CHANNELS, (uint16_t)scid, 1, ended, added.length);
+}
+
+static void bring(unsigned scid) {
+    const tcrx_rack_reply reply = bring_octets(scid, read_octets());
+    if (reply.status != TCRX_DONE) {
+        printf("refused %s\n", refusal(reply.status));
+        return;
+    }
+    printf("frame %u E%u accepted %u", (unsigned)reply.vcid, (unsigned)reply.event, (unsigned)reply.accepted);
+    printf(" queued %" PRIu32 " dropped %" PRIu32 " rest %u\n", reply.queued, reply.dropped, (unsigned)reply.rest);
 }
 
 static void release(unsigned vcid, receiver *at) {
-    const tcrx_delivery delivery = tcrx_channel_release(&at->held);
+    const tcrx_delivery delivery = tcrx_channel_release(held_by(at));
     if (delivery.status != TCRX_DONE) {
         printf("refused %s\n", refusal(delivery.status));
         return;
@@ -173,7 +182,7 @@ static void release(unsigned vcid, receiver *at) {
 /* First into a buffer that is one octet short, which must take nothing, then into one that is just long enough. */
 static void take(const char *what, unsigned vcid, receiver *at, unsigned key) {
     const bool unit = strcmp(what, "unit") == 0;
-    tcrx_channel *held = &at->held;
+    tcrx_channel *held = held_by(at);
     const uint16_t apid = (uint16_t)key;
     const uint8_t map = (uint8_t)key;
     const uint64_t events = tcrx_channel_events(held).count;
@@ -210,29 +219,33 @@ static void operate(const char *what, unsigned scid) {
     } else if (strcmp(what, "release") == 0) {
         release(vcid, at);
     } else if (strcmp(what, "clcw") == 0) {
-        printf("clcw %u %08" PRIx32 "\n", vcid, tcrx_channel_clcw(&at->held, 0, 0).word);
+        printf("clcw %u %08" PRIx32 "\n", vcid, tcrx_channel_clcw(held_by(at), 0, 0).word);
     } else {
         take(what, vcid, at, number());
     }
 }
 
-/* FARM-1's record makes the same CLCW as the channel. */
+/* FARM-1's record makes the same CLCW as the channel, which is found in the rack. */
 static void report(unsigned vcid, receiver *at) {
-    const tcrx_farm_answer answer = tcrx_channel_report(&at->held);
-    const uint32_t clcw = tcrx_channel_clcw(&at->held, 1, 0).word;
+    const tcrx_place found = tcrx_rack_find(rack, CHANNELS, (uint8_t)vcid);
+    if (found.status != TCRX_DONE || &rack[found.place] != held_by(at)) {
+        fail("find", found.status);
+    }
+    const tcrx_farm_answer answer = tcrx_channel_report(held_by(at));
+    const uint32_t clcw = tcrx_channel_clcw(held_by(at), 1, 0).word;
     if (answer.farm.width != at->settings.width || tcrx_clcw(answer.farm, (uint8_t)vcid, 1, 0).word != clcw) {
         fail("report", answer.status);
     }
-    printf("final %u %08" PRIx32, vcid, tcrx_channel_clcw(&at->held, 0, 0).word);
-    printf(" events %" PRIu64, tcrx_channel_events(&at->held).count);
-    printf(" buffered %" PRIu64 "\n", tcrx_channel_buffered(&at->held).count);
+    printf("final %u %08" PRIx32, vcid, tcrx_channel_clcw(held_by(at), 0, 0).word);
+    printf(" events %" PRIu64, tcrx_channel_events(held_by(at)).count);
+    printf(" buffered %" PRIu64 "\n", tcrx_channel_buffered(held_by(at)).count);
     for (size_t i = 0; i < at->queue_count; i++) {
         const uint16_t apid = at->queues[i].apid;
-        printf("queue %u %u %" PRIu64 "\n", vcid, (unsigned)apid, tcrx_channel_queued(&at->held, apid).count);
+        printf("queue %u %u %" PRIu64 "\n", vcid, (unsigned)apid, tcrx_channel_queued(held_by(at), apid).count);
     }
     for (size_t i = 0; i < at->map_count; i++) {
         const uint8_t map = at->maps[i].map;
-        printf("map %u %u %" PRIu64 "\n", vcid, (unsigned)map, tcrx_channel_units(&at->held, map).count);
+        printf("map %u %u %" PRIu64 "\n", vcid, (unsigned)map, tcrx_channel_units(held_by(at), map).count);
     }
 }
 
@@ -242,7 +255,7 @@ static void finish(void) {
         receiver *at = find(i);
         if (at != NULL) {
             report(i, at);
-            const tcrx_status freed = tcrx_channel_free(&at->held), again = tcrx_channel_free(&at->held);
+            const tcrx_status freed = tcrx_channel_free(held_by(at)), again = tcrx_channel_free(held_by(at));
             if (freed != TCRX_DONE || again != TCRX_NO_CHANNEL) {
                 fail("free", freed);
             }

@@ -203,6 +203,42 @@ void check_views() {
     tell(taken.value_or(sent).size() == sent.size() && taken->empty(), "the value of a refused call");
 }
 
+// A rack: which channel a frame goes to, and each refusal.
+void check_racks() {
+    using tcrx::Status;
+    const tcrx::Settings five = {5, 10, 4, 7}, eight = {8, 10, 4, 7};
+    std::array<tcrx::Channel, 4> channels;
+    channels[1] = *tcrx::Channel::make(five, {}, {}, {64, {}});
+    channels[2] = *tcrx::Channel::make(five, {}, {}, {64, {}});
+    channels[3] = *tcrx::Channel::make(eight, {}, {}, {64, {}});
+    tcrx::Rack rack(675, channels), ended_rack(675, channels, true);
+    const auto frame_to = [](std::uint16_t scid, std::uint8_t vcid, bool ended) {
+        Bytes room(16), plain = {0xc0, 0xaa};
+        const Bytes frame = [&] {
+            const tcrx::Result<tcrx::Octets> written = tcrx::write_frame({scid, vcid, 7, false, false}, plain, room);
+            return Bytes(written->begin(), written->end());
+        }();
+        const tcrx::Result<tcrx::Octets> added = tcrx::add_fecf(frame, room);
+        return ended ? Bytes(added->begin(), added->end()) : frame;
+    };
+    const tcrx::Result<tcrx::Located> first = rack.frame(frame_to(675, 5, false)), other = ended_rack.frame(frame_to(675, 8, true));
+    tell(first && first->vcid == 5 && first->brought.event == tcrx::Event::e1 && first->brought.accepted, "a frame of a rack");
+    tell(other && other->vcid == 8 && other->brought.event == tcrx::Event::e1, "a frame of a rack with its field");
+    tell(channels[1].events().value() == 1 && channels[2].events().value() == 0 && channels[3].events().value() == 1, "their events");
+    tell(rack.find(5) == &channels[1] && rack.find(8) == &channels[3] && rack.find(9) == nullptr, "channels by their ids");
+    tell(rack.frame(frame_to(676, 9, false)).status() == Status::other_spacecraft, "another spacecraft");
+    tell(rack.frame(frame_to(675, 9, false)).status() == Status::unknown_channel, "another channel");
+    Bytes wrong = frame_to(676, 9, true), fill = frame_to(675, 5, true);
+    wrong.back() ^= 1;
+    fill.push_back(0);
+    tell(ended_rack.frame(wrong).status() == Status::wrong_fecf && ended_rack.frame(fill).status() == Status::fill, "a wrong field, and fill");
+    tell(ended_rack.frame(frame_to(675, 5, false)).status() == Status::no_fecf, "no field");
+    tell(rack.frame({}).status() == Status::too_short, "no octets of a rack");
+    tell(channels[1].free() == Status::done && rack.find(5) == &channels[2], "the next of that id");
+    tell(tcrx::Rack(675, {}).frame(frame_to(675, 5, false)).status() == Status::unknown_channel, "a rack of no channel");
+    tell(tcrx::Rack(675, {nullptr, 1}).frame(frame_to(675, 5, false)).status() == Status::null, "a rack nowhere");
+}
+
 // Whether these are the fields of a row.
 template <std::size_t Count>
 bool are_fields(const std::array<std::size_t, Count> &found, const std::uint32_t (&wanted)[Count]) {
@@ -353,6 +389,7 @@ int main() {
     check_refused_growths();
     check_threads();
     check_views();
+    check_racks();
     check_frames();
     check_words_and_packets();
     check_made();

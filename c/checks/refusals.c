@@ -351,6 +351,8 @@ static void check_texts(void) {
         {TCRX_NO_QUEUE, "no queue has that APID"},
         {TCRX_NO_MAP, "that MAP isn't chosen"},
         {TCRX_EMPTY, "nothing waits there"},
+        {TCRX_OTHER_SPACECRAFT, "the frame is for another spacecraft"},
+        {TCRX_UNKNOWN_CHANNEL, "no channel has that virtual channel id"},
         {TCRX_BAD_OTHERS, "the limit of the other MAPs is out of its range"},
         {TCRX_BAD_LIMIT_MAP, "the MAP of a limit is over 63"},
         {TCRX_DOUBLE_LIMIT, "a MAP has two limits"},

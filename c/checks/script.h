@@ -38,6 +38,8 @@ static inline const char *refusal(tcrx_status status) {
     case TCRX_NO_QUEUE: return "no queue";
     case TCRX_NO_MAP: return "no map";
     case TCRX_EMPTY: return "empty";
+    case TCRX_OTHER_SPACECRAFT: return "spacecraft";
+    case TCRX_UNKNOWN_CHANNEL: return "channel";
     default: return "by another status";
     }
 }

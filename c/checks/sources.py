@@ -48,7 +48,7 @@ def shown_code() -> list[tuple[str, str]]:
     blocks = re.findall(r"^```c\n(.*?)^```$", (TOP / "c" / "README.md").read_text(), re.M | re.S)
     lines = '#include "tcrx.h"\n' + "".join(f"void shown_{i}({GIVEN}) {{\n{block}}}\n" for i, block in enumerate(blocks))
     said = [(f"the code of c/README.md, {compiler[1]}", compiled(compiler, lines, HEADER.parent)) for compiler in (C[0], CXX[-1])]
-    return [*said, ("the blocks of code of c/README.md", "" if len(blocks) == 3 else f"there are {len(blocks)}")]
+    return [*said, ("the blocks of code of c/README.md", "" if len(blocks) == 4 else f"there are {len(blocks)}")]
 
 
 def changed_records(text: str) -> list[tuple[str, str]]:

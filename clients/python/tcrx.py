@@ -48,7 +48,7 @@ from typing import (TYPE_CHECKING, Callable, Dict, FrozenSet, Iterator, List, Li
                     Union)
 
 if TYPE_CHECKING:
-    from tcrx_channel import Channel as Channel  # pylint: disable=useless-import-alias  # it is handed on
+    from tcrx_channel import Channel as Channel, Rack as Rack  # pylint: disable=useless-import-alias  # they are handed on
 
 # That of the programs, and of the newest heading of CHANGELOG.md.
 __version__ = "0.1.0"
@@ -58,10 +58,10 @@ __all__ = ["BadLine", "Brought", "Clcw", "Delivered", "Delivery", "Ended", "Even
 
 if not TYPE_CHECKING:
     def __getattr__(name: str) -> object:
-        """`Channel`, which is read from its own file where it is asked for."""
-        if name == "Channel":
-            from tcrx_channel import Channel  # pylint: disable=import-outside-toplevel  # this file is whole without it
-            return Channel
+        """`Channel` and `Rack`, which are read from their own file where one is asked for."""
+        if name in ("Channel", "Rack"):
+            import tcrx_channel  # pylint: disable=import-outside-toplevel  # this file is whole without it
+            return getattr(tcrx_channel, name)
         raise AttributeError(f"module {__name__!r} has no attribute {name!r}")
 
 PROBE, PROBE_ANSWER = "?", "bad unknown command"

@@ -7,10 +7,11 @@ __all__ = ["CALLS", "DONE", "SHORT", "BAD_VERSION", "SPARE", "LENGTH_SMALL", "TR
            "BAD_COMMAND", "BAD_WIDTH", "BAD_STATE", "BAD_FARM_B", "BAD_FLAG", "FLAGS_DISAGREE", "BAD_ARRIVAL", "NO_ENTRY",
            "BAD_VCID", "NO_CLCW", "NO_PACKET", "NO_ROOM", "NULL", "NO_STATUS", "BAD_BUFFER", "BAD_APID", "DOUBLE_APID",
            "BAD_CAPACITY", "BAD_MAP", "DOUBLE_MAP", "BAD_UNITS", "PLAIN_MAP", "NO_CHANNEL", "IN_USE", "NO_QUEUE", "NO_MAP",
-           "EMPTY", "BAD_OTHERS", "BAD_LIMIT_MAP", "DOUBLE_LIMIT", "BAD_LIMIT", "PLAIN_LIMIT", "UNLISTED_MAP", "TEXT_ROOM", "OPEN",
-           "WAIT", "LOCKOUT", "AD", "BD", "UNLOCK", "SET_VR", "INVALID", "RELEASE", "_Farm", "_FarmAnswer", "_StepAnswer",
-           "_ClcwAnswer", "_ClcwFields", "_Header", "_Frame", "_KindAnswer", "_Packet", "_PacketHeader", "_Written", "_Channel",
-           "_Settings", "_Queue", "_Map", "_Limit", "_Reply", "_Delivery", "_Count"]
+           "EMPTY", "OTHER_SPACECRAFT", "UNKNOWN_CHANNEL", "BAD_OTHERS", "BAD_LIMIT_MAP", "DOUBLE_LIMIT", "BAD_LIMIT",
+           "PLAIN_LIMIT", "UNLISTED_MAP", "TEXT_ROOM", "OPEN", "WAIT", "LOCKOUT", "AD", "BD", "UNLOCK", "SET_VR", "INVALID",
+           "RELEASE", "_Farm", "_FarmAnswer", "_StepAnswer", "_ClcwAnswer", "_ClcwFields", "_Header", "_Frame", "_KindAnswer",
+           "_Packet", "_PacketHeader", "_Written", "_Channel", "_Settings", "_Queue", "_Map", "_Limit", "_Reply", "_Delivery",
+           "_RackReply", "_Place", "_Count"]
 
 DONE = 0
 SHORT = 1
@@ -57,6 +58,8 @@ IN_USE = 71
 NO_QUEUE = 72
 NO_MAP = 73
 EMPTY = 74
+OTHER_SPACECRAFT = 75
+UNKNOWN_CHANNEL = 76
 BAD_OTHERS = 80
 BAD_LIMIT_MAP = 81
 DOUBLE_LIMIT = 82
@@ -153,6 +156,15 @@ class _Delivery(Structure):
     _fields_ = [("status", c_uint32), ("queued", c_uint32), ("dropped", c_uint32), ("rest", c_uint8)]
 
 
+class _RackReply(Structure):
+    _fields_ = [("status", c_uint32), ("queued", c_uint32), ("dropped", c_uint32), ("event", c_uint8), ("accepted", c_uint8),
+                ("rest", c_uint8), ("vcid", c_uint8)]
+
+
+class _Place(Structure):
+    _fields_ = [("status", c_uint32), ("place", c_size_t)]
+
+
 class _Count(Structure):
     _fields_ = [("status", c_uint32), ("count", c_uint64)]
 
@@ -190,4 +202,6 @@ CALLS: Dict[str, Tuple[Any, List[Any]]] = {
     "tcrx_channel_units_at": (_Count, [POINTER(_Channel), c_uint8]),
     "tcrx_channel_events_at": (_Count, [POINTER(_Channel)]),
     "tcrx_channel_free_at": (c_uint32, [POINTER(_Channel)]),
+    "tcrx_rack_frame_at": (_RackReply, [POINTER(_Channel), c_size_t, c_uint16, c_uint8, c_char_p, c_size_t]),
+    "tcrx_rack_find_at": (_Place, [POINTER(_Channel), c_size_t, c_uint8]),
 }

@@ -34,19 +34,20 @@ import shutil
 import threading
 import weakref
 from ctypes import byref
+from contextlib import ExitStack
 from dataclasses import dataclass
 from operator import index
 from pathlib import Path
 from types import TracebackType
-from typing import Any, Dict, Iterator, List, Mapping, NoReturn, Optional, Tuple, Type, Union
+from typing import Any, Dict, Iterable, Iterator, List, Mapping, NoReturn, Optional, Tuple, Type, Union
 
 from tcrx import (Brought, Clcw, Delivery, Ended, Event, Fault, Final, NotSetUp, NotStarted, Packet, Refusal, Refused, Released, Report,
                   State, Unit)
 from tcrx_c import *  # pylint: disable=wildcard-import,unused-wildcard-import  # all that the header declares
 from tcrx_c import _Channel, _Header, _Limit, _Map, _PacketHeader, _Queue, _Settings
 
-__all__ = ["BadSettings", "Channel", "Frame", "NoMemory", "NotWritten", "add_fecf", "check_fecf", "find_library", "read_frame", "storage",
-           "write_frame", "write_packet", "write_segments", "write_set_vr", "write_unlock"]
+__all__ = ["BadSettings", "Channel", "Frame", "NoMemory", "NotWritten", "Rack", "add_fecf", "check_fecf", "find_library", "read_frame",
+           "storage", "write_frame", "write_packet", "write_segments", "write_set_vr", "write_unlock"]
 
 LIBRARY = "libtcrx.so.0"
 Octets = Union[bytes, bytearray, memoryview]
@@ -54,7 +55,10 @@ Library = Union[str, "os.PathLike[str]", None]
 # The statuses that are answers.
 REFUSED = {SHORT: Refused(Refusal.SHORT), BAD_VERSION: Refused(Refusal.VERSION), SPARE: Refused(Refusal.SPARE),
            LENGTH_SMALL: Refused(Refusal.LENGTH), TRUNCATED: Refused(Refusal.TRUNCATED), NO_QUEUE: Refused(Refusal.NO_QUEUE),
-           NO_MAP: Refused(Refusal.NO_MAP), EMPTY: Refused(Refusal.EMPTY)}
+           NO_MAP: Refused(Refusal.NO_MAP), EMPTY: Refused(Refusal.EMPTY), OTHER_SPACECRAFT: Refused(Refusal.SPACECRAFT),
+           UNKNOWN_CHANNEL: Refused(Refusal.CHANNEL)}
+# The statuses of octets that aren't one frame with the right frame error control field.
+UNCHECKED = (SHORT, BAD_VERSION, SPARE, LENGTH_SMALL, TRUNCATED, FILL, NO_FECF, WRONG_FECF)
 EVENTS = dict(enumerate(Event, 1))
 STATES = {OPEN: State.OPEN, WAIT: State.WAIT, LOCKOUT: State.LOCKOUT}
 # What becomes of most units, made once.
@@ -310,6 +314,25 @@ class Channel:
                    self._library.tcrx_channel_new_with_limits_at(self._at, *lists, *limits_of(limits, others)))
         self._finalizer = weakref.finalize(self, free, self._library, self._held)
 
+    def move_to(self, held: _Channel) -> None:
+        """Moves the channel to another place in memory, as a `Rack` does."""
+        with self._lock:
+            held.held, held.place = self._held.held, self._held.place
+            self._held.held, self._held.place = 0, None
+            self._held, self._at = held, byref(held)
+            if self._finalizer.detach():
+                self._finalizer = weakref.finalize(self, free, self._library, held)
+
+    @property
+    def lock(self) -> threading.Lock:
+        """What makes its calls take turns."""
+        return self._lock
+
+    @property
+    def library(self) -> ctypes.PyDLL:
+        """The library that holds it."""
+        return self._library
+
     def __reduce__(self) -> NoReturn:
         raise TypeError("a channel can't be copied or pickled: a copy of it is no second channel")
 
@@ -333,8 +356,8 @@ class Channel:
     # --- Operations ---
 
     def bring(self, octets: Octets) -> Union[Brought, Refused]:
-        """Brings octets that arrive, with the frame at their front. Which spacecraft and channel it is for isn't looked at: `read_frame`
-        says it."""
+        """Brings octets that arrive, with the frame at their front. Which spacecraft and channel it is for isn't looked at: a `Rack` does
+        that."""
         whole = octets if isinstance(octets, bytes) else bytes(octets)
         with self._lock:
             reply = self._library.tcrx_channel_frame_at(self._at, whole, len(whole))
@@ -449,3 +472,39 @@ class Channel:
     def __exit__(self, kind: Optional[Type[BaseException]], error: Optional[BaseException], trace: Optional[TracebackType]) -> None:
         """Closes the channel."""
         self.close()
+
+
+class Rack:
+    """The channels of a spacecraft, in this process: which of them a frame is for. Each is asked and closed by itself; one that is closed
+    is of the rack no more. A channel is of one rack at a time, that which was made of it last."""
+
+    def __init__(self, scid: int, channels: Iterable[Channel], *, fecf: bool = False) -> None:
+        """Makes a rack of channels for the spacecraft with the id `scid` (0 to 1,023). With `fecf` each frame must carry the frame error
+        control field, which is checked and taken off."""
+        self.scid, self.fecf = in_range(scid, 65535, "scid"), bool(fecf)
+        self._channels = tuple(channels)
+        self._library = self._channels[0].library if self._channels else load(None)
+        self._held = (_Channel * max(1, len(self._channels)))()
+        for held, channel in zip(self._held, self._channels):
+            channel.move_to(held)
+
+    def _call(self, name: str, *given: Any) -> Any:
+        """A call of the library, in turn with those of each channel."""
+        with ExitStack() as held:
+            for channel in self._channels:
+                held.enter_context(channel.lock)
+            return getattr(self._library, name)(self._held, len(self._channels), *given)
+
+    def bring(self, octets: Octets) -> Union[Brought, Refused]:
+        """Brings octets that arrive, with the frame at their front, to the first channel that it is for. With `fecf` octets that aren't one
+        frame with the right field at its end are refused by `CHECK`, as of a `Receiver`."""
+        whole = bytes(octets)
+        reply = self._call("tcrx_rack_frame_at", self.scid, int(self.fecf), whole, len(whole))
+        if reply.status:
+            return Refused(Refusal.CHECK) if self.fecf and reply.status in UNCHECKED else REFUSED[reply.status]
+        return Brought(reply.vcid, EVENTS[reply.event], reply.accepted == 1, delivery_of(reply))
+
+    def channel(self, vcid: int) -> Optional[Channel]:
+        """The first channel with this virtual channel id; None where there is none."""
+        found = self._call("tcrx_rack_find_at", in_range(vcid, 255, "vcid"))
+        return self._channels[found.place] if found.status == DONE else None

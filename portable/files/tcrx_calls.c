@@ -490,6 +490,46 @@ tcrx_status tcrx_channel_new_with_limits_at(tcrx_channel *channel, tcrx_settings
     return make_anew(channel, &asked);
 }
 
+/* The channel of an instance is a rack by itself. So it is found by asking each. */
+tcrx_place tcrx_rack_find_at(tcrx_channel *channels, size_t channel_count, uint8_t vcid) {
+    tcrx_place answer = {TCRX_UNKNOWN_CHANNEL, 0};
+    for (size_t i = 0; i < channel_count && answer.status != TCRX_DONE; i++) {
+        if (channels[i].held) {
+            tcrx_instance *at = (tcrx_instance *)channels[i].place;
+            answer.status = Z_tcrxZ_module_rack_find(&at->module, vcid);
+            answer.place = answer.status == TCRX_DONE ? i : 0;
+        }
+    }
+    return answer;
+}
+
+static tcrx_rack_reply brought(tcrx_instance *at, uint16_t scid, uint8_t fecf, const uint8_t *octets, size_t count) {
+    tcrx_rack_reply answer;
+    answer.status = Z_tcrxZ_module_rack_frame(&at->module, scid, fecf, at->read, put_frame(at, octets, count));
+    answer.queued = tcrx_number(at, 0);
+    answer.dropped = tcrx_number(at, 1);
+    answer.event = (uint8_t)tcrx_number(at, 2);
+    answer.accepted = (uint8_t)tcrx_number(at, 3);
+    answer.rest = (uint8_t)tcrx_number(at, 4);
+    answer.vcid = (uint8_t)tcrx_number(at, 5);
+    return answer;
+}
+
+/* What the rack of no channel refuses by another status, each rack does. */
+tcrx_rack_reply tcrx_rack_frame_at(tcrx_channel *channels, size_t channel_count, uint16_t scid, uint8_t fecf, const uint8_t *octets,
+                                   size_t count) {
+    tcrx_rack_reply answer = brought(tcrx_instance_shared(), scid, fecf, octets, count);
+    tcrx_instance_back();
+    if (answer.status == TCRX_UNKNOWN_CHANNEL) {
+        const uint8_t vcid = tcrx_read_frame_at(octets, count).header.vcid;
+        const tcrx_place found = tcrx_rack_find_at(channels, channel_count, vcid);
+        if (found.status == TCRX_DONE) {
+            answer = brought((tcrx_instance *)channels[found.place].place, scid, fecf, octets, count);
+        }
+    }
+    return answer;
+}
+
 tcrx_status tcrx_channel_free_at(tcrx_channel *channel) {
     if (!channel->held) {
         tcrx_instance *none = tcrx_instance_shared();

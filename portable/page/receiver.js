@@ -1,19 +1,20 @@
 "use strict";
 /*
  * The receiver in a page: the library as a WebAssembly module, and what tcrx and tcmake make of its answers, without anything that
- * is drawn. All that FARM-1, the channels, frames, packets and CLCWs do is done by the module. This file reads scripts, in the way
- * of docs/reference/scripts.md, and puts answers into words.
+ * is drawn. All that FARM-1, the channels, frames, packets and CLCWs do is done by the module, and so is the choice of the channel that
+ * a frame is for. This file reads scripts, in the way of docs/reference/scripts.md, and puts answers into words.
  */
 
 const STATUS = {
   DONE: 0, SHORT: 1, BAD_VERSION: 2, SPARE: 3, LENGTH_SMALL: 4, TRUNCATED: 5, BAD_WIDTH: 20, NO_CLCW: 31, NO_ROOM: 50,
   BAD_BUFFER: 60, BAD_APID: 61, DOUBLE_APID: 62, BAD_CAPACITY: 63, BAD_MAP: 64, DOUBLE_MAP: 65, BAD_UNITS: 66, PLAIN_MAP: 67,
-  NO_MEMORY: 13, BAD_VCID: 30, NO_QUEUE: 72, NO_MAP: 73, EMPTY: 74,
+  NO_MEMORY: 13, BAD_VCID: 30, NO_QUEUE: 72, NO_MAP: 73, EMPTY: 74, OTHER_SPACECRAFT: 75, UNKNOWN_CHANNEL: 76,
 };
 /* The words of refusals, and of faults of a channel's settings. */
 const REFUSALS = {
   [STATUS.SHORT]: "short", [STATUS.BAD_VERSION]: "version", [STATUS.SPARE]: "spare", [STATUS.LENGTH_SMALL]: "length",
   [STATUS.TRUNCATED]: "truncated", [STATUS.NO_QUEUE]: "no queue", [STATUS.NO_MAP]: "no map", [STATUS.EMPTY]: "empty",
+  [STATUS.OTHER_SPACECRAFT]: "spacecraft", [STATUS.UNKNOWN_CHANNEL]: "channel",
 };
 const KINDS = ["", "AD", "BD", "Unlock", "Set V(R)", "invalid"];
 const STATES = ["", "open", "wait", "lockout"];
@@ -117,10 +118,11 @@ class Channel {
     for (const at of [queues, maps]) calls.module_room_back(BigInt(at));
     return status;
   }
-  bring(octets) {
-    const status = this.instance.calls.module_channel_frame(BigInt(this.instance.read), this.instance.putFrame(octets));
-    const [queued, dropped, event, accepted, rest] = this.instance.numbers();
-    return {status, queued, dropped, event, accepted, rest};
+  /* Brings octets to the rack of this channel alone, for a spacecraft. */
+  bring(scid, octets) {
+    const status = this.instance.calls.module_rack_frame(scid, 0, BigInt(this.instance.read), this.instance.putFrame(octets));
+    const [queued, dropped, event, accepted, rest, vcid] = this.instance.numbers();
+    return {status, queued, dropped, event, accepted, rest, vcid};
   }
   release() {
     const status = this.instance.calls.module_channel_release();
@@ -224,7 +226,6 @@ class Run {
   constructor(compiled, scid, script) {
     this.compiled = compiled;
     this.scid = scid;
-    this.library = new Instance(compiled);
     this.channels = new Map();
     this.fault = null;
     this.hint = "";
@@ -319,16 +320,17 @@ class Run {
     return {...known, octets, text: `${line.what} ${vcid} ${key} ${octets.length === 0 ? "-" : toHex(octets)}`};
   }
   bring(octets) {
-    const frame = this.library.readFrame(octets);
-    if (frame.status !== STATUS.DONE) return {text: this.refused(frame.status)};
-    if (frame.scid !== this.scid) return {text: "refused spacecraft"};
-    const channel = this.channels.get(frame.vcid);
-    if (channel === undefined) return {text: "refused channel"};
-    const known = {vcid: frame.vcid, before: channel.farm()};
-    const {status, queued, dropped, event, accepted, rest} = channel.bring(octets);
-    if (status !== STATUS.DONE) return {...known, text: this.refused(status)};
-    const text = `frame ${frame.vcid} E${event} accepted ${accepted} queued ${queued} dropped ${dropped} rest ${rest}`;
-    return {...known, event, accepted, text};
+    let reply = {status: STATUS.UNKNOWN_CHANNEL};
+    let before = null;
+    for (const channel of this.channels.values()) {
+      before = channel.farm();
+      reply = channel.bring(this.scid, octets);
+      if (reply.status !== STATUS.UNKNOWN_CHANNEL) break;
+    }
+    const {status, queued, dropped, event, accepted, rest, vcid} = reply;
+    if (status !== STATUS.DONE) return {text: this.refused(status)};
+    const text = `frame ${vcid} E${event} accepted ${accepted} queued ${queued} dropped ${dropped} rest ${rest}`;
+    return {vcid, before, event, accepted, text};
   }
   refused(status) {
     if (Object.hasOwn(REFUSALS, status)) return `refused ${REFUSALS[status]}`;

@@ -3,9 +3,11 @@ use Rattle.std.proofs.Common.{◌≡◌, Option, Some, None, refl, sym, ap, ◌�
 use Rattle.std.specs.Prelude.{option_map}
 use Rattle.tc_c.specs.declared.status.Status.{Status}
 use Rattle.tc_c.specs.declared.status.Status.TheVariants as st
-use Rattle.tc_c.specs.Status.{frame_status, write_status, field_status, settings_status, limits_status}
+use Rattle.tc_c.specs.Status.{frame_status, locate_status, write_status, field_status, settings_status, limits_status}
 use Rattle.tc_link.specs.declared.frame.FrameFault.{FrameFault}
 use Rattle.tc_link.specs.declared.frame.FrameFault.TheVariants as frames
+use Rattle.tc_link.specs.declared.location.LocateFault.{LocateFault}
+use Rattle.tc_link.specs.declared.location.LocateFault.TheVariants as locations
 use Rattle.tc_link.specs.declared.writing.WriteFault.{WriteFault}
 use Rattle.tc_link.specs.declared.writing.WriteFault.TheVariants as writing
 use Rattle.tc_fecf.specs.declared.frames.FieldFault.{FieldFault}
@@ -33,6 +35,25 @@ frame-found frames.Truncated = refl
 pub frame-apart : (one other : FrameFault) → frame_status one ≡ frame_status other → one ≡ other
 frame-apart one other e =
     let same : Some one ≡ Some other = sym (frame-found one) ∙ (ap frame_of e ∙ frame-found other) in
+    cc
+
+abbrev locate_of : Status → Option LocateFault
+locate_of st.OtherSpacecraft = Some locations.OtherSpacecraft
+locate_of st.UnknownChannel = Some locations.UnknownChannel
+locate_of other = option_map locations.Frame (frame_of other)
+
+locate-found : (fault : LocateFault) → locate_of (locate_status fault) ≡ Some fault
+locate-found (locations.Frame frames.Short) = refl
+locate-found (locations.Frame frames.Version) = refl
+locate-found (locations.Frame frames.Spare) = refl
+locate-found (locations.Frame frames.LengthSmall) = refl
+locate-found (locations.Frame frames.Truncated) = refl
+locate-found locations.OtherSpacecraft = refl
+locate-found locations.UnknownChannel = refl
+
+pub locate-apart : (one other : LocateFault) → locate_status one ≡ locate_status other → one ≡ other
+locate-apart one other e =
+    let same : Some one ≡ Some other = sym (locate-found one) ∙ (ap locate_of e ∙ locate-found other) in
     cc
 
 abbrev write_of : Status → Option WriteFault

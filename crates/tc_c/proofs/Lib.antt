@@ -4,3 +4,4 @@ mod Records
 mod Farms
 mod Faults
 mod Commands
+mod Racks

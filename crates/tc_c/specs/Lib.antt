@@ -5,4 +5,5 @@ pub mod Frame
 pub mod Packet
 pub mod Place
 pub mod Channel
+pub mod Rack
 pub mod Writing

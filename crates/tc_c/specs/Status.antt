@@ -2,6 +2,8 @@
 use Rattle.std.specs.Prelude.{ℕ, ◌==◌, List, [], ◌∷◌, Option, Some, None, codes, if◌then◌else◌}
 use Rattle.tc_link.specs.declared.frame.FrameFault.{FrameFault}
 use Rattle.tc_link.specs.declared.frame.FrameFault.TheVariants as frames
+use Rattle.tc_link.specs.declared.location.LocateFault.{LocateFault}
+use Rattle.tc_link.specs.declared.location.LocateFault.TheVariants as locations
 use Rattle.tc_link.specs.declared.writing.WriteFault.{WriteFault}
 use Rattle.tc_link.specs.declared.writing.WriteFault.TheVariants as writing
 use Rattle.tc_fecf.specs.declared.frames.FieldFault.{FieldFault}
@@ -62,6 +64,8 @@ entry_of st.InUse = (71, codes "a channel is held already")
 entry_of st.NoQueue = (72, codes "no queue has that APID")
 entry_of st.NoMap = (73, codes "that MAP isn't chosen")
 entry_of st.Empty = (74, codes "nothing waits there")
+entry_of st.OtherSpacecraft = (75, codes "the frame is for another spacecraft")
+entry_of st.UnknownChannel = (76, codes "no channel has that virtual channel id")
 entry_of st.BadOthers = (80, codes "the limit of the other MAPs is out of its range")
 entry_of st.BadLimitMap = (81, codes "the MAP of a limit is over 63")
 entry_of st.DoubleLimit = (82, codes "a MAP has two limits")
@@ -82,7 +86,8 @@ statuses =
     st.NoSegment ∷ st.BadCommand ∷ st.BadWidth ∷ st.BadState ∷ st.BadFarmB ∷ st.BadFlag ∷ st.FlagsDisagree ∷ st.BadArrival ∷
     st.NoEntry ∷ st.BadVcid ∷ st.NoClcw ∷ st.NoPacket ∷ st.NoRoom ∷ st.Null ∷ st.NoStatus ∷ st.BadBuffer ∷ st.BadApid ∷
     st.DoubleApid ∷ st.BadCapacity ∷ st.BadMap ∷ st.DoubleMap ∷ st.BadUnits ∷ st.PlainMap ∷ st.NoChannel ∷ st.InUse ∷ st.NoQueue
-    ∷ st.NoMap ∷ st.Empty ∷ st.BadOthers ∷ st.BadLimitMap ∷ st.DoubleLimit ∷ st.BadLimit ∷ st.PlainLimit ∷ st.UnlistedMap ∷ []
+    ∷ st.NoMap ∷ st.Empty ∷ st.OtherSpacecraft ∷ st.UnknownChannel ∷ st.BadOthers ∷ st.BadLimitMap ∷ st.DoubleLimit ∷ st.BadLimit
+    ∷ st.PlainLimit ∷ st.UnlistedMap ∷ []
 
 -- the first of some that has this number
 abbrev pub with_number : ℕ → List Status → Option Status
@@ -99,6 +104,12 @@ frame_status frames.Version = st.Version
 frame_status frames.Spare = st.Spare
 frame_status frames.LengthSmall = st.LengthSmall
 frame_status frames.Truncated = st.Truncated
+
+-- why octets are for none of the channels: the fault of their frame, or another
+abbrev pub locate_status : LocateFault → Status
+locate_status (locations.Frame fault) = frame_status fault
+locate_status locations.OtherSpacecraft = st.OtherSpacecraft
+locate_status locations.UnknownChannel = st.UnknownChannel
 
 abbrev pub write_status : WriteFault → Status
 write_status writing.BadField = st.BadField

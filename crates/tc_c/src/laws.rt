@@ -6,6 +6,7 @@ ghost use Rattle.tc_link.specs.declared.command.Kind.{Kind};
 ghost use Rattle.tc_link.specs.declared.farm.Arrival.{Arrival};
 ghost use Rattle.tc_link.specs.declared.farm.Arrival.TheVariants.{Frame};
 ghost use Rattle.tc_link.specs.declared.frame.FrameFault.{FrameFault};
+ghost use Rattle.tc_link.specs.declared.location.LocateFault.{LocateFault};
 ghost use Rattle.tc_link.specs.declared.writing.WriteFault.{WriteFault};
 ghost use Rattle.tc_link.specs.declared.frame.Header.{Header};
 ghost use Rattle.tc_link.specs.Farm.{Machine, row_of, entry};
@@ -22,7 +23,7 @@ ghost use Rattle.tc_fixed.specs.declared.limits.LimitsFault.{LimitsFault};
 ghost use Rattle.tc_c.specs.declared.farm.FarmRecord.{FarmRecord};
 ghost use Rattle.tc_c.specs.declared.status.Status.{Status};
 ghost use Rattle.tc_c.specs.declared.status.Status.TheVariants as st;
-ghost use Rattle.tc_c.specs.Status.{code_of, status_of, text_of, frame_status, write_status, field_status, settings_status, limits_status};
+ghost use Rattle.tc_c.specs.Status.{code_of, status_of, text_of, frame_status, locate_status, write_status, field_status, settings_status, limits_status};
 ghost use Rattle.tc_c.specs.Farm.{IsFarm, first_farm, record_of, farm_of, arrival_of, left};
 ghost use Rattle.tc_c.specs.Frame.{kind_number, kind_value, header_record, frame_record};
 ghost use Rattle.tc_c.specs.Packet.{packet_record, written_packet};
@@ -58,10 +59,11 @@ pub fn each_status_has_a_number()
     ensures { (st : Status) → status_of (code_of st) ≡ Some st }
 {}
 
-/// No two faults have one status: those of octets with which no frame begins, of frames that aren't written, of frame error control
-/// fields, of settings, and of settings with limits.
+/// No two faults have one status: those of octets with which no frame begins, of octets that are for none of the channels, of frames
+/// that aren't written, of frame error control fields, of settings, and of settings with limits.
 pub fn each_fault_has_a_status_of_its_own()
     ensures frames { (one other : FrameFault) → frame_status one ≡ frame_status other → one ≡ other }
+    ensures locations { (one other : LocateFault) → locate_status one ≡ locate_status other → one ≡ other }
     ensures writing { (one other : WriteFault) → write_status one ≡ write_status other → one ≡ other }
     ensures fields { (one other : FieldFault) → field_status one ≡ field_status other → one ≡ other }
     ensures settings { (one other : SettingsFault) → settings_status one ≡ settings_status other → one ≡ other }
@@ -75,7 +77,7 @@ pub fn statuses_have_these_numbers()
     ensures writing { map code_of (st.BadField ∷ st.EmptyData ∷ st.TooLong ∷ st.NoMemory ∷ st.LongPacket ∷ st.LongUnit ∷ st.LongFrame ∷ st.BadSize ∷ st.NoSegment ∷ st.BadCommand ∷ []) ≡ 10 ∷ 11 ∷ 12 ∷ 13 ∷ 14 ∷ 15 ∷ 16 ∷ 17 ∷ 18 ∷ 19 ∷ [] }
     ensures parts { map code_of (st.BadWidth ∷ st.BadState ∷ st.BadFarmB ∷ st.BadFlag ∷ st.FlagsDisagree ∷ st.BadArrival ∷ st.NoEntry ∷ st.BadVcid ∷ st.NoClcw ∷ st.NoPacket ∷ st.NoRoom ∷ st.Null ∷ st.NoStatus ∷ []) ≡ 20 ∷ 21 ∷ 22 ∷ 23 ∷ 24 ∷ 25 ∷ 26 ∷ 30 ∷ 31 ∷ 40 ∷ 50 ∷ 51 ∷ 52 ∷ [] }
     ensures settings { map code_of (st.BadBuffer ∷ st.BadApid ∷ st.DoubleApid ∷ st.BadCapacity ∷ st.BadMap ∷ st.DoubleMap ∷ st.BadUnits ∷ st.PlainMap ∷ []) ≡ 60 ∷ 61 ∷ 62 ∷ 63 ∷ 64 ∷ 65 ∷ 66 ∷ 67 ∷ [] }
-    ensures channels { map code_of (st.NoChannel ∷ st.InUse ∷ st.NoQueue ∷ st.NoMap ∷ st.Empty ∷ []) ≡ 70 ∷ 71 ∷ 72 ∷ 73 ∷ 74 ∷ [] }
+    ensures channels { map code_of (st.NoChannel ∷ st.InUse ∷ st.NoQueue ∷ st.NoMap ∷ st.Empty ∷ st.OtherSpacecraft ∷ st.UnknownChannel ∷ []) ≡ 70 ∷ 71 ∷ 72 ∷ 73 ∷ 74 ∷ 75 ∷ 76 ∷ [] }
     ensures limits { map code_of (st.BadOthers ∷ st.BadLimitMap ∷ st.DoubleLimit ∷ st.BadLimit ∷ st.PlainLimit ∷ st.UnlistedMap ∷ []) ≡ 80 ∷ 81 ∷ 82 ∷ 83 ∷ 84 ∷ 85 ∷ [] }
 {}
 

@@ -1,5 +1,5 @@
 //! The receiver's calls for C: FARM-1, CLCWs, transfer frames and space packets over plain numbers, records and octets, which
-//! keep no state and allocate nothing; and a channel that the caller holds by a seat in its own memory.
+//! keep no state and allocate nothing; and a channel that the caller holds by a seat in its own memory, or many in an array.
 //!
 //! Each call answers with a status, alone or as the first field of a record. It keeps no pointer that it is given.
 //! The header `c/tcrx.h` says the same to callers in C.
@@ -15,6 +15,7 @@ mod laws;
 mod packets;
 mod parts;
 mod place;
+mod rack;
 mod seat;
 mod settings;
 mod status;
@@ -44,6 +45,7 @@ pub use laws::{
 };
 pub use packets::{PacketRecord, tcrx_read_packet_at};
 pub use place::Place;
+pub use rack::{PlaceRecord, RackReplyRecord, tcrx_rack_find_at, tcrx_rack_frame_at};
 pub use seat::Seat;
 pub use settings::{SettingsRecord, tcrx_channel_new_at, tcrx_channel_new_with_limits_at};
 pub use status::Status;

@@ -1,12 +1,12 @@
 //! What a call came to.
 
 ghost use Rattle.std.specs.Prelude.{◌≡◌, ◌<◌};
-ghost use Rattle.tc_c.specs.Status.{code_of, status_of, text_of, frame_status, write_status, field_status, settings_status, limits_status};
+ghost use Rattle.tc_c.specs.Status.{code_of, status_of, text_of, frame_status, locate_status, write_status, field_status, settings_status, limits_status};
 
 use tc_channel::SettingsFault;
 use tc_fecf::FieldFault;
 use tc_fixed::LimitsFault;
-use tc_link::{FrameFault, WriteFault};
+use tc_link::{FrameFault, LocateFault, WriteFault};
 
 /// What a call came to: that it is done, or the first reason why it isn't.
 ///
@@ -59,6 +59,8 @@ pub enum Status {
     NoQueue,
     NoMap,
     Empty,
+    OtherSpacecraft,
+    UnknownChannel,
     BadOthers,
     BadLimitMap,
     DoubleLimit,
@@ -116,6 +118,8 @@ macro_rules! each_status {
             NoQueue 72 b"no queue has that APID",
             NoMap 73 b"that MAP isn't chosen",
             Empty 74 b"nothing waits there",
+            OtherSpacecraft 75 b"the frame is for another spacecraft",
+            UnknownChannel 76 b"no channel has that virtual channel id",
             BadOthers 80 b"the limit of the other MAPs is out of its range",
             BadLimitMap 81 b"the MAP of a limit is over 63",
             DoubleLimit 82 b"a MAP has two limits",
@@ -183,6 +187,18 @@ pub(crate) fn frame_fault(fault: FrameFault) -> Status
         FrameFault::Spare => Status::Spare,
         FrameFault::LengthSmall => Status::LengthSmall,
         FrameFault::Truncated => Status::Truncated,
+    }
+}
+
+/// The status of octets that are for none of the channels.
+pub(crate) fn locate_fault(fault: LocateFault) -> Status
+    ensures status { result ≡ locate_status fault }
+    ensures refusal { 0 < code_of result }
+{
+    match fault {
+        LocateFault::Frame(fault) => frame_fault(fault),
+        LocateFault::OtherSpacecraft => Status::OtherSpacecraft,
+        LocateFault::UnknownChannel => Status::UnknownChannel,
     }
 }
 

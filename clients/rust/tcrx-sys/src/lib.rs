@@ -142,6 +142,10 @@ numbers! {
     NO_MAP: Status = 73;
     /// Nothing waits there.
     EMPTY: Status = 74;
+    /// The frame is for another spacecraft.
+    OTHER_SPACECRAFT: Status = 75;
+    /// No channel has that virtual channel id.
+    UNKNOWN_CHANNEL: Status = 76;
     /// Limits: `others` is over 65,542, or 0 without segment headers.
     BAD_OTHERS: Status = 80;
     /// Limits: a MAP is over 63.
@@ -379,6 +383,30 @@ records! {
         /// As in `tcrx_reply`.
         rest: u8,
     }
+    /// What a frame came to, and the channel that took it in.
+    RackReply as "tcrx_rack_reply" {
+        /// `TCRX_DONE`, or why not.
+        status: Status,
+        /// As in `tcrx_reply`.
+        queued: u32,
+        /// As in `tcrx_reply`.
+        dropped: u32,
+        /// As in `tcrx_reply`.
+        event: u8,
+        /// As in `tcrx_reply`.
+        accepted: u8,
+        /// As in `tcrx_reply`.
+        rest: u8,
+        /// The virtual channel id, 0 to 63.
+        vcid: u8,
+    }
+    /// A place in an array.
+    Place as "tcrx_place" {
+        /// `TCRX_DONE`, or why not.
+        status: Status,
+        /// The place, from 0 on.
+        place: usize,
+    }
     /// A count.
     Count as "tcrx_count" {
         /// `TCRX_DONE`, or why not.
@@ -521,7 +549,7 @@ extern "C" {
     ) -> Status;
     /// Gives the channel the frame at the front of octets. What follows it is fill. The data field of an accepted Type-AD frame
     /// waits in the buffer; the unit that an accepted Type-BD frame ends is queued at once. The frame's spacecraft id and virtual
-    /// channel id are not looked at: the caller chooses the channel by what `tcrx_read_frame` answers.
+    /// channel id are not looked at: `tcrx_rack_frame` chooses a channel by them.
     ///
     /// Answer: the event, and what became of the unit. Refused by `TCRX_NO_CHANNEL`, `TCRX_SHORT` to `TCRX_TRUNCATED`.
     pub fn tcrx_channel_frame_at(channel: *mut Channel, octets: *const u8, count: usize) -> Reply;
@@ -556,5 +584,22 @@ extern "C" {
     ///
     /// Answer: `TCRX_DONE`. Refused by `TCRX_NO_CHANNEL`.
     pub fn tcrx_channel_free_at(channel: *mut Channel) -> Status;
+    /// Gives the frame at the front of octets to the channel that it is for: of the spacecraft's the first one with the virtual
+    /// channel id of the frame. Where frames end with the frame error control field, that is checked first, and the channel is
+    /// given the frame without it.
+    ///
+    /// Answer: the event, what became of the unit, and the channel. Refused by `TCRX_BAD_FLAG`; where `fecf` is 1 as
+    /// `tcrx_check_fecf`, by `TCRX_SHORT` to `TCRX_TRUNCATED`, `TCRX_FILL`, `TCRX_NO_FECF`, `TCRX_WRONG_FECF`, and where it is 0 by
+    /// `TCRX_SHORT` to `TCRX_TRUNCATED`; then by `TCRX_OTHER_SPACECRAFT`, `TCRX_UNKNOWN_CHANNEL`.
+    pub fn tcrx_rack_frame_at(
+        channels: *mut Channel,
+        channel_count: usize,
+        scid: u16,
+        fecf: u8,
+        octets: *const u8,
+        count: usize,
+    ) -> RackReply;
+    /// Answer: the place of the first channel with this virtual channel id. Refused by `TCRX_UNKNOWN_CHANNEL`.
+    pub fn tcrx_rack_find_at(channels: *mut Channel, channel_count: usize, vcid: u8) -> Place;
 }
 // This is the end of what tools/c_interface writes.

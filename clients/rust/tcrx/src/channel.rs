@@ -1,6 +1,6 @@
 //! A virtual channel that the library holds.
 
-use crate::errors::{BringError, ReleaseError, SettingsError, TakeError};
+use crate::errors::{BringError, RackError, ReleaseError, SettingsError, TakeError};
 use crate::link::{Clcw, Event, Farm};
 use core::cell::UnsafeCell;
 use core::fmt;
@@ -118,6 +118,7 @@ pub struct Link {
 ///     shared(channel);
 /// }
 /// ```
+#[repr(transparent)] // a rack's array of channels is one of their records
 pub struct Channel(UnsafeCell<sys::Channel>);
 
 // SAFETY: the library's calls of a channel may be made from any thread, and so may the functions of memory. The cell keeps two
@@ -165,8 +166,8 @@ impl Channel {
         }
     }
 
-    /// Gives it the frame at the front of octets. Which spacecraft and channel the frame is for isn't looked at:
-    /// [`Frame::read`](crate::Frame::read) says it.
+    /// Gives it the frame at the front of octets. Which spacecraft and channel the frame is for isn't looked at: a [`Rack`] does
+    /// that.
     pub fn frame(&mut self, octets: &[u8]) -> Result<Brought, BringError> {
         // SAFETY: a channel is held, by nobody else, and there are as many octets as the count says.
         let reply = unsafe { sys::tcrx_channel_frame_at(self.0.get_mut(), octets.as_ptr(), octets.len()) };
@@ -257,6 +258,45 @@ impl Channel {
     /// }
     /// ```
     pub fn close(self) {}
+}
+
+/// The channels of a spacecraft.
+#[derive(Debug)]
+pub struct Rack<'channels> {
+    /// The spacecraft id.
+    pub scid: u16,
+    /// Whether frames end with the frame error control field, which is then checked, so that nothing may follow it. Where not, what
+    /// follows a frame is fill.
+    pub fecf: bool,
+    /// The channels. Of several with one virtual channel id the first is found.
+    pub channels: &'channels mut [Channel],
+}
+
+impl Rack<'_> {
+    /// Gives the frame at the front of octets to the channel that it is for. The answer has the virtual channel id of that.
+    pub fn frame(&mut self, octets: &[u8]) -> Result<(u8, Brought), RackError> {
+        let (at, count) = (self.channels.as_mut_ptr().cast(), self.channels.len());
+        // SAFETY: the channels are records of the library, held by nobody else, and there are as many of them and of octets as the
+        // counts say.
+        let reply = unsafe { sys::tcrx_rack_frame_at(at, count, self.scid, self.fecf.into(), octets.as_ptr(), octets.len()) };
+        if reply.status != sys::DONE {
+            return Err(RackError::of(reply.status, 0));
+        }
+        let delivery = Delivery { queued: reply.queued, dropped: reply.dropped, rest: reply.rest == 1 };
+        Ok((reply.vcid, Brought { event: Event::of(reply.event), accepted: reply.accepted == 1, delivery }))
+    }
+
+    /// The channel with this virtual channel id.
+    pub fn channel(&mut self, vcid: u8) -> Option<&mut Channel> {
+        let (at, count) = (self.channels.as_mut_ptr().cast(), self.channels.len());
+        // SAFETY: as for `frame`.
+        let found = unsafe { sys::tcrx_rack_find_at(at, count, vcid) };
+        if found.status == sys::DONE {
+            self.channels.get_mut(found.place)
+        } else {
+            None
+        }
+    }
 }
 
 impl Drop for Channel {

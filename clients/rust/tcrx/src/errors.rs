@@ -199,6 +199,32 @@ refusals! {
 }
 
 refusals! {
+    /// Why none of the channels took a frame in. All are as they were.
+    RackError {
+        /// No frame: fewer than 5 octets.
+        Short = SHORT,
+        /// No frame: version bits that aren't 0.
+        BadVersion = BAD_VERSION,
+        /// No frame: spare bits that aren't 0.
+        Spare = SPARE,
+        /// No frame: a frame length of fewer than 6 octets.
+        LengthSmall = LENGTH_SMALL,
+        /// No frame: a frame length of more octets than there are.
+        Truncated = TRUNCATED,
+        /// No frame alone: octets follow it.
+        Fill = FILL,
+        /// No frame error control field: a frame of fewer than 8 octets.
+        NoFecf = NO_FECF,
+        /// The frame error control field is wrong.
+        WrongFecf = WRONG_FECF,
+        /// The frame is for another spacecraft.
+        OtherSpacecraft = OTHER_SPACECRAFT,
+        /// No channel has that virtual channel id.
+        UnknownChannel = UNKNOWN_CHANNEL,
+    }
+}
+
+refusals! {
     /// Why nothing left the buffer. The channel is as it was.
     ReleaseError {
         /// Nothing waits there.

@@ -31,8 +31,8 @@ mod channel;
 mod errors;
 mod link;
 
-pub use channel::{Brought, Channel, Delivery, Limits, Link, Settings};
-pub use errors::{BringError, FarmError, FecfError, FrameError, ReleaseError, SettingsError, TakeError, WriteError};
+pub use channel::{Brought, Channel, Delivery, Limits, Link, Rack, Settings};
+pub use errors::{BringError, FarmError, FecfError, FrameError, RackError, ReleaseError, SettingsError, TakeError, WriteError};
 pub use link::{
     add_fecf, check_fecf, Arrival, Clcw, Command, Event, Farm, Frame, Header, Kind, Packet, PacketHeader, Segments, State, Step,
 };

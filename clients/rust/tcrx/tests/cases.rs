@@ -5,22 +5,17 @@ use std::collections::BTreeMap;
 use std::fmt::Write;
 use std::fs;
 use std::path::{Path, PathBuf};
-use tcrx::{BringError, Channel, Clcw, Frame, FrameError, Limits, Link, Map, Queue, ReleaseError, Settings, TakeError};
+use tcrx::{
+    BringError, Channel, Clcw, Frame, FrameError, Limits, Link, Map, Queue, Rack, RackError, ReleaseError, Settings, TakeError,
+};
 
-/// A channel, and the lines that it was set up by.
+/// The lines that a channel was set up by, and where it is.
 #[derive(Default)]
 struct Receiver {
     numbers: [u8; 3],
     plain: bool,
     queues: Vec<Queue>,
     maps: Vec<Map>,
-    channel: Option<Channel>,
-}
-
-impl Receiver {
-    fn channel(&mut self) -> &mut Channel {
-        self.channel.as_mut().expect("channels are made before the first operation")
-    }
 }
 
 /// The script that is done, and what it printed.
@@ -29,6 +24,7 @@ struct Script {
     /// With TCRX_LIMITED the octets of all its lines, which no unit is longer than: channels then fill less memory.
     limit: Option<u32>,
     receivers: BTreeMap<u8, Receiver>,
+    channels: Vec<Channel>,
     printed: String,
 }
 
@@ -42,13 +38,15 @@ fn octets_of(digits: &str) -> Vec<u8> {
     pairs.map(|pair| u8::from_str_radix(pair, 16).expect("digits")).collect()
 }
 
-fn refusal_of_frame(error: FrameError) -> &'static str {
+fn refusal_of_frame(error: RackError) -> &'static str {
     match error {
-        FrameError::Short => "short",
-        FrameError::BadVersion => "version",
-        FrameError::Spare => "spare",
-        FrameError::LengthSmall => "length",
-        FrameError::Truncated => "truncated",
+        RackError::Short => "short",
+        RackError::BadVersion => "version",
+        RackError::Spare => "spare",
+        RackError::LengthSmall => "length",
+        RackError::Truncated => "truncated",
+        RackError::OtherSpacecraft => "spacecraft",
+        RackError::UnknownChannel => "channel",
         _ => "by another status",
     }
 }
@@ -78,8 +76,8 @@ impl Script {
     }
 
     fn make_all(&mut self) {
-        for (vcid, at) in &mut self.receivers {
-            if at.channel.is_none() {
+        if self.channels.is_empty() {
+            for (vcid, at) in &self.receivers {
                 let [width, buffer, first_vr] = at.numbers;
                 let segmented = !at.plain;
                 let settings = Settings { vcid: *vcid, width, buffer, first_vr, segmented, queues: &at.queues, maps: &at.maps };
@@ -87,9 +85,13 @@ impl Script {
                     Some(others) => Channel::with_limits(&settings, &Limits { others, maps: &[] }),
                     None => Channel::new(&settings),
                 };
-                at.channel = Some(made.expect("settings"));
+                self.channels.push(made.expect("settings"));
             }
         }
+    }
+
+    fn rack(&mut self) -> Rack<'_> {
+        Rack { scid: self.scid, fecf: false, channels: &mut self.channels }
     }
 
     fn refuse(&mut self, why: &str) {
@@ -97,16 +99,10 @@ impl Script {
     }
 
     fn bring(&mut self, octets: &[u8]) {
-        let frame = match Frame::read(octets) {
-            Ok(frame) => frame,
+        let (vcid, brought) = match self.rack().frame(octets) {
+            Ok(located) => located,
             Err(error) => return self.refuse(refusal_of_frame(error)),
         };
-        let vcid = frame.header().vcid;
-        if frame.header().scid != self.scid {
-            return self.refuse("spacecraft");
-        }
-        let Some(at) = self.receivers.get_mut(&vcid) else { return self.refuse("channel") };
-        let brought = at.channel().frame(octets).expect("the frame reads");
         let (event, accepted, unit) = (brought.event, u8::from(brought.accepted), brought.delivery);
         let (queued, dropped, rest) = (unit.queued, unit.dropped, u8::from(unit.rest));
         writeln!(self.printed, "frame {vcid} {event:?} accepted {accepted} queued {queued} dropped {dropped} rest {rest}")
@@ -114,7 +110,7 @@ impl Script {
     }
 
     fn release(&mut self, vcid: u8) {
-        match self.receivers.get_mut(&vcid).expect("it is there").channel().release() {
+        match self.rack().channel(vcid).expect("it is there").release() {
             Ok(unit) => {
                 let (queued, dropped, rest) = (unit.queued, unit.dropped, u8::from(unit.rest));
                 writeln!(self.printed, "release {vcid} queued {queued} dropped {dropped} rest {rest}").expect("room");
@@ -125,7 +121,8 @@ impl Script {
 
     /// First into no room, which must take nothing, then into room that is just long enough.
     fn take(&mut self, unit: bool, vcid: u8, key: u16) {
-        let channel = self.receivers.get_mut(&vcid).expect("it is there").channel();
+        let mut rack = self.rack();
+        let channel = rack.channel(vcid).expect("it is there");
         let map = u8::try_from(key).ok();
         let mut room = Vec::new();
         let events = channel.events();
@@ -158,10 +155,11 @@ impl Script {
             return self.bring(&octets_of(words[1]));
         }
         let vcid: u8 = words[1].parse().expect("a number");
-        let Some(at) = self.receivers.get_mut(&vcid) else { return self.refuse("channel") };
+        let Some(word) = self.rack().channel(vcid).map(|channel| channel.clcw(Link::default()).word()) else {
+            return self.refuse("channel");
+        };
         match words[0] {
             "clcw" => {
-                let word = at.channel().clcw(Link::default()).word();
                 writeln!(self.printed, "clcw {vcid} {word:08x}").expect("a string has room");
             }
             "release" => self.release(vcid),
@@ -172,8 +170,7 @@ impl Script {
     /// FARM-1's record makes the same CLCW as the channel, and the CLCW reads back.
     fn report(mut self) -> String {
         self.make_all();
-        for (vcid, mut at) in self.receivers {
-            let channel = at.channel.take().expect("it was made");
+        for ((vcid, at), channel) in self.receivers.into_iter().zip(self.channels) {
             let link = Link { no_rf: true, no_bit_lock: false };
             let (farm, clcw) = (channel.report(), channel.clcw(link));
             assert_eq!(farm.clcw(vcid, true, false), Ok(clcw));
@@ -199,7 +196,7 @@ fn printed_by(script: &Path, scid: u16) -> String {
     let lines = fs::read(script).expect("the script");
     let octets = u32::try_from(lines.len() / 2 + 1).unwrap_or(u32::MAX);
     let limit = std::env::var_os("TCRX_LIMITED").map(|_| octets.min(65_542));
-    let mut done = Script { scid, limit, receivers: BTreeMap::new(), printed: String::new() };
+    let mut done = Script { scid, limit, receivers: BTreeMap::new(), channels: Vec::new(), printed: String::new() };
     for line in lines.split(|octet| *octet == b'\n') {
         let words = words_of(line);
         match words.first() {

@@ -5,7 +5,8 @@ use std::error::Error;
 use std::thread;
 use tcrx::{
     add_fecf, check_fecf, Arrival, Channel, Clcw, Command, Delivery, Event, Farm, FarmError, FecfError, Frame, Header, Kind, Limit,
-    Limits, Link, Map, Packet, PacketHeader, Queue, ReleaseError, Segments, Settings, SettingsError, State, TakeError, WriteError,
+    Limits, Link, Map, Packet, PacketHeader, Queue, Rack, RackError, ReleaseError, Segments, Settings, SettingsError, State,
+    TakeError, WriteError,
 };
 
 const PACKET: [u8; 7] = [0x10, 0x05, 0xc0, 0x00, 0x00, 0x00, 0xaa];
@@ -177,6 +178,50 @@ fn single_calls() {
     assert_eq!((clcw.retransmit(), clcw.farm_b(), clcw.vr(), clcw.status_field()), (true, 3, 0x7b, 0));
     let channel = Channel::new(&SETTINGS).expect("settings");
     assert!(channel.clcw(Link { no_rf: false, no_bit_lock: true }).no_bit_lock());
+}
+
+/// A frame of two octets to this spacecraft and channel, with its frame error control field where it is to have one.
+fn located_frame(scid: u16, vcid: u8, fecf: bool) -> Vec<u8> {
+    let (mut room, mut ended) = ([0; 16], [0; 16]);
+    let header = Header { scid, vcid, ns: 7, bypass: false, control: false };
+    let plain = header.write(&[0xc0, 0xaa], &mut room).expect("a frame");
+    if fecf {
+        add_fecf(plain, &mut ended).expect("a field").to_vec()
+    } else {
+        plain.to_vec()
+    }
+}
+
+#[test]
+fn a_rack_gives_each_frame_to_its_channel() {
+    let settings = |vcid| Settings { vcid, width: 10, buffer: 4, first_vr: 7, segmented: true, queues: &[], maps: &[] };
+    let limits = Limits { others: 64, maps: &[] };
+    let mut channels: Vec<Channel> =
+        [5, 5, 8].into_iter().map(|vcid| Channel::with_limits(&settings(vcid), &limits).expect("settings")).collect();
+    let mut rack = Rack { scid: 675, fecf: false, channels: &mut channels };
+    let (vcid, brought) = rack.frame(&located_frame(675, 5, false)).expect("a frame");
+    assert_eq!((vcid, brought.event, brought.accepted), (5, Event::E1, true));
+    assert_eq!(rack.frame(&located_frame(676, 9, false)), Err(RackError::OtherSpacecraft));
+    assert_eq!(rack.frame(&located_frame(675, 9, false)), Err(RackError::UnknownChannel));
+    assert_eq!(rack.frame(&[]), Err(RackError::Short));
+    rack.fecf = true;
+    let mut octets = located_frame(675, 8, true);
+    octets.push(0);
+    assert_eq!(rack.frame(&octets), Err(RackError::Fill));
+    octets.pop();
+    let (vcid, brought) = rack.frame(&octets).expect("a frame");
+    assert_eq!((vcid, brought.event, brought.accepted), (8, Event::E1, true));
+    octets[8] ^= 1;
+    assert_eq!(rack.frame(&octets), Err(RackError::WrongFecf));
+    assert_eq!(rack.frame(&located_frame(675, 8, false)), Err(RackError::NoFecf));
+    assert_eq!(rack.frame(&located_frame(676, 9, true)), Err(RackError::OtherSpacecraft));
+    assert_eq!(rack.channel(8).map(|channel| channel.events()), Some(1));
+    assert_eq!(rack.channel(5).map(|channel| channel.release()), Some(Ok(Delivery { queued: 0, dropped: 0, rest: true })));
+    assert!(rack.channel(9).is_none() && rack.channel(255).is_none());
+    let events: Vec<u64> = channels.iter().map(Channel::events).collect();
+    assert_eq!(events, [2, 0, 1]);
+    let mut none = Rack { scid: 675, fecf: false, channels: &mut [] };
+    assert_eq!(none.frame(&located_frame(675, 5, false)), Err(RackError::UnknownChannel));
 }
 
 /// Octets with these at their front, all others of which are 0.

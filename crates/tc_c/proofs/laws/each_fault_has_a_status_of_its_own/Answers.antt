@@ -1,8 +1,11 @@
-use Rattle.tc_c.proofs.Faults.{frame-apart, write-apart, field-apart, settings-apart, limits-apart}
+use Rattle.tc_c.proofs.Faults.{frame-apart, locate-apart, write-apart, field-apart, settings-apart, limits-apart}
 use Rattle.tc_c.proofs.laws.each_fault_has_a_status_of_its_own.Goals as goal
 
 pub returns-clause-frames : goal.returns-clause-frames
 returns-clause-frames c = frame-apart
+
+pub returns-clause-locations : goal.returns-clause-locations
+returns-clause-locations c = locate-apart
 
 pub returns-clause-writing : goal.returns-clause-writing
 returns-clause-writing c = write-apart

@@ -1,0 +1,81 @@
+-- Which of the channels in the caller's memory a frame is for, and what becomes of them.
+use Rattle.std.specs.Prelude.{◌≡◌, ◌≢◌, ◌≤◌, ◌⊎◌, ℕ, List, map, slice_get, slice_set, Option, Some}
+use Rattle.tc_link.specs.Bits.{bit}
+use Rattle.tc_link.specs.Frame.{BeginsWith, header_of, fault_of}
+use Rattle.tc_link.specs.declared.location.LocateFault.{LocateFault}
+use Rattle.tc_link.specs.declared.location.LocateFault.TheVariants.{Frame, OtherSpacecraft, UnknownChannel}
+use Rattle.tc_channel.specs.declared.event.Event.TheVariants as events
+use Rattle.tc_channel.specs.declared.reply.FrameReply.{FrameReply}
+use Rattle.tc_channel.specs.Reply.{frame_reply_within}
+use Rattle.tc_fixed.specs.History.{LimitedHistory, with_event}
+use Rattle.tc_fixed.specs.Limits.{limit_of}
+use Rattle.tc_c.specs.declared.seat.Seat.{Seat}
+use Rattle.tc_c.specs.declared.status.Status.{Status}
+use Rattle.tc_c.specs.declared.status.Status.TheVariants.{Done}
+use Rattle.tc_c.specs.declared.rack.RackReplyRecord.{RackReplyRecord}
+use Rattle.tc_c.specs.declared.rack.PlaceRecord.{PlaceRecord}
+use Rattle.tc_c.specs.Status.{code_of, locate_status}
+
+-- the channel in each seat, if one is held there
+abbrev pub channels_in : List Seat → List (Option LimitedHistory)
+channels_in seats = map (λ (seat : Seat). seat.place.channel) seats
+
+-- the channel at this place, which has this virtual channel id
+abbrev pub IsAt : List (Option LimitedHistory) → ℕ → ℕ → LimitedHistory → Type 0
+IsAt channels vcid place h = (slice_get channels place ≡ Some (Some h)) × (h.settings.vcid ≡ vcid)
+
+-- it is the first one that has it
+abbrev pub IsFirst : List (Option LimitedHistory) → ℕ → ℕ → LimitedHistory → Type 0
+IsFirst channels vcid place h =
+    IsAt channels vcid place h × ((at : ℕ) (other : LimitedHistory) → IsAt channels vcid at other → place ≤ at)
+
+-- one has it
+abbrev pub IsThere : List (Option LimitedHistory) → ℕ → Type 0
+IsThere channels vcid = (place : ℕ) × (h : LimitedHistory) × IsAt channels vcid place h
+
+-- the octets begin with this frame of the spacecraft, which is for this channel
+abbrev pub IsLocated : List (Option LimitedHistory) → ℕ → List ℕ → ℕ → List ℕ → LimitedHistory → Type 0
+IsLocated channels scid octets place frame h =
+    BeginsWith octets frame × ((header_of frame).scid ≡ scid) × IsFirst channels (header_of frame).vcid place h
+
+-- why octets are for none of the channels: the first of these that applies
+abbrev pub IsLocateFault : List (Option LimitedHistory) → ℕ → List ℕ → LocateFault → Type 0
+IsLocateFault channels scid octets (Frame fault) = fault_of octets ≡ Some fault
+IsLocateFault channels scid octets OtherSpacecraft = (frame : List ℕ) × BeginsWith octets frame × ((header_of frame).scid ≢ scid)
+IsLocateFault channels scid octets UnknownChannel =
+    (frame : List ℕ) × BeginsWith octets frame × ((header_of frame).scid ≡ scid) × ¬ IsThere channels (header_of frame).vcid
+
+abbrev pub rack_reply : ℕ → FrameReply → RackReplyRecord
+rack_reply vcid reply = record {
+  status = code_of Done;
+  queued = reply.delivery.queued;
+  dropped = reply.delivery.dropped;
+  event = reply.act.event;
+  accepted = bit reply.act.accepted;
+  rest = bit reply.delivery.rest;
+  vcid = vcid;
+}
+
+abbrev pub no_rack_reply : Status → RackReplyRecord
+no_rack_reply fault = record { status = code_of fault; queued = 0; dropped = 0; event = 0; accepted = 0; rest = 0; vcid = 0 }
+
+abbrev pub no_place : Status → PlaceRecord
+no_place fault = record { status = code_of fault; place = 0 }
+
+-- what a channel replies to a frame
+abbrev pub replied : LimitedHistory → List ℕ → RackReplyRecord
+replied h frame = rack_reply h.settings.vcid (frame_reply_within (limit_of h.limits) h.settings h.journal frame)
+
+-- the channel that the frame is for takes it in, and all others are as they were
+abbrev pub IsBrought : List (Option LimitedHistory) → ℕ → List ℕ → RackReplyRecord → List (Option LimitedHistory) → Type 0
+IsBrought old scid octets reply new =
+    (place : ℕ) × (frame : List ℕ) × (h : LimitedHistory) × IsLocated old scid octets place frame h
+    × (reply ≡ replied h frame) × (new ≡ slice_set old place (Some (with_event h (events.Frame frame))))
+
+-- the octets are for none of them, and all are as they were
+abbrev pub IsUnlocated : List (Option LimitedHistory) → ℕ → List ℕ → RackReplyRecord → List (Option LimitedHistory) → Type 0
+IsUnlocated old scid octets reply new =
+    (fault : LocateFault) × IsLocateFault old scid octets fault × (reply ≡ no_rack_reply (locate_status fault)) × (new ≡ old)
+
+abbrev pub IsAnswered : List (Option LimitedHistory) → ℕ → List ℕ → RackReplyRecord → List (Option LimitedHistory) → Type 0
+IsAnswered old scid octets reply new = IsBrought old scid octets reply new ⊎ IsUnlocated old scid octets reply new

@@ -1,0 +1,209 @@
+//! The channels of a spacecraft in the caller's memory: which of them a frame is for.
+
+ghost use Rattle.std.specs.Prelude.{◌≡◌, ◌<◌, ℕ, List, length, Some, None, IfSome, IfNone, IfOk, MatchOption, MatchResult, option_map};
+ghost use Rattle.tc_link.specs.Frame.{IsWhole};
+ghost use Rattle.tc_channel.specs.declared.event.Event.TheVariants as Event;
+ghost use Rattle.tc_fecf.specs.FrameWithField.{frame_with_field, taking_fault_of};
+ghost use Rattle.tc_fixed.specs.History.{LimitedHistory, with_event};
+ghost use Rattle.tc_c.specs.Status.{code_of, field_status};
+ghost use Rattle.tc_c.specs.Rack.{channels_in, IsFirst, IsThere, IsLocated, IsLocateFault, rack_reply, no_rack_reply, no_place, replied, IsAnswered};
+
+use crate::farm::flag;
+use crate::seat::Seat;
+use crate::status::{Status, code, field_fault, locate_fault};
+use tc_channel::FrameReply;
+use tc_link::{Frame, LocateFault, read_frame};
+use tc_write::{check_taking, write_without_field};
+
+/// What became of a frame, and of which channel. Flags are 0 or 1, and each number is 0 where the call is refused.
+#[repr(C)]
+#[derive(Clone, Copy)]
+pub struct RackReplyRecord {
+    pub status: u32,
+    /// How many packets were queued; 1 for a unit that was queued whole.
+    pub queued: u32,
+    /// How many packets were dropped; 1 for a whole unit without room in its queue.
+    pub dropped: u32,
+    /// The number of FARM-1's event, 1 to 9.
+    pub event: u8,
+    /// Whether the frame was accepted.
+    pub accepted: u8,
+    /// Whether octets were left after the last packet.
+    pub rest: u8,
+    /// The virtual channel id.
+    pub vcid: u8,
+}
+
+/// A status with a place in an array.
+#[repr(C)]
+#[derive(Clone, Copy)]
+pub struct PlaceRecord {
+    pub status: u32,
+    /// The place, from 0 on; 0 where the call is refused.
+    pub place: usize,
+}
+
+fn reply_told(vcid: u8, reply: FrameReply) -> RackReplyRecord
+    ensures { result ≡ rack_reply vcid reply }
+{
+    RackReplyRecord {
+        status: code(Status::Done),
+        queued: reply.delivery.queued,
+        dropped: reply.delivery.dropped,
+        event: reply.act.event,
+        accepted: u8::from(reply.act.accepted),
+        rest: u8::from(reply.delivery.rest),
+        vcid,
+    }
+}
+
+fn reply_refused(fault: Status) -> RackReplyRecord
+    ensures { result ≡ no_rack_reply fault }
+{
+    RackReplyRecord {
+        status: code(fault),
+        queued: 0,
+        dropped: 0,
+        event: 0,
+        accepted: 0,
+        rest: 0,
+        vcid: 0,
+    }
+}
+
+// The virtual channel id of the channel in a seat, if one is held there.
+fn vcid_in(seat: &mut Seat) -> Option<u8>
+    ensures vcid { result ≡ option_map (λ (h : LimitedHistory). h.settings.vcid) seat.old.place.channel }
+    ensures unchanged { seat.new.place.channel ≡ seat.old.place.channel }
+{
+    match seat.take() {
+        Some(held) => {
+            let vcid = held.settings().vcid;
+            seat.put(held);
+            Some(vcid)
+        }
+        None => None,
+    }
+}
+
+// The place of the first channel with this id.
+fn place_of(seats: &mut [Seat], vcid: u8) -> Option<usize>
+    ensures place { MatchOption result (¬ IsThere (channels_in seats.old) vcid) (λ place. (h : LimitedHistory) × IsFirst (channels_in seats.old) vcid place h) }
+    ensures bound { IfSome result (λ place. place < length seats.new) }
+    ensures unchanged { channels_in seats.new ≡ channels_in seats.old }
+{
+    for place in 0..seats.len() {
+        if vcid_in(&mut seats[place]) == Some(vcid) {
+            return Some(place);
+        }
+    }
+    None
+}
+
+// The frame at the front of the octets, and the place of the channel that it is for.
+fn located<'a>(
+    seats: &mut [Seat],
+    scid: u16,
+    octets: &'a [u8],
+) -> Result<(usize, Frame<'a>), LocateFault>
+    ensures located { MatchResult result (λ found. (h : LimitedHistory) × IsLocated (channels_in seats.old) scid octets.now found.0 found.1 h) (IsLocateFault (channels_in seats.old) scid octets.now) }
+    ensures bound { IfOk result (λ found. found.0 < length seats.new) }
+    ensures unchanged { channels_in seats.new ≡ channels_in seats.old }
+{
+    let frame = read_frame(octets).map_err(LocateFault::Frame)?;
+    let header = frame.header();
+    if header.scid != scid {
+        return Err(LocateFault::OtherSpacecraft);
+    }
+    match place_of(seats, header.vcid) {
+        Some(place) => Ok((place, frame)),
+        None => Err(LocateFault::UnknownChannel),
+    }
+}
+
+// Gives the channel in a seat a frame.
+fn answer(seat: &mut Seat, frame: &Frame) -> RackReplyRecord
+    ensures answer { IfSome seat.old.place.channel (λ h. (result ≡ replied h frame.now) × (seat.new.place.channel ≡ Some (with_event h (Event.Frame frame.now)))) }
+{
+    match seat.take() {
+        Some(mut held) => {
+            let vcid = held.settings().vcid;
+            let reply = held.frame(frame);
+            seat.put(held);
+            reply_told(vcid, reply)
+        }
+        None => reply_refused(Status::NoChannel),
+    }
+}
+
+// Brings the frame at the front of the octets to the channel that it is for.
+fn bring(seats: &mut [Seat], scid: u16, octets: &[u8]) -> RackReplyRecord
+    ensures answer { IsAnswered (channels_in seats.old) scid octets.now result (channels_in seats.new) }
+{
+    match located(seats, scid, octets) {
+        Ok((place, frame)) => answer(&mut seats[place], &frame),
+        Err(fault) => reply_refused(locate_fault(fault)),
+    }
+}
+
+// The same of a frame that ends with a frame error control field, without it.
+fn bring_checked(seats: &mut [Seat], scid: u16, octets: &[u8]) -> RackReplyRecord
+    ensures right { IfNone (taking_fault_of octets.now) ((frame : List ℕ) × IsWhole frame × (octets.now ≡ frame_with_field frame) × IsAnswered (channels_in seats.old) scid frame result (channels_in seats.new)) }
+    ensures wrong { IfSome (taking_fault_of octets.now) (λ fault. (result ≡ no_rack_reply (field_status fault)) × (channels_in seats.new ≡ channels_in seats.old)) }
+{
+    match check_taking(octets) {
+        Ok(()) => {}
+        Err(fault) => return reply_refused(field_fault(fault)),
+    }
+    let mut room = [0; 1022];
+    let (plain, _) = room.split_at_mut(octets.len() - 2);
+    write_without_field(octets, plain);
+    bring(seats, scid, plain)
+}
+
+/// Gives the frame at the front of the octets to the first channel with its virtual channel id, of those that the seats hold, if it is
+/// for the spacecraft (CCSDS 232.0-B, 232.1-B). Where `fecf` is 1 the octets are to be one frame that ends with a frame error control
+/// field, which is checked first and taken off; where it is 0 what follows the frame is fill.
+///
+/// Refused are another `fecf` by BadFlag; then, where it is 1, octets as by `tcrx_check_fecf_at`; octets with which no frame begins by
+/// their first fault; a frame for another spacecraft by OtherSpacecraft, and one for no channel by UnknownChannel. Then each channel
+/// stays as it was. No call but those that make channels asks for memory.
+#[unsafe(no_mangle)]
+pub extern "C" fn tcrx_rack_frame_at(
+    seats: &mut [Seat],
+    scid: u16,
+    fecf: u8,
+    octets: &[u8],
+) -> RackReplyRecord
+    ensures bare { fecf ≡ 0 → IsAnswered (channels_in seats.old) scid octets.now result (channels_in seats.new) }
+    ensures right { fecf ≡ 1 → IfNone (taking_fault_of octets.now) ((frame : List ℕ) × IsWhole frame × (octets.now ≡ frame_with_field frame) × IsAnswered (channels_in seats.old) scid frame result (channels_in seats.new)) }
+    ensures wrong { fecf ≡ 1 → IfSome (taking_fault_of octets.now) (λ fault. result ≡ no_rack_reply (field_status fault)) }
+    ensures bad_flag { 1 < fecf → result ≡ no_rack_reply Status.BadFlag }
+    ensures refused { 0 < result.status → channels_in seats.new ≡ channels_in seats.old }
+{
+    match flag(fecf) {
+        Ok(false) => bring(seats, scid, octets),
+        Ok(true) => bring_checked(seats, scid, octets),
+        Err(fault) => reply_refused(fault),
+    }
+}
+
+/// The place of the first channel with this virtual channel id, of those that the seats hold. Refused is an id that none has by
+/// UnknownChannel. Each channel stays as it was.
+#[unsafe(no_mangle)]
+pub extern "C" fn tcrx_rack_find_at(seats: &mut [Seat], vcid: u8) -> PlaceRecord
+    ensures found { result.status ≡ 0 → (h : LimitedHistory) × IsFirst (channels_in seats.old) vcid result.place h }
+    ensures none { 0 < result.status → (result ≡ no_place Status.UnknownChannel) × ¬ IsThere (channels_in seats.old) vcid }
+    ensures unchanged { channels_in seats.new ≡ channels_in seats.old }
+{
+    match place_of(seats, vcid) {
+        Some(place) => PlaceRecord {
+            status: code(Status::Done),
+            place,
+        },
+        None => PlaceRecord {
+            status: code(Status::UnknownChannel),
+            place: 0,
+        },
+    }
+}
