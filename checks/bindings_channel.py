@@ -179,7 +179,7 @@ def check_racks() -> None:
     sent = write_frame(675, 5, 7, b"\xc0\xaa")
     same(rack.bring(sent + b"\0"), Brought(5, Event.E1, True, NOTHING), "a frame with fill")
     same((rack.channel(5) is first, rack.channel(8) is other, rack.channel(6), rack.channel(255)), (True, True, None, None), "channels by their ids")
-    same([rack.bring(octets) for octets in (b"", b"\x40" + sent[1:], b"\x04" + sent[1:], sent[:3] + b"\4" + sent[4:], sent[:7])],
+    same([rack.bring(octets) for octets in (b"", b"\x40" + sent[1:], b"\x04" + sent[1:], sent[:3] + b"\4" + sent[4:], sent[:6])],
          [refused[it] for it in (Refusal.SHORT, Refusal.VERSION, Refusal.SPARE, Refusal.LENGTH, Refusal.TRUNCATED)], "no frames")
     same(rack.bring(write_frame(676, 9, 0, b"\0")), refused[Refusal.SPACECRAFT], "another spacecraft")
     same(rack.bring(write_frame(675, 9, 0, b"\0")), refused[Refusal.CHANNEL], "another channel")
