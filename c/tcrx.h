@@ -50,18 +50,18 @@ extern "C" {
 /**
  * @defgroup tcrx_version Version of this interface
  *
- * A caller can test for what it needs: `#if TCRX_API_VERSION < 0x000100`.
+ * A caller can test for what it needs: `#if TCRX_API_VERSION < 0x000200`.
  * @{
  */
 #define TCRX_API_MAJOR 0 /**< From 1.0.0 on only a new one may break a caller. */
-#define TCRX_API_MINOR 1 /**< Additions. While MAJOR is 0 a new one may break a caller. */
+#define TCRX_API_MINOR 2 /**< Additions. While MAJOR is 0 a new one may break a caller. */
 #define TCRX_API_PATCH 0 /**< Corrections: a new one never breaks a caller. */
 
 /** The version as a number, eight bits for each of the three. */
 #define TCRX_API_VERSION (TCRX_API_MAJOR * 0x10000 + TCRX_API_MINOR * 0x100 + TCRX_API_PATCH)
 
 /** The version as a text. */
-#define TCRX_API_TEXT "0.1.0"
+#define TCRX_API_TEXT "0.2.0"
 /** @} */
 
 /**

@@ -51,7 +51,7 @@ if TYPE_CHECKING:
     from tcrx_channel import Channel as Channel, Rack as Rack  # pylint: disable=useless-import-alias  # they are handed on
 
 # That of the programs, and of the newest heading of CHANGELOG.md.
-__version__ = "0.1.0"
+__version__ = "0.2.0"
 
 __all__ = ["BadLine", "Brought", "Clcw", "Delivered", "Delivery", "Ended", "Event", "Fault", "Final", "NotSetUp", "NotStarted", "Outcome", "Packet",
            "Receiver", "Refusal", "Refused", "Released", "Report", "State", "TimedOut", "Unexpected", "Unit"]

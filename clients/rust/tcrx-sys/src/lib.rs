@@ -49,7 +49,7 @@ macro_rules! records {
 
 // What follows is written by tools/c_interface of c/tcrx.h.
 /// The version of the interface that these declarations are of, as `TCRX_API_VERSION` is.
-pub const API_VERSION: u32 = 0x0000_0100;
+pub const API_VERSION: u32 = 0x0000_0200;
 
 numbers! {
     /// The call was done.
