@@ -32,7 +32,7 @@ SHORTEST_WITH_FECF = 13
 
 # Faults on purpose: the option's name, and of what it is the share.
 FAULTS = (("drop", "of frames that arrive, the share that is lost: 0.2 for a fifth"), ("twice", "the share that comes twice"),
-          ("flip", "the share in which a bit is turned"), ("drop-clcw", "of CLCWs that are sent, the share that is lost"))
+          ("flip", "the share in which a bit is turned"), ("drop-clcw", "of CLCWs and telemetry frames, the share that is lost"))
 
 
 def number_in(least: int, most: int) -> Any:
@@ -125,8 +125,8 @@ class Lines(argparse.RawDescriptionHelpFormatter):
 def make_parser() -> argparse.ArgumentParser:
     """The parser of the command line."""
     made = argparse.ArgumentParser(prog="tcrx-bench", allow_abbrev=False, formatter_class=Lines, usage="tcrx-bench --scid N [OPTION]...", description=(
-        "One spacecraft's telecommand receiver for many connections: frames come in over TCP and UDP and go to one tclive;\n"
-        "CLCWs and packets go out. PORT is a port of 127.0.0.1, HOST:PORT one of that host; 0 takes a free port."))
+        "One spacecraft's telecommand receiver for many connections: frames, or CLTUs, come in over TCP and UDP and go to one\n"
+        "tclive; CLCWs, packets and telemetry frames go out. PORT is a port of 127.0.0.1, HOST:PORT one of that host; 0 takes a free port."))
     made.add_argument("-V", "--version", action="version", version=f"tcrx-bench {__version__}")
     made.add_argument("--scid", type=number_in(0, 1023), metavar="<N>", help="the spacecraft identifier, 0 to 1023")
     made.add_argument("--fecf", action="store_true", help="each frame ends with its frame error control field")
@@ -166,7 +166,7 @@ def add_behaviour(made: argparse.ArgumentParser) -> None:
     made.add_argument("--link-timeout", type=seconds, metavar="<SECONDS>", help="set No RF and No Bit Lock if no frame came for this long")
     made.add_argument("--connections", type=number_in(1, 10000), default=32, metavar="<N>", help="connections that a port takes at a time; 32 if not given")
     made.add_argument("--patience", type=seconds, default=10.0, metavar="<SECONDS>",
-                      help="time for the rest of a frame, and for an answer of tclive; 10 if not given")
+                      help="time for the rest of a frame, and for an answer of tclive or tcmake; 10 if not given")
     for name, text in FAULTS:
         made.add_argument(f"--{name}", type=share, default=0.0, metavar="<SHARE>", help=text)
     made.add_argument("--delay", type=seconds, default=0.0, metavar="<SECONDS>", help="frames that arrive come up to this much later, by chance")
