@@ -24,8 +24,8 @@ MAKER = Speech(
     ("octets", "random"), frozenset({"frame", "blocks", "random"}), ("blocks ", "random ", "bad "), frozenset({"blocks"}))
 # The decoders that connections have, by their numbers from 0 on, and that which each datagram has anew.
 MOST_STREAMS, FOR_DATAGRAMS = 255, 255
-# Octets that are under way to the decoders, so that nobody waits long.
-MOST_UNDER_WAY = 1 << 15
+# Octets that are under way to the decoders, so that nobody waits long, and as how many more each piece of them counts.
+MOST_UNDER_WAY, EACH = 1 << 15, 64
 # Octets of a telemetry frame in front of its data, and of its control field; of its check sum.
 FRONT, CONTROL, SUM = 6, 4, 2
 
@@ -45,7 +45,7 @@ class Piece:  # pylint: disable=too-few-public-methods  # a record, made for eac
     first = 0
 
     def __init__(self, port: Port, source: str, size: int) -> None:
-        self.port, self.source, self.size = port, source, size
+        self.port, self.source, self.size = port, source, size + EACH
 
 
 def without_fill(octets: bytes) -> bytes:
