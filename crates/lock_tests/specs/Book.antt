@@ -1,5 +1,5 @@
 -- A book of numbers, as its lock sees it.
-use Rattle.std.specs.Prelude.{◌≡◌, ⊤, ℕ}
+use Rattle.std.specs.Prelude.{◌≡◌, ⊤, ℕ, true}
 use Rattle.atomic_table.specs.declared.shared.Seat.{Seat}
 use Rattle.logged_lock.specs.declared.views.Log.{Log}
 use Rattle.logged_lock.specs.declared.views.View.{View}
@@ -21,3 +21,7 @@ IsAny b = ⊤
 -- a seat at this lock, which doesn't have it
 abbrev pub IsAtRest : LockAt Title → Seat Book (View Title ℕ) → Type 0
 IsAtRest lock seat = (seat.table_id ≡ lock.id) × IsIdle seat.me
+
+-- the same, from which numbers may be written
+abbrev pub IsWriter : LockAt Title → Seat Book (View Title ℕ) → Type 0
+IsWriter lock seat = IsAtRest lock seat × (seat.me.0.maker ≡ true)

@@ -6,7 +6,7 @@ mod turns;
 mod waiting;
 
 ghost use Rattle.std.specs.Prelude.{◌≡◌, IfOk};
-ghost use Rattle.lock_tests.specs.Book.{IsAtRest};
+ghost use Rattle.lock_tests.specs.Book.{IsWriter};
 
 use super::*;
 use std::alloc::{AllocError, Global};
@@ -15,7 +15,7 @@ use turns::{take_out, try_turn, turn, write};
 
 // A lock over a book in which nothing is written yet, and its first seat.
 fn try_new(alloc: Global) -> Result<(BookLock, BookSeat), AllocError>
-    ensures rest { IfOk result (λ made. IsAtRest made.0 made.1) }
+    ensures rest { IfOk result (λ made. IsWriter made.0 made.1) }
     ensures first { IfOk result (λ made. made.1.id ≡ 0) }
 {
     let book = Book {
@@ -27,7 +27,7 @@ fn try_new(alloc: Global) -> Result<(BookLock, BookSeat), AllocError>
 
 // The same. One growth may be refused.
 fn new_lock(rt: &(impl Abort + Print), alloc: Global) -> (BookLock, BookSeat)
-    ensures rest { IsAtRest result.0 result.1 }
+    ensures rest { IsWriter result.0 result.1 }
     ensures first { result.1.id ≡ 0 }
 {
     match try_new(alloc) {

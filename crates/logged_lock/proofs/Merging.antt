@@ -1,12 +1,12 @@
 -- Where those that were told have made as many events as the journal has, it is a merge of what they made.
-use Rattle.std.proofs.Common.{◌≡◌, ◌≢◌, ℕ, zero, suc, ◌+◌, ◌/◌, ◌<◌, ◌≤◌, ◌==◌, cond, Bool, List, [], ◌∷◌, length, map, refl, sym, ap, ◌∙◌, subst, arith, eq-eqb, ne_eqb}
+use Rattle.std.proofs.Common.{◌≡◌, ◌≢◌, ℕ, zero, suc, ◌+◌, ◌/◌, ◌<◌, ◌≤◌, ◌==◌, cond, Bool, List, [], ◌∷◌, length, map, refl, sym, ap, ◌∙◌, subst, arith, eq-eqb, ne_eqb, lt_of_not-le}
 use Rattle.std.proofs.lemmas.List.{length-map}
 use mathlib.Core.Logic.{dite}
-use native.Mathlib.Decide.{ℕ_discrete}
+use native.Mathlib.Decide.{ℕ_discrete, dec_le}
 use Rattle.logged_lock.specs.declared.views.Log.{Log}
 use Rattle.logged_lock.specs.declared.views.Account.{Account}
 use Rattle.logged_lock.specs.Log.{owned, made_by, total_made, IsMergeOf}
-use Rattle.logged_lock.specs.Rule.{told_tag, AreTold}
+use Rattle.logged_lock.specs.Rule.{seat_tag, told_tag, AreTold, NoSeatOwns}
 use Rattle.logged_lock.proofs.Owned.{owned-own, owned-other}
 
 -- the first n of a row of numbers, added up
@@ -103,6 +103,49 @@ all-at-most : (n : ℕ) (os : List ℕ) → all_tagged n os ≤ length os
 unfolding all_tagged
 all-at-most n [] = omega arith
 all-at-most n (o ∷ os) = omega (arith, tagged-one n o, all-at-most n os)
+
+tagged-some : (n k : ℕ) → k < n → 1 ≤ tagged n (told_tag k)
+unfolding tagged sum_to
+tagged-some zero k lt = absurd (omega (arith, lt))
+tagged-some (suc n) k lt = dite (dec_le n k)
+    (λ (le : n ≤ k). let same : k ≡ n = omega (arith, lt, le) in omega (arith, is-same (told_tag k) (told_tag n) (ap told_tag same)))
+    (λ (no : n ≤ k → ⊥). omega (arith, tagged-some n k (lt_of_not-le no)))
+
+even : (o : ℕ) → o ≢ told_tag (o / 2) → o ≡ seat_tag (o / 2)
+even o n = dite (dec_le (suc (o / 2 + o / 2)) o)
+    (λ (le : suc (o / 2 + o / 2) ≤ o). absurd (n (omega (arith, le))))
+    (λ (no : suc (o / 2 + o / 2) ≤ o → ⊥). let lt : o < suc (o / 2 + o / 2) = lt_of_not-le no in omega (arith, lt))
+
+-- an owner that is no seat, and none of those that weren't told, was told
+tagged-whole : (n o : ℕ) → ((id : ℕ) → is o (seat_tag id) ≡ 0) → ((k : ℕ) → n ≤ k → is o (told_tag k) ≡ 0) → tagged n o ≡ 1
+tagged-whole n o seats later =
+    let k = o / 2 in
+    dite (ℕ_discrete o (told_tag k))
+    (λ (told : o ≡ told_tag k). dite (dec_le n k)
+    (λ (le : n ≤ k). absurd (omega (arith, later k le, is-same o (told_tag k) told)))
+    (λ (no : n ≤ k → ⊥). let some = tagged-some n k (lt_of_not-le no) in let is_some : 1 ≤ tagged n o = subst (λ (x : ℕ). 1 ≤ tagged n x) (sym told) some in omega (arith, is_some, tagged-one n o)))
+    (λ (seat : o ≢ told_tag k). absurd (omega (arith, seats k, is-same o (seat_tag k) (even o seat))))
+
+all-whole : (n : ℕ) (os : List ℕ) → ((id : ℕ) → count (seat_tag id) os ≡ 0) → ((k : ℕ) → n ≤ k → count (told_tag k) os ≡ 0) → all_tagged n os ≡ length os
+unfolding all_tagged count
+all-whole n [] seats later = refl
+all-whole n (o ∷ os) seats later =
+    let here = tagged-whole n o (λ id. omega (arith, seats id)) (λ k le. omega (arith, later k le)) in
+    omega (arith, here, all-whole n os (λ id. omega (arith, seats id)) (λ k le. omega (arith, later k le)))
+
+made_by-past : {D E : Type 0} (told : List (Account D E)) (k : ℕ) → length told ≤ k → made_by told k ≡ []
+made_by-past [] k le = refl
+made_by-past (a ∷ told) zero le = absurd (omega (arith, le))
+made_by-past (a ∷ told) (suc k) le = made_by-past told k (omega (arith, le))
+
+-- where no seat owns anything, those that were told have made all
+pub made-whole : {D E : Type 0} (now : Log D E) (owners : List ℕ) (told : List (Account D E)) → length owners ≡ length now.entries → AreTold now owners told → NoSeatOwns now owners → total_made told ≡ length now.entries
+made-whole now owners told long are none =
+    let n = length told in
+    let each = sum_to-same (λ k. length (made_by told k)) (λ k. count (told_tag k) owners) (λ k. ap (λ l. length l) (sym (are.0 k)) ∙ count-owned (told_tag k) 0 owners now.entries long) n in
+    let seats : (id : ℕ) → count (seat_tag id) owners ≡ 0 = λ id. sym (count-owned (seat_tag id) 0 owners now.entries long) ∙ ap (λ l. length l) (none id) in
+    let later : (k : ℕ) → n ≤ k → count (told_tag k) owners ≡ 0 = λ k le. sym (count-owned (told_tag k) 0 owners now.entries long) ∙ ap (λ l. length l) (are.0 k ∙ made_by-past told k le) in
+    total-sum told ∙ (each ∙ (count-tagged n owners ∙ (all-whole n owners seats later ∙ long)))
 
 -- each owner's number in place of its tag
 abbrev number_of : ℕ → ℕ

@@ -1,9 +1,9 @@
 -- Each kind of step at a lock keeps its rule.
-use Rattle.std.proofs.Common.{◌≡◌, ◌≢◌, ◌⊎◌, inl, inr, ⊎_elim, ℕ, zero, suc, ◌+◌, ◌<◌, ◌≤◌, ◌==◌, List, [], ◌∷◌, ◌++◌, length, map, set, Bool, true, false, true≢false, refl, sym, ap, ◌∙◌, subst, arith, length-append, length-set, append-nil, append_assoc, eq-eqb, ne_eqb}
+use Rattle.std.proofs.Common.{◌≡◌, ◌≢◌, ◌⊎◌, inl, inr, ⊎_elim, ℕ, zero, suc, ◌+◌, ◌<◌, ◌≤◌, ◌==◌, cond, List, [], ◌∷◌, ◌++◌, length, map, set, Bool, true, false, true≢false, refl, sym, ap, ◌∙◌, subst, arith, length-append, length-set, lt_of_not-le, append-nil, append_assoc, eq-eqb, ne_eqb}
 use Rattle.std.specs.Prelude.{slice_index, MatchBool}
 use Rattle.std.proofs.lemmas.List.{length-map}
 use mathlib.Core.Logic.{dite}
-use native.Mathlib.Decide.{ℕ_discrete}
+use native.Mathlib.Decide.{ℕ_discrete, dec_le}
 use prog.Atomic.{either}
 use mathlib.Core.Option.{Option, some, none, some-ne-none, some-injective}
 use lib.ListN.{get_elem?}
@@ -14,7 +14,7 @@ use Rattle.logged_lock.specs.declared.views.Log.{Log}
 use Rattle.logged_lock.specs.declared.views.Account.{Account}
 use Rattle.logged_lock.specs.declared.views.View.{View}
 use Rattle.logged_lock.specs.Log.{with_entry, IsBeginning, start_of, owned, made_by}
-use Rattle.logged_lock.specs.Rule.{words_of, seat_tag, told_tag, newcomer, gone, told_of, locked, unlocked, unlocked_with, IsSeat, AreTold, IsFree, IsTakenOut, IsLock, IsIdle, HasLock, IsTaken, IsSettled}
+use Rattle.logged_lock.specs.Rule.{words_of, seat_tag, told_tag, newcomer, guest, issued_one, gone, told_of, locked, unlocked, unlocked_with, makers_in, AreCounted, IsSeat, AreTold, IsFree, IsTakenOut, IsLock, IsIdle, HasLock, IsTaken, NoSeatOwns, IsSettled}
 use Rattle.logged_lock.proofs.Owned.{owned-here, owned-else, renamed, owned-renamed, owned-renamed-old, owned-renamed-new, made_by-last, made_by-end, made_by-else}
 
 pub some_word : (n : ℕ) → n ≡ 33 → 0 < n
@@ -52,11 +52,69 @@ at_end [] a b (suc j) e = absurd (some-ne-none b (sym e))
 at_end (x ∷ xs) a b zero e = inl e
 at_end (x ∷ xs) a b (suc j) e = ⊎_elim (λ h. inl h) (λ h. inr (ap suc h.0, h.1)) (at_end xs a b j e)
 
--- the first seat's list stays where a seat's view is changed, but not its list
-first-stays : {D E : Type 0} (views : List (View D E)) (id : ℕ) (p v w : View D E) → get_elem? views 0 ≡ some p → get_elem? views id ≡ some v → w.told ≡ v.told → (q : View D E) × (get_elem? (set views id w) 0 ≡ some q) × (q.told ≡ p.told)
-first-stays [] id p v w at here same = absurd (some-ne-none p (sym at))
-first-stays {D = D} {E = E} (x ∷ xs) zero p v w at here same = (w, refl, same ∙ ap (λ (u : View D E). u.told) (sym (some-injective x v here) ∙ some-injective x p at))
-first-stays (x ∷ xs) (suc id) p v w at here same = (p, at, refl)
+-- of how many makers a seat is
+abbrev bit : Bool → ℕ
+bit b = cond b 1 0
+
+-- as many are makers where a seat's view is changed, but not whether it is one
+makers-set : {D E : Type 0} (views : List (View D E)) (id : ℕ) (v w : View D E) → get_elem? views id ≡ some v → w.maker ≡ v.maker → makers_in (set views id w) ≡ makers_in views
+makers-set [] id v w here same = refl
+makers-set {D = D} {E = E} (x ∷ xs) zero v w here same = ap (λ (b : Bool). bit b + makers_in xs) (same ∙ ap (λ (u : View D E). u.maker) (sym (some-injective x v here)))
+makers-set (x ∷ xs) (suc id) v w here same = ap (λ (n : ℕ). bit x.maker + n) (makers-set xs id v w here same)
+
+-- one fewer where it ceases to be one
+makers-fewer : {D E : Type 0} (views : List (View D E)) (id : ℕ) (v w : View D E) → get_elem? views id ≡ some v → v.maker ≡ true → w.maker ≡ false → suc (makers_in (set views id w)) ≡ makers_in views
+makers-fewer [] id v w here was is = absurd (some-ne-none v (sym here))
+makers-fewer {D = D} {E = E} (x ∷ xs) zero v w here was is =
+    let one : bit x.maker ≡ 1 = ap (λ (b : Bool). bit b) (ap (λ (u : View D E). u.maker) (some-injective x v here) ∙ was) in
+    let nothing : bit w.maker ≡ 0 = ap (λ (b : Bool). bit b) is in
+    omega (arith, one, nothing)
+makers-fewer (x ∷ xs) (suc id) v w here was is = let more = makers-fewer xs id v w here was is in omega (arith, more)
+
+makers-end : {D E : Type 0} (views : List (View D E)) (w : View D E) → makers_in (views ++ w ∷ []) ≡ makers_in views + bit w.maker
+makers-end [] w = omega arith
+makers-end (x ∷ xs) w = let more = makers-end xs w in omega (arith, more)
+
+cond-true : (b : Bool) → bit b ≡ 0 → b ≡ false
+cond-true true h = absurd (omega (arith, h))
+cond-true false h = refl
+
+-- where there are none, no seat is one
+makers-none : {D E : Type 0} (views : List (View D E)) (id : ℕ) (v : View D E) → makers_in views ≡ 0 → get_elem? views id ≡ some v → v.maker ≡ false
+makers-none [] id v empty here = absurd (some-ne-none v (sym here))
+makers-none {D = D} {E = E} (x ∷ xs) zero v empty here =
+    let nothing : bit x.maker ≡ 0 = omega (arith, empty) in
+    ap (λ (u : View D E). u.maker) (sym (some-injective x v here)) ∙ cond-true x.maker nothing
+makers-none (x ∷ xs) (suc id) v empty here = makers-none xs id v (omega (arith, empty)) here
+
+-- where the first is the only one, no other seat is one
+only-first : {D E : Type 0} (views : List (View D E)) (p : View D E) (id : ℕ) (v : View D E) → get_elem? views 0 ≡ some p → p.maker ≡ true → makers_in views ≤ 1 → id ≢ 0 → get_elem? views id ≡ some v → v.maker ≡ false
+only-first [] p id v first lead one away here = absurd (some-ne-none p (sym first))
+only-first (x ∷ xs) p zero v first lead one away here = absurd (away refl)
+only-first {D = D} {E = E} (x ∷ xs) p (suc id) v first lead one away here =
+    let this : bit x.maker ≡ 1 = ap (λ (b : Bool). bit b) (ap (λ (u : View D E). u.maker) (some-injective x p first) ∙ lead) in
+    makers-none xs id v (omega (arith, one, this)) here
+
+seat-there : {D E : Type 0} (views : List (View D E)) (id : ℕ) → id < length views → (v : View D E) × (get_elem? views id ≡ some v)
+seat-there [] id lt = absurd (omega (arith, lt))
+seat-there (x ∷ xs) zero lt = (x, refl)
+seat-there (x ∷ xs) (suc id) lt = seat-there xs id (omega (arith, lt))
+
+-- what is known of the first seat stays where a seat's view is changed, but not what it was told and issued, and whether it is a maker
+first-stays : {D E : Type 0} (views : List (View D E)) (id : ℕ) (p v w : View D E) → get_elem? views 0 ≡ some p → get_elem? views id ≡ some v → w.told ≡ v.told → w.maker ≡ v.maker → w.own.issued ≡ v.own.issued
+    → AreCounted views p → (q : View D E) × (get_elem? (set views id w) 0 ≡ some q) × (q.told ≡ p.told) × AreCounted (set views id w) q
+first-stays [] id p v w at here same maker issued counted = absurd (some-ne-none p (sym at))
+first-stays {D = D} {E = E} (x ∷ xs) zero p v w at here same maker issued counted =
+    let is : v ≡ p = sym (some-injective x v here) ∙ some-injective x p at in
+    let told : w.told ≡ p.told = same ∙ ap (λ (u : View D E). u.told) is in
+    let many = counted.many in
+    let long : length w.told ≡ length p.told = ap (λ (l : List (Account D E)). length l) told in
+    let out : w.own.issued ≡ p.own.issued = issued ∙ ap (λ (u : View D E). u.own.issued) is in
+    let makers : makers_in (set (x ∷ xs) 0 w) ≡ makers_in (x ∷ xs) = makers-set (x ∷ xs) 0 v w here maker in
+    (w, refl, told, record { lead = maker ∙ ap (λ (u : View D E). u.maker) is ∙ counted.lead; many = (λ i. makers i + long i) ∙ (many ∙ ap suc (sym out)) })
+first-stays (x ∷ xs) (suc id) p v w at here same maker issued counted =
+    let makers : makers_in (set (x ∷ xs) (suc id) w) ≡ makers_in (x ∷ xs) = makers-set (x ∷ xs) (suc id) v w here maker in
+    (p, at, refl, record { lead = counted.lead; many = (λ i. makers i + length p.told) ∙ counted.many })
 
 seats-set : {D E : Type 0} (now : Log D E) (owners : List ℕ) (holder : Option ℕ) (views : List (View D E)) (id : ℕ) (w : View D E)
     → ((j : ℕ) (u : View D E) → j ≢ id → get_elem? views j ≡ some u → IsSeat now owners holder j u) → IsSeat now owners holder id w
@@ -106,17 +164,18 @@ module _ {S D E : Type 0} (log : S → Log D E) (fits : S → Type 0) (top : D) 
     first = newcomer (start_of top);
     at_first = refl;
     told = ((λ k. refl), (λ k a e. absurd (some-ne-none a (sym e))));
+    counted = record { lead = refl; many = refl };
     lock = inl record { kept = y; mark = 0; small = omega arith; word = refl; home = refl; fitting = fit; same = same; nobody = refl };
   }
     where
       one : (id : ℕ) (v : View D E) → get_elem? (newcomer (start_of top) ∷ []) id ≡ some v → IsSeat (start_of top) [] none id v
-      one zero v e = subst (IsSeat (start_of top) [] none 0) (some-injective (newcomer (start_of top)) v e) record { mine = refl; behind = λ _. beginning-self (start_of top); locks = λ h. absurd (off h) }
+      one zero v e = subst (IsSeat (start_of top) [] none 0) (some-injective (newcomer (start_of top)) v e) record { mine = refl; behind = λ _. beginning-self (start_of top); locks = λ h. absurd (off h); quiet = λ _. refl }
       one (suc id) v e = absurd (some-ne-none v (sym e))
 
   -- where nothing is changed but the lock
   relock : (words words' : List ℕ) (homes homes' : List (Option S)) (views : List (View D E)) (b : IsLock log fits top words homes views)
       → IsFree log fits words' homes' b.now b.holder ⊎ IsTakenOut words' homes' → IsLock log fits top words' homes' views
-  relock words words' homes homes' views b lock = record { now = b.now; headed = b.headed; owners = b.owners; long = b.long; holder = b.holder; seats = b.seats; others = b.others; first = b.first; at_first = b.at_first; told = b.told; lock = lock }
+  relock words words' homes homes' views b lock = record { now = b.now; headed = b.headed; owners = b.owners; long = b.long; holder = b.holder; seats = b.seats; others = b.others; first = b.first; at_first = b.at_first; told = b.told; counted = b.counted; lock = lock }
 
   -- where a view is put in its own place
   again : (words : List ℕ) (homes : List (Option S)) (views : List (View D E)) (id : ℕ) (v : View D E) → get_elem? views id ≡ some v → IsLock log fits top words homes views → IsLock log fits top words homes (set views id v)
@@ -157,7 +216,7 @@ module _ {S D E : Type 0} (log : S → Log D E) (fits : S → Type 0) (top : D) 
   takes-free s id me current mark idle b at f same =
       let h = log f.kept in
       let w = locked h me.0 in
-      let q = first-stays s.views id b.first me.0 w b.at_first at refl in
+      let q = first-stays s.views id b.first me.0 w b.at_first at refl refl refl b.counted in
       let yes : (f.mark == current) ≡ true = eq-eqb f.mark current same in
       let taken : IsLock log fits top (words_of (suc (suc mark))) (none ∷ []) (set s.views id w) = record {
         now = b.now;
@@ -166,12 +225,13 @@ module _ {S D E : Type 0} (log : S → Log D E) (fits : S → Type 0) (top : D) 
         long = b.long;
         holder = some id;
         seats = seats-set b.now b.owners (some id) s.views id w
-            (λ j u apart e. let k = b.seats j u e in record { mine = k.mine; behind = k.behind; locks = λ l. absurd (some-ne-none j (sym (k.locks l).0 ∙ f.nobody)) })
-            record { mine = (b.seats id me.0 at).mine; behind = λ _. subst (IsBeginning h) f.same (beginning-self h); locks = λ _. (refl, f.same) };
+            (λ j u apart e. let k = b.seats j u e in record { mine = k.mine; behind = k.behind; locks = λ l. absurd (some-ne-none j (sym (k.locks l).0 ∙ f.nobody)); quiet = k.quiet })
+            record { mine = (b.seats id me.0 at).mine; behind = λ _. subst (IsBeginning h) f.same (beginning-self h); locks = λ _. (refl, f.same); quiet = (b.seats id me.0 at).quiet };
         others = others-set b.now b.owners s.views id w b.others;
         first = q.0;
         at_first = q.1;
         told = subst (AreTold b.now b.owners) (sym q.2) b.told;
+        counted = q.3;
         lock = inr record { mark = mark; word = refl; away = refl };
       } in
       let gets : IsTaken log fits me (w, (0, f.kept) ∷ me.1) = record {
@@ -247,7 +307,7 @@ module _ {S D E : Type 0} (log : S → Log D E) (fits : S → Type 0) (top : D) 
       let w = unlocked me.0 in
       let mine = b.seats id me.0 at in
       let had = mine.locks turn.locks in
-      let q = first-stays s.views id b.first me.0 w b.at_first at refl in
+      let q = first-stays s.views id b.first me.0 w b.at_first at refl refl refl b.counted in
       puts-back s id me free turn.kept w (λ _ x. x ≡ (w, [])) turn.hands t record {
         now = b.now;
         headed = b.headed;
@@ -255,18 +315,19 @@ module _ {S D E : Type 0} (log : S → Log D E) (fits : S → Type 0) (top : D) 
         long = b.long;
         holder = none;
         seats = seats-set b.now b.owners none s.views id w
-            (λ j u apart e. let k = b.seats j u e in record { mine = k.mine; behind = k.behind; locks = λ l. absurd (apart (some-injective j id (sym (k.locks l).0 ∙ had.0))) })
-            record { mine = mine.mine; behind = λ _. mine.behind turn.live; locks = λ l. absurd (off l) };
+            (λ j u apart e. let k = b.seats j u e in record { mine = k.mine; behind = k.behind; locks = λ l. absurd (apart (some-injective j id (sym (k.locks l).0 ∙ had.0))); quiet = k.quiet })
+            record { mine = mine.mine; behind = λ _. mine.behind turn.live; locks = λ l. absurd (off l); quiet = mine.quiet };
         others = others-set b.now b.owners s.views id w b.others;
         first = q.0;
         at_first = q.1;
         told = subst (AreTold b.now b.owners) (sym q.2) b.told;
+        counted = q.3;
         lock = inl record { kept = turn.kept; mark = free; small = is_free; word = refl; home = refl; fitting = turn.fitting; same = turn.same ∙ had.1; nobody = refl };
       } (λ _. refl)
 
   -- the lock is given back, and this event happened
-  pub leaves_with : (slots id : ℕ) (me : Me S (View D E)) (e : E) (free : ℕ) → free < 2 → HasLock log fits me (with_entry me.0.own.seen e) → Allows Kept slots id me 16 (λ _. free) (λ _ w. w ≡ (unlocked_with e me.0, []))
-  leaves_with slots id me e free is_free turn s b len at small =
+  pub leaves_with : (slots id : ℕ) (me : Me S (View D E)) (e : E) (free : ℕ) → free < 2 → me.0.maker ≡ true → HasLock log fits me (with_entry me.0.own.seen e) → Allows Kept slots id me 16 (λ _. free) (λ _ w. w ≡ (unlocked_with e me.0, []))
+  leaves_with slots id me e free is_free maker turn s b len at small =
       let t = not-free s id me.0 b at turn.locks in
       let w = unlocked_with e me.0 in
       let mine = b.seats id me.0 at in
@@ -275,7 +336,7 @@ module _ {S D E : Type 0} (log : S → Log D E) (fits : S → Type 0) (top : D) 
       let now = with_entry b.now e in
       let owners = b.owners ++ seat_tag id ∷ [] in
       let later = beginning-with_entry b.now e in
-      let q = first-stays s.views id b.first me.0 w b.at_first at refl in
+      let q = first-stays s.views id b.first me.0 w b.at_first at refl refl refl b.counted in
       puts-back s id me free turn.kept w (λ _ x. x ≡ (w, [])) turn.hands t record {
         now = now;
         headed = b.headed;
@@ -287,11 +348,13 @@ module _ {S D E : Type 0} (log : S → Log D E) (fits : S → Type 0) (top : D) 
               mine = owned-else (seat_tag j) 0 (seat_tag id) b.owners b.now.entries e (λ h. apart (sym (twice id j h))) b.long ∙ k.mine;
               behind = λ l. beginning-trans u.own.seen b.now now (k.behind l) later;
               locks = λ l. absurd (apart (some-injective j id (sym (k.locks l).0 ∙ had.0)));
+              quiet = k.quiet;
             })
             record {
               mine = owned-here (seat_tag id) 0 b.owners b.now.entries e b.long ∙ (λ i. mine.mine i ++ (number b.now me.0.own.seen (sym had.1) i, e) ∷ []);
               behind = λ _. subst (λ h. IsBeginning (with_entry h e) now) (sym had.1) (beginning-self now);
               locks = λ l. absurd (off l);
+              quiet = λ (no : me.0.maker ≡ false). absurd (true≢false (sym maker ∙ no));
             };
         others = λ j le. owned-else (seat_tag j) 0 (seat_tag id) b.owners b.now.entries e (λ h. away-from j id (length s.views) here (omega (arith, le, length-set s.views id w)) (sym h)) b.long ∙ b.others j (omega (arith, le, length-set s.views id w));
         first = q.0;
@@ -300,43 +363,66 @@ module _ {S D E : Type 0} (log : S → Log D E) (fits : S → Type 0) (top : D) 
           (λ k. owned-else (told_tag k) 0 (seat_tag id) b.owners b.now.entries e (λ h. even-odd id k h) b.long ∙ b.told.0 k),
           (λ k a there. beginning-trans a.seen b.now now (b.told.1 k a there) later),
         );
+        counted = q.3;
         lock = inl record { kept = turn.kept; mark = free; small = is_free; word = refl; home = refl; fitting = turn.fitting; same = turn.same ∙ ap (λ h. with_entry h e) had.1; nobody = refl };
       } (λ _. refl)
 
   -- a new seat
-  sits-at : (s : State S (View D E)) (b : Kept s) (w : View D E) → w.live ≡ true → w.locks ≡ false → w.own.made ≡ [] → IsBeginning w.own.seen b.now → IsLock log fits top s.words s.homes (s.views ++ w ∷ [])
-  sits-at s b w live locks none_made behind = record {
+  sits-at : (s : State S (View D E)) (b : Kept s) (views : List (View D E)) (first w : View D E) → length views ≡ length s.views
+      → ((j : ℕ) (u : View D E) → get_elem? views j ≡ some u → IsSeat b.now b.owners b.holder j u) → get_elem? views 0 ≡ some first → AreTold b.now b.owners first.told → AreCounted (views ++ w ∷ []) first
+      → w.locks ≡ false → w.own.made ≡ [] → IsBeginning w.own.seen b.now → IsLock log fits top s.words s.homes (views ++ w ∷ [])
+  sits-at s b views first w long seats at_first told counted locks none_made behind = record {
     now = b.now;
     headed = b.headed;
     owners = b.owners;
     long = b.long;
     holder = b.holder;
     seats = λ j u e. ⊎_elim
-        (λ (was : get_elem? s.views j ≡ some u). b.seats j u was)
-        (λ (is : (j ≡ length s.views) × (w ≡ u)). subst (IsSeat b.now b.owners b.holder j) is.1 record {
-          mine = b.others j (omega (arith, is.0)) ∙ sym none_made;
+        (λ (was : get_elem? views j ≡ some u). seats j u was)
+        (λ (is : (j ≡ length views) × (w ≡ u)). subst (IsSeat b.now b.owners b.holder j) is.1 record {
+          mine = b.others j (omega (arith, long, is.0)) ∙ sym none_made;
           behind = λ _. behind;
           locks = λ l. absurd (true≢false (sym l ∙ locks));
+          quiet = λ _. none_made;
         })
-        (at_end s.views w u j e);
-    others = λ j le. b.others j (omega (arith, le, length-append s.views (w ∷ [])));
-    first = b.first;
-    at_first = at_longer s.views (w ∷ []) 0 b.first b.at_first;
-    told = b.told;
+        (at_end views w u j e);
+    others = λ j le. b.others j (omega (arith, le, long, length-append views (w ∷ [])));
+    first = first;
+    at_first = at_longer views (w ∷ []) 0 first at_first;
+    told = told;
+    counted = counted;
     lock = b.lock;
   }
 
-  pub sits : (slots : ℕ) → Enters Kept slots 16 (λ _ w. (◌≡◌ {A = Me S (View D E)} (w, []) (newcomer w.own.seen, [])) × (w.own.seen.head ≡ top))
-  sits slots s b len small = (newcomer b.now, sits-at s b (newcomer b.now) refl refl refl (beginning-self b.now), (refl, b.headed))
+  pub sits : (slots : ℕ) → Enters Kept slots 16 (λ _ w. (◌≡◌ {A = Me S (View D E)} (w, []) (guest w.own.seen, [])) × (w.own.seen.head ≡ top))
+  sits slots s b len small =
+      let w = guest b.now in
+      let many = b.counted.many in
+      let counted : AreCounted (s.views ++ w ∷ []) b.first = record { lead = b.counted.lead; many = omega (arith, many, makers-end s.views w) } in
+      (w, sits-at s b s.views b.first w refl b.seats b.at_first b.told counted refl refl (beginning-self b.now), (refl, b.headed))
 
-  pub issues : (id : ℕ) (v : View D E) → v.live ≡ true → Splits Kept id v v (newcomer v.own.seen)
-  issues id v live s b at =
+  issues-first : (v : View D E) → v.live ≡ true → Splits Kept 0 v (issued_one v) (newcomer v.own.seen)
+  issues-first v live s b at =
       let w = newcomer v.own.seen in
-      subst (λ l. IsLock log fits top s.words s.homes (l ++ w ∷ [])) (sym (set_again s.views id v at)) (sits-at s b w refl refl refl ((b.seats id v at).behind live))
+      let one = issued_one v in
+      let views = set s.views 0 one in
+      let mine = b.seats 0 v at in
+      let same : b.first ≡ v = some-injective b.first v (sym b.at_first ∙ at) in
+      let told : AreTold b.now b.owners v.told = subst (λ (u : View D E). AreTold b.now b.owners u.told) same b.told in
+      let before : AreCounted s.views v = subst (AreCounted s.views) same b.counted in
+      let many = before.many in
+      let as-many = makers-set s.views 0 v one at refl in
+      let counted : AreCounted (views ++ w ∷ []) one = record { lead = before.lead; many = omega (arith, many, as-many, makers-end views w) } in
+      sits-at s b views one w (length-set s.views 0 one)
+      (seats-set b.now b.owners b.holder s.views 0 one (λ j u _ e. b.seats j u e) record { mine = mine.mine; behind = mine.behind; locks = mine.locks; quiet = mine.quiet })
+      (set_here s.views 0 one (inside s.views 0 v at)) told counted refl refl (mine.behind live)
+
+  pub issues : (id : ℕ) (v : View D E) → id ≡ 0 → v.live ≡ true → Splits Kept id v (issued_one v) (newcomer v.own.seen)
+  issues id v is_first live = subst (λ (i : ℕ). Splits Kept i v (issued_one v) (newcomer v.own.seen)) (sym is_first) (issues-first v live)
 
   -- the first seat is told what another has seen and made
-  tells-first : (d : D) (v : View D E) (other : ℕ) (w : View D E) → v.live ≡ true → w.live ≡ true → Joins Kept 0 v other w (told_of v w) (gone d)
-  tells-first d v other w live live' s b at apart there =
+  tells-first : (d : D) (v : View D E) (other : ℕ) (w : View D E) → v.live ≡ true → w.live ≡ true → w.maker ≡ true → Joins Kept 0 v other w (told_of v w) (gone d)
+  tells-first d v other w live live' maker s b at apart there =
       let both = told_of v w in
       let one = set s.views 0 both in
       let same : b.first ≡ v = some-injective b.first v (sym b.at_first ∙ at) in
@@ -358,11 +444,11 @@ module _ {S D E : Type 0} (log : S → Log D E) (fits : S → Type 0) (top : D) 
         seats = seats-set b.now owners b.holder one other (gone d)
             (λ j u away e. ⊎_elim
             (λ (x : (j ≡ 0) × (both ≡ u)). subst (λ (y : ℕ × View D E). IsSeat b.now owners b.holder y.0 y.1) (λ i. (sym x.0 i, x.1 i))
-            record { mine = owned-renamed a c (seat_tag 0) 0 b.owners b.now.entries (λ h. apart (double other h)) (λ h. even-odd 0 n h) ∙ mine.mine; behind = mine.behind; locks = mine.locks })
+            record { mine = owned-renamed a c (seat_tag 0) 0 b.owners b.now.entries (λ h. apart (double other h)) (λ h. even-odd 0 n h) ∙ mine.mine; behind = mine.behind; locks = mine.locks; quiet = mine.quiet })
             (λ (x : (j ≢ 0) × (get_elem? s.views j ≡ some u)). let k = b.seats j u x.1 in
-            record { mine = owned-renamed a c (seat_tag j) 0 b.owners b.now.entries (λ h. away (twice j other h)) (λ h. even-odd j n h) ∙ k.mine; behind = k.behind; locks = k.locks })
+            record { mine = owned-renamed a c (seat_tag j) 0 b.owners b.now.entries (λ h. away (twice j other h)) (λ h. even-odd j n h) ∙ k.mine; behind = k.behind; locks = k.locks; quiet = k.quiet })
             (at_set s.views 0 j both u e))
-            record { mine = owned-renamed-old a c 0 b.owners b.now.entries (λ h. even-odd other n h); behind = λ l. absurd (off l); locks = λ l. absurd (off l) };
+            record { mine = owned-renamed-old a c 0 b.owners b.now.entries (λ h. even-odd other n h); behind = λ l. absurd (off l); locks = λ l. absurd (off l); quiet = λ _. refl };
         others = λ j le. owned-renamed a c (seat_tag j) 0 b.owners b.now.entries (λ h. away-from j other (length s.views) inner (omega (arith, le, lengths)) h) (λ h. even-odd j n h) ∙ b.others j (omega (arith, le, lengths));
         first = both;
         at_first = set_else one other 0 (gone d) (λ e. apart (sym e)) ∙ set_here s.views 0 both (inside s.views 0 v at);
@@ -376,11 +462,17 @@ module _ {S D E : Type 0} (log : S → Log D E) (fits : S → Type 0) (top : D) 
               (λ (is : w.own ≡ x). subst (λ (y : Account D E). IsBeginning y.seen b.now) is (theirs.behind live'))
               (at_snoc v.told w.own x k e)),
         );
+        counted =
+            let before : AreCounted s.views v = subst (AreCounted s.views) same b.counted in
+            let many = before.many in
+            let as-many = makers-set s.views 0 v both at refl in
+            let fewer = makers-fewer one other w (gone d) there maker refl in
+            record { lead = before.lead; many = omega (arith, many, as-many, fewer, length-append v.told (w.own ∷ [])) };
         lock = b.lock;
       }
 
-  pub tells : (d : D) (id : ℕ) (v : View D E) (other : ℕ) (w : View D E) → id ≡ 0 → v.live ≡ true → w.live ≡ true → Joins Kept id v other w (told_of v w) (gone d)
-  tells d id v other w is_first live live' = subst (λ (i : ℕ). Joins Kept i v other w (told_of v w) (gone d)) (sym is_first) (tells-first d v other w live live')
+  pub tells : (d : D) (id : ℕ) (v : View D E) (other : ℕ) (w : View D E) → id ≡ 0 → v.live ≡ true → w.live ≡ true → w.maker ≡ true → Joins Kept id v other w (told_of v w) (gone d)
+  tells d id v other w is_first live live' maker = subst (λ (i : ℕ). Joins Kept i v other w (told_of v w) (gone d)) (sym is_first) (tells-first d v other w live live' maker)
 
   -- a load leaves the word as it is
   word-stays : (s : State S (View D E)) (b : Kept s) → set s.words 16 (slice_index s.words 16) ≡ s.words
@@ -389,16 +481,29 @@ module _ {S D E : Type 0} (log : S → Log D E) (fits : S → Type 0) (top : D) 
       (λ (t : IsTakenOut s.words s.homes). subst (λ (ws : List ℕ). set ws 16 (slice_index ws 16) ≡ ws) (sym t.word) refl)
       b.lock
 
+  -- where the first seat has made nothing, and all that it issued were joined to it, no seat owns anything
+  no-seat-owns : (s : State S (View D E)) (b : Kept s) (v : View D E) → get_elem? s.views 0 ≡ some v → AreCounted s.views v → v.own.made ≡ [] → v.own.issued ≤ length v.told → NoSeatOwns b.now b.owners
+  no-seat-owns s b v at counted idle back id =
+      let many = counted.many in
+      let one : makers_in s.views ≤ 1 = omega (arith, many, back) in
+      dite (ℕ_discrete id 0)
+      (λ (is : id ≡ 0). subst (λ (i : ℕ). owned (seat_tag i) 0 b.owners b.now.entries ≡ []) (sym is) ((b.seats 0 v at).mine ∙ idle))
+      (λ (away : id ≢ 0). dite (dec_le (length s.views) id)
+      (λ (past : length s.views ≤ id). b.others id past)
+      (λ (no : length s.views ≤ id → ⊥). let u = seat-there s.views id (lt_of_not-le no) in let k = b.seats id u.0 u.1 in k.mine ∙ k.quiet (only-first s.views v id u.0 at counted.lead one away u.1)))
+
   settles-first : (slots : ℕ) (me : Me S (View D E)) → me.0.locks ≡ true → Allows Kept slots 0 me 16 (λ n. n) (λ _ w. (w ≡ me) × IsSettled me.0)
   settles-first slots me locks s b len at small =
       let same : b.first ≡ me.0 = some-injective b.first me.0 (sym b.at_first ∙ at) in
       let seen : b.now ≡ me.0.own.seen = sym ((b.seats 0 me.0 at).locks locks).1 in
-      let told : AreTold b.now b.owners me.0.told = subst (λ (u : View D E). AreTold b.now b.owners u.told) same b.told in (
+      let told : AreTold b.now b.owners me.0.told = subst (λ (u : View D E). AreTold b.now b.owners u.told) same b.told in
+      let counted : AreCounted s.views me.0 = subst (AreCounted s.views) same b.counted in
+      let whole : me.0.own.made ≡ [] → me.0.own.issued ≤ length me.0.told → NoSeatOwns b.now b.owners = λ idle back. no-seat-owns s b me.0 at counted idle back in (
         me.0,
         keeps,
         tt,
         subst (λ ws. IsLock log fits top ws s.homes (set s.views 0 me.0)) (sym (word-stays s b)) (again s.words s.homes s.views 0 me.0 at b),
-        (refl, subst (λ h. (owners : List ℕ) × (length owners ≡ length h.entries) × AreTold h owners me.0.told) seen (b.owners, b.long, told)),
+        (refl, subst (λ h. (owners : List ℕ) × (length owners ≡ length h.entries) × AreTold h owners me.0.told × (me.0.own.made ≡ [] → me.0.own.issued ≤ length me.0.told → NoSeatOwns h owners)) seen (b.owners, b.long, told, whole)),
       )
 
   pub settles : (slots id : ℕ) (me : Me S (View D E)) → id ≡ 0 → me.0.locks ≡ true → Allows Kept slots id me 16 (λ n. n) (λ _ w. (w ≡ me) × IsSettled me.0)

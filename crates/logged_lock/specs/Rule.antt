@@ -1,5 +1,5 @@
 -- The rule of a lock: one log of what lies under it, each entry of which belongs to the seat that made it.
-use Rattle.std.specs.Prelude.{◌≡◌, ℕ, suc, ◌+◌, ◌<◌, ◌≤◌, true, false, List, [], ◌∷◌, ◌++◌, length, ◌⊎◌}
+use Rattle.std.specs.Prelude.{◌≡◌, ℕ, suc, ◌+◌, ◌<◌, ◌≤◌, true, false, List, [], ◌∷◌, ◌++◌, length, ◌⊎◌, if◌then◌else◌}
 use mathlib.Core.Option.{Option, some, none}
 use lib.ListN.{get_elem?}
 use Rattle.atomic_table.specs.Table.{Me}
@@ -27,42 +27,63 @@ told_tag k = suc (k + k)
 
 -- a seat that has seen this log, and has made nothing of it
 abbrev pub newcomer : {D E : Type 0} → Log D E → View D E
-newcomer l = record { live = true; locks = false; own = record { seen = l; made = [] }; told = [] }
+newcomer l = record { live = true; locks = false; maker = true; own = record { seen = l; made = []; issued = 0 }; told = [] }
+
+-- a seat that has seen this log, and makes nothing
+abbrev pub guest : {D E : Type 0} → Log D E → View D E
+guest l = record { live = true; locks = false; maker = false; own = record { seen = l; made = []; issued = 0 }; told = [] }
+
+-- one seat more was issued from it
+abbrev pub issued_one : {D E : Type 0} → View D E → View D E
+issued_one v = record { live = v.live; locks = v.locks; maker = v.maker; own = record { seen = v.own.seen; made = v.own.made; issued = suc v.own.issued }; told = v.told }
 
 -- what a seat leaves that was joined to the first
 abbrev pub gone : {D E : Type 0} → D → View D E
-gone d = record { live = false; locks = false; own = record { seen = record { head = d; entries = [] }; made = [] }; told = [] }
+gone d = record { live = false; locks = false; maker = false; own = record { seen = record { head = d; entries = [] }; made = []; issued = 0 }; told = [] }
 
 -- the first seat has learned what another had seen and made
 abbrev pub told_of : {D E : Type 0} → View D E → View D E → View D E
-told_of v w = record { live = v.live; locks = v.locks; own = v.own; told = v.told ++ w.own ∷ [] }
+told_of v w = record { live = v.live; locks = v.locks; maker = v.maker; own = v.own; told = v.told ++ w.own ∷ [] }
 
 -- the seat has the lock, and has seen this log
 abbrev pub locked : {D E : Type 0} → Log D E → View D E → View D E
-locked l v = record { live = true; locks = true; own = record { seen = l; made = v.own.made }; told = v.told }
+locked l v = record { live = true; locks = true; maker = v.maker; own = record { seen = l; made = v.own.made; issued = v.own.issued }; told = v.told }
 
 -- the seat has given the lock back, and made nothing
 abbrev pub unlocked : {D E : Type 0} → View D E → View D E
-unlocked v = record { live = true; locks = false; own = v.own; told = v.told }
+unlocked v = record { live = true; locks = false; maker = v.maker; own = v.own; told = v.told }
 
 -- the seat has given the lock back, and this entry is its own, at the place after all that it had seen
 abbrev pub unlocked_with : {D E : Type 0} → E → View D E → View D E
 unlocked_with e v = record {
   live = true;
   locks = false;
-  own = record { seen = with_entry v.own.seen e; made = v.own.made ++ (length v.own.seen.entries, e) ∷ [] };
+  maker = v.maker;
+  own = record { seen = with_entry v.own.seen e; made = v.own.made ++ (length v.own.seen.entries, e) ∷ []; issued = v.own.issued };
   told = v.told;
 }
 
--- what is so of a seat: what it has made is its own in the log, which begins with what it has seen; who has the lock has seen all
+-- what is so of a seat: what it has made is its own in the log, which begins with what it has seen; who has the lock has seen all; and
+-- only makers have made anything
 pub record IsSeat {D E : Type 0} (now : Log D E) (owners : List ℕ) (holder : Option ℕ) (id : ℕ) (v : View D E) : Type 0 where
   pub mine : owned (seat_tag id) 0 owners now.entries ≡ v.own.made
   pub behind : v.live ≡ true → IsBeginning v.own.seen now
   pub locks : v.locks ≡ true → (holder ≡ some id) × (v.own.seen ≡ now)
+  pub quiet : v.maker ≡ false → v.own.made ≡ []
 
 -- what was joined to the first seat is its own in the log
 abbrev pub AreTold : {D E : Type 0} → Log D E → List ℕ → List (Account D E) → Type 0
 AreTold now owners told = ((k : ℕ) → owned (told_tag k) 0 owners now.entries ≡ made_by told k) × AreBehind told now
+
+-- how many of these seats are makers
+abbrev pub makers_in : {D E : Type 0} → List (View D E) → ℕ
+makers_in [] = 0
+makers_in (v ∷ vs) = (if v.maker then 1 else 0) + makers_in vs
+
+-- the makers are the first seat, and those that it issued and wasn't told of
+pub record AreCounted {D E : Type 0} (views : List (View D E)) (first : View D E) : Type 0 where
+  pub lead : first.maker ≡ true
+  pub many : makers_in views + length first.told ≡ suc first.own.issued
 
 -- the lock is free: what lies under it is at home, and its log is the one log
 pub record IsFree {S D E : Type 0} (log : S → Log D E) (fits : S → Type 0) (words : List ℕ) (homes : List (Option S)) (now : Log D E) (holder : Option ℕ) : Type 0 where
@@ -93,6 +114,7 @@ pub record IsLock {S D E : Type 0} (log : S → Log D E) (fits : S → Type 0) (
   pub first : View D E
   pub at_first : get_elem? views 0 ≡ some first
   pub told : AreTold now owners first.told
+  pub counted : AreCounted views first
   pub lock : IsFree log fits words homes now holder ⊎ IsTakenOut words homes
 
 -- a seat that doesn't have the lock
@@ -117,6 +139,12 @@ pub record IsTaken {S D E : Type 0} (log : S → Log D E) (fits : S → Type 0) 
   pub fitting : fits kept
   pub later : IsBeginning before.0.own.seen (log kept)
 
--- the log that was seen is made of what was joined to the first seat, and of what other seats made
+-- no seat owns an entry of the log
+abbrev pub NoSeatOwns : {D E : Type 0} → Log D E → List ℕ → Type 0
+NoSeatOwns now owners = (id : ℕ) → owned (seat_tag id) 0 owners now.entries ≡ []
+
+-- The log that was seen is made of what was joined to the first seat, and of what other seats made; of the first alone where all that
+-- it issued were joined to it, and it has made nothing.
 abbrev pub IsSettled : {D E : Type 0} → View D E → Type 0
 IsSettled v = (owners : List ℕ) × (length owners ≡ length v.own.seen.entries) × AreTold v.own.seen owners v.told
+    × (v.own.made ≡ [] → v.own.issued ≤ length v.told → NoSeatOwns v.own.seen owners)

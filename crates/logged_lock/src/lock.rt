@@ -2,7 +2,7 @@
 
 ghost use Rattle.std.specs.Prelude.{◌≡◌, ◌<◌, ◌≤◌, [], ◌∷◌, length, IfOk, MatchBool, true};
 ghost use Rattle.logged_lock.specs.Log.{start_of, with_entry, total_made, IsMergeOf, AreBehind};
-ghost use Rattle.logged_lock.specs.Rule.{newcomer, unlocked, unlocked_with, told_of, IsIdle, HasLock, IsTaken, IsSettled};
+ghost use Rattle.logged_lock.specs.Rule.{newcomer, guest, issued_one, unlocked, unlocked_with, told_of, IsIdle, HasLock, IsTaken, IsSettled};
 
 use crate::rule::{
     Issues, Leaves, LeavesWith, LockRule, LockSeat, Marks, NextEntry, Settles, Sits, Takes, Tells,
@@ -231,6 +231,7 @@ impl<S: Logged<D, E>, D: Head, E> LoggedLock<S, D, E> {
     /// Gives the lock back with an entry, which is the seat's own from then on.
     pub fn unlock_with<P: NextEntry<E>>(&self, seat: &mut LockSeat<S, D, E>)
         requires own { seat.old.table_id ≡ self.now.id }
+        requires maker { seat.old.me.0.maker ≡ true }
         requires longer { HasLock S.log S.fits seat.old.me (with_entry seat.old.me.0.own.seen P.entry) }
         ensures same { (seat.new.table_id ≡ seat.old.table_id) × (seat.new.id ≡ seat.old.id) }
         ensures unlocked { seat.new.me ≡ (unlocked_with P.entry seat.old.me.0, []) }
@@ -240,24 +241,26 @@ impl<S: Logged<D, E>, D: Head, E> LoggedLock<S, D, E> {
         self.wake(word);
     }
 
-    /// A new seat, from which nothing was made, for who has none.
+    /// A new seat, from which nothing can be made, for who has none.
     pub fn guest(&self) -> LockSeat<S, D, E>
         ensures own { result.table_id ≡ self.now.id }
         ensures head { result.me.0.own.seen.head ≡ self.now.head }
-        ensures seat { result.me ≡ (newcomer result.me.0.own.seen, []) }
+        ensures seat { result.me ≡ (guest result.me.0.own.seen, []) }
     {
         self.table.shared.load_new_seat::<Sits>(WORD).1
     }
 
-    /// A new seat, from which nothing was made, and which has seen what this one has seen.
-    pub fn issue(&self, seat: &mut LockSeat<S, D, E>) -> LockSeat<S, D, E>
-        requires own { seat.old.table_id ≡ self.now.id }
-        requires live { seat.old.me.0.live ≡ true }
-        ensures same { (seat.new.table_id ≡ seat.old.table_id) × (seat.new.id ≡ seat.old.id) × (seat.new.me ≡ seat.old.me) }
-        ensures own { result.table_id ≡ seat.old.table_id }
-        ensures seat { result.me ≡ (newcomer seat.old.me.0.own.seen, []) }
+    /// A new seat, from which nothing was made, and which has seen what the first one has seen.
+    pub fn issue(&self, first: &mut LockSeat<S, D, E>) -> LockSeat<S, D, E>
+        requires own { first.old.table_id ≡ self.now.id }
+        requires first { first.old.id ≡ 0 }
+        requires live { first.old.me.0.live ≡ true }
+        ensures same { (first.new.table_id ≡ first.old.table_id) × (first.new.id ≡ first.old.id) }
+        ensures issued { first.new.me ≡ (issued_one first.old.me.0, first.old.me.1) }
+        ensures own { result.table_id ≡ first.old.table_id }
+        ensures seat { result.me ≡ (newcomer first.old.me.0.own.seen, []) }
     {
-        self.table.shared.split_seat::<Issues>(seat)
+        self.table.shared.split_seat::<Issues>(first)
     }
 
     /// Lets the first seat know what another has seen and made, which is spent.
@@ -266,6 +269,7 @@ impl<S: Logged<D, E>, D: Head, E> LoggedLock<S, D, E> {
         requires first { first.old.id ≡ 0 }
         requires live { first.old.me.0.live ≡ true }
         requires idle { IsIdle other.me }
+        requires maker { other.me.0.maker ≡ true }
         ensures same { (first.new.table_id ≡ first.old.table_id) × (first.new.id ≡ first.old.id) }
         ensures told { first.new.me ≡ (told_of first.old.me.0 other.me.0, first.old.me.1) }
     {
@@ -273,7 +277,8 @@ impl<S: Logged<D, E>, D: Head, E> LoggedLock<S, D, E> {
     }
 
     /// Shows what the log is made of, by the first seat, which has the lock. Where those that it was told of have made as many
-    /// entries as the log has, the log is a merge of what they made.
+    /// entries as the log has, the log is a merge of what they made. Where it was told of all that it issued, and has made nothing,
+    /// they have made as many.
     pub fn settle(&self, first: &mut LockSeat<S, D, E>)
         requires own { first.old.table_id ≡ self.now.id }
         requires first { first.old.id ≡ 0 }
@@ -281,6 +286,7 @@ impl<S: Logged<D, E>, D: Head, E> LoggedLock<S, D, E> {
         ensures same { (first.new.table_id ≡ first.old.table_id) × (first.new.id ≡ first.old.id) × (first.new.me ≡ first.old.me) }
         ensures settled { IsSettled first.old.me.0 }
         ensures behind { AreBehind first.old.me.0.told first.old.me.0.own.seen }
+        ensures whole { first.old.me.0.own.made ≡ [] → first.old.me.0.own.issued ≤ length first.old.me.0.told → total_made first.old.me.0.told ≡ length first.old.me.0.own.seen.entries }
         ensures merge { total_made first.old.me.0.told ≡ length first.old.me.0.own.seen.entries → IsMergeOf first.old.me.0.own.seen.entries first.old.me.0.told }
     {
         self.table.shared.load::<Settles>(first, WORD);

@@ -62,14 +62,14 @@ impl<S, D, E, P: NextEntry<E>> Play<S, View<D, E>> for LeavesWith<P> {
     ghost then = { λ _ before _ after. after ≡ (unlocked_with P.entry before.0, []) };
 }
 
-/// A new seat, from which nothing was made. What it has seen has the head that the table was told.
+/// A new seat, from which nothing is made. What it has seen has the head that the table was told.
 pub struct Sits;
 
 impl<S, D, E> Play<S, View<D, E>> for Sits {
     ghost use Rattle.std.specs.Prelude.{◌≡◌, []};
-    ghost use Rattle.logged_lock.specs.Rule.{newcomer};
+    ghost use Rattle.logged_lock.specs.Rule.{guest};
 
-    ghost then = { λ _ before _ after. (after ≡ (newcomer after.0.own.seen, [])) × (after.0.own.seen.head ≡ before.0.own.seen.head) };
+    ghost then = { λ _ before _ after. (after ≡ (guest after.0.own.seen, [])) × (after.0.own.seen.head ≡ before.0.own.seen.head) };
 }
 
 /// The first seat learns what the log is made of.
@@ -86,9 +86,9 @@ impl<S, D, E> Play<S, View<D, E>> for Settles {
 pub struct Issues;
 
 impl<D, E> Split<View<D, E>> for Issues {
-    ghost use Rattle.logged_lock.specs.Rule.{newcomer};
+    ghost use Rattle.logged_lock.specs.Rule.{newcomer, issued_one};
 
-    ghost left = { λ v. v };
+    ghost left = { issued_one };
 
     ghost right = { λ v. newcomer v.own.seen };
 }

@@ -23,10 +23,12 @@ pub trait Head {
     ghost blank: { Self };
 }
 
-/// What one seat has seen, and what was made from it: each entry with its place in the log. No value of it is made.
+/// What one seat has seen, and what was made from it: each entry with its place in the log; and how many seats were issued from it.
+/// No value of it is made.
 pub struct Account<D, E> {
     pub seen: Log<D, E>,
     pub made: LinkedList<(u64, E)>,
+    pub issued: u64,
 }
 
 /// What is known at a seat. No value of it is made.
@@ -35,6 +37,8 @@ pub struct View<D, E> {
     pub live: bool,
     /// Whether it has the lock.
     pub locks: bool,
+    /// Whether entries may be made from it. A guest makes none.
+    pub maker: bool,
     pub own: Account<D, E>,
     /// What was known at the seats that were joined to this one, in their order.
     pub told: LinkedList<Account<D, E>>,

@@ -1,4 +1,5 @@
 pub mod Told
+pub mod Counted
 pub mod Alone
 pub mod Places
 pub mod Rows

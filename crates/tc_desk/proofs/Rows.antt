@@ -1,5 +1,5 @@
 -- Desks that are held, told and taken out, list by list.
-use Rattle.std.proofs.Common.{◌≡◌, ◌<◌, ◌≤◌, ◌+◌, ◌-◌, ◌^◌, ℕ, zero, suc, List, [], ◌∷◌, ◌++◌, length, take, drop, get_or, set, min, map, reverse, Some, slice_get, refl, sym, ap, subst, ◌∙◌, append_assoc, append-nil, arith, All, Vec, Bool, true, false, true≢false}
+use Rattle.std.proofs.Common.{◌≡◌, ◌<◌, ◌≤◌, ◌+◌, ◌-◌, ◌^◌, ℕ, zero, suc, List, [], ◌∷◌, ◌++◌, length, take, drop, get_or, set, min, map, reverse, Some, slice_get, refl, sym, ap, subst, ◌∙◌, append_assoc, append-nil, arith, All, Vec}
 use Rattle.std.specs.List.{sum_by, AllZip}
 use Rattle.std.specs.Vec.{with_items}
 use Rattle.std.proofs.lemmas.List.{map-append, reverse-append, reverse-reverse, take_all, length-map, length-reverse, get_or-reverse, with_items_is}
@@ -11,10 +11,11 @@ use Rattle.tc_channel.specs.declared.event.Event.{Event}
 use Rattle.tc_channel.specs.Journal.{History}
 use Rattle.tc_desk.specs.{TableId}
 use Rattle.tc_desk.specs.Log.{Own, Sight, Moment, AtLock, AtHand, accounts_of, told_at}
-use Rattle.tc_desk.specs.Closing.{IsBalanced, IsClosed}
+use Rattle.tc_desk.specs.Closing.{CanClose, IsBalanced, IsCause, IsClosed}
+use Rattle.tc_desk.proofs.Counted.{as-balanced, cause-of, not-balanced}
 use Rattle.tc_desk.specs.declared.together.Refusal.{Refusal}
 use Rattle.tc_desk.specs.declared.together.Refusal.TheVariants.{Unbalanced}
-use Rattle.tc_desk.specs.Together.{IsRefusal, AreOurs, AreClosed, AreBalanced, AreMoments, AreSame, IsFresh, IsOut, column, heads_of, keepers_of, locks_of, nobody, settings_of, told_one, told_row, told_rows}
+use Rattle.tc_desk.specs.Together.{IsRefusal, AreOurs, AreClosed, AreBalanced, AreMoments, AreSame, CanCloseEach, CannotCloseOne, HasCause, IsFresh, IsOut, column, heads_of, issued_of, keepers_of, locks_of, nobody, settings_of, told_one, told_row, told_rows}
 
 -- ---- locks that are taken and given back
 
@@ -31,13 +32,14 @@ same_map {Y} f [] rest p q is = ap (λ (s : Y). s ∷ map f rest) is
 same_map {Y} f (x ∷ ps) rest p q is = ap (λ (l : List Y). f x ∷ l) (same_map f ps rest p q is)
 
 -- one desk is let go
-pub one_let_go : (old ps : List AtLock) (hs : List AtHand) (p : AtLock) (h : AtHand) → p.lock ≡ h.keeper.lock → p.own.seen.head ≡ h.keeper.own.seen.head
+pub one_let_go : (old ps : List AtLock) (hs : List AtHand) (p : AtLock) (h : AtHand) → p.lock ≡ h.keeper.lock → p.own.seen.head ≡ h.keeper.own.seen.head → p.own.issued ≡ h.keeper.own.issued
     → AreSame old (ps ++ reverse (keepers_of (hs ++ h ∷ []))) → AreSame old ((ps ++ p ∷ []) ++ reverse (keepers_of hs))
-one_let_go old ps hs p h lock head same =
+one_let_go old ps hs p h lock head issued same =
     let before = one_held ps hs h.keeper h refl in
     let rest = reverse (keepers_of hs) in (
       same_map (λ (o : AtLock). o.lock) ps rest p h.keeper lock ∙ ap locks_of (sym before) ∙ same.0,
       same_map (λ (o : AtLock). o.own.seen.head) ps rest p h.keeper head ∙ ap heads_of (sym before) ∙ same.1,
+      same_map (λ (o : AtLock). o.own.issued) ps rest p h.keeper issued ∙ ap issued_of (sym before) ∙ same.2,
     )
 
 pub held_step : (all posts ps : List AtLock) (hs next : List AtHand) (p : AtLock) (h : AtHand) → posts ≡ ps ++ p ∷ [] → next ≡ hs ++ h ∷ [] → h.keeper ≡ p
@@ -45,11 +47,11 @@ pub held_step : (all posts ps : List AtLock) (hs next : List AtHand) (p : AtLock
 held_step all posts ps hs next p h popped grown is before =
     ap (λ (l : List AtHand). ps ++ reverse (keepers_of l)) grown ∙ one_held ps hs p h is ∙ sym (ap (λ (l : List AtLock). l ++ reverse (keepers_of hs)) popped) ∙ before
 
-pub let_go_step : (old ps next : List AtLock) (held hs : List AtHand) (p : AtLock) (h : AtHand) → held ≡ hs ++ h ∷ [] → next ≡ ps ++ p ∷ [] → p.lock ≡ h.keeper.lock → p.own.seen.head ≡ h.keeper.own.seen.head
+pub let_go_step : (old ps next : List AtLock) (held hs : List AtHand) (p : AtLock) (h : AtHand) → held ≡ hs ++ h ∷ [] → next ≡ ps ++ p ∷ [] → p.lock ≡ h.keeper.lock → p.own.seen.head ≡ h.keeper.own.seen.head → p.own.issued ≡ h.keeper.own.issued
     → AreSame old (ps ++ reverse (keepers_of held)) → AreSame old (next ++ reverse (keepers_of hs))
-let_go_step old ps next held hs p h popped grown lock head same =
+let_go_step old ps next held hs p h popped grown lock head issued same =
     subst (λ (l : List AtLock). AreSame old (l ++ reverse (keepers_of hs))) (sym grown)
-    (one_let_go old ps hs p h lock head (subst (λ (l : List AtHand). AreSame old (ps ++ reverse (keepers_of l))) popped same))
+    (one_let_go old ps hs p h lock head issued (subst (λ (l : List AtHand). AreSame old (ps ++ reverse (keepers_of l))) popped same))
 
 pub keepers-reverse : (hs : List AtHand) → keepers_of (reverse hs) ≡ reverse (keepers_of hs)
 keepers-reverse hs = reverse-map hs where
@@ -95,6 +97,11 @@ module _ {X : Type 0} where
   pub all_counted_at : (at : X → List AtLock) (place : ℕ) (xs : List X) (i total : ℕ) → length xs ≤ i → total ≡ min (sum_by (λ (x : X). length (get_or (at x) place nobody).own.made) (take i xs)) most
       → total ≡ min (total_made (accounts_of (column place (map at xs)))) most
   all_counted_at at place xs i total end so = so ∙ ap (λ (m : ℕ). min m most) (ap (λ (l : List X). sum_by (λ (x : X). length (get_or (at x) place nobody).own.made) l) (take_all i xs end) ∙ sym (total-column at place xs))
+
+-- as many at each desk as there are crews
+pub many-column : {X : Type 0} (at : X → List AtLock) (place : ℕ) (xs : List X) → length xs ≡ length (accounts_of (column place (map at xs)))
+many-column at place [] = refl
+many-column at place (x ∷ xs) = ap suc (many-column at place xs)
 
 same_long : (os : List AtLock) (hs : List AtHand) (place : ℕ) → locks_of os ≡ locks_of (keepers_of hs) → place < length hs → place < length os
 same_long os hs place is inside =
@@ -199,6 +206,11 @@ keeper_at [] place post at = absurd (none-some _ at)
 keeper_at (h ∷ hs) zero post at = (h, refl, same_Some h.keeper post at)
 keeper_at (h ∷ hs) (suc place) post at = keeper_at hs place post at
 
+keeper_there : (hs : List AtHand) (place : ℕ) (h : AtHand) → slice_get hs place ≡ Some h → slice_get (keepers_of hs) place ≡ Some h.keeper
+keeper_there [] place h at = absurd (none-some h at)
+keeper_there (g ∷ hs) zero h at = ap (λ (x : AtHand). Some x.keeper) (same_Some g h at)
+keeper_there (g ∷ hs) (suc place) h at = keeper_there hs place h at
+
 -- ---- channels that are taken out
 
 pub one_out : (hs : List AtHand) (cs : List History) (h : AtHand) (c : History) → AllZip IsOut hs cs → IsOut h c → AllZip IsOut (hs ++ h ∷ []) (cs ++ c ∷ [])
@@ -247,11 +259,13 @@ settings_out [] (d ∷ cs) all = absurd all
 settings_out (g ∷ hs) [] all = absurd all
 settings_out (g ∷ hs) (d ∷ cs) all = λ i. all.0.settings i ∷ settings_out hs cs all.1 i
 
-pub closed_one : (h : AtHand) (operators : List AtLock) (c : History) → h.told ≡ [] → IsBeginning h.keeper.own.seen h.now → IsBalanced (accounts_of operators) h.now.entries
+pub closed_one : (h : AtHand) (operators : List AtLock) (c : History) → h.told ≡ [] → IsBeginning h.keeper.own.seen h.now → CanClose h.keeper.own.issued (accounts_of operators) h.now.entries
     → IsOut (told_at h (accounts_of operators)) c → IsClosed h.keeper operators c
-closed_one h operators c none later balanced out =
+closed_one h operators c none later can out =
     let accounts = accounts_of operators in
     let told : h.told ++ accounts ≡ accounts = ap (λ (t : List Own). t ++ accounts) none in
+    let whole : h.keeper.own.issued ≤ length accounts → total_made accounts ≡ length h.now.entries = subst (λ (t : List Own). h.keeper.own.issued ≤ length t → total_made t ≡ length h.now.entries) told out.whole in
+    let balanced : IsBalanced accounts h.now.entries = as-balanced h.keeper.own.issued accounts h.now.entries can whole in
     let now : h.now ≡ record { head = h.keeper.own.seen.head; entries = c.journal } = λ i. record { head = later.0 i; entries = sym out.journal i } in
     record {
       settings = out.settings;
@@ -261,9 +275,9 @@ closed_one h operators c none later balanced out =
     }
 
 -- all are closed
-pub closed_all : (posts : List AtLock) (rows : List (List AtLock)) (held told : List AtHand) (closed : List History) → AreMoments posts held → AreOurs posts rows → AreBalanced held rows
+pub closed_all : (posts : List AtLock) (rows : List (List AtLock)) (held told : List AtHand) (closed : List History) → AreMoments posts held → AreOurs posts rows → CanCloseEach held rows
     → AllZip IsOut told closed → told ≡ told_rows held rows → AreClosed posts rows closed
-closed_all posts rows held told closed moments ours balanced all is =
+closed_all posts rows held told closed moments ours can all is =
     let ours_held : AreOurs (keepers_of held) rows = subst (λ (l : List AtLock). AreOurs l rows) (sym moments.0) ours in
     let out : AllZip IsOut (told_rows held rows) closed = subst (λ (l : List AtHand). AllZip IsOut l closed) is all in
     record {
@@ -274,11 +288,17 @@ closed_all posts rows held told closed moments ours balanced all is =
           let inside = slice_get_within held place h found.1 in
           let fresh : IsFresh h = subst IsFresh (get_or_from_slice_get held place h h found.1) (moments.1 place h inside) in
           subst (λ (p : AtLock). IsClosed p (column place rows) channel) found.2
-          (closed_one h (column place rows) channel fresh.0 fresh.1 (balanced place h found.1) (out_at (told_rows held rows) closed place _ channel out (rows_at held rows place h ours_held found.1) there));
+          (closed_one h (column place rows) channel fresh.0 fresh.1 (can place h found.1) (out_at (told_rows held rows) closed place _ channel out (rows_at held rows place h ours_held found.1) there));
     }
 
 -- desks that aren't balanced are a refusal
-pub unbalanced : (posts : List AtLock) (rows : List (List AtLock)) (held : List AtHand) (answer : Bool) (refusal : Refusal) → refusal ≡ Unbalanced → AreMoments posts held → (AreBalanced held rows → answer ≡ true) → answer ≡ false
-    → IsRefusal posts rows refusal
-unbalanced posts rows held answer refusal is moments tested false_one =
-    subst (IsRefusal posts rows) (sym is) (held, moments, λ balanced. true≢false (sym (tested balanced) ∙ false_one))
+pub unbalanced : (posts : List AtLock) (rows : List (List AtLock)) (held : List AtHand) (refusal : Refusal) → refusal ≡ Unbalanced → AreMoments posts held → CannotCloseOne held rows → IsRefusal posts rows refusal
+unbalanced posts rows held refusal is moments cannot =
+    let h = cannot.1 in
+    subst (IsRefusal posts rows) (sym is) (held, moments, λ balanced. not-balanced h.keeper.own.issued (accounts_of (column cannot.0 rows)) h.now.entries cannot.3 (balanced cannot.0 h cannot.2))
+
+pub caused : (posts : List AtLock) (rows : List (List AtLock)) (held : List AtHand) → AreMoments posts held → CannotCloseOne held rows → HasCause posts rows
+caused posts rows held moments cannot =
+    let h = cannot.1 in
+    let at : slice_get (keepers_of held) cannot.0 ≡ Some h.keeper = keeper_there held cannot.0 h cannot.2 in
+    (cannot.0, h.keeper, ap (λ (l : List AtLock). slice_get l cannot.0) (sym moments.0) ∙ at, cause-of h.keeper.own.issued (accounts_of (column cannot.0 rows)) h.now.entries cannot.3)

@@ -38,11 +38,11 @@ pub record IsAsked {R : Type 0} (ok : Moment → R → Type 0) (before : Moment)
 
 -- the operator has seen this moment, and made nothing
 abbrev pub looked : Moment → Own → Own
-looked now own = record { seen = now; made = own.made }
+looked now own = record { seen = now; made = own.made; issued = own.issued }
 
 -- This event was made at this moment: it is the last that the operator has seen, at its place in the journal, and the operator's own.
 abbrev pub made : Event → Moment → Own → Own
-made e now own = record { seen = with_entry now e; made = own.made ++ (length now.entries, e) ∷ [] }
+made e now own = record { seen = with_entry now e; made = own.made ++ (length now.entries, e) ∷ []; issued = own.issued }
 
 -- At a moment of the desk, which goes on from all that the operator had seen, this was answered. Where it is an event, it is the
 -- next of the journal, and of the operator's own.

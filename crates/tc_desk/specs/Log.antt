@@ -1,5 +1,5 @@
 -- The log of a desk behind its lock, and what operators have seen and made of it.
-use Rattle.std.specs.Prelude.{◌≡◌, ℕ, ◌-◌, ◌^◌, min, List, [], ◌∷◌, ◌++◌, length, map, true, false, Option, Some, None}
+use Rattle.std.specs.Prelude.{◌≡◌, ℕ, suc, ◌-◌, ◌^◌, min, List, [], ◌∷◌, ◌++◌, length, map, true, false, Option, Some, None}
 use Rattle.atomic_table.specs.Seated.{TableId}
 use Rattle.tc_channel.specs.declared.settings.Settings.{Settings}
 use Rattle.tc_channel.specs.declared.event.Event.{Event}
@@ -21,7 +21,7 @@ pub record Identity : Type 0 where
 abbrev pub Moment : Type 0
 Moment = Log Identity Event
 
--- what one has seen of a desk, and the events that one has made: each with its place in the journal
+-- what one has seen of a desk, the events that one has made, each with its place in the journal, and how many operators one has issued
 abbrev pub Own : Type 0
 Own = Account Identity Event
 
@@ -56,6 +56,10 @@ pub record AtLock : Type 0 where
   pub lock : TableId
   pub own : Own
 
+-- who has issued one operator more
+abbrev pub issued_one : AtLock → AtLock
+issued_one k = record { lock = k.lock; own = record { seen = k.own.seen; made = k.own.made; issued = suc k.own.issued } }
+
 abbrev pub view_in : List Sight → Sight
 view_in [] = gone nowhere
 view_in (v ∷ vs) = v
@@ -72,6 +76,10 @@ pub record IsResting (views : List Sight) : Type 0 where
 -- how many events were made; where they are more than 2^64 - 1, that number
 abbrev pub count_of : Own → ℕ
 count_of own = min (length own.made) (2 ^ 64 - 1)
+
+-- the same of the operators that were issued, for a count of 128 bits
+abbrev pub issued_count : Own → ℕ
+issued_count own = min own.issued (2 ^ 128 - 1)
 
 abbrev pub accounts_of : List AtLock → List Own
 accounts_of operators = map (λ (o : AtLock). o.own) operators

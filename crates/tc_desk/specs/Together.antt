@@ -1,5 +1,5 @@
 -- When desks are closed together, and what their channels are to those who worked at them.
-use Rattle.std.specs.Prelude.{◌≡◌, ℕ, List, [], ◌∷◌, length, map, slice_get, slice_index_or, Some, All}
+use Rattle.std.specs.Prelude.{◌≡◌, ◌≤◌, ℕ, List, [], ◌∷◌, length, map, slice_get, slice_index_or, Some, All}
 use Rattle.std.specs.List.{AllZip}
 use Rattle.tc_desk.specs.{TableId}
 use Rattle.tc_channel.specs.Journal.{History}
@@ -7,7 +7,7 @@ use Rattle.tc_channel.specs.declared.settings.Settings.{Settings}
 use Rattle.logged_lock.specs.Log.{IsBeginning, total_made, IsMergeOf, AreBehind}
 use Rattle.logged_lock.specs.Rule.{gone}
 use Rattle.tc_desk.specs.Log.{AtLock, AtHand, Identity, nowhere, accounts_of, told_at}
-use Rattle.tc_desk.specs.Closing.{IsBalanced, IsClosed}
+use Rattle.tc_desk.specs.Closing.{IsBalanced, IsClosed, CanClose, IsCause}
 use Rattle.tc_desk.specs.declared.together.Refusal.{Refusal}
 use Rattle.tc_desk.specs.declared.together.Refusal.TheVariants.{NoMemory, Held, Unbalanced}
 
@@ -18,9 +18,13 @@ locks_of list = map (λ (o : AtLock). o.lock) list
 abbrev pub heads_of : List AtLock → List Identity
 heads_of list = map (λ (o : AtLock). o.own.seen.head) list
 
+-- how many operators each of them has issued
+abbrev pub issued_of : List AtLock → List ℕ
+issued_of list = map (λ (o : AtLock). o.own.issued) list
+
 -- the same desks, as far as that goes
 abbrev pub AreSame : List AtLock → List AtLock → Type 0
-AreSame old new = (locks_of new ≡ locks_of old) × (heads_of new ≡ heads_of old)
+AreSame old new = (locks_of new ≡ locks_of old) × (heads_of new ≡ heads_of old) × (issued_of new ≡ issued_of old)
 
 -- each has an operator at each of these desks, in their order
 abbrev pub AreOurs : List AtLock → List (List AtLock) → Type 0
@@ -54,6 +58,18 @@ AreMoments posts held = (keepers_of held ≡ posts) × All IsFresh held
 abbrev pub AreBalanced : List AtHand → List (List AtLock) → Type 0
 AreBalanced held crews = (place : ℕ) (h : AtHand) → slice_get held place ≡ Some h → IsBalanced (accounts_of (column place crews)) h.now.entries
 
+-- the operators of each desk can close it
+abbrev pub CanCloseEach : List AtHand → List (List AtLock) → Type 0
+CanCloseEach held crews = (place : ℕ) (h : AtHand) → slice_get held place ≡ Some h → CanClose h.keeper.own.issued (accounts_of (column place crews)) h.now.entries
+
+-- those of one desk can't
+abbrev pub CannotCloseOne : List AtHand → List (List AtLock) → Type 0
+CannotCloseOne held crews = (place : ℕ) × (h : AtHand) × (slice_get held place ≡ Some h) × ¬ CanClose h.keeper.own.issued (accounts_of (column place crews)) h.now.entries
+
+-- the cause of an imbalance, at one of these desks
+abbrev pub HasCause : List AtLock → List (List AtLock) → Type 0
+HasCause posts crews = (place : ℕ) × (post : AtLock) × (slice_get posts place ≡ Some post) × IsCause post.own.issued (accounts_of (column place crews))
+
 -- why the desks weren't closed: where counts are the reason, there were moments of the desks, all at once, at which one wasn't balanced
 abbrev pub IsRefusal : List AtLock → List (List AtLock) → Refusal → Type 0
 IsRefusal posts crews NoMemory = Unit {0}
@@ -81,6 +97,7 @@ pub record IsOut (h : AtHand) (closed : History) : Type 0 where
   pub journal : closed.journal ≡ h.now.entries
   pub seen : AreBehind h.told h.now
   pub merge : total_made h.told ≡ length h.now.entries → IsMergeOf closed.journal h.told
+  pub whole : h.keeper.own.issued ≤ length h.told → total_made h.told ≡ length h.now.entries
 
 -- the channels that were at hand
 abbrev pub AreOut : List AtHand → List History → Type 0

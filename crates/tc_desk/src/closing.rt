@@ -3,7 +3,7 @@
 ghost use Rattle.std.specs.Prelude.{◌≡◌, All, min, ◌^◌, ◌-◌, IfOk, IfErr};
 ghost use Rattle.logged_lock.specs.Log.{total_made};
 ghost use Rattle.tc_desk.specs.Log.{accounts_of, told_at};
-ghost use Rattle.tc_desk.specs.Closing.{IsClosed, IsObstacle};
+ghost use Rattle.tc_desk.specs.Closing.{IsClosed, IsObstacle, IsCause};
 
 use crate::held::HeldDesk;
 use crate::locked::{DeskKeeper, DeskOperator, LockedDesk};
@@ -14,7 +14,8 @@ use tc_channel::{ChannelWith, Journal};
 pub enum Obstacle {
     /// The lock isn't free.
     Held,
-    /// The operators haven't made as many events as the channel's journal has; or there are 2^64 - 1 or more.
+    /// The operators haven't made as many events as the channel's journal has, and aren't all that the keeper issued; or they have made
+    /// 2^64 - 1 or more.
     Unbalanced,
 }
 
@@ -66,7 +67,8 @@ fn left_open<J: Journal>(
 }
 
 impl<J: Journal> LockedDesk<J> {
-    /// Takes the channel out of its lock, where these operators have made all events of its journal. It allocates nothing.
+    /// Takes the channel out of its lock, where these operators have made all events of its journal: so it is where they are all that
+    /// the keeper issued. It allocates nothing.
     pub fn close(
         self,
         keeper: DeskKeeper,
@@ -75,14 +77,15 @@ impl<J: Journal> LockedDesk<J> {
         requires keeper { keeper.lock ≡ self.id }
         requires ours { All (λ o. o.lock ≡ self.id) operators.items }
         ensures closed { IfOk result (IsClosed keeper operators.items) }
-        ensures kept { IfErr result (λ left. (left.desk ≡ self) × (left.keeper.lock ≡ self.id) × (left.operators.items ≡ operators.items)) }
+        ensures kept { IfErr result (λ left. (left.desk ≡ self) × (left.keeper.lock ≡ self.id) × (left.keeper.own.issued ≡ keeper.own.issued) × (left.operators.items ≡ operators.items)) }
         ensures obstacle { IfErr result (λ left. IsObstacle keeper operators.items left.obstacle) }
+        ensures cause { IfErr result (λ left. left.obstacle ≡ Obstacle.Unbalanced → IsCause keeper.own.issued (accounts_of operators.items)) }
     {
         let mut held = match HeldDesk::hold(self, keeper) {
             Ok(held) => held,
             Err(left) => return Err(left_open(left, operators, Obstacle::Held)),
         };
-        if !held.is_balanced(count_of_all(&operators)) {
+        if !held.can_close(operators.len(), count_of_all(&operators)) {
             return Err(left_open(held.let_go(), operators, Obstacle::Unbalanced));
         }
         tell_all(&mut held, operators);

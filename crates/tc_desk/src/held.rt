@@ -1,9 +1,9 @@
 //! A desk whose lock its keeper has.
 
-ghost use Rattle.std.specs.Prelude.{◌≡◌, [], ◌∷◌, ◌↔◌, min, length, ◌^◌, ◌-◌, IfOk, IfErr, IsTrue, List};
+ghost use Rattle.std.specs.Prelude.{◌≡◌, ◌≤◌, [], ◌∷◌, ◌↔◌, min, length, ◌^◌, ◌-◌, IfOk, IfErr, IsTrue, List};
 ghost use Rattle.logged_lock.specs.Log.{IsBeginning, total_made, IsMergeOf, AreBehind};
 ghost use Rattle.tc_desk.specs.Log.{Own, told_at};
-ghost use Rattle.tc_desk.specs.Closing.{IsBalanced};
+ghost use Rattle.tc_desk.specs.Closing.{CanClose};
 
 use crate::kept::KeptDesk;
 use crate::locked::{DeskKeeper, DeskLock, DeskOperator, DeskSeat, LockedDesk, answer_at};
@@ -18,14 +18,15 @@ pub(crate) struct HeldDesk<J: Journal> {
     lock: DeskLock<J>,
     first: DeskSeat<J>,
     events: u64,
+    issued: u128,
     keeper: Snapshot<DeskKeeper>,
 }
 
 impl<J: Journal> Model for HeldDesk<J> {
-    ghost use Rattle.std.specs.Prelude.{◌≡◌, min, length, ◌^◌, ◌-◌, IsSome};
+    ghost use Rattle.std.specs.Prelude.{◌≡◌, [], min, length, ◌^◌, ◌-◌, IsSome};
     ghost use Rattle.crossbeam_utils.specs.Padded.{padded_value};
     ghost use Rattle.logged_lock.specs.Rule.{HasLock};
-    ghost use Rattle.tc_desk.specs.Log.{AtHand, log_of};
+    ghost use Rattle.tc_desk.specs.Log.{AtHand, log_of, issued_count};
 
     ghost Value = { AtHand };
 
@@ -34,6 +35,7 @@ impl<J: Journal> Model for HeldDesk<J> {
     ghost invariant = { λ h. (h.first.table_id ≡ h.lock.id) × (h.keeper.value.lock ≡ h.lock.id) × (h.first.id ≡ 0)
         × (h.first.me.0.own.seen.head ≡ h.keeper.value.own.seen.head)
         × (h.events ≡ min (length h.first.me.0.own.seen.entries) (2 ^ 64 - 1))
+        × (h.issued ≡ issued_count h.keeper.value.own) × (h.first.me.0.own.issued ≡ h.keeper.value.own.issued) × (h.first.me.0.own.made ≡ [])
         × HasLock (λ k. log_of (padded_value k.desk)) (λ k. IsSome (padded_value k.desk)) h.first.me h.first.me.0.own.seen };
 }
 
@@ -52,15 +54,20 @@ impl<J: Journal> HeldDesk<J> {
     {
         let LockedDesk { lock } = desk;
         let snapshot = Snapshot::of(&keeper);
-        let mut first: DeskSeat<J> = keeper.into_badge().into_seat();
+        let (badge, issued) = keeper.into_parts();
+        let mut first: DeskSeat<J> = badge.into_seat();
         if !lock.try_lock(&mut first) {
-            return Err((LockedDesk { lock }, DeskKeeper::of(first.into_badge())));
+            return Err((
+                LockedDesk { lock },
+                DeskKeeper::of(first.into_badge(), issued),
+            ));
         }
         let events = answer_at(&lock, &mut first, &Counting);
         Ok(HeldDesk {
             lock,
             first,
             events,
+            issued,
             keeper: snapshot,
         })
     }
@@ -72,22 +79,28 @@ impl<J: Journal> HeldDesk<J> {
         ensures own { result.1.lock ≡ self.desk.id }
         ensures lock { result.1.lock ≡ self.keeper.lock }
         ensures head { result.1.own.seen.head ≡ self.keeper.own.seen.head }
+        ensures issued { result.1.own.issued ≡ self.keeper.own.issued }
     {
         let HeldDesk {
             lock,
             mut first,
             events: _,
+            issued,
             keeper: _,
         } = self;
         lock.unlock(&mut first);
-        (LockedDesk { lock }, DeskKeeper::of(first.into_badge()))
+        (
+            LockedDesk { lock },
+            DeskKeeper::of(first.into_badge(), issued),
+        )
     }
 
-    /// Whether the journal has as many events as this count, which 2^64 - 1 or more of them don't have.
-    pub(crate) fn is_balanced(&self, count: u64) -> bool
-        ensures { (makers : List Own) → count ≡ min (total_made makers) (2 ^ 64 - 1) → (IsTrue result ↔ IsBalanced makers self.now.now.entries) }
+    /// Whether so many operators, with so many events in all, are all that were issued, or have made as many events as the journal has.
+    /// A count of 2^64 - 1 is for as many or more.
+    pub(crate) fn can_close(&self, operators: usize, count: u64) -> bool
+        ensures { (makers : List Own) → operators ≡ length makers → count ≡ min (total_made makers) (2 ^ 64 - 1) → (IsTrue result ↔ CanClose self.now.keeper.own.issued makers self.now.now.entries) }
     {
-        self.events != u64::MAX && self.events == count
+        count != u64::MAX && (self.issued <= operators as u128 || self.events == count)
     }
 
     /// Lets the keeper know what an operator has seen and made.
@@ -105,11 +118,13 @@ impl<J: Journal> HeldDesk<J> {
         ensures journal { result.journal ≡ self.now.entries }
         ensures seen { AreBehind self.told self.now }
         ensures merge { total_made self.told ≡ length self.now.entries → IsMergeOf result.journal self.told }
+        ensures whole { self.keeper.own.issued ≤ length self.told → total_made self.told ≡ length self.now.entries }
     {
         let HeldDesk {
             lock,
             mut first,
             events: _,
+            issued: _,
             keeper: _,
         } = self;
         lock.settle(&mut first);

@@ -1,10 +1,11 @@
 //! The lock of a desk, and its operators.
 
 ghost use Rattle.crossbeam_utils.specs.Padded.{padded_value};
-ghost use Rattle.std.specs.Prelude.{◌≡◌, [], IfOk, MatchResult, IsSome};
+ghost use Rattle.std.specs.Prelude.{◌≡◌, ◌∷◌, [], true, IfOk, MatchResult, IsSome};
 ghost use Rattle.logged_lock.specs.Rule.{HasLock};
 ghost use Rattle.tc_channel.specs.Settings.{IsAllowed, IsRefusal};
-ghost use Rattle.tc_desk.specs.Log.{Moment, IsResting, log_of, at_lock, view_in, count_of};
+ghost use Rattle.logged_lock.specs.Rule as rule;
+ghost use Rattle.tc_desk.specs.Log.{Moment, IsResting, log_of, at_lock, view_in, count_of, issued_count, issued_one};
 ghost use Rattle.tc_desk.specs.Call.{IsMoment, IsAsked, IsCall, IsLook};
 
 use crate::kept::{DeskHead, KeptDesk};
@@ -50,7 +51,7 @@ pub struct DeskOperator {
 }
 
 impl Model for DeskOperator {
-    ghost use Rattle.std.specs.Prelude.{◌≡◌};
+    ghost use Rattle.std.specs.Prelude.{◌≡◌, true};
     ghost use Rattle.crossbeam_utils.specs.Padded.{padded_value};
     ghost use Rattle.tc_desk.specs.Log.{AtLock, at_lock, view_in, count_of, IsResting};
 
@@ -58,25 +59,28 @@ impl Model for DeskOperator {
 
     ghost view = { λ o. at_lock o.badge.table_id o.badge.views };
 
-    ghost invariant = { λ o. IsResting o.badge.views × (padded_value o.count ≡ count_of (view_in o.badge.views).own) };
+    ghost invariant = { λ o. IsResting o.badge.views × ((view_in o.badge.views).maker ≡ true) × (padded_value o.count ≡ count_of (view_in o.badge.views).own) };
 }
 
-/// Who makes operators for a lock, and takes the channel out of it. It has no octets. Threads may share it: a `&` to it offers
-/// nothing.
+/// Who makes operators for a lock, and takes the channel out of it. It counts the operators, and makes no events. Threads may share it:
+/// a `&` to it offers nothing.
 #[derive(Drop)]
 pub struct DeskKeeper {
     badge: ResidentBadge<View<DeskHead, Event>>,
+    // of 128 bits, so that no list is as long as the largest number
+    issued: u128,
 }
 
 impl Model for DeskKeeper {
     ghost use Rattle.std.specs.Prelude.{◌≡◌, []};
-    ghost use Rattle.tc_desk.specs.Log.{AtLock, at_lock, view_in, IsResting};
+    ghost use Rattle.tc_desk.specs.Log.{AtLock, at_lock, view_in, issued_count, IsResting};
 
     ghost Value = { AtLock };
 
     ghost view = { λ k. at_lock k.badge.badge.table_id k.badge.badge.views };
 
-    ghost invariant = { λ k. IsResting k.badge.badge.views × ((view_in k.badge.badge.views).told ≡ []) × (k.badge.badge.id ≡ 0) };
+    ghost invariant = { λ k. IsResting k.badge.badge.views × ((view_in k.badge.badge.views).told ≡ []) × (k.badge.badge.id ≡ 0)
+        × ((view_in k.badge.badge.views).own.made ≡ []) × (k.issued ≡ issued_count (view_in k.badge.badge.views).own) };
 }
 
 // Takes the lock, does what the operation asks for, and gives the lock back: with the event where it is answered. An answer is
@@ -90,7 +94,9 @@ fn operate_by<P: Occasion, J: Journal, O: Operation<J>, R: Wait>(
     requires event { P.event ≡ O.event operation.now }
     requires own { badge.old.table_id ≡ lock.now.id }
     requires resting { IsResting badge.old.views }
+    requires maker { (view_in badge.old.views).maker ≡ true }
     ensures resting { IsResting badge.new.views }
+    ensures maker { (view_in badge.new.views).maker ≡ true }
     ensures call { IsCall (O.event operation.now) (O.answers operation.now) (O.refuses operation.now) (at_lock badge.old.table_id badge.old.views) result (at_lock badge.new.table_id badge.new.views) }
 {
     let mut seat: DeskSeat<J> = mem::replace(badge, Badge::blank()).into_seat();
@@ -135,6 +141,7 @@ fn ask_by<J: Journal, Q: Question<J>, R: Wait>(
     requires resting { IsResting badge.views }
     ensures resting { IsResting result.0.views }
     ensures made { (view_in result.0.views).own.made ≡ (view_in badge.views).own.made }
+    ensures maker { (view_in result.0.views).maker ≡ (view_in badge.views).maker }
     ensures look { IsLook (Q.answers question.now) (at_lock badge.table_id badge.views) result.1 (at_lock result.0.table_id result.0.views) }
 {
     let mut seat: DeskSeat<J> = badge.into_seat();
@@ -147,12 +154,12 @@ fn ask_by<J: Journal, Q: Question<J>, R: Wait>(
 // A new seat, from the first one.
 fn issue_from<J: Journal>(lock: &DeskLock<J>, keeper: DeskBadge) -> (DeskBadge, DeskBadge)
     requires own { keeper.table_id ≡ lock.now.id }
+    requires first { keeper.id ≡ 0 }
     requires resting { IsResting keeper.views }
-    ensures keeper { (result.0.table_id ≡ keeper.table_id) × (result.0.id ≡ keeper.id) × (result.0.views ≡ keeper.views) }
+    ensures keeper { (result.0.table_id ≡ keeper.table_id) × (result.0.id ≡ keeper.id) }
+    ensures issued { result.0.views ≡ rule.issued_one (view_in keeper.views) ∷ [] }
     ensures own { result.1.table_id ≡ keeper.table_id }
-    ensures resting { IsResting result.1.views }
-    ensures seen { (view_in result.1.views).own.seen ≡ (view_in keeper.views).own.seen }
-    ensures new { (view_in result.1.views).own.made ≡ [] }
+    ensures new { result.1.views ≡ rule.newcomer (view_in keeper.views).own.seen ∷ [] }
 {
     let mut first: DeskSeat<J> = keeper.into_seat();
     let other = lock.issue(&mut first);
@@ -163,39 +170,44 @@ impl DeskKeeper {
     /// A new operator, which has made nothing, and has seen what the keeper has seen.
     pub fn operator<J: Journal>(&mut self, desk: &LockedDesk<J>) -> DeskOperator
         requires ours { self.old.lock ≡ desk.now.id }
-        ensures same { self.new ≡ self.old }
+        ensures issued { self.new ≡ issued_one self.old }
         ensures lock { result.lock ≡ self.old.lock }
         ensures seen { result.own.seen ≡ self.old.own.seen }
         ensures new { result.own.made ≡ [] }
+        ensures none { result.own.issued ≡ 0 }
     {
         let keeper = mem::replace(&mut self.badge, ResidentBadge::new(Badge::blank()));
         let (keeper, badge) = issue_from(&desk.lock, keeper.into_badge());
         self.badge = ResidentBadge::new(keeper);
+        self.issued = self.issued.saturating_add(1);
         let count = CachePadded::new(0);
         DeskOperator { badge, count }
     }
 
-    // A keeper of this first seat, to which nothing was told.
-    pub(crate) fn of(badge: DeskBadge) -> DeskKeeper
+    // A keeper of this first seat, to which nothing was told, and from which so many were issued.
+    pub(crate) fn of(badge: DeskBadge, issued: u128) -> DeskKeeper
         requires first { badge.id ≡ 0 }
         requires resting { IsResting badge.views }
         requires told { (view_in badge.views).told ≡ [] }
+        requires made { (view_in badge.views).own.made ≡ [] }
+        requires issued { issued ≡ issued_count (view_in badge.views).own }
         ensures { result ≡ at_lock badge.table_id badge.views }
     {
-        DeskKeeper {
-            badge: ResidentBadge::new(badge),
-        }
+        let badge = ResidentBadge::new(badge);
+        DeskKeeper { badge, issued }
     }
 
-    // The first seat.
-    pub(crate) fn into_badge(self) -> DeskBadge
-        ensures first { result.id ≡ 0 }
-        ensures resting { IsResting result.views }
-        ensures told { (view_in result.views).told ≡ [] }
-        ensures own { at_lock result.table_id result.views ≡ self }
+    // The first seat, and how many were issued from it.
+    pub(crate) fn into_parts(self) -> (DeskBadge, u128)
+        ensures first { result.0.id ≡ 0 }
+        ensures resting { IsResting result.0.views }
+        ensures told { (view_in result.0.views).told ≡ [] }
+        ensures made { (view_in result.0.views).own.made ≡ [] }
+        ensures own { at_lock result.0.table_id result.0.views ≡ self }
+        ensures issued { result.1 ≡ issued_count self.own }
     {
-        let DeskKeeper { badge } = self;
-        badge.into_badge()
+        let DeskKeeper { badge, issued } = self;
+        (badge.into_badge(), issued)
     }
 }
 
@@ -210,6 +222,7 @@ impl DeskOperator {
     // The seat, once the operator has made all its events.
     pub(crate) fn into_badge(self) -> DeskBadge
         ensures resting { IsResting result.views }
+        ensures maker { (view_in result.views).maker ≡ true }
         ensures own { at_lock result.table_id result.views ≡ self }
     {
         let DeskOperator { badge, count: _ } = self;
@@ -262,6 +275,7 @@ impl<J: Journal> LockedDesk<J> {
         ensures settings { IfOk result (λ made. made.1.own.seen.head.settings ≡ settings) }
         ensures journal { IfOk result (λ made. made.1.own.seen.entries ≡ []) }
         ensures new { IfOk result (λ made. made.1.own.made ≡ []) }
+        ensures issued { IfOk result (λ made. made.1.own.issued ≡ 0) }
         ensures fault { MatchResult result (λ _. IsAllowed settings) (IsRefusal settings) }
     {
         let desk = DeskOf::new(alloc, settings)?;
@@ -270,7 +284,7 @@ impl<J: Journal> LockedDesk<J> {
         let Ok((lock, first)) = DeskLock::new(alloc, kept, &head) else {
             return Err(SettingsFault::NoMemory);
         };
-        Ok((LockedDesk { lock }, DeskKeeper::of(first.into_badge())))
+        Ok((LockedDesk { lock }, DeskKeeper::of(first.into_badge(), 0)))
     }
 
     /// The desk's answer to the question at a moment under the lock, for who has no operator. Of that moment no more is known

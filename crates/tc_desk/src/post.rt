@@ -2,6 +2,7 @@
 
 ghost use Rattle.std.specs.Prelude.{◌≡◌, [], IfOk, MatchResult};
 ghost use Rattle.tc_channel.specs.Settings.{IsAllowed, IsRefusal};
+ghost use Rattle.tc_desk.specs.Log.{issued_one};
 
 use crate::locked::{DeskKeeper, DeskOperator, LockedDesk};
 use std::alloc::Global;
@@ -31,6 +32,7 @@ impl<J: Journal> Post<J> {
     pub fn new(alloc: Global, settings: Settings) -> Result<Post<J>, SettingsFault>
         ensures settings { IfOk result (λ post. post.own.seen.head.settings ≡ settings) }
         ensures journal { IfOk result (λ post. post.own.seen.entries ≡ []) }
+        ensures issued { IfOk result (λ post. post.own.issued ≡ 0) }
         ensures fault { MatchResult result (λ _. IsAllowed settings) (IsRefusal settings) }
     {
         let (desk, keeper) = LockedDesk::new(alloc, settings)?;
@@ -47,10 +49,11 @@ impl<J: Journal> Post<J> {
 
     /// A new operator of the desk, which has made nothing, and has seen what the keeper has seen.
     pub fn operator(&mut self) -> DeskOperator
-        ensures same { self.new ≡ self.old }
+        ensures issued { self.new ≡ issued_one self.old }
         ensures lock { result.lock ≡ self.old.lock }
         ensures seen { result.own.seen ≡ self.old.own.seen }
         ensures new { result.own.made ≡ [] }
+        ensures none { result.own.issued ≡ 0 }
     {
         self.keeper.operator(&self.desk)
     }

@@ -1,9 +1,9 @@
 //! The close of a list of desks.
 
-ghost use Rattle.std.specs.Prelude.{◌≡◌, ◌≢◌, ◌<◌, ◌≤◌, ◌+◌, ◌-◌, ◌^◌, ◌++◌, ◌↔◌, [], All, true, min, length, map, reverse, IfOk, IfErr, IsTrue, vec_len, vec_capacity};
+ghost use Rattle.std.specs.Prelude.{◌≡◌, ◌≢◌, ◌<◌, ◌≤◌, ◌+◌, ◌-◌, ◌^◌, ◌++◌, [], All, true, min, length, map, reverse, IfOk, IfErr, MatchBool, vec_len, vec_capacity};
 ghost use Rattle.logged_lock.specs.Log.{total_made};
 ghost use Rattle.tc_desk.specs.Log.{accounts_of};
-ghost use Rattle.tc_desk.specs.Together.{AreOurs, AreClosed, AreBalanced, AreMoments, AreOut, AreSame, IsFresh, IsRefusal, column, keepers_of, locks_of, settings_of, told_row, told_rows};
+ghost use Rattle.tc_desk.specs.Together.{AreOurs, AreClosed, AreMoments, AreOut, AreSame, CanCloseEach, CannotCloseOne, HasCause, IsFresh, IsRefusal, column, keepers_of, locks_of, settings_of, told_row, told_rows};
 
 use crate::held::HeldDesk;
 use crate::locked::DeskOperator;
@@ -47,7 +47,8 @@ pub enum Refusal {
     NoMemory,
     /// A lock isn't free. No call of this crate ends with a lock taken, so whoever owns the desks doesn't come to see it.
     Held,
-    /// At one of the desks the operators haven't made as many events as the channel's journal has; or there are 2^64 - 1 or more.
+    /// At one of the desks the operators haven't made as many events as the channel's journal has, and aren't all that its keeper issued; or
+    /// they have made 2^64 - 1 or more.
     Unbalanced,
 }
 
@@ -90,6 +91,7 @@ fn let_go<J: Journal>(held: HeldDesk<J>) -> Post<J>
     requires { IsFresh held }
     ensures lock { result.lock ≡ held.keeper.lock }
     ensures head { result.own.seen.head ≡ held.keeper.own.seen.head }
+    ensures issued { result.own.issued ≡ held.keeper.own.issued }
 {
     let (desk, keeper) = held.let_go();
     Post { desk, keeper }
@@ -140,13 +142,13 @@ fn count_at<C: Crew>(crews: &[C], place: usize) -> u64
     total
 }
 
-// Whether the operators at each of these desks have made as many events as its journal has.
-fn are_balanced<J: Journal, C: Crew>(held: &[HeldDesk<J>], crews: &[C]) -> bool
+// Whether the operators at each of these desks can close it.
+fn can_close_each<J: Journal, C: Crew>(held: &[HeldDesk<J>], crews: &[C]) -> bool
     requires { AreOurs (keepers_of held.now) (map C.at_desks crews.now) }
-    ensures { IsTrue result ↔ AreBalanced held.now (map C.at_desks crews.now) }
+    ensures { MatchBool result (CanCloseEach held.now (map C.at_desks crews.now)) (CannotCloseOne held.now (map C.at_desks crews.now)) }
 {
     for (place, desk) in held.iter().enumerate() {
-        if !desk.is_balanced(count_at(crews, place)) {
+        if !desk.can_close(crews.len(), count_at(crews, place)) {
             return false;
         }
     }
@@ -236,8 +238,8 @@ fn left_open<J: Journal, C: Drop>(
 }
 
 /// Takes the channels out of their locks, in the order of the desks, where all events of each journal were made by the
-/// operators of that desk. Two lists are allocated, before any lock is taken; all locks are taken, and all counts
-/// compared, before any desk is taken apart.
+/// operators of that desk: so it is where they are all that were issued. Two lists are allocated, before any lock is
+/// taken; all locks are taken, and all counts compared, before any desk is taken apart.
 pub fn close_together<J: Journal, C: Crew>(
     alloc: Global,
     posts: Vec<Post<J>>,
@@ -247,6 +249,7 @@ pub fn close_together<J: Journal, C: Crew>(
     ensures closed { IfOk result (λ channels. AreClosed posts.items (map C.at_desks crews.items) channels.items) }
     ensures kept { IfErr result (λ left. AreSame posts.items left.posts.items × (left.crews.items ≡ crews.items)) }
     ensures refusal { IfErr result (λ left. IsRefusal posts.items (map C.at_desks crews.items) left.refusal) }
+    ensures cause { IfErr result (λ left. left.refusal ≡ Refusal.Unbalanced → HasCause posts.items (map C.at_desks crews.items)) }
 {
     let Ok((room, hands)) = rooms(alloc, posts.len()) else {
         return Err(left_open(posts, crews, Refusal::NoMemory));
@@ -255,7 +258,8 @@ pub fn close_together<J: Journal, C: Crew>(
         Ok(both) => both,
         Err(posts) => return Err(left_open(posts, crews, Refusal::Held)),
     };
-    if !are_balanced(&held, &crews) {
+    let can_close = can_close_each(&held, &crews);
+    if !can_close {
         return Err(left_open(give_back(posts, held), crews, Refusal::Unbalanced));
     }
     tell_rows(&mut held, crews);

@@ -1,18 +1,19 @@
 -- The posts of a station, and the operators that are issued from them.
-use Rattle.std.proofs.Common.{◌≡◌, ℕ, zero, suc, ◌+◌, ◌<◌, List, [], ◌∷◌, length, map, get_or, replicate, take, drop, ◌++◌, refl, sym, ap, ◌∙◌, subst, arith, All}
+use Rattle.std.proofs.Common.{◌≡◌, ℕ, zero, suc, ◌+◌, ◌<◌, List, [], ◌∷◌, length, map, get_or, replicate, ◌≤◌, ◌-◌, ◌^◌, take, drop, ◌++◌, refl, sym, ap, ◌∙◌, subst, arith, All, ⊎_elim, inl, inr, set}
 use Rattle.std.specs.Prelude.{◌==◌, position, slice_get, Some}
 use Rattle.std.proofs.lemmas.Grind.{common_steps}
 use Rattle.std.proofs.lemmas.List.{length-map, get_or-map}
-use Rattle.std.proofs.lemmas.Option.{slice_get_read}
+use Rattle.std.proofs.lemmas.Option.{none-some, same_Some, slice_get_read}
 use Rattle.tc_channel.specs.declared.settings.Settings.{Settings}
 use Rattle.tc_channel.specs.Journal.{History}
 use Rattle.tc_desk.specs.{TableId}
-use Rattle.tc_desk.specs.Log.{AtLock, Identity}
-use Rattle.tc_desk.specs.Together.{AreClosed, AreOurs, AreSame, heads_of, locks_of, settings_of}
-use Rattle.tc_station.specs.Roster.{Roster, IsDeskOf}
+use Rattle.logged_lock.specs.Log.{total_made}
+use Rattle.tc_desk.specs.Log.{AtLock, Identity, accounts_of, issued_one}
+use Rattle.tc_desk.specs.Together.{AreClosed, AreOurs, AreSame, HasCause, column, heads_of, issued_of, locks_of, settings_of}
+use Rattle.tc_station.specs.Roster.{Roster, HaveIssued, IsDeskOf}
 use Rattle.tc_station.specs.StationSettings.{vcids_of}
-use Rattle.tc_station.specs.Tally.{AtStation, Tally, HasMadeNothing, IsOurs, KnowsDesks, arrival, counts_of, fresh, newcomer, tallies, tally}
-use Rattle.tc_station.specs.Together.{crews_of}
+use Rattle.tc_station.specs.Tally.{AtStation, Tally, HasMadeNothing, IsOurs, KnowsDesks, arrival, at_station, counts_of, fresh, issued_more, newcomer, tallies, tally}
+use Rattle.tc_station.specs.Together.{IsCause, crews_of}
 use Rattle.tc_station.proofs.Called.{id-of}
 
 -- the settings are in the heads
@@ -29,6 +30,132 @@ length-same old new same = sym (length-map new (λ (o : AtLock). o.lock)) ∙ (a
 
 pub ids-same : (vcids : List ℕ) (old new : List AtLock) → vcids_of (settings_of old) ≡ vcids → AreSame old new → vcids_of (settings_of new) ≡ vcids
 ids-same vcids old new ids same = ap vcids_of (same-settings old new same.1) ∙ ids
+
+pub issued-same : (n : ℕ) (old new : List AtLock) → HaveIssued n old → AreSame old new → HaveIssued n new
+issued-same n old new have same = subst (All (λ (i : ℕ). i ≡ n)) (sym same.2) have
+
+-- posts from which operators are issued, one after the other
+pub none-issued : (posts : List AtLock) → issued_more 0 posts ≡ posts
+none-issued [] = refl
+none-issued (p ∷ ps) =
+    let same : p.own.issued + 0 ≡ p.own.issued = omega arith in
+    λ i. record { lock = p.lock; own = record { seen = p.own.seen; made = p.own.made; issued = same i } } ∷ none-issued ps i
+
+pub one-issued : (n : ℕ) (posts : List AtLock) → map issued_one (issued_more n posts) ≡ issued_more (suc n) posts
+one-issued n [] = refl
+one-issued n (p ∷ ps) =
+    let more : suc (p.own.issued + n) ≡ p.own.issued + suc n = omega arith in
+    λ i. record { lock = p.lock; own = record { seen = p.own.seen; made = p.own.made; issued = more i } } ∷ one-issued n ps i
+
+pub length-more : (n : ℕ) (posts : List AtLock) → length (issued_more n posts) ≡ length posts
+length-more n [] = refl
+length-more n (p ∷ ps) = ap suc (length-more n ps)
+
+pub locks-more : (n : ℕ) (posts : List AtLock) → locks_of (issued_more n posts) ≡ locks_of posts
+locks-more n [] = refl
+locks-more n (p ∷ ps) = ap (λ (l : List TableId). p.lock ∷ l) (locks-more n ps)
+
+pub heads-more : (n : ℕ) (posts : List AtLock) → heads_of (issued_more n posts) ≡ heads_of posts
+heads-more n [] = refl
+heads-more n (p ∷ ps) = ap (λ (l : List Identity). p.own.seen.head ∷ l) (heads-more n ps)
+
+pub settings-more : (n : ℕ) (posts : List AtLock) → settings_of (issued_more n posts) ≡ settings_of posts
+settings-more n posts = same-settings posts (issued_more n posts) (heads-more n posts)
+
+pub arrivals-more : (n : ℕ) (posts : List AtLock) → map arrival (issued_more n posts) ≡ map arrival posts
+arrivals-more n [] = refl
+arrivals-more n (p ∷ ps) = ap (λ (l : List AtLock). arrival p ∷ l) (arrivals-more n ps)
+
+pub have-more : (n i : ℕ) (posts : List AtLock) → HaveIssued i posts → HaveIssued (i + n) (issued_more n posts)
+have-more n i [] have k d lt = absurd (omega (arith, lt))
+have-more n i (p ∷ ps) have zero d lt = let here = have 0 d (omega arith) in omega (arith, here)
+have-more n i (p ∷ ps) have (suc k) d lt = have-more n i ps (λ j e inside. have (suc j) e (omega (arith, inside))) k d (omega (arith, lt))
+
+-- one post more, which has issued as many
+pub have-end : (n : ℕ) (posts next : List AtLock) (p : AtLock) → next ≡ posts ++ p ∷ [] → HaveIssued n posts → p.own.issued ≡ n → HaveIssued n next
+have-end n posts next p is have one = subst (HaveIssued n) (sym is) (at-end posts have) where
+  at-end : (ps : List AtLock) → HaveIssued n ps → HaveIssued n (ps ++ p ∷ [])
+  at-end [] all zero d lt = one
+  at-end [] all (suc k) d lt = absurd (omega (arith, lt))
+  at-end (x ∷ ps) all zero d lt = all 0 d (omega arith)
+  at-end (x ∷ ps) all (suc k) d lt = at-end ps (λ j e inside. all (suc j) e (omega (arith, inside))) k d (omega (arith, lt))
+
+-- posts the first of which have issued one operator more
+pub issued_below : ℕ → List AtLock → List AtLock
+issued_below zero posts = posts
+issued_below (suc n) [] = []
+issued_below (suc n) (p ∷ ps) = issued_one p ∷ issued_below n ps
+
+pub below-none : (posts : List AtLock) → issued_below 0 posts ≡ posts
+unfolding issued_below
+below-none posts = refl
+
+pub below-at : (n : ℕ) (posts : List AtLock) (d : AtLock) → n < length posts → get_or (issued_below n posts) n d ≡ get_or posts n d
+unfolding issued_below
+below-at zero posts d lt = refl
+below-at (suc n) [] d lt = absurd (omega (arith, lt))
+below-at (suc n) (p ∷ ps) d lt = below-at n ps d (omega (arith, lt))
+
+pub below-step : (n : ℕ) (posts : List AtLock) (d : AtLock) → n < length posts → set (issued_below n posts) n (issued_one (get_or posts n d)) ≡ issued_below (suc n) posts
+unfolding issued_below
+below-step zero [] d lt = absurd (omega (arith, lt))
+below-step zero (p ∷ ps) d lt = refl
+below-step (suc n) [] d lt = absurd (omega (arith, lt))
+below-step (suc n) (p ∷ ps) d lt = ap (λ (l : List AtLock). issued_one p ∷ l) (below-step n ps d (omega (arith, lt)))
+
+pub below-length : (n : ℕ) (posts : List AtLock) → length (issued_below n posts) ≡ length posts
+unfolding issued_below
+below-length zero posts = refl
+below-length (suc n) [] = refl
+below-length (suc n) (p ∷ ps) = ap suc (below-length n ps)
+
+pub below-all : (n : ℕ) (posts : List AtLock) → length posts ≤ n → issued_below n posts ≡ map issued_one posts
+unfolding issued_below
+below-all zero [] le = refl
+below-all zero (p ∷ ps) le = absurd (omega (arith, le))
+below-all (suc n) [] le = refl
+below-all (suc n) (p ∷ ps) le = ap (λ (l : List AtLock). issued_one p ∷ l) (below-all n ps (omega (arith, le)))
+
+-- one post more has issued an operator
+pub station-step : (old now : List AtLock) (n : ℕ) (d next : AtLock) → now ≡ issued_below n old → n < length old → d ≡ get_or now n d → next ≡ issued_one d → set now n next ≡ issued_below (n + 1) old
+station-step old now n d next is lt here one =
+    let there : d ≡ get_or old n d = here ∙ (ap (λ (l : List AtLock). get_or l n d) is ∙ below-at n old d lt) in
+    let more : n + 1 ≡ suc n = omega arith in
+    (λ i. set (is i) n (one i)) ∙ (ap (λ (x : AtLock). set (issued_below n old) n (issued_one x)) there ∙ (below-step n old d lt ∙ ap (λ (k : ℕ). issued_below k old) (sym more)))
+
+pub arrives : (d o : AtLock) → o.lock ≡ d.lock → o.own.seen ≡ d.own.seen → o.own.made ≡ [] → o.own.issued ≡ 0 → o ≡ arrival d
+arrives d o lock seen made issued = λ i. record { lock = lock i; own = record { seen = seen i; made = made i; issued = issued i } }
+
+arrival-one : (old : List AtLock) (n : ℕ) (d : AtLock) → n < length old → map arrival (take n old) ++ arrival (get_or old n d) ∷ [] ≡ map arrival (take (suc n) old)
+arrival-one [] n d lt = absurd (omega (arith, lt))
+arrival-one (p ∷ ps) zero d lt = refl
+arrival-one (p ∷ ps) (suc n) d lt = ap (λ (l : List AtLock). arrival p ∷ l) (arrival-one ps n d (omega (arith, lt)))
+
+-- and one more has arrived
+pub arrival-step : (old now : List AtLock) (before after : List AtLock) (n : ℕ) (d o : AtLock) → now ≡ issued_below n old → n < length old → d ≡ get_or now n d → o ≡ arrival d → before ≡ map arrival (take n old)
+    → after ≡ before ++ o ∷ [] → after ≡ map arrival (take (n + 1) old)
+arrival-step old now before after n d o is lt here one so pushed =
+    let there : d ≡ get_or old n d = here ∙ (ap (λ (l : List AtLock). get_or l n d) is ∙ below-at n old d lt) in
+    let more : n + 1 ≡ suc n = omega arith in
+    pushed ∙ ((λ i. so i ++ one i ∷ []) ∙ (ap (λ (x : AtLock). map arrival (take n old) ++ arrival x ∷ []) there ∙ (arrival-one old n d lt ∙ ap (λ (k : ℕ). map arrival (take k old)) (sym more))))
+
+pub replicate-end : (n : ℕ) (o : AtStation) → replicate n o ++ o ∷ [] ≡ replicate (suc n) o
+replicate-end zero o = refl
+replicate-end (suc n) o = ap (λ (l : List AtStation). o ∷ l) (replicate-end n o)
+
+-- operators that are issued, one after the other
+pub issue-first : (vcids : List ℕ) (posts : List AtLock) (operators : List AtStation) (k : ℕ) → k ≡ 0 → operators ≡ [] → (posts ≡ issued_more k posts) × (operators ≡ replicate k (newcomer vcids posts))
+issue-first vcids posts operators k none empty =
+    subst (λ (j : ℕ). (posts ≡ issued_more j posts) × (operators ≡ replicate j (newcomer vcids posts))) (sym none) (sym (none-issued posts), empty)
+
+pub issue-step : (vcids : List ℕ) (first now after : List AtLock) (k next : ℕ) (before operators : List AtStation) (o : AtStation) → vcids_of (settings_of now) ≡ vcids → now ≡ issued_more k first → next ≡ k + 1 → after ≡ map issued_one now
+    → o ≡ newcomer (vcids_of (settings_of now)) now → before ≡ replicate k (newcomer vcids first) → operators ≡ before ++ o ∷ [] → (after ≡ issued_more next first) × (operators ≡ replicate next (newcomer vcids first))
+issue-step vcids first now after k next before operators o ids is count issued one so pushed =
+    let more : suc k ≡ next = omega (arith, count) in
+    let newest : o ≡ newcomer vcids first = one ∙ (ap (λ (v : List ℕ). newcomer v now) ids ∙ ap (λ (l : List AtLock). at_station vcids l) (ap (λ (l : List AtLock). map arrival l) is ∙ arrivals-more k first)) in (
+      issued ∙ (ap (λ (l : List AtLock). map issued_one l) is ∙ (one-issued k first ∙ ap (λ (j : ℕ). issued_more j first) more)),
+      pushed ∙ ((λ i. so i ++ newest i ∷ []) ∙ (replicate-end k (newcomer vcids first) ∙ ap (λ (j : ℕ). replicate j (newcomer vcids first)) more)),
+    )
 
 -- operators of the station are a crew of its desks
 pub are-ours : (station : Roster) (posts : List AtLock) (operators : List AtStation) → station.locks ≡ locks_of posts → All (IsOurs station) operators → AreOurs posts (crews_of operators)
@@ -107,16 +234,16 @@ desk-of station posts place vcid post ids heads is at =
 abbrev pub at_posts : ℕ → List ℕ → ℕ → List AtLock → Roster
 at_posts scid vcids issued posts = record { scid = scid; vcids = vcids; issued = issued; locks = locks_of posts; heads = heads_of posts }
 
--- posts that were written through a slice over all of them, and are as they were
-pub written-posts : (n : ℕ) (old new : List AtLock) → new ≡ old → n ≡ length old → take n (new ++ drop (length new) old) ≡ old
-written-posts n old new same long =
-    let as-long : length new ≡ length old = ap (length {A = AtLock}) same in
+-- posts that were written through a slice over all of them
+pub written-posts : (n : ℕ) (old new next : List AtLock) → new ≡ next → length next ≡ length old → n ≡ length old → take n (new ++ drop (length new) old) ≡ next
+written-posts n old new next same as-many long =
+    let as-long : length new ≡ length old = ap (length {A = AtLock}) same ∙ as-many in
     let whole : take n (new ++ drop (length new) old) ≡ new = grind (arith, common_steps) in
     whole ∙ same
 
-pub more-issued : (station : Roster) (scid issued n more : ℕ) (vcids : List ℕ) (old new : List AtLock) → at_posts scid vcids issued old ≡ station → new ≡ old → more ≡ issued + n → at_posts scid vcids more new ≡ record station { issued = station.issued + n }
+pub more-issued : (station : Roster) (scid issued n more : ℕ) (vcids : List ℕ) (old new : List AtLock) → at_posts scid vcids issued old ≡ station → new ≡ issued_more n old → more ≡ issued + n → at_posts scid vcids more new ≡ record station { issued = station.issued + n }
 more-issued station scid issued n more vcids old new is same sum =
-    (λ i. at_posts scid vcids (sum i) (same i)) ∙ ap (λ (r : Roster). record r { issued = r.issued + n }) is
+    (λ i. at_posts scid vcids (sum i) (same i)) ∙ (λ i. record { scid = scid; vcids = vcids; issued = issued + n; locks = locks-more n old i; heads = heads-more n old i }) ∙ ap (λ (r : Roster). record r { issued = r.issued + n }) is
 
 settings-each : (posts : List AtLock) (closed : List History) → length closed ≡ length posts
     → ((place : ℕ) (post : AtLock) (channel : History) → slice_get posts place ≡ Some post → slice_get closed place ≡ Some channel → channel.settings ≡ post.own.seen.head.settings) → map (λ (h : History). h.settings) closed ≡ settings_of posts
@@ -131,3 +258,23 @@ settings-each (p ∷ ps) (h ∷ hs) long each =
 -- closed channels have the settings of their desks
 pub closed-settings : (posts : List AtLock) (crews : List (List AtLock)) (closed : List History) → AreClosed posts crews closed → map (λ (h : History). h.settings) closed ≡ settings_of posts
 closed-settings posts crews closed are = settings-each posts closed are.as_many (λ place post channel at there. (are.each place post channel at there).settings)
+
+-- the cause at one desk is the station's
+all-at : (n : ℕ) (posts : List AtLock) (place : ℕ) (post : AtLock) → HaveIssued n posts → slice_get posts place ≡ Some post → post.own.issued ≡ n
+all-at n [] place post have at = absurd (none-some post at)
+all-at n (p ∷ ps) zero post have at = ap (λ (x : AtLock). x.own.issued) (sym (same_Some p post at)) ∙ have 0 0 (omega arith)
+all-at n (p ∷ ps) (suc place) post have at = all-at n ps place post (λ k d inside. have (suc k) d (omega (arith, inside))) at
+
+many-there : (operators : List AtStation) (place : ℕ) → length (accounts_of (column place (crews_of operators))) ≡ length operators
+many-there [] place = refl
+many-there (o ∷ os) place = ap suc (many-there os place)
+
+pub station-cause : (station : Roster) (posts : List AtLock) (operators : List AtStation) → HaveIssued station.issued posts → HasCause posts (crews_of operators) → IsCause station operators
+station-cause station posts operators have cause =
+    let place = cause.0 in
+    let issued : cause.1.own.issued ≡ station.issued = all-at station.issued posts place cause.1 have cause.2 in
+    let many = many-there operators place in
+    ⊎_elim
+    (λ (missing : length (accounts_of (column place (crews_of operators))) < cause.1.own.issued). inl (omega (arith, missing, issued, many)))
+    (λ (over : 2 ^ 64 - 1 ≤ total_made (accounts_of (column place (crews_of operators)))). inr (place, over))
+    cause.3

@@ -12,3 +12,4 @@ pub mod Lowest
 pub mod Tried
 pub mod Work
 pub mod Through
+pub mod Room

@@ -1,10 +1,10 @@
 -- What a contract sees of a station: its spacecraft id, the ids of its virtual channels in order, and how many operators it has
 -- issued; and of the desk of each channel its lock, and what never changes of it.
-use Rattle.std.specs.Prelude.{◌≡◌, ◌==◌, ℕ, List, map, position, slice_get, Some}
+use Rattle.std.specs.Prelude.{◌≡◌, ◌==◌, ℕ, List, All, map, position, slice_get, Some}
 use Rattle.tc_channel.specs.declared.settings.Settings.{Settings}
 use Rattle.tc_desk.specs.{TableId}
 use Rattle.tc_desk.specs.Log.{Identity, AtLock}
-use Rattle.tc_desk.specs.Together.{locks_of, heads_of}
+use Rattle.tc_desk.specs.Together.{locks_of, heads_of, issued_of}
 
 pub record Roster : Type 0 where
   pub scid : ℕ
@@ -25,6 +25,10 @@ IsPlace station vcid place = position (λ v. v == vcid) station.vcids ≡ Some p
 abbrev pub IsDeskOf : Roster → ℕ → Identity → Type 0
 IsDeskOf station vcid head = (place : ℕ) × IsPlace station vcid place × (slice_get station.heads place ≡ Some head)
 
--- what the keepers of its desks have seen
+-- each of these posts has issued so many operators
+abbrev pub HaveIssued : ℕ → List AtLock → Type 0
+HaveIssued n posts = All (λ (i : ℕ). i ≡ n) (issued_of posts)
+
+-- what the keepers of its desks have seen and issued
 abbrev pub ArePostsOf : Roster → List AtLock → Type 0
-ArePostsOf station posts = (locks_of posts ≡ station.locks) × (heads_of posts ≡ station.heads)
+ArePostsOf station posts = (locks_of posts ≡ station.locks) × (heads_of posts ≡ station.heads) × HaveIssued station.issued posts

@@ -30,11 +30,15 @@ at_station vcids desks = record { vcids = vcids; counts = counts_of desks; desks
 
 -- who has made nothing at a desk, and has seen what its keeper has
 abbrev pub arrival : AtLock → AtLock
-arrival post = record { lock = post.lock; own = record { seen = post.own.seen; made = [] } }
+arrival post = record { lock = post.lock; own = record { seen = post.own.seen; made = []; issued = 0 } }
 
 -- the same at each of these desks
 abbrev pub newcomer : List ℕ → List AtLock → AtStation
 newcomer vcids posts = at_station vcids (map arrival posts)
+
+-- so many operators more were issued from each of these posts
+abbrev pub issued_more : ℕ → List AtLock → List AtLock
+issued_more n posts = map (λ (p : AtLock). record { lock = p.lock; own = record { seen = p.own.seen; made = p.own.made; issued = p.own.issued + n } }) posts
 
 -- it works at the desks of this station
 abbrev pub IsOurs : Roster → AtStation → Type 0

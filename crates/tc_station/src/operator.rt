@@ -1,13 +1,15 @@
 //! Operators: who makes operations on the channels of a station.
 
-ghost use Rattle.std.specs.Prelude.{◌≡◌, ◌==◌, ◌<◌, length, map, position, slice_index, IfOk, MatchOption, Contains};
+ghost use Rattle.std.specs.Prelude.{◌≡◌, ◌==◌, ◌<◌, ◌≤◌, [], vec_capacity, length, map, position, slice_index, IfOk, MatchOption, Contains};
+ghost use Rattle.tc_desk.specs.Log.{issued_one};
 ghost use Rattle.tc_desk.specs.Together.{settings_of};
 ghost use Rattle.tc_station.specs.StationSettings.{vcids_of};
+ghost use Rattle.tc_station.specs.Room.{IsRoomFor};
 ghost use Rattle.tc_station.specs.Tally.{count_in, tally, newcomer, arrival};
 
 use std::alloc::{AllocError, Global};
 use std::marker::Model;
-use tc_channel::{Journal, NoMemory};
+use tc_channel::Journal;
 use tc_desk::{Crew, DeskOperator, Post};
 
 /// Someone who makes operations on the channels of a station, and counts those that were answered, channel by channel.
@@ -53,36 +55,50 @@ pub(crate) fn place_of(vcids: &[u8], vcid: u8) -> Option<usize>
     vcids.iter().position(|v| *v == vcid)
 }
 
-// An operator at each of these desks, which has made nothing.
+/// Room for an operator: the ids of its channels, and a list for its operators at their desks.
+#[derive(Drop)]
+pub(crate) struct Room {
+    vcids: Vec<u8>,
+    desks: Vec<DeskOperator>,
+}
+
+impl Room {
+    /// Room for an operator of channels with these ids.
+    pub(crate) fn new(alloc: Global, vcids: &[u8]) -> Result<Room, AllocError>
+        ensures { IfOk result (IsRoomFor vcids.now) }
+    {
+        let desks = Vec::with_capacity(alloc, vcids.len())?;
+        let vcids = Vec::from_slice(alloc, vcids)?;
+        Ok(Room { vcids, desks })
+    }
+}
+
+// An operator at each of these desks, which has made nothing, in a list with room for them.
 fn desk_operators<J: Journal>(
-    alloc: Global,
+    mut operators: Vec<DeskOperator>,
     posts: &mut [Post<J>],
-) -> Result<Vec<DeskOperator>, AllocError>
-    ensures same { posts.new ≡ posts.old }
-    ensures operators { IfOk result (λ operators. operators.items ≡ map arrival posts.old) }
+) -> Vec<DeskOperator>
+    requires empty { operators.items ≡ [] }
+    requires room { length posts.old ≤ vec_capacity operators }
+    ensures issued { posts.new ≡ map issued_one posts.old }
+    ensures operators { result.items ≡ map arrival posts.old }
 {
-    let mut operators = Vec::with_capacity(alloc, posts.len())?;
     for place in 0..posts.len() {
         operators.push_reserved(posts[place].operator());
     }
-    Ok(operators)
+    operators
 }
 
 impl Operator {
     /// An operator that has made nothing, and has seen what the keepers of these desks have seen.
-    pub(crate) fn new<J: Journal>(
-        alloc: Global,
-        vcids: &[u8],
-        posts: &mut [Post<J>],
-    ) -> Result<Operator, NoMemory>
-        requires ids { vcids_of (settings_of posts.old) ≡ vcids.now }
-        ensures same { posts.new ≡ posts.old }
-        ensures operator { IfOk result (λ operator. operator ≡ newcomer vcids.now posts.old) }
+    pub(crate) fn new<J: Journal>(room: Room, posts: &mut [Post<J>]) -> Operator
+        requires room { IsRoomFor (vcids_of (settings_of posts.old)) room }
+        ensures issued { posts.new ≡ map issued_one posts.old }
+        ensures operator { result ≡ newcomer (vcids_of (settings_of posts.old)) posts.old }
     {
-        Ok(Operator {
-            vcids: Vec::from_slice(alloc, vcids)?,
-            desks: desk_operators(alloc, posts)?,
-        })
+        let Room { vcids, desks } = room;
+        let desks = desk_operators(desks, posts);
+        Operator { vcids, desks }
     }
 
     /// How many of its operations on this channel were answered; 2^64 - 1 is for as many or more. None: no such channel.

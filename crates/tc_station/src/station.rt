@@ -8,7 +8,8 @@ ghost use Rattle.tc_status.specs.Board.{IsBeginning};
 ghost use Rattle.tc_desk.specs.Call as at_desk;
 ghost use Rattle.tc_desk.specs.Together.{settings_of};
 ghost use Rattle.tc_station.specs.Roster.{IsDeskOf, IsPlace, settings_in};
-ghost use Rattle.tc_station.specs.Tally.{HasMadeNothing, KnowsDesks, IsOurs, counted, fresh, newcomer, tally};
+ghost use Rattle.tc_station.specs.Room.{IsRoomFor};
+ghost use Rattle.tc_station.specs.Tally.{HasMadeNothing, KnowsDesks, IsOurs, counted, fresh, issued_more, newcomer, tally};
 ghost use Rattle.tc_station.specs.Call.{IsBringCall, IsCallAt, IsCallOn, IsNotBrought, IsNotBroughtWatched, IsNotReleased, IsNotTaken, IsReplied, IsRepliedWatched, IsUnitNotTaken};
 ghost use Rattle.tc_station.specs.Balance.{AreInBalance};
 ghost use Rattle.tc_channel.specs.Journal.{IsNumberTold};
@@ -20,9 +21,9 @@ use crate::faults::{
     StationFault, TakeRefused, TakeUnitRefused, WatcherFault,
 };
 use crate::guest::{Passing, Summing};
-use crate::operator::{Operator, place_of};
+use crate::operator::{Operator, Room, place_of};
 use crate::work::Gate;
-use std::alloc::Global;
+use std::alloc::{AllocError, Global};
 use std::marker::Model;
 use std::sync::Wait;
 use tc_channel::{
@@ -81,14 +82,14 @@ pub struct StillOpen<J: Journal> {
 impl<J: Journal> Model for StationOf<J> {
     ghost use Rattle.std.specs.Prelude.{◌≡◌, vec_len};
     ghost use Rattle.tc_desk.specs.Together.{locks_of, heads_of, settings_of};
-    ghost use Rattle.tc_station.specs.Roster.{Roster};
+    ghost use Rattle.tc_station.specs.Roster.{Roster, HaveIssued};
     ghost use Rattle.tc_station.specs.StationSettings.{vcids_of};
 
     ghost Value = { Roster };
 
     ghost view = { λ s. record { scid = s.scid; vcids = s.vcids.items; issued = s.issued; locks = locks_of s.desks.items; heads = heads_of s.desks.items } };
 
-    ghost invariant = { λ s. (vec_len s.desks ≡ vec_len s.vcids) × (vcids_of (settings_of s.desks.items) ≡ s.vcids.items) };
+    ghost invariant = { λ s. (vec_len s.desks ≡ vec_len s.vcids) × (vcids_of (settings_of s.desks.items) ≡ s.vcids.items) × HaveIssued s.issued s.desks.items };
 }
 
 impl<J: Journal> StationOf<J> {
@@ -96,7 +97,7 @@ impl<J: Journal> StationOf<J> {
     ghost use Rattle.tc_station.specs.Moments.{AtSomeMomentOf, IsBrought, IsBroughtWatched, IsReleased, IsTaken, IsUnitTaken, IsWatched, IsWatcherOf};
     ghost use Rattle.tc_station.specs.Faults.{IsReleaseRefused, IsTakeRefused, IsTakeUnitRefused, IsWatcherFault};
     ghost use Rattle.tc_station.specs.Holding.{IsHolding, IsHoldingOf, IsHoldingFault};
-    ghost use Rattle.tc_station.specs.Together.{AreClosedTogether, IsNotClosedTogether};
+    ghost use Rattle.tc_station.specs.Together.{AreClosedTogether, IsNotClosedTogether, IsCause};
     ghost use Rattle.tc_desk.specs.Log.{Moment};
     ghost use Rattle.tc_desk.specs.Call.{IsMoment};
 
@@ -138,7 +139,8 @@ impl<J: Journal> StationOf<J> {
         Ok((place, Located { vcid, frame }))
     }
 
-    /// Issues operators: at most 65,535 over the station's life. Each takes a list of ids and one of its operators at the desks.
+    /// Issues operators: at most 65,535 over the station's life. Each takes a list of ids and one of its operators at the desks. All memory is
+    /// taken before the first is issued.
     pub fn operators(&mut self, n: u16) -> Result<Vec<Operator>, OperatorsFault>
         ensures fresh { IfOk result (λ operators. map tally operators.items ≡ replicate n (fresh self.old.vcids)) }
         ensures new { IfOk result (λ operators. All HasMadeNothing operators.items) }
@@ -390,9 +392,10 @@ impl<J: Journal> StationOf<J> {
         }
     }
 
-    /// Ends the station: takes the channels out of their locks, where its operators have made all events of their journals. The
-    /// journal of each channel is then a merge of what they made, and what each of them had seen is a beginning of it. Two lists
-    /// are allocated, before any lock is taken. What follows for a sender is [`from_a_sender_to_packets`](crate::from_a_sender_to_packets).
+    /// Ends the station: takes the channels out of their locks, where its operators have made all events of their journals. So it is
+    /// where all that it issued come, and have made fewer than 2^64 - 1 of each channel. The journal of each channel is then a merge
+    /// of what they made, and what each of them had seen is a beginning of it. Two lists are allocated, before any lock is taken.
+    /// What follows for a sender is [`from_a_sender_to_packets`](crate::from_a_sender_to_packets).
     pub fn close_together(
         self,
         operators: Vec<Operator>,
@@ -402,6 +405,7 @@ impl<J: Journal> StationOf<J> {
         ensures channels { IfOk result (λ channels. map (λ c. c.settings) channels.items ≡ settings_in self) }
         ensures kept { IfErr result (λ left. (left.station ≡ self) × (left.operators.items ≡ operators.items)) }
         ensures refusal { IfErr result (λ left. IsNotClosedTogether self operators.items left.refusal) }
+        ensures cause { IfErr result (λ left. left.refusal ≡ Refusal.Unbalanced → IsCause self operators.items) }
     {
         let StationOf {
             alloc,
@@ -412,23 +416,22 @@ impl<J: Journal> StationOf<J> {
         } = self;
         match close_together(alloc, desks, operators) {
             Ok(channels) => Ok(channels),
-            Err(
-                LeftOpen {
-                    posts,
-                    crews,
-                    refusal,
-                },
-            ) => Err(StillOpen {
-                station: StationOf {
+            Err(left) => {
+                let refusal = left.refusal;
+                let LeftOpen { posts, crews, .. } = left;
+                let station = StationOf {
                     alloc,
                     scid,
                     vcids,
                     issued,
                     desks: posts,
-                },
-                operators: crews,
-                refusal,
-            }),
+                };
+                Err(StillOpen {
+                    station,
+                    operators: crews,
+                    refusal,
+                })
+            }
         }
     }
 }
@@ -569,20 +572,34 @@ fn start<J: Journal>(
     })
 }
 
-// Operators that have made nothing.
+// Room for so many operators of channels with these ids.
+fn rooms(alloc: Global, vcids: &[u8], n: u16) -> Result<Vec<Room>, AllocError>
+    ensures many { IfOk result (λ rooms. vec_len rooms ≡ n) }
+    ensures each { IfOk result (λ rooms. All (IsRoomFor vcids.now) rooms.items) }
+{
+    let mut rooms = Vec::with_capacity(alloc, usize::from(n))?;
+    for _ in 0..n {
+        rooms.push_reserved(Room::new(alloc, vcids)?);
+    }
+    Ok(rooms)
+}
+
+// Operators that have made nothing: so many, or none.
 fn issue<J: Journal>(
     alloc: Global,
     vcids: &[u8],
     posts: &mut [Post<J>],
     n: u16,
-) -> Result<Vec<Operator>, NoMemory>
+) -> Result<Vec<Operator>, AllocError>
     requires ids { vcids_of (settings_of posts.old) ≡ vcids.now }
-    ensures same { posts.new ≡ posts.old }
+    ensures issued { IfOk result (λ _. posts.new ≡ issued_more n posts.old) }
+    ensures refused { IfErr result (λ _. posts.new ≡ posts.old) }
     ensures operators { IfOk result (λ operators. operators.items ≡ replicate n (newcomer vcids.now posts.old)) }
 {
+    let mut rooms = rooms(alloc, vcids, n)?;
     let mut operators = Vec::with_capacity(alloc, usize::from(n))?;
-    for _ in 0..n {
-        operators.push_reserved(Operator::new(alloc, vcids, posts)?);
+    while let Some(room) = rooms.pop() {
+        operators.push_reserved(Operator::new(room, posts));
     }
     Ok(operators)
 }

@@ -1,5 +1,6 @@
 //! One thread with several seats.
 
+ghost use Rattle.std.specs.Prelude.{◌≡◌};
 ghost use Rattle.lock_tests.specs.Book.{IsAtRest};
 
 use super::*;
@@ -11,6 +12,7 @@ fn fails_meanwhile<R: Wait>(rt: &R, lock: &BookLock, one: &mut BookSeat, two: &m
     requires two { IsAtRest lock.now two.old }
     ensures one { IsAtRest lock.now one.new }
     ensures two { IsAtRest lock.now two.new }
+    ensures same { (one.new.me.0.maker ≡ one.old.me.0.maker) × (two.new.me.0.maker ≡ two.old.me.0.maker) }
 {
     lock.lock(rt, one);
     let free = try_turn(lock, two);

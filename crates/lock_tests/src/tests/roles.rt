@@ -1,6 +1,6 @@
 //! What a thread does with its seat, and two threads that do it at the same time.
 
-ghost use Rattle.lock_tests.specs.Book.{IsAtRest};
+ghost use Rattle.lock_tests.specs.Book.{IsWriter};
 
 use super::*;
 use std::rt::Clock;
@@ -29,8 +29,8 @@ pub(super) enum Role {
 
 // Writes the numbers from this one on, one a turn. Says whether none was refused.
 fn write_all<R: Wait>(rt: &R, lock: &BookLock, seat: &mut BookSeat, first: u32) -> bool
-    requires { IsAtRest lock.now seat.old }
-    ensures { IsAtRest lock.now seat.new }
+    requires { IsWriter lock.now seat.old }
+    ensures { IsWriter lock.now seat.new }
 {
     let mut done = true;
     for turn in 0..TURNS {
@@ -60,8 +60,8 @@ fn have_for_long<R: Wait + Clock>(
     seat: &mut BookSeat,
     taken: &AtomicBool,
 ) -> bool
-    requires { IsAtRest lock.now seat.old }
-    ensures { IsAtRest lock.now seat.new }
+    requires { IsWriter lock.now seat.old }
+    ensures { IsWriter lock.now seat.new }
 {
     lock.lock(rt, seat);
     taken.store(true, Ordering::SeqCst);
@@ -72,8 +72,8 @@ fn have_for_long<R: Wait + Clock>(
 
 // Writes the number once the lock is taken. Says whether it was written.
 fn write_behind<R: Wait>(rt: &R, lock: &BookLock, seat: &mut BookSeat, taken: &AtomicBool) -> bool
-    requires { IsAtRest lock.now seat.old }
-    ensures { IsAtRest lock.now seat.new }
+    requires { IsWriter lock.now seat.old }
+    ensures { IsWriter lock.now seat.new }
 {
     comes_true(taken, 100_000_000) && write(rt, lock, seat, 1)
 }
@@ -85,8 +85,8 @@ fn have_it_all_the_time<R: Wait>(
     seat: &mut BookSeat,
     done: &AtomicBool,
 ) -> bool
-    requires { IsAtRest lock.now seat.old }
-    ensures { IsAtRest lock.now seat.new }
+    requires { IsWriter lock.now seat.old }
+    ensures { IsWriter lock.now seat.new }
 {
     for _ in 0..u32::MAX {
         if done.load(Ordering::SeqCst) {
@@ -104,8 +104,8 @@ fn write_now_and_then<R: Wait>(
     seat: &mut BookSeat,
     done: &AtomicBool,
 ) -> bool
-    requires { IsAtRest lock.now seat.old }
-    ensures { IsAtRest lock.now seat.new }
+    requires { IsWriter lock.now seat.old }
+    ensures { IsWriter lock.now seat.new }
 {
     for number in 0..100u32 {
         write(rt, lock, seat, number);
@@ -123,8 +123,8 @@ fn act<R: Wait + Clock>(
     flag: &AtomicBool,
     role: Role,
 ) -> bool
-    requires { IsAtRest lock.now seat.old }
-    ensures { IsAtRest lock.now seat.new }
+    requires { IsWriter lock.now seat.old }
+    ensures { IsWriter lock.now seat.new }
 {
     match role {
         Role::Write(first) => write_all(rt, lock, seat, first),
@@ -143,20 +143,20 @@ pub(super) fn side_by_side<R: Threads + Wait + Clock + Sync>(
     two: &mut BookSeat,
     roles: (Role, Role),
 ) -> bool
-    requires one { IsAtRest lock.now one.old }
-    requires two { IsAtRest lock.now two.old }
-    ensures one { IsAtRest lock.now one.new }
-    ensures two { IsAtRest lock.now two.new }
+    requires one { IsWriter lock.now one.old }
+    requires two { IsWriter lock.now two.old }
+    ensures one { IsWriter lock.now one.new }
+    ensures two { IsWriter lock.now two.new }
 {
     let flag = AtomicBool::new(false);
     let (first_role, second_role) = roles;
     let mut first = || -> bool
-        requires { IsAtRest lock.now one.now }
-        ensures { IsAtRest lock.entry.now one.exit.now }
+        requires { IsWriter lock.now one.now }
+        ensures { IsWriter lock.entry.now one.exit.now }
     { act(rt, lock, one, &flag, first_role) };
     let mut second = || -> bool
-        requires { IsAtRest lock.now two.now }
-        ensures { IsAtRest lock.entry.now two.exit.now }
+        requires { IsWriter lock.now two.now }
+        ensures { IsWriter lock.entry.now two.exit.now }
     { act(rt, lock, two, &flag, second_role) };
     let (a, b) = join_mut(rt, &mut first, &mut second);
     a && b

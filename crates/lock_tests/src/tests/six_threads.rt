@@ -4,7 +4,7 @@
 
 ghost use Rattle.std.specs.Prelude.{◌≡◌, true};
 ghost use Rattle.std.specs.Thread.{IsSync};
-ghost use Rattle.lock_tests.specs.Book.{IsAtRest};
+ghost use Rattle.lock_tests.specs.Book.{IsWriter};
 
 use super::roles::{Role, TURNS, side_by_side};
 use super::*;
@@ -21,9 +21,9 @@ struct Writer {
 
 impl Writer {
     fn new(lock: &BookLock, first: &mut BookSeat, number: u32) -> Writer
-        requires { IsAtRest lock.now first.old }
-        ensures first { IsAtRest lock.now first.new × (first.new.id ≡ first.old.id) }
-        ensures rest { IsAtRest lock.now result.seat }
+        requires { IsWriter lock.now first.old }
+        ensures first { IsWriter lock.now first.new × (first.new.id ≡ first.old.id) }
+        ensures rest { IsWriter lock.now result.seat }
     {
         Writer {
             seat: lock.issue(first),
@@ -41,10 +41,10 @@ struct Pair {
 impl Pair {
     // Two writers, who write the numbers from this one on.
     fn new(lock: &BookLock, first: &mut BookSeat, number: u32) -> Pair
-        requires { IsAtRest lock.now first.old }
-        ensures first { IsAtRest lock.now first.new × (first.new.id ≡ first.old.id) }
-        ensures one { IsAtRest lock.now result.one.seat }
-        ensures two { IsAtRest lock.now result.two.seat }
+        requires { IsWriter lock.now first.old }
+        ensures first { IsWriter lock.now first.new × (first.new.id ≡ first.old.id) }
+        ensures one { IsWriter lock.now result.one.seat }
+        ensures two { IsWriter lock.now result.two.seat }
     {
         let one = Writer::new(lock, first, number);
         let two = Writer::new(lock, first, number.saturating_add(TURNS));
@@ -53,10 +53,10 @@ impl Pair {
 
     // Both write, each in a thread of its own.
     fn work<R: Threads + Wait + Clock + Sync>(&mut self, rt: &R, lock: &BookLock) -> bool
-        requires one { IsAtRest lock.now self.old.one.seat }
-        requires two { IsAtRest lock.now self.old.two.seat }
-        ensures one { IsAtRest lock.now self.new.one.seat }
-        ensures two { IsAtRest lock.now self.new.two.seat }
+        requires one { IsWriter lock.now self.old.one.seat }
+        requires two { IsWriter lock.now self.old.two.seat }
+        ensures one { IsWriter lock.now self.new.one.seat }
+        ensures two { IsWriter lock.now self.new.two.seat }
     {
         let roles = (Role::Write(self.one.first), Role::Write(self.two.first));
         side_by_side(rt, lock, &mut self.one.seat, &mut self.two.seat, roles)
@@ -73,23 +73,23 @@ struct Six {
 impl Six {
     // All six write, each in a thread of its own.
     fn work<R: Threads + Wait + Clock + Sync>(&mut self, rt: &R, lock: &BookLock) -> bool
-        requires one { IsAtRest lock.now self.old.one.one.seat × IsAtRest lock.now self.old.one.two.seat }
-        requires two { IsAtRest lock.now self.old.two.one.seat × IsAtRest lock.now self.old.two.two.seat }
-        requires three { IsAtRest lock.now self.old.three.one.seat × IsAtRest lock.now self.old.three.two.seat }
-        ensures one { IsAtRest lock.now self.new.one.one.seat × IsAtRest lock.now self.new.one.two.seat }
-        ensures two { IsAtRest lock.now self.new.two.one.seat × IsAtRest lock.now self.new.two.two.seat }
-        ensures three { IsAtRest lock.now self.new.three.one.seat × IsAtRest lock.now self.new.three.two.seat }
+        requires one { IsWriter lock.now self.old.one.one.seat × IsWriter lock.now self.old.one.two.seat }
+        requires two { IsWriter lock.now self.old.two.one.seat × IsWriter lock.now self.old.two.two.seat }
+        requires three { IsWriter lock.now self.old.three.one.seat × IsWriter lock.now self.old.three.two.seat }
+        ensures one { IsWriter lock.now self.new.one.one.seat × IsWriter lock.now self.new.one.two.seat }
+        ensures two { IsWriter lock.now self.new.two.one.seat × IsWriter lock.now self.new.two.two.seat }
+        ensures three { IsWriter lock.now self.new.three.one.seat × IsWriter lock.now self.new.three.two.seat }
     {
         let one = &mut self.one;
         let two = &mut self.two;
         let three = &mut self.three;
         let mut first = || -> bool
-            requires { IsSync R.row × IsAtRest lock.now one.now.one.seat × IsAtRest lock.now one.now.two.seat }
-            ensures { IsAtRest lock.entry.now one.exit.now.one.seat × IsAtRest lock.entry.now one.exit.now.two.seat }
+            requires { IsSync R.row × IsWriter lock.now one.now.one.seat × IsWriter lock.now one.now.two.seat }
+            ensures { IsWriter lock.entry.now one.exit.now.one.seat × IsWriter lock.entry.now one.exit.now.two.seat }
         { one.work(rt, lock) };
         let mut rest = || -> bool
-            requires { IsSync R.row × IsAtRest lock.now two.now.one.seat × IsAtRest lock.now two.now.two.seat × IsAtRest lock.now three.now.one.seat × IsAtRest lock.now three.now.two.seat }
-            ensures { IsAtRest lock.entry.now two.exit.now.one.seat × IsAtRest lock.entry.now two.exit.now.two.seat × IsAtRest lock.entry.now three.exit.now.one.seat × IsAtRest lock.entry.now three.exit.now.two.seat }
+            requires { IsSync R.row × IsWriter lock.now two.now.one.seat × IsWriter lock.now two.now.two.seat × IsWriter lock.now three.now.one.seat × IsWriter lock.now three.now.two.seat }
+            ensures { IsWriter lock.entry.now two.exit.now.one.seat × IsWriter lock.entry.now two.exit.now.two.seat × IsWriter lock.entry.now three.exit.now.one.seat × IsWriter lock.entry.now three.exit.now.two.seat }
         { work_by_four(rt, lock, two, three) };
         let (a, b) = join_mut(rt, &mut first, &mut rest);
         a && b
@@ -103,18 +103,18 @@ fn work_by_four<R: Threads + Wait + Clock + Sync>(
     one: &mut Pair,
     two: &mut Pair,
 ) -> bool
-    requires one { IsAtRest lock.now one.old.one.seat × IsAtRest lock.now one.old.two.seat }
-    requires two { IsAtRest lock.now two.old.one.seat × IsAtRest lock.now two.old.two.seat }
-    ensures one { IsAtRest lock.now one.new.one.seat × IsAtRest lock.now one.new.two.seat }
-    ensures two { IsAtRest lock.now two.new.one.seat × IsAtRest lock.now two.new.two.seat }
+    requires one { IsWriter lock.now one.old.one.seat × IsWriter lock.now one.old.two.seat }
+    requires two { IsWriter lock.now two.old.one.seat × IsWriter lock.now two.old.two.seat }
+    ensures one { IsWriter lock.now one.new.one.seat × IsWriter lock.now one.new.two.seat }
+    ensures two { IsWriter lock.now two.new.one.seat × IsWriter lock.now two.new.two.seat }
 {
     let mut first = || -> bool
-        requires { IsSync R.row × IsAtRest lock.now one.now.one.seat × IsAtRest lock.now one.now.two.seat }
-        ensures { IsAtRest lock.entry.now one.exit.now.one.seat × IsAtRest lock.entry.now one.exit.now.two.seat }
+        requires { IsSync R.row × IsWriter lock.now one.now.one.seat × IsWriter lock.now one.now.two.seat }
+        ensures { IsWriter lock.entry.now one.exit.now.one.seat × IsWriter lock.entry.now one.exit.now.two.seat }
     { one.work(rt, lock) };
     let mut second = || -> bool
-        requires { IsSync R.row × IsAtRest lock.now two.now.one.seat × IsAtRest lock.now two.now.two.seat }
-        ensures { IsAtRest lock.entry.now two.exit.now.one.seat × IsAtRest lock.entry.now two.exit.now.two.seat }
+        requires { IsSync R.row × IsWriter lock.now two.now.one.seat × IsWriter lock.now two.now.two.seat }
+        ensures { IsWriter lock.entry.now two.exit.now.one.seat × IsWriter lock.entry.now two.exit.now.two.seat }
     { two.work(rt, lock) };
     let (a, b) = join_mut(rt, &mut first, &mut second);
     a && b
@@ -123,8 +123,8 @@ fn work_by_four<R: Threads + Wait + Clock + Sync>(
 // The first seat learns what both have seen and made.
 fn tell_of_both(lock: &BookLock, first: &mut BookSeat, pair: Pair)
     requires first { (first.old.table_id ≡ lock.now.id) × (first.old.id ≡ 0) × (first.old.me.0.live ≡ true) }
-    requires one { IsAtRest lock.now pair.one.seat }
-    requires two { IsAtRest lock.now pair.two.seat }
+    requires one { IsWriter lock.now pair.one.seat }
+    requires two { IsWriter lock.now pair.two.seat }
     ensures first { (first.new.table_id ≡ lock.now.id) × (first.new.id ≡ 0) × (first.new.me.0.live ≡ true) }
     ensures same { (first.new.me.0.locks ≡ first.old.me.0.locks) × (first.new.me.1 ≡ first.old.me.1) }
 {
@@ -135,10 +135,10 @@ fn tell_of_both(lock: &BookLock, first: &mut BookSeat, pair: Pair)
 
 // The book of a lock that nobody else has: the first seat takes it, once it knows what the six have seen and made.
 fn close<R: Wait>(rt: &R, alloc: Global, lock: &BookLock, mut first: BookSeat, six: Six) -> Book
-    requires first { IsAtRest lock.now first × (first.id ≡ 0) }
-    requires one { IsAtRest lock.now six.one.one.seat × IsAtRest lock.now six.one.two.seat }
-    requires two { IsAtRest lock.now six.two.one.seat × IsAtRest lock.now six.two.two.seat }
-    requires three { IsAtRest lock.now six.three.one.seat × IsAtRest lock.now six.three.two.seat }
+    requires first { IsWriter lock.now first × (first.id ≡ 0) }
+    requires one { IsWriter lock.now six.one.one.seat × IsWriter lock.now six.one.two.seat }
+    requires two { IsWriter lock.now six.two.one.seat × IsWriter lock.now six.two.two.seat }
+    requires three { IsWriter lock.now six.three.one.seat × IsWriter lock.now six.three.two.seat }
 {
     lock.lock(rt, &mut first);
     let Six { one, two, three } = six;

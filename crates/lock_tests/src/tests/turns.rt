@@ -1,8 +1,8 @@
 //! What a thread does with a book under its lock.
 
-ghost use Rattle.std.specs.Prelude.{◌≡◌, ◌∷◌, ◌++◌, [], MatchBool, ℕ};
+ghost use Rattle.std.specs.Prelude.{◌≡◌, ◌∷◌, ◌++◌, [], MatchBool, ℕ, true};
 ghost use Rattle.logged_lock.specs.Rule.{HasLock};
-ghost use Rattle.lock_tests.specs.Book.{log_of, IsAny, IsAtRest};
+ghost use Rattle.lock_tests.specs.Book.{log_of, IsAny, IsAtRest, IsWriter};
 
 use super::*;
 use std::marker::Brand;
@@ -12,8 +12,9 @@ use std::sync::Wait;
 fn write_with<P: Number>(lock: &BookLock, seat: &mut BookSeat, number: u32) -> bool
     requires number { P.number ≡ number }
     requires own { seat.old.table_id ≡ lock.now.id }
+    requires maker { seat.old.me.0.maker ≡ true }
     requires unchanged { HasLock log_of IsAny seat.old.me seat.old.me.0.own.seen }
-    ensures rest { IsAtRest lock.now seat.new }
+    ensures rest { IsWriter lock.now seat.new }
     ensures same { seat.new.id ≡ seat.old.id }
     ensures made { MatchBool result ((at : ℕ) × (seat.new.me.0.own.made ≡ seat.old.me.0.own.made ++ (at, number) ∷ [])) (seat.new.me.0.own.made ≡ seat.old.me.0.own.made) }
 {
@@ -32,8 +33,8 @@ fn write_with<P: Number>(lock: &BookLock, seat: &mut BookSeat, number: u32) -> b
 
 // Writes the number at the end of the book, under the lock. Says whether there was memory for it.
 pub(super) fn write<R: Wait>(rt: &R, lock: &BookLock, seat: &mut BookSeat, number: u32) -> bool
-    requires { IsAtRest lock.now seat.old }
-    ensures rest { IsAtRest lock.now seat.new }
+    requires { IsWriter lock.now seat.old }
+    ensures rest { IsWriter lock.now seat.new }
     ensures same { seat.new.id ≡ seat.old.id }
     ensures made { MatchBool result ((at : ℕ) × (seat.new.me.0.own.made ≡ seat.old.me.0.own.made ++ (at, number) ∷ [])) (seat.new.me.0.own.made ≡ seat.old.me.0.own.made) }
 {
@@ -45,7 +46,7 @@ pub(super) fn write<R: Wait>(rt: &R, lock: &BookLock, seat: &mut BookSeat, numbe
 pub(super) fn turn<R: Wait>(rt: &R, lock: &BookLock, seat: &mut BookSeat)
     requires { IsAtRest lock.now seat.old }
     ensures rest { IsAtRest lock.now seat.new }
-    ensures same { seat.new.id ≡ seat.old.id }
+    ensures same { (seat.new.id ≡ seat.old.id) × (seat.new.me.0.maker ≡ seat.old.me.0.maker) }
 {
     lock.lock(rt, seat);
     lock.unlock(seat);
@@ -55,7 +56,7 @@ pub(super) fn turn<R: Wait>(rt: &R, lock: &BookLock, seat: &mut BookSeat)
 pub(super) fn try_turn(lock: &BookLock, seat: &mut BookSeat) -> bool
     requires { IsAtRest lock.now seat.old }
     ensures rest { IsAtRest lock.now seat.new }
-    ensures same { seat.new.id ≡ seat.old.id }
+    ensures same { (seat.new.id ≡ seat.old.id) × (seat.new.me.0.maker ≡ seat.old.me.0.maker) }
 {
     let taken = lock.try_lock(seat);
     if taken {

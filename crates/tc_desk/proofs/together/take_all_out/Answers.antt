@@ -7,7 +7,7 @@ pub loop-desk-preserved : goal.loop-desk-preserved
 loop-desk-preserved g c =
     let i = c.loop-desk.invariant in
     let t = c.take_out.ensures in
-    let out : IsOut c.in-Some.desk c.take_out.result = record { settings = t.settings; journal = t.journal; seen = t.seen; merge = t.merge } in
+    let out : IsOut c.in-Some.desk c.take_out.result = record { settings = t.settings; journal = t.journal; seen = t.seen; merge = t.merge; whole = t.whole } in
     let one = i.1 in let longer = c.push_reserved.ensures.len in
     let before = c.loop-desk.desk-iterator.rest.ok.0 in let after = c.next.new.self.rest.ok.0 in
     let shorter = ap length c.in-Some.ensures.steps.0 in (

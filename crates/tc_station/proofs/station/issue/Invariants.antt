@@ -1,6 +1,12 @@
-use Rattle.std.proofs.Common.{◌≡◌, ◌≤◌, replicate, vec_capacity}
-use Rattle.tc_station.specs.Tally.{newcomer}
+use Rattle.std.proofs.Common.{◌≡◌, ◌≤◌, ◌+◌, All, length, replicate, vec_len, vec_capacity}
+use Rattle.tc_station.specs.Room.{IsRoomFor}
+use Rattle.tc_station.specs.Tally.{issued_more, newcomer}
 use Rattle.tc_station.proofs.station.issue.Given as goal
 
-abbrev pub invariant-loop : goal.invariant-loop
-invariant-loop g l = (l.posts ≡ l.fn.posts) × (l.operators.items ≡ replicate l.counter (newcomer l.vcids l.posts)) × (l.n ≤ vec_capacity l.operators)
+abbrev pub invariant-loop-room : goal.invariant-loop-room
+invariant-loop-room g l =
+    (l.posts ≡ issued_more (vec_len l.operators) l.fn.posts) × (l.operators.items ≡ replicate (vec_len l.operators) (newcomer l.vcids l.fn.posts))
+    × All (IsRoomFor l.vcids) l.rooms.items × (vec_len l.operators + vec_len l.rooms ≡ l.n) × (l.n ≤ vec_capacity l.operators)
+
+abbrev pub decreases-loop-room : goal.decreases-loop-room
+decreases-loop-room g l = vec_len l.rooms

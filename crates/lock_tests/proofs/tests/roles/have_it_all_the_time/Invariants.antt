@@ -1,5 +1,5 @@
-use Rattle.lock_tests.specs.Book.{IsAtRest}
+use Rattle.lock_tests.specs.Book.{IsWriter}
 use Rattle.lock_tests.proofs.tests.roles.have_it_all_the_time.Given as goal
 
 abbrev pub invariant-loop : goal.invariant-loop
-invariant-loop g l = IsAtRest l.lock l.seat
+invariant-loop g l = IsWriter l.lock l.seat

@@ -1,5 +1,5 @@
-use Rattle.lock_tests.specs.Book.{IsAtRest}
+use Rattle.lock_tests.specs.Book.{IsWriter}
 use Rattle.lock_tests.proofs.tests.roles.write_now_and_then.Given as goal
 
 abbrev pub invariant-loop-number : goal.invariant-loop-number
-invariant-loop-number g l = IsAtRest l.lock l.seat
+invariant-loop-number g l = IsWriter l.lock l.seat

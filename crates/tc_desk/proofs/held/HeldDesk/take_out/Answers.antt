@@ -8,7 +8,7 @@ returns-clause-seen g c = behind_at c.args.self c.self.inside.first.me.0 (search
 
 pub replace-kept-requires-clause-locks : goal.replace-kept-requires-clause-locks
 replace-kept-requires-clause-locks g c =
-    let locks = c.self.invariant.5 in
+    let locks = c.self.invariant.8 in
     (locks.kept, ap (λ m. m.1) c.settle.ensures.same.2 ∙ locks.hands)
 
 pub returns-clause-merge : goal.returns-clause-merge

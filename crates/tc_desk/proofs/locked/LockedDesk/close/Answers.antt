@@ -1,19 +1,44 @@
-use Rattle.std.proofs.Common.{◌∙◌, List, min, ap, subst, rules}
+use Rattle.std.proofs.Common.{◌≡◌, ◌∙◌, ◌+◌, List, length, min, ap, subst, sym, rules, true≢false}
 use Rattle.std.specs.Prelude.{◌-◌, ◌^◌}
-use Rattle.logged_lock.specs.Log.{total_made}
+use Rattle.std.proofs.lemmas.List.{length-map}
+use Rattle.logged_lock.specs.Log.{total_made, IsBeginning}
 use Rattle.tc_desk.specs.Log.{AtLock, AtHand, accounts_of}
-use Rattle.tc_desk.specs.Closing.{IsBalanced, IsClosed}
+use Rattle.tc_desk.specs.Closing.{CanClose, IsCause, IsClosed, IsObstacle}
 use Rattle.tc_desk.specs.Together.{IsOut}
+use Rattle.tc_desk.specs.declared.closing.Obstacle.{Obstacle}
+use Rattle.tc_desk.proofs.Counted.{cause-of, not-balanced}
 use Rattle.tc_desk.proofs.Rows.{closed_one}
 use Rattle.tc_desk.proofs.locked.LockedDesk.close.Goals as goal
+
+pub returns-then-not-can_close-clause-obstacle : goal.returns-then-not-can_close-clause-obstacle
+returns-then-not-can_close-clause-obstacle g c =
+    let operators = c.args.operators.items in
+    let accounts = accounts_of operators in
+    let held = c.in-Ok.held in
+    let counted = c.count_of_all.ensures ∙ ap (λ (l : List AtLock). min (total_made (accounts_of l)) (2 ^ 64 - 1)) c.deref.ensures.value in
+    let many = sym (length-map operators (λ (o : AtLock). o.own)) in
+    let cannot : ¬ CanClose held.keeper.own.issued accounts held.now.entries = λ can. true≢false (sym ((c.can_close.ensures accounts (search (rules, many)) counted).1 can) ∙ search rules) in
+    subst (λ (o : Obstacle). IsObstacle c.args.keeper operators o) (sym c.left_open-then-not-can_close.ensures.3)
+    (held.now, subst (λ (k : AtLock). IsBeginning k.own.seen held.now) c.in-Ok.ensures.keeper c.in-Ok.ensures.later, not-balanced held.keeper.own.issued accounts held.now.entries cannot)
+
+pub returns-then-not-can_close-clause-cause : goal.returns-then-not-can_close-clause-cause
+returns-then-not-can_close-clause-cause g c =
+    let operators = c.args.operators.items in
+    let accounts = accounts_of operators in
+    let held = c.in-Ok.held in
+    let counted = c.count_of_all.ensures ∙ ap (λ (l : List AtLock). min (total_made (accounts_of l)) (2 ^ 64 - 1)) c.deref.ensures.value in
+    let many = sym (length-map operators (λ (o : AtLock). o.own)) in
+    let cannot : ¬ CanClose held.keeper.own.issued accounts held.now.entries = λ can. true≢false (sym ((c.can_close.ensures accounts (search (rules, many)) counted).1 can) ∙ search rules) in
+    λ _. subst (λ (k : AtLock). IsCause k.own.issued accounts) c.in-Ok.ensures.keeper (cause-of held.keeper.own.issued accounts held.now.entries cannot)
 
 pub returns-clause-closed : goal.returns-clause-closed
 returns-clause-closed g c =
     let operators = c.args.operators.items in
     let held = c.in-Ok.held in
     let counted = c.count_of_all.ensures ∙ ap (λ (l : List AtLock). min (total_made (accounts_of l)) (2 ^ 64 - 1)) c.deref.ensures.value in
-    let balanced : IsBalanced (accounts_of operators) held.now.entries = (c.is_balanced.ensures (accounts_of operators) counted).0 (search rules) in
+    let many = sym (length-map operators (λ (o : AtLock). o.own)) in
+    let can : CanClose held.keeper.own.issued (accounts_of operators) held.now.entries = (c.can_close.ensures (accounts_of operators) (search (rules, many)) counted).0 (search rules) in
     let t = c.take_out.ensures in
-    let out : IsOut c.tell_all.new.held c.take_out.result = record { settings = t.settings; journal = t.journal; seen = t.seen; merge = t.merge } in
+    let out : IsOut c.tell_all.new.held c.take_out.result = record { settings = t.settings; journal = t.journal; seen = t.seen; merge = t.merge; whole = t.whole } in
     subst (λ (k : AtLock). IsClosed k operators c.take_out.result) c.in-Ok.ensures.keeper
-    (closed_one held operators c.take_out.result c.in-Ok.ensures.told c.in-Ok.ensures.later balanced (subst (λ (h : AtHand). IsOut h c.take_out.result) c.tell_all.ensures out))
+    (closed_one held operators c.take_out.result c.in-Ok.ensures.told c.in-Ok.ensures.later can (subst (λ (h : AtHand). IsOut h c.take_out.result) c.tell_all.ensures out))

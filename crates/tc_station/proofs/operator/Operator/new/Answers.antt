@@ -6,5 +6,4 @@ use Rattle.tc_station.proofs.operator.Operator.new.Goals as goal
 
 pub invariant_of-result : goal.invariant_of-result
 invariant_of-result g c =
-    ap (λ l. vcids_of (settings_of l)) c.in_ok-desk_operators.ensures.operators
-    ∙ (ap vcids_of (arrival-settings c.args.posts.now) ∙ (c.requires.ids ∙ sym c.in_ok-from_slice.ensures.items))
+    ap (λ l. vcids_of (settings_of l)) c.desk_operators-desks.ensures.operators ∙ (ap vcids_of (arrival-settings c.args.posts.now) ∙ sym c.requires.room.0)

@@ -1,8 +1,0 @@
-use Rattle.std.proofs.Common.{◌≡◌, ◌<◌, ℕ, Some, slice_get, map}
-use Rattle.tc_desk.specs.Log.{AtHand, accounts_of}
-use Rattle.tc_desk.specs.Closing.{IsBalanced}
-use Rattle.tc_desk.specs.Together.{column}
-use Rattle.tc_desk.proofs.together.are_balanced.Given as goal
-
-abbrev pub invariant-loop-place : goal.invariant-loop-place
-invariant-loop-place g l = (k : ℕ) → k < l.place → (h : AtHand) → slice_get l.held k ≡ Some h → IsBalanced (accounts_of (column k (map g.C.Crew.at_desks l.crews))) h.now.entries

@@ -1,0 +1,34 @@
+use Rattle.std.proofs.Common.{◌∙◌, ◌<◌, ◌≡◌, ap, length, map, subst, below_more, arith, rules, refl, true≢false, true, false, sym}
+use Rattle.std.proofs.lemmas.Option.{get_or_from_slice_get, slice_get_read, slice_get_within}
+use Rattle.tc_desk.specs.Log.{AtHand, accounts_of}
+use Rattle.tc_desk.specs.Closing.{CanClose}
+use Rattle.tc_desk.specs.Together.{column}
+use Rattle.tc_desk.proofs.Rows.{inside_all, many-column}
+use Rattle.tc_desk.proofs.together.can_close_each.Goals as goal
+
+pub count_at-requires : goal.count_at-requires
+count_at-requires g c = inside_all g.C.Crew.at_desks c.args.held.now c.args.crews.now c.loop-place.place c.requires c.loop-place-test.true
+
+pub loop-place-preserved : goal.loop-place-preserved
+loop-place-preserved g c =
+    let i = c.loop-place.place in
+    let here = c.index-held-place.result in
+    let crews = c.args.crews.now in
+    let accounts = accounts_of (column i (map g.C.Crew.at_desks crews)) in
+    let many = many-column g.C.Crew.at_desks i crews in
+    let good : CanClose here.keeper.own.issued accounts here.now.entries = (c.can_close.ensures accounts (search rules) (search rules)).0 (search rules) in
+    below_more _ _ c.loop-place.invariant
+    (λ h e. subst (λ (x : AtHand). CanClose x.keeper.own.issued accounts x.now.entries) (c.index-held-place.is ∙ get_or_from_slice_get c.args.held.now i h here e) good)
+
+pub returns-then-not-can_close : goal.returns-then-not-can_close
+returns-then-not-can_close g c =
+    let i = c.loop-place.place in
+    let here = c.index-held-place.result in
+    let crews = c.args.crews.now in
+    let accounts = accounts_of (column i (map g.C.Crew.at_desks crews)) in
+    let many = many-column g.C.Crew.at_desks i crews in
+    let at = slice_get_read c.args.held.now (length c.args.held.now) i here refl c.loop-place-test.true c.index-held-place.is in
+    (i, here, at, λ can. true≢false (sym ((c.can_close.ensures accounts (search rules) (search rules)).1 can) ∙ search rules))
+
+pub returns : goal.returns
+returns g c = λ place h e. let inside = slice_get_within c.args.held.now place h e in c.loop-place.invariant place (omega arith) h e

@@ -1,0 +1,7 @@
+-- Room for an operator, before it is issued.
+use Rattle.std.specs.Prelude.{◌≡◌, ◌≤◌, ℕ, List, [], length, vec_capacity}
+use Rattle.tc_station.specs.declared.operator.Room.{Room}
+
+-- room for an operator of channels with these ids
+abbrev pub IsRoomFor : List ℕ → Room → Type 0
+IsRoomFor vcids room = (room.vcids.items ≡ vcids) × (room.desks.items ≡ []) × (length vcids ≤ vec_capacity room.desks)
