@@ -9,7 +9,7 @@ use Rattle.tc_channel.specs.Journal.{History}
 use Rattle.tc_desk.specs.{TableId}
 use Rattle.logged_lock.specs.Log.{total_made}
 use Rattle.tc_desk.specs.Log.{AtLock, Identity, accounts_of, issued_one}
-use Rattle.tc_desk.specs.Together.{AreClosed, AreOurs, AreSame, HasCause, column, heads_of, issued_of, locks_of, settings_of}
+use Rattle.tc_desk.specs.Together.{AreClosed, AreOurs, AreSame, HasCause, column, heads_of, locks_of, settings_of}
 use Rattle.tc_station.specs.Roster.{Roster, HaveIssued, IsDeskOf}
 use Rattle.tc_station.specs.StationSettings.{vcids_of}
 use Rattle.tc_station.specs.Tally.{AtStation, Tally, HasMadeNothing, IsOurs, KnowsDesks, arrival, at_station, counts_of, fresh, issued_more, newcomer, tallies, tally}

@@ -1,4 +1,4 @@
-use Rattle.std.proofs.Common.{◌≡◌, ◌<◌, ◌≤◌, ◌∙◌, ap, get_or, length, sym, rules}
+use Rattle.std.proofs.Common.{◌<◌, ◌≤◌, ◌∙◌, ap, get_or, length, sym, rules}
 use Rattle.tc_desk.specs.Log.{issued_one}
 use Rattle.tc_station.specs.Tally.{arrival}
 use Rattle.tc_station.proofs.Posts.{arrival-step, arrives, below-all, below-none, station-step}

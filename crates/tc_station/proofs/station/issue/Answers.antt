@@ -1,4 +1,4 @@
-use Rattle.std.proofs.Common.{◌≡◌, ◌∙◌, ℕ, List, All, Some, vec_len, ap, subst, sym, rules, arith}
+use Rattle.std.proofs.Common.{◌≡◌, ◌∙◌, ℕ, List, Some, vec_len, ap, subst, sym, rules, arith}
 use Rattle.std.proofs.lemmas.List.Elements.{All-pop}
 use Rattle.tc_desk.specs.Together.{settings_of}
 use Rattle.tc_station.specs.Room.{IsRoomFor}

@@ -1,4 +1,4 @@
-use Rattle.std.proofs.Common.{◌≡◌, ◌≤◌, ◌+◌, All, length, replicate, vec_len, vec_capacity}
+use Rattle.std.proofs.Common.{◌≡◌, ◌≤◌, ◌+◌, All, replicate, vec_len, vec_capacity}
 use Rattle.tc_station.specs.Room.{IsRoomFor}
 use Rattle.tc_station.specs.Tally.{issued_more, newcomer}
 use Rattle.tc_station.proofs.station.issue.Given as goal
