@@ -21,7 +21,8 @@ struct Writer {
 
 impl Writer {
     fn new(lock: &BookLock, first: &mut BookSeat, number: u32) -> Writer
-        requires { IsWriter lock.now first.old }
+        requires writer { IsWriter lock.now first.old }
+        requires first { first.old.id ≡ 0 }
         ensures first { IsWriter lock.now first.new × (first.new.id ≡ first.old.id) }
         ensures rest { IsWriter lock.now result.seat }
     {
@@ -41,7 +42,8 @@ struct Pair {
 impl Pair {
     // Two writers, who write the numbers from this one on.
     fn new(lock: &BookLock, first: &mut BookSeat, number: u32) -> Pair
-        requires { IsWriter lock.now first.old }
+        requires writer { IsWriter lock.now first.old }
+        requires first { first.old.id ≡ 0 }
         ensures first { IsWriter lock.now first.new × (first.new.id ≡ first.old.id) }
         ensures one { IsWriter lock.now result.one.seat }
         ensures two { IsWriter lock.now result.two.seat }
