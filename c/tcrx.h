@@ -3,10 +3,10 @@
  * @brief The spacecraft's end of a CCSDS telecommand link, for C99 and C++11.
  *
  * FARM-1, the frame acceptance and reporting mechanism (CCSDS 232.1-B); the CLCW, the communications link control word, and
- * transfer frames (CCSDS 232.0-B); the primary header of space packets (CCSDS 133.0-B); and a whole virtual channel of a
- * receiver, with its buffer, its reassembly and its queues. The library is libtcrx.a, or libtcrx.so with the memory of
- * tcrx_memory.c. Its functions are proved. Apart from them the static one needs memcpy, memmove, memset, and the two functions of
- * tcrx_memory.c or tcrx_static.c.
+ * transfer frames (CCSDS 232.0-B); the primary header of space packets (CCSDS 133.0-B); CLTUs (CCSDS 231.0-B) and telemetry frames
+ * with a CLCW (CCSDS 132.0-B); and a whole virtual channel of a receiver, with its buffer, its reassembly and its queues. The
+ * library is libtcrx.a, or libtcrx.so with the memory of tcrx_memory.c. Its functions are proved. Apart from them the static one
+ * needs memcpy, memmove, memset, and the two functions of tcrx_memory.c or tcrx_static.c.
  *
  * @par Answers
  * Each call answers with a status, alone or as the first field of a record: #TCRX_DONE, or the first reason why it is refused, in the
@@ -136,7 +136,11 @@ enum {
     TCRX_DOUBLE_LIMIT = 82,  /**< Limits: a MAP is listed twice. */
     TCRX_BAD_LIMIT = 83,     /**< Limits: that of a MAP isn't 1 to 65,542. */
     TCRX_PLAIN_LIMIT = 84,   /**< Limits: a MAP is listed without segment headers. */
-    TCRX_UNLISTED_MAP = 85   /**< Limits: a chosen MAP isn't listed, and `others` is 0. */
+    TCRX_UNLISTED_MAP = 85,  /**< Limits: a chosen MAP isn't listed, and `others` is 0. */
+
+    TCRX_LONG_CLTU = 90,  /**< No CLTU carries more than 1,029 octets. */
+    TCRX_BAD_LENGTH = 91, /**< No telemetry frame: its length isn't 11 to 2,048 octets, with a frame error control field 13 to 2,048. */
+    TCRX_NO_CONTROL = 92  /**< The telemetry frame has no operational control field. */
 };
 
 /** Room for a text. */
@@ -252,6 +256,22 @@ typedef struct {
     uint8_t secondary;   /**< The secondary header flag. */
     uint8_t sequence;    /**< The sequence flags, at most 3; of an unsegmented packet 3. */
 } tcrx_packet_header;
+
+/** What the primary header of a telemetry frame says of whose frame it is, and which. */
+typedef struct {
+    uint16_t scid;         /**< The spacecraft id, 0 to 1,023. */
+    uint8_t vcid;          /**< The virtual channel id, 0 to 7. */
+    uint8_t master_count;  /**< The frames of the spacecraft before it, modulo 256. */
+    uint8_t channel_count; /**< The frames of the virtual channel before it, modulo 256. */
+} tcrx_tm_header;
+
+/** What a telemetry frame says. */
+typedef struct {
+    tcrx_status status;    /**< #TCRX_DONE, or why not. */
+    uint32_t clcw;         /**< The operational control field, a CLCW. Its first bit is the most significant one. */
+    tcrx_tm_header header; /**< The primary header. */
+    uint16_t pointer;      /**< The first header pointer: 2,046 where all data are idle, 2,047 where no packet begins. */
+} tcrx_tm;
 
 /** What was written into a buffer. */
 typedef struct {
@@ -564,6 +584,80 @@ static inline tcrx_packet tcrx_read_packet(const uint8_t *octets, size_t count) 
         return refused;
     }
     return tcrx_read_packet_at(octets, count);
+}
+
+/**
+ * Writes the CLTU (communications link transmission unit) that carries a frame to the front of a buffer: the start sequence, the code
+ * blocks, with fill in the last one where it needs some, and the tail sequence. It has 10 octets more than 8 for each 7 of the frame.
+ *
+ * @param frame       the frame, or other octets, 1 to 1,029
+ * @param frame_count how many there are
+ * @param octets      the buffer that is written
+ * @param room        how many octets the buffer has
+ * @return the length of the CLTU, at most 1,186. Refused by #TCRX_NULL, #TCRX_EMPTY_DATA, #TCRX_LONG_CLTU, #TCRX_NO_ROOM.
+ */
+static inline tcrx_written tcrx_write_cltu(const uint8_t *frame, size_t frame_count, uint8_t *octets, size_t room) {
+    if (frame == NULL || octets == NULL) {
+        const tcrx_written refused = {TCRX_NULL, 0};
+        return refused;
+    }
+    return tcrx_write_cltu_at(frame, frame_count, octets, room);
+}
+
+/**
+ * Writes octets with the random sequence added to the front of a buffer. Where a mission randomises its CLTUs, a sender gives it each
+ * frame before tcrx_write_cltu(), and a receiver what each CLTU carried: added twice, the sequence changes nothing.
+ *
+ * @param frame       the frame, or other octets, 1 to 1,029
+ * @param frame_count how many there are
+ * @param octets      the buffer that is written
+ * @param room        how many octets the buffer has
+ * @return how many octets there are. Refused by #TCRX_NULL, #TCRX_EMPTY_DATA, #TCRX_LONG_CLTU, #TCRX_NO_ROOM.
+ */
+static inline tcrx_written tcrx_randomise(const uint8_t *frame, size_t frame_count, uint8_t *octets, size_t room) {
+    if (frame == NULL || octets == NULL) {
+        const tcrx_written refused = {TCRX_NULL, 0};
+        return refused;
+    }
+    return tcrx_randomise_at(frame, frame_count, octets, room);
+}
+
+/**
+ * Writes a telemetry frame that carries a CLCW, and idle data for the rest, to the front of a buffer. Add 1 to both counts of the header
+ * for the next frame of the virtual channel, and to the master count for that of another one: as `uint8_t` they count modulo 256.
+ *
+ * @param header the header
+ * @param fecf   whether the frame ends with a frame error control field
+ * @param clcw   the CLCW, as of tcrx_clcw()
+ * @param size   how many octets the frame has, 11 to 2,048; with a frame error control field at least 13
+ * @param octets the buffer that is written
+ * @param room   how many octets the buffer has
+ * @return the length of the frame. Refused by #TCRX_NULL, #TCRX_BAD_FLAG, #TCRX_BAD_FIELD, #TCRX_BAD_LENGTH, #TCRX_NO_ROOM.
+ */
+static inline tcrx_written tcrx_write_tm(tcrx_tm_header header, uint8_t fecf, uint32_t clcw, uint16_t size, uint8_t *octets,
+                                         size_t room) {
+    if (octets == NULL) {
+        const tcrx_written refused = {TCRX_NULL, 0};
+        return refused;
+    }
+    return tcrx_write_tm_at(header, fecf, clcw, size, octets, room);
+}
+
+/**
+ * Reads octets that are one telemetry frame. Its secondary header and its packets are not looked into.
+ *
+ * @param fecf   whether the frame ends with a frame error control field
+ * @param octets the octets that are read
+ * @param count  how many there are
+ * @return what the frame says. Refused by #TCRX_NULL, #TCRX_BAD_FLAG, #TCRX_BAD_LENGTH, #TCRX_BAD_VERSION, #TCRX_NO_CONTROL,
+ * #TCRX_WRONG_FECF.
+ */
+static inline tcrx_tm tcrx_read_tm(uint8_t fecf, const uint8_t *octets, size_t count) {
+    if (octets == NULL) {
+        const tcrx_tm refused = {TCRX_NULL, 0, {0, 0, 0, 0}, 0};
+        return refused;
+    }
+    return tcrx_read_tm_at(fecf, octets, count);
 }
 /** @} */
 

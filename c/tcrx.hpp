@@ -84,7 +84,10 @@ enum class Status : tcrx_status {
     double_limit = TCRX_DOUBLE_LIMIT,
     bad_limit = TCRX_BAD_LIMIT,
     plain_limit = TCRX_PLAIN_LIMIT,
-    unlisted_map = TCRX_UNLISTED_MAP
+    unlisted_map = TCRX_UNLISTED_MAP,
+    long_cltu = TCRX_LONG_CLTU,
+    bad_length = TCRX_BAD_LENGTH,
+    no_control = TCRX_NO_CONTROL
     // This is the end of what tools/c_interface writes.
 };
 
@@ -421,6 +424,55 @@ inline Result<Packet> read_packet(Octets octets) noexcept {
         return detail::refused(answer.status);
     }
     return Packet{answer.apid, answer.count, answer.telecommand == 1, answer.secondary == 1, answer.sequence, octets.part(0, answer.length)};
+}
+
+/** Writes the CLTU that carries a frame to the front of room: tcrx_write_cltu(). The answer is the CLTU, there. */
+inline Result<Octets> write_cltu(Octets frame, Room room) noexcept {
+    std::uint8_t nothing = 0;
+    return detail::written(tcrx_write_cltu(detail::pointer(frame), frame.size(), detail::pointer(room, nothing), room.size()), room);
+}
+
+/** Writes a frame, or what a CLTU carried, with the random sequence added: tcrx_randomise(). */
+inline Result<Octets> randomise(Octets frame, Room room) noexcept {
+    std::uint8_t nothing = 0;
+    return detail::written(tcrx_randomise(detail::pointer(frame), frame.size(), detail::pointer(room, nothing), room.size()), room);
+}
+
+/** What the primary header of a telemetry frame says of whose frame it is, and which. */
+struct TmHeader {
+    std::uint16_t scid = 0;
+    std::uint8_t vcid = 0;
+    /** The frames of the spacecraft before it, modulo 256. */
+    std::uint8_t master_count = 0;
+    /** The frames of the virtual channel before it, modulo 256. */
+    std::uint8_t channel_count = 0;
+};
+
+/** What a telemetry frame says. */
+struct Tm {
+    TmHeader header;
+    /** Its operational control field, for read_clcw(). */
+    std::uint32_t clcw = 0;
+    /** The first header pointer: 2,046 where all data are idle, 2,047 where no packet begins. */
+    std::uint16_t pointer = 0;
+};
+
+/** Writes a telemetry frame of so many octets that carries a CLCW to the front of room: tcrx_write_tm(). */
+inline Result<Octets> write_tm(const TmHeader &header, bool fecf, Clcw clcw, std::uint16_t size, Room room) noexcept {
+    std::uint8_t nothing = 0;
+    const tcrx_tm_header record = {header.scid, header.vcid, header.master_count, header.channel_count};
+    std::uint8_t *const to = detail::pointer(room, nothing);
+    return detail::written(tcrx_write_tm(record, detail::flag(fecf), clcw.word, size, to, room.size()), room);
+}
+
+/** Reads octets that are one telemetry frame: tcrx_read_tm(). */
+inline Result<Tm> read_tm(bool fecf, Octets octets) noexcept {
+    const tcrx_tm answer = tcrx_read_tm(detail::flag(fecf), detail::pointer(octets), octets.size());
+    if (answer.status != TCRX_DONE) {
+        return detail::refused(answer.status);
+    }
+    const tcrx_tm_header &read = answer.header;
+    return Tm{TmHeader{read.scid, read.vcid, read.master_count, read.channel_count}, answer.clcw, answer.pointer};
 }
 
 /** What a channel is made by, apart from its queues. */

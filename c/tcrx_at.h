@@ -44,6 +44,10 @@ TCRX_LAYOUT(tcrx_packet, sizeof(tcrx_packet) == 16 && TCRX_AT(tcrx_packet, statu
 TCRX_LAYOUT(tcrx_packet_header, sizeof(tcrx_packet_header) == 8 && TCRX_AT(tcrx_packet_header, apid, 0)
                                     && TCRX_AT(tcrx_packet_header, count, 2) && TCRX_AT(tcrx_packet_header, telecommand, 4)
                                     && TCRX_AT(tcrx_packet_header, secondary, 5) && TCRX_AT(tcrx_packet_header, sequence, 6));
+TCRX_LAYOUT(tcrx_tm_header, sizeof(tcrx_tm_header) == 6 && TCRX_AT(tcrx_tm_header, scid, 0) && TCRX_AT(tcrx_tm_header, vcid, 2)
+                                && TCRX_AT(tcrx_tm_header, master_count, 3) && TCRX_AT(tcrx_tm_header, channel_count, 4));
+TCRX_LAYOUT(tcrx_tm, sizeof(tcrx_tm) == 16 && TCRX_AT(tcrx_tm, status, 0) && TCRX_AT(tcrx_tm, clcw, 4)
+                         && TCRX_AT(tcrx_tm, header, 8) && TCRX_AT(tcrx_tm, pointer, 14));
 TCRX_LAYOUT(tcrx_written, sizeof(tcrx_written) == 2 * sizeof(size_t) && TCRX_AT(tcrx_written, status, 0)
                               && TCRX_AT(tcrx_written, length, sizeof(size_t)));
 TCRX_LAYOUT(tcrx_channel, sizeof(tcrx_channel) == 2 * sizeof(void *) && TCRX_AT(tcrx_channel, held, 0)
@@ -100,6 +104,14 @@ tcrx_written tcrx_write_packet_at(tcrx_packet_header header, const uint8_t *fiel
                                   size_t room);
 /** @copydoc tcrx_read_packet */
 tcrx_packet tcrx_read_packet_at(const uint8_t *octets, size_t count);
+/** @copydoc tcrx_write_cltu */
+tcrx_written tcrx_write_cltu_at(const uint8_t *frame, size_t frame_count, uint8_t *octets, size_t room);
+/** @copydoc tcrx_randomise */
+tcrx_written tcrx_randomise_at(const uint8_t *frame, size_t frame_count, uint8_t *octets, size_t room);
+/** @copydoc tcrx_write_tm */
+tcrx_written tcrx_write_tm_at(tcrx_tm_header header, uint8_t fecf, uint32_t clcw, uint16_t size, uint8_t *octets, size_t room);
+/** @copydoc tcrx_read_tm */
+tcrx_tm tcrx_read_tm_at(uint8_t fecf, const uint8_t *octets, size_t count);
 /** @copydoc tcrx_storage */
 tcrx_count tcrx_storage_at(tcrx_settings settings, const tcrx_queue *queues, size_t queue_count, const tcrx_map *maps,
                            size_t map_count);

@@ -30,8 +30,8 @@ import tcrx
 import tcrx_channel
 from tcrx import (Brought, Channel, Clcw, Delivery, Ended, Event, Final, NotSetUp, NotStarted, Outcome, Packet, Refusal, Refused,
                   Released, Report, State, Unit)
-from tcrx_channel import (BadSettings, Frame, NoMemory, NotWritten, Rack, add_fecf, check_fecf, read_frame, storage, write_frame,
-                          write_packet, write_segments, write_set_vr, write_unlock)
+from tcrx_channel import (BadSettings, Frame, NoMemory, NotRead, NotWritten, Rack, Tm, add_fecf, check_fecf, randomise, read_frame, read_tm,
+                          storage, write_cltu, write_frame, write_packet, write_segments, write_set_vr, write_tm, write_unlock)
 
 HEADER = TOP / "c/tcrx.h"
 SETTINGS: Dict[str, Any] = {"width": 10, "buffer": 4, "first": 0, "queues": {5: 4, 9: 2}, "maps": {2: 3}}
@@ -238,6 +238,21 @@ def check_made() -> None:
                  lambda: write_unlock(1024, 0), lambda: add_fecf(b"")):
         raises(NotWritten, call, "a making that is refused")
     same(str(Clcw(0x1d9484b5)), "vc 37 status 7 norf 1 nobitlock 0 lockout 0 wait 0 retransmit 0 farmb 2 vr 181", "a CLCW as text")
+
+
+def check_ends_of_the_link() -> None:
+    """A CLTU, the random sequence and telemetry frames, as c/checks/fields.h has them, and one of each that is refused."""
+    plain, clcw = bytes.fromhex("22a39407c8c0aabb"), Clcw(0x1d9484b5)
+    same(write_cltu(plain).hex(), "eb9022a39407c8c0aaf0bb5555555555553ec5c5c5c5c5c5c579", "a CLTU")
+    same((randomise(plain).hex(), randomise(randomise(plain))), ("dd9a0a5da029ac4e", plain), "the random sequence, on and off")
+    for digits, fecf, size in (("2a3bc84d1ffe5555551d9484b5", False, 13), ("2a3bc84d1ffe5555551d9484b57ee3", True, 15)):
+        same(write_tm(675, 5, 200, 77, clcw, size=size, fecf=fecf).hex(), digits, "a telemetry frame")
+        same(read_tm(bytes.fromhex(digits), fecf=fecf), Tm(675, 5, 200, 77, clcw, 2046), "what a telemetry frame says")
+    for call in (lambda: write_cltu(b""), lambda: write_cltu(bytes(1030)), lambda: randomise(bytes(1030)),
+                 lambda: write_tm(1024, 0, 0, 0, clcw, size=13), lambda: write_tm(0, 0, 0, 0, clcw, size=2049)):
+        raises(NotWritten, call, "a making at an end of the link that is refused")
+    for octets, fecf in ((bytes(10), False), (bytes(11), False), (bytes.fromhex("2a3bc84d1ffe5555551d9484b5"), True), (b"\x40" * 11, False)):
+        raises(NotRead, lambda given=octets, ends=fecf: read_tm(given, fecf=ends), "a telemetry frame that is refused")
 
 
 def check_fields() -> None:
@@ -528,6 +543,7 @@ def main() -> int:
     check_racks()
     check_fields()
     check_made()
+    check_ends_of_the_link()
     check_long_units()
     check_refused()
     check_ends()

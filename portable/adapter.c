@@ -12,8 +12,8 @@
 
 typedef uint32_t u32;
 
-/* The most octets of a frame with one more, which shows that octets follow it. */
-enum { MOST_FRAME = 1025 };
+/* The most octets of a frame with one more, which shows that octets follow it; those of telemetry are the longest. */
+enum { MOST_FRAME = 2049 };
 
 static u32 numbers[16];
 /* Where a frame or a data field that a call reads stands, and then one that it writes. */
@@ -93,6 +93,11 @@ static tcrx_header header_given(void) {
 static tcrx_packet_header packet_header_given(void) {
     const tcrx_packet_header given = {(uint16_t)numbers[0], (uint16_t)numbers[1], (uint8_t)numbers[2], (uint8_t)numbers[3],
                                       (uint8_t)numbers[4]};
+    return given;
+}
+
+static tcrx_tm_header tm_header_given(void) {
+    const tcrx_tm_header given = {(uint16_t)numbers[0], (uint8_t)numbers[1], (uint8_t)numbers[2], (uint8_t)numbers[3]};
     return given;
 }
 
@@ -205,6 +210,35 @@ u32 EXPORT(module_read_packet)(const uint8_t *octets, u32 count) {
     numbers[3] = answer.telecommand;
     numbers[4] = answer.secondary;
     numbers[5] = answer.sequence;
+    return answer.status;
+}
+
+u32 EXPORT(module_write_cltu)(const uint8_t *frame, u32 frame_count, uint8_t *octets, u32 room) {
+    const tcrx_written answer = tcrx_write_cltu_at(frame, frame_count, octets, room);
+    answer_count(0, answer.length);
+    return answer.status;
+}
+
+u32 EXPORT(module_randomise)(const uint8_t *frame, u32 frame_count, uint8_t *octets, u32 room) {
+    const tcrx_written answer = tcrx_randomise_at(frame, frame_count, octets, room);
+    answer_count(0, answer.length);
+    return answer.status;
+}
+
+u32 EXPORT(module_write_tm)(u32 fecf, u32 clcw, u32 size, uint8_t *octets, u32 room) {
+    const tcrx_written answer = tcrx_write_tm_at(tm_header_given(), (uint8_t)fecf, clcw, (uint16_t)size, octets, room);
+    answer_count(0, answer.length);
+    return answer.status;
+}
+
+u32 EXPORT(module_read_tm)(u32 fecf, const uint8_t *octets, u32 count) {
+    const tcrx_tm answer = tcrx_read_tm_at((uint8_t)fecf, octets, count);
+    numbers[0] = answer.clcw;
+    numbers[1] = answer.header.scid;
+    numbers[2] = answer.header.vcid;
+    numbers[3] = answer.header.master_count;
+    numbers[4] = answer.header.channel_count;
+    numbers[5] = answer.pointer;
     return answer.status;
 }
 

@@ -314,6 +314,29 @@ void check_made() {
     tell(tcrx::check_fecf(plain, {}).status() == Status::wrong_fecf, "a frame without a field");
 }
 
+// A CLTU, the random sequence and telemetry frames; then one of each that is refused.
+void check_ends_of_the_link() {
+    using tcrx::Status;
+    const tcrx::Octets plain = {frame_rows[0].octets, frame_rows[0].fields[5]};
+    const tcrx::TmHeader header = {675, 5, 200, 77};
+    Bytes room(32);
+    const tcrx::Result<tcrx::Octets> cltu = tcrx::write_cltu(plain, room);
+    tell(cltu && Bytes(cltu->begin(), cltu->end()) == Bytes(cltu_octets, cltu_octets + sizeof cltu_octets), "a CLTU");
+    tell(is_made(tcrx::randomise(plain, room), random_row), "a frame with the random sequence");
+    tell(is_made(tcrx::write_tm(header, false, {TM_CLCW}, 13, room), tm_row), "a telemetry frame");
+    tell(is_made(tcrx::write_tm(header, true, {TM_CLCW}, 15, room), tm_fecf_row), "a telemetry frame with its field");
+    const tcrx::Result<tcrx::Tm> read = tcrx::read_tm(true, {tm_fecf_row.octets, tm_fecf_row.count});
+    tell(read && read->clcw == TM_CLCW && read->pointer == 2046, "what a telemetry frame says");
+    const tcrx::TmHeader &found = read->header;
+    tell(found.scid == 675 && found.vcid == 5 && found.master_count == 200 && found.channel_count == 77, "its header");
+    tell(tcrx::write_cltu({}, room).status() == Status::empty_data, "a CLTU of nothing");
+    tell(tcrx::randomise(plain, {}).error().needed == 8, "no room for random octets");
+    tell(tcrx::write_cltu(tcrx::Octets(Bytes(1030)), room).status() == Status::long_cltu, "a CLTU of too much");
+    tell(tcrx::write_tm(header, true, {}, 12, room).status() == Status::bad_length, "a short telemetry frame");
+    tell(tcrx::read_tm(true, {tm_row.octets, tm_row.count}).status() == Status::wrong_fecf, "a telemetry frame without a field");
+    tell(tcrx::read_tm(false, tcrx::Octets(Bytes(11))).status() == Status::no_control, "one without a CLCW");
+}
+
 // What a channel reports after each step, whose states are in the order of the rows, and its CLCW with each flag of the link alone.
 void check_reports() {
     using tcrx::State;
@@ -393,6 +416,7 @@ int main() {
     check_frames();
     check_words_and_packets();
     check_made();
+    check_ends_of_the_link();
     check_reports();
     check_settings();
     tell(tcrx_blocks() == 0, "no block is left");

@@ -71,6 +71,27 @@ static void check_made(void) {
     expect_made(tcrx_check_fecf(octets, fecf_row.count, again, sizeof again), again, plain->octets, length, 8);
 }
 
+static void expect_tm(tcrx_tm read, tcrx_tm_header header, uint64_t place) {
+    expect(read.status == TCRX_DONE && read.clcw == TM_CLCW && read.pointer == 2046, "what a telemetry frame says", place);
+    expect(read.header.scid == header.scid && read.header.vcid == header.vcid, "whose telemetry frame it is", place);
+    expect(read.header.master_count == header.master_count && read.header.channel_count == header.channel_count, "which one it is", place);
+}
+
+static void check_ends_of_the_link(void) {
+    const frame_row *plain = &frame_rows[0];
+    const size_t length = plain->fields[5];
+    const tcrx_tm_header header = {675, 5, 200, 77};
+    uint8_t octets[32], again[32];
+    const size_t all = sizeof octets;
+    expect_made(tcrx_write_cltu(plain->octets, length, octets, all), octets, cltu_octets, sizeof cltu_octets, 10);
+    expect_made(tcrx_randomise(plain->octets, length, octets, all), octets, random_row.octets, random_row.count, 11);
+    expect_made(tcrx_randomise(octets, length, again, all), again, plain->octets, length, 12);
+    expect_made(tcrx_write_tm(header, 0, TM_CLCW, 13, octets, all), octets, tm_row.octets, tm_row.count, 13);
+    expect_tm(tcrx_read_tm(0, octets, 13), header, 13);
+    expect_made(tcrx_write_tm(header, 1, TM_CLCW, 15, octets, all), octets, tm_fecf_row.octets, tm_fecf_row.count, 14);
+    expect_tm(tcrx_read_tm(1, octets, 15), header, 14);
+}
+
 static void check_reports(void) {
     tcrx_channel channel = TCRX_HOLDS_NONE;
     expect(tcrx_channel_new_with_limits(&channel, step_settings, NULL, 0, NULL, 0, 16, NULL, 0) == TCRX_DONE, "a channel", 0);
@@ -92,6 +113,7 @@ int main(void) {
     check_clcws();
     check_packets();
     check_made();
+    check_ends_of_the_link();
     check_reports();
     return close_with("things that are read");
 }

@@ -290,6 +290,56 @@ static void check_fields_made(void) {
     expect_refused(tcrx_check_fecf(frame, 8, NULL, 6), TCRX_NULL, 0, 169);
 }
 
+static void check_cltus_made(void) {
+    static uint8_t frame[1030], room[1186];
+    expect_refused(tcrx_write_cltu(frame, 0, fresh(), 1030), TCRX_EMPTY_DATA, 0, 180);
+    expect_refused(tcrx_randomise(frame, 0, fresh(), 1030), TCRX_EMPTY_DATA, 0, 181);
+    expect_refused(tcrx_write_cltu(frame, 1030, fresh(), 0), TCRX_LONG_CLTU, 0, 182);
+    expect_refused(tcrx_randomise(frame, 1030, fresh(), 0), TCRX_LONG_CLTU, 0, 183);
+    expect_refused(tcrx_write_cltu(frame, 1029, fresh(), 1030), TCRX_NO_ROOM, 1186, 184);
+    expect_refused(tcrx_randomise(frame, 1029, fresh(), 1028), TCRX_NO_ROOM, 1029, 185);
+    expect_refused(tcrx_write_cltu(frame, 1, fresh(), 17), TCRX_NO_ROOM, 18, 186);
+    expect_refused(tcrx_write_cltu(NULL, 1, fresh(), 18), TCRX_NULL, 0, 187);
+    expect_refused(tcrx_randomise(NULL, 1, fresh(), 1), TCRX_NULL, 0, 188);
+    expect_refused(tcrx_write_cltu(frame, 1, NULL, 18), TCRX_NULL, 0, 189);
+    expect_refused(tcrx_randomise(frame, 1, NULL, 1), TCRX_NULL, 0, 190);
+    expect(tcrx_write_cltu(frame, 1029, room, sizeof room).length == 1186, "the longest CLTU", 191);
+    expect(tcrx_randomise(frame, 1029, room, 1029).length == 1029, "the most octets", 192);
+}
+
+static void expect_unread(tcrx_tm read, tcrx_status status, unsigned long place) {
+    const int is_empty = read.clcw == 0 && read.pointer == 0 && read.header.scid == 0 && read.header.vcid == 0;
+    expect(read.status == status && is_empty, "a telemetry frame that is refused", place);
+    expect(read.header.master_count == 0 && read.header.channel_count == 0, "the counts of one that is refused", place);
+}
+
+static void check_telemetry(void) {
+    static uint8_t frame[2049];
+    const size_t all = sizeof made;
+    const tcrx_tm_header good = {1023, 7, 255, 255}, scid = {1024, 7, 0, 0}, vcid = {0, 8, 0, 0};
+    expect_refused(tcrx_write_tm(scid, 2, 0, 10, fresh(), 0), TCRX_BAD_FLAG, 0, 200);
+    expect_refused(tcrx_write_tm(scid, 0, 0, 10, fresh(), 0), TCRX_BAD_FIELD, 0, 201);
+    expect_refused(tcrx_write_tm(vcid, 1, 0, 12, fresh(), 0), TCRX_BAD_FIELD, 0, 202);
+    expect_refused(tcrx_write_tm(good, 0, 0, 10, fresh(), 0), TCRX_BAD_LENGTH, 0, 203);
+    expect_refused(tcrx_write_tm(good, 1, 0, 12, fresh(), 0), TCRX_BAD_LENGTH, 0, 204);
+    expect_refused(tcrx_write_tm(good, 0, 0, 2049, fresh(), 0), TCRX_BAD_LENGTH, 0, 205);
+    expect_refused(tcrx_write_tm(good, 0, 0, 2048, fresh(), all), TCRX_NO_ROOM, 2048, 206);
+    expect_refused(tcrx_write_tm(good, 1, 0, 13, fresh(), 12), TCRX_NO_ROOM, 13, 207);
+    expect_refused(tcrx_write_tm(good, 0, 0, 11, NULL, 11), TCRX_NULL, 0, 208);
+    expect(tcrx_write_tm(good, 1, 0xffffffff, 2048, frame, sizeof frame).length == 2048, "the longest telemetry frame", 209);
+    expect_unread(tcrx_read_tm(2, frame, 0), TCRX_BAD_FLAG, 210);
+    expect_unread(tcrx_read_tm(0, frame, 10), TCRX_BAD_LENGTH, 211);
+    expect_unread(tcrx_read_tm(1, frame, 12), TCRX_BAD_LENGTH, 212);
+    expect_unread(tcrx_read_tm(0, frame, 2049), TCRX_BAD_LENGTH, 213);
+    expect_unread(tcrx_read_tm(1, frame, 2047), TCRX_WRONG_FECF, 214);
+    expect_unread(tcrx_read_tm(1, NULL, 13), TCRX_NULL, 215);
+    expect(tcrx_read_tm(1, frame, 2048).clcw == 0xffffffff, "the longest telemetry frame, read", 216);
+    frame[1] ^= 1;
+    expect_unread(tcrx_read_tm(0, frame, 2048), TCRX_NO_CONTROL, 217);
+    frame[0] |= 0x40;
+    expect_unread(tcrx_read_tm(0, frame, 2048), TCRX_BAD_VERSION, 218);
+}
+
 static void check_text(tcrx_status status, const char *wanted) {
     char text[TCRX_TEXT_ROOM + 1];
     const size_t needed = strlen(wanted) + 1;
@@ -359,6 +409,9 @@ static void check_texts(void) {
         {TCRX_BAD_LIMIT, "the limit of a MAP isn't 1 to 65,542 octets"},
         {TCRX_PLAIN_LIMIT, "a channel without segment headers has no limits by MAP"},
         {TCRX_UNLISTED_MAP, "a chosen MAP has no limit"},
+        {TCRX_LONG_CLTU, "a CLTU carries at most 1,029 octets"},
+        {TCRX_BAD_LENGTH, "the telemetry frame isn't of 11 or 13 to 2,048 octets"},
+        {TCRX_NO_CONTROL, "there is no operational control field"},
     };
     unsigned long there = 0;
     for (size_t i = 0; i < sizeof texts / sizeof texts[0]; i++) {
@@ -383,6 +436,8 @@ int main(void) {
     check_segments_made();
     check_commands_made();
     check_fields_made();
+    check_cltus_made();
+    check_telemetry();
     check_texts();
     return close_with("answers of refused and bounded calls");
 }

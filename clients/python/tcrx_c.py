@@ -8,10 +8,10 @@ __all__ = ["CALLS", "DONE", "SHORT", "BAD_VERSION", "SPARE", "LENGTH_SMALL", "TR
            "BAD_VCID", "NO_CLCW", "NO_PACKET", "NO_ROOM", "NULL", "NO_STATUS", "BAD_BUFFER", "BAD_APID", "DOUBLE_APID",
            "BAD_CAPACITY", "BAD_MAP", "DOUBLE_MAP", "BAD_UNITS", "PLAIN_MAP", "NO_CHANNEL", "IN_USE", "NO_QUEUE", "NO_MAP",
            "EMPTY", "OTHER_SPACECRAFT", "UNKNOWN_CHANNEL", "BAD_OTHERS", "BAD_LIMIT_MAP", "DOUBLE_LIMIT", "BAD_LIMIT",
-           "PLAIN_LIMIT", "UNLISTED_MAP", "TEXT_ROOM", "OPEN", "WAIT", "LOCKOUT", "AD", "BD", "UNLOCK", "SET_VR", "INVALID",
-           "RELEASE", "_Farm", "_FarmAnswer", "_StepAnswer", "_ClcwAnswer", "_ClcwFields", "_Header", "_Frame", "_KindAnswer",
-           "_Packet", "_PacketHeader", "_Written", "_Channel", "_Settings", "_Queue", "_Map", "_Limit", "_Reply", "_Delivery",
-           "_RackReply", "_Place", "_Count"]
+           "PLAIN_LIMIT", "UNLISTED_MAP", "LONG_CLTU", "BAD_LENGTH", "NO_CONTROL", "TEXT_ROOM", "OPEN", "WAIT", "LOCKOUT", "AD",
+           "BD", "UNLOCK", "SET_VR", "INVALID", "RELEASE", "_Farm", "_FarmAnswer", "_StepAnswer", "_ClcwAnswer", "_ClcwFields",
+           "_Header", "_Frame", "_KindAnswer", "_Packet", "_PacketHeader", "_TmHeader", "_Tm", "_Written", "_Channel", "_Settings",
+           "_Queue", "_Map", "_Limit", "_Reply", "_Delivery", "_RackReply", "_Place", "_Count"]
 
 DONE = 0
 SHORT = 1
@@ -66,6 +66,9 @@ DOUBLE_LIMIT = 82
 BAD_LIMIT = 83
 PLAIN_LIMIT = 84
 UNLISTED_MAP = 85
+LONG_CLTU = 90
+BAD_LENGTH = 91
+NO_CONTROL = 92
 TEXT_ROOM = 64
 OPEN = 1
 WAIT = 2
@@ -121,6 +124,14 @@ class _Packet(Structure):
 
 class _PacketHeader(Structure):
     _fields_ = [("apid", c_uint16), ("count", c_uint16), ("telecommand", c_uint8), ("secondary", c_uint8), ("sequence", c_uint8)]
+
+
+class _TmHeader(Structure):
+    _fields_ = [("scid", c_uint16), ("vcid", c_uint8), ("master_count", c_uint8), ("channel_count", c_uint8)]
+
+
+class _Tm(Structure):
+    _fields_ = [("status", c_uint32), ("clcw", c_uint32), ("header", _TmHeader), ("pointer", c_uint16)]
 
 
 class _Written(Structure):
@@ -185,6 +196,10 @@ CALLS: Dict[str, Tuple[Any, List[Any]]] = {
     "tcrx_check_fecf_at": (_Written, [c_char_p, c_size_t, c_void_p, c_size_t]),
     "tcrx_write_packet_at": (_Written, [_PacketHeader, c_char_p, c_size_t, c_void_p, c_size_t]),
     "tcrx_read_packet_at": (_Packet, [c_char_p, c_size_t]),
+    "tcrx_write_cltu_at": (_Written, [c_char_p, c_size_t, c_void_p, c_size_t]),
+    "tcrx_randomise_at": (_Written, [c_char_p, c_size_t, c_void_p, c_size_t]),
+    "tcrx_write_tm_at": (_Written, [_TmHeader, c_uint8, c_uint32, c_uint16, c_void_p, c_size_t]),
+    "tcrx_read_tm_at": (_Tm, [c_uint8, c_char_p, c_size_t]),
     "tcrx_storage_at": (_Count, [_Settings, POINTER(_Queue), c_size_t, POINTER(_Map), c_size_t]),
     "tcrx_storage_with_limits_at": (_Count, [_Settings, POINTER(_Queue), c_size_t, POINTER(_Map), c_size_t, c_uint32,
                                              POINTER(_Limit), c_size_t]),

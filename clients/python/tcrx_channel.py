@@ -44,10 +44,11 @@ from typing import Any, Dict, Iterable, Iterator, List, Mapping, NoReturn, Optio
 from tcrx import (Brought, Clcw, Delivery, Ended, Event, Fault, Final, NotSetUp, NotStarted, Packet, Refusal, Refused, Released, Report,
                   State, Unit)
 from tcrx_c import *  # pylint: disable=wildcard-import,unused-wildcard-import  # all that the header declares
-from tcrx_c import _Channel, _Header, _Limit, _Map, _PacketHeader, _Queue, _Settings
+from tcrx_c import _Channel, _Header, _Limit, _Map, _PacketHeader, _Queue, _Settings, _TmHeader
 
-__all__ = ["BadSettings", "Channel", "Frame", "NoMemory", "NotWritten", "Rack", "add_fecf", "check_fecf", "find_library", "read_frame",
-           "storage", "write_frame", "write_packet", "write_segments", "write_set_vr", "write_unlock"]
+__all__ = ["BadSettings", "Channel", "Frame", "NoMemory", "NotRead", "NotWritten", "Rack", "Tm", "add_fecf", "check_fecf", "find_library",
+           "randomise", "read_frame", "read_tm", "storage", "write_cltu", "write_frame", "write_packet", "write_segments", "write_set_vr",
+           "write_tm", "write_unlock"]
 
 LIBRARY = "libtcrx.so.0"
 Octets = Union[bytes, bytearray, memoryview]
@@ -186,7 +187,7 @@ def read_frame(octets: Octets, *, library: Library = None) -> Union[Frame, Refus
 
 # --- What a sender makes ---
 
-MOST_FRAME = 1024
+MOST_FRAME, MOST_CLTU, MOST_TM = 1024, 1186, 2048
 
 
 class NotWritten(Fault):
@@ -269,6 +270,53 @@ def check_fecf(frame: Octets, *, library: Library = None) -> Union[bytes, Refuse
     whole = bytes(frame)
     status, plain = written_by(load(library), "tcrx_check_fecf_at", whole, len(whole))
     return plain if status == DONE else Refused(Refusal.CHECK)
+
+
+def write_cltu(frame: Octets, *, library: Library = None) -> bytes:
+    """The CLTU that carries a frame, or 1 to 1,029 other octets. Raises `NotWritten`."""
+    whole = bytes(frame)
+    return made_by(load(library), "tcrx_write_cltu_at", whole, len(whole), room=MOST_CLTU)
+
+
+def randomise(frame: Octets, *, library: Library = None) -> bytes:
+    """A frame, or what a CLTU carried, with the random sequence added; added twice, it changes nothing. Raises `NotWritten`."""
+    whole = bytes(frame)
+    return made_by(load(library), "tcrx_randomise_at", whole, len(whole), room=MOST_CLTU)
+
+
+@dataclass(frozen=True)
+class Tm:
+    """What a telemetry frame says: the first header pointer is 2,046 where all data are idle, and 2,047 where no packet begins."""
+    scid: int
+    vcid: int
+    master_count: int
+    channel_count: int
+    clcw: Clcw
+    pointer: int = 2046
+
+
+class NotRead(Fault):
+    """Octets are no telemetry frame."""
+
+
+# pylint: disable-next=too-many-arguments  # they are the fields of a header
+def write_tm(scid: int, vcid: int, master_count: int, channel_count: int, clcw: Clcw, *, size: int, fecf: bool = False,
+             library: Library = None) -> bytes:
+    """A telemetry frame of so many octets that carries a CLCW, with idle data for the rest. Raises `NotWritten`."""
+    header = _TmHeader(in_range(scid, 65535, "scid"), in_range(vcid, 255, "vcid"), in_range(master_count, 255, "master_count"),
+                       in_range(channel_count, 255, "channel_count"))
+    given = header, int(bool(fecf)), clcw.word, in_range(size, 65535, "size")
+    return made_by(load(library), "tcrx_write_tm_at", *given, room=MOST_TM)
+
+
+def read_tm(octets: Octets, *, fecf: bool = False, library: Library = None) -> Tm:
+    """Reads octets that are one telemetry frame. Raises `NotRead` with the reason why they are none."""
+    loaded, whole = load(library), bytes(octets)
+    answer = loaded.tcrx_read_tm_at(int(bool(fecf)), whole, len(whole))
+    if answer.status != DONE:
+        raise NotRead(text_of(loaded, answer.status))
+    header = answer.header
+    return Tm(header.scid, header.vcid, header.master_count, header.channel_count, Clcw(answer.clcw), answer.pointer)
 
 
 def delivery_of(answer: Any) -> Delivery:

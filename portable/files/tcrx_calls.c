@@ -178,6 +178,50 @@ tcrx_written tcrx_check_fecf_at(const uint8_t *frame, size_t frame_count, uint8_
     return answer;
 }
 
+tcrx_written tcrx_write_cltu_at(const uint8_t *frame, size_t frame_count, uint8_t *octets, size_t room) {
+    tcrx_instance *at = tcrx_instance_shared();
+    const tcrx_status done = Z_tcrxZ_module_write_cltu(&at->module, at->read, put_frame(at, frame, frame_count), at->written,
+                                                       least(room, TCRX_MODULE_FRAME));
+    const tcrx_written answer = written_of(at, done, at->written, octets);
+    tcrx_instance_back();
+    return answer;
+}
+
+tcrx_written tcrx_randomise_at(const uint8_t *frame, size_t frame_count, uint8_t *octets, size_t room) {
+    tcrx_instance *at = tcrx_instance_shared();
+    const tcrx_status done = Z_tcrxZ_module_randomise(&at->module, at->read, put_frame(at, frame, frame_count), at->written,
+                                                      least(room, TCRX_MODULE_FRAME));
+    const tcrx_written answer = written_of(at, done, at->written, octets);
+    tcrx_instance_back();
+    return answer;
+}
+
+tcrx_written tcrx_write_tm_at(tcrx_tm_header header, uint8_t fecf, uint32_t clcw, uint16_t size, uint8_t *octets, size_t room) {
+    tcrx_instance *at = tcrx_instance_shared();
+    tcrx_set_number(at, 0, header.scid);
+    tcrx_set_number(at, 1, header.vcid);
+    tcrx_set_number(at, 2, header.master_count);
+    tcrx_set_number(at, 3, header.channel_count);
+    const tcrx_status done = Z_tcrxZ_module_write_tm(&at->module, fecf, clcw, size, at->written, least(room, TCRX_MODULE_FRAME));
+    const tcrx_written answer = written_of(at, done, at->written, octets);
+    tcrx_instance_back();
+    return answer;
+}
+
+tcrx_tm tcrx_read_tm_at(uint8_t fecf, const uint8_t *octets, size_t count) {
+    tcrx_tm answer;
+    tcrx_instance *at = tcrx_instance_shared();
+    answer.status = Z_tcrxZ_module_read_tm(&at->module, fecf, at->read, put_frame(at, octets, count));
+    answer.clcw = tcrx_number(at, 0);
+    answer.header.scid = (uint16_t)tcrx_number(at, 1);
+    answer.header.vcid = (uint8_t)tcrx_number(at, 2);
+    answer.header.master_count = (uint8_t)tcrx_number(at, 3);
+    answer.header.channel_count = (uint8_t)tcrx_number(at, 4);
+    answer.pointer = (uint16_t)tcrx_number(at, 5);
+    tcrx_instance_back();
+    return answer;
+}
+
 tcrx_reply tcrx_channel_frame_at(tcrx_channel *channel, const uint8_t *octets, size_t count) {
     tcrx_reply answer;
     tcrx_instance *at = begin(channel);

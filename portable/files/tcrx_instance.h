@@ -29,7 +29,7 @@
 #endif
 
 /* The most octets of a frame with one more, which shows that octets follow it; and the most of a packet. */
-enum { TCRX_MODULE_FRAME = 1025, TCRX_MODULE_PACKET = 65542 };
+enum { TCRX_MODULE_FRAME = 2049, TCRX_MODULE_PACKET = 65542 };
 
 /* Where the areas stand in the memory: for numbers, for a frame that is read and one that is written, and for a packet or a unit. */
 typedef struct {

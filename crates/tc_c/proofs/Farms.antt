@@ -1,5 +1,5 @@
 -- What starts is a FARM-1, and a channel has one after each lawful journal.
-use Rattle.std.proofs.Common.{◌≡◌, ℕ, ◌<◌, Bool, true, false, List, [], ◌∷◌, Result, Ok, Err, refl, if◌then◌else◌, arith}
+use Rattle.std.proofs.Common.{◌≡◌, ℕ, Bool, true, false, List, [], ◌∷◌, Ok, Err, refl, if◌then◌else◌, arith}
 use Rattle.std.specs.Prelude.{IsSome}
 use Rattle.tc_link.specs.declared.farm.Arrival.{Arrival}
 use Rattle.tc_link.specs.declared.farm.Arrival.TheVariants as arrivals
@@ -14,8 +14,7 @@ use Rattle.tc_channel.specs.declared.event.Event.{Event}
 use Rattle.tc_channel.specs.declared.event.Event.TheVariants.{Frame, Release, Take, TakeUnit}
 use Rattle.tc_channel.specs.ChannelState.{ChannelState, first_state_within, has_room}
 use Rattle.tc_channel.specs.Settings.{IsAllowed}
-use Rattle.tc_channel.specs.Run.{field_of, HasStep, AreSteps, IsLawfulWithin, step, passed_on, kept, row_of as row_at, run_from, run_within}
-use Rattle.tc_c.specs.declared.status.Status.{Status}
+use Rattle.tc_channel.specs.Run.{field_of, HasStep, AreSteps, IsLawfulWithin, step, passed_on, run_from, run_within}
 use Rattle.tc_c.specs.declared.status.Status.TheVariants.{BadWidth}
 use Rattle.tc_c.specs.Farm.{IsFarm, is_width, first_farm, left}
 use Rattle.tc_c.proofs.Records.{wide}

@@ -5,3 +5,4 @@ mod Farms
 mod Faults
 mod Commands
 mod Racks
+mod Blocks

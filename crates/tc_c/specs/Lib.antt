@@ -7,3 +7,5 @@ pub mod Place
 pub mod Channel
 pub mod Rack
 pub mod Writing
+pub mod Cltus
+pub mod Telemetry

@@ -17,7 +17,8 @@ use Rattle.tc_c.specs.declared.status.Status.TheVariants as st
 
 -- each status: its number, and its text in ASCII. 0 is done; from 1 on no frame stands there, or none with a right frame error
 -- control field, from 10 on nothing is written, from 20 on FARM-1 refuses, from 30 on CLCWs, from 40 on packets, from 50 on buffers and
--- pointers, from 60 on no channel is made of settings, from 70 on one can't be asked, and from 80 on no channel is made with limits
+-- pointers, from 60 on no channel is made of settings, from 70 on one can't be asked, from 80 on no channel is made with limits, and from
+-- 90 on it is of CLTUs and telemetry frames
 abbrev pub entry_of : Status → ℕ × List ℕ
 entry_of st.Done = (0, codes "done")
 entry_of st.Short = (1, codes "fewer than 5 octets")
@@ -72,6 +73,9 @@ entry_of st.DoubleLimit = (82, codes "a MAP has two limits")
 entry_of st.BadLimit = (83, codes "the limit of a MAP isn't 1 to 65,542 octets")
 entry_of st.PlainLimit = (84, codes "a channel without segment headers has no limits by MAP")
 entry_of st.UnlistedMap = (85, codes "a chosen MAP has no limit")
+entry_of st.LongCltu = (90, codes "a CLTU carries at most 1,029 octets")
+entry_of st.BadLength = (91, codes "the telemetry frame isn't of 11 or 13 to 2,048 octets")
+entry_of st.NoControl = (92, codes "there is no operational control field")
 
 abbrev pub code_of : Status → ℕ
 code_of status = (entry_of status).0
@@ -87,7 +91,7 @@ statuses =
     st.NoEntry ∷ st.BadVcid ∷ st.NoClcw ∷ st.NoPacket ∷ st.NoRoom ∷ st.Null ∷ st.NoStatus ∷ st.BadBuffer ∷ st.BadApid ∷
     st.DoubleApid ∷ st.BadCapacity ∷ st.BadMap ∷ st.DoubleMap ∷ st.BadUnits ∷ st.PlainMap ∷ st.NoChannel ∷ st.InUse ∷ st.NoQueue
     ∷ st.NoMap ∷ st.Empty ∷ st.OtherSpacecraft ∷ st.UnknownChannel ∷ st.BadOthers ∷ st.BadLimitMap ∷ st.DoubleLimit ∷ st.BadLimit
-    ∷ st.PlainLimit ∷ st.UnlistedMap ∷ []
+    ∷ st.PlainLimit ∷ st.UnlistedMap ∷ st.LongCltu ∷ st.BadLength ∷ st.NoControl ∷ []
 
 -- the first of some that has this number
 abbrev pub with_number : ℕ → List Status → Option Status

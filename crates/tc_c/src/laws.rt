@@ -70,8 +70,8 @@ pub fn each_fault_has_a_status_of_its_own()
     ensures limits { (one other : LimitsFault) → limits_status one ≡ limits_status other → one ≡ other }
 {}
 
-/// The numbers are those of `c/tcrx.h`, in its order: those of frames that are read; of what is written; of FARM-1, CLCWs, packets and buffers; and
-/// of channels, their settings and their limits.
+/// The numbers are those of `c/tcrx.h`, in its order: those of frames that are read; of what is written; of FARM-1, CLCWs, packets and buffers; of
+/// channels, their settings and their limits; and of CLTUs and telemetry frames.
 pub fn statuses_have_these_numbers()
     ensures frames { map code_of (st.Done ∷ st.Short ∷ st.Version ∷ st.Spare ∷ st.LengthSmall ∷ st.Truncated ∷ st.Fill ∷ st.NoFecf ∷ st.WrongFecf ∷ []) ≡ 0 ∷ 1 ∷ 2 ∷ 3 ∷ 4 ∷ 5 ∷ 6 ∷ 7 ∷ 8 ∷ [] }
     ensures writing { map code_of (st.BadField ∷ st.EmptyData ∷ st.TooLong ∷ st.NoMemory ∷ st.LongPacket ∷ st.LongUnit ∷ st.LongFrame ∷ st.BadSize ∷ st.NoSegment ∷ st.BadCommand ∷ []) ≡ 10 ∷ 11 ∷ 12 ∷ 13 ∷ 14 ∷ 15 ∷ 16 ∷ 17 ∷ 18 ∷ 19 ∷ [] }
@@ -79,6 +79,7 @@ pub fn statuses_have_these_numbers()
     ensures settings { map code_of (st.BadBuffer ∷ st.BadApid ∷ st.DoubleApid ∷ st.BadCapacity ∷ st.BadMap ∷ st.DoubleMap ∷ st.BadUnits ∷ st.PlainMap ∷ []) ≡ 60 ∷ 61 ∷ 62 ∷ 63 ∷ 64 ∷ 65 ∷ 66 ∷ 67 ∷ [] }
     ensures channels { map code_of (st.NoChannel ∷ st.InUse ∷ st.NoQueue ∷ st.NoMap ∷ st.Empty ∷ st.OtherSpacecraft ∷ st.UnknownChannel ∷ []) ≡ 70 ∷ 71 ∷ 72 ∷ 73 ∷ 74 ∷ 75 ∷ 76 ∷ [] }
     ensures limits { map code_of (st.BadOthers ∷ st.BadLimitMap ∷ st.DoubleLimit ∷ st.BadLimit ∷ st.PlainLimit ∷ st.UnlistedMap ∷ []) ≡ 80 ∷ 81 ∷ 82 ∷ 83 ∷ 84 ∷ 85 ∷ [] }
+    ensures edges { map code_of (st.LongCltu ∷ st.BadLength ∷ st.NoControl ∷ []) ≡ 90 ∷ 91 ∷ 92 ∷ [] }
 {}
 
 /// FARM-1 asks for a frame again where it has no room, and Wait stays set with Retransmit until there is room: so there is no Wait without

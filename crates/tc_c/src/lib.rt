@@ -1,5 +1,6 @@
-//! The receiver's calls for C: FARM-1, CLCWs, transfer frames and space packets over plain numbers, records and octets, which
-//! keep no state and allocate nothing; and a channel that the caller holds by a seat in its own memory, or many in an array.
+//! The receiver's calls for C: FARM-1, CLCWs, transfer frames, space packets, CLTUs and telemetry frames over plain numbers,
+//! records and octets, which keep no state and allocate nothing; and a channel that the caller holds by a seat in its own
+//! memory, or many in an array.
 //!
 //! Each call answers with a status, alone or as the first field of a record. It keeps no pointer that it is given.
 //! The header `c/tcrx.h` says the same to callers in C.
@@ -8,6 +9,7 @@
 mod buffer;
 mod channel;
 mod clcw;
+mod cltus;
 mod counts;
 mod farm;
 mod frames;
@@ -21,6 +23,7 @@ mod settings;
 mod status;
 mod storage;
 mod takes;
+mod telemetry;
 mod writing;
 
 pub use buffer::{WrittenRecord, tcrx_text_at};
@@ -29,6 +32,7 @@ pub use channel::{
     tcrx_channel_release_at,
 };
 pub use clcw::{ClcwFieldsRecord, ClcwRecord, tcrx_clcw, tcrx_read_clcw};
+pub use cltus::{tcrx_randomise_at, tcrx_write_cltu_at};
 pub use counts::{
     CountRecord, tcrx_channel_buffered_at, tcrx_channel_clcw_at, tcrx_channel_events_at,
     tcrx_channel_queued_at, tcrx_channel_report_at, tcrx_channel_units_at,
@@ -51,6 +55,7 @@ pub use settings::{SettingsRecord, tcrx_channel_new_at, tcrx_channel_new_with_li
 pub use status::Status;
 pub use storage::{tcrx_storage_at, tcrx_storage_with_limits_at};
 pub use takes::{tcrx_channel_take_at, tcrx_channel_take_unit_at};
+pub use telemetry::{TmFieldsRecord, TmHeaderRecord, tcrx_read_tm_at, tcrx_write_tm_at};
 pub use writing::{
     PacketHeaderRecord, tcrx_add_fecf_at, tcrx_check_fecf_at, tcrx_write_command_at,
     tcrx_write_packet_at, tcrx_write_segment_at,

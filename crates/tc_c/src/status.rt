@@ -67,6 +67,9 @@ pub enum Status {
     BadLimit,
     PlainLimit,
     UnlistedMap,
+    LongCltu,
+    BadLength,
+    NoControl,
 }
 
 /// Each status with its number and its text in ASCII: the one list, which another macro reads for a value.
@@ -126,6 +129,9 @@ macro_rules! each_status {
             BadLimit 83 b"the limit of a MAP isn't 1 to 65,542 octets",
             PlainLimit 84 b"a channel without segment headers has no limits by MAP",
             UnlistedMap 85 b"a chosen MAP has no limit",
+            LongCltu 90 b"a CLTU carries at most 1,029 octets",
+            BadLength 91 b"the telemetry frame isn't of 11 or 13 to 2,048 octets",
+            NoControl 92 b"there is no operational control field",
         }
     };
 }

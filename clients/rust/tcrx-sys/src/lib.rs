@@ -158,6 +158,12 @@ numbers! {
     PLAIN_LIMIT: Status = 84;
     /// Limits: a chosen MAP isn't listed, and `others` is 0.
     UNLISTED_MAP: Status = 85;
+    /// No CLTU carries more than 1,029 octets.
+    LONG_CLTU: Status = 90;
+    /// No telemetry frame: its length isn't 11 to 2,048 octets, with a frame error control field 13 to 2,048.
+    BAD_LENGTH: Status = 91;
+    /// The telemetry frame has no operational control field.
+    NO_CONTROL: Status = 92;
     /// Enough for any of them, with the 0 at its end.
     TEXT_ROOM: usize = 64;
     /// S1, Open.
@@ -306,6 +312,28 @@ records! {
         secondary: u8,
         /// The sequence flags, at most 3; of an unsegmented packet 3.
         sequence: u8,
+    }
+    /// What the primary header of a telemetry frame says of whose frame it is, and which.
+    TmHeader as "tcrx_tm_header" {
+        /// The spacecraft id, 0 to 1,023.
+        scid: u16,
+        /// The virtual channel id, 0 to 7.
+        vcid: u8,
+        /// The frames of the spacecraft before it, modulo 256.
+        master_count: u8,
+        /// The frames of the virtual channel before it, modulo 256.
+        channel_count: u8,
+    }
+    /// What a telemetry frame says.
+    Tm as "tcrx_tm" {
+        /// `TCRX_DONE`, or why not.
+        status: Status,
+        /// The operational control field, a CLCW. Its first bit is the most significant one.
+        clcw: u32,
+        /// The primary header.
+        header: TmHeader,
+        /// The first header pointer: 2,046 where all data are idle, 2,047 where no packet begins.
+        pointer: u16,
     }
     /// What was written into a buffer.
     Written as "tcrx_written" {
@@ -490,6 +518,28 @@ extern "C" {
     /// Answer: the primary header and the length of the packet at the front of octets. The secondary header, the sequence flags and
     /// the sequence count may have any value. Refused by `TCRX_NO_PACKET`.
     pub fn tcrx_read_packet_at(octets: *const u8, count: usize) -> Packet;
+    /// Writes the CLTU (communications link transmission unit) that carries a frame to the front of a buffer: the start sequence,
+    /// the code blocks, with fill in the last one where it needs some, and the tail sequence. It has 10 octets more than 8 for each
+    /// 7 of the frame.
+    ///
+    /// Answer: the length of the CLTU, at most 1,186. Refused by `TCRX_EMPTY_DATA`, `TCRX_LONG_CLTU`, `TCRX_NO_ROOM`.
+    pub fn tcrx_write_cltu_at(frame: *const u8, frame_count: usize, octets: *mut u8, room: usize) -> Written;
+    /// Writes octets with the random sequence added to the front of a buffer. Where a mission randomises its CLTUs, a sender gives
+    /// it each frame before `tcrx_write_cltu`, and a receiver what each CLTU carried: added twice, the sequence changes nothing.
+    ///
+    /// Answer: how many octets there are. Refused by `TCRX_EMPTY_DATA`, `TCRX_LONG_CLTU`, `TCRX_NO_ROOM`.
+    pub fn tcrx_randomise_at(frame: *const u8, frame_count: usize, octets: *mut u8, room: usize) -> Written;
+    /// Writes a telemetry frame that carries a CLCW, and idle data for the rest, to the front of a buffer. Add 1 to both counts of
+    /// the header for the next frame of the virtual channel, and to the master count for that of another one: as `uint8_t` they
+    /// count modulo 256.
+    ///
+    /// Answer: the length of the frame. Refused by `TCRX_BAD_FLAG`, `TCRX_BAD_FIELD`, `TCRX_BAD_LENGTH`, `TCRX_NO_ROOM`.
+    pub fn tcrx_write_tm_at(header: TmHeader, fecf: u8, clcw: u32, size: u16, octets: *mut u8, room: usize) -> Written;
+    /// Reads octets that are one telemetry frame. Its secondary header and its packets are not looked into.
+    ///
+    /// Answer: what the frame says. Refused by `TCRX_BAD_FLAG`, `TCRX_BAD_LENGTH`, `TCRX_BAD_VERSION`, `TCRX_NO_CONTROL`,
+    /// `TCRX_WRONG_FECF`.
+    pub fn tcrx_read_tm_at(fecf: u8, octets: *const u8, count: usize) -> Tm;
     /// Not counted: what the functions of memory add to each block, the block of the channel itself, and the copies of the two
     /// lists, of 4 octets an entry. `TCRX_STORAGE_OF` counts all of it.
     ///

@@ -97,6 +97,24 @@ refusals! {
         LongUnit = LONG_UNIT,
         /// No packet is written: a packet data field of more than 65,536 octets.
         LongPacket = LONG_PACKET,
+        /// No CLTU carries more than 1,029 octets.
+        LongCltu = LONG_CLTU,
+        /// No telemetry frame: its length isn't 11 to 2,048 octets, with a frame error control field 13 to 2,048.
+        BadLength = BAD_LENGTH,
+    }
+}
+
+refusals! {
+    /// Why octets are no telemetry frame.
+    TmError {
+        /// No telemetry frame: its length isn't 11 to 2,048 octets, with a frame error control field 13 to 2,048.
+        BadLength = BAD_LENGTH,
+        /// No frame: version bits that aren't 0.
+        BadVersion = BAD_VERSION,
+        /// The telemetry frame has no operational control field.
+        NoControl = NO_CONTROL,
+        /// The frame error control field is wrong.
+        WrongFecf = WRONG_FECF,
     }
 }
 

@@ -32,8 +32,11 @@ mod errors;
 mod link;
 
 pub use channel::{Brought, Channel, Delivery, Limits, Link, Rack, Settings};
-pub use errors::{BringError, FarmError, FecfError, FrameError, RackError, ReleaseError, SettingsError, TakeError, WriteError};
+pub use errors::{
+    BringError, FarmError, FecfError, FrameError, RackError, ReleaseError, SettingsError, TakeError, TmError, WriteError,
+};
 pub use link::{
-    add_fecf, check_fecf, Arrival, Clcw, Command, Event, Farm, Frame, Header, Kind, Packet, PacketHeader, Segments, State, Step,
+    add_fecf, check_fecf, randomise, write_cltu, Arrival, Clcw, Command, Event, Farm, Frame, Header, Kind, Packet, PacketHeader,
+    Segments, State, Step, Tm, TmHeader,
 };
 pub use tcrx_sys::{Limit, Map, Queue};

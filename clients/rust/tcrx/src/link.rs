@@ -1,6 +1,6 @@
-//! Single calls, which keep no state and ask for no memory: frames, packets, CLCWs and FARM-1.
+//! Single calls, which keep no state and ask for no memory: frames, packets, CLCWs, FARM-1, CLTUs and telemetry frames.
 
-use crate::errors::{FarmError, FecfError, FrameError, WriteError};
+use crate::errors::{FarmError, FecfError, FrameError, TmError, WriteError};
 use core::fmt;
 use tcrx_sys as sys;
 
@@ -103,6 +103,70 @@ pub fn check_fecf<'room>(frame: &[u8], room: &'room mut [u8]) -> Result<&'room [
     match answer.status {
         sys::DONE => Ok(&room[..answer.length]),
         status => Err(FecfError::of(status, answer.length)),
+    }
+}
+
+/// Writes the CLTU that carries a frame, or 1 to 1,029 other octets, to the front of `room`; the answer is the CLTU, there.
+pub fn write_cltu<'room>(frame: &[u8], room: &'room mut [u8]) -> Result<&'room [u8], WriteError> {
+    // SAFETY: both pointers are to as many octets as the counts say, and only one of them is written to.
+    let answer = unsafe { sys::tcrx_write_cltu_at(frame.as_ptr(), frame.len(), room.as_mut_ptr(), room.len()) };
+    written(answer, room)
+}
+
+/// Writes a frame, or what a CLTU carried, with the random sequence added to the front of `room`. Added twice, it changes nothing.
+pub fn randomise<'room>(frame: &[u8], room: &'room mut [u8]) -> Result<&'room [u8], WriteError> {
+    // SAFETY: both pointers are to as many octets as the counts say, and only one of them is written to.
+    let answer = unsafe { sys::tcrx_randomise_at(frame.as_ptr(), frame.len(), room.as_mut_ptr(), room.len()) };
+    written(answer, room)
+}
+
+/// What the primary header of a telemetry frame says of whose frame it is, and which.
+#[derive(Clone, Copy, Debug, Default, PartialEq, Eq, Hash)]
+pub struct TmHeader {
+    /// The spacecraft id, 0 to 1,023.
+    pub scid: u16,
+    /// The virtual channel id, 0 to 7.
+    pub vcid: u8,
+    /// The frames of the spacecraft before it, modulo 256.
+    pub master_count: u8,
+    /// The frames of the virtual channel before it, modulo 256.
+    pub channel_count: u8,
+}
+
+impl TmHeader {
+    /// Writes a telemetry frame of this header, of so many octets, that carries a CLCW, to the front of `room`. With `fecf` it ends with
+    /// a frame error control field.
+    pub fn write(self, fecf: bool, clcw: Clcw, size: u16, room: &mut [u8]) -> Result<&[u8], WriteError> {
+        let TmHeader { scid, vcid, master_count, channel_count } = self;
+        let header = sys::TmHeader { scid, vcid, master_count, channel_count };
+        // SAFETY: the pointer is to as many octets as the room has.
+        let answer = unsafe { sys::tcrx_write_tm_at(header, fecf.into(), clcw.word(), size, room.as_mut_ptr(), room.len()) };
+        written(answer, room)
+    }
+}
+
+/// What a telemetry frame says.
+#[derive(Clone, Copy, Debug, PartialEq, Eq, Hash)]
+pub struct Tm {
+    /// Its primary header.
+    pub header: TmHeader,
+    /// Its operational control field, for [`Clcw::read`].
+    pub clcw: u32,
+    /// The first header pointer: 2,046 where all data are idle, 2,047 where no packet begins.
+    pub pointer: u16,
+}
+
+impl Tm {
+    /// Reads octets that are one telemetry frame. With `fecf` it ends with a frame error control field, which is checked.
+    pub fn read(fecf: bool, octets: &[u8]) -> Result<Self, TmError> {
+        // SAFETY: the pointer is to as many octets as the count says.
+        let answer = unsafe { sys::tcrx_read_tm_at(fecf.into(), octets.as_ptr(), octets.len()) };
+        if answer.status != sys::DONE {
+            return Err(TmError::of(answer.status, 0));
+        }
+        let sys::TmHeader { scid, vcid, master_count, channel_count } = answer.header;
+        let header = TmHeader { scid, vcid, master_count, channel_count };
+        Ok(Tm { header, clcw: answer.clcw, pointer: answer.pointer })
     }
 }
 

@@ -4,9 +4,9 @@
 use std::error::Error;
 use std::thread;
 use tcrx::{
-    add_fecf, check_fecf, Arrival, Channel, Clcw, Command, Delivery, Event, Farm, FarmError, FecfError, Frame, Header, Kind, Limit,
-    Limits, Link, Map, Packet, PacketHeader, Queue, Rack, RackError, ReleaseError, Segments, Settings, SettingsError, State,
-    TakeError, WriteError,
+    add_fecf, check_fecf, randomise, write_cltu, Arrival, Channel, Clcw, Command, Delivery, Event, Farm, FarmError, FecfError,
+    Frame, Header, Kind, Limit, Limits, Link, Map, Packet, PacketHeader, Queue, Rack, RackError, ReleaseError, Segments, Settings,
+    SettingsError, State, TakeError, Tm, TmError, TmHeader, WriteError,
 };
 
 const PACKET: [u8; 7] = [0x10, 0x05, 0xc0, 0x00, 0x00, 0x00, 0xaa];
@@ -298,6 +298,34 @@ fn what_is_made() -> Result<(), Box<dyn Error>> {
     assert_eq!(Packet::write(&PacketHeader::telecommand(2048, 0), &[0], &mut room), Err(WriteError::BadField));
     assert_eq!(add_fecf(&plain, &mut []), Err(FecfError::NoRoom { needed: 10 }));
     assert_eq!(check_fecf(&plain, &mut room), Err(FecfError::WrongFecf));
+    Ok(())
+}
+
+/// The parity bits and the random sequence are worked out by another implementation.
+#[test]
+fn ends_of_the_link() -> Result<(), Box<dyn Error>> {
+    let mut room = [0; 32];
+    let plain = [0x22, 0xa3, 0x94, 0x07, 0xc8, 0xc0, 0xaa, 0xbb];
+    let cltu = [
+        0xeb, 0x90, 0x22, 0xa3, 0x94, 0x07, 0xc8, 0xc0, 0xaa, 0xf0, 0xbb, 0x55, 0x55, 0x55, 0x55, 0x55, 0x55, 0x3e, 0xc5, 0xc5,
+        0xc5, 0xc5, 0xc5, 0xc5, 0xc5, 0x79,
+    ];
+    assert_eq!(write_cltu(&plain, &mut room)?, cltu);
+    assert_eq!(randomise(&plain, &mut room)?, [0xdd, 0x9a, 0x0a, 0x5d, 0xa0, 0x29, 0xac, 0x4e]);
+    let header = TmHeader { scid: 675, vcid: 5, master_count: 200, channel_count: 77 };
+    let clcw = Clcw::read(0x1d94_84b5).ok_or("no CLCW")?;
+    let frame = [0x2a, 0x3b, 0xc8, 0x4d, 0x1f, 0xfe, 0x55, 0x55, 0x55, 0x1d, 0x94, 0x84, 0xb5, 0x7e, 0xe3];
+    assert_eq!(header.write(false, clcw, 13, &mut room)?, &frame[..13]);
+    assert_eq!(header.write(true, clcw, 15, &mut room)?, frame);
+    assert_eq!(Tm::read(true, &frame)?, Tm { header, clcw: clcw.word(), pointer: 2046 });
+    assert_eq!(Tm::read(true, &frame[..13]), Err(TmError::WrongFecf));
+    assert_eq!(Tm::read(false, &frame[..10]), Err(TmError::BadLength));
+    assert_eq!(Tm::read(false, &[0; 11]), Err(TmError::NoControl));
+    assert_eq!(Tm::read(false, &[0x40; 11]), Err(TmError::BadVersion));
+    assert_eq!(write_cltu(&[0; 1030], &mut room), Err(WriteError::LongCltu));
+    assert_eq!(randomise(&[], &mut room), Err(WriteError::EmptyData));
+    assert_eq!(header.write(true, clcw, 12, &mut room), Err(WriteError::BadLength));
+    assert_eq!(header.write(false, clcw, 33, &mut room), Err(WriteError::NoRoom { needed: 33 }));
     Ok(())
 }
 

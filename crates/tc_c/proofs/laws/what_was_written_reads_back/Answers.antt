@@ -1,6 +1,5 @@
-use Rattle.std.proofs.Common.{ap, sym, length, List, ℕ}
+use Rattle.std.proofs.Common.{ap, sym, length}
 use Rattle.tc_link.specs.declared.frame.Header.{Header}
-use Rattle.tc_write.specs.declared.packets.PacketHeader.{PacketHeader}
 use Rattle.tc_c.specs.declared.frames.FrameRecord.{FrameRecord}
 use Rattle.tc_c.specs.Frame.{header_record}
 use Rattle.tc_c.specs.Packet.{written_packet}

@@ -1,0 +1,169 @@
+//! CLTUs, and what they are randomised by, into the caller's buffer.
+
+ghost use Rattle.std.specs.Prelude.{◌≡◌, ◌<◌, ◌≤◌, ◌+◌, ◌*◌, ◌/◌, ◌++◌, Some, None, length, take, drop, IfSome, IfNone, IfOk, MatchResult};
+ghost use Rattle.tc_cltu.specs.CodeBlock.{code_block};
+ghost use Rattle.tc_cltu.specs.Cltu.{cltu, filled, code_blocks, most_octets, fault_of};
+ghost use Rattle.tc_cltu.specs.Randomiser.{randomised};
+ghost use Rattle.tc_c.specs.Channel.{no_octets, too_short, taken};
+ghost use Rattle.tc_c.specs.Cltus.{cltu_status};
+
+use crate::buffer::{WrittenRecord, no_room, not_written, written};
+use crate::status::Status;
+use tc_cltu::{CltuFault, MOST_OCTETS, encode_block, randomise};
+
+const START: [u8; 2] = [0xeb, 0x90];
+
+const TAIL: [u8; 8] = [0xc5, 0xc5, 0xc5, 0xc5, 0xc5, 0xc5, 0xc5, 0x79];
+
+/// Writes the CLTU that carries a frame, or other octets, to the front of a buffer: the start sequence, the code blocks, with fill in
+/// the last one where it needs some, and the tail sequence (CCSDS 231.0-B).
+///
+/// It carries 1 to 1,029 octets, and has 10 octets more than 8 for each 7 of them. Others are refused by EmptyData and LongCltu, with
+/// length 0; then a buffer that is too short by NoRoom, with the length that is needed. A buffer stays as it was where the call is
+/// refused.
+#[unsafe(no_mangle)]
+pub extern "C" fn tcrx_write_cltu_at(frame: &[u8], octets: &mut [u8]) -> WrittenRecord
+    ensures written { IfNone (fault_of frame.now) (length (cltu frame.now) ≤ length octets.old → result ≡ taken (length (cltu frame.now))) }
+    ensures cltu { IfNone (fault_of frame.now) (length (cltu frame.now) ≤ length octets.old → take (length (cltu frame.now)) octets.new ≡ cltu frame.now) }
+    ensures rest { IfNone (fault_of frame.now) (length (cltu frame.now) ≤ length octets.old → drop (length (cltu frame.now)) octets.new ≡ drop (length (cltu frame.now)) octets.old) }
+    ensures no_room { IfNone (fault_of frame.now) (length octets.old < length (cltu frame.now) → (result ≡ too_short (length (cltu frame.now))) × (octets.new ≡ octets.old)) }
+    ensures refused { IfSome (fault_of frame.now) (λ fault. (result ≡ no_octets (cltu_status fault)) × (octets.new ≡ octets.old)) }
+{
+    match check_carried(frame) {
+        Ok(()) => {}
+        Err(fault) => return not_written(cltu_fault(fault)),
+    }
+    let needed = cltu_length(frame);
+    if octets.len() < needed {
+        return no_room(needed);
+    }
+    let (made, _) = octets.split_at_mut(needed);
+    write_over(frame, made);
+    written(needed)
+}
+
+// That a CLTU can carry as many octets.
+fn check_carried(octets: &[u8]) -> Result<(), CltuFault>
+    ensures fault { MatchResult result (λ _. fault_of octets.now ≡ None) (λ fault. fault_of octets.now ≡ Some fault) }
+    ensures most { IfOk result (λ _. length octets.now ≤ most_octets) }
+{
+    if octets.is_empty() {
+        return Err(CltuFault::Empty);
+    }
+    if octets.len() > MOST_OCTETS {
+        return Err(CltuFault::TooLong);
+    }
+    Ok(())
+}
+
+fn cltu_fault(fault: CltuFault) -> Status
+    ensures { result ≡ cltu_status fault }
+{
+    match fault {
+        CltuFault::Empty => Status::EmptyData,
+        CltuFault::TooLong => Status::LongCltu,
+        CltuFault::NoMemory => Status::NoMemory,
+    }
+}
+
+// How many octets the CLTU has.
+fn cltu_length(frame: &[u8]) -> usize
+    requires { length frame.now ≤ most_octets }
+    ensures { result ≡ length (cltu frame.now) }
+{
+    8 * ((frame.len() + 6) / 7) + 10
+}
+
+// Writes the CLTU over as many octets as it has.
+fn write_over(frame: &[u8], made: &mut [u8])
+    requires most { length frame.now ≤ most_octets }
+    requires all { length made.old ≡ length (cltu frame.now) }
+    ensures { made.new ≡ cltu frame.now }
+{
+    let mut at = put_at(made, 0, &START);
+    let mut rest = frame;
+    while rest.len() >= 7 {
+        let (seven, others) = rest.split_at(7);
+        at = put_block(made, at, seven);
+        rest = others;
+    }
+    let end = put_last(made, at, rest);
+    put_at(made, end, &TAIL);
+}
+
+// Writes the code block of what is left, with its fill, if anything is left; where it ends.
+fn put_last(made: &mut [u8], at: usize, octets: &[u8]) -> usize
+    requires few { length octets.now < 7 }
+    requires room { at + 8 * ((length octets.now + 6) / 7) ≤ length made.old }
+    ensures end { result ≡ at + 8 * ((length octets.now + 6) / 7) }
+    ensures front { take result made.new ≡ take at made.old ++ code_blocks (filled octets.now) }
+    ensures all { length made.new ≡ length made.old }
+{
+    if octets.is_empty() {
+        return at;
+    }
+    put_block(made, at, octets)
+}
+
+// Writes the code block of one to seven octets, with their fill; where it ends.
+fn put_block(made: &mut [u8], at: usize, octets: &[u8]) -> usize
+    requires some { 0 < length octets.now }
+    requires few { length octets.now ≤ 7 }
+    requires room { at + 8 ≤ length made.old }
+    ensures end { result ≡ at + 8 }
+    ensures front { take (at + 8) made.new ≡ take at made.old ++ code_block (filled octets.now) }
+    ensures all { length made.new ≡ length made.old }
+{
+    put_at(made, at, &encode_block(with_fill(octets)))
+}
+
+// Writes octets from a place on; where they end.
+fn put_at(made: &mut [u8], at: usize, octets: &[u8]) -> usize
+    requires { at + length octets.now ≤ length made.old }
+    ensures end { result ≡ at + length octets.now }
+    ensures front { take (at + length octets.now) made.new ≡ take at made.old ++ octets.now }
+    ensures all { length made.new ≡ length made.old }
+{
+    let (_, rest) = made.split_at_mut(at);
+    let (place, _) = rest.split_at_mut(octets.len());
+    place.copy_from_slice(octets);
+    at + octets.len()
+}
+
+// One to seven octets, and fill behind them.
+fn with_fill(octets: &[u8]) -> [u8; 7]
+    requires some { 0 < length octets.now }
+    requires few { length octets.now ≤ 7 }
+    ensures octets { result ≡ filled octets.now }
+    ensures seven { length result ≡ 7 }
+{
+    let mut information = [0x55; 7];
+    information[..octets.len()].copy_from_slice(octets);
+    information
+}
+
+/// Writes octets with the random sequence added, from its start on, to the front of a buffer (CCSDS 231.0-B). A sender gives it what a
+/// CLTU is to carry, a receiver each candidate frame: added twice, the sequence changes nothing.
+///
+/// They are 1 to 1,029, as a CLTU carries. Others are refused by EmptyData and LongCltu, with length 0; then a buffer that is too short
+/// by NoRoom, with the length that is needed. A buffer stays as it was where the call is refused.
+#[unsafe(no_mangle)]
+pub extern "C" fn tcrx_randomise_at(given: &[u8], octets: &mut [u8]) -> WrittenRecord
+    ensures written { IfNone (fault_of given.now) (length given.now ≤ length octets.old → result ≡ taken (length given.now)) }
+    ensures octets { IfNone (fault_of given.now) (length given.now ≤ length octets.old → take (length given.now) octets.new ≡ randomised given.now) }
+    ensures rest { IfNone (fault_of given.now) (length given.now ≤ length octets.old → drop (length given.now) octets.new ≡ drop (length given.now) octets.old) }
+    ensures no_room { IfNone (fault_of given.now) (length octets.old < length given.now → (result ≡ too_short (length given.now)) × (octets.new ≡ octets.old)) }
+    ensures refused { IfSome (fault_of given.now) (λ fault. (result ≡ no_octets (cltu_status fault)) × (octets.new ≡ octets.old)) }
+{
+    match check_carried(given) {
+        Ok(()) => {}
+        Err(fault) => return not_written(cltu_fault(fault)),
+    }
+    if octets.len() < given.len() {
+        return no_room(given.len());
+    }
+    let (made, _) = octets.split_at_mut(given.len());
+    made.copy_from_slice(given);
+    randomise(made);
+    written(given.len())
+}
