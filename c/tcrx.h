@@ -140,7 +140,8 @@ enum {
 
     TCRX_LONG_CLTU = 90,  /**< No CLTU carries more than 1,029 octets. */
     TCRX_BAD_LENGTH = 91, /**< No telemetry frame: its length isn't 11 to 2,048 octets, with a frame error control field 13 to 2,048. */
-    TCRX_NO_CONTROL = 92  /**< The telemetry frame has no operational control field. */
+    TCRX_NO_CONTROL = 92, /**< The telemetry frame has no operational control field. */
+    TCRX_BAD_DECODER = 93 /**< No decoder has this record. */
 };
 
 /** Room for a text. */
@@ -272,6 +273,35 @@ typedef struct {
     tcrx_tm_header header; /**< The primary header. */
     uint16_t pointer;      /**< The first header pointer: 2,046 where all data are idle, 2,047 where no packet begins. */
 } tcrx_tm;
+
+/** What became of a code block. */
+enum {
+    TCRX_NO_BLOCK = 0,  /**< No code block ended. */
+    TCRX_RIGHT = 1,     /**< It was taken as it was. */
+    TCRX_CORRECTED = 2, /**< It was taken, and one of its bits corrected. */
+    TCRX_TAIL = 3,      /**< It was rejected, and is the tail sequence. */
+    TCRX_REJECTED = 4   /**< It was rejected, and isn't the tail sequence. */
+};
+
+/** Room for what a decoder holds. */
+enum { TCRX_DECODER_ROOM = 1037 /**< The 1,029 octets that a CLTU carries at most, and one code block. */ };
+
+/** A decoder of CLTUs, apart from what it holds, which is in a buffer. At the start all but its mode is 0. */
+typedef struct {
+    uint8_t correct;  /**< Whether one wrong bit of a code block is corrected, and one of a start sequence passes; else none does. */
+    uint8_t decoding; /**< Whether a start sequence has come, and code blocks are decoded. */
+    uint8_t last;     /**< The octet before, while a start sequence is looked for. */
+    uint8_t count;    /**< The octets of the next code block that have come, 0 to 7. */
+    uint16_t held;    /**< The octets that code blocks have carried since the start sequence, 0 to 1,029. */
+} tcrx_decoder;
+
+/** What an octet came to. */
+typedef struct {
+    tcrx_status status;   /**< #TCRX_DONE, or why not. */
+    tcrx_decoder decoder; /**< The decoder after the octet; where the call is refused, as it was given. */
+    uint8_t fate;         /**< #TCRX_NO_BLOCK to #TCRX_REJECTED, of the code block that it ended. */
+    uint8_t ended;        /**< Whether it ended a candidate frame: the first `held` octets of the buffer. */
+} tcrx_decoded;
 
 /** What was written into a buffer. */
 typedef struct {
@@ -602,6 +632,25 @@ static inline tcrx_written tcrx_write_cltu(const uint8_t *frame, size_t frame_co
         return refused;
     }
     return tcrx_write_cltu_at(frame, frame_count, octets, room);
+}
+
+/**
+ * Gives a decoder the next octet of a stream. It looks for a start sequence, and then decodes code blocks until one is rejected, as the
+ * tail sequence is: what the others carried is a candidate frame, with fill behind it. Give the record of the answer to the next call,
+ * with the same buffer, all of which is the decoder's. A CLTU that carries more than 1,029 octets gives nothing.
+ *
+ * @param decoder the record of the decoder
+ * @param octet   the octet
+ * @param frame   the buffer of the decoder, of #TCRX_DECODER_ROOM octets
+ * @param room    how many octets the buffer has
+ * @return what the octet came to. Refused by #TCRX_NULL, #TCRX_BAD_FLAG, #TCRX_BAD_DECODER, #TCRX_NO_ROOM.
+ */
+static inline tcrx_decoded tcrx_cltu_octet(tcrx_decoder decoder, uint8_t octet, uint8_t *frame, size_t room) {
+    if (frame == NULL) {
+        const tcrx_decoded refused = {TCRX_NULL, decoder, 0, 0};
+        return refused;
+    }
+    return tcrx_cltu_octet_at(decoder, octet, frame, room);
 }
 
 /**

@@ -87,7 +87,8 @@ enum class Status : tcrx_status {
     unlisted_map = TCRX_UNLISTED_MAP,
     long_cltu = TCRX_LONG_CLTU,
     bad_length = TCRX_BAD_LENGTH,
-    no_control = TCRX_NO_CONTROL
+    no_control = TCRX_NO_CONTROL,
+    bad_decoder = TCRX_BAD_DECODER
     // This is the end of what tools/c_interface writes.
 };
 
@@ -431,6 +432,44 @@ inline Result<Octets> write_cltu(Octets frame, Room room) noexcept {
     std::uint8_t nothing = 0;
     return detail::written(tcrx_write_cltu(detail::pointer(frame), frame.size(), detail::pointer(room, nothing), room.size()), room);
 }
+
+/** What became of a code block. */
+enum class Fate : std::uint8_t {
+    none = TCRX_NO_BLOCK,
+    right = TCRX_RIGHT,
+    corrected = TCRX_CORRECTED,
+    tail = TCRX_TAIL,
+    rejected = TCRX_REJECTED
+};
+
+/** What an octet of a stream came to. */
+struct Fed {
+    /** What became of the code block that it ended. */
+    Fate fate = Fate::none;
+    /** Whether it ended a candidate frame. */
+    bool ended = false;
+    /** That frame, with fill behind it, until the next octet. */
+    Octets frame;
+};
+
+/** A decoder of CLTUs in a stream, with the octets that it holds: tcrx_cltu_octet(). */
+class Decoder {
+public:
+    /** With correction of one wrong bit in each code block, or with detection alone. */
+    explicit Decoder(bool correct) noexcept { kept_.correct = detail::flag(correct); }
+
+    /** Takes the next octet of the stream. */
+    Fed octet(std::uint8_t octet) noexcept {
+        const tcrx_decoded answer = tcrx_cltu_octet(kept_, octet, held_.data(), held_.size());
+        kept_ = answer.decoder;
+        const bool ended = answer.ended == 1;
+        return {static_cast<Fate>(answer.fate), ended, ended ? Octets(held_.data(), kept_.held) : Octets()};
+    }
+
+private:
+    tcrx_decoder kept_{};
+    std::array<std::uint8_t, TCRX_DECODER_ROOM> held_{};
+};
 
 /** Writes a frame, or what a CLTU carried, with the random sequence added: tcrx_randomise(). */
 inline Result<Octets> randomise(Octets frame, Room room) noexcept {

@@ -30,8 +30,8 @@ import tcrx
 import tcrx_channel
 from tcrx import (Brought, Channel, Clcw, Delivery, Ended, Event, Final, NotSetUp, NotStarted, Outcome, Packet, Refusal, Refused,
                   Released, Report, State, Unit)
-from tcrx_channel import (BadSettings, Frame, NoMemory, NotRead, NotWritten, Rack, Tm, add_fecf, check_fecf, randomise, read_frame, read_tm,
-                          storage, write_cltu, write_frame, write_packet, write_segments, write_set_vr, write_tm, write_unlock)
+from tcrx_channel import (BadSettings, Decoder, Frame, NoMemory, NotRead, NotWritten, Rack, Tm, add_fecf, check_fecf, randomise, read_frame,
+                          read_tm, storage, write_cltu, write_frame, write_packet, write_segments, write_set_vr, write_tm, write_unlock)
 
 HEADER = TOP / "c/tcrx.h"
 SETTINGS: Dict[str, Any] = {"width": 10, "buffer": 4, "first": 0, "queues": {5: 4, 9: 2}, "maps": {2: 3}}
@@ -240,11 +240,21 @@ def check_made() -> None:
     same(str(Clcw(0x1d9484b5)), "vc 37 status 7 norf 1 nobitlock 0 lockout 0 wait 0 retransmit 0 farmb 2 vr 181", "a CLCW as text")
 
 
+def check_streams(cltu: bytes, plain: bytes) -> None:
+    """A CLTU in pieces, and with a wrong bit, which is corrected in one mode, and rejected in the other."""
+    wrong, carried = cltu[:5] + bytes([cltu[5] ^ 16]) + cltu[6:], plain + b"\x55" * 6
+    decoder, strict = Decoder(correct=True), Decoder(correct=False)
+    same([decoder.feed(octets) for octets in (cltu[:9], cltu[9:-1], cltu[-1:], wrong)], [[], [carried], [], [carried]], "a stream in pieces")
+    same((decoder.corrected, decoder.rejected), (1, 0), "one wrong bit that is corrected")
+    same((strict.feed(wrong), strict.corrected, strict.rejected), ([], 0, 1), "one wrong bit that is detected")
+
+
 def check_ends_of_the_link() -> None:
     """A CLTU, the random sequence and telemetry frames, as c/checks/fields.h has them, and one of each that is refused."""
     plain, clcw = bytes.fromhex("22a39407c8c0aabb"), Clcw(0x1d9484b5)
     same(write_cltu(plain).hex(), "eb9022a39407c8c0aaf0bb5555555555553ec5c5c5c5c5c5c579", "a CLTU")
     same((randomise(plain).hex(), randomise(randomise(plain))), ("dd9a0a5da029ac4e", plain), "the random sequence, on and off")
+    check_streams(bytes.fromhex("eb9022a39407c8c0aaf0bb5555555555553ec5c5c5c5c5c5c57955"), plain)
     for digits, fecf, size in (("2a3bc84d1ffe5555551d9484b5", False, 13), ("2a3bc84d1ffe5555551d9484b57ee3", True, 15)):
         same(write_tm(675, 5, 200, 77, clcw, size=size, fecf=fecf).hex(), digits, "a telemetry frame")
         same(read_tm(bytes.fromhex(digits), fecf=fecf), Tm(675, 5, 200, 77, clcw, 2046), "what a telemetry frame says")

@@ -101,6 +101,12 @@ static tcrx_tm_header tm_header_given(void) {
     return given;
 }
 
+static tcrx_decoder decoder_given(void) {
+    const tcrx_decoder given = {(uint8_t)numbers[0], (uint8_t)numbers[1], (uint8_t)numbers[2], (uint8_t)numbers[3],
+                                (uint16_t)numbers[4]};
+    return given;
+}
+
 static tcrx_settings settings_given(void) {
     const tcrx_settings given = {(uint8_t)numbers[0], (uint8_t)numbers[1], (uint8_t)numbers[2], (uint8_t)numbers[3],
                                  (uint8_t)numbers[4]};
@@ -216,6 +222,18 @@ u32 EXPORT(module_read_packet)(const uint8_t *octets, u32 count) {
 u32 EXPORT(module_write_cltu)(const uint8_t *frame, u32 frame_count, uint8_t *octets, u32 room) {
     const tcrx_written answer = tcrx_write_cltu_at(frame, frame_count, octets, room);
     answer_count(0, answer.length);
+    return answer.status;
+}
+
+u32 EXPORT(module_cltu_octet)(u32 octet, uint8_t *frame, u32 room) {
+    const tcrx_decoded answer = tcrx_cltu_octet_at(decoder_given(), (uint8_t)octet, frame, room);
+    numbers[0] = answer.decoder.correct;
+    numbers[1] = answer.decoder.decoding;
+    numbers[2] = answer.decoder.last;
+    numbers[3] = answer.decoder.count;
+    numbers[4] = answer.decoder.held;
+    numbers[5] = answer.fate;
+    numbers[6] = answer.ended;
     return answer.status;
 }
 

@@ -314,6 +314,28 @@ void check_made() {
     tell(tcrx::check_fecf(plain, {}).status() == Status::wrong_fecf, "a frame without a field");
 }
 
+// A CLTU amid other octets, without a wrong bit and with one, which is corrected in one mode, and rejected in the other.
+void check_streams() {
+    using tcrx::Fate;
+    const std::vector<Fate> wanted[] = {{Fate::right, Fate::right, Fate::tail}, {Fate::corrected, Fate::right, Fate::tail}, {Fate::rejected}};
+    for (std::size_t i = 0; i < 3; i++) {
+        tcrx::Decoder decoder(i != 2);
+        std::vector<Fate> fates;
+        Bytes stream(cltu_octets, cltu_octets + sizeof cltu_octets), given;
+        stream[5] ^= i == 0 ? 0 : 16;
+        stream.insert(stream.begin(), 0xeb);
+        for (const std::uint8_t octet : stream) {
+            const tcrx::Fed fed = decoder.octet(octet);
+            if (fed.fate != Fate::none) fates.push_back(fed.fate);
+            given.insert(given.end(), fed.frame.begin(), fed.frame.end());
+        }
+        Bytes carried(frame_rows[0].octets, frame_rows[0].octets + frame_rows[0].fields[5]);
+        carried.resize(14, 0x55);
+        tell(fates == wanted[i], "what became of code blocks");
+        tell(given == (i == 2 ? Bytes() : carried), "what a CLTU carried");
+    }
+}
+
 // A CLTU, the random sequence and telemetry frames; then one of each that is refused.
 void check_ends_of_the_link() {
     using tcrx::Status;
@@ -416,6 +438,7 @@ int main() {
     check_frames();
     check_words_and_packets();
     check_made();
+    check_streams();
     check_ends_of_the_link();
     check_reports();
     check_settings();

@@ -307,6 +307,28 @@ static void check_cltus_made(void) {
     expect(tcrx_randomise(frame, 1029, room, 1029).length == 1029, "the most octets", 192);
 }
 
+static void expect_undecoded(tcrx_decoder decoder, uint8_t *frame, size_t room, tcrx_status status, unsigned long place) {
+    const tcrx_decoded answer = tcrx_cltu_octet(decoder, 0x55, frame, room);
+    const tcrx_decoder kept = answer.decoder;
+    expect(answer.status == status && answer.fate == 0 && answer.ended == 0, "an octet that is refused", place);
+    expect(kept.correct == decoder.correct && kept.decoding == decoder.decoding && kept.last == decoder.last, "a decoder as it was", place);
+    expect(kept.count == decoder.count && kept.held == decoder.held && is_filled(made, sizeof made), "what it holds as it was", place);
+}
+
+static void check_decoders(void) {
+    static uint8_t held[TCRX_DECODER_ROOM];
+    const tcrx_decoder correct = {2, 1, 0, 8, 0}, decoding = {1, 2, 0, 8, 0}, count = {1, 1, 0, 8, 0}, too_much = {0, 1, 0, 0, 1030};
+    const tcrx_decoder full = {1, 1, 7, 7, 1029};
+    expect_undecoded(correct, fresh(), 0, TCRX_BAD_FLAG, 230);
+    expect_undecoded(decoding, fresh(), 0, TCRX_BAD_FLAG, 231);
+    expect_undecoded(count, fresh(), 0, TCRX_BAD_DECODER, 232);
+    expect_undecoded(too_much, fresh(), 0, TCRX_BAD_DECODER, 233);
+    expect_undecoded(full, fresh(), TCRX_DECODER_ROOM - 1, TCRX_NO_ROOM, 234);
+    expect_undecoded(full, NULL, TCRX_DECODER_ROOM, TCRX_NULL, 235);
+    const tcrx_decoded answer = tcrx_cltu_octet(full, 0xfe, held, sizeof held);
+    expect(answer.status == TCRX_DONE && answer.decoder.decoding == 0 && answer.ended == 0, "no room for a code block", 236);
+}
+
 static void expect_unread(tcrx_tm read, tcrx_status status, unsigned long place) {
     const int is_empty = read.clcw == 0 && read.pointer == 0 && read.header.scid == 0 && read.header.vcid == 0;
     expect(read.status == status && is_empty, "a telemetry frame that is refused", place);
@@ -412,6 +434,7 @@ static void check_texts(void) {
         {TCRX_LONG_CLTU, "a CLTU carries at most 1,029 octets"},
         {TCRX_BAD_LENGTH, "the telemetry frame isn't of 11 or 13 to 2,048 octets"},
         {TCRX_NO_CONTROL, "there is no operational control field"},
+        {TCRX_BAD_DECODER, "no decoder of CLTUs has that record"},
     };
     unsigned long there = 0;
     for (size_t i = 0; i < sizeof texts / sizeof texts[0]; i++) {
@@ -437,6 +460,7 @@ int main(void) {
     check_commands_made();
     check_fields_made();
     check_cltus_made();
+    check_decoders();
     check_telemetry();
     check_texts();
     return close_with("answers of refused and bounded calls");

@@ -8,10 +8,11 @@ __all__ = ["CALLS", "DONE", "SHORT", "BAD_VERSION", "SPARE", "LENGTH_SMALL", "TR
            "BAD_VCID", "NO_CLCW", "NO_PACKET", "NO_ROOM", "NULL", "NO_STATUS", "BAD_BUFFER", "BAD_APID", "DOUBLE_APID",
            "BAD_CAPACITY", "BAD_MAP", "DOUBLE_MAP", "BAD_UNITS", "PLAIN_MAP", "NO_CHANNEL", "IN_USE", "NO_QUEUE", "NO_MAP",
            "EMPTY", "OTHER_SPACECRAFT", "UNKNOWN_CHANNEL", "BAD_OTHERS", "BAD_LIMIT_MAP", "DOUBLE_LIMIT", "BAD_LIMIT",
-           "PLAIN_LIMIT", "UNLISTED_MAP", "LONG_CLTU", "BAD_LENGTH", "NO_CONTROL", "TEXT_ROOM", "OPEN", "WAIT", "LOCKOUT", "AD",
-           "BD", "UNLOCK", "SET_VR", "INVALID", "RELEASE", "_Farm", "_FarmAnswer", "_StepAnswer", "_ClcwAnswer", "_ClcwFields",
-           "_Header", "_Frame", "_KindAnswer", "_Packet", "_PacketHeader", "_TmHeader", "_Tm", "_Written", "_Channel", "_Settings",
-           "_Queue", "_Map", "_Limit", "_Reply", "_Delivery", "_RackReply", "_Place", "_Count"]
+           "PLAIN_LIMIT", "UNLISTED_MAP", "LONG_CLTU", "BAD_LENGTH", "NO_CONTROL", "BAD_DECODER", "TEXT_ROOM", "OPEN", "WAIT",
+           "LOCKOUT", "AD", "BD", "UNLOCK", "SET_VR", "INVALID", "RELEASE", "NO_BLOCK", "RIGHT", "CORRECTED", "TAIL", "REJECTED",
+           "DECODER_ROOM", "_Farm", "_FarmAnswer", "_StepAnswer", "_ClcwAnswer", "_ClcwFields", "_Header", "_Frame", "_KindAnswer",
+           "_Packet", "_PacketHeader", "_TmHeader", "_Tm", "_Decoder", "_Decoded", "_Written", "_Channel", "_Settings", "_Queue",
+           "_Map", "_Limit", "_Reply", "_Delivery", "_RackReply", "_Place", "_Count"]
 
 DONE = 0
 SHORT = 1
@@ -69,6 +70,7 @@ UNLISTED_MAP = 85
 LONG_CLTU = 90
 BAD_LENGTH = 91
 NO_CONTROL = 92
+BAD_DECODER = 93
 TEXT_ROOM = 64
 OPEN = 1
 WAIT = 2
@@ -79,6 +81,12 @@ UNLOCK = 3
 SET_VR = 4
 INVALID = 5
 RELEASE = 6
+NO_BLOCK = 0
+RIGHT = 1
+CORRECTED = 2
+TAIL = 3
+REJECTED = 4
+DECODER_ROOM = 1037
 
 
 # Records of C have fields alone.
@@ -132,6 +140,14 @@ class _TmHeader(Structure):
 
 class _Tm(Structure):
     _fields_ = [("status", c_uint32), ("clcw", c_uint32), ("header", _TmHeader), ("pointer", c_uint16)]
+
+
+class _Decoder(Structure):
+    _fields_ = [("correct", c_uint8), ("decoding", c_uint8), ("last", c_uint8), ("count", c_uint8), ("held", c_uint16)]
+
+
+class _Decoded(Structure):
+    _fields_ = [("status", c_uint32), ("decoder", _Decoder), ("fate", c_uint8), ("ended", c_uint8)]
 
 
 class _Written(Structure):
@@ -197,6 +213,7 @@ CALLS: Dict[str, Tuple[Any, List[Any]]] = {
     "tcrx_write_packet_at": (_Written, [_PacketHeader, c_char_p, c_size_t, c_void_p, c_size_t]),
     "tcrx_read_packet_at": (_Packet, [c_char_p, c_size_t]),
     "tcrx_write_cltu_at": (_Written, [c_char_p, c_size_t, c_void_p, c_size_t]),
+    "tcrx_cltu_octet_at": (_Decoded, [_Decoder, c_uint8, c_void_p, c_size_t]),
     "tcrx_randomise_at": (_Written, [c_char_p, c_size_t, c_void_p, c_size_t]),
     "tcrx_write_tm_at": (_Written, [_TmHeader, c_uint8, c_uint32, c_uint16, c_void_p, c_size_t]),
     "tcrx_read_tm_at": (_Tm, [c_uint8, c_char_p, c_size_t]),

@@ -44,11 +44,11 @@ from typing import Any, Dict, Iterable, Iterator, List, Mapping, NoReturn, Optio
 from tcrx import (Brought, Clcw, Delivery, Ended, Event, Fault, Final, NotSetUp, NotStarted, Packet, Refusal, Refused, Released, Report,
                   State, Unit)
 from tcrx_c import *  # pylint: disable=wildcard-import,unused-wildcard-import  # all that the header declares
-from tcrx_c import _Channel, _Header, _Limit, _Map, _PacketHeader, _Queue, _Settings, _TmHeader
+from tcrx_c import _Channel, _Decoder, _Header, _Limit, _Map, _PacketHeader, _Queue, _Settings, _TmHeader
 
-__all__ = ["BadSettings", "Channel", "Frame", "NoMemory", "NotRead", "NotWritten", "Rack", "Tm", "add_fecf", "check_fecf", "find_library",
-           "randomise", "read_frame", "read_tm", "storage", "write_cltu", "write_frame", "write_packet", "write_segments", "write_set_vr",
-           "write_tm", "write_unlock"]
+__all__ = ["BadSettings", "Channel", "Decoder", "Frame", "NoMemory", "NotRead", "NotWritten", "Rack", "Tm", "add_fecf", "check_fecf",
+           "find_library", "randomise", "read_frame", "read_tm", "storage", "write_cltu", "write_frame", "write_packet", "write_segments",
+           "write_set_vr", "write_tm", "write_unlock"]
 
 LIBRARY = "libtcrx.so.0"
 Octets = Union[bytes, bytearray, memoryview]
@@ -276,6 +276,30 @@ def write_cltu(frame: Octets, *, library: Library = None) -> bytes:
     """The CLTU that carries a frame, or 1 to 1,029 other octets. Raises `NotWritten`."""
     whole = bytes(frame)
     return made_by(load(library), "tcrx_write_cltu_at", whole, len(whole), room=MOST_CLTU)
+
+
+class Decoder:
+    """Finds CLTUs in a stream that comes in any pieces. It counts the code blocks that it corrected and rejected, apart from tail
+    sequences."""
+
+    def __init__(self, *, correct: bool, library: Library = None) -> None:
+        """With correction of one wrong bit in each code block, or with detection alone."""
+        self._library = load(library)
+        self._kept = _Decoder(int(bool(correct)), 0, 0, 0, 0)
+        self._held = ctypes.create_string_buffer(DECODER_ROOM)
+        self.corrected = self.rejected = 0
+
+    def feed(self, octets: Octets) -> List[bytes]:
+        """The candidate frames that end in these octets, each with fill behind it."""
+        frames: List[bytes] = []
+        for octet in bytes(octets):
+            answer = self._library.tcrx_cltu_octet_at(self._kept, octet, self._held, DECODER_ROOM)
+            self._kept = answer.decoder
+            self.corrected += answer.fate == CORRECTED
+            self.rejected += answer.fate == REJECTED
+            if answer.ended:
+                frames.append(self._held.raw[:self._kept.held])
+        return frames
 
 
 def randomise(frame: Octets, *, library: Library = None) -> bytes:

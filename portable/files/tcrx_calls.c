@@ -58,6 +58,32 @@ static uint32_t put_frame(tcrx_instance *at, const uint8_t *octets, size_t count
     return looked_at;
 }
 
+/* The buffer is read and written: what the decoder has in it, and the octet. */
+tcrx_decoded tcrx_cltu_octet_at(tcrx_decoder decoder, uint8_t octet, uint8_t *frame, size_t room) {
+    tcrx_decoded answer;
+    tcrx_instance *at = tcrx_instance_shared();
+    const uint32_t has = least(room, TCRX_DECODER_ROOM), kept = least((size_t)decoder.held + decoder.count, has);
+    tcrx_set_number(at, 0, decoder.correct);
+    tcrx_set_number(at, 1, decoder.decoding);
+    tcrx_set_number(at, 2, decoder.last);
+    tcrx_set_number(at, 3, decoder.count);
+    tcrx_set_number(at, 4, decoder.held);
+    tcrx_put(at, at->written, frame, kept);
+    answer.status = Z_tcrxZ_module_cltu_octet(&at->module, octet, at->written, has);
+    answer.decoder.correct = (uint8_t)tcrx_number(at, 0);
+    answer.decoder.decoding = (uint8_t)tcrx_number(at, 1);
+    answer.decoder.last = (uint8_t)tcrx_number(at, 2);
+    answer.decoder.count = (uint8_t)tcrx_number(at, 3);
+    answer.decoder.held = (uint16_t)tcrx_number(at, 4);
+    answer.fate = (uint8_t)tcrx_number(at, 5);
+    answer.ended = (uint8_t)tcrx_number(at, 6);
+    if (answer.status == TCRX_DONE && decoder.decoding) {
+        tcrx_get(at, at->written, frame, least((size_t)kept + 1, has));
+    }
+    tcrx_instance_back();
+    return answer;
+}
+
 /* What follows is written by tools/c_interface of c/tcrx.h. */
 tcrx_written tcrx_text_at(tcrx_status status, uint8_t *text, size_t room) {
     tcrx_instance *at = tcrx_instance_shared();

@@ -6,3 +6,4 @@ mod Faults
 mod Commands
 mod Racks
 mod Blocks
+mod Receiving

@@ -8,4 +8,5 @@ pub mod Channel
 pub mod Rack
 pub mod Writing
 pub mod Cltus
+pub mod Decoder
 pub mod Telemetry

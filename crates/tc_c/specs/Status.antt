@@ -76,6 +76,7 @@ entry_of st.UnlistedMap = (85, codes "a chosen MAP has no limit")
 entry_of st.LongCltu = (90, codes "a CLTU carries at most 1,029 octets")
 entry_of st.BadLength = (91, codes "the telemetry frame isn't of 11 or 13 to 2,048 octets")
 entry_of st.NoControl = (92, codes "there is no operational control field")
+entry_of st.BadDecoder = (93, codes "no decoder of CLTUs has that record")
 
 abbrev pub code_of : Status → ℕ
 code_of status = (entry_of status).0
@@ -91,7 +92,7 @@ statuses =
     st.NoEntry ∷ st.BadVcid ∷ st.NoClcw ∷ st.NoPacket ∷ st.NoRoom ∷ st.Null ∷ st.NoStatus ∷ st.BadBuffer ∷ st.BadApid ∷
     st.DoubleApid ∷ st.BadCapacity ∷ st.BadMap ∷ st.DoubleMap ∷ st.BadUnits ∷ st.PlainMap ∷ st.NoChannel ∷ st.InUse ∷ st.NoQueue
     ∷ st.NoMap ∷ st.Empty ∷ st.OtherSpacecraft ∷ st.UnknownChannel ∷ st.BadOthers ∷ st.BadLimitMap ∷ st.DoubleLimit ∷ st.BadLimit
-    ∷ st.PlainLimit ∷ st.UnlistedMap ∷ st.LongCltu ∷ st.BadLength ∷ st.NoControl ∷ []
+    ∷ st.PlainLimit ∷ st.UnlistedMap ∷ st.LongCltu ∷ st.BadLength ∷ st.NoControl ∷ st.BadDecoder ∷ []
 
 -- the first of some that has this number
 abbrev pub with_number : ℕ → List Status → Option Status

@@ -79,7 +79,7 @@ pub fn statuses_have_these_numbers()
     ensures settings { map code_of (st.BadBuffer ∷ st.BadApid ∷ st.DoubleApid ∷ st.BadCapacity ∷ st.BadMap ∷ st.DoubleMap ∷ st.BadUnits ∷ st.PlainMap ∷ []) ≡ 60 ∷ 61 ∷ 62 ∷ 63 ∷ 64 ∷ 65 ∷ 66 ∷ 67 ∷ [] }
     ensures channels { map code_of (st.NoChannel ∷ st.InUse ∷ st.NoQueue ∷ st.NoMap ∷ st.Empty ∷ st.OtherSpacecraft ∷ st.UnknownChannel ∷ []) ≡ 70 ∷ 71 ∷ 72 ∷ 73 ∷ 74 ∷ 75 ∷ 76 ∷ [] }
     ensures limits { map code_of (st.BadOthers ∷ st.BadLimitMap ∷ st.DoubleLimit ∷ st.BadLimit ∷ st.PlainLimit ∷ st.UnlistedMap ∷ []) ≡ 80 ∷ 81 ∷ 82 ∷ 83 ∷ 84 ∷ 85 ∷ [] }
-    ensures edges { map code_of (st.LongCltu ∷ st.BadLength ∷ st.NoControl ∷ []) ≡ 90 ∷ 91 ∷ 92 ∷ [] }
+    ensures edges { map code_of (st.LongCltu ∷ st.BadLength ∷ st.NoControl ∷ st.BadDecoder ∷ []) ≡ 90 ∷ 91 ∷ 92 ∷ 93 ∷ [] }
 {}
 
 /// FARM-1 asks for a frame again where it has no room, and Wait stays set with Retransmit until there is room: so there is no Wait without

@@ -70,6 +70,7 @@ pub enum Status {
     LongCltu,
     BadLength,
     NoControl,
+    BadDecoder,
 }
 
 /// Each status with its number and its text in ASCII: the one list, which another macro reads for a value.
@@ -132,6 +133,7 @@ macro_rules! each_status {
             LongCltu 90 b"a CLTU carries at most 1,029 octets",
             BadLength 91 b"the telemetry frame isn't of 11 or 13 to 2,048 octets",
             NoControl 92 b"there is no operational control field",
+            BadDecoder 93 b"no decoder of CLTUs has that record",
         }
     };
 }

@@ -110,8 +110,8 @@ fn turn(octets: &mut [u8], place: u8)
     octets[at] ^= 0x80 >> (place % 8);
 }
 
-// What becomes of a code block.
-pub(crate) fn judge(block: [u8; 8], mode: Mode) -> Fate
+/// What becomes of a code block.
+pub fn judge(block: [u8; 8], mode: Mode) -> Fate
     ensures { result ≡ fate_in mode block }
 {
     if decode_block(block, Mode::Detect).is_some() {

@@ -167,8 +167,8 @@ impl Decoder {
     }
 }
 
-// Whether two octets count as the start sequence.
-fn begins(mode: Mode, last: u8, octet: u8) -> bool
+/// Whether two octets count as the start sequence: with as many wrong bits as the mode allows a code block.
+pub fn begins(mode: Mode, last: u8, octet: u8) -> bool
     ensures { result ≡ is_start mode last octet }
 {
     let wrong = wrong_bits(last, octet);

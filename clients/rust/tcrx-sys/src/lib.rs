@@ -164,6 +164,8 @@ numbers! {
     BAD_LENGTH: Status = 91;
     /// The telemetry frame has no operational control field.
     NO_CONTROL: Status = 92;
+    /// No decoder has this record.
+    BAD_DECODER: Status = 93;
     /// Enough for any of them, with the 0 at its end.
     TEXT_ROOM: usize = 64;
     /// S1, Open.
@@ -184,6 +186,18 @@ numbers! {
     INVALID: u8 = 5;
     /// A data field has left the buffer.
     RELEASE: u8 = 6;
+    /// No code block ended.
+    NO_BLOCK: u8 = 0;
+    /// It was taken as it was.
+    RIGHT: u8 = 1;
+    /// It was taken, and one of its bits corrected.
+    CORRECTED: u8 = 2;
+    /// It was rejected, and is the tail sequence.
+    TAIL: u8 = 3;
+    /// It was rejected, and isn't the tail sequence.
+    REJECTED: u8 = 4;
+    /// The 1,029 octets that a CLTU carries at most, and one code block.
+    DECODER_ROOM: usize = 1037;
 }
 
 records! {
@@ -334,6 +348,30 @@ records! {
         header: TmHeader,
         /// The first header pointer: 2,046 where all data are idle, 2,047 where no packet begins.
         pointer: u16,
+    }
+    /// A decoder of CLTUs, apart from what it holds, which is in a buffer. At the start all but its mode is 0.
+    Decoder as "tcrx_decoder" {
+        /// Whether one wrong bit of a code block is corrected, and one of a start sequence passes; else none does.
+        correct: u8,
+        /// Whether a start sequence has come, and code blocks are decoded.
+        decoding: u8,
+        /// The octet before, while a start sequence is looked for.
+        last: u8,
+        /// The octets of the next code block that have come, 0 to 7.
+        count: u8,
+        /// The octets that code blocks have carried since the start sequence, 0 to 1,029.
+        held: u16,
+    }
+    /// What an octet came to.
+    Decoded as "tcrx_decoded" {
+        /// `TCRX_DONE`, or why not.
+        status: Status,
+        /// The decoder after the octet; where the call is refused, as it was given.
+        decoder: Decoder,
+        /// `TCRX_NO_BLOCK` to `TCRX_REJECTED`, of the code block that it ended.
+        fate: u8,
+        /// Whether it ended a candidate frame: the first `held` octets of the buffer.
+        ended: u8,
     }
     /// What was written into a buffer.
     Written as "tcrx_written" {
@@ -524,6 +562,13 @@ extern "C" {
     ///
     /// Answer: the length of the CLTU, at most 1,186. Refused by `TCRX_EMPTY_DATA`, `TCRX_LONG_CLTU`, `TCRX_NO_ROOM`.
     pub fn tcrx_write_cltu_at(frame: *const u8, frame_count: usize, octets: *mut u8, room: usize) -> Written;
+    /// Gives a decoder the next octet of a stream. It looks for a start sequence, and then decodes code blocks until one is
+    /// rejected, as the tail sequence is: what the others carried is a candidate frame, with fill behind it. Give the record of the
+    /// answer to the next call, with the same buffer, all of which is the decoder's. A CLTU that carries more than 1,029 octets
+    /// gives nothing.
+    ///
+    /// Answer: what the octet came to. Refused by `TCRX_BAD_FLAG`, `TCRX_BAD_DECODER`, `TCRX_NO_ROOM`.
+    pub fn tcrx_cltu_octet_at(decoder: Decoder, octet: u8, frame: *mut u8, room: usize) -> Decoded;
     /// Writes octets with the random sequence added to the front of a buffer. Where a mission randomises its CLTUs, a sender gives
     /// it each frame before `tcrx_write_cltu`, and a receiver what each CLTU carried: added twice, the sequence changes nothing.
     ///

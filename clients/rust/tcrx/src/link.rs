@@ -113,6 +113,58 @@ pub fn write_cltu<'room>(frame: &[u8], room: &'room mut [u8]) -> Result<&'room [
     written(answer, room)
 }
 
+/// What became of a code block.
+#[derive(Clone, Copy, Debug, PartialEq, Eq, Hash)]
+pub enum Fate {
+    /// It was taken as it was.
+    Right,
+    /// It was taken, and one of its bits corrected.
+    Corrected,
+    /// It was rejected, and is the tail sequence.
+    Tail,
+    /// It was rejected, and isn't the tail sequence.
+    Rejected,
+}
+
+/// What an octet of a stream came to.
+#[derive(Clone, Copy, Debug, PartialEq, Eq, Hash)]
+pub struct Fed<'held> {
+    /// What became of the code block that it ended, if it ended one.
+    pub fate: Option<Fate>,
+    /// The candidate frame that it ended, with fill behind it, if it ended one.
+    pub frame: Option<&'held [u8]>,
+}
+
+/// A decoder of CLTUs in a stream, with the octets that it holds.
+#[derive(Clone, Debug)]
+pub struct Decoder {
+    kept: sys::Decoder,
+    held: [u8; sys::DECODER_ROOM],
+}
+
+impl Decoder {
+    /// With correction of one wrong bit in each code block, or with detection alone.
+    pub fn new(correct: bool) -> Self {
+        let kept = sys::Decoder { correct: correct.into(), decoding: 0, last: 0, count: 0, held: 0 };
+        Decoder { kept, held: [0; sys::DECODER_ROOM] }
+    }
+
+    /// Takes the next octet of the stream.
+    pub fn octet(&mut self, octet: u8) -> Fed<'_> {
+        // SAFETY: the pointer is to as many octets as the room says.
+        let answer = unsafe { sys::tcrx_cltu_octet_at(self.kept, octet, self.held.as_mut_ptr(), self.held.len()) };
+        self.kept = answer.decoder;
+        let fate = match answer.fate {
+            sys::RIGHT => Some(Fate::Right),
+            sys::CORRECTED => Some(Fate::Corrected),
+            sys::TAIL => Some(Fate::Tail),
+            sys::REJECTED => Some(Fate::Rejected),
+            _ => None,
+        };
+        Fed { fate, frame: (answer.ended == 1).then(|| &self.held[..self.kept.held.into()]) }
+    }
+}
+
 /// Writes a frame, or what a CLTU carried, with the random sequence added to the front of `room`. Added twice, it changes nothing.
 pub fn randomise<'room>(frame: &[u8], room: &'room mut [u8]) -> Result<&'room [u8], WriteError> {
     // SAFETY: both pointers are to as many octets as the counts say, and only one of them is written to.

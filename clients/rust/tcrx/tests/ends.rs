@@ -4,8 +4,9 @@
 use std::error::Error;
 use std::thread;
 use tcrx::{
-    add_fecf, check_fecf, randomise, write_cltu, Arrival, Channel, Clcw, Command, Delivery, Event, Farm, FarmError, FecfError,
-    Frame, Header, Kind, Limit, Limits, Link, Map, Packet, PacketHeader, Queue, Rack, RackError, ReleaseError, Segments, Settings,
+    add_fecf, check_fecf, randomise, write_cltu, Arrival, Channel, Clcw, Command, Decoder, Delivery, Event, Farm, FarmError, Fate,
+    FecfError, Frame, Header, Kind, Limit, Limits, Link, Map, Packet, PacketHeader, Queue, Rack, RackError, ReleaseError, Segments,
+    Settings,
     SettingsError, State, TakeError, Tm, TmError, TmHeader, WriteError,
 };
 
@@ -327,6 +328,31 @@ fn ends_of_the_link() -> Result<(), Box<dyn Error>> {
     assert_eq!(header.write(true, clcw, 12, &mut room), Err(WriteError::BadLength));
     assert_eq!(header.write(false, clcw, 33, &mut room), Err(WriteError::NoRoom { needed: 33 }));
     Ok(())
+}
+
+/// The CLTU of `ends_of_the_link` amid other octets; with a wrong bit, which is corrected in one mode, and rejected in the other.
+#[test]
+fn streams_of_cltus() {
+    let cltu = [
+        0xeb, 0x90, 0x22, 0xa3, 0x94, 0x07, 0xc8, 0xc0, 0xaa, 0xf0, 0xbb, 0x55, 0x55, 0x55, 0x55, 0x55, 0x55, 0x3e, 0xc5, 0xc5,
+        0xc5, 0xc5, 0xc5, 0xc5, 0xc5, 0x79, 0x55,
+    ];
+    let carried = [0x22, 0xa3, 0x94, 0x07, 0xc8, 0xc0, 0xaa, 0xbb, 0x55, 0x55, 0x55, 0x55, 0x55, 0x55];
+    let mut decoder = Decoder::new(true);
+    for (turned, first) in [(0, Fate::Right), (0x10, Fate::Corrected)] {
+        let mut fates = Vec::new();
+        let mut frames = Vec::new();
+        for (place, octet) in cltu.into_iter().enumerate() {
+            let fed = decoder.octet(if place == 5 { octet ^ turned } else { octet });
+            fates.extend(fed.fate);
+            frames.extend(fed.frame.map(<[u8]>::to_vec));
+        }
+        assert_eq!((fates, frames), (vec![first, Fate::Right, Fate::Tail], vec![carried.to_vec()]));
+    }
+    let mut strict = Decoder::new(false);
+    let fates: Vec<Fate> =
+        cltu.into_iter().enumerate().filter_map(|(place, octet)| strict.octet(octet ^ u8::from(place == 5)).fate).collect();
+    assert_eq!(fates, [Fate::Rejected]);
 }
 
 /// With each value of the sequence flags. An octet of fill follows each packet.

@@ -1,0 +1,55 @@
+-- A decoder of CLTUs as a record of numbers, and a buffer that has what it holds.
+use Rattle.std.specs.Prelude.{ℕ, ◌==◌, ◌||◌, Bool, true, false, List, [], ◌∷◌, take, drop, Option, Some, None, Result, Ok, Err, nat_lt, if◌then◌else◌}
+use Rattle.tc_cltu.specs.declared.block.Fate.{Fate}
+use Rattle.tc_cltu.specs.declared.block.Fate.TheVariants.{Right, Corrected, Tail, Rejected}
+use Rattle.tc_cltu.specs.declared.block.Mode.{Mode}
+use Rattle.tc_cltu.specs.declared.block.Mode.TheVariants.{Detect, Correct}
+use Rattle.tc_cltu.specs.Cltu.{most_octets}
+use Rattle.tc_cltu.specs.Reception.{Reception, Searching, Decoding}
+use Rattle.tc_c.specs.declared.status.Status.{Status}
+use Rattle.tc_c.specs.declared.status.Status.TheVariants.{BadDecoder, NoRoom}
+use Rattle.tc_c.specs.declared.decoder.DecoderRecord.{DecoderRecord}
+use Rattle.tc_c.specs.declared.decoder.DecodedRecord.{DecodedRecord}
+use Rattle.tc_c.specs.Status.{code_of}
+use Rattle.tc_c.specs.Farm.{with_ok, flag_of}
+
+abbrev pub mode_of : Bool → Mode
+mode_of true = Correct
+mode_of false = Detect
+
+-- the octets that a buffer has: what a CLTU carries at most, and one code block behind that
+abbrev pub decoder_room : ℕ
+decoder_room = 1037
+
+-- how code blocks are taken by what a record stands for, or the first reason why it stands for no decoder
+abbrev pub decoder_allowed : DecoderRecord → ℕ → Mode → Result Mode Status
+decoder_allowed decoder room mode =
+    if nat_lt 7 decoder.count || nat_lt most_octets decoder.held then Err BadDecoder
+    else if nat_lt room decoder_room then Err NoRoom
+    else Ok mode
+
+abbrev pub decoder_given : DecoderRecord → ℕ → Result Mode Status
+decoder_given decoder room =
+    with_ok (flag_of decoder.correct) (λ correct.
+    with_ok (flag_of decoder.decoding) (λ decoding.
+    decoder_allowed decoder room (mode_of correct)))
+
+-- where it is: while it decodes, the buffer has what the code blocks carried, and behind that what has come of the next block
+abbrev pub reception_of : DecoderRecord → List ℕ → Reception
+reception_of decoder frame =
+    if decoder.decoding == 0 then Searching decoder.last
+    else Decoding (take decoder.held frame) (take decoder.count (drop decoder.held frame))
+
+abbrev pub fate_number : Option Fate → ℕ
+fate_number None = 0
+fate_number (Some Right) = 1
+fate_number (Some Corrected) = 2
+fate_number (Some Tail) = 3
+fate_number (Some Rejected) = 4
+
+-- the candidate frames that an answer gives
+abbrev pub given_by : DecodedRecord → List ℕ → List (List ℕ)
+given_by answer frame = if answer.ended == 0 then [] else take answer.decoder.held frame ∷ []
+
+abbrev pub no_step : Status → DecoderRecord → DecodedRecord
+no_step fault decoder = record { status = code_of fault; decoder = decoder; fate = 0; ended = 0 }
