@@ -286,7 +286,10 @@ enum {
 /** Room for what a decoder holds. */
 enum { TCRX_DECODER_ROOM = 1037 /**< The 1,029 octets that a CLTU carries at most, and one code block. */ };
 
-/** A decoder of CLTUs, apart from what it holds, which is in a buffer. At the start all but its mode is 0. */
+/**
+ * A decoder of CLTUs (communications link transmission units), apart from what it holds, which is in a buffer. At the start all but its
+ * mode is 0.
+ */
 typedef struct {
     uint8_t correct;  /**< Whether one wrong bit of a code block is corrected, and one of a start sequence passes; else none does. */
     uint8_t decoding; /**< Whether a start sequence has come, and code blocks are decoded. */

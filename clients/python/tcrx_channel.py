@@ -278,6 +278,7 @@ def write_cltu(frame: Octets, *, library: Library = None) -> bytes:
     return made_by(load(library), "tcrx_write_cltu_at", whole, len(whole), room=MOST_CLTU)
 
 
+# pylint: disable-next=too-few-public-methods  # to feed it is all that one does
 class Decoder:
     """Finds CLTUs in a stream that comes in any pieces. It counts the code blocks that it corrected and rejected, apart from tail
     sequences."""

@@ -349,7 +349,8 @@ records! {
         /// The first header pointer: 2,046 where all data are idle, 2,047 where no packet begins.
         pointer: u16,
     }
-    /// A decoder of CLTUs, apart from what it holds, which is in a buffer. At the start all but its mode is 0.
+    /// A decoder of CLTUs (communications link transmission units), apart from what it holds, which is in a buffer. At the start
+    /// all but its mode is 0.
     Decoder as "tcrx_decoder" {
         /// Whether one wrong bit of a code block is corrected, and one of a start sequence passes; else none does.
         correct: u8,

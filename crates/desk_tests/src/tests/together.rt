@@ -52,7 +52,7 @@ impl Desks {
     }
 
     fn worker(&mut self) -> Worker
-        ensures same { self.new ≡ self.old }
+        ensures same { (self.new.first.lock ≡ self.old.first.lock) × (self.new.second.lock ≡ self.old.second.lock) }
         ensures first { result.first.lock ≡ self.new.first.lock }
         ensures second { result.second.lock ≡ self.new.second.lock }
     {
