@@ -1,18 +1,20 @@
 //! The channels of a spacecraft in the caller's memory: which of them a frame is for.
 
 ghost use Rattle.std.specs.Prelude.{◌≡◌, ◌<◌, ℕ, List, length, Some, None, IfSome, IfNone, IfOk, MatchOption, MatchResult, option_map};
-ghost use Rattle.tc_link.specs.Frame.{IsWhole};
+ghost use Rattle.tc_link.specs.Frame.{IsWhole, BeginsWith, header_of, fault_of};
+ghost use Rattle.tc_channel.specs.Reply.{frame_reply_within};
 ghost use Rattle.tc_channel.specs.declared.event.Event.TheVariants as Event;
 ghost use Rattle.tc_fecf.specs.FrameWithField.{frame_with_field, taking_fault_of};
 ghost use Rattle.tc_fixed.specs.History.{LimitedHistory, with_event};
+ghost use Rattle.tc_fixed.specs.Limits.{limit_of};
 ghost use Rattle.tc_c.specs.Status.{code_of, field_status};
-ghost use Rattle.tc_c.specs.Rack.{channels_in, IsFirst, IsThere, IsLocated, IsLocateFault, rack_reply, no_rack_reply, no_place, replied, IsAnswered};
+ghost use Rattle.tc_c.specs.Rack.{channels_in, IsFirst, IsThere, IsLocated, IsLocateFault, rack_reply, no_rack_reply, no_place, IsAnswered};
 
+use crate::channel::tcrx_channel_frame_at;
 use crate::farm::flag;
 use crate::seat::Seat;
 use crate::status::{Status, code, field_fault, locate_fault};
-use tc_channel::FrameReply;
-use tc_link::{Frame, LocateFault, read_frame};
+use tc_link::{LocateFault, each_input_begins_with_one_frame_at_most, read_frame};
 use tc_write::{check_taking, write_without_field};
 
 /// What became of a frame, and of which channel. Flags are 0 or 1, and each number is 0 where the call is refused.
@@ -41,20 +43,6 @@ pub struct PlaceRecord {
     pub status: u32,
     /// The place, from 0 on; 0 where the call is refused.
     pub place: usize,
-}
-
-fn reply_told(vcid: u8, reply: FrameReply) -> RackReplyRecord
-    ensures { result ≡ rack_reply vcid reply }
-{
-    RackReplyRecord {
-        status: code(Status::Done),
-        queued: reply.delivery.queued,
-        dropped: reply.delivery.dropped,
-        event: reply.act.event,
-        accepted: u8::from(reply.act.accepted),
-        rest: u8::from(reply.delivery.rest),
-        vcid,
-    }
 }
 
 fn reply_refused(fault: Status) -> RackReplyRecord
@@ -100,13 +88,10 @@ fn place_of(seats: &mut [Seat], vcid: u8) -> Option<usize>
     None
 }
 
-// The frame at the front of the octets, and the place of the channel that it is for.
-fn located<'a>(
-    seats: &mut [Seat],
-    scid: u16,
-    octets: &'a [u8],
-) -> Result<(usize, Frame<'a>), LocateFault>
-    ensures located { MatchResult result (λ found. (h : LimitedHistory) × IsLocated (channels_in seats.old) scid octets.now found.0 found.1 h) (IsLocateFault (channels_in seats.old) scid octets.now) }
+// The place of the channel that the frame at the front of the octets is for, and the virtual channel id.
+fn located(seats: &mut [Seat], scid: u16, octets: &[u8]) -> Result<(usize, u8), LocateFault>
+    ensures located { MatchResult result (λ found. (frame : List ℕ) × (h : LimitedHistory) × IsLocated (channels_in seats.old) scid octets.now found.0 frame h × ((header_of frame).vcid ≡ found.1)) (IsLocateFault (channels_in seats.old) scid octets.now) }
+    ensures frame { IfOk result (λ _. fault_of octets.now ≡ None) }
     ensures bound { IfOk result (λ found. found.0 < length seats.new) }
     ensures unchanged { channels_in seats.new ≡ channels_in seats.old }
 {
@@ -116,23 +101,25 @@ fn located<'a>(
         return Err(LocateFault::OtherSpacecraft);
     }
     match place_of(seats, header.vcid) {
-        Some(place) => Ok((place, frame)),
+        Some(place) => Ok((place, header.vcid)),
         None => Err(LocateFault::UnknownChannel),
     }
 }
 
-// Gives the channel in a seat a frame.
-fn answer(seat: &mut Seat, frame: &Frame) -> RackReplyRecord
-    ensures answer { IfSome seat.old.place.channel (λ h. (result ≡ replied h frame.now) × (seat.new.place.channel ≡ Some (with_event h (Event.Frame frame.now)))) }
+// Gives the channel in a seat, which has this id, the frame at the front of the octets: by the call for one channel, so that what a frame
+// does to a channel stands once in the library.
+fn answer(seat: &mut Seat, vcid: u8, octets: &[u8]) -> RackReplyRecord
+    ensures answer { IfSome seat.old.place.channel (λ h. IfNone (fault_of octets.now) ((frame : List ℕ) × BeginsWith octets.now frame × (result ≡ rack_reply vcid (frame_reply_within (limit_of h.limits) h.settings h.journal frame)) × (seat.new.place.channel ≡ Some (with_event h (Event.Frame frame))))) }
 {
-    match seat.take() {
-        Some(mut held) => {
-            let vcid = held.settings().vcid;
-            let reply = held.frame(frame);
-            seat.put(held);
-            reply_told(vcid, reply)
-        }
-        None => reply_refused(Status::NoChannel),
+    let reply = tcrx_channel_frame_at(seat, octets);
+    RackReplyRecord {
+        status: reply.status,
+        queued: reply.queued,
+        dropped: reply.dropped,
+        event: reply.event,
+        accepted: reply.accepted,
+        rest: reply.rest,
+        vcid,
     }
 }
 
@@ -140,8 +127,10 @@ fn answer(seat: &mut Seat, frame: &Frame) -> RackReplyRecord
 fn bring(seats: &mut [Seat], scid: u16, octets: &[u8]) -> RackReplyRecord
     ensures answer { IsAnswered (channels_in seats.old) scid octets.now result (channels_in seats.new) }
 {
+    // The frame that the channel takes in is the one that was located.
+    each_input_begins_with_one_frame_at_most();
     match located(seats, scid, octets) {
-        Ok((place, frame)) => answer(&mut seats[place], &frame),
+        Ok((place, vcid)) => answer(&mut seats[place], vcid, octets),
         Err(fault) => reply_refused(locate_fault(fault)),
     }
 }

@@ -1,13 +1,22 @@
-use Rattle.std.proofs.Common.{inl}
-use Rattle.tc_c.specs.Rack.{channels_in}
+use Rattle.std.proofs.Common.{◌≡◌, ◌∙◌, Some, ap, sym, inl}
+use Rattle.tc_channel.specs.declared.event.Event.TheVariants as Event
+use Rattle.tc_channel.specs.Reply.{frame_reply_within}
+use Rattle.tc_fixed.specs.History.{with_event}
+use Rattle.tc_fixed.specs.Limits.{limit_of}
+use Rattle.tc_c.specs.Rack.{channels_in, rack_reply, replied}
 use Rattle.tc_c.proofs.Racks.{held, changed}
 use Rattle.tc_c.proofs.rack.bring.Goals as goal
 
 pub returns-in-Ok : goal.returns-in-Ok
 returns-in-Ok c =
-    let old = channels_in c.args.seats.now in let seats = c.located.new.seats in let place = c.in-Ok.place in
+    let octets = c.args.octets.now in let old = channels_in c.args.seats.now in let seats = c.located.new.seats in let place = c.in-Ok.place in
     let same = c.in-Ok.ensures.unchanged in
-    let h = c.in-Ok.ensures.located.0 in let is = c.in-Ok.ensures.located.1 in
+    let frame = c.in-Ok.ensures.located.0 in let h = c.in-Ok.ensures.located.1 in let is = c.in-Ok.ensures.located.2 in
     let holds = held seats place c.index-seats-place.result old h c.in-Ok.ensures.bound same is.2.0.0 in
-    let done = rw holds at c.answer.ensures.answer in
-    record { answer = inl (place, c.in-Ok.frame, h, is, done.0, changed seats place c.answer.new.seat old _ same done.1) }
+    let there = rw holds at c.answer.ensures.answer in
+    let done = rw c.in-Ok.ensures.frame at there in
+    let one : done.0 ≡ frame = c.each_input_begins_with_one_frame_at_most.ensures octets done.0 frame done.1 is.0 in
+    let id : c.in-Ok.vcid ≡ h.settings.vcid = sym (is.2.0.1 ∙ c.in-Ok.ensures.located.3) in
+    let reply : c.answer.result ≡ replied h frame = done.2 ∙ (ap (λ f. rack_reply c.in-Ok.vcid (frame_reply_within (limit_of h.limits) h.settings h.journal f)) one ∙ ap (λ v. rack_reply v (frame_reply_within (limit_of h.limits) h.settings h.journal frame)) id) in
+    let new = done.3 ∙ ap (λ f. Some (with_event h (Event.Frame f))) one in
+    record { answer = inl (place, frame, h, is, reply, changed seats place c.answer.new.seat old _ same new) }
