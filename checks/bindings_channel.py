@@ -197,7 +197,20 @@ def check_racks() -> None:
     same(other.release(), Released(8, Delivery(0, 0, True)), "its release")
     same((second.close().events, other.close().events), (1, 2), "the events at the end")
     same(Rack(675, []).bring(sent), refused[Refusal.CHANNEL], "a rack of no channel")
+    check_rack_turns(sent)
     raises(ValueError, lambda: Rack(65536, []), "a spacecraft that C's type doesn't have")
+
+
+def check_rack_turns(sent: bytes) -> None:
+    """Racks of the same channels, one of which stands twice in each, in several threads: no call waits for ever."""
+    one, two = (Channel(vcid, width=10, buffer=4, first=7, limits={0: 64}) for vcid in (5, 8))
+    racks = (Rack(675, [one, two, one]), Rack(675, [two, one, two]))
+    threads = [threading.Thread(target=lambda rack=rack: [rack.bring(sent) for _ in range(2000)], daemon=True) for rack in racks for _ in range(2)]
+    for thread in threads:
+        thread.start()
+    for thread in threads:
+        thread.join(60)
+    same((any(thread.is_alive() for thread in threads), one.events, two.events), (False, 4000, 0), "racks of the same channels in several threads")
 
 
 # Of spacecraft 675, with fill behind each: Type-BD has bypass alone, Type-BC both flags, Type-AD none, and Type-AC control alone.

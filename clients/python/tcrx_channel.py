@@ -387,7 +387,7 @@ class Channel:
                    self._library.tcrx_channel_new_with_limits_at(self._at, *lists, *limits_of(limits, others)))
         self._finalizer = weakref.finalize(self, free, self._library, self._held)
 
-    def move_to(self, held: _Channel) -> None:
+    def _move_to(self, held: _Channel) -> None:
         """Moves the channel to another place in memory, as a `Rack` does."""
         with self._lock:
             held.held, held.place = self._held.held, self._held.place
@@ -395,16 +395,6 @@ class Channel:
             self._held, self._at = held, byref(held)
             if self._finalizer.detach():
                 self._finalizer = weakref.finalize(self, free, self._library, held)
-
-    @property
-    def lock(self) -> threading.Lock:
-        """What makes its calls take turns."""
-        return self._lock
-
-    @property
-    def library(self) -> ctypes.PyDLL:
-        """The library that holds it."""
-        return self._library
 
     def __reduce__(self) -> NoReturn:
         raise TypeError("a channel can't be copied or pickled: a copy of it is no second channel")
@@ -556,16 +546,19 @@ class Rack:
         control field, which is checked and taken off."""
         self.scid, self.fecf = in_range(scid, 65535, "scid"), bool(fecf)
         self._channels = tuple(channels)
-        self._library = self._channels[0].library if self._channels else load(None)
         self._held = (_Channel * max(1, len(self._channels)))()
+        # pylint: disable=protected-access  # a rack has its channels' memory, and takes turns with them
+        self._library = self._channels[0]._library if self._channels else load(None)
+        # Each once, and in one order for all racks, so that no two calls wait for each other.
+        self._locks = [lock for _, lock in sorted({id(channel): channel._lock for channel in self._channels}.items())]
         for held, channel in zip(self._held, self._channels):
-            channel.move_to(held)
+            channel._move_to(held)
 
     def _call(self, name: str, *given: Any) -> Any:
         """A call of the library, in turn with those of each channel."""
         with ExitStack() as held:
-            for channel in self._channels:
-                held.enter_context(channel.lock)
+            for lock in self._locks:
+                held.enter_context(lock)
             return getattr(self._library, name)(self._held, len(self._channels), *given)
 
     def bring(self, octets: Octets) -> Union[Brought, Refused]:
