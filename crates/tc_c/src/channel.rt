@@ -94,7 +94,6 @@ fn delivery_refused(fault: Status) -> DeliveryRecord
 }
 
 // Gives the channel the frame at the front of the octets.
-#[inline(always)]
 fn bring(channel: &mut FixedChannel, octets: &[u8]) -> ReplyRecord
     ensures done { IfNone (fault_of octets.now) ((frame : List ℕ) × BeginsWith octets.now frame × (result ≡ reply_record (frame_reply_within (limit_of channel.old.limits) channel.old.settings channel.old.journal frame)) × (channel.new ≡ with_event channel.old (Event.Frame frame))) }
     ensures fault { IfSome (fault_of octets.now) (λ fault. (result ≡ no_reply (frame_status fault)) × (channel.new ≡ channel.old)) }
@@ -111,7 +110,6 @@ fn bring(channel: &mut FixedChannel, octets: &[u8]) -> ReplyRecord
 ///
 /// Refused are a seat with no channel by NoChannel, and octets with which no frame begins by their first fault. Each frame is
 /// answered: no call but the one that makes the channel asks for memory.
-#[inline(always)]
 #[unsafe(no_mangle)]
 pub extern "C" fn tcrx_channel_frame_at(seat: &mut Seat, octets: &[u8]) -> ReplyRecord
     ensures done { IfSome seat.old.place.channel (λ h. IfNone (fault_of octets.now) ((frame : List ℕ) × BeginsWith octets.now frame × (result ≡ reply_record (frame_reply_within (limit_of h.limits) h.settings h.journal frame)) × (seat.new.place.channel ≡ Some (with_event h (Event.Frame frame))))) }

@@ -110,7 +110,6 @@ impl<N: Noted> FixedChannelWith<N> {
 
     /// Takes a frame in, of whatever virtual channel. An accepted AD data field is copied into the buffer; of an accepted BD data
     /// field the unit that it ends is queued at once: whole where its MAP is chosen, else its packets, each copied into its room.
-    #[inline(always)]
     pub fn frame(&mut self, frame: &Frame) -> FrameReply
         ensures allowed { IsAllowed self.old.settings }
         ensures lawful { IsLawfulWithin (limit_of self.old.limits) self.old.settings self.old.journal }
