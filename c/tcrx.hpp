@@ -723,7 +723,7 @@ private:
     // To the library an array of channels is one of their records.
     static_assert(std::is_standard_layout_v<Channel> && sizeof(Channel) == sizeof(tcrx_channel), "a channel is its record alone");
 
-    tcrx_channel *first() noexcept { return channels_.empty() ? nullptr : channels_.data()->get(); }
+    tcrx_channel *first() noexcept { return channels_.empty() || channels_.data() == nullptr ? nullptr : channels_.data()->get(); }
 
     View<Channel> channels_;
     std::uint16_t scid_;

@@ -6,8 +6,7 @@ use std::thread;
 use tcrx::{
     add_fecf, check_fecf, randomise, write_cltu, Arrival, Channel, Clcw, Command, Decoder, Delivery, Event, Farm, FarmError, Fate,
     FecfError, Frame, Header, Kind, Limit, Limits, Link, Map, Packet, PacketHeader, Queue, Rack, RackError, ReleaseError, Segments,
-    Settings,
-    SettingsError, State, TakeError, Tm, TmError, TmHeader, WriteError,
+    Settings, SettingsError, State, TakeError, Tm, TmError, TmHeader, WriteError,
 };
 
 const PACKET: [u8; 7] = [0x10, 0x05, 0xc0, 0x00, 0x00, 0x00, 0xaa];

@@ -271,7 +271,7 @@ fn growth_of_a_decoder(rt: HostRuntime) {
         "decoder 3 detect",
         "octets 3 eb90616263",
         "decoder 3 detect",
-        "octets 3 55555555a2c5c5c5c5c5c5c579",
+        "octets 3 5555555568c5c5c5c5c5c5c579",
     ];
     for line in lines {
         answer_line(rt.alloc(), &mut maker, line.as_bytes(), &mut kept).expect(&rt, "an answer");
