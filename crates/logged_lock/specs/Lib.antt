@@ -1,4 +1,5 @@
 pub mod Log
 pub mod Rule
+pub mod Word
 -- a lock's identity, for the crates above
 pub use Rattle.atomic_table.specs.Seated.{TableId}

@@ -2,6 +2,7 @@
 
 ghost use Rattle.std.specs.Prelude.{◌≡◌, ◌<◌, ◌≤◌, [], ◌∷◌, length, IfOk, MatchBool, true};
 ghost use Rattle.logged_lock.specs.Log.{start_of, with_entry, total_made, IsMergeOf, AreBehind};
+ghost use Rattle.logged_lock.specs.Word.{is_open, asking, given_back};
 ghost use Rattle.logged_lock.specs.Rule.{newcomer, guest, issued_one, unlocked, unlocked_with, told_of, IsIdle, HasLock, IsTaken, IsSettled};
 
 use crate::rule::{
@@ -41,9 +42,26 @@ const LOST_WAKES: u64 = 2;
 
 // Whether a thread that has slept so often may take a lock with this word.
 fn is_open(word: u64, sleeps: u64) -> bool
-    ensures { result ≡ true → word < 2 }
+    ensures open { result ≡ is_open word sleeps }
+    ensures free { result ≡ true → word < 2 }
 {
     word == FREE || (word == LEFT && sleeps != 0)
+}
+
+// The word of a taken lock by which a thread that has slept so often says that it waits.
+fn asking(sleeps: u64) -> u64
+    ensures asked { result ≡ asking sleeps }
+    ensures taken { (2 ≤ result) × (result ≤ 4) }
+{
+    if sleeps < LOST_WAKES { SLEEPERS } else { ASKED }
+}
+
+// The word of a lock that is given back, in place of this one.
+fn given_back(word: u64) -> u64
+    ensures given_back { result ≡ given_back word }
+    ensures free { result < 2 }
+{
+    if word == ASKED { LEFT } else { FREE }
 }
 
 /// A lock. Who has it has what lies under it. A contract sees which lock it is, and the head of the log, which never changes.
@@ -140,7 +158,7 @@ impl<S: Logged<D, E>, D: Head, E> LoggedLock<S, D, E> {
         ensures same { (seat.new.table_id ≡ seat.old.table_id) × (seat.new.id ≡ seat.old.id) × (seat.new.me ≡ seat.old.me) }
         ensures small { result ≤ 4 }
     {
-        let wanted = if sleeps < LOST_WAKES { SLEEPERS } else { ASKED };
+        let wanted = asking(sleeps);
         let mut expected = word;
         if TAKEN <= word && word < wanted {
             if !self.mark(seat, word, wanted) {
@@ -202,13 +220,6 @@ impl<S: Logged<D, E>, D: Head, E> LoggedLock<S, D, E> {
         }
     }
 
-    // The word for a lock that is given back.
-    fn next_word(&self) -> u64
-        ensures { result < 2 }
-    {
-        if self.look() == ASKED { LEFT } else { FREE }
-    }
-
     // Wakes a thread if one may sleep, as the word of the lock that was given back says.
     fn wake(&self, word: u64) {
         if TAKEN < word {
@@ -223,7 +234,7 @@ impl<S: Logged<D, E>, D: Head, E> LoggedLock<S, D, E> {
         ensures same { (seat.new.table_id ≡ seat.old.table_id) × (seat.new.id ≡ seat.old.id) }
         ensures unlocked { seat.new.me ≡ (unlocked seat.old.me.0, []) }
     {
-        let next = self.next_word();
+        let next = given_back(self.look());
         let word = self.table.shared.swap::<Leaves>(seat, WORD, next);
         self.wake(word);
     }
@@ -236,7 +247,7 @@ impl<S: Logged<D, E>, D: Head, E> LoggedLock<S, D, E> {
         ensures same { (seat.new.table_id ≡ seat.old.table_id) × (seat.new.id ≡ seat.old.id) }
         ensures unlocked { seat.new.me ≡ (unlocked_with P.entry seat.old.me.0, []) }
     {
-        let next = self.next_word();
+        let next = given_back(self.look());
         let word = self.table.shared.swap::<LeavesWith<P>>(seat, WORD, next);
         self.wake(word);
     }

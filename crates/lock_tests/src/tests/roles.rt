@@ -1,5 +1,6 @@
-//! What a thread does with its seat, and two threads that do it at the same time.
+//! What a thread does with its seat, and two or three threads that do it at the same time.
 
+ghost use Rattle.std.specs.Thread.{IsSync};
 ghost use Rattle.lock_tests.specs.Book.{IsWriter};
 
 use super::*;
@@ -12,7 +13,7 @@ use std::time::Duration;
 // How many numbers a role of `Write` writes.
 pub(super) const TURNS: u32 = 10_000;
 
-// What a thread does with its seat. Two that do it at the same time have a flag, which isn't set first.
+// What a thread does with its seat. Those that do it at the same time have a flag, which isn't set first.
 #[derive(Clone, Copy)]
 pub(super) enum Role {
     // Writes the numbers from this one on, in rising order.
@@ -25,6 +26,10 @@ pub(super) enum Role {
     HaveAllTheTime,
     // Writes a hundred numbers, and then sets the flag.
     WriteNowAndThen,
+    // Has the lock where it finds it free, for longer than who sleeps takes to wake, so many times at most, until the flag is set.
+    HaveWhereFree(u32),
+    // Writes three numbers, each after a while, and then sets the flag.
+    WriteAfterAWhile,
 }
 
 // Writes the numbers from this one on, one a turn. Says whether none was refused.
@@ -115,6 +120,52 @@ fn write_now_and_then<R: Wait>(
     true
 }
 
+// Has the lock where it finds it free, so many times at most, until the flag is set. Says whether it was set before the last time.
+fn have_where_free<R: Wait + Clock>(
+    rt: &R,
+    lock: &BookLock,
+    seat: &mut BookSeat,
+    done: &AtomicBool,
+    times: u32,
+) -> bool
+    requires { IsWriter lock.now seat.old }
+    ensures { IsWriter lock.now seat.new }
+{
+    let mut left = times;
+    for _ in 0..u32::MAX {
+        if done.load(Ordering::SeqCst) {
+            return true;
+        }
+        if left == 0 {
+            return false;
+        }
+        if lock.try_lock(seat) {
+            left -= 1;
+            sleep(rt, Duration::from_millis(5));
+            lock.unlock(seat);
+        }
+    }
+    false
+}
+
+// Writes three numbers, each after others have had the time to take the lock, and then sets the flag.
+fn write_after_a_while<R: Wait + Clock>(
+    rt: &R,
+    lock: &BookLock,
+    seat: &mut BookSeat,
+    done: &AtomicBool,
+) -> bool
+    requires { IsWriter lock.now seat.old }
+    ensures { IsWriter lock.now seat.new }
+{
+    for number in 0..3u32 {
+        sleep(rt, Duration::from_millis(20));
+        write(rt, lock, seat, number);
+    }
+    done.store(true, Ordering::SeqCst);
+    true
+}
+
 // Says whether all was done that the role asks for.
 fn act<R: Wait + Clock>(
     rt: &R,
@@ -132,6 +183,8 @@ fn act<R: Wait + Clock>(
         Role::WriteBehind => write_behind(rt, lock, seat, flag),
         Role::HaveAllTheTime => have_it_all_the_time(rt, lock, seat, flag),
         Role::WriteNowAndThen => write_now_and_then(rt, lock, seat, flag),
+        Role::HaveWhereFree(times) => have_where_free(rt, lock, seat, flag, times),
+        Role::WriteAfterAWhile => write_after_a_while(rt, lock, seat, flag),
     }
 }
 
@@ -148,16 +201,63 @@ pub(super) fn side_by_side<R: Threads + Wait + Clock + Sync>(
     ensures one { IsWriter lock.now one.new }
     ensures two { IsWriter lock.now two.new }
 {
-    let flag = AtomicBool::new(false);
+    act_both(rt, lock, one, two, &AtomicBool::new(false), roles)
+}
+
+// The same with this flag.
+fn act_both<R: Threads + Wait + Clock + Sync>(
+    rt: &R,
+    lock: &BookLock,
+    one: &mut BookSeat,
+    two: &mut BookSeat,
+    flag: &AtomicBool,
+    roles: (Role, Role),
+) -> bool
+    requires one { IsWriter lock.now one.old }
+    requires two { IsWriter lock.now two.old }
+    ensures one { IsWriter lock.now one.new }
+    ensures two { IsWriter lock.now two.new }
+{
     let (first_role, second_role) = roles;
     let mut first = || -> bool
         requires { IsWriter lock.now one.now }
         ensures { IsWriter lock.entry.now one.exit.now }
-    { act(rt, lock, one, &flag, first_role) };
+    { act(rt, lock, one, flag, first_role) };
     let mut second = || -> bool
         requires { IsWriter lock.now two.now }
         ensures { IsWriter lock.entry.now two.exit.now }
-    { act(rt, lock, two, &flag, second_role) };
+    { act(rt, lock, two, flag, second_role) };
     let (a, b) = join_mut(rt, &mut first, &mut second);
+    a && b
+}
+
+// Two have the lock where they find it free, so many times each, while the third writes after a while. Says whether it has written
+// before they were done.
+pub(super) fn against_two<R: Threads + Wait + Clock + Sync>(
+    rt: &R,
+    lock: &BookLock,
+    writer: &mut BookSeat,
+    one: &mut BookSeat,
+    two: &mut BookSeat,
+    times: u32,
+) -> bool
+    requires writer { IsWriter lock.now writer.old }
+    requires one { IsWriter lock.now one.old }
+    requires two { IsWriter lock.now two.old }
+    ensures writer { IsWriter lock.now writer.new }
+    ensures one { IsWriter lock.now one.new }
+    ensures two { IsWriter lock.now two.new }
+{
+    let done = AtomicBool::new(false);
+    let roles = (Role::HaveWhereFree(times), Role::HaveWhereFree(times));
+    let mut written = || -> bool
+        requires { IsSync R.row × IsWriter lock.now writer.now }
+        ensures { IsWriter lock.entry.now writer.exit.now }
+    { act(rt, lock, writer, &done, Role::WriteAfterAWhile) };
+    let mut had = || -> bool
+        requires { IsSync R.row × IsWriter lock.now one.now × IsWriter lock.now two.now }
+        ensures { IsWriter lock.entry.now one.exit.now × IsWriter lock.entry.now two.exit.now }
+    { act_both(rt, lock, one, two, &done, roles) };
+    let (a, b) = join_mut(rt, &mut written, &mut had);
     a && b
 }

@@ -2,7 +2,7 @@
 
 ghost use Rattle.lock_tests.specs.Book.{IsAtRest};
 
-use super::roles::{Role, side_by_side};
+use super::roles::{Role, against_two, side_by_side};
 use super::*;
 use std::sync::Wait;
 
@@ -43,4 +43,15 @@ fn who_has_it_all_the_time_keeps_nobody_away(rt: HostRuntime) {
     let roles = (Role::HaveAllTheTime, Role::WriteNowAndThen);
     assert!(rt; side_by_side(&rt, &lock, &mut first, &mut other, roles));
     assert_eq!(rt; numbers(&rt, rt.alloc(), &lock, &mut other), 100);
+}
+
+// Two threads that only try are there before who is woken, every time. So who sleeps comes in only where the lock is left to it, which
+// it asks for when it has slept twice: each of its three turns then waits for four of theirs or so.
+#[test]
+fn who_has_slept_twice_comes_before_who_only_tries(rt: HostRuntime) {
+    let (lock, mut first) = new_lock(&rt, rt.alloc());
+    let mut one = lock.issue(&mut first);
+    let mut two = lock.issue(&mut first);
+    assert!(rt; against_two(&rt, &lock, &mut first, &mut one, &mut two, 60));
+    assert_eq!(rt; numbers(&rt, rt.alloc(), &lock, &mut first), 3);
 }
