@@ -1053,7 +1053,7 @@ static inline tcrx_place tcrx_rack_find(tcrx_channel *channels, size_t channel_c
 #define TCRX_STORAGE_OF(parts) ((parts) + TCRX_OWN_STORAGE)
 
 /** A buffer for so many data fields. */
-#define TCRX_STORAGE_BUFFER(fields) ((size_t)(fields) * 1083u)
+#define TCRX_STORAGE_BUFFER(fields) ((size_t)(fields) * 1051u)
 
 /** Segment headers: `sum` has the limits of all 64 MAPs together, without limits 64 * 65542. */
 #define TCRX_STORAGE_SEGMENTED(sum) ((size_t)(sum) * 2u + 5120u)
@@ -1062,7 +1062,7 @@ static inline tcrx_place tcrx_rack_find(tcrx_channel *channels, size_t channel_c
  * Packet queues with room for so many packets each. `largest` is the largest limit of all MAPs: without limits 65542, and without
  * segment headers at most 1019.
  */
-#define TCRX_STORAGE_QUEUES(count, capacity, largest) ((size_t)(count) * ((size_t)(capacity) * (64u + (size_t)(largest)) + 76u))
+#define TCRX_STORAGE_QUEUES(count, capacity, largest) ((size_t)(count) * ((size_t)(capacity) * (32u + (size_t)(largest)) + 68u))
 
 /** Chosen MAPs with room for so many units each; `largest` is that of the queues. */
 #define TCRX_STORAGE_MAPS(count, capacity, largest) TCRX_STORAGE_QUEUES(count, capacity, largest)

@@ -12,9 +12,8 @@ use Rattle.tc_channel.specs.declared.event.Event.{Event}
 use Rattle.std.specs.Prelude.{slice_get, IsSome}
 use Rattle.tc_rooms.specs.Runs.{Store, open_runs}
 use Rattle.tc_fixed.specs.Channel.{AreEnough, Parts, HoldsInRooms}
-use Rattle.tc_fixed.specs.Delivering.{rings_in, room_sizes}
+use Rattle.tc_queues.specs.Keyed.{Keyed, rings_in, room_sizes, AreSettled}
 use Rattle.tc_fixed.specs.Taking.{IsLaid, oldest_for}
-use Rattle.tc_fixed.specs.declared.queues.FixedQueue.{FixedQueue}
 use Rattle.tc_channel.specs.declared.event.Event.TheVariants.{Take, TakeUnit}
 use Rattle.tc_channel.specs.HeldQueues.{popped}
 use Rattle.tc_channel.proofs.Takes.{take-keeps, take-unit-keeps}
@@ -51,12 +50,15 @@ some-item None some = absurd cc
 some-item (Some item) some = (item, refl)
 
 -- the oldest packet was taken, and its room is free
-pub packet-taken : {l : Limits} {c : Settings} {j : List Event} {parts : Parts} (later : List FixedQueue) (apid : ℕ) (packet : List ℕ)
+pub packet-taken : {l : Limits} {c : Settings} {j : List Event} {parts : Parts} (later : List Keyed) (apid : ℕ) (packet : List ℕ)
     → HoldsInRooms l c j parts → oldest_for apid (rings_in parts.queues) ≡ Some packet → rings_in later ≡ popped apid (rings_in parts.queues)
-    → room_sizes later ≡ room_sizes parts.queues → HoldsInRooms l c (j ++ Take apid ∷ []) (record parts { queues = later })
-packet-taken {l} {c} {j} {parts} later apid packet k has is same = record {
+    → room_sizes later ≡ room_sizes parts.queues → (AreSettled parts.queues → AreSettled later) → HoldsInRooms l c (j ++ Take apid ∷ []) (record parts { queues = later })
+packet-taken {l} {c} {j} {parts} later apid packet k has is same still = record {
   holds = take-keeps (rings_in later) apid packet k.holds has is;
   field_size = k.field_size;
+  fields_settled = k.fields_settled;
+  settled = still k.settled;
+  units_settled = k.units_settled;
   limits = k.limits;
   limits_are = k.limits_are;
   small = k.small;
@@ -65,12 +67,15 @@ packet-taken {l} {c} {j} {parts} later apid packet k has is same = record {
 }
 
 -- the oldest unit was taken
-pub unit-taken : {l : Limits} {c : Settings} {j : List Event} {parts : Parts} (later : List FixedQueue) (map_id : ℕ) (unit : List ℕ)
+pub unit-taken : {l : Limits} {c : Settings} {j : List Event} {parts : Parts} (later : List Keyed) (map_id : ℕ) (unit : List ℕ)
     → HoldsInRooms l c j parts → oldest_for map_id (rings_in parts.units) ≡ Some unit → rings_in later ≡ popped map_id (rings_in parts.units)
-    → room_sizes later ≡ room_sizes parts.units → HoldsInRooms l c (j ++ TakeUnit map_id ∷ []) (record parts { units = later })
-unit-taken {l} {c} {j} {parts} later map_id unit k has is same = record {
+    → room_sizes later ≡ room_sizes parts.units → (AreSettled parts.units → AreSettled later) → HoldsInRooms l c (j ++ TakeUnit map_id ∷ []) (record parts { units = later })
+unit-taken {l} {c} {j} {parts} later map_id unit k has is same still = record {
   holds = take-unit-keeps (rings_in later) map_id unit k.holds has is;
   field_size = k.field_size;
+  fields_settled = k.fields_settled;
+  settled = k.settled;
+  units_settled = still k.units_settled;
   limits = k.limits;
   limits_are = k.limits_are;
   small = k.small;

@@ -1,5 +1,4 @@
 pub mod Sizes
-pub mod Ways
 pub mod Inside
 pub mod Taking
 pub mod Within

@@ -1,5 +1,5 @@
 -- What a channel in rooms holds: what tc_channel's holds, and how large the rooms are.
-use Rattle.std.specs.Prelude.{◌≡◌, ◌<◌, ◌≤◌, ℕ, List, min}
+use Rattle.std.specs.Prelude.{◌≡◌, ◌<◌, ◌≤◌, ℕ, List, [], min}
 use Rattle.std.specs.List.{AllByRecursion}
 use Rattle.tc_link.specs.Farm.{Machine}
 use Rattle.tc_packet.specs.declared.Service.{Service}
@@ -10,10 +10,9 @@ use Rattle.tc_channel.specs.Channel.{Inside, HoldsWithin}
 use Rattle.tc_channel.specs.Memory.{largest_item, largest_field}
 use Rattle.tc_rooms.specs.Rooms.{Slotted}
 use Rattle.tc_rooms.specs.Runs.{Store, open_runs, limit_at}
-use Rattle.tc_fixed.specs.Delivering.{rings_in, room_sizes}
+use Rattle.tc_queues.specs.Keyed.{Keyed, rings_in, room_sizes, AreSettled}
 use Rattle.tc_fixed.specs.Limits.{AreLimits, limit_of}
 use Rattle.tc_fixed.specs.declared.limits.Limits.{Limits}
-use Rattle.tc_fixed.specs.declared.queues.FixedQueue.{FixedQueue}
 
 -- each stream has the limit of its MAP
 abbrev pub HaveLimits : (ℕ → ℕ) → Store → Type 0
@@ -32,18 +31,21 @@ pub record Parts : Type 0 where
   pub farm : Machine
   pub fields : Slotted
   pub store : Store
-  pub queues : List FixedQueue
-  pub units : List FixedQueue
+  pub queues : List Keyed
+  pub units : List Keyed
 
 -- the same without the rooms, as tc_channel has it
 abbrev pub inside_of : Parts → Inside
 inside_of parts = record { farm = parts.farm; ring = parts.fields.ring; open_runs = open_runs parts.store; rings = rings_in parts.queues; unit_rings = rings_in parts.units }
 
--- all of it is that of the journal's run within these limits, and each room is large enough
+-- all of it is that of the journal's run within these limits, nothing is laid that doesn't count, and each room is large enough
 pub record HoldsInRooms (given : Limits) (s : Settings) (journal : List Event) (parts : Parts) : Type 0 where
   pub holds : HoldsWithin (limit_of given) s journal (inside_of parts)
   pub limits : AreLimits s given
   pub field_size : parts.fields.size ≡ largest_field
+  pub fields_settled : parts.fields.laid ≡ []
+  pub settled : AreSettled parts.queues
+  pub units_settled : AreSettled parts.units
   pub limits_are : HaveLimits (limit_of given) parts.store
   pub small : AreSmall parts.store
   pub sizes : AreEnough parts.store (room_sizes parts.queues)

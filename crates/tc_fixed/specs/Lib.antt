@@ -1,4 +1,3 @@
-pub mod Delivering
 pub mod Channel
 pub mod Taking
 pub mod Storage

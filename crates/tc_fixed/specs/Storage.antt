@@ -6,17 +6,17 @@ use Rattle.tc_channel.specs.Memory.{largest_field, packets_held, units_held}
 use Rattle.tc_fixed.specs.Limits.{item_size, limit_of, none}
 use Rattle.tc_fixed.specs.declared.limits.Limits.{Limits}
 
--- a room's own words, where it is free and where it is taken: each time those of its block and how many octets are in use
+-- a room's own words: those of its block, and how many octets are in use
 abbrev pub room_words : ℕ
-room_words = 64
+room_words = 32
 
--- a stream's own words: those of its room, and whether a run is open
+-- a stream's own words: those of its room, whether a run is open, and how many octets it has
 abbrev pub stream_words : ℕ
 stream_words = 40
 
--- a queue's own words: its key, the ring of its items, the list of its free rooms and their size
+-- a queue's own words: its key, the ring of its rooms, which of them are taken, and their size
 abbrev pub queue_words : ℕ
-queue_words = 72
+queue_words = 64
 
 -- a room for each data field of the buffer
 abbrev pub fields_storage : Settings → ℕ

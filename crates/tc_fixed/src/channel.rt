@@ -14,7 +14,8 @@ ghost use Rattle.tc_packet.specs.declared.Service.TheVariants.{Bd};
 ghost use Rattle.tc_packet.specs.Reassembly.{run_at, stream_place};
 ghost use Rattle.tc_channel.specs.HeldQueues.{AreDistinct, keys_of};
 ghost use Rattle.tc_rooms.specs.Runs.{limit_at, open_runs};
-ghost use Rattle.tc_fixed.specs.Delivering.{rings_in, room_sizes, IsDelivered};
+ghost use Rattle.tc_queues.specs.Keyed.{rings_in, room_sizes, AreSettled};
+ghost use Rattle.tc_queues.specs.Delivering.{IsDelivered};
 ghost use Rattle.tc_fixed.specs.Channel.{AreEnough, AreSmall, HaveLimits};
 ghost use Rattle.tc_fixed.specs.History.{with_event};
 ghost use Rattle.tc_fixed.specs.Limits.{AreLimits, HasMapsByHeaders, HaveOctets, IsOthers, IsRefusal as IsRefusalWithin, limit_of, none};
@@ -24,10 +25,7 @@ use crate::faults::{NoUnitTaken, NothingReleased, NothingTaken};
 use crate::limits::{Limits, LimitsFault};
 use crate::noted::Noted;
 use crate::past::Past;
-use crate::queues::{
-    FixedQueue, deliver, deliver_nothing, drop_from, empty_queues, empty_unit_queues, find,
-    oldest_with, take_from,
-};
+use crate::taking::{FixedQueue, drop_from, empty_queues, empty_unit_queues, take_from};
 use std::alloc::{AllocError, Global};
 use std::marker::Model;
 use std::snapshot::Snapshot;
@@ -37,7 +35,8 @@ use tc_link::{
     kind,
 };
 use tc_packet::{Service, read_segment};
-use tc_rooms::{Ended, FixedReassembler, Slots};
+use tc_queues::{deliver_ended, deliver_nothing, find, oldest_with};
+use tc_rooms::{FixedRoom, Runs, Slots};
 
 /// The most octets of a data field: a frame has 1,024 at most (CCSDS 232.0-B, 4.1.2.7), and 5 of them are its primary header.
 pub(crate) const LARGEST_FIELD: usize = 1_019;
@@ -51,8 +50,8 @@ pub struct FixedChannelWith<N: Noted> {
     settings: Settings,
     limits: Limits,
     farm: Farm,
-    fields: Slots,
-    reassembler: FixedReassembler,
+    fields: Slots<FixedRoom>,
+    reassembler: Runs<FixedRoom>,
     queues: Vec<FixedQueue>,
     units: Vec<FixedQueue>,
     journal: N,
@@ -279,7 +278,7 @@ impl<N: Noted> FixedChannelWith<N> {
         ensures allowed { IsAllowed self.now.settings }
         ensures lawful { IsLawfulWithin (limit_of self.now.limits) self.now.settings self.now.journal }
     {
-        Some(find(&self.queues, apid)?.slots.len())
+        Some(find(&self.queues, apid)?.len())
     }
 
     /// How many units wait in the queue of this MAP, if it is chosen.
@@ -288,7 +287,7 @@ impl<N: Noted> FixedChannelWith<N> {
         ensures allowed { IsAllowed self.now.settings }
         ensures lawful { IsLawfulWithin (limit_of self.now.limits) self.now.settings self.now.journal }
     {
-        Some(find(&self.units, map as u16)?.slots.len())
+        Some(find(&self.units, map as u16)?.len())
     }
 
     /// How many events there are in the journal; where they are more than 2^64 - 1, that number.
@@ -336,7 +335,7 @@ fn open_none(
     alloc: Global,
     segmented: bool,
     limits: &Limits,
-) -> Result<FixedReassembler, AllocError>
+) -> Result<Runs<FixedRoom>, AllocError>
     requires others { IsOthers limits.now.others segmented }
     requires octets { HaveOctets limits.now.maps }
     requires by_headers { HasMapsByHeaders limits.now.maps segmented }
@@ -345,9 +344,9 @@ fn open_none(
     ensures limits { IfOk result (λ r. HaveLimits (limit_of limits.now) r) }
 {
     if segmented {
-        return FixedReassembler::by_map(alloc, &limits.table());
+        return Runs::by_map(alloc, &limits.table());
     }
-    FixedReassembler::new(alloc, false, limits.others as usize)
+    Runs::new(alloc, false, limits.others as usize)
 }
 
 // A channel by settings and limits that were checked.
@@ -381,22 +380,26 @@ fn start<N: Noted>(
 }
 
 // Copies the data field of an accepted AD frame, for which there is room, to the buffer's end.
-fn put_field(fields: &mut Slots, act: &Act, field: &[u8])
+fn put_field(fields: &mut Slots<FixedRoom>, act: &Act, field: &[u8])
     requires field { length field.now ≤ fields.old.size }
     requires room { IsSome (buffered_of act.now field.now) → length fields.old.ring.items < fields.old.ring.capacity }
+    requires settled { fields.old.laid ≡ [] }
     ensures items { fields.new.ring.items ≡ with_field fields.old.ring.items (buffered_of act.now field.now) }
     ensures capacity { fields.new.ring.capacity ≡ fields.old.ring.capacity }
     ensures size { fields.new.size ≡ fields.old.size }
+    ensures settled { fields.new.laid ≡ [] }
 {
     if act.event == 1 && act.accepted {
-        fields.push_back(field);
+        if fields.lay(field).unwrap() {
+            fields.settle();
+        }
     }
 }
 
 // Passes a data field to reassembly, and delivers the unit that it ends.
 #[inline(always)]
 fn pass(
-    reassembler: &mut FixedReassembler,
+    reassembler: &mut Runs<FixedRoom>,
     queues: &mut Vec<FixedQueue>,
     units: &mut Vec<FixedQueue>,
     service: Service,
@@ -409,6 +412,8 @@ fn pass(
     requires units_distinct { AreDistinct (keys_of (rings_in units.old.items)) }
     requires sizes { AreEnough reassembler.old (room_sizes queues.old.items) }
     requires unit_sizes { AreEnough reassembler.old (room_sizes units.old.items) }
+    requires settled { AreSettled queues.old.items }
+    requires units_settled { AreSettled units.old.items }
     ensures follows { FollowsWithin (limit_at reassembler.old (stream_place service field.now)) (open_runs reassembler.old) (open_runs reassembler.new) service field.now }
     ensures limits { (place : ℕ) → limit_at reassembler.new place ≡ limit_at reassembler.old place }
     ensures segmented { reassembler.new.segmented ≡ reassembler.old.segmented }
@@ -416,19 +421,20 @@ fn pass(
         × IsDelivered (map_of field.now) unit (rings_in queues.old.items) (rings_in queues.new.items) (rings_in units.old.items) (rings_in units.new.items) result }
     ensures sizes { room_sizes queues.new.items ≡ room_sizes queues.old.items }
     ensures unit_sizes { room_sizes units.new.items ≡ room_sizes units.old.items }
+    ensures settled { AreSettled queues.new.items }
+    ensures units_settled { AreSettled units.new.items }
 {
     let map = read_segment(field[0]).map;
-    match reassembler.pass(service, field) {
-        Ended::Nothing => deliver_nothing(),
-        Ended::Lying(from) => deliver(queues, units, map, &field[from..]),
-        Ended::Joined(place) => deliver(queues, units, map, reassembler.joined(place)),
-    }
+    let ended = reassembler.lay(service, field).unwrap();
+    let delivery = deliver_ended(reassembler, queues, units, map, field, ended).unwrap();
+    reassembler.settle(service, map, ended);
+    delivery
 }
 
 // Passes the field of a BD frame on at once, and no other.
 #[inline(always)]
 fn pass_bypass(
-    reassembler: &mut FixedReassembler,
+    reassembler: &mut Runs<FixedRoom>,
     queues: &mut Vec<FixedQueue>,
     units: &mut Vec<FixedQueue>,
     kind: Kind,
@@ -441,6 +447,8 @@ fn pass_bypass(
     requires units_distinct { AreDistinct (keys_of (rings_in units.old.items)) }
     requires sizes { AreEnough reassembler.old (room_sizes queues.old.items) }
     requires unit_sizes { AreEnough reassembler.old (room_sizes units.old.items) }
+    requires settled { AreSettled queues.old.items }
+    requires units_settled { AreSettled units.old.items }
     ensures follows { FollowsKindWithin (limit_at reassembler.old (stream_place Bd field.now)) kind (open_runs reassembler.old) (open_runs reassembler.new) field.now }
     ensures limits { (place : ℕ) → limit_at reassembler.new place ≡ limit_at reassembler.old place }
     ensures segmented { reassembler.new.segmented ≡ reassembler.old.segmented }
@@ -448,6 +456,8 @@ fn pass_bypass(
         × IsDelivered (map_of field.now) unit (rings_in queues.old.items) (rings_in queues.new.items) (rings_in units.old.items) (rings_in units.new.items) result }
     ensures sizes { room_sizes queues.new.items ≡ room_sizes queues.old.items }
     ensures unit_sizes { room_sizes units.new.items ≡ room_sizes units.old.items }
+    ensures settled { AreSettled queues.new.items }
+    ensures units_settled { AreSettled units.new.items }
 {
     match kind {
         Kind::Bd => pass(reassembler, queues, units, Service::Bd, field),

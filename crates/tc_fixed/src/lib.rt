@@ -2,8 +2,8 @@
 //!
 //! A contract sees a [`FixedChannel`] as tc_channel's contracts see a channel: as its settings and its journal, and as its [`Limits`],
 //! which say how long the units of each MAP may be. All else that it has is the run of that journal within these limits, so each law
-//! of tc_channel over runs holds of it as it stands. What differs is where things lie: in rooms of tc_rooms, one for each data field,
-//! packet, unit and open run that the settings allow.
+//! of tc_channel over runs holds of it as it stands. What differs is where things lie: in rooms of tc_rooms that are made at the start,
+//! one for each data field, packet, unit and open run that the settings allow.
 //!
 //! No call but [`FixedChannelWith::new`] and [`FixedChannelWith::with_limits`] is given an allocator, and no answer of another one is
 //! that memory ran out.
@@ -16,7 +16,7 @@ mod limits;
 mod memory;
 mod noted;
 mod past;
-mod queues;
+mod taking;
 
 pub use channel::{FixedChannel, FixedChannelWith};
 pub use faults::{NoUnitTaken, NothingReleased, NothingTaken};

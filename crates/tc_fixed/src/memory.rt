@@ -12,12 +12,12 @@ use crate::limits::{LentLimits, Limits, MAPS};
 use tc_channel::{LentSettings, MapSetting, QueueSetting, Settings};
 use tc_packet::LARGEST_UNIT;
 
-// The octets of the own words of a room, where it is free and where it is taken, of a stream and of a queue.
-const ROOM_WORDS: u128 = 64;
+// The octets of the own words of a room, of a stream and of a queue.
+const ROOM_WORDS: u128 = 32;
 
 const STREAM_WORDS: u128 = 40;
 
-const QUEUE_WORDS: u128 = 72;
+const QUEUE_WORDS: u128 = 64;
 
 // Two services of 64 MAPs.
 const STREAMS: u128 = 128;

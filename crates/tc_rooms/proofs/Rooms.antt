@@ -1,49 +1,44 @@
 -- The rooms of runs, read and written at one place.
 use Rattle.std.proofs.Common.{◌≡◌, ◌≢◌, ℕ, zero, suc, ◌<◌, ◌≤◌, true, false, get_or, drop, subst, List, [], ◌∷◌, ◌++◌, length, map, Option, Some, None, refl, sym, ap, ◌∙◌, arith}
-use Rattle.std.specs.Prelude.{slice_get, option_map, if◌then◌else◌}
-use Rattle.std.specs.List.{AllByRecursion}
-use Rattle.std.proofs.Math.ListN.{set}
+use Rattle.std.specs.Prelude.{set, slice_get, option_map, if◌then◌else◌}
 use Rattle.std.proofs.lemmas.List.{length-map, map-set, get_or-map, get_or-set_same, get_or-set_other, set-get_or}
 use Rattle.tc_packet.specs.declared.segment.Part.{Part}
 use Rattle.tc_packet.specs.Segment.{header_of, body_of}
 use Rattle.tc_packet.specs.Reassembly.{at_most, bounded, run_at, run_left, open_run, unit_at, unit_ended, ended_by}
 use Rattle.tc_packet.specs.Runs.{next_run}
-use Rattle.tc_rooms.specs.Runs.{open_in, open_runs, sizes_of, limit_at, told, ended_by_stream, unit_in, Store, LeaveWithin, IsAtMost}
+use Rattle.tc_rooms.specs.Rooms.{Laid}
+use Rattle.tc_rooms.specs.OpenRun.{OpenRun, open_in, closed}
+use Rattle.tc_rooms.specs.Runs.{open_runs, sizes_of, limit_at, told, behind, over_at, settled, ended_by_stream, unit_in, Store, LeaveWithin, IsAtMost, IsWritten, IsFollowed}
 use Rattle.tc_rooms.specs.declared.runs.Told.{Told}
 use Rattle.tc_rooms.specs.declared.runs.Ended.{Ended}
+use Rattle.tc_rooms.specs.declared.runs.Ended.TheVariants as ends
 use Rattle.tc_rooms.specs.declared.runs.Told.TheVariants as tolds
-use Rattle.tc_rooms.specs.declared.runs.Run.{Run}
 use Rattle.tc_rooms.proofs.AtMost.{at_most-within, next-at_most, ended-at_most}
 
-pub read-open : (runs : List Run) (i : ℕ) (run : Run) → i < length runs → run ≡ get_or runs i run → run_at (map open_in runs) i ≡ open_in run
+pub read-open : (runs : List OpenRun) (i : ℕ) (run : OpenRun) → i < length runs → run ≡ get_or runs i run → run_at (map open_in runs) i ≡ open_in run
 read-open runs i run inside is = get_or-map open_in runs i run None inside ∙ ap open_in (sym is)
 
-pub read-size : (runs : List Run) (i : ℕ) (run : Run) → i < length runs → run ≡ get_or runs i run → get_or (sizes_of runs) i 0 ≡ run.room.size
-read-size runs i run inside is = get_or-map (λ (r : Run). r.room.size) runs i run 0 inside ∙ ap (λ (r : Run). r.room.size) (sym is)
+pub read-size : (runs : List OpenRun) (i : ℕ) (run : OpenRun) → i < length runs → run ≡ get_or runs i run → get_or (sizes_of runs) i 0 ≡ run.room.size
+read-size runs i run inside is = get_or-map (λ (r : OpenRun). r.room.size) runs i run 0 inside ∙ ap (λ (r : OpenRun). r.room.size) (sym is)
 
-pub written-open : (runs : List Run) (i : ℕ) (next : Run) → i < length runs → run_at (map open_in (set runs i next)) i ≡ open_in next
+pub written-open : (runs : List OpenRun) (i : ℕ) (next : OpenRun) → i < length runs → run_at (map open_in (set runs i next)) i ≡ open_in next
 written-open runs i next inside =
     ap (λ (x : List (Option (List ℕ))). get_or x i None) (map-set open_in runs i next) ∙ get_or-set_same (map open_in runs) i (open_in next) None (omega (arith, length-map runs open_in))
 
-pub others-open : (runs : List Run) (i other : ℕ) (next : Run) → other ≢ i → run_at (map open_in (set runs i next)) other ≡ run_at (map open_in runs) other
+pub others-open : (runs : List OpenRun) (i other : ℕ) (next : OpenRun) → other ≢ i → run_at (map open_in (set runs i next)) other ≡ run_at (map open_in runs) other
 others-open runs i other next apart =
     ap (λ (x : List (Option (List ℕ))). get_or x other None) (map-set open_in runs i next) ∙ get_or-set_other (map open_in runs) i other (open_in next) None apart
 
-pub same-sizes : (runs : List Run) (i : ℕ) (run next : Run) → i < length runs → run ≡ get_or runs i run → next.room.size ≡ run.room.size → sizes_of (set runs i next) ≡ sizes_of runs
+pub same-sizes : (runs : List OpenRun) (i : ℕ) (run next : OpenRun) → i < length runs → run ≡ get_or runs i run → next.room.size ≡ run.room.size → sizes_of (set runs i next) ≡ sizes_of runs
 same-sizes runs i run next inside is same =
-    map-set (λ (r : Run). r.room.size) runs i next ∙ ap (λ (n : ℕ). set (sizes_of runs) i n) (same ∙ sym (read-size runs i run inside is)) ∙ set-get_or (sizes_of runs) i 0
+    map-set (λ (r : OpenRun). r.room.size) runs i next ∙ ap (λ (n : ℕ). set (sizes_of runs) i n) (same ∙ sym (read-size runs i run inside is)) ∙ set-get_or (sizes_of runs) i 0
 
-pub all-at : (P : Run → Type 0) (runs : List Run) (i : ℕ) (run : Run) → AllByRecursion P runs → i < length runs → run ≡ get_or runs i run → P run
-all-at P [] i run all inside is = absurd (omega arith)
-all-at P (r ∷ runs) zero run all inside is = rw is all.0
-all-at P (r ∷ runs) (suc i) run all inside is = all-at P runs i run all.1 (omega arith) is
-
-pub here : (runs : List Run) (i : ℕ) (next : Run) → i < length runs → slice_get (set runs i next) i ≡ Some next
+pub here : (runs : List OpenRun) (i : ℕ) (next : OpenRun) → i < length runs → slice_get (set runs i next) i ≡ Some next
 here [] i next inside = absurd (omega arith)
 here (r ∷ runs) zero next inside = refl
 here (r ∷ runs) (suc i) next inside = here runs i next (omega arith)
 
-pub elsewhere : (runs : List Run) (i other : ℕ) (next : Run) → other ≢ i → slice_get (set runs i next) other ≡ slice_get runs other
+pub elsewhere : (runs : List OpenRun) (i other : ℕ) (next : OpenRun) → other ≢ i → slice_get (set runs i next) other ≡ slice_get runs other
 elsewhere [] i other next apart = refl
 elsewhere (r ∷ runs) zero zero next apart = absurd (apart refl)
 elsewhere (r ∷ runs) zero (suc other) next apart = refl
@@ -69,95 +64,143 @@ unit-pushed n unit run fields field body part small part_is body_is unit_is left
     unit_is ∙ rw (part_is, body_is, ← left) (ended-at_most n (header_of field).part (open_run fields) (body_of field) small)
 
 -- a store after one run was written
-abbrev pub with_run : Store → ℕ → Run → Store
+abbrev pub with_run : Store → ℕ → OpenRun → Store
 with_run store i next = record store { runs = set store.runs i next }
 
 -- what is told of the unit is what lies there
-told-there : (store : Store) (i : ℕ) (next : Run) (t : Told) (field : List ℕ) → i < length store.runs → unit_in (ended_by_stream t i) (with_run store i next) field ≡ told t next (drop 1 field)
+told-there : (store : Store) (i : ℕ) (next : OpenRun) (t : Told) (field : List ℕ) → i < length store.runs → unit_in (ended_by_stream t i) (with_run store i next) field ≡ told t next (drop 1 field)
 told-there store i next tolds.Nothing field inside = refl
 told-there store i next tolds.Body field inside = refl
-told-there store i next tolds.Whole field inside = ap (option_map (λ (r : Run). r.room.octets)) (here store.runs i next inside)
+told-there store i next tolds.Whole field inside = ap (option_map (λ (r : OpenRun). r.room.octets)) (here store.runs i next inside)
 
--- what a field's pass did to a run, and what it told
-pub record IsPassed (store : Store) (i place : ℕ) (run next : Run) (t : Told) (part : Part) (field body : List ℕ) : Type 0 where
+-- a run that is behind its segment has the same room
+behind-room : (t : Told) (next : OpenRun) → (behind t next).room ≡ next.room
+behind-room tolds.Nothing next = refl
+behind-room tolds.Body next = refl
+behind-room tolds.Whole next = refl
+
+over-written : (runs : List OpenRun) (i : ℕ) (next : OpenRun) → i < length runs → over_at i (set runs i next) ≡ set runs i (closed next)
+over-written [] i next inside = refl
+over-written (r ∷ runs) zero next inside = refl
+over-written (r ∷ runs) (suc i) next inside = ap (λ (xs : List OpenRun). r ∷ xs) (over-written runs i next (omega arith))
+
+-- a run that is over
+pub closed-set : (runs : List OpenRun) (i : ℕ) (run : OpenRun) → i < length runs → run ≡ get_or runs i run → set runs i (closed run) ≡ over_at i runs
+closed-set [] i run inside is = absurd (omega arith)
+closed-set (r ∷ runs) zero run inside is = ap (λ (x : OpenRun). closed x ∷ runs) is
+closed-set (r ∷ runs) (suc i) run inside is = ap (λ (xs : List OpenRun). r ∷ xs) (closed-set runs i run (omega arith) is)
+
+pub none-over : (runs : List OpenRun) (i : ℕ) → length runs ≤ i → runs ≡ over_at i runs
+none-over [] i outside = refl
+none-over (r ∷ runs) zero outside = absurd (omega arith)
+none-over (r ∷ runs) (suc i) outside = ap (λ (xs : List OpenRun). r ∷ xs) (none-over runs i (omega arith))
+
+-- once the unit is delivered the run behind its segment is there
+settled-is : (store : Store) (i : ℕ) (next : OpenRun) (t : Told) → i < length store.runs → settled (ended_by_stream t i) i (with_run store i next) ≡ with_run store i (behind t next)
+settled-is store i next tolds.Nothing inside = refl
+settled-is store i next tolds.Body inside = ap (λ (xs : List OpenRun). record store { runs = xs }) (over-written store.runs i next inside)
+settled-is store i next tolds.Whole inside = ap (λ (xs : List OpenRun). record store { runs = xs }) (over-written store.runs i next inside)
+
+-- a run that is over has the room of before
+over-sizes : (runs : List OpenRun) (i : ℕ) → sizes_of (over_at i runs) ≡ sizes_of runs
+over-sizes [] i = refl
+over-sizes (r ∷ runs) zero = refl
+over-sizes (r ∷ runs) (suc i) = ap (λ (xs : List ℕ). r.room.size ∷ xs) (over-sizes runs i)
+
+over-others : (runs : List OpenRun) (i other : ℕ) → other ≢ i → run_at (map open_in (over_at i runs)) other ≡ run_at (map open_in runs) other
+over-others [] i other apart = refl
+over-others (r ∷ runs) zero zero apart = absurd (apart refl)
+over-others (r ∷ runs) zero (suc other) apart = refl
+over-others (r ∷ runs) (suc i) zero apart = refl
+over-others (r ∷ runs) (suc i) (suc other) apart = over-others runs i other (λ e. apart (ap suc e))
+
+pub settled-limits : (store : Store) (e : Ended) (i place : ℕ) → limit_at (settled e i store) place ≡ limit_at store place
+settled-limits store ends.Nothing i place = refl
+settled-limits store (ends.Lying from) i place = ap (λ (x : List ℕ). if store.segmented then get_or x place 0 else store.plain_limit) (over-sizes store.runs i)
+settled-limits store (ends.Joined at) i place = ap (λ (x : List ℕ). if store.segmented then get_or x place 0 else store.plain_limit) (over-sizes store.runs i)
+
+pub settled-others : (store : Store) (e : Ended) (i other : ℕ) → other ≢ i → run_at (open_runs (settled e i store)).runs other ≡ run_at (open_runs store).runs other
+settled-others store ends.Nothing i other apart = refl
+settled-others store (ends.Lying from) i other apart = over-others store.runs i other apart
+settled-others store (ends.Joined at) i other apart = over-others store.runs i other apart
+
+pub settled-segmented : (store : Store) (e : Ended) (i : ℕ) → (settled e i store).segmented ≡ store.segmented
+settled-segmented store ends.Nothing i = refl
+settled-segmented store (ends.Lying from) i = refl
+settled-segmented store (ends.Joined at) i = refl
+
+-- the place of a segment with this header, and what it did to the run there
+pub record IsPassed (store : Store) (i place : ℕ) (part : Part) (field body : List ℕ) : Type 0 where
   pub on : store.segmented ≡ true
   pub at : i ≡ place
   pub inside : i < length store.runs
-  pub run_is : run ≡ get_or store.runs i run
-  pub small : run.room.size ≤ 65542
   pub part_is : part ≡ (header_of field).part
   pub body_is : body ≡ drop 1 field
-  pub unit_is : told t next body ≡ at_most run.room.size (ended_by part (open_in run) body)
-  pub next_is : open_in next ≡ at_most run.room.size (next_run part (open_in run) body)
-  pub same_size : next.room.size ≡ run.room.size
 
-size-is : {store : Store} {i place : ℕ} {run next : Run} {t : Told} {part : Part} {field body : List ℕ} → IsPassed store i place run next t part field body → get_or (sizes_of store.runs) place 0 ≡ run.room.size
-size-is {store} {i} {place} {run} p = ap (λ (k : ℕ). get_or (sizes_of store.runs) k 0) (sym p.at) ∙ read-size store.runs i run p.inside p.run_is
+module _ {store : Store} {i place : ℕ} {part : Part} {field body : List ℕ} {later : List OpenRun} {t : Told} (p : IsPassed store i place part field body) (f : IsFollowed i part body store.runs later t) where
+  size-is : get_or (sizes_of store.runs) place 0 ≡ f.run.room.size
+  size-is = ap (λ (k : ℕ). get_or (sizes_of store.runs) k 0) (sym p.at) ∙ read-size store.runs i f.run p.inside f.run_is
 
-open-is : {store : Store} {i place : ℕ} {run next : Run} {t : Told} {part : Part} {field body : List ℕ} → IsPassed store i place run next t part field body → run_at (map open_in store.runs) place ≡ open_in run
-open-is {store} {i} {place} {run} p = ap (λ (k : ℕ). run_at (map open_in store.runs) k) (sym p.at) ∙ read-open store.runs i run p.inside p.run_is
+  open-is : run_at (map open_in store.runs) place ≡ open_in f.run
+  open-is = ap (λ (k : ℕ). run_at (map open_in store.runs) k) (sym p.at) ∙ read-open store.runs i f.run p.inside f.run_is
 
-left-is : {store : Store} {i place : ℕ} {run next : Run} {t : Told} {part : Part} {field body : List ℕ} (fields : List (List ℕ)) → IsPassed store i place run next t part field body
-    → LeaveWithin fields store place → at_most run.room.size (open_run fields) ≡ open_in run
-left-is {store} {i} {place} {run} fields p left =
-    let on = p.on in
-    let left' : at_most (get_or (sizes_of store.runs) place 0) (open_run fields) ≡ run_at (map open_in store.runs) place = rw on at left in
-    ap (λ (n : ℕ). at_most n (open_run fields)) (sym (size-is p)) ∙ left' ∙ open-is p
+  left-is : (fields : List (List ℕ)) → LeaveWithin fields store place → at_most f.run.room.size (open_run fields) ≡ open_in f.run
+  left-is fields left =
+      let on = p.on in
+      let left' : at_most (get_or (sizes_of store.runs) place 0) (open_run fields) ≡ run_at (map open_in store.runs) place = rw on at left in
+      ap (λ (n : ℕ). at_most n (open_run fields)) (sym size-is) ∙ left' ∙ open-is
 
-unit-at : {store : Store} {i place : ℕ} {run next : Run} {t : Told} {part : Part} {field body : List ℕ} (fields : List (List ℕ)) → IsPassed store i place run next t part field body
-    → LeaveWithin fields store place → unit_in (ended_by_stream t i) (with_run store i next) field ≡ at_most (limit_at store place) (unit_ended store.segmented fields field)
-unit-at {store} {i} {place} {run} {next} {t} {part} {field} {body} fields p left =
-    let on = p.on in
-    let back : at_most (get_or (sizes_of store.runs) place 0) (unit_at fields field) ≡ at_most (limit_at store place) (unit_ended store.segmented fields field) = rw on refl in
-    told-there store i next t field p.inside ∙ ap (told t next) (sym p.body_is)
-    ∙ unit-pushed run.room.size (told t next body) (open_in run) fields field body part p.small p.part_is p.body_is p.unit_is (left-is fields p left)
-    ∙ ap (λ (n : ℕ). at_most n (unit_at fields field)) (sym (size-is p)) ∙ back
+  unit-is : unit_in (ended_by_stream t i) (record store { runs = later }) field ≡ told t f.next body
+  unit-is = ap (λ (xs : List OpenRun). unit_in (ended_by_stream t i) (record store { runs = xs }) field) f.new_is ∙ told-there store i f.next t field p.inside ∙ ap (told t f.next) (sym p.body_is)
 
-run-at : MovesOn → {store : Store} {i place : ℕ} {run next : Run} {t : Told} {part : Part} {field body : List ℕ} (fields : List (List ℕ)) → IsPassed store i place run next t part field body
-    → LeaveWithin fields store place → LeaveWithin (fields ++ field ∷ []) (with_run store i next) place
-run-at moves {store} {i} {place} {run} {next} {t} {part} {field} {body} fields p left =
-    let on = p.on in
-    let sizes = same-sizes store.runs i run next p.inside p.run_is p.same_size in
-    let front : at_most (limit_at (with_run store i next) place) (run_left store.segmented (fields ++ field ∷ [])) ≡ at_most (get_or (sizes_of (set store.runs i next)) place 0) (open_run (fields ++ field ∷ [])) = rw on refl in
-    front ∙ ap (λ (x : List ℕ). at_most (get_or x place 0) (open_run (fields ++ field ∷ []))) sizes
-    ∙ ap (λ (n : ℕ). at_most n (open_run (fields ++ field ∷ []))) (size-is p)
-    ∙ run-pushed moves run.room.size (open_in next) (open_in run) fields field body part p.small p.part_is p.body_is p.next_is (left-is fields p left)
-    ∙ sym (ap (λ (k : ℕ). run_at (map open_in (set store.runs i next)) k) (sym p.at) ∙ written-open store.runs i next p.inside)
+  pub passed-unit : (fields : List (List ℕ)) → LeaveWithin fields store place → unit_in (ended_by_stream t i) (record store { runs = later }) field ≡ at_most (limit_at store place) (unit_ended store.segmented fields field)
+  passed-unit fields left =
+      let on = p.on in
+      let back : at_most (get_or (sizes_of store.runs) place 0) (unit_at fields field) ≡ at_most (limit_at store place) (unit_ended store.segmented fields field) = rw on refl in
+      unit-is ∙ unit-pushed f.run.room.size (told t f.next body) (open_in f.run) fields field body part f.small p.part_is p.body_is f.unit_is (left-is fields left)
+      ∙ ap (λ (n : ℕ). at_most n (unit_at fields field)) (sym size-is) ∙ back
 
--- of a store as it is seen
-pub passed-unit : {store : Store} {i place : ℕ} {run next : Run} {t : Told} {part : Part} {field body : List ℕ} (old : Store) (fields : List (List ℕ)) → IsPassed store i place run next t part field body → store ≡ old
-    → LeaveWithin fields old place → unit_in (ended_by_stream t i) (with_run store i next) field ≡ at_most (limit_at old place) (unit_ended old.segmented fields field)
-passed-unit {store} {i} {place} {run} {next} {t} {part} {field} {body} old fields p seen =
-    subst (λ (x : Store). LeaveWithin fields x place → unit_in (ended_by_stream t i) (with_run store i next) field ≡ at_most (limit_at x place) (unit_ended x.segmented fields field)) seen (unit-at fields p)
+  pub passed-run : MovesOn → (fields : List (List ℕ)) → LeaveWithin fields store place → LeaveWithin (fields ++ field ∷ []) (settled (ended_by_stream t i) place (record store { runs = later })) place
+  passed-run moves fields left =
+      let on = p.on in
+      let next : OpenRun = behind t f.next in
+      let same : next.room.size ≡ f.run.room.size = ap (λ (r : Laid). r.size) (behind-room t f.next) ∙ f.same_size in
+      let sizes = same-sizes store.runs i f.run next p.inside f.run_is same in
+      let is : with_run store i next ≡ settled (ended_by_stream t i) place (record store { runs = later }) =
+      sym (settled-is store i f.next t p.inside) ∙ ap (λ (xs : List OpenRun). settled (ended_by_stream t i) i (record store { runs = xs })) (sym f.new_is) ∙ ap (λ (k : ℕ). settled (ended_by_stream t i) k (record store { runs = later })) p.at in
+      let front : at_most (limit_at (with_run store i next) place) (run_left store.segmented (fields ++ field ∷ [])) ≡ at_most (get_or (sizes_of (set store.runs i next)) place 0) (open_run (fields ++ field ∷ [])) = rw on refl in
+      subst (λ (x : Store). LeaveWithin (fields ++ field ∷ []) x place) is
+      (front ∙ ap (λ (x : List ℕ). at_most (get_or x place 0) (open_run (fields ++ field ∷ []))) sizes
+      ∙ ap (λ (n : ℕ). at_most n (open_run (fields ++ field ∷ []))) size-is
+      ∙ run-pushed moves f.run.room.size (open_in next) (open_in f.run) fields field body part f.small p.part_is p.body_is f.next_is (left-is fields left)
+      ∙ sym (ap (λ (k : ℕ). run_at (map open_in (set store.runs i next)) k) (sym p.at) ∙ written-open store.runs i next p.inside))
 
-pub passed-run : MovesOn → {store : Store} {i place : ℕ} {run next : Run} {t : Told} {part : Part} {field body : List ℕ} (old : Store) (fields : List (List ℕ)) → IsPassed store i place run next t part field body → store ≡ old
-    → LeaveWithin fields old place → LeaveWithin (fields ++ field ∷ []) (with_run store i next) place
-passed-run moves {store} {i} {place} {run} {next} {t} {part} {field} {body} old fields p seen =
-    subst (λ (x : Store). LeaveWithin fields x place → LeaveWithin (fields ++ field ∷ []) (with_run store i next) place) seen (run-at moves fields p)
+  pub passed-within : IsAtMost (limit_at store place) (unit_in (ended_by_stream t i) (record store { runs = later }) field)
+  passed-within =
+      let on = p.on in
+      let n : limit_at store place ≡ f.run.room.size = rw on size-is in
+      let unit = unit-is ∙ f.unit_is in
+      subst (λ (m : ℕ). IsAtMost m (unit_in (ended_by_stream t i) (record store { runs = later }) field)) (sym n)
+      (subst (IsAtMost f.run.room.size) (sym unit) (at_most-within f.run.room.size (ended_by part (open_in f.run) body)))
 
-pub passed-others : {store : Store} {i place : ℕ} {run next : Run} {t : Told} {part : Part} {field body : List ℕ} (old : Store) (other : ℕ) → IsPassed store i place run next t part field body → store ≡ old
-    → (other ≡ place → ⊥) → run_at (open_runs (with_run store i next)).runs other ≡ run_at (open_runs old).runs other
-passed-others {store} {i} {place} {run} {next} old other p seen apart =
-    others-open store.runs i other next (λ e. apart (e ∙ p.at)) ∙ ap (λ (x : Store). run_at (open_runs x).runs other) seen
+  -- where it ended a unit the runs are as they were
+  pub passed-held : (t ≡ tolds.Nothing → ⊥) → map open_in later ≡ map open_in store.runs
+  passed-held some =
+      ap (map open_in) f.new_is ∙ map-set open_in store.runs i f.next
+      ∙ ap (λ (o : Option (List ℕ)). set (map open_in store.runs) i o) (f.held some ∙ sym (read-open store.runs i f.run p.inside f.run_is)) ∙ set-get_or (map open_in store.runs) i None
 
-pub passed-rooms : {store : Store} {i place : ℕ} {run next : Run} {t : Told} {part : Part} {field body : List ℕ} (old : Store) (other : ℕ) → IsPassed store i place run next t part field body → store ≡ old
-    → (other ≡ place → ⊥) → slice_get (with_run store i next).runs other ≡ slice_get old.runs other
-passed-rooms {store} {i} {place} {run} {next} old other p seen apart =
-    elsewhere store.runs i other next (λ e. apart (e ∙ p.at)) ∙ ap (λ (x : Store). slice_get x.runs other) seen
+pub told-nothing : (t : Told) (i : ℕ) → (ended_by_stream t i ≡ ends.Nothing → ⊥) → t ≡ tolds.Nothing → ⊥
+told-nothing t i some is = some (ap (λ (x : Told). ended_by_stream x i) is)
 
-pub passed-limits : {store : Store} {i place : ℕ} {run next : Run} {t : Told} {part : Part} {field body : List ℕ} (old : Store) (q : ℕ) → IsPassed store i place run next t part field body → store ≡ old
-    → limit_at (with_run store i next) q ≡ limit_at old q
-passed-limits {store} {i} {place} {run} {next} old q p seen =
-    ap (λ (x : List ℕ). if store.segmented then get_or x q 0 else store.plain_limit) (same-sizes store.runs i run next p.inside p.run_is p.same_size) ∙ ap (λ (x : Store). limit_at x q) seen
+-- a run that was written leaves the others
+pub written-others : (store : Store) (i place other : ℕ) (later : List OpenRun) → IsWritten i store.runs later → i ≡ place → (other ≡ place → ⊥) → run_at (map open_in later) other ≡ run_at (map open_in store.runs) other
+written-others store i place other later w at apart = ap (λ (xs : List OpenRun). run_at (map open_in xs) other) w.is ∙ others-open store.runs i other w.next (λ e. apart (e ∙ at))
 
-pub passed-within : {store : Store} {i place : ℕ} {run next : Run} {t : Told} {part : Part} {field body : List ℕ} (old : Store) → IsPassed store i place run next t part field body → store ≡ old
-    → IsAtMost (limit_at old place) (unit_in (ended_by_stream t i) (with_run store i next) field)
-passed-within {store} {i} {place} {run} {next} {t} {part} {field} {body} old p seen =
-    let on = p.on in
-    let n : limit_at store place ≡ run.room.size = rw on (size-is p) in
-    let unit : unit_in (ended_by_stream t i) (with_run store i next) field ≡ at_most run.room.size (ended_by part (open_in run) body) = told-there store i next t field p.inside ∙ ap (told t next) (sym p.body_is) ∙ p.unit_is in
-    subst (λ (m : ℕ). IsAtMost m (unit_in (ended_by_stream t i) (with_run store i next) field)) (sym n ∙ ap (λ (x : Store). limit_at x place) seen)
-    (subst (IsAtMost run.room.size) (sym unit) (at_most-within run.room.size (ended_by part (open_in run) body)))
+pub written-rooms : (store : Store) (i place other : ℕ) (later : List OpenRun) → IsWritten i store.runs later → i ≡ place → (other ≡ place → ⊥) → slice_get later other ≡ slice_get store.runs other
+written-rooms store i place other later w at apart = ap (λ (xs : List OpenRun). slice_get xs other) w.is ∙ elsewhere store.runs i other w.next (λ e. apart (e ∙ at))
+
+pub written-limits : (store : Store) (i : ℕ) (later : List OpenRun) (q : ℕ) → IsWritten i store.runs later → limit_at (record store { runs = later }) q ≡ limit_at store q
+written-limits store i later q w = ap (λ (x : List ℕ). if store.segmented then get_or x q 0 else store.plain_limit) w.sizes
 
 -- where fields have no segment header
 pub plain-unit : (store : Store) (e : Ended) (limit place : ℕ) (fields : List (List ℕ)) (field : List ℕ) → store.segmented ≡ false → limit ≡ store.plain_limit → unit_in e store field ≡ at_most limit (bounded field)

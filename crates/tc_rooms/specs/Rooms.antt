@@ -1,5 +1,5 @@
 -- What a contract sees of rooms: what lies in them, and how large they are.
-use Rattle.std.specs.Prelude.{◌≡◌, ◌≤◌, ◌+◌, ℕ, List, length, map}
+use Rattle.std.specs.Prelude.{◌≡◌, ◌≤◌, ◌<◌, ◌+◌, ◌++◌, ◌∷◌, [], ℕ, Bool, true, false, List, length, map, take, drop}
 use Rattle.std.specs.List.{AllByRecursion}
 use Rattle.circular_buffer.specs.Buffer.{Buffer, buffer}
 
@@ -14,23 +14,32 @@ laid octets size = record { octets = octets; size = size }
 abbrev pub octets_of : Laid → List ℕ
 octets_of room = room.octets
 
--- rooms of one size, where the oldest octets lie in the first one that is taken
+-- items that wait in rooms of one size, and items that are laid behind them and don't count yet
 pub record Slotted : Type 0 where
   pub ring : Buffer (List ℕ)
+  pub laid : List (List ℕ)
   pub size : ℕ
 
-abbrev pub slotted : List (List ℕ) → ℕ → ℕ → Slotted
-slotted items capacity size = record { ring = buffer items capacity; size = size }
+abbrev pub slotted : List (List ℕ) → ℕ → List (List ℕ) → ℕ → Slotted
+slotted items capacity behind size = record { ring = buffer items capacity; laid = behind; size = size }
 
 abbrev pub HaveSize : ℕ → List Laid → Type 0
 HaveSize size rooms = AllByRecursion (λ (r : Laid). r.size ≡ size) rooms
 
--- the ring of rooms that are taken, and the free ones: together as many as the ring may hold
-pub record AreSlots (size most : ℕ) (taken : Buffer Laid) (free : List Laid) : Type 0 where
-  pub count : length taken.items + length free ≡ taken.capacity
-  pub places : taken.capacity ≤ most
-  pub taken_sizes : HaveSize size taken.items
-  pub free_sizes : HaveSize size free
+-- rooms in a ring, from the first one that is taken
+abbrev pub turned : ℕ → List Laid → List Laid
+turned first rooms = drop first rooms ++ take first rooms
 
-abbrev pub seen : Buffer Laid → ℕ → Slotted
-seen taken size = slotted (map octets_of taken.items) taken.capacity size
+-- so many rooms in a ring: from the first one on some are taken by items that wait, and some by items that are laid behind them
+pub record AreSlots (places first waiting count size : ℕ) (rooms : List Laid) : Type 0 where
+  pub inside : 0 < places → first < places
+  pub within : waiting + count ≤ places
+  pub sizes : HaveSize size rooms
+
+abbrev pub seen : ℕ → ℕ → ℕ → ℕ → ℕ → List Laid → Slotted
+seen places first waiting count size rooms = slotted (map octets_of (take waiting (turned first rooms))) places (map octets_of (take count (drop waiting (turned first rooms)))) size
+
+-- an item is laid behind the others, or there is no place for it
+pub record IsLaidBehind (octets : List ℕ) (old new : Slotted) (place : Bool) : Type 0 where
+  pub done : place ≡ true → (new ≡ slotted old.ring.items old.ring.capacity (old.laid ++ octets ∷ []) old.size) × (length old.ring.items + length old.laid < old.ring.capacity)
+  pub full : place ≡ false → (new ≡ old) × (old.ring.capacity ≤ length old.ring.items + length old.laid)

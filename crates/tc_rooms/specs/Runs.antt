@@ -1,25 +1,22 @@
 -- The open runs in their rooms, and the limit that each room is to its stream.
-use Rattle.std.specs.Prelude.{◌≡◌, ◌≤◌, ℕ, Bool, true, false, List, length, map, drop, get_or, Option, Some, None, option_map, slice_get, ◌<◌, IfSome, if◌then◌else◌}
-use Rattle.std.specs.List.{AllByRecursion}
-use Rattle.tc_packet.specs.Reassembly.{OpenRuns, at_most, largest_unit, stream_count, run_left, run_at}
-use Rattle.tc_rooms.specs.declared.runs.Run.{Run}
+use Rattle.std.specs.Prelude.{◌≡◌, ◌≤◌, ℕ, Bool, true, false, List, length, map, drop, get_or, set, zero, suc, [], ◌∷◌, Option, Some, None, option_map, slice_get, ◌<◌, IfSome, if◌then◌else◌}
+use Rattle.tc_packet.specs.Reassembly.{OpenRuns, at_most, ended_by, largest_unit, stream_count, run_left, run_at}
+use Rattle.tc_packet.specs.declared.segment.Part.{Part}
+use Rattle.tc_packet.specs.Runs.{next_run}
 use Rattle.tc_rooms.specs.declared.runs.Told.{Told}
 use Rattle.tc_rooms.specs.declared.runs.Told.TheVariants as tolds
 use Rattle.tc_rooms.specs.declared.runs.Ended.{Ended}
 use Rattle.tc_rooms.specs.declared.runs.Ended.TheVariants.{Nothing, Lying, Joined}
+use Rattle.tc_rooms.specs.OpenRun.{OpenRun, open_in, closed}
 
--- the run in a room, where one is open
-abbrev pub open_in : Run → Option (List ℕ)
-open_in run = if run.open then Some run.room.octets else None
-
-abbrev pub sizes_of : List Run → List ℕ
-sizes_of runs = map (λ (r : Run). r.room.size) runs
+abbrev pub sizes_of : List OpenRun → List ℕ
+sizes_of runs = map (λ (r : OpenRun). r.room.size) runs
 
 -- what a contract sees of a reassembler: whether data fields have segment headers, the limit where they have none, and the rooms
 pub record Store : Type 0 where
   pub segmented : Bool
   pub plain_limit : ℕ
-  pub runs : List Run
+  pub runs : List OpenRun
 
 -- the same runs as a `Reassembler` of tc_packet has them
 abbrev pub open_runs : Store → OpenRuns
@@ -29,27 +26,27 @@ open_runs store = record { segmented = store.segmented; runs = map open_in store
 abbrev pub limit_at : Store → ℕ → ℕ
 limit_at store place = if store.segmented then get_or (sizes_of store.runs) place 0 else store.plain_limit
 
--- no room holds more than there is room for
-abbrev pub AreWithin : List Run → Type 0
-AreWithin runs = AllByRecursion (λ (r : Run). length r.room.octets ≤ r.room.size) runs
-
 -- with segment headers a room for each stream, without them none; no limit is over the largest unit
 pub record IsStore (store : Store) : Type 0 where
   pub streams : store.segmented ≡ true → length store.runs ≡ stream_count
   pub plain : store.segmented ≡ false → length store.runs ≡ 0
-  pub limits : AllByRecursion (λ (r : Run). r.room.size ≤ largest_unit) store.runs
   pub plain_limit : store.plain_limit ≤ largest_unit
-  pub within : AreWithin store.runs
 
 -- the fields leave the run in the room at this place, where it is within the limit
 abbrev pub LeaveWithin : List (List ℕ) → Store → ℕ → Type 0
 LeaveWithin fields store place = at_most (limit_at store place) (run_left store.segmented fields) ≡ run_at (open_runs store).runs place
 
 -- the unit that a segment with this body ended
-abbrev pub told : Told → Run → List ℕ → Option (List ℕ)
+abbrev pub told : Told → OpenRun → List ℕ → Option (List ℕ)
 told tolds.Nothing run body = None
 told tolds.Body run body = Some body
 told tolds.Whole run body = Some run.room.octets
+
+-- the run behind a segment that was told so: one that ended a unit is over once that is delivered
+abbrev pub behind : Told → OpenRun → OpenRun
+behind tolds.Nothing run = run
+behind tolds.Body run = closed run
+behind tolds.Whole run = closed run
 
 -- where the unit lies that a segment of the stream with this place ended
 abbrev pub ended_by_stream : Told → ℕ → Ended
@@ -61,13 +58,46 @@ ended_by_stream tolds.Whole place = Joined place
 abbrev pub unit_in : Ended → Store → List ℕ → Option (List ℕ)
 unit_in Nothing store field = None
 unit_in (Lying from) store field = Some (drop from field)
-unit_in (Joined place) store field = option_map (λ (r : Run). r.room.octets) (slice_get store.runs place)
+unit_in (Joined place) store field = option_map (λ (r : OpenRun). r.room.octets) (slice_get store.runs place)
 
 -- where a unit is said to lie there is room for it
 abbrev pub IsThere : Ended → Store → List ℕ → Type 0
 IsThere Nothing store field = Unit {0}
 IsThere (Lying from) store field = from ≤ length field
 IsThere (Joined place) store field = place < length store.runs
+
+-- the runs where the one at this place is over
+abbrev pub over_at : ℕ → List OpenRun → List OpenRun
+over_at place [] = []
+over_at zero (run ∷ runs) = closed run ∷ runs
+over_at (suc place) (run ∷ runs) = run ∷ over_at place runs
+
+abbrev pub over : ℕ → Store → Store
+over place store = record store { runs = over_at place store.runs }
+
+-- the store once the unit is delivered that a field of this stream ended, if it ended one
+abbrev pub settled : Ended → ℕ → Store → Store
+settled Nothing place store = store
+settled (Lying from) place store = over place store
+settled (Joined at) place store = over place store
+
+-- one run was written, and its room is as large as before
+pub record IsWritten (place : ℕ) (old new : List OpenRun) : Type 0 where
+  pub next : OpenRun
+  pub is : new ≡ set old place next
+  pub sizes : sizes_of new ≡ sizes_of old
+
+-- the run at this place followed a segment with this body, and it is told where the unit lies that it ended
+pub record IsFollowed (place : ℕ) (part : Part) (body : List ℕ) (old new : List OpenRun) (t : Told) : Type 0 where
+  pub run : OpenRun
+  pub next : OpenRun
+  pub run_is : run ≡ get_or old place run
+  pub new_is : new ≡ set old place next
+  pub small : run.room.size ≤ largest_unit
+  pub same_size : next.room.size ≡ run.room.size
+  pub unit_is : told t next body ≡ at_most run.room.size (ended_by part (open_in run) body)
+  pub next_is : open_in (behind t next) ≡ at_most run.room.size (next_run part (open_in run) body)
+  pub held : (t ≡ tolds.Nothing → ⊥) → open_in next ≡ open_in run
 
 -- no unit is over the limit
 abbrev pub IsAtMost : ℕ → Option (List ℕ) → Type 0

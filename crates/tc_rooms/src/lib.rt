@@ -1,15 +1,18 @@
-//! Queues and reassembly whose memory is all asked for where they are made.
+//! Queues and reassembly, in rooms that are made at the start or that grow: one code for both.
 //!
-//! A [`Room`] is a block of one size, and the octets that lie in it. [`Slots`] are items that wait, each in a room of its own.
-//! A [`FixedReassembler`] has a room for the open run of each stream, and says where the unit lies that a data field ends
-//! ([`Ended`]), so that no unit is ever copied to be given out. Only what makes them allocates, so no other call can run out of
-//! memory.
+//! A [`Room`] is a place for octets, up to a size: a block of that size ([`FixedRoom`]), or a block that grows ([`GrowingRoom`]).
+//! [`Slots`] are items that wait, each in a room of its own. [`Runs`] have a room for the open run of each stream, and say where the
+//! unit lies that a data field ends ([`Ended`]), so that no unit is ever copied to be given out.
+//!
+//! What a call needs is laid behind what counts. Once all of it is there it counts ([`Slots::settle`], [`Runs::settle`]); where memory
+//! runs out it is let go ([`Slots::let_go`]), and all is as it was. With rooms that are made at the start only what makes them
+//! allocates, so no other call can run out of memory.
 #![tactic(auto)]
 
 mod room;
 mod runs;
 mod slots;
 
-pub use room::Room;
-pub use runs::{Ended, FixedReassembler, Run};
+pub use room::{FixedRoom, GrowingRoom, Room};
+pub use runs::{Ended, Run, Runs};
 pub use slots::Slots;

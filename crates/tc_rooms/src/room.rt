@@ -1,19 +1,64 @@
-//! Octets in a block of one size.
+//! Octets in a block of one size, and octets in a block that grows.
 
-ghost use Rattle.std.specs.Prelude.{◌≡◌, ◌≤◌, ◌+◌, ◌++◌, [], length, take, IfOk};
-ghost use Rattle.tc_rooms.specs.Rooms.{laid};
+ghost use Rattle.std.specs.Prelude.{◌≡◌, ◌≤◌, ◌+◌, ◌++◌, Bool, false, [], length, take, IfOk, IsOk, OnOk, OnErr};
+ghost use Rattle.tc_rooms.specs.Rooms.{Laid, laid};
 
 use std::alloc::{AllocError, Global};
 use std::marker::Model;
 
-/// A block of octets, of which the first ones are in use. Only `new` allocates.
+/// A place for the octets of one item or of one run, and how many they may be. Queues and reassembly are generic over it, so that
+/// they are one code for rooms that are made at the start ([`FixedRoom`]) and for rooms that grow ([`GrowingRoom`]).
+pub trait Room: Drop {
+    // the octets that lie here, and how many there may be
+    ghost held: { Self → Laid };
+
+    // whether octets take memory where they are put here; where they take none, none are refused
+    ghost grows: { Bool };
+
+    /// Room for so many octets, none of them in use.
+    fn with_size(alloc: Global, size: usize) -> Result<Self, AllocError>
+        ensures { IfOk result (λ r. held r ≡ laid [] size) };
+
+    /// How many octets may be in use.
+    fn size(&self) -> usize
+        ensures size { result ≡ (held self.now).size };
+
+    /// Copies octets here, in place of those in use.
+    fn fill(&mut self, octets: &[u8]) -> Result<(), AllocError>
+        requires { length octets.now ≤ (held self.old).size }
+        ensures filled { OnOk result (held self.new ≡ laid octets.now (held self.old).size) }
+        ensures refused { OnErr result (held self.new ≡ held self.old) }
+        ensures answered { grows ≡ false → IsOk result };
+
+    /// Copies octets behind those in use.
+    fn append(&mut self, octets: &[u8]) -> Result<(), AllocError>
+        requires { length (held self.old).octets + length octets.now ≤ (held self.old).size }
+        ensures appended { OnOk result (held self.new ≡ laid ((held self.old).octets ++ octets.now) (held self.old).size) }
+        ensures refused { OnErr result (held self.new ≡ held self.old) }
+        ensures answered { grows ≡ false → IsOk result };
+
+    /// Leaves the first octets alone in use.
+    fn cut(&mut self, count: usize)
+        ensures cut { held self.new ≡ laid (take count (held self.old).octets) (held self.old).size };
+
+    /// No octets are in use, and a block that grew is let go.
+    fn clear(&mut self)
+        ensures cleared { held self.new ≡ laid [] (held self.old).size };
+
+    /// The octets in use, lent.
+    fn as_slice(&self) -> &[u8]
+        ensures octets { result.now ≡ (held self.now).octets }
+        ensures within { length result.now ≤ (held self.now).size };
+}
+
+/// A block of octets, of which the first ones are in use. Only `with_size` allocates.
 #[derive(Drop)]
-pub struct Room {
+pub struct FixedRoom {
     block: Vec<u8>,
     len: usize,
 }
 
-impl Model for Room {
+impl Model for FixedRoom {
     ghost use Rattle.std.specs.Prelude.{◌≤◌, take, length};
     ghost use Rattle.tc_rooms.specs.Rooms.{Laid, laid};
 
@@ -33,56 +78,110 @@ fn write_at(block: &mut [u8], from: usize, octets: &[u8])
     block[from..from + octets.len()].copy_from_slice(octets);
 }
 
-impl Room {
-    /// Room for so many octets, none of them in use: one allocation.
-    pub fn new(alloc: Global, size: usize) -> Result<Room, AllocError>
-        ensures { IfOk result (λ r. r ≡ laid [] size) }
-    {
-        Ok(Room {
+impl Room for FixedRoom {
+    ghost held = { λ r. r };
+
+    ghost grows = { false };
+
+    fn with_size(alloc: Global, size: usize) -> Result<FixedRoom, AllocError> {
+        Ok(FixedRoom {
             block: vec![in alloc; 0; size]?,
             len: 0,
         })
     }
 
-    /// How many octets may be in use.
-    pub fn size(&self) -> usize
-        ensures { result ≡ self.now.size }
-    {
+    fn size(&self) -> usize {
         self.block.len()
     }
 
-    /// How many octets are in use.
-    pub fn len(&self) -> usize
-        ensures len { result ≡ length self.now.octets }
-        ensures within { result ≤ self.now.size }
-    {
-        self.as_slice().len()
-    }
-
-    /// Copies octets here, in place of those in use.
     #[inline(always)]
-    pub fn fill(&mut self, octets: &[u8])
-        requires { length octets.now ≤ self.old.size }
-        ensures { self.new ≡ laid octets.now self.old.size }
-    {
+    fn fill(&mut self, octets: &[u8]) -> Result<(), AllocError> {
         write_at(&mut self.block, 0, octets);
         self.len = octets.len();
+        Ok(())
     }
 
-    /// Copies octets behind those in use.
-    pub fn append(&mut self, octets: &[u8])
-        requires { length self.old.octets + length octets.now ≤ self.old.size }
-        ensures { self.new ≡ laid (self.old.octets ++ octets.now) self.old.size }
-    {
+    fn append(&mut self, octets: &[u8]) -> Result<(), AllocError> {
         write_at(&mut self.block, self.len, octets);
         self.len += octets.len();
+        Ok(())
     }
 
-    /// The octets in use, lent.
-    pub fn as_slice(&self) -> &[u8]
-        ensures octets { result.now ≡ self.now.octets }
-        ensures within { length result.now ≤ self.now.size }
-    {
+    fn cut(&mut self, count: usize) {
+        if count < self.len {
+            self.len = count;
+        }
+    }
+
+    fn clear(&mut self) {
+        self.len = 0;
+    }
+
+    fn as_slice(&self) -> &[u8] {
         &self.block[..self.len]
+    }
+}
+
+/// A block of octets that asks for memory where it is too small, up to a size.
+#[derive(Drop)]
+pub struct GrowingRoom {
+    alloc: Global,
+    block: Vec<u8>,
+    size: usize,
+}
+
+impl Model for GrowingRoom {
+    ghost use Rattle.std.specs.Prelude.{◌≤◌, length};
+    ghost use Rattle.tc_rooms.specs.Rooms.{Laid, laid};
+
+    ghost Value = { Laid };
+
+    ghost view = { λ r. laid r.block.items r.size };
+
+    ghost invariant = { λ r. length r.block.items ≤ r.size };
+}
+
+impl Room for GrowingRoom {
+    ghost use Rattle.std.specs.Prelude.{true};
+
+    ghost held = { λ r. r };
+
+    ghost grows = { true };
+
+    fn with_size(alloc: Global, size: usize) -> Result<GrowingRoom, AllocError> {
+        Ok(GrowingRoom {
+            alloc,
+            block: Vec::new(alloc),
+            size,
+        })
+    }
+
+    fn size(&self) -> usize {
+        self.size
+    }
+
+    fn fill(&mut self, octets: &[u8]) -> Result<(), AllocError> {
+        if octets.len() <= self.block.capacity() {
+            self.block.clear();
+            return self.block.extend_from_slice(octets);
+        }
+        self.block = Vec::from_slice(self.alloc, octets)?;
+        Ok(())
+    }
+
+    fn append(&mut self, octets: &[u8]) -> Result<(), AllocError> {
+        self.block.extend_from_slice(octets)
+    }
+
+    fn cut(&mut self, count: usize) {
+        self.block.truncate(count);
+    }
+
+    fn clear(&mut self) {
+        self.block = Vec::new(self.alloc);
+    }
+
+    fn as_slice(&self) -> &[u8] {
+        &self.block
     }
 }

@@ -1,11 +1,15 @@
 //! Reassembly (CCSDS 232.0-B, 4.4) in a room for each stream.
 
-ghost use Rattle.std.specs.Prelude.{◌≡◌, ◌<◌, ◌≤◌, ◌%◌, ◌∷◌, ◌++◌, ℕ, true, false, List, [], length, map, get_or, replicate, Some, None, IfOk, slice_get, option_map, if◌then◌else◌};
+ghost use Rattle.std.specs.Prelude.{◌≡◌, ◌<◌, ◌≤◌, ◌%◌, ◌∷◌, ◌++◌, ℕ, true, false, List, [], length, map, get_or, replicate, Some, None, IfOk, IsOk, OnErr, slice_get, option_map, if◌then◌else◌};
 ghost use Rattle.std.specs.List.{AllByRecursion};
 ghost use Rattle.tc_packet.specs.declared.Service.{Service};
 ghost use Rattle.tc_packet.specs.Reassembly.{at_most, bounded, ended_by, place_of, run_at, stream_place, unit_ended, largest_unit, extended};
 ghost use Rattle.tc_packet.specs.Runs.{next_run};
-ghost use Rattle.tc_rooms.specs.Runs.{open_in, open_runs, limit_at, LeaveWithin, told, unit_in, sizes_of, ended_by_stream, Store, AreWithin, IsThere, IsAtMost};
+ghost use Rattle.tc_rooms.specs.Rooms.{laid};
+ghost use Rattle.tc_rooms.specs.OpenRun.{open_in};
+ghost use Rattle.tc_rooms.specs.Runs.{behind, open_runs, limit_at, over_at, settled, LeaveWithin, told, unit_in, sizes_of, ended_by_stream, IsFollowed, IsWritten, Store, IsThere, IsAtMost};
+ghost use Rattle.tc_rooms.specs.declared.runs.Told.TheVariants as Told;
+ghost use Rattle.tc_rooms.specs.declared.runs.Ended.TheVariants as Ended;
 
 use crate::room::Room;
 use std::alloc::{AllocError, Global};
@@ -18,13 +22,23 @@ const MAPS: usize = 64;
 // Two services of 64 MAPs.
 const STREAMS: usize = 128;
 
-/// The room of a stream.
+/// The run of a stream: the first octets in its room, while it is open. A last segment lays its octets behind them, so that the unit
+/// is one slice, and the run stays until that is delivered.
 #[derive(Drop)]
-pub struct Run {
-    /// Whether a run is open.
-    pub open: bool,
-    /// The octets of the run that is open, or of the last one.
-    pub room: Room,
+pub struct Run<R: Room> {
+    is_open: bool,
+    count: u32,
+    room: R,
+}
+
+impl<R: Room> Model for Run<R> {
+    ghost use Rattle.tc_rooms.specs.OpenRun.{OpenRun, IsRun};
+
+    ghost Value = { OpenRun };
+
+    ghost view = { λ r. record { is_open = r.is_open; count = r.count; room = R.held r.room } };
+
+    ghost invariant = { λ r. IsRun (record { is_open = r.is_open; count = r.count; room = R.held r.room }) };
 }
 
 /// Where the unit lies that a segment ended: nowhere, in its body, or in the room of the run.
@@ -42,19 +56,19 @@ pub enum Ended {
     Nothing,
     /// In the field itself, behind so many octets.
     Lying(usize),
-    /// In the room of the stream with this place, until the next field of that stream. [`FixedReassembler::joined`] lends it.
+    /// In the room of the stream with this place, until the next field of that stream. [`Runs::joined`] lends it.
     Joined(usize),
 }
 
-/// The open run of each stream, in a room of its own. Only `new` allocates.
+/// The open run of each stream, in a room of its own. With rooms that are made at the start only what makes it allocates.
 #[derive(Drop)]
-pub struct FixedReassembler {
+pub struct Runs<R: Room> {
     segmented: bool,
     plain_limit: usize,
-    runs: Vec<Run>,
+    runs: Vec<Run<R>>,
 }
 
-impl Model for FixedReassembler {
+impl<R: Room> Model for Runs<R> {
     ghost use Rattle.tc_rooms.specs.Runs.{Store, IsStore};
 
     ghost Value = { Store };
@@ -75,62 +89,121 @@ fn place(service: Service, map: u8) -> usize
     }
 }
 
-// A body is put at the end of the open run; a run that would outgrow its room is dropped.
-fn extend(run: &mut Run, body: &[u8])
-    requires limit { run.old.room.size ≤ largest_unit }
-    requires fits { length run.old.room.octets ≤ run.old.room.size }
-    ensures run { open_in run.new ≡ at_most run.old.room.size (extended (open_in run.old) body.now) }
-    ensures size { run.new.room.size ≡ run.old.room.size }
-    ensures within { length run.new.room.octets ≤ run.new.room.size }
-{
-    if !run.open {
-        return;
+impl<R: Room> Run<R> {
+    // No run is open, and there is room for so many octets.
+    fn with_size(alloc: Global, size: usize) -> Result<Run<R>, AllocError>
+        requires { size ≤ LARGEST_UNIT }
+        ensures { IfOk result (λ r. r ≡ record { is_open = false; count = 0; room = laid [] size }) }
+    {
+        let room: R = Room::with_size(alloc, size)?;
+        Ok(Run {
+            is_open: false,
+            count: 0,
+            room,
+        })
     }
-    if body.len() <= run.room.size() - run.room.len() {
-        run.room.append(body);
-    } else {
-        run.open = false;
-    }
-}
 
-// The run goes on with a segment that has this body. Where the unit lies that it ends.
-fn follow(part: Part, run: &mut Run, body: &[u8]) -> Told
-    requires limit { run.old.room.size ≤ largest_unit }
-    requires fits { length run.old.room.octets ≤ run.old.room.size }
-    ensures unit { told result run.new body.now ≡ at_most run.old.room.size (ended_by part (open_in run.old) body.now) }
-    ensures run { open_in run.new ≡ at_most run.old.room.size (next_run part (open_in run.old) body.now) }
-    ensures size { run.new.room.size ≡ run.old.room.size }
-    ensures within { length run.new.room.octets ≤ run.new.room.size }
-{
-    match part {
-        Part::First => {
-            if body.len() <= run.room.size() {
-                run.room.fill(body);
-                run.open = true;
-            } else {
-                run.open = false;
+    // Lays a body behind the open run, and says whether it did: not where no run is open, nor beyond its room.
+    fn extend(&mut self, body: &[u8]) -> Result<bool, AllocError>
+        ensures laid { IfOk result (λ done. done ≡ true → (self.old.is_open ≡ true) × (at_most self.old.room.size (extended (open_in self.old) body.now) ≡ Some self.new.room.octets)) }
+        ensures none { IfOk result (λ done. done ≡ false → at_most self.old.room.size (extended (open_in self.old) body.now) ≡ None) }
+        ensures same { open_in self.new ≡ open_in self.old }
+        ensures open { self.new.is_open ≡ self.old.is_open }
+        ensures size { self.new.room.size ≡ self.old.room.size }
+        ensures small { self.old.room.size ≤ largest_unit }
+        ensures answered { R.grows ≡ false → IsOk result }
+    {
+        if !self.is_open || body.len() > self.room.size() - self.count as usize {
+            return Ok(false);
+        }
+        self.room.cut(self.count as usize);
+        self.room.append(body)?;
+        Ok(true)
+    }
+
+    // A first segment with this body opens the run, where it fits the room.
+    fn begin(&mut self, body: &[u8]) -> Result<(), AllocError>
+        ensures run { IfOk result (λ _. open_in self.new ≡ at_most self.old.room.size (bounded body.now)) }
+        ensures refused { OnErr result (open_in self.new ≡ open_in self.old) }
+        ensures size { self.new.room.size ≡ self.old.room.size }
+        ensures small { self.old.room.size ≤ largest_unit }
+        ensures answered { R.grows ≡ false → IsOk result }
+    {
+        if body.len() > self.room.size() {
+            self.is_open = false;
+            return Ok(());
+        }
+        self.room.fill(body)?;
+        self.is_open = true;
+        self.count = body.len() as u32;
+        Ok(())
+    }
+
+    // A continuing segment with this body moves the run on; a run that would outgrow its room is dropped.
+    fn go_on(&mut self, body: &[u8]) -> Result<(), AllocError>
+        ensures run { IfOk result (λ _. open_in self.new ≡ at_most self.old.room.size (extended (open_in self.old) body.now)) }
+        ensures refused { OnErr result (open_in self.new ≡ open_in self.old) }
+        ensures size { self.new.room.size ≡ self.old.room.size }
+        ensures small { self.old.room.size ≤ largest_unit }
+        ensures answered { R.grows ≡ false → IsOk result }
+    {
+        if self.extend(body)? {
+            self.count = self.room.as_slice().len() as u32;
+        } else {
+            self.is_open = false;
+        }
+        Ok(())
+    }
+
+    // A segment with this body moves the run on, where it ends no unit. Where it ends one, it says where that lies, and the run stays
+    // until it is closed.
+    fn follow(&mut self, part: Part, body: &[u8]) -> Result<Told, AllocError>
+        ensures unit { IfOk result (λ t. told t self.new body.now ≡ at_most self.old.room.size (ended_by part (open_in self.old) body.now)) }
+        ensures run { IfOk result (λ t. open_in (behind t self.new) ≡ at_most self.old.room.size (next_run part (open_in self.old) body.now)) }
+        ensures held { IfOk result (λ t. (t ≡ Told.Nothing → ⊥) → open_in self.new ≡ open_in self.old) }
+        ensures refused { OnErr result (open_in self.new ≡ open_in self.old) }
+        ensures size { self.new.room.size ≡ self.old.room.size }
+        ensures small { self.old.room.size ≤ largest_unit }
+        ensures answered { R.grows ≡ false → IsOk result }
+    {
+        match part {
+            Part::First => {
+                self.begin(body)?;
+                Ok(Told::Nothing)
             }
-            Told::Nothing
-        }
-        Part::Continuing => {
-            extend(run, body);
-            Told::Nothing
-        }
-        Part::Last => {
-            extend(run, body);
-            if run.open {
-                run.open = false;
-                return Told::Whole;
+            Part::Continuing => {
+                self.go_on(body)?;
+                Ok(Told::Nothing)
             }
-            Told::Nothing
-        }
-        Part::Unsegmented => {
-            run.open = false;
-            if body.len() <= run.room.size() {
-                return Told::Body;
+            Part::Last => {
+                if self.extend(body)? {
+                    return Ok(Told::Whole);
+                }
+                self.is_open = false;
+                Ok(Told::Nothing)
             }
-            Told::Nothing
+            Part::Unsegmented => {
+                if body.len() <= self.room.size() {
+                    return Ok(Told::Body);
+                }
+                self.is_open = false;
+                Ok(Told::Nothing)
+            }
         }
+    }
+
+    // The run is over.
+    fn close(&mut self)
+        ensures { self.new ≡ record self.old { is_open = false } }
+    {
+        self.is_open = false;
+    }
+
+    // The octets in the room, lent: where a segment said that a unit lies there, that unit.
+    fn octets(&self) -> &[u8]
+        ensures { result.now ≡ self.now.room.octets }
+    {
+        self.room.as_slice()
     }
 }
 
@@ -142,6 +215,34 @@ fn ended_at(told: Told, place: usize) -> Ended
         Told::Nothing => Ended::Nothing,
         Told::Body => Ended::Lying(1),
         Told::Whole => Ended::Joined(place),
+    }
+}
+
+// The run at this place follows a segment with this body.
+fn follow_at<R: Room>(
+    runs: &mut Vec<Run<R>>,
+    at: usize,
+    part: Part,
+    body: &[u8],
+) -> Result<Told, AllocError>
+    requires { at < length runs.old.items }
+    ensures followed { IfOk result (IsFollowed at part body.now runs.old.items runs.new.items) }
+    ensures written { IsWritten at runs.old.items runs.new.items }
+    ensures refused { OnErr result (map open_in runs.new.items ≡ map open_in runs.old.items) }
+    ensures answered { R.grows ≡ false → IsOk result }
+{
+    let run = &mut runs[at];
+    run.follow(part, body)
+}
+
+// The run at this place is over, if there is one.
+fn close_at<R: Room>(runs: &mut Vec<Run<R>>, at: usize)
+    ensures over { runs.new.items ≡ over_at at runs.old.items }
+    ensures places { length runs.new.items ≡ length runs.old.items }
+{
+    if at < runs.len() {
+        let run = &mut runs[at];
+        run.close();
     }
 }
 
@@ -159,30 +260,32 @@ fn whole_field(field: &[u8], limit: usize) -> Ended
 }
 
 // A room for each of so many streams, as large as the limit of its MAP.
-fn empty_runs(alloc: Global, count: usize, limits: &[usize]) -> Result<Vec<Run>, AllocError>
+fn empty_runs<R: Room>(
+    alloc: Global,
+    count: usize,
+    limits: &[usize],
+) -> Result<Vec<Run<R>>, AllocError>
     requires maps { length limits.now ≡ 64 }
     requires limits { AllByRecursion (λ n. n ≤ largest_unit) limits.now }
     ensures count { IfOk result (λ v. length v.items ≡ count) }
     ensures runs { IfOk result (λ v. map open_in v.items ≡ replicate count None) }
     ensures sizes { IfOk result (λ v. (place : ℕ) → place < count → get_or (sizes_of v.items) place 0 ≡ get_or limits.now (place % 64) 0) }
-    ensures limits { IfOk result (λ v. AllByRecursion (λ (r : Run). r.room.size ≤ largest_unit) v.items) }
-    ensures within { IfOk result (λ v. AreWithin v.items) }
 {
     let mut runs = Vec::with_capacity(alloc, count)?;
     for place in 0..count {
-        let room = Room::new(alloc, limits[place % MAPS])?;
-        runs.push_reserved(Run { open: false, room });
+        let run: Run<R> = Run::with_size(alloc, limits[place % MAPS])?;
+        runs.push_reserved(run);
     }
     Ok(runs)
 }
 
 // No run is open. With segment headers each stream has a room, as large as the limit of its MAP.
-fn with_rooms(
+fn with_rooms<R: Room>(
     alloc: Global,
     segmented: bool,
     plain_limit: usize,
     limits: &[usize],
-) -> Result<FixedReassembler, AllocError>
+) -> Result<Runs<R>, AllocError>
     requires plain { plain_limit ≤ LARGEST_UNIT }
     requires maps { length limits.now ≡ 64 }
     requires limits { AllByRecursion (λ n. n ≤ largest_unit) limits.now }
@@ -192,17 +295,17 @@ fn with_rooms(
 {
     let count = if segmented { STREAMS } else { 0 };
     let runs = empty_runs(alloc, count, limits)?;
-    Ok(FixedReassembler {
+    Ok(Runs {
         segmented,
         plain_limit,
         runs,
     })
 }
 
-impl FixedReassembler {
+impl<R: Room> Runs<R> {
     /// No run is open. Units of more octets than the limit are dropped. With segment headers the room of each of the 128 streams
     /// is made here; without them there is none, since each data field is a unit by itself.
-    pub fn new(alloc: Global, segmented: bool, limit: usize) -> Result<FixedReassembler, AllocError>
+    pub fn new(alloc: Global, segmented: bool, limit: usize) -> Result<Runs<R>, AllocError>
         requires { limit ≤ LARGEST_UNIT }
         ensures segmented { IfOk result (λ r. r.segmented ≡ segmented) }
         ensures none { IfOk result (λ r. (place : ℕ) → run_at (open_runs r).runs place ≡ None) }
@@ -213,7 +316,7 @@ impl FixedReassembler {
 
     /// No run is open, and data fields have segment headers. Units of a MAP that have more octets than its limit are dropped: `limits`
     /// has one for each of the 64 MAPs. The room of each of the 128 streams is made here, as large as the limit of its MAP.
-    pub fn by_map(alloc: Global, limits: &[usize]) -> Result<FixedReassembler, AllocError>
+    pub fn by_map(alloc: Global, limits: &[usize]) -> Result<Runs<R>, AllocError>
         requires maps { length limits.now ≡ 64 }
         requires limits { AllByRecursion (λ n. n ≤ largest_unit) limits.now }
         ensures segmented { IfOk result (λ r. r.segmented ≡ true) }
@@ -224,40 +327,56 @@ impl FixedReassembler {
     }
 
     /// Takes the next field of its stream, and says where the unit lies that it ends. A run or a unit of more octets than the limit
-    /// of its stream is dropped. What is said of the fields before holds of any fields that have left the stream's run as it is.
-    pub fn pass(&mut self, service: Service, field: &[u8]) -> Ended
+    /// of its stream is dropped. A run that ends stays until [`settle`](Runs::settle), so that where memory runs out behind
+    /// this call the runs are as they were. What is said of the fields before holds of any fields that have left the stream's run as it is.
+    pub fn lay(&mut self, service: Service, field: &[u8]) -> Result<Ended, AllocError>
         requires { 0 < length field.now }
         ensures unit { (fields : List (List ℕ)) → LeaveWithin fields self.old (stream_place service field.now)
-            → unit_in result self.new field.now
-            ≡ at_most (limit_at self.old (stream_place service field.now)) (unit_ended self.old.segmented fields field.now) }
+            → IfOk result (λ ended. unit_in ended self.new field.now
+            ≡ at_most (limit_at self.old (stream_place service field.now)) (unit_ended self.old.segmented fields field.now)) }
         ensures run { (fields : List (List ℕ)) → LeaveWithin fields self.old (stream_place service field.now)
-            → LeaveWithin (fields ++ field.now ∷ []) self.new (stream_place service field.now) }
+            → IfOk result (λ ended. LeaveWithin (fields ++ field.now ∷ []) (settled ended (stream_place service field.now) self.new) (stream_place service field.now)) }
+        ensures held { IfOk result (λ ended. (ended ≡ Ended.Nothing → ⊥) → open_runs self.new ≡ open_runs self.old) }
+        ensures refused { OnErr result (open_runs self.new ≡ open_runs self.old) }
         ensures others { (other : ℕ) → (other ≡ stream_place service field.now → ⊥)
             → run_at (open_runs self.new).runs other ≡ run_at (open_runs self.old).runs other }
         ensures other_rooms { (other : ℕ) → (other ≡ stream_place service field.now → ⊥)
             → slice_get self.new.runs other ≡ slice_get self.old.runs other }
-        ensures there { IsThere result self.new field.now }
-        ensures within { IsAtMost (limit_at self.old (stream_place service field.now)) (unit_in result self.new field.now) }
-        ensures shorter { self.old.segmented ≡ false → IsAtMost (length field.now) (unit_in result self.new field.now) }
+        ensures there { IfOk result (λ ended. IsThere ended self.new field.now) }
+        ensures within { IfOk result (λ ended. IsAtMost (limit_at self.old (stream_place service field.now)) (unit_in ended self.new field.now)) }
+        ensures shorter { self.old.segmented ≡ false → IfOk result (λ ended. IsAtMost (length field.now) (unit_in ended self.new field.now)) }
         ensures limits { (place : ℕ) → limit_at self.new place ≡ limit_at self.old place }
         ensures segmented { self.new.segmented ≡ self.old.segmented }
+        ensures answered { R.grows ≡ false → IsOk result }
     {
         if !self.segmented {
-            return whole_field(field, self.plain_limit);
+            return Ok(whole_field(field, self.plain_limit));
         }
         one_more_field_moves_its_run_on();
         let segment = read_segment(field[0]);
         let at = place(service, segment.map);
-        let run = &mut self.runs[at];
-        let told = follow(segment.part, run, &field[1..]);
-        ended_at(told, at)
+        let told = follow_at(&mut self.runs, at, segment.part, &field[1..])?;
+        Ok(ended_at(told, at))
     }
 
-    /// The octets in the room of the stream with this place, lent: behind `pass` the unit that it said is joined there.
+    /// What a field of this stream ended is delivered: its run is over, if it ended a unit.
+    #[inline(always)]
+    pub fn settle(&mut self, service: Service, map: u8, ended: Ended)
+        requires { map < 64 }
+        ensures { self.new ≡ settled ended (place_of service map) self.old }
+    {
+        match ended {
+            Ended::Nothing => {}
+            Ended::Lying(_) => close_at(&mut self.runs, place(service, map)),
+            Ended::Joined(_) => close_at(&mut self.runs, place(service, map)),
+        }
+    }
+
+    /// The octets in the room of the stream with this place, lent: behind `lay` the unit that it said is joined there.
     pub fn joined(&self, place: usize) -> &[u8]
         requires { place < length self.now.runs }
         ensures { Some result.now ≡ option_map (λ r. r.room.octets) (slice_get self.now.runs place) }
     {
-        self.runs[place].room.as_slice()
+        self.runs[place].octets()
     }
 }

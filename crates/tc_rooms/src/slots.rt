@@ -1,54 +1,121 @@
-//! Items that wait, in rooms of one size.
+//! Items that wait, in rooms of one size, and items that are laid behind them and don't count yet.
 
-ghost use Rattle.std.specs.Prelude.{◌≡◌, ◌≤◌, ◌<◌, ◌==◌, ◌∷◌, [], ◌++◌, length, drop, vec_capacity, IfOk, IfSome, slice_get, option_map};
-ghost use Rattle.tc_rooms.specs.Rooms.{slotted, HaveSize};
+ghost use Rattle.std.specs.Prelude.{◌≡◌, ◌≤◌, ◌<◌, ◌==◌, ◌+◌, ◌-◌, ◌++◌, [], length, map, drop, set, nat_lt, false, IfOk, IsOk, OnOk, OnErr, IfSome, slice_get, option_map, if◌then◌else◌};
+ghost use Rattle.tc_rooms.specs.Rooms.{laid, slotted, HaveSize, IsLaidBehind};
 
 use crate::room::Room;
-use circular_buffer::HeapCircularBuffer;
 use std::alloc::{AllocError, Global};
 use std::marker::Model;
 
-/// Items that wait, the oldest first, each in a room of its own, and a free room for each that may come. Only `with_capacity`
-/// allocates.
+/// Items that wait, the oldest first, each in a room of its own that stays in its place, and items that a call has laid behind them.
+/// What is laid counts once all of a call is ([`settle`](Slots::settle)), or is let go ([`let_go`](Slots::let_go)). With rooms that
+/// are made at the start only `with_capacity` allocates.
 #[derive(Drop)]
-pub struct Slots {
-    taken: HeapCircularBuffer<Room>,
-    free: Vec<Room>,
+pub struct Slots<R: Room> {
+    rooms: Vec<R>,
+    first: usize,
+    waiting: usize,
+    laid: usize,
     size: usize,
 }
 
-impl Model for Slots {
-    ghost use Rattle.std.specs.Prelude.{vec_capacity};
+impl<R: Room> Model for Slots<R> {
+    ghost use Rattle.std.specs.Prelude.{length, map};
     ghost use Rattle.tc_rooms.specs.Rooms.{Slotted, AreSlots, seen};
 
     ghost Value = { Slotted };
 
-    ghost view = { λ s. seen s.taken s.size };
+    ghost view = { λ s. seen (length s.rooms.items) s.first s.waiting s.laid s.size (map R.held s.rooms.items) };
 
-    ghost invariant = { λ s. AreSlots s.size (vec_capacity s.free) s.taken s.free.items };
+    ghost invariant = { λ s. AreSlots (length s.rooms.items) s.first s.waiting s.laid s.size (map R.held s.rooms.items) };
 }
 
 // So many rooms of one size.
-fn free_rooms(alloc: Global, count: usize, size: usize) -> Result<Vec<Room>, AllocError>
-    ensures count { IfOk result (λ v. (length v.items ≡ count) × (count ≤ vec_capacity v)) }
-    ensures sizes { IfOk result (λ v. HaveSize size v.items) }
+fn empty_rooms<R: Room>(alloc: Global, count: usize, size: usize) -> Result<Vec<R>, AllocError>
+    ensures count { IfOk result (λ v. length v.items ≡ count) }
+    ensures sizes { IfOk result (λ v. HaveSize size (map R.held v.items)) }
 {
-    let mut free = Vec::with_capacity(alloc, count)?;
+    let mut rooms = Vec::with_capacity(alloc, count)?;
     for _ in 0..count {
-        let room = Room::new(alloc, size)?;
-        free.push_reserved(room);
+        let room: R = Room::with_size(alloc, size)?;
+        rooms.push_reserved(room);
     }
-    Ok(free)
+    Ok(rooms)
 }
 
-impl Slots {
+// The place in the ring that comes so many places behind the first one.
+fn place_behind(first: usize, count: usize, places: usize) -> usize
+    requires first { first < places }
+    requires count { count < places }
+    ensures place { result ≡ (if nat_lt count (places - first) then first + count else count - (places - first)) }
+    ensures within { result < places }
+{
+    let after = places - first;
+    if count < after {
+        first + count
+    } else {
+        count - after
+    }
+}
+
+// The place in the ring that comes next.
+fn next_place(first: usize, places: usize) -> usize
+    requires { first < places }
+    ensures place { result ≡ (if nat_lt (first + 1) places then first + 1 else 0) }
+    ensures within { result < places }
+{
+    if first + 1 < places {
+        first + 1
+    } else {
+        0
+    }
+}
+
+// Copies octets into the room at this place.
+fn fill_at<R: Room>(
+    rooms: &mut Vec<R>,
+    place: usize,
+    size: usize,
+    octets: &[u8],
+) -> Result<(), AllocError>
+    requires place { place < length rooms.old.items }
+    requires sizes { HaveSize size (map R.held rooms.old.items) }
+    requires fits { length octets.now ≤ size }
+    ensures filled { OnOk result (map R.held rooms.new.items ≡ set (map R.held rooms.old.items) place (laid octets.now size)) }
+    ensures refused { OnErr result (map R.held rooms.new.items ≡ map R.held rooms.old.items) }
+    ensures places { length rooms.new.items ≡ length rooms.old.items }
+    ensures answered { R.grows ≡ false → IsOk result }
+{
+    rooms[place].fill(octets)
+}
+
+// The room at this place has no octets in use.
+fn clear_at<R: Room>(rooms: &mut Vec<R>, place: usize, size: usize)
+    requires place { place < length rooms.old.items }
+    requires sizes { HaveSize size (map R.held rooms.old.items) }
+    ensures cleared { map R.held rooms.new.items ≡ set (map R.held rooms.old.items) place (laid [] size) }
+    ensures places { length rooms.new.items ≡ length rooms.old.items }
+{
+    rooms[place].clear();
+}
+
+impl<R: Room> Slots<R> {
     /// Room for so many items of at most `size` octets each, with no item in it.
-    pub fn with_capacity(alloc: Global, capacity: usize, size: usize) -> Result<Slots, AllocError>
-        ensures { IfOk result (λ s. s ≡ slotted [] capacity size) }
+    pub fn with_capacity(
+        alloc: Global,
+        capacity: usize,
+        size: usize,
+    ) -> Result<Slots<R>, AllocError>
+        ensures { IfOk result (λ s. s ≡ slotted [] capacity [] size) }
     {
-        let taken = HeapCircularBuffer::with_capacity(alloc, capacity)?;
-        let free = free_rooms(alloc, capacity, size)?;
-        Ok(Slots { taken, free, size })
+        let rooms = empty_rooms(alloc, capacity, size)?;
+        Ok(Slots {
+            rooms,
+            first: 0,
+            waiting: 0,
+            laid: 0,
+            size,
+        })
     }
 
     /// How many items wait.
@@ -56,21 +123,21 @@ impl Slots {
         ensures len { result ≡ length self.now.ring.items }
         ensures within { length self.now.ring.items ≤ self.now.ring.capacity }
     {
-        self.taken.len()
+        self.waiting
     }
 
     /// Whether no item waits.
     pub fn is_empty(&self) -> bool
         ensures { result ≡ (length self.now.ring.items == 0) }
     {
-        self.taken.is_empty()
+        self.waiting == 0
     }
 
     /// How many items may wait.
     pub fn capacity(&self) -> usize
         ensures capacity { result ≡ self.now.ring.capacity }
     {
-        self.taken.capacity()
+        self.rooms.len()
     }
 
     /// How many octets an item may have.
@@ -85,32 +152,65 @@ impl Slots {
         ensures item { option_map (λ octets. octets.now) result ≡ slice_get self.now.ring.items 0 }
         ensures within { IfSome result (λ octets. length octets.now ≤ self.now.size) }
     {
-        match self.taken.front() {
-            Some(room) => Some(room.as_slice()),
-            None => None,
+        if self.waiting == 0 {
+            return None;
+        }
+        Some(self.rooms[self.first].as_slice())
+    }
+
+    /// Lays an item behind the others, where there is a place, and says whether there was.
+    #[inline(always)]
+    pub fn lay(&mut self, octets: &[u8]) -> Result<bool, AllocError>
+        requires { length octets.now ≤ self.old.size }
+        ensures laid { IfOk result (IsLaidBehind octets.now self.old self.new) }
+        ensures refused { OnErr result (self.new ≡ self.old) }
+        ensures ring { self.new.ring ≡ self.old.ring }
+        ensures size { self.new.size ≡ self.old.size }
+        ensures answered { R.grows ≡ false → IsOk result }
+    {
+        let places = self.rooms.len();
+        let count = self.waiting + self.laid;
+        if count >= places {
+            return Ok(false);
+        }
+        let place = place_behind(self.first, count, places);
+        fill_at(&mut self.rooms, place, self.size, octets)?;
+        self.laid += 1;
+        Ok(true)
+    }
+
+    /// What was laid counts.
+    #[inline(always)]
+    pub fn settle(&mut self)
+        ensures { self.new ≡ slotted (self.old.ring.items ++ self.old.laid) self.old.ring.capacity [] self.old.size }
+    {
+        self.waiting += self.laid;
+        self.laid = 0;
+    }
+
+    /// What was laid is let go.
+    pub fn let_go(&mut self)
+        ensures { self.new ≡ slotted self.old.ring.items self.old.ring.capacity [] self.old.size }
+    {
+        while self.laid > 0 {
+            let places = self.rooms.len();
+            let last = self.waiting + (self.laid - 1);
+            let place = place_behind(self.first, last, places);
+            clear_at(&mut self.rooms, place, self.size);
+            self.laid -= 1;
         }
     }
 
-    /// Copies an item into a free room, behind those that wait.
-    #[inline(always)]
-    pub fn push_back(&mut self, octets: &[u8])
-        requires size { length octets.now ≤ self.old.size }
-        requires room { length self.old.ring.items < self.old.ring.capacity }
-        ensures { self.new ≡ slotted (self.old.ring.items ++ octets.now ∷ []) self.old.ring.capacity self.old.size }
-    {
-        let mut room = self.free.pop().unwrap();
-        room.fill(octets);
-        self.taken.push_back(room);
-    }
-
-    /// Drops the oldest item, if there is one, and frees its room.
+    /// Drops the oldest item, if there is one.
     #[inline(always)]
     pub fn pop_front(&mut self)
-        ensures { self.new ≡ slotted (drop 1 self.old.ring.items) self.old.ring.capacity self.old.size }
+        ensures { self.new ≡ slotted (drop 1 self.old.ring.items) self.old.ring.capacity self.old.laid self.old.size }
     {
-        match self.taken.pop_front() {
-            Some(room) => self.free.push_reserved(room),
-            None => {}
+        if self.waiting == 0 {
+            return;
         }
+        clear_at(&mut self.rooms, self.first, self.size);
+        self.first = next_place(self.first, self.rooms.len());
+        self.waiting -= 1;
     }
 }

@@ -113,7 +113,7 @@ fn refused_limits_say_why() {
     let queues = [5, 6, 7, 8].map(|apid| Queue { apid, capacity: 8 });
     let eight = Settings { buffer: 8, queues: &queues, maps: &[], ..SETTINGS };
     let limits = Limits { others: 0, maps: &[Limit { map: 0, octets: 1_024 }] };
-    assert_eq!(eight.storage_with_limits(&limits), Ok(50_936));
+    assert_eq!(eight.storage_with_limits(&limits), Ok(49_624));
     assert!(Channel::with_limits(&eight, &limits).is_ok());
 }
 

@@ -1,32 +1,71 @@
-//! Rooms, and items in rooms.
+//! Rooms, and items in rooms, of both forms.
 
 use super::*;
-use tc_rooms::{Room, Slots};
+use tc_rooms::{FixedRoom, GrowingRoom, Room, Slots};
 
 #[test]
 fn octets_in_a_room(rt: HostRuntime) {
-    let mut room = Room::new(rt.alloc(), 4).expect(&rt, "a room");
-    assert_eq!(&rt; (room.size(), room.len()), (4, 0));
-    room.fill(&[1, 2, 3]);
-    room.fill(&[4, 5]);
-    room.append(&[6, 7]);
-    assert_eq!(&rt; (room.size(), room.len()), (4, 4));
+    let mut room: FixedRoom = Room::with_size(rt.alloc(), 4).expect(&rt, "a room");
+    assert_eq!(&rt; (room.size(), room.as_slice().len()), (4, 0));
+    room.fill(&[1, 2, 3]).expect(&rt, "octets");
+    room.fill(&[4, 5]).expect(&rt, "octets");
+    room.append(&[6, 7]).expect(&rt, "octets");
     assert_eq!(&rt; room.as_slice(), [4, 5, 6, 7].as_slice());
+    room.cut(3);
+    assert_eq!(&rt; (room.size(), room.as_slice()), (4, [4, 5, 6].as_slice()));
+    room.clear();
+    assert_eq!(&rt; room.as_slice().len(), 0);
+}
+
+#[test]
+fn octets_in_a_room_that_grows(rt: HostRuntime) {
+    let mut room: GrowingRoom = Room::with_size(rt.alloc(), 4).expect(&rt, "a room");
+    assert_eq!(&rt; (room.size(), room.as_slice().len()), (4, 0));
+    room.fill(&[1, 2, 3]).expect(&rt, "octets");
+    room.fill(&[4, 5]).expect(&rt, "octets");
+    room.append(&[6, 7]).expect(&rt, "octets");
+    assert_eq!(&rt; room.as_slice(), [4, 5, 6, 7].as_slice());
+    room.cut(3);
+    assert_eq!(&rt; (room.size(), room.as_slice()), (4, [4, 5, 6].as_slice()));
+    room.clear();
+    assert_eq!(&rt; room.as_slice().len(), 0);
 }
 
 // Three items, one after the other, in two rooms.
 #[test]
 fn items_in_two_rooms(rt: HostRuntime) {
-    let mut slots = Slots::with_capacity(rt.alloc(), 2, 3).expect(&rt, "rooms");
+    let mut slots: Slots<FixedRoom> =
+        Slots::with_capacity(rt.alloc(), 2, 3).expect(&rt, "rooms");
     assert_eq!(&rt; (slots.capacity(), slots.size(), slots.len()), (2, 3, 0));
     assert!(&rt; slots.is_empty());
     assert_eq!(&rt; slots.front(), None);
-    slots.push_back(&[1, 2, 3]);
-    slots.push_back(&[]);
+    assert!(&rt; slots.lay(&[1, 2, 3]).expect(&rt, "an item"));
+    assert!(&rt; slots.lay(&[]).expect(&rt, "an item"));
+    assert_eq!(&rt; (slots.len(), slots.is_empty()), (0, true));
+    slots.settle();
+    assert!(&rt; !slots.lay(&[9]).expect(&rt, "an answer"));
     assert_eq!(&rt; (slots.len(), slots.is_empty()), (2, false));
     assert_eq!(&rt; slots.front(), Some([1, 2, 3].as_slice()));
     slots.pop_front();
-    slots.push_back(&[4]);
+    assert!(&rt; slots.lay(&[4]).expect(&rt, "an item"));
+    slots.settle();
     slots.pop_front();
     assert_eq!(&rt; slots.front(), Some([4].as_slice()));
+}
+
+// Of three items the first one waits, and the others are laid and let go.
+#[test]
+fn items_laid_and_let_go(rt: HostRuntime) {
+    let mut slots: Slots<GrowingRoom> =
+        Slots::with_capacity(rt.alloc(), 3, 3).expect(&rt, "rooms");
+    assert!(&rt; slots.lay(&[1]).expect(&rt, "an item"));
+    slots.settle();
+    assert!(&rt; slots.lay(&[2]).expect(&rt, "an item"));
+    assert!(&rt; slots.lay(&[3]).expect(&rt, "an item"));
+    slots.let_go();
+    assert_eq!(&rt; (slots.len(), slots.front()), (1, Some([1].as_slice())));
+    assert!(&rt; slots.lay(&[4]).expect(&rt, "an item"));
+    slots.settle();
+    slots.pop_front();
+    assert_eq!(&rt; (slots.len(), slots.front()), (1, Some([4].as_slice())));
 }

@@ -1,5 +1,5 @@
-//! How many octets are asked for, worked out by hand from the sizes of x86-64: the own words of a room have 32 octets where it is
-//! free and 32 where it is taken, those of a stream 40, those of a queue 72.
+//! How many octets are asked for, worked out by hand from the sizes of x86-64: the own words of a room have 32 octets, those of a
+//! stream 40, those of a queue 64.
 
 use super::*;
 use tc_fixed::{LentLimits, storage, storage_of_lent, storage_with_lent, storage_with_limits};
@@ -24,14 +24,14 @@ const USUAL: Wanted<'static> = Wanted {
     ..WANTED
 };
 
-// Without segment headers 4 times 64 + 1,019 for the buffer, 2 times 72 for the queues, and 8 times 64 + 1,019 for packets. With
+// Without segment headers 4 times 32 + 1,019 for the buffer, 2 times 64 for the queues, and 8 times 32 + 1,019 for packets. With
 // them packets have 65,542 octets, and there are 128 times 40 + 65,542 for the streams. The queue of a MAP has the words of any
 // other: in `BOTH` a buffer of 1, two queues, and four items.
 static OCTETS: [(Wanted<'static>, u64); 4] = [
-    (PLAIN_QUEUES, 13_140),
-    (TWO_QUEUES, 8_923_820),
-    (BOTH, 8_658_147),
-    (USUAL, 10_502_840),
+    (PLAIN_QUEUES, 12_740),
+    (TWO_QUEUES, 8_923_420),
+    (BOTH, 8_657_971),
+    (USUAL, 10_501_528),
 ];
 
 // Without limits by MAP it is what is asked for without them, and of lists that are lent it is the same.
@@ -46,8 +46,8 @@ fn octets_without_limits(rt: HostRuntime) {
     }
 }
 
-// Units of 1,024 octets on MAP 0 alone: 8 times 64 + 1,019 for the buffer, 128 times 40 and twice 1,024 for the streams, 4 times
-// 72 for the queues, and 32 times 64 + 1,024 for packets.
+// Units of 1,024 octets on MAP 0 alone: 8 times 32 + 1,019 for the buffer, 128 times 40 and twice 1,024 for the streams, 4 times
+// 64 for the queues, and 32 times 32 + 1,024 for packets.
 #[test]
 fn octets_within_limits(rt: HostRuntime) {
     let settings = settings(&rt, rt.alloc(), &USUAL);
@@ -56,10 +56,10 @@ fn octets_within_limits(rt: HostRuntime) {
         octets: 1_024,
     }];
     let own = limits_of(&rt, rt.alloc(), 0, &maps);
-    assert_eq!(&rt; storage_with_limits(&settings, &own), 50_936);
+    assert_eq!(&rt; storage_with_limits(&settings, &own), 49_624);
     let lent = LentLimits {
         others: 0,
         maps: &maps,
     };
-    assert_eq!(&rt; storage_with_lent(settings.lent(), lent), 50_936);
+    assert_eq!(&rt; storage_with_lent(settings.lent(), lent), 49_624);
 }

@@ -23,6 +23,9 @@ invariant_of-result g c =
         units = rw c.as_slice-2.ensures at c.in_ok-units.ensures.rings;
         fields = ap (λ (s : Slotted). s.ring.items) c.in_ok-fields.ensures;
       };
+      fields_settled = ap (λ (s : Slotted). s.laid) c.in_ok-fields.ensures;
+      settled = rw c.as_slice.ensures at c.in_ok-queues.ensures.settled;
+      units_settled = rw c.as_slice-2.ensures at c.in_ok-units.ensures.settled;
       limits = c.requires.limits;
       field_size = ap (λ (s : Slotted). s.size) c.in_ok-fields.ensures;
       limits_are = c.in_ok-reassembler.ensures.limits;

@@ -5,7 +5,7 @@ use Rattle.tc_channel.specs.Reply.{waiting_units_within}
 use Rattle.tc_channel.specs.HeldQueues.{items_for}
 use Rattle.tc_channel.proofs.Takes.{units-wait}
 use Rattle.tc_fixed.specs.Limits.{limit_of}
-use Rattle.tc_fixed.specs.Delivering.{rings_in}
+use Rattle.tc_queues.specs.Keyed.{rings_in}
 use Rattle.tc_fixed.specs.Taking.{oldest_for}
 use Rattle.tc_fixed.proofs.Inside.{some-item, unit-taken}
 use Rattle.tc_fixed.proofs.channel.FixedChannelWith.drop_oldest_unit.Goals as goal
@@ -20,7 +20,7 @@ invariant_of-self-2 g c =
     let did = c.if-not-drop_from.false in
     let item = some-item (oldest_for c.args.map (rings_in c.self.inside.units.items)) (c.drop_from.ensures.waits.0 did) in
     let e : g.N.Noted.noted c.note.new.self ≡ (g.N.Noted.noted c.self.inside.journal) ++ TakeUnit c.args.map ∷ [] = grind (arith, common_steps) steps 500000 in
-    rw e (unit-taken c.drop_from.new.queues.items c.args.map item.0 c.self.invariant item.1 (c.drop_from.ensures.queues did) c.drop_from.ensures.sizes)
+    rw e (unit-taken c.drop_from.new.queues.items c.args.map item.0 c.self.invariant item.1 (c.drop_from.ensures.queues did) c.drop_from.ensures.sizes c.drop_from.ensures.settled)
 
 pub returns-clause-waits : goal.returns-clause-waits
 returns-clause-waits g c =

@@ -9,7 +9,7 @@ use Rattle.tc_channel.specs.Reply.{frame_reply_within}
 use Rattle.tc_channel.proofs.Held.{row-is, can-enter, frame-keeps}
 use Rattle.tc_channel.proofs.Shares.{frame-delivery}
 use Rattle.tc_channel.proofs.Takes.{queues-distinct, units-distinct}
-use Rattle.tc_fixed.specs.Delivering.{rings_in}
+use Rattle.tc_queues.specs.Keyed.{rings_in}
 use Rattle.tc_rooms.specs.Runs.{open_runs}
 use Rattle.tc_fixed.specs.Limits.{limit_of}
 use Rattle.tc_fixed.proofs.Sizes.{enough-after, limits-after, small-after}
@@ -48,6 +48,9 @@ invariant_of-self g c =
           c.step-act.ensures.event c.step-act.ensures.accepted c.step-act.ensures.width c.step-act.ensures.report
           (c.put_field.ensures.items ∙ ap (λ field. with_field f.fields.ring.items (buffered_of c.step-act.result field)) c.field-field.ensures) c.put_field.ensures.capacity;
       field_size = c.put_field.ensures.size ∙ c.self.invariant.field_size;
+      fields_settled = c.put_field.ensures.settled;
+      settled = c.pass_bypass-delivery.ensures.settled;
+      units_settled = c.pass_bypass-delivery.ensures.units_settled;
       limits = c.self.invariant.limits;
       limits_are = limits-after (limit_of f.limits) f.reassembler c.pass_bypass-delivery.new.reassembler c.pass_bypass-delivery.ensures.limits c.self.invariant.limits_are;
       small = small-after f.reassembler c.pass_bypass-delivery.new.reassembler c.pass_bypass-delivery.ensures.limits c.self.invariant.small;

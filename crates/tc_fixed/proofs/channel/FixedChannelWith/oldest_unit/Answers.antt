@@ -3,7 +3,7 @@ use Rattle.tc_channel.specs.Reply.{waiting_units_within}
 use Rattle.tc_channel.specs.HeldQueues.{items_for}
 use Rattle.tc_channel.proofs.Takes.{units-wait}
 use Rattle.tc_fixed.specs.Limits.{limit_of}
-use Rattle.tc_fixed.specs.Delivering.{rings_in}
+use Rattle.tc_queues.specs.Keyed.{rings_in}
 use Rattle.tc_fixed.proofs.channel.FixedChannelWith.oldest_unit.Goals as goal
 
 pub returns-clause-unit : goal.returns-clause-unit

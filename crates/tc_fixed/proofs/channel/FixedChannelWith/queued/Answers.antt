@@ -4,7 +4,7 @@ use Rattle.tc_channel.specs.Reply.{waiting_packets_within}
 use Rattle.tc_channel.specs.HeldQueues.{items_for}
 use Rattle.tc_channel.proofs.Takes.{packets-wait}
 use Rattle.tc_fixed.specs.Limits.{limit_of}
-use Rattle.tc_fixed.specs.Delivering.{rings_in}
+use Rattle.tc_queues.specs.Keyed.{rings_in}
 use Rattle.tc_fixed.proofs.channel.FixedChannelWith.queued.Goals as goal
 
 pub returns-in_err-find-clause-count : goal.returns-in_err-find-clause-count

@@ -10,7 +10,7 @@ use Rattle.tc_channel.proofs.Takes.{queues-distinct, units-distinct}
 use Rattle.tc_rooms.specs.Rooms.{Slotted}
 use Rattle.tc_rooms.specs.Runs.{open_runs}
 use Rattle.tc_packet.specs.declared.Service.TheVariants.{Ad}
-use Rattle.tc_fixed.specs.Delivering.{rings_in}
+use Rattle.tc_queues.specs.Keyed.{rings_in}
 use Rattle.tc_fixed.specs.Limits.{limit_of}
 use Rattle.tc_fixed.proofs.Sizes.{enough-after, limits-after, small-after}
 use Rattle.tc_fixed.proofs.Within.{ends-is, follows-is}
@@ -52,6 +52,9 @@ invariant_of-self g c =
           c.self.invariant.holds (follows-is (limit_of f.limits) f.reassembler (open_runs c.pass-delivery.new.reassembler) Ad (first_of f.fields.ring.items) c.self.invariant.limits_are (rw first.0 at c.pass-delivery.ensures.follows)) (ends-is (limit_of f.limits) f.reassembler Ad (first_of f.fields.ring.items) d.0 c.self.invariant.limits_are (rw first.0 at d.1)) (record { copies = q.shares; whole = q.whole_is; delivery = q.delivery_is }) q.queues_are q.units_are first.1
           c.step.ensures.width c.step.ensures.report (ap (λ (s : Slotted). s.ring) c.pop_front.ensures);
       field_size = ap (λ (s : Slotted). s.size) c.pop_front.ensures ∙ c.self.invariant.field_size;
+      fields_settled = ap (λ (s : Slotted). s.laid) c.pop_front.ensures ∙ c.self.invariant.fields_settled;
+      settled = c.pass-delivery.ensures.settled;
+      units_settled = c.pass-delivery.ensures.units_settled;
       limits = c.self.invariant.limits;
       limits_are = limits-after (limit_of f.limits) f.reassembler c.pass-delivery.new.reassembler c.pass-delivery.ensures.limits c.self.invariant.limits_are;
       small = small-after f.reassembler c.pass-delivery.new.reassembler c.pass-delivery.ensures.limits c.self.invariant.small;

@@ -5,7 +5,7 @@ use Rattle.tc_channel.specs.Reply.{waiting_packets_within}
 use Rattle.tc_channel.specs.HeldQueues.{items_for}
 use Rattle.tc_channel.proofs.Takes.{packets-wait}
 use Rattle.tc_fixed.specs.Limits.{limit_of}
-use Rattle.tc_fixed.specs.Delivering.{rings_in}
+use Rattle.tc_queues.specs.Keyed.{rings_in}
 use Rattle.tc_fixed.specs.Taking.{oldest_for}
 use Rattle.tc_fixed.proofs.Inside.{laid-item, packet-taken}
 use Rattle.tc_fixed.proofs.channel.FixedChannelWith.take.Goals as goal
@@ -29,7 +29,7 @@ pub invariant_of-self-2 : goal.invariant_of-self-2
 invariant_of-self-2 g c =
     let item = laid-item (oldest_for c.args.apid (rings_in c.self.inside.queues.items)) c.in_ok-count.count _ _ c.in_ok-count.ensures.item in
     let e : g.N.Noted.noted c.note.new.self ≡ (g.N.Noted.noted c.self.inside.journal) ++ Take c.args.apid ∷ [] = grind (arith, common_steps) steps 500000 in
-    rw e (packet-taken c.take_from.new.queues.items c.args.apid item.0 c.self.invariant item.1 c.in_ok-count.ensures.queues c.take_from.ensures.sizes)
+    rw e (packet-taken c.take_from.new.queues.items c.args.apid item.0 c.self.invariant item.1 c.in_ok-count.ensures.queues c.take_from.ensures.sizes c.take_from.ensures.settled)
 
 pub returns-clause-no_queue : goal.returns-clause-no_queue
 returns-clause-no_queue g c =

@@ -5,7 +5,7 @@ use Rattle.tc_channel.specs.Reply.{waiting_units_within}
 use Rattle.tc_channel.specs.HeldQueues.{items_for}
 use Rattle.tc_channel.proofs.Takes.{units-wait}
 use Rattle.tc_fixed.specs.Limits.{limit_of}
-use Rattle.tc_fixed.specs.Delivering.{rings_in}
+use Rattle.tc_queues.specs.Keyed.{rings_in}
 use Rattle.tc_fixed.specs.Taking.{oldest_for}
 use Rattle.tc_fixed.proofs.Inside.{laid-item, unit-taken}
 use Rattle.tc_fixed.proofs.channel.FixedChannelWith.take_unit.Goals as goal
@@ -29,7 +29,7 @@ pub invariant_of-self-2 : goal.invariant_of-self-2
 invariant_of-self-2 g c =
     let item = laid-item (oldest_for c.args.map (rings_in c.self.inside.units.items)) c.in_ok-count.count _ _ c.in_ok-count.ensures.item in
     let e : g.N.Noted.noted c.note.new.self ≡ (g.N.Noted.noted c.self.inside.journal) ++ TakeUnit c.args.map ∷ [] = grind (arith, common_steps) steps 500000 in
-    rw e (unit-taken c.take_from.new.queues.items c.args.map item.0 c.self.invariant item.1 c.in_ok-count.ensures.queues c.take_from.ensures.sizes)
+    rw e (unit-taken c.take_from.new.queues.items c.args.map item.0 c.self.invariant item.1 c.in_ok-count.ensures.queues c.take_from.ensures.sizes c.take_from.ensures.settled)
 
 pub returns-clause-no_map : goal.returns-clause-no_map
 returns-clause-no_map g c =

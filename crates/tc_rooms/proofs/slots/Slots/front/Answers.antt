@@ -1,11 +1,21 @@
-use Rattle.std.proofs.Common.{◌≡◌, ap, sym, arith}
-use Rattle.tc_rooms.specs.Rooms.{Slotted}
-use Rattle.tc_rooms.proofs.Sizes.{first-size}
+use Rattle.std.proofs.Common.{◌≡◌, ◌<◌, ◌≤◌, length, map, arith}
+use Rattle.std.proofs.lemmas.Grind.{common_steps}
+use Rattle.tc_rooms.proofs.Turned.{first-item, size-at}
 use Rattle.tc_rooms.proofs.slots.Slots.front.Goals as goal
 
-pub returns-in-Some-clause-within : goal.returns-in-Some-clause-within
-returns-in-Some-clause-within c =
-    let size = first-size c.self.inside.size c.self.inside.taken.items c.in-Some.room.now c.self.invariant.taken_sizes c.in-Some.ensures in
-    let within = c.as_slice.ensures.within in
-    let same : c.args.self.now.size ≡ c.self.inside.size = ap (λ (s : Slotted). s.size) (sym c.self.view_is) in
-    omega arith
+pub returns-clause-item : goal.returns-clause-item
+returns-clause-item g c =
+    let i = c.self.inside in
+    let some : 0 < i.waiting = grind (arith, common_steps) in
+    let within = c.self.invariant.within in
+    let inside : i.first < length i.rooms.items = c.self.invariant.inside (omega arith) in
+    rw (← c.self.view_is, c.as_slice.ensures.octets) (first-item g.R.Room.held i.first i.waiting i.rooms.items c.index.result.now inside c.index.ensures some)
+
+pub returns-clause-within : goal.returns-clause-within
+returns-clause-within g c =
+    let i = c.self.inside in
+    let some : 0 < i.waiting = grind (arith, common_steps) in
+    let within = c.self.invariant.within in
+    let inside : i.first < length i.rooms.items = c.self.invariant.inside (omega arith) in
+    let same = size-at g.R.Room.held i.size i.rooms.items i.first c.index.result.now c.self.invariant.sizes inside c.index.ensures in
+    rw (← c.self.view_is, ← same) c.as_slice.ensures.within

@@ -1,0 +1,2 @@
+pub mod InRooms
+pub mod Ways
