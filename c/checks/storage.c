@@ -171,14 +171,14 @@ static void check_named(void) {
     const tcrx_settings two = {1, 10, 4, 0, 1}, plain = {1, 10, 4, 0, 0}, eight = {1, 10, 8, 0, 1}, one = {1, 10, 1, 0, 1};
     const tcrx_settings many = {1, 10, 64, 0, 1};
     expect(ask(plan_of(plain, 2, 4, 0, 0)).count == 12740, "a plain channel, two queues of 4", 0);
-    expect(ask(limited(plan_of(two, 2, 4, 0, 0), 1, 256, 0)).count == 12668, "two queues of 4, units of 256 on MAP 0", 0);
-    expect(ask(limited(plan_of(eight, 4, 8, 0, 0), 1, 256, 0)).count == 24824, "four queues of 8, units of 256 on MAP 0", 0);
+    expect(ask(limited(plan_of(two, 2, 4, 0, 0), 1, 256, 0)).count == 12268, "two queues of 4, units of 256 on MAP 0", 0);
+    expect(ask(limited(plan_of(eight, 4, 8, 0, 0), 1, 256, 0)).count == 23512, "four queues of 8, units of 256 on MAP 0", 0);
     expect(ask(limited(plan_of(eight, 4, 8, 0, 0), 1, 1024, 0)).count == 49624, "four queues of 8, units of 1,024 on MAP 0", 0);
-    expect(ask(limited(plan_of(eight, 4, 8, 0, 0), 0, 0, 1024)).count == 179960, "units of 1,024 on each MAP", 0);
+    expect(ask(limited(plan_of(eight, 4, 8, 0, 0), 0, 0, 1024)).count == 178648, "units of 1,024 on each MAP", 0);
     expect(ask(plan_of(two, 2, 4, 0, 0)).count == 8923420, "two queues of 4, without limits", 0);
     expect(ask(plan_of(eight, 4, 8, 0, 0)).count == 10501528, "four queues of 8, without limits", 0);
-    expect(ask(plan_of(one, 1, 1, 0, 0)).count == 8461257, "the channel `fixed_one`", 0);
-    expect(ask(plan_of(many, 70, 2, 3, 3)).count == 18244358, "the channel `fixed_many`", 0);
+    expect(ask(plan_of(one, 1, 1, 0, 0)).count == 8461185, "the channel `fixed_one`", 0);
+    expect(ask(plan_of(many, 70, 2, 3, 3)).count == 18236958, "the channel `fixed_many`", 0);
     expect(ask(plan_of(many, MOST_QUEUES, 256, MOST_MAPS, 256)).count == sum(plan_of(many, MOST_QUEUES, 256, MOST_MAPS, 256)),
            "the largest channel", 0);
 }
