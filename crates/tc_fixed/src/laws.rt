@@ -42,7 +42,7 @@ pub fn limits_are_refused_so()
 /// The storage that is worked out by hand: of a plain channel for one data field and one packet; of one with segment headers for a unit of
 /// MAP 3, too; and of the same with a limit of 100 octets for MAP 3, and of 0 for the others.
 pub fn storage_is_counted_so()
-    ensures plain { storage_of example.plain ≡ 2238 }
-    ensures headed { storage_of example.map_3_chosen ≡ 8526935 }
-    ensures limited { storage_within example.map_3_chosen (record { others = 0; maps = record { map = 3; octets = 100 } ∷ [] }) ≡ 6875 }
+    ensures plain { storage_of example.plain ≡ 2166 }
+    ensures headed { storage_of example.map_3_chosen ≡ 8526823 }
+    ensures limited { storage_within example.map_3_chosen (record { others = 0; maps = record { map = 3; octets = 100 } ∷ [] }) ≡ 6763 }
 {}

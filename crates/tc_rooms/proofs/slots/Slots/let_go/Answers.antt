@@ -1,4 +1,4 @@
-use Rattle.std.proofs.Common.{◌≡◌, ◌<◌, length, map, ◌∙◌, subst, sym, arith}
+use Rattle.std.proofs.Common.{◌≡◌, ◌<◌, ◌-◌, length, map, ◌∙◌, subst, sym, arith}
 use Rattle.std.proofs.lemmas.Grind.{common_steps}
 use Rattle.std.proofs.lemmas.List.{length-map}
 use Rattle.tc_rooms.specs.Rooms.{AreSlots}
@@ -13,7 +13,7 @@ loop-self-preserved g c =
     let both = cleared-slots (length i.rooms.items) i.first i.waiting i.laid i.size c.place_behind-place.result (map g.R.Room.held i.rooms.items) (map g.R.Room.held c.clear_at.new.rooms.items)
     (length-map i.rooms.items g.R.Room.held) inv.slots c.loop-self-test.true (rw places at c.place_behind-place.ensures.place) c.clear_at.ensures.cleared in
     record {
-      slots = subst (λ n. AreSlots n i.first i.waiting _ i.size (map g.R.Room.held c.clear_at.new.rooms.items)) (sym c.clear_at.ensures.places) both.0;
+      slots = subst (λ n. AreSlots n i.first i.waiting (i.laid - 1) i.size (map g.R.Room.held c.clear_at.new.rooms.items)) (sym c.clear_at.ensures.places) both.0;
       places = c.clear_at.ensures.places ∙ inv.places;
       first = inv.first;
       waiting = inv.waiting;
