@@ -1,9 +1,8 @@
 -- Rooms in a ring, read and written from the first one that is taken on.
-use Rattle.std.proofs.Common.{◌≡◌, ℕ, zero, suc, ◌+◌, ◌-◌, ◌≤◌, ◌<◌, Bool, true, false, nat_lt, cond, get_or, List, [], ◌∷◌, ◌++◌, length, map, take, drop, Option, Some, None, refl, sym, ap, subst, ◌∙◌, append_assoc, arith}
+use Rattle.std.proofs.Common.{◌≡◌, ℕ, zero, suc, ◌+◌, ◌-◌, ◌≤◌, ◌<◌, Bool, true, false, nat_lt, cond, get_or, List, [], ◌∷◌, ◌++◌, length, map, take, drop, Some, refl, sym, ap, ◌∙◌, append_assoc, arith}
 use Rattle.std.specs.Prelude.{set, slice_get, if◌then◌else◌}
 use Rattle.std.proofs.lemmas.Bool.Decides.{nat_tests}
-use Rattle.std.proofs.lemmas.List.{append-nil, length-append, length-map, length-take, length-drop, length-take-le, length-set, map-append, get_or-map, set-append_left, set-append_right, take-set, take-set-le, take_more, take_more_set, take_all, take-append-le, take-take, take-append-drop, drop_more, drop-take, drop-set, drop-set-lt, drop-set-add, drop-append-le, drop_all}
-use Rattle.circular_buffer.specs.Buffer.{buffer}
+use Rattle.std.proofs.lemmas.List.{append-nil, length-append, length-map, length-take, length-drop, length-take-le, length-set, map-append, get_or-map, set-append_left, set-append_right, take-set, take-set-le, take_more, take_more_set, take_all, take-append-le, take-take, take-append-drop, drop_more, drop-take, drop-set-lt, drop-set-add, drop-append-le, drop_all}
 use Rattle.tc_rooms.specs.Rooms.{Laid, laid, octets_of, HaveSize, AreSlots, Slotted, slotted, seen, turned, IsLaidBehind}
 
 -- sizes

@@ -1,4 +1,4 @@
-use Rattle.std.proofs.Common.{◌≤◌, length, arith}
+use Rattle.std.proofs.Common.{arith}
 use Rattle.std.proofs.lemmas.Grind.{common_steps}
 use Rattle.tc_rooms.proofs.Rooms.{closed-set, none-over}
 use Rattle.tc_rooms.proofs.runs.close_at.Goals as goal

@@ -1,4 +1,4 @@
-use Rattle.std.proofs.Common.{◌≡◌, ◌<◌, ◌≤◌, length, map, arith}
+use Rattle.std.proofs.Common.{◌<◌, length, arith}
 use Rattle.std.proofs.lemmas.Grind.{common_steps}
 use Rattle.tc_rooms.proofs.Turned.{first-item, size-at}
 use Rattle.tc_rooms.proofs.slots.Slots.front.Goals as goal
