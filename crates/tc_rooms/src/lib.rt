@@ -5,8 +5,11 @@
 //! unit lies that a data field ends ([`Ended`]), so that no unit is ever copied to be given out.
 //!
 //! What a call needs is laid behind what counts. Once all of it is there it counts ([`Slots::settle`], [`Runs::settle`]); where memory
-//! runs out it is let go ([`Slots::let_go`]), and all is as it was. With rooms that are made at the start only what makes them
-//! allocates, so no other call can run out of memory.
+//! runs out it is let go ([`Slots::let_go`]), and all is as it was.
+//!
+//! The rooms of a queue and those of the streams are boxed slices, and so is the block of a [`FixedRoom`]: types that have no call that
+//! grows them. So with rooms that are made at the start only what makes them allocates, and no other call can run out of memory. The
+//! block of a [`GrowingRoom`] alone is a `Vec`.
 #![tactic(auto)]
 
 mod room;

@@ -4,6 +4,7 @@ ghost use Rattle.std.specs.Prelude.{◌≡◌, ◌≤◌, ◌+◌, ◌++◌, Boo
 ghost use Rattle.tc_rooms.specs.Rooms.{Laid, laid};
 
 use std::alloc::{AllocError, Global};
+use std::boxed::BoxedSlice;
 use std::marker::Model;
 
 /// A place for the octets of one item or of one run, and how many they may be. Queues and reassembly are generic over it, so that
@@ -51,22 +52,23 @@ pub trait Room: Drop {
         ensures within { length result.now ≤ (held self.now).size };
 }
 
-/// A block of octets, of which the first ones are in use. Only `with_size` allocates.
+/// A block of octets, of which the first ones are in use. The block has no call that grows it: only `with_size` allocates.
 #[derive(Drop)]
 pub struct FixedRoom {
-    block: Vec<u8>,
+    block: BoxedSlice<u8>,
     len: usize,
 }
 
 impl Model for FixedRoom {
     ghost use Rattle.std.specs.Prelude.{◌≤◌, take, length};
+    ghost use Rattle.std.specs.Box.{boxed_slice_items};
     ghost use Rattle.tc_rooms.specs.Rooms.{Laid, laid};
 
     ghost Value = { Laid };
 
-    ghost view = { λ r. laid (take r.len r.block.items) (length r.block.items) };
+    ghost view = { λ r. laid (take r.len (boxed_slice_items r.block)) (length (boxed_slice_items r.block)) };
 
-    ghost invariant = { λ r. r.len ≤ length r.block.items };
+    ghost invariant = { λ r. r.len ≤ length (boxed_slice_items r.block) };
 }
 
 // Writes octets over those behind the first `from`.
@@ -85,13 +87,13 @@ impl Room for FixedRoom {
 
     fn with_size(alloc: Global, size: usize) -> Result<FixedRoom, AllocError> {
         Ok(FixedRoom {
-            block: vec![in alloc; 0; size]?,
+            block: vec![in alloc; 0; size]?.into_boxed_slice(),
             len: 0,
         })
     }
 
     fn size(&self) -> usize {
-        self.block.len()
+        self.block.as_slice().len()
     }
 
     #[inline(always)]
@@ -118,7 +120,7 @@ impl Room for FixedRoom {
     }
 
     fn as_slice(&self) -> &[u8] {
-        &self.block[..self.len]
+        &self.block.as_slice()[..self.len]
     }
 }
 

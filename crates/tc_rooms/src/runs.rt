@@ -1,6 +1,7 @@
 //! Reassembly (CCSDS 232.0-B, 4.4) in a room for each stream.
 
 ghost use Rattle.std.specs.Prelude.{◌≡◌, ◌<◌, ◌≤◌, ◌%◌, ◌∷◌, ◌++◌, ℕ, true, false, List, [], length, map, get_or, replicate, Some, None, IfOk, IsOk, OnErr, slice_get, option_map, if◌then◌else◌};
+ghost use Rattle.std.specs.Box.{boxed_slice_items};
 ghost use Rattle.std.specs.List.{AllByRecursion};
 ghost use Rattle.tc_packet.specs.declared.Service.{Service};
 ghost use Rattle.tc_packet.specs.Reassembly.{at_most, bounded, ended_by, place_of, run_at, stream_place, unit_ended, largest_unit, extended};
@@ -13,6 +14,7 @@ ghost use Rattle.tc_rooms.specs.declared.runs.Ended.TheVariants as Ended;
 
 use crate::room::Room;
 use std::alloc::{AllocError, Global};
+use std::boxed::BoxedSlice;
 use std::marker::Model;
 use tc_packet::{LARGEST_UNIT, Part, Service, one_more_field_moves_its_run_on, read_segment};
 
@@ -65,17 +67,18 @@ pub enum Ended {
 pub struct Runs<R: Room> {
     segmented: bool,
     plain_limit: usize,
-    runs: Vec<Run<R>>,
+    runs: BoxedSlice<Run<R>>,
 }
 
 impl<R: Room> Model for Runs<R> {
+    ghost use Rattle.std.specs.Box.{boxed_slice_items};
     ghost use Rattle.tc_rooms.specs.Runs.{Store, IsStore};
 
     ghost Value = { Store };
 
-    ghost view = { λ r. record { segmented = r.segmented; plain_limit = r.plain_limit; runs = r.runs.items } };
+    ghost view = { λ r. record { segmented = r.segmented; plain_limit = r.plain_limit; runs = boxed_slice_items r.runs } };
 
-    ghost invariant = { λ r. IsStore (record { segmented = r.segmented; plain_limit = r.plain_limit; runs = r.runs.items }) };
+    ghost invariant = { λ r. IsStore (record { segmented = r.segmented; plain_limit = r.plain_limit; runs = boxed_slice_items r.runs }) };
 }
 
 fn place(service: Service, map: u8) -> usize
@@ -220,15 +223,15 @@ fn ended_at(told: Told, place: usize) -> Ended
 
 // The run at this place follows a segment with this body.
 fn follow_at<R: Room>(
-    runs: &mut Vec<Run<R>>,
+    runs: &mut BoxedSlice<Run<R>>,
     at: usize,
     part: Part,
     body: &[u8],
 ) -> Result<Told, AllocError>
-    requires { at < length runs.old.items }
-    ensures followed { IfOk result (IsFollowed at part body.now runs.old.items runs.new.items) }
-    ensures written { IsWritten at runs.old.items runs.new.items }
-    ensures refused { OnErr result (map open_in runs.new.items ≡ map open_in runs.old.items) }
+    requires { at < length (boxed_slice_items runs.old) }
+    ensures followed { IfOk result (IsFollowed at part body.now (boxed_slice_items runs.old) (boxed_slice_items runs.new)) }
+    ensures written { IsWritten at (boxed_slice_items runs.old) (boxed_slice_items runs.new) }
+    ensures refused { OnErr result (map open_in (boxed_slice_items runs.new) ≡ map open_in (boxed_slice_items runs.old)) }
     ensures answered { R.grows ≡ false → IsOk result }
 {
     let run = &mut runs[at];
@@ -236,11 +239,11 @@ fn follow_at<R: Room>(
 }
 
 // The run at this place is over, if there is one.
-fn close_at<R: Room>(runs: &mut Vec<Run<R>>, at: usize)
-    ensures over { runs.new.items ≡ over_at at runs.old.items }
-    ensures places { length runs.new.items ≡ length runs.old.items }
+fn close_at<R: Room>(runs: &mut BoxedSlice<Run<R>>, at: usize)
+    ensures over { boxed_slice_items runs.new ≡ over_at at (boxed_slice_items runs.old) }
+    ensures places { length (boxed_slice_items runs.new) ≡ length (boxed_slice_items runs.old) }
 {
-    if at < runs.len() {
+    if at < runs.as_slice().len() {
         let run = &mut runs[at];
         run.close();
     }
@@ -294,7 +297,7 @@ fn with_rooms<R: Room>(
     ensures limits { IfOk result (λ r. (place : ℕ) → place < 128 → limit_at r place ≡ (if segmented then get_or limits.now (place % 64) 0 else plain_limit)) }
 {
     let count = if segmented { STREAMS } else { 0 };
-    let runs = empty_runs(alloc, count, limits)?;
+    let runs = empty_runs(alloc, count, limits)?.into_boxed_slice();
     Ok(Runs {
         segmented,
         plain_limit,

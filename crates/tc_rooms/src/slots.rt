@@ -1,10 +1,12 @@
 //! Items that wait, in rooms of one size, and items that are laid behind them and don't count yet.
 
 ghost use Rattle.std.specs.Prelude.{◌≡◌, ◌≤◌, ◌<◌, ◌==◌, ◌+◌, ◌-◌, ◌++◌, [], length, map, drop, set, nat_lt, false, IfOk, IsOk, OnOk, OnErr, IfSome, slice_get, option_map, if◌then◌else◌};
+ghost use Rattle.std.specs.Box.{boxed_slice_items};
 ghost use Rattle.tc_rooms.specs.Rooms.{laid, slotted, HaveSize, IsLaidBehind};
 
 use crate::room::Room;
 use std::alloc::{AllocError, Global};
+use std::boxed::BoxedSlice;
 use std::marker::Model;
 
 /// Items that wait, the oldest first, each in a room of its own that stays in its place, and items that a call has laid behind them.
@@ -12,7 +14,7 @@ use std::marker::Model;
 /// are made at the start only `with_capacity` allocates.
 #[derive(Drop)]
 pub struct Slots<R: Room> {
-    rooms: Vec<R>,
+    rooms: BoxedSlice<R>,
     first: usize,
     waiting: usize,
     laid: usize,
@@ -21,13 +23,14 @@ pub struct Slots<R: Room> {
 
 impl<R: Room> Model for Slots<R> {
     ghost use Rattle.std.specs.Prelude.{length, map};
+    ghost use Rattle.std.specs.Box.{boxed_slice_items};
     ghost use Rattle.tc_rooms.specs.Rooms.{Slotted, AreSlots, seen};
 
     ghost Value = { Slotted };
 
-    ghost view = { λ s. seen (length s.rooms.items) s.first s.waiting s.laid s.size (map R.held s.rooms.items) };
+    ghost view = { λ s. seen (length (boxed_slice_items s.rooms)) s.first s.waiting s.laid s.size (map R.held (boxed_slice_items s.rooms)) };
 
-    ghost invariant = { λ s. AreSlots (length s.rooms.items) s.first s.waiting s.laid s.size (map R.held s.rooms.items) };
+    ghost invariant = { λ s. AreSlots (length (boxed_slice_items s.rooms)) s.first s.waiting s.laid s.size (map R.held (boxed_slice_items s.rooms)) };
 }
 
 // So many rooms of one size.
@@ -73,28 +76,28 @@ fn next_place(first: usize, places: usize) -> usize
 
 // Copies octets into the room at this place.
 fn fill_at<R: Room>(
-    rooms: &mut Vec<R>,
+    rooms: &mut BoxedSlice<R>,
     place: usize,
     size: usize,
     octets: &[u8],
 ) -> Result<(), AllocError>
-    requires place { place < length rooms.old.items }
-    requires sizes { HaveSize size (map R.held rooms.old.items) }
+    requires place { place < length (boxed_slice_items rooms.old) }
+    requires sizes { HaveSize size (map R.held (boxed_slice_items rooms.old)) }
     requires fits { length octets.now ≤ size }
-    ensures filled { OnOk result (map R.held rooms.new.items ≡ set (map R.held rooms.old.items) place (laid octets.now size)) }
-    ensures refused { OnErr result (map R.held rooms.new.items ≡ map R.held rooms.old.items) }
-    ensures places { length rooms.new.items ≡ length rooms.old.items }
+    ensures filled { OnOk result (map R.held (boxed_slice_items rooms.new) ≡ set (map R.held (boxed_slice_items rooms.old)) place (laid octets.now size)) }
+    ensures refused { OnErr result (map R.held (boxed_slice_items rooms.new) ≡ map R.held (boxed_slice_items rooms.old)) }
+    ensures places { length (boxed_slice_items rooms.new) ≡ length (boxed_slice_items rooms.old) }
     ensures answered { R.grows ≡ false → IsOk result }
 {
     rooms[place].fill(octets)
 }
 
 // The room at this place has no octets in use.
-fn clear_at<R: Room>(rooms: &mut Vec<R>, place: usize, size: usize)
-    requires place { place < length rooms.old.items }
-    requires sizes { HaveSize size (map R.held rooms.old.items) }
-    ensures cleared { map R.held rooms.new.items ≡ set (map R.held rooms.old.items) place (laid [] size) }
-    ensures places { length rooms.new.items ≡ length rooms.old.items }
+fn clear_at<R: Room>(rooms: &mut BoxedSlice<R>, place: usize, size: usize)
+    requires place { place < length (boxed_slice_items rooms.old) }
+    requires sizes { HaveSize size (map R.held (boxed_slice_items rooms.old)) }
+    ensures cleared { map R.held (boxed_slice_items rooms.new) ≡ set (map R.held (boxed_slice_items rooms.old)) place (laid [] size) }
+    ensures places { length (boxed_slice_items rooms.new) ≡ length (boxed_slice_items rooms.old) }
 {
     rooms[place].clear();
 }
@@ -108,7 +111,7 @@ impl<R: Room> Slots<R> {
     ) -> Result<Slots<R>, AllocError>
         ensures { IfOk result (λ s. s ≡ slotted [] capacity [] size) }
     {
-        let rooms = empty_rooms(alloc, capacity, size)?;
+        let rooms = empty_rooms(alloc, capacity, size)?.into_boxed_slice();
         Ok(Slots {
             rooms,
             first: 0,
@@ -137,7 +140,7 @@ impl<R: Room> Slots<R> {
     pub fn capacity(&self) -> usize
         ensures capacity { result ≡ self.now.ring.capacity }
     {
-        self.rooms.len()
+        self.rooms.as_slice().len()
     }
 
     /// How many octets an item may have.
@@ -168,7 +171,7 @@ impl<R: Room> Slots<R> {
         ensures size { self.new.size ≡ self.old.size }
         ensures answered { R.grows ≡ false → IsOk result }
     {
-        let places = self.rooms.len();
+        let places = self.rooms.as_slice().len();
         let count = self.waiting + self.laid;
         if count >= places {
             return Ok(false);
@@ -193,7 +196,7 @@ impl<R: Room> Slots<R> {
         ensures { self.new ≡ slotted self.old.ring.items self.old.ring.capacity [] self.old.size }
     {
         while self.laid > 0 {
-            let places = self.rooms.len();
+            let places = self.rooms.as_slice().len();
             let last = self.waiting + (self.laid - 1);
             let place = place_behind(self.first, last, places);
             clear_at(&mut self.rooms, place, self.size);
@@ -210,7 +213,7 @@ impl<R: Room> Slots<R> {
             return;
         }
         clear_at(&mut self.rooms, self.first, self.size);
-        self.first = next_place(self.first, self.rooms.len());
+        self.first = next_place(self.first, self.rooms.as_slice().len());
         self.waiting -= 1;
     }
 }

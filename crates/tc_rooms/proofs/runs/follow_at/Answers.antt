@@ -1,4 +1,5 @@
 use Rattle.std.proofs.Common.{refl, ap, ◌∙◌}
+use Rattle.std.specs.Box.{boxed_slice_items}
 use Rattle.std.proofs.Math.Seq.{map-set_same}
 use Rattle.tc_rooms.specs.OpenRun.{open_in}
 use Rattle.tc_rooms.proofs.Rooms.{same-sizes}
@@ -9,8 +10,8 @@ pub returns-clause-written : goal.returns-clause-written
 returns-clause-written g c = record {
   next = c.follow.new.self;
   is = refl;
-  sizes = same-sizes c.args.runs.now.items c.args.at c.index_mut-run.result.now c.follow.new.self c.requires c.index_mut-run.ensures.value c.follow.ensures.size;
+  sizes = same-sizes (boxed_slice_items c.args.runs.now) c.args.at c.index_mut-run.result.now c.follow.new.self c.requires c.index_mut-run.ensures.value c.follow.ensures.size;
 }
 
 pub returns-clause-refused : goal.returns-clause-refused
-returns-clause-refused g c = on-err c.follow.result (λ same. map-set_same open_in c.args.runs.now.items c.args.at c.follow.new.self c.index_mut-run.result.now (same ∙ ap open_in c.index_mut-run.ensures.value)) c.follow.ensures.refused
+returns-clause-refused g c = on-err c.follow.result (λ same. map-set_same open_in (boxed_slice_items c.args.runs.now) c.args.at c.follow.new.self c.index_mut-run.result.now (same ∙ ap open_in c.index_mut-run.ensures.value)) c.follow.ensures.refused

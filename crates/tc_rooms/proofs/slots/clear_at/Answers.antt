@@ -1,4 +1,5 @@
 use Rattle.std.proofs.Common.{[], map, ap, ◌∙◌}
+use Rattle.std.specs.Box.{boxed_slice_items}
 use Rattle.std.specs.Prelude.{set}
 use Rattle.std.proofs.lemmas.List.{map-set}
 use Rattle.tc_rooms.specs.Rooms.{Laid, laid}
@@ -7,6 +8,6 @@ use Rattle.tc_rooms.proofs.slots.clear_at.Goals as goal
 
 pub returns-clause-cleared : goal.returns-clause-cleared
 returns-clause-cleared g c =
-    let same = size-at g.R.Room.held c.args.size c.args.rooms.now.items c.args.place c.index_mut.result.now c.requires.sizes c.requires.place c.index_mut.ensures.value in
-    map-set g.R.Room.held c.args.rooms.now.items c.args.place c.clear.new.self
-    ∙ ap (λ (x : Laid). set (map g.R.Room.held c.args.rooms.now.items) c.args.place x) (c.clear.ensures.cleared ∙ ap (laid []) same)
+    let same = size-at g.R.Room.held c.args.size (boxed_slice_items c.args.rooms.now) c.args.place c.index_mut.result.now c.requires.sizes c.requires.place c.index_mut.ensures.value in
+    map-set g.R.Room.held (boxed_slice_items c.args.rooms.now) c.args.place c.clear.new.self
+    ∙ ap (λ (x : Laid). set (map g.R.Room.held (boxed_slice_items c.args.rooms.now)) c.args.place x) (c.clear.ensures.cleared ∙ ap (laid []) same)

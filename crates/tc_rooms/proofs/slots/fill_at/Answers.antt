@@ -1,4 +1,5 @@
 use Rattle.std.proofs.Common.{map, ap, ◌∙◌}
+use Rattle.std.specs.Box.{boxed_slice_items}
 use Rattle.std.specs.Prelude.{set}
 use Rattle.std.proofs.Math.Seq.{map-set_same}
 use Rattle.std.proofs.lemmas.List.{map-set}
@@ -9,15 +10,15 @@ use Rattle.tc_rooms.proofs.slots.fill_at.Goals as goal
 
 pub fill-requires : goal.fill-requires
 fill-requires g c =
-    let same = size-at g.R.Room.held c.args.size c.args.rooms.now.items c.args.place c.index_mut.result.now c.requires.sizes c.requires.place c.index_mut.ensures.value in
+    let same = size-at g.R.Room.held c.args.size (boxed_slice_items c.args.rooms.now) c.args.place c.index_mut.result.now c.requires.sizes c.requires.place c.index_mut.ensures.value in
     rw same c.requires.fits
 
 pub returns-clause-filled : goal.returns-clause-filled
 returns-clause-filled g c =
-    let same = size-at g.R.Room.held c.args.size c.args.rooms.now.items c.args.place c.index_mut.result.now c.requires.sizes c.requires.place c.index_mut.ensures.value in
-    on-ok c.fill.result (λ filled. map-set g.R.Room.held c.args.rooms.now.items c.args.place c.fill.new.self
-    ∙ ap (λ (x : Laid). set (map g.R.Room.held c.args.rooms.now.items) c.args.place x) (filled ∙ ap (laid c.args.octets.now) same)) c.fill.ensures.filled
+    let same = size-at g.R.Room.held c.args.size (boxed_slice_items c.args.rooms.now) c.args.place c.index_mut.result.now c.requires.sizes c.requires.place c.index_mut.ensures.value in
+    on-ok c.fill.result (λ filled. map-set g.R.Room.held (boxed_slice_items c.args.rooms.now) c.args.place c.fill.new.self
+    ∙ ap (λ (x : Laid). set (map g.R.Room.held (boxed_slice_items c.args.rooms.now)) c.args.place x) (filled ∙ ap (laid c.args.octets.now) same)) c.fill.ensures.filled
 
 pub returns-clause-refused : goal.returns-clause-refused
 returns-clause-refused g c =
-    on-err c.fill.result (λ same. map-set_same g.R.Room.held c.args.rooms.now.items c.args.place c.fill.new.self c.index_mut.result.now (same ∙ ap g.R.Room.held c.index_mut.ensures.value)) c.fill.ensures.refused
+    on-err c.fill.result (λ same. map-set_same g.R.Room.held (boxed_slice_items c.args.rooms.now) c.args.place c.fill.new.self c.index_mut.result.now (same ∙ ap g.R.Room.held c.index_mut.ensures.value)) c.fill.ensures.refused

@@ -1,4 +1,5 @@
 use Rattle.std.proofs.Common.{◌≡◌, length, map, take}
+use Rattle.std.specs.Box.{boxed_slice_items}
 use Rattle.tc_rooms.specs.Rooms.{AreSlots, turned}
 use Rattle.tc_rooms.proofs.slots.Slots.let_go.Given as goal
 
@@ -8,12 +9,12 @@ invariant-loop-self g l =
     let s = l.self-inside in
     let old = l.initial.self-inside in
     record {
-      slots : AreSlots (length s.rooms.items) s.first s.waiting s.laid s.size (map g.R.Room.held s.rooms.items);
-      places : length s.rooms.items ≡ length old.rooms.items;
+      slots : AreSlots (length (boxed_slice_items s.rooms)) s.first s.waiting s.laid s.size (map g.R.Room.held (boxed_slice_items s.rooms));
+      places : length (boxed_slice_items s.rooms) ≡ length (boxed_slice_items old.rooms);
       first : s.first ≡ old.first;
       waiting : s.waiting ≡ old.waiting;
       size : s.size ≡ old.size;
-      items : take s.waiting (turned s.first (map g.R.Room.held s.rooms.items)) ≡ take s.waiting (turned s.first (map g.R.Room.held old.rooms.items));
+      items : take s.waiting (turned s.first (map g.R.Room.held (boxed_slice_items s.rooms))) ≡ take s.waiting (turned s.first (map g.R.Room.held (boxed_slice_items old.rooms)));
     }
 
 abbrev pub decreases-loop-self : goal.decreases-loop-self

@@ -1,4 +1,5 @@
-use Rattle.std.proofs.Common.{◌≡◌, ◌<◌, [], length, map, arith}
+use Rattle.std.proofs.Common.{◌≡◌, ◌<◌, [], length, map, ap, arith}
+use Rattle.std.specs.Box.{boxed_slice_items}
 use Rattle.std.proofs.lemmas.Grind.{common_steps}
 use Rattle.std.proofs.lemmas.List.{length-map}
 use Rattle.tc_rooms.specs.Rooms.{laid}
@@ -10,7 +11,7 @@ returns g c =
     let i = c.self.inside in
     let some : 0 < i.waiting = grind (arith, common_steps) in
     let within = c.self.invariant.within in
-    let inside : i.first < length i.rooms.items = c.self.invariant.inside (omega arith) in
-    let places : c.len.result ≡ length c.clear_at.new.rooms.items = grind (arith, common_steps) in
+    let inside : i.first < length (boxed_slice_items i.rooms) = c.self.invariant.inside (omega arith) in
+    let places : length c.as_slice.result.now ≡ length (boxed_slice_items c.clear_at.new.rooms) = ap length c.as_slice.ensures.value in
     rw (← c.self.view_is, c.next_place-self-inside.ensures.place, places, c.clear_at.ensures.cleared, c.clear_at.ensures.places)
-    (popped-seen (length i.rooms.items) i.first i.waiting i.laid i.size (map g.R.Room.held i.rooms.items) (laid [] i.size) (length-map i.rooms.items g.R.Room.held) inside some within)
+    (popped-seen (length (boxed_slice_items i.rooms)) i.first i.waiting i.laid i.size (map g.R.Room.held (boxed_slice_items i.rooms)) (laid [] i.size) (length-map (boxed_slice_items i.rooms) g.R.Room.held) inside some within)
