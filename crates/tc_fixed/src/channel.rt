@@ -1,6 +1,7 @@
 //! A channel that asks for memory where it is made, and never after.
 
 ghost use Rattle.std.specs.Prelude.{List, ℕ, ◌≡◌, [], ◌<◌, ◌≤◌, ◌↔◌, ◌∷◌, ◌++◌, ◌^◌, ◌-◌, length, min, IfOk, OnOk, OnErr, IsErrOf, MatchResult, IsSome, IsTrue, Some, None, Option, option_map, false};
+ghost use Rattle.std.specs.Box.{boxed_slice_items};
 ghost use Rattle.tc_channel.specs.declared.event.Event.TheVariants as Event;
 ghost use Rattle.tc_channel.specs.Settings.{IsAllowed, IsRefusal};
 ghost use Rattle.tc_channel.specs.Run.{run_within, IsLawfulWithin};
@@ -27,6 +28,7 @@ use crate::noted::Noted;
 use crate::past::Past;
 use crate::taking::{FixedQueue, drop_from, empty_queues, empty_unit_queues, take_from};
 use std::alloc::{AllocError, Global};
+use std::boxed::BoxedSlice;
 use std::marker::Model;
 use std::snapshot::Snapshot;
 use tc_channel::{Delivery, FrameReply, LentEvent, Settings, SettingsFault, Unkept};
@@ -52,8 +54,8 @@ pub struct FixedChannelWith<N: Noted> {
     farm: Farm,
     fields: Slots<FixedRoom>,
     reassembler: Runs<FixedRoom>,
-    queues: Vec<FixedQueue>,
-    units: Vec<FixedQueue>,
+    queues: BoxedSlice<FixedQueue>,
+    units: BoxedSlice<FixedQueue>,
     journal: N,
 }
 
@@ -61,6 +63,7 @@ pub struct FixedChannelWith<N: Noted> {
 pub type FixedChannel = FixedChannelWith<Unkept>;
 
 impl<N: Noted> Model for FixedChannelWith<N> {
+    ghost use Rattle.std.specs.Box.{boxed_slice_items};
     ghost use Rattle.tc_fixed.specs.Channel.{HoldsInRooms};
     ghost use Rattle.tc_fixed.specs.History.{LimitedHistory};
 
@@ -68,7 +71,7 @@ impl<N: Noted> Model for FixedChannelWith<N> {
 
     ghost view = { λ c. record { settings = c.settings; limits = c.limits; journal = N.noted c.journal } };
 
-    ghost invariant = { λ c. HoldsInRooms c.limits c.settings (N.noted c.journal) (record { farm = c.farm; fields = c.fields; store = c.reassembler; queues = c.queues.items; units = c.units.items }) };
+    ghost invariant = { λ c. HoldsInRooms c.limits c.settings (N.noted c.journal) (record { farm = c.farm; fields = c.fields; store = c.reassembler; queues = boxed_slice_items c.queues; units = boxed_slice_items c.units }) };
 }
 
 impl<N: Noted> FixedChannelWith<N> {
@@ -365,8 +368,8 @@ fn start<N: Noted>(
     let size = limits.item_size(settings.segmented);
     let fields = Slots::with_capacity(alloc, settings.buffer as usize, LARGEST_FIELD)?;
     let reassembler = open_none(alloc, settings.segmented, &limits)?;
-    let queues = empty_queues(alloc, settings.queues.as_slice(), size)?;
-    let units = empty_unit_queues(alloc, settings.maps.as_slice(), size)?;
+    let queues = empty_queues(alloc, settings.queues.as_slice(), size)?.into_boxed_slice();
+    let units = empty_unit_queues(alloc, settings.maps.as_slice(), size)?.into_boxed_slice();
     Ok(FixedChannelWith {
         farm: Farm::new(window, settings.first),
         settings,
@@ -400,29 +403,29 @@ fn put_field(fields: &mut Slots<FixedRoom>, act: &Act, field: &[u8])
 #[inline(always)]
 fn pass(
     reassembler: &mut Runs<FixedRoom>,
-    queues: &mut Vec<FixedQueue>,
-    units: &mut Vec<FixedQueue>,
+    queues: &mut BoxedSlice<FixedQueue>,
+    units: &mut BoxedSlice<FixedQueue>,
     service: Service,
     field: &[u8],
 ) -> Delivery
     requires field { 0 < length field.now }
     requires within { length field.now ≤ largest_field }
     requires small { AreSmall reassembler.old }
-    requires distinct { AreDistinct (keys_of (rings_in queues.old.items)) }
-    requires units_distinct { AreDistinct (keys_of (rings_in units.old.items)) }
-    requires sizes { AreEnough reassembler.old (room_sizes queues.old.items) }
-    requires unit_sizes { AreEnough reassembler.old (room_sizes units.old.items) }
-    requires settled { AreSettled queues.old.items }
-    requires units_settled { AreSettled units.old.items }
+    requires distinct { AreDistinct (keys_of (rings_in (boxed_slice_items queues.old))) }
+    requires units_distinct { AreDistinct (keys_of (rings_in (boxed_slice_items units.old))) }
+    requires sizes { AreEnough reassembler.old (room_sizes (boxed_slice_items queues.old)) }
+    requires unit_sizes { AreEnough reassembler.old (room_sizes (boxed_slice_items units.old)) }
+    requires settled { AreSettled (boxed_slice_items queues.old) }
+    requires units_settled { AreSettled (boxed_slice_items units.old) }
     ensures follows { FollowsWithin (limit_at reassembler.old (stream_place service field.now)) (open_runs reassembler.old) (open_runs reassembler.new) service field.now }
     ensures limits { (place : ℕ) → limit_at reassembler.new place ≡ limit_at reassembler.old place }
     ensures segmented { reassembler.new.segmented ≡ reassembler.old.segmented }
     ensures delivered { (unit : Option (List ℕ)) × EndsWithin (limit_at reassembler.old (stream_place service field.now)) (open_runs reassembler.old) service field.now unit
-        × IsDelivered (map_of field.now) unit (rings_in queues.old.items) (rings_in queues.new.items) (rings_in units.old.items) (rings_in units.new.items) result }
-    ensures sizes { room_sizes queues.new.items ≡ room_sizes queues.old.items }
-    ensures unit_sizes { room_sizes units.new.items ≡ room_sizes units.old.items }
-    ensures settled { AreSettled queues.new.items }
-    ensures units_settled { AreSettled units.new.items }
+        × IsDelivered (map_of field.now) unit (rings_in (boxed_slice_items queues.old)) (rings_in (boxed_slice_items queues.new)) (rings_in (boxed_slice_items units.old)) (rings_in (boxed_slice_items units.new)) result }
+    ensures sizes { room_sizes (boxed_slice_items queues.new) ≡ room_sizes (boxed_slice_items queues.old) }
+    ensures unit_sizes { room_sizes (boxed_slice_items units.new) ≡ room_sizes (boxed_slice_items units.old) }
+    ensures settled { AreSettled (boxed_slice_items queues.new) }
+    ensures units_settled { AreSettled (boxed_slice_items units.new) }
 {
     let map = read_segment(field[0]).map;
     let ended = reassembler.lay(service, field).unwrap();
@@ -435,29 +438,29 @@ fn pass(
 #[inline(always)]
 fn pass_bypass(
     reassembler: &mut Runs<FixedRoom>,
-    queues: &mut Vec<FixedQueue>,
-    units: &mut Vec<FixedQueue>,
+    queues: &mut BoxedSlice<FixedQueue>,
+    units: &mut BoxedSlice<FixedQueue>,
     kind: Kind,
     field: &[u8],
 ) -> Delivery
     requires field { 0 < length field.now }
     requires within { length field.now ≤ largest_field }
     requires small { AreSmall reassembler.old }
-    requires distinct { AreDistinct (keys_of (rings_in queues.old.items)) }
-    requires units_distinct { AreDistinct (keys_of (rings_in units.old.items)) }
-    requires sizes { AreEnough reassembler.old (room_sizes queues.old.items) }
-    requires unit_sizes { AreEnough reassembler.old (room_sizes units.old.items) }
-    requires settled { AreSettled queues.old.items }
-    requires units_settled { AreSettled units.old.items }
+    requires distinct { AreDistinct (keys_of (rings_in (boxed_slice_items queues.old))) }
+    requires units_distinct { AreDistinct (keys_of (rings_in (boxed_slice_items units.old))) }
+    requires sizes { AreEnough reassembler.old (room_sizes (boxed_slice_items queues.old)) }
+    requires unit_sizes { AreEnough reassembler.old (room_sizes (boxed_slice_items units.old)) }
+    requires settled { AreSettled (boxed_slice_items queues.old) }
+    requires units_settled { AreSettled (boxed_slice_items units.old) }
     ensures follows { FollowsKindWithin (limit_at reassembler.old (stream_place Bd field.now)) kind (open_runs reassembler.old) (open_runs reassembler.new) field.now }
     ensures limits { (place : ℕ) → limit_at reassembler.new place ≡ limit_at reassembler.old place }
     ensures segmented { reassembler.new.segmented ≡ reassembler.old.segmented }
     ensures delivered { (unit : Option (List ℕ)) × EndsAtOnceWithin (limit_at reassembler.old (stream_place Bd field.now)) kind (open_runs reassembler.old) field.now unit
-        × IsDelivered (map_of field.now) unit (rings_in queues.old.items) (rings_in queues.new.items) (rings_in units.old.items) (rings_in units.new.items) result }
-    ensures sizes { room_sizes queues.new.items ≡ room_sizes queues.old.items }
-    ensures unit_sizes { room_sizes units.new.items ≡ room_sizes units.old.items }
-    ensures settled { AreSettled queues.new.items }
-    ensures units_settled { AreSettled units.new.items }
+        × IsDelivered (map_of field.now) unit (rings_in (boxed_slice_items queues.old)) (rings_in (boxed_slice_items queues.new)) (rings_in (boxed_slice_items units.old)) (rings_in (boxed_slice_items units.new)) result }
+    ensures sizes { room_sizes (boxed_slice_items queues.new) ≡ room_sizes (boxed_slice_items queues.old) }
+    ensures unit_sizes { room_sizes (boxed_slice_items units.new) ≡ room_sizes (boxed_slice_items units.old) }
+    ensures settled { AreSettled (boxed_slice_items queues.new) }
+    ensures units_settled { AreSettled (boxed_slice_items units.new) }
 {
     match kind {
         Kind::Bd => pass(reassembler, queues, units, Service::Bd, field),

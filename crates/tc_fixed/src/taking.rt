@@ -1,6 +1,7 @@
 //! The queues that a channel starts with, and what is taken from them.
 
 ghost use Rattle.std.specs.Prelude.{[], ◌++◌, ◌≤◌, ◌≡◌, ◌↔◌, length, drop, map, IfOk, OnOk, OnErr, IsErrOf, IsTrue, IsSome, Some, None, replicate, false};
+ghost use Rattle.std.specs.Box.{boxed_slice_items};
 ghost use Rattle.tc_channel.specs.ChannelState.{empty_queue, empty_unit_queue};
 ghost use Rattle.tc_channel.specs.HeldQueues.{held, items_for, popped};
 ghost use Rattle.tc_queues.specs.Keyed.{rings_in, room_sizes, AreSettled};
@@ -8,6 +9,7 @@ ghost use Rattle.tc_fixed.specs.Taking.{IsOver, IsLaid, oldest_for};
 
 use crate::faults::NothingTaken;
 use std::alloc::{AllocError, Global};
+use std::boxed::BoxedSlice;
 use tc_channel::{MapSetting, QueueSetting};
 use tc_queues::{Queue, find, oldest_with, pop};
 use tc_rooms::FixedRoom;
@@ -82,17 +84,17 @@ fn write_front(into: &mut [u8], octets: &[u8])
 
 /// Takes the oldest item out of the queue with this key: copies it to the front of these octets, and says how many it has.
 pub(crate) fn take_from(
-    queues: &mut Vec<FixedQueue>,
+    queues: &mut BoxedSlice<FixedQueue>,
     key: u16,
     into: &mut [u8],
 ) -> Result<usize, NothingTaken>
-    ensures no_queue { IsErrOf result NothingTaken.NoQueue ↔ (items_for key (rings_in queues.old.items) ≡ None) }
-    ensures empty { IsErrOf result NothingTaken.Empty ↔ (items_for key (rings_in queues.old.items) ≡ Some []) }
-    ensures no_room { IsErrOf result NothingTaken.NoRoom ↔ IsOver (length into.old) (oldest_for key (rings_in queues.old.items)) }
-    ensures item { IfOk result (λ count. IsLaid (oldest_for key (rings_in queues.old.items)) count into.old into.new) }
-    ensures queues { OnOk result (rings_in queues.new.items ≡ popped key (rings_in queues.old.items)) }
-    ensures sizes { room_sizes queues.new.items ≡ room_sizes queues.old.items }
-    ensures settled { AreSettled queues.old.items → AreSettled queues.new.items }
+    ensures no_queue { IsErrOf result NothingTaken.NoQueue ↔ (items_for key (rings_in (boxed_slice_items queues.old)) ≡ None) }
+    ensures empty { IsErrOf result NothingTaken.Empty ↔ (items_for key (rings_in (boxed_slice_items queues.old)) ≡ Some []) }
+    ensures no_room { IsErrOf result NothingTaken.NoRoom ↔ IsOver (length into.old) (oldest_for key (rings_in (boxed_slice_items queues.old))) }
+    ensures item { IfOk result (λ count. IsLaid (oldest_for key (rings_in (boxed_slice_items queues.old))) count into.old into.new) }
+    ensures queues { OnOk result (rings_in (boxed_slice_items queues.new) ≡ popped key (rings_in (boxed_slice_items queues.old))) }
+    ensures sizes { room_sizes (boxed_slice_items queues.new) ≡ room_sizes (boxed_slice_items queues.old) }
+    ensures settled { AreSettled (boxed_slice_items queues.old) → AreSettled (boxed_slice_items queues.new) }
     ensures refused { OnErr result ((queues.new ≡ queues.old) × (into.new ≡ into.old)) }
 {
     let octets = oldest_within(queues, key, into.len())?;
@@ -103,11 +105,11 @@ pub(crate) fn take_from(
 }
 
 /// Drops the oldest item of the queue with this key, where one waits, and says whether it did.
-pub(crate) fn drop_from(queues: &mut Vec<FixedQueue>, key: u16) -> bool
-    ensures waits { IsTrue result ↔ IsSome (oldest_for key (rings_in queues.old.items)) }
-    ensures queues { IsTrue result → rings_in queues.new.items ≡ popped key (rings_in queues.old.items) }
-    ensures sizes { room_sizes queues.new.items ≡ room_sizes queues.old.items }
-    ensures settled { AreSettled queues.old.items → AreSettled queues.new.items }
+pub(crate) fn drop_from(queues: &mut BoxedSlice<FixedQueue>, key: u16) -> bool
+    ensures waits { IsTrue result ↔ IsSome (oldest_for key (rings_in (boxed_slice_items queues.old))) }
+    ensures queues { IsTrue result → rings_in (boxed_slice_items queues.new) ≡ popped key (rings_in (boxed_slice_items queues.old)) }
+    ensures sizes { room_sizes (boxed_slice_items queues.new) ≡ room_sizes (boxed_slice_items queues.old) }
+    ensures settled { AreSettled (boxed_slice_items queues.old) → AreSettled (boxed_slice_items queues.new) }
     ensures refused { result ≡ false → queues.new ≡ queues.old }
 {
     if oldest_with(queues, key).is_none() {

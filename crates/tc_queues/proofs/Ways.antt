@@ -12,7 +12,7 @@ use Rattle.tc_channel.specs.HeldQueues.{keys_of, AreDistinct, room_in, share, lo
 use Rattle.tc_channel.specs.declared.queues.HeldQueue.{HeldQueue}
 use Rattle.tc_channel.specs.declared.reply.Delivery.{Delivery}
 use Rattle.tc_channel.proofs.Copies.{put-set, put_all-push, length-put_all, longer-fits}
-use Rattle.tc_channel.proofs.Passes.{NoneFor, none-on, full-on, copy-on, as-many, all-shared}
+use Rattle.tc_channel.proofs.Passes.{NoneFor, under-way, none-on, full-on, copy-on, as-many, all-shared}
 use Rattle.tc_channel.proofs.Takes.{popped-at}
 use Rattle.tc_channel.proofs.Wholes.{take-nil, takes-one, takes-none, packets-planned, whole-planned, nothing-planned}
 use Rattle.tc_rooms.specs.Rooms.{slotted}
@@ -23,6 +23,10 @@ pub keys-put : (ws : List HeldQueue) (i : ℕ) (p : List ℕ) → keys_of (put w
 keys-put [] i p = refl
 keys-put (w ∷ ws) zero p = refl
 keys-put (w ∷ ws) (suc i) p = ap (λ (x : List ℕ). w.key ∷ x) (keys-put ws i p)
+
+-- before the first packet
+pub at-start : (base now : List HeldQueue) (all : List (List ℕ)) → now ≡ base → IsOnItsWay base all all 0 now
+at-start base now all is = record { made = []; free = map room_in base; way = under-way base all [] (map room_in base) refl refl; now_is = is; count = refl }
 
 -- no queue takes the packet
 pub way-none : (base now : List HeldQueue) (p : List ℕ) (left all : List (List ℕ)) (n : ℕ) → NoneFor p (keys_of now) → IsOnItsWay base (p ∷ left) all n now → IsOnItsWay base left all (n + 0) now

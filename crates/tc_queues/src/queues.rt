@@ -1,6 +1,7 @@
 //! The queues of a channel, and what they take of a unit.
 
 ghost use Rattle.std.specs.Prelude.{ℕ, List, ◌∷◌, ◌<◌, ◌≤◌, ◌≡◌, ◌≢◌, ◌+◌, length, map, get_or, false, IfOk, IsOk, OnErr, IfSome, IfNone, Option, Some, None, option_map, slice_get};
+ghost use Rattle.std.specs.Box.{boxed_slice_items};
 ghost use Rattle.std.specs.Option.{option_and_then, option_copied};
 ghost use Rattle.std.specs.List.{AllByRecursion};
 ghost use Rattle.tc_packet.specs.PacketFields.{HasFields};
@@ -12,6 +13,7 @@ ghost use Rattle.tc_queues.specs.Delivering.{IsOnItsWay, IsPutAt, ArePut, IsPutW
 
 use crate::queue::Queue;
 use std::alloc::AllocError;
+use std::boxed::BoxedSlice;
 use tc_channel::Delivery;
 use tc_packet::{LARGEST_UNIT, Packet, each_unit_has_one_cut, next_packet};
 use tc_rooms::{Ended, Room, Runs};
@@ -36,12 +38,12 @@ pub fn oldest_with<R: Room>(queues: &[Queue<R>], key: u16) -> Option<&[u8]>
 }
 
 /// Drops the oldest item of the queue with this key, where one waits.
-pub fn pop<R: Room>(queues: &mut Vec<Queue<R>>, key: u16)
-    ensures rings { rings_in queues.new.items ≡ popped key (rings_in queues.old.items) }
-    ensures sizes { room_sizes queues.new.items ≡ room_sizes queues.old.items }
-    ensures settled { AreSettled queues.old.items → AreSettled queues.new.items }
+pub fn pop<R: Room>(queues: &mut BoxedSlice<Queue<R>>, key: u16)
+    ensures rings { rings_in (boxed_slice_items queues.new) ≡ popped key (rings_in (boxed_slice_items queues.old)) }
+    ensures sizes { room_sizes (boxed_slice_items queues.new) ≡ room_sizes (boxed_slice_items queues.old) }
+    ensures settled { AreSettled (boxed_slice_items queues.old) → AreSettled (boxed_slice_items queues.new) }
 {
-    for i in 0..queues.len() {
+    for i in 0..queues.as_slice().len() {
         if queues[i].key() == key {
             queues[i].pop_front();
             return;
@@ -65,15 +67,15 @@ fn search_place<R: Room>(queues: &[Queue<R>], key: u16) -> Option<usize>
 // Lays an item behind the others of the queue at this place, where there is room, and says whether there was.
 #[inline(always)]
 fn put_at<R: Room>(
-    queues: &mut Vec<Queue<R>>,
+    queues: &mut BoxedSlice<Queue<R>>,
     place: usize,
     octets: &[u8],
 ) -> Result<bool, AllocError>
-    requires place { place < length queues.old.items }
-    requires fits { Fit octets.now (room_sizes queues.old.items) }
-    ensures put { IfOk result (IsPutAt place octets.now (all_laid_in queues.old.items) (all_laid_in queues.new.items)) }
-    ensures rings { rings_in queues.new.items ≡ rings_in queues.old.items }
-    ensures sizes { room_sizes queues.new.items ≡ room_sizes queues.old.items }
+    requires place { place < length (boxed_slice_items queues.old) }
+    requires fits { Fit octets.now (room_sizes (boxed_slice_items queues.old)) }
+    ensures put { IfOk result (IsPutAt place octets.now (all_laid_in (boxed_slice_items queues.old)) (all_laid_in (boxed_slice_items queues.new))) }
+    ensures rings { rings_in (boxed_slice_items queues.new) ≡ rings_in (boxed_slice_items queues.old) }
+    ensures sizes { room_sizes (boxed_slice_items queues.new) ≡ room_sizes (boxed_slice_items queues.old) }
     ensures answered { R.grows ≡ false → IsOk result }
 {
     let queue = &mut queues[place];
@@ -83,18 +85,18 @@ fn put_at<R: Room>(
 // Lays a packet into its queue, where one takes it, and says how many packets that were.
 #[inline(always)]
 fn put_packet<R: Room>(
-    queues: &mut Vec<Queue<R>>,
+    queues: &mut BoxedSlice<Queue<R>>,
     packet: &Packet,
 ) -> Result<usize, AllocError>
     requires fields { HasFields packet.now }
-    requires distinct { AreDistinct (keys_of (rings_in queues.old.items)) }
-    requires fits { Fit packet.now.octets.now (room_sizes queues.old.items) }
+    requires distinct { AreDistinct (keys_of (rings_in (boxed_slice_items queues.old))) }
+    requires fits { Fit packet.now.octets.now (room_sizes (boxed_slice_items queues.old)) }
     ensures way { IfOk result (λ more. (base : List HeldQueue) (left all : List (List ℕ)) (n : ℕ)
-        → IsOnItsWay base (packet.now.octets.now ∷ left) all n (all_laid_in queues.old.items)
-        → IsOnItsWay base left all (n + more) (all_laid_in queues.new.items)) }
-    ensures rings { rings_in queues.new.items ≡ rings_in queues.old.items }
+        → IsOnItsWay base (packet.now.octets.now ∷ left) all n (all_laid_in (boxed_slice_items queues.old))
+        → IsOnItsWay base left all (n + more) (all_laid_in (boxed_slice_items queues.new))) }
+    ensures rings { rings_in (boxed_slice_items queues.new) ≡ rings_in (boxed_slice_items queues.old) }
     ensures one { IfOk result (λ more. more ≤ 1) }
-    ensures sizes { room_sizes queues.new.items ≡ room_sizes queues.old.items }
+    ensures sizes { room_sizes (boxed_slice_items queues.new) ≡ room_sizes (boxed_slice_items queues.old) }
     ensures answered { R.grows ≡ false → IsOk result }
 {
     if !packet.telecommand {
@@ -113,16 +115,16 @@ fn put_packet<R: Room>(
 // Lays the packets of a unit into their queues.
 #[inline(always)]
 fn put_packets<R: Room>(
-    queues: &mut Vec<Queue<R>>,
+    queues: &mut BoxedSlice<Queue<R>>,
     unit: &[u8],
 ) -> Result<Delivery, AllocError>
     requires within { length unit.now ≤ LARGEST_UNIT }
-    requires distinct { AreDistinct (keys_of (rings_in queues.old.items)) }
-    requires fits { Fit unit.now (room_sizes queues.old.items) }
-    requires settled { AreSettled queues.old.items }
-    ensures put { IfOk result (ArePut unit.now (rings_in queues.old.items) (all_laid_in queues.new.items)) }
-    ensures rings { rings_in queues.new.items ≡ rings_in queues.old.items }
-    ensures sizes { room_sizes queues.new.items ≡ room_sizes queues.old.items }
+    requires distinct { AreDistinct (keys_of (rings_in (boxed_slice_items queues.old))) }
+    requires fits { Fit unit.now (room_sizes (boxed_slice_items queues.old)) }
+    requires settled { AreSettled (boxed_slice_items queues.old) }
+    ensures put { IfOk result (ArePut unit.now (rings_in (boxed_slice_items queues.old)) (all_laid_in (boxed_slice_items queues.new))) }
+    ensures rings { rings_in (boxed_slice_items queues.new) ≡ rings_in (boxed_slice_items queues.old) }
+    ensures sizes { room_sizes (boxed_slice_items queues.new) ≡ room_sizes (boxed_slice_items queues.old) }
     ensures answered { R.grows ≡ false → IsOk result }
 {
     each_unit_has_one_cut();
@@ -144,19 +146,19 @@ fn put_packets<R: Room>(
 
 // Lays a unit whole into the unit queue at this place, where that has room.
 fn put_whole<R: Room>(
-    units: &mut Vec<Queue<R>>,
+    units: &mut BoxedSlice<Queue<R>>,
     place: usize,
     map: u8,
     unit: &[u8],
 ) -> Result<Delivery, AllocError>
-    requires place { place < length units.old.items }
-    requires key { map ≡ get_or (keys_of (rings_in units.old.items)) place map }
-    requires distinct { AreDistinct (keys_of (rings_in units.old.items)) }
-    requires fits { Fit unit.now (room_sizes units.old.items) }
-    requires settled { AreSettled units.old.items }
-    ensures put { IfOk result (IsPutWhole map unit.now (rings_in units.old.items) (all_laid_in units.new.items)) }
-    ensures rings { rings_in units.new.items ≡ rings_in units.old.items }
-    ensures sizes { room_sizes units.new.items ≡ room_sizes units.old.items }
+    requires place { place < length (boxed_slice_items units.old) }
+    requires key { map ≡ get_or (keys_of (rings_in (boxed_slice_items units.old))) place map }
+    requires distinct { AreDistinct (keys_of (rings_in (boxed_slice_items units.old))) }
+    requires fits { Fit unit.now (room_sizes (boxed_slice_items units.old)) }
+    requires settled { AreSettled (boxed_slice_items units.old) }
+    ensures put { IfOk result (IsPutWhole map unit.now (rings_in (boxed_slice_items units.old)) (all_laid_in (boxed_slice_items units.new))) }
+    ensures rings { rings_in (boxed_slice_items units.new) ≡ rings_in (boxed_slice_items units.old) }
+    ensures sizes { room_sizes (boxed_slice_items units.new) ≡ room_sizes (boxed_slice_items units.old) }
     ensures answered { R.grows ≡ false → IsOk result }
 {
     let put = put_at(units, place, unit)?;
@@ -177,24 +179,24 @@ fn put_whole<R: Room>(
 // Lays a unit: whole where its MAP is chosen, else by its packets.
 #[inline(always)]
 fn lay_unit<R: Room>(
-    queues: &mut Vec<Queue<R>>,
-    units: &mut Vec<Queue<R>>,
+    queues: &mut BoxedSlice<Queue<R>>,
+    units: &mut BoxedSlice<Queue<R>>,
     map: u8,
     unit: &[u8],
 ) -> Result<Delivery, AllocError>
     requires within { length unit.now ≤ LARGEST_UNIT }
-    requires distinct { AreDistinct (keys_of (rings_in queues.old.items)) }
-    requires units_distinct { AreDistinct (keys_of (rings_in units.old.items)) }
-    requires fits { Fit unit.now (room_sizes queues.old.items) }
-    requires units_fit { Fit unit.now (room_sizes units.old.items) }
-    requires settled { AreSettled queues.old.items }
-    requires units_settled { AreSettled units.old.items }
-    ensures delivered { IfOk result (IsDelivered map (Some unit.now) (rings_in queues.old.items) (all_laid_in queues.new.items)
-        (rings_in units.old.items) (all_laid_in units.new.items)) }
-    ensures rings { rings_in queues.new.items ≡ rings_in queues.old.items }
-    ensures unit_rings { rings_in units.new.items ≡ rings_in units.old.items }
-    ensures sizes { room_sizes queues.new.items ≡ room_sizes queues.old.items }
-    ensures unit_sizes { room_sizes units.new.items ≡ room_sizes units.old.items }
+    requires distinct { AreDistinct (keys_of (rings_in (boxed_slice_items queues.old))) }
+    requires units_distinct { AreDistinct (keys_of (rings_in (boxed_slice_items units.old))) }
+    requires fits { Fit unit.now (room_sizes (boxed_slice_items queues.old)) }
+    requires units_fit { Fit unit.now (room_sizes (boxed_slice_items units.old)) }
+    requires settled { AreSettled (boxed_slice_items queues.old) }
+    requires units_settled { AreSettled (boxed_slice_items units.old) }
+    ensures delivered { IfOk result (IsDelivered map (Some unit.now) (rings_in (boxed_slice_items queues.old)) (all_laid_in (boxed_slice_items queues.new))
+        (rings_in (boxed_slice_items units.old)) (all_laid_in (boxed_slice_items units.new))) }
+    ensures rings { rings_in (boxed_slice_items queues.new) ≡ rings_in (boxed_slice_items queues.old) }
+    ensures unit_rings { rings_in (boxed_slice_items units.new) ≡ rings_in (boxed_slice_items units.old) }
+    ensures sizes { room_sizes (boxed_slice_items queues.new) ≡ room_sizes (boxed_slice_items queues.old) }
+    ensures unit_sizes { room_sizes (boxed_slice_items units.new) ≡ room_sizes (boxed_slice_items units.old) }
     ensures answered { R.grows ≡ false → IsOk result }
 {
     match search_place(units, map as u16) {
@@ -204,19 +206,19 @@ fn lay_unit<R: Room>(
 }
 
 // All that was laid counts.
-fn settle<R: Room>(queues: &mut Vec<Queue<R>>)
-    ensures { queues.new.items ≡ map settled queues.old.items }
+fn settle<R: Room>(queues: &mut BoxedSlice<Queue<R>>)
+    ensures { boxed_slice_items queues.new ≡ map settled (boxed_slice_items queues.old) }
 {
-    for i in 0..queues.len() {
+    for i in 0..queues.as_slice().len() {
         queues[i].settle();
     }
 }
 
 // All that was laid is let go.
-fn let_go<R: Room>(queues: &mut Vec<Queue<R>>)
-    ensures { queues.new.items ≡ map let_go_of queues.old.items }
+fn let_go<R: Room>(queues: &mut BoxedSlice<Queue<R>>)
+    ensures { boxed_slice_items queues.new ≡ map let_go_of (boxed_slice_items queues.old) }
 {
-    for i in 0..queues.len() {
+    for i in 0..queues.as_slice().len() {
         queues[i].let_go();
     }
 }
@@ -224,25 +226,25 @@ fn let_go<R: Room>(queues: &mut Vec<Queue<R>>)
 // Delivers a unit: whole where its MAP is chosen, else by its packets. Where memory runs out all queues are as they were.
 #[inline(always)]
 fn deliver<R: Room>(
-    queues: &mut Vec<Queue<R>>,
-    units: &mut Vec<Queue<R>>,
+    queues: &mut BoxedSlice<Queue<R>>,
+    units: &mut BoxedSlice<Queue<R>>,
     map: u8,
     unit: &[u8],
 ) -> Result<Delivery, AllocError>
     requires within { length unit.now ≤ LARGEST_UNIT }
-    requires distinct { AreDistinct (keys_of (rings_in queues.old.items)) }
-    requires units_distinct { AreDistinct (keys_of (rings_in units.old.items)) }
-    requires fits { Fit unit.now (room_sizes queues.old.items) }
-    requires units_fit { Fit unit.now (room_sizes units.old.items) }
-    requires settled { AreSettled queues.old.items }
-    requires units_settled { AreSettled units.old.items }
-    ensures delivered { IfOk result (IsDelivered map (Some unit.now) (rings_in queues.old.items) (rings_in queues.new.items)
-        (rings_in units.old.items) (rings_in units.new.items)) }
-    ensures refused { OnErr result ((rings_in queues.new.items ≡ rings_in queues.old.items) × (rings_in units.new.items ≡ rings_in units.old.items)) }
-    ensures settled { AreSettled queues.new.items }
-    ensures units_settled { AreSettled units.new.items }
-    ensures sizes { room_sizes queues.new.items ≡ room_sizes queues.old.items }
-    ensures unit_sizes { room_sizes units.new.items ≡ room_sizes units.old.items }
+    requires distinct { AreDistinct (keys_of (rings_in (boxed_slice_items queues.old))) }
+    requires units_distinct { AreDistinct (keys_of (rings_in (boxed_slice_items units.old))) }
+    requires fits { Fit unit.now (room_sizes (boxed_slice_items queues.old)) }
+    requires units_fit { Fit unit.now (room_sizes (boxed_slice_items units.old)) }
+    requires settled { AreSettled (boxed_slice_items queues.old) }
+    requires units_settled { AreSettled (boxed_slice_items units.old) }
+    ensures delivered { IfOk result (IsDelivered map (Some unit.now) (rings_in (boxed_slice_items queues.old)) (rings_in (boxed_slice_items queues.new))
+        (rings_in (boxed_slice_items units.old)) (rings_in (boxed_slice_items units.new))) }
+    ensures refused { OnErr result ((rings_in (boxed_slice_items queues.new) ≡ rings_in (boxed_slice_items queues.old)) × (rings_in (boxed_slice_items units.new) ≡ rings_in (boxed_slice_items units.old))) }
+    ensures settled { AreSettled (boxed_slice_items queues.new) }
+    ensures units_settled { AreSettled (boxed_slice_items units.new) }
+    ensures sizes { room_sizes (boxed_slice_items queues.new) ≡ room_sizes (boxed_slice_items queues.old) }
+    ensures unit_sizes { room_sizes (boxed_slice_items units.new) ≡ room_sizes (boxed_slice_items units.old) }
     ensures answered { R.grows ≡ false → IsOk result }
 {
     match lay_unit(queues, units, map, unit) {
@@ -263,27 +265,27 @@ fn deliver<R: Room>(
 #[inline(always)]
 pub fn deliver_ended<R: Room>(
     runs: &Runs<R>,
-    queues: &mut Vec<Queue<R>>,
-    units: &mut Vec<Queue<R>>,
+    queues: &mut BoxedSlice<Queue<R>>,
+    units: &mut BoxedSlice<Queue<R>>,
     map: u8,
     field: &[u8],
     ended: Ended,
 ) -> Result<Delivery, AllocError>
     requires there { IsThere ended runs.now field.now }
     requires within { IsAtMost LARGEST_UNIT (unit_in ended runs.now field.now) }
-    requires distinct { AreDistinct (keys_of (rings_in queues.old.items)) }
-    requires units_distinct { AreDistinct (keys_of (rings_in units.old.items)) }
-    requires fits { FitsIn (room_sizes queues.old.items) (unit_in ended runs.now field.now) }
-    requires units_fit { FitsIn (room_sizes units.old.items) (unit_in ended runs.now field.now) }
-    requires settled { AreSettled queues.old.items }
-    requires units_settled { AreSettled units.old.items }
-    ensures delivered { IfOk result (IsDelivered map (unit_in ended runs.now field.now) (rings_in queues.old.items) (rings_in queues.new.items)
-        (rings_in units.old.items) (rings_in units.new.items)) }
-    ensures refused { OnErr result ((rings_in queues.new.items ≡ rings_in queues.old.items) × (rings_in units.new.items ≡ rings_in units.old.items)) }
-    ensures settled { AreSettled queues.new.items }
-    ensures units_settled { AreSettled units.new.items }
-    ensures sizes { room_sizes queues.new.items ≡ room_sizes queues.old.items }
-    ensures unit_sizes { room_sizes units.new.items ≡ room_sizes units.old.items }
+    requires distinct { AreDistinct (keys_of (rings_in (boxed_slice_items queues.old))) }
+    requires units_distinct { AreDistinct (keys_of (rings_in (boxed_slice_items units.old))) }
+    requires fits { FitsIn (room_sizes (boxed_slice_items queues.old)) (unit_in ended runs.now field.now) }
+    requires units_fit { FitsIn (room_sizes (boxed_slice_items units.old)) (unit_in ended runs.now field.now) }
+    requires settled { AreSettled (boxed_slice_items queues.old) }
+    requires units_settled { AreSettled (boxed_slice_items units.old) }
+    ensures delivered { IfOk result (IsDelivered map (unit_in ended runs.now field.now) (rings_in (boxed_slice_items queues.old)) (rings_in (boxed_slice_items queues.new))
+        (rings_in (boxed_slice_items units.old)) (rings_in (boxed_slice_items units.new))) }
+    ensures refused { OnErr result ((rings_in (boxed_slice_items queues.new) ≡ rings_in (boxed_slice_items queues.old)) × (rings_in (boxed_slice_items units.new) ≡ rings_in (boxed_slice_items units.old))) }
+    ensures settled { AreSettled (boxed_slice_items queues.new) }
+    ensures units_settled { AreSettled (boxed_slice_items units.new) }
+    ensures sizes { room_sizes (boxed_slice_items queues.new) ≡ room_sizes (boxed_slice_items queues.old) }
+    ensures unit_sizes { room_sizes (boxed_slice_items units.new) ≡ room_sizes (boxed_slice_items units.old) }
     ensures answered { R.grows ≡ false → IsOk result }
 {
     match ended {

@@ -1,6 +1,7 @@
-use Rattle.std.proofs.Common.{ap, ◌∙◌}
+use Rattle.std.proofs.Common.{ap, sym, subst, ◌∙◌}
 use Rattle.tc_channel.specs.Run.{run_within, IsLawfulWithin}
 use Rattle.tc_rooms.specs.Rooms.{Slotted}
+use Rattle.tc_queues.specs.Keyed.{rings_in, room_sizes, AreSettled}
 use Rattle.tc_fixed.proofs.Inside.{none-open}
 use Rattle.tc_fixed.proofs.ByMap.{fits-at-start, small-at-start}
 use Rattle.tc_fixed.proofs.Sizes.{enough-at-start}
@@ -19,17 +20,17 @@ invariant_of-result g c =
         report = c.new-2.ensures.report;
         capacity = ap (λ (s : Slotted). s.ring.capacity) c.in_ok-fields.ensures;
         runs = none-open _ store _ c.in_ok-reassembler.ensures.segmented c.in_ok-reassembler.ensures.none;
-        queues = rw c.as_slice.ensures at c.in_ok-queues.ensures.rings;
-        units = rw c.as_slice-2.ensures at c.in_ok-units.ensures.rings;
+        queues = ap rings_in c.into_boxed_slice-queues.ensures.items ∙ rw c.as_slice.ensures at c.in_ok-empty_queues.ensures.rings;
+        units = ap rings_in c.into_boxed_slice-units.ensures.items ∙ rw c.as_slice-2.ensures at c.in_ok-empty_unit_queues.ensures.rings;
         fields = ap (λ (s : Slotted). s.ring.items) c.in_ok-fields.ensures;
       };
       fields_settled = ap (λ (s : Slotted). s.laid) c.in_ok-fields.ensures;
-      settled = rw c.as_slice.ensures at c.in_ok-queues.ensures.settled;
-      units_settled = rw c.as_slice-2.ensures at c.in_ok-units.ensures.settled;
+      settled = subst AreSettled (sym c.into_boxed_slice-queues.ensures.items) c.in_ok-empty_queues.ensures.settled;
+      units_settled = subst AreSettled (sym c.into_boxed_slice-units.ensures.items) c.in_ok-empty_unit_queues.ensures.settled;
       limits = c.requires.limits;
       field_size = ap (λ (s : Slotted). s.size) c.in_ok-fields.ensures;
       limits_are = c.in_ok-reassembler.ensures.limits;
       small = small-at-start c.args.settings c.args.limits store c.requires.limits c.in_ok-reassembler.ensures.limits;
-      sizes = enough-at-start store _ _ _ (rw c.item_size-size.ensures.size at c.in_ok-queues.ensures.sizes) fits;
-      unit_sizes = enough-at-start store _ _ _ (rw c.item_size-size.ensures.size at c.in_ok-units.ensures.sizes) fits;
+      sizes = enough-at-start store _ _ _ (ap room_sizes c.into_boxed_slice-queues.ensures.items ∙ rw c.item_size-size.ensures.size at c.in_ok-empty_queues.ensures.sizes) fits;
+      unit_sizes = enough-at-start store _ _ _ (ap room_sizes c.into_boxed_slice-units.ensures.items ∙ rw c.item_size-size.ensures.size at c.in_ok-empty_unit_queues.ensures.sizes) fits;
     })

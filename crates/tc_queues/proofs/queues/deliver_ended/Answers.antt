@@ -12,7 +12,7 @@ pub deliver-requires-clause-units_fit : goal.deliver-requires-clause-units_fit
 deliver-requires-clause-units_fit g c = rw (take_rest c.args.field.now c.in-Lying.from) (rw c.in-Lying.is at c.requires.units_fit)
 
 pub returns-in-Lying-clause-delivered : goal.returns-in-Lying-clause-delivered
-returns-in-Lying-clause-delivered g c = rw (take_rest c.args.field.now c.in-Lying.from) at c.deliver.ensures.delivered
+returns-in-Lying-clause-delivered g c = rw c.in-Lying.is (rw (take_rest c.args.field.now c.in-Lying.from) at c.deliver.ensures.delivered)
 
 pub deliver-requires-in-Joined-clause-within : goal.deliver-requires-in-Joined-clause-within
 deliver-requires-in-Joined-clause-within g c = rw (c.in-Joined.is, ← c.joined.ensures) at c.requires.within
@@ -24,4 +24,4 @@ pub deliver-requires-in-Joined-clause-units_fit : goal.deliver-requires-in-Joine
 deliver-requires-in-Joined-clause-units_fit g c = rw (c.in-Joined.is, ← c.joined.ensures) at c.requires.units_fit
 
 pub returns-in-Joined-clause-delivered : goal.returns-in-Joined-clause-delivered
-returns-in-Joined-clause-delivered g c = rw (← c.joined.ensures) c.deliver.ensures.delivered
+returns-in-Joined-clause-delivered g c = rw (c.in-Joined.is, ← c.joined.ensures) c.deliver.ensures.delivered

@@ -1,4 +1,5 @@
 use Rattle.std.proofs.Common.{◌<◌, length, arith}
+use Rattle.std.specs.Box.{boxed_slice_items}
 use Rattle.std.proofs.lemmas.List.{length-map}
 use Rattle.tc_rooms.proofs.Sizes.{if-ok}
 use Rattle.tc_queues.specs.Keyed.{ring_in, rings_in}
@@ -10,10 +11,10 @@ pub returns-in-Some-clause-delivered : goal.returns-in-Some-clause-delivered
 returns-in-Some-clause-delivered g c =
     let some = rw c.deref.ensures.value at c.in-Some.ensures.some in
     let lt = some.0 in
-    let inside : c.in-Some.place < length (rings_in c.args.units.now.items) = omega (arith, length-map c.args.units.now.items ring_in, lt) in
-    rw (laid-none c.args.queues.now.items c.requires.settled) (if-ok _ _ c.put_whole.result (λ d put. by-unit c.args.map c.in-Some.place c.args.unit.now (rings_in c.args.queues.now.items) (rings_in c.args.units.now.items) _ d inside some.1 put) c.put_whole.ensures.put)
+    let inside : c.in-Some.place < length (rings_in (boxed_slice_items c.args.units.now)) = omega (arith, length-map (boxed_slice_items c.args.units.now) ring_in, lt) in
+    rw (laid-none (boxed_slice_items c.args.queues.now) c.requires.settled) (if-ok _ _ c.put_whole.result (λ d put. by-unit c.args.map c.in-Some.place c.args.unit.now (rings_in (boxed_slice_items c.args.queues.now)) (rings_in (boxed_slice_items c.args.units.now)) _ d inside some.1 put) c.put_whole.ensures.put)
 
 pub returns-in-None-clause-delivered : goal.returns-in-None-clause-delivered
 returns-in-None-clause-delivered g c =
     let none = rw c.deref.ensures.value at c.in-None.ensures.none in
-    rw (laid-none c.args.units.now.items c.requires.units_settled) (if-ok _ _ c.put_packets.result (λ d put. by-packets c.args.map c.args.unit.now (rings_in c.args.queues.now.items) _ (rings_in c.args.units.now.items) d none put) c.put_packets.ensures.put)
+    rw (laid-none (boxed_slice_items c.args.units.now) c.requires.units_settled) (if-ok _ _ c.put_packets.result (λ d put. by-packets c.args.map c.args.unit.now (rings_in (boxed_slice_items c.args.queues.now)) _ (rings_in (boxed_slice_items c.args.units.now)) d none put) c.put_packets.ensures.put)

@@ -1,4 +1,5 @@
 use Rattle.std.proofs.Common.{◌<◌, length, arith}
+use Rattle.std.specs.Box.{boxed_slice_items}
 use Rattle.std.proofs.lemmas.Grind.{common_steps}
 use Rattle.std.proofs.lemmas.List.Edits.{map_over_more}
 use Rattle.tc_queues.specs.Keyed.{let_go}
@@ -6,5 +7,5 @@ use Rattle.tc_queues.proofs.queues.let_go.Goals as goal
 
 pub loop-i-preserved : goal.loop-i-preserved
 loop-i-preserved g c =
-    let inside : c.loop-i.i < length c.args.queues.now.items = grind (arith, common_steps) in
-    rw c.let_go.ensures (map_over_more let_go c.args.queues.now.items c.loop-i.queues.items c.loop-i.i c.index_mut.result.now inside c.loop-i.invariant c.index_mut.ensures.value)
+    let inside : c.loop-i.i < length (boxed_slice_items c.args.queues.now) = grind (arith, common_steps) in
+    rw c.let_go.ensures (map_over_more let_go (boxed_slice_items c.args.queues.now) (boxed_slice_items c.loop-i.queues) c.loop-i.i c.index_mut.result.now inside c.loop-i.invariant c.index_mut.ensures.value)

@@ -1,4 +1,5 @@
 use Rattle.std.proofs.Common.{◌≡◌, ◌+◌, ◌≤◌, length}
+use Rattle.std.specs.Box.{boxed_slice_items}
 use Rattle.tc_packet.specs.SpacePacket.{packets_of, rest_of}
 use Rattle.tc_queues.specs.Delivering.{IsOnItsWay}
 use Rattle.tc_queues.specs.Keyed.{rings_in, all_laid_in, room_sizes}
@@ -7,13 +8,13 @@ use Rattle.tc_queues.proofs.queues.put_packets.Given as goal
 -- the packets so far and those that are left are all of them
 abbrev pub invariant-loop-packet : goal.invariant-loop-packet
 invariant-loop-packet g l = record {
-  way : IsOnItsWay (rings_in l.fn.queues.items) (packets_of l.rest) (packets_of l.unit) l.queued (all_laid_in l.queues.items);
+  way : IsOnItsWay (rings_in (boxed_slice_items l.fn.queues)) (packets_of l.rest) (packets_of l.unit) l.queued (all_laid_in (boxed_slice_items l.queues));
   packets : l.packets + length (packets_of l.rest) ≡ length (packets_of l.unit);
   within : l.packets + length l.rest ≤ length l.unit;
   few : l.queued ≤ l.packets;
   rest : rest_of l.rest ≡ rest_of l.unit;
-  sizes : room_sizes l.queues.items ≡ room_sizes l.fn.queues.items;
-  rings : rings_in l.queues.items ≡ rings_in l.fn.queues.items;
+  sizes : room_sizes (boxed_slice_items l.queues) ≡ room_sizes (boxed_slice_items l.fn.queues);
+  rings : rings_in (boxed_slice_items l.queues) ≡ rings_in (boxed_slice_items l.fn.queues);
 }
 
 abbrev pub decreases-loop-packet : goal.decreases-loop-packet

@@ -1,4 +1,5 @@
 use Rattle.std.proofs.Common.{◌≡◌, ◌<◌, length, refl, sym, arith}
+use Rattle.std.specs.Box.{boxed_slice_items}
 use Rattle.std.proofs.lemmas.List.{length-map}
 use Rattle.tc_queues.specs.Keyed.{ring_in, rings_in, all_laid_in}
 use Rattle.tc_queues.proofs.InRooms.{laid-none}
@@ -7,14 +8,14 @@ use Rattle.tc_queues.proofs.queues.put_whole.Goals as goal
 
 pub returns-then-put-clause-put : goal.returns-then-put-clause-put
 returns-then-put-clause-put g c =
-    let put = rw (laid-none c.args.units.now.items c.requires.settled) at c.in_ok-put.ensures.put in
+    let put = rw (laid-none (boxed_slice_items c.args.units.now) c.requires.settled) at c.in_ok-put.ensures.put in
     let done = put.done c.if-put.true in
-    let inside : c.args.place < length (rings_in c.args.units.now.items) = omega (arith, length-map c.args.units.now.items ring_in, c.requires.place) in
-    put-whole c.args.map c.args.place c.args.unit.now (rings_in c.args.units.now.items) _ _ c.requires.distinct inside c.requires.key done.0 done.1 refl
+    let inside : c.args.place < length (rings_in (boxed_slice_items c.args.units.now)) = omega (arith, length-map (boxed_slice_items c.args.units.now) ring_in, c.requires.place) in
+    put-whole c.args.map c.args.place c.args.unit.now (rings_in (boxed_slice_items c.args.units.now)) _ _ c.requires.distinct inside c.requires.key done.0 done.1 refl
 
 pub returns-clause-put : goal.returns-clause-put
 returns-clause-put g c =
-    let put = rw (laid-none c.args.units.now.items c.requires.settled) at c.in_ok-put.ensures.put in
+    let put = rw (laid-none (boxed_slice_items c.args.units.now) c.requires.settled) at c.in_ok-put.ensures.put in
     let full = put.full c.if-put.false in
-    let inside : c.args.place < length (rings_in c.args.units.now.items) = omega (arith, length-map c.args.units.now.items ring_in, c.requires.place) in
-    put-none c.args.map c.args.place c.args.unit.now (rings_in c.args.units.now.items) _ _ c.requires.distinct inside c.requires.key full.0 full.1 refl
+    let inside : c.args.place < length (rings_in (boxed_slice_items c.args.units.now)) = omega (arith, length-map (boxed_slice_items c.args.units.now) ring_in, c.requires.place) in
+    put-none c.args.map c.args.place c.args.unit.now (rings_in (boxed_slice_items c.args.units.now)) _ _ c.requires.distinct inside c.requires.key full.0 full.1 refl

@@ -1,4 +1,5 @@
 use Rattle.std.proofs.Common.{drop, ◌≡◌, ◌∷◌, [], ◌++◌, nat_lt, ◌∙◌, ap, refl, arith}
+use Rattle.std.specs.Box.{boxed_slice_items}
 use Rattle.std.proofs.lemmas.Grind.{common_steps}
 use Rattle.std.proofs.lemmas.List.{length-drop}
 use Rattle.tc_link.specs.Farm.{frame_row, number_of, accepts}
@@ -67,7 +68,7 @@ returns-clause-reply g c =
     let is = row-is c.args.frame.now c.kind-kind.result c.len.result c.capacity.result h c.kind-kind.ensures c.len.ensures.len c.capacity.ensures.capacity in
     let t = c.pass_bypass-delivery.ensures.delivered in
     let q = rw c.field-field.ensures at t.2 in
-    let d = frame-delivery (limit_of f.limits) f.settings (run_within (limit_of f.limits) f.settings j) c.args.frame.now (open_runs f.reassembler) t.0 (rings_in f.queues.items) (rings_in f.units.items) q.made (record { unit = q.whole; delivery = c.pass_bypass-delivery.result }) (run-limit (limit_of f.limits) f.settings j) h.runs (h.queues, h.units)
+    let d = frame-delivery (limit_of f.limits) f.settings (run_within (limit_of f.limits) f.settings j) c.args.frame.now (open_runs f.reassembler) t.0 (rings_in (boxed_slice_items f.queues)) (rings_in (boxed_slice_items f.units)) q.made (record { unit = q.whole; delivery = c.pass_bypass-delivery.result }) (run-limit (limit_of f.limits) f.settings j) h.runs (h.queues, h.units)
     (rw (← c.kind-kind.ensures) (ends-at-once-is (limit_of f.limits) f.reassembler c.kind-kind.result (drop 5 c.args.frame.now) t.0 c.self.invariant.limits_are (rw c.field-field.ensures at t.1))) (record { copies = q.shares; whole = q.whole_is; delivery = q.delivery_is }) in
     let event : c.step-act.result.event ≡ number_of (row_of f.settings (run_within (limit_of f.limits) f.settings j) c.args.frame.now) = c.step-act.ensures.event ∙ ap number_of is in
     let accepted : c.step-act.result.accepted ≡ accepts (row_of f.settings (run_within (limit_of f.limits) f.settings j) c.args.frame.now) (run_within (limit_of f.limits) f.settings j).report = c.step-act.ensures.accepted ∙ rw (is, h.report) refl in

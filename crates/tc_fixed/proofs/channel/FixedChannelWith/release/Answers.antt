@@ -1,4 +1,5 @@
 use Rattle.std.proofs.Common.{◌≡◌, ◌≤◌, ◌∷◌, [], ◌++◌, length, ap, ◌∙◌, arith}
+use Rattle.std.specs.Box.{boxed_slice_items}
 use Rattle.std.proofs.lemmas.Grind.{common_steps}
 use Rattle.tc_channel.specs.declared.event.Event.TheVariants.{Release}
 use Rattle.tc_channel.specs.ChannelState.{buffer}
@@ -79,5 +80,5 @@ returns-clause-reply g c =
     let field_is : c.in-Some.field.now ≡ first_of (buffer (run_within (limit_of f.limits) f.settings j)) = first.0 ∙ ap first_of h.fields in
     let t = c.pass-delivery.ensures.delivered in
     let q = rw field_is at t.2 in
-    rw (← c.self.view_is) (release-delivery (limit_of f.limits) (run_within (limit_of f.limits) f.settings j) (open_runs f.reassembler) t.0 (rings_in f.queues.items) (rings_in f.units.items) q.made (record { unit = q.whole; delivery = c.pass-delivery.result }) (run-limit (limit_of f.limits) f.settings j) h.runs (h.queues, h.units)
+    rw (← c.self.view_is) (release-delivery (limit_of f.limits) (run_within (limit_of f.limits) f.settings j) (open_runs f.reassembler) t.0 (rings_in (boxed_slice_items f.queues)) (rings_in (boxed_slice_items f.units)) q.made (record { unit = q.whole; delivery = c.pass-delivery.result }) (run-limit (limit_of f.limits) f.settings j) h.runs (h.queues, h.units)
     (ends-is (limit_of f.limits) f.reassembler Ad (first_of (buffer (run_within (limit_of f.limits) f.settings j))) t.0 c.self.invariant.limits_are (rw field_is at t.1)) (record { copies = q.shares; whole = q.whole_is; delivery = q.delivery_is }))

@@ -1,4 +1,5 @@
 use Rattle.std.proofs.Common.{◌≡◌, ◌∷◌, [], ◌++◌, arith}
+use Rattle.std.specs.Box.{boxed_slice_items}
 use Rattle.std.proofs.lemmas.Grind.{common_steps}
 use Rattle.tc_channel.specs.declared.event.Event.TheVariants.{Take}
 use Rattle.tc_channel.specs.Reply.{waiting_packets_within}
@@ -12,41 +13,41 @@ use Rattle.tc_fixed.proofs.channel.FixedChannelWith.take.Goals as goal
 
 pub returns-in_err-count-clause-no_queue : goal.returns-in_err-count-clause-no_queue
 returns-in_err-count-clause-no_queue g c =
-    let w : waiting_packets_within (limit_of c.args.self.now.limits) c.args.self.now.settings c.args.self.now.journal c.args.apid ≡ items_for c.args.apid (rings_in c.self.inside.queues.items) = rw (← c.self.view_is) (packets-wait c.args.apid c.self.invariant.holds) in
+    let w : waiting_packets_within (limit_of c.args.self.now.limits) c.args.self.now.settings c.args.self.now.journal c.args.apid ≡ items_for c.args.apid (rings_in (boxed_slice_items c.self.inside.queues)) = rw (← c.self.view_is) (packets-wait c.args.apid c.self.invariant.holds) in
     rw w (grind (arith, common_steps))
 
 pub returns-in_err-count-clause-empty : goal.returns-in_err-count-clause-empty
 returns-in_err-count-clause-empty g c =
-    let w : waiting_packets_within (limit_of c.args.self.now.limits) c.args.self.now.settings c.args.self.now.journal c.args.apid ≡ items_for c.args.apid (rings_in c.self.inside.queues.items) = rw (← c.self.view_is) (packets-wait c.args.apid c.self.invariant.holds) in
+    let w : waiting_packets_within (limit_of c.args.self.now.limits) c.args.self.now.settings c.args.self.now.journal c.args.apid ≡ items_for c.args.apid (rings_in (boxed_slice_items c.self.inside.queues)) = rw (← c.self.view_is) (packets-wait c.args.apid c.self.invariant.holds) in
     rw w (grind (arith, common_steps))
 
 pub returns-in_err-count-clause-no_room : goal.returns-in_err-count-clause-no_room
 returns-in_err-count-clause-no_room g c =
-    let w : waiting_packets_within (limit_of c.args.self.now.limits) c.args.self.now.settings c.args.self.now.journal c.args.apid ≡ items_for c.args.apid (rings_in c.self.inside.queues.items) = rw (← c.self.view_is) (packets-wait c.args.apid c.self.invariant.holds) in
+    let w : waiting_packets_within (limit_of c.args.self.now.limits) c.args.self.now.settings c.args.self.now.journal c.args.apid ≡ items_for c.args.apid (rings_in (boxed_slice_items c.self.inside.queues)) = rw (← c.self.view_is) (packets-wait c.args.apid c.self.invariant.holds) in
     rw w (grind (arith, common_steps))
 
 pub invariant_of-self-2 : goal.invariant_of-self-2
 invariant_of-self-2 g c =
-    let item = laid-item (oldest_for c.args.apid (rings_in c.self.inside.queues.items)) c.in_ok-count.count _ _ c.in_ok-count.ensures.item in
+    let item = laid-item (oldest_for c.args.apid (rings_in (boxed_slice_items c.self.inside.queues))) c.in_ok-count.count _ _ c.in_ok-count.ensures.item in
     let e : g.N.Noted.noted c.note.new.self ≡ (g.N.Noted.noted c.self.inside.journal) ++ Take c.args.apid ∷ [] = grind (arith, common_steps) steps 500000 in
-    rw e (packet-taken c.take_from.new.queues.items c.args.apid item.0 c.self.invariant item.1 c.in_ok-count.ensures.queues c.take_from.ensures.sizes c.take_from.ensures.settled)
+    rw e (packet-taken (boxed_slice_items c.take_from.new.queues) c.args.apid item.0 c.self.invariant item.1 c.in_ok-count.ensures.queues c.take_from.ensures.sizes c.take_from.ensures.settled)
 
 pub returns-clause-no_queue : goal.returns-clause-no_queue
 returns-clause-no_queue g c =
-    let w : waiting_packets_within (limit_of c.args.self.now.limits) c.args.self.now.settings c.args.self.now.journal c.args.apid ≡ items_for c.args.apid (rings_in c.self.inside.queues.items) = rw (← c.self.view_is) (packets-wait c.args.apid c.self.invariant.holds) in
+    let w : waiting_packets_within (limit_of c.args.self.now.limits) c.args.self.now.settings c.args.self.now.journal c.args.apid ≡ items_for c.args.apid (rings_in (boxed_slice_items c.self.inside.queues)) = rw (← c.self.view_is) (packets-wait c.args.apid c.self.invariant.holds) in
     rw w (grind (arith, common_steps))
 
 pub returns-clause-empty : goal.returns-clause-empty
 returns-clause-empty g c =
-    let w : waiting_packets_within (limit_of c.args.self.now.limits) c.args.self.now.settings c.args.self.now.journal c.args.apid ≡ items_for c.args.apid (rings_in c.self.inside.queues.items) = rw (← c.self.view_is) (packets-wait c.args.apid c.self.invariant.holds) in
+    let w : waiting_packets_within (limit_of c.args.self.now.limits) c.args.self.now.settings c.args.self.now.journal c.args.apid ≡ items_for c.args.apid (rings_in (boxed_slice_items c.self.inside.queues)) = rw (← c.self.view_is) (packets-wait c.args.apid c.self.invariant.holds) in
     rw w (grind (arith, common_steps))
 
 pub returns-clause-no_room : goal.returns-clause-no_room
 returns-clause-no_room g c =
-    let w : waiting_packets_within (limit_of c.args.self.now.limits) c.args.self.now.settings c.args.self.now.journal c.args.apid ≡ items_for c.args.apid (rings_in c.self.inside.queues.items) = rw (← c.self.view_is) (packets-wait c.args.apid c.self.invariant.holds) in
+    let w : waiting_packets_within (limit_of c.args.self.now.limits) c.args.self.now.settings c.args.self.now.journal c.args.apid ≡ items_for c.args.apid (rings_in (boxed_slice_items c.self.inside.queues)) = rw (← c.self.view_is) (packets-wait c.args.apid c.self.invariant.holds) in
     rw w (grind (arith, common_steps))
 
 pub returns-clause-reply : goal.returns-clause-reply
 returns-clause-reply g c =
-    let w : waiting_packets_within (limit_of c.args.self.now.limits) c.args.self.now.settings c.args.self.now.journal c.args.apid ≡ items_for c.args.apid (rings_in c.self.inside.queues.items) = rw (← c.self.view_is) (packets-wait c.args.apid c.self.invariant.holds) in
+    let w : waiting_packets_within (limit_of c.args.self.now.limits) c.args.self.now.settings c.args.self.now.journal c.args.apid ≡ items_for c.args.apid (rings_in (boxed_slice_items c.self.inside.queues)) = rw (← c.self.view_is) (packets-wait c.args.apid c.self.invariant.holds) in
     rw w (grind (arith, common_steps))

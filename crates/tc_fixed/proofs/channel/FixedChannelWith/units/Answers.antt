@@ -1,4 +1,5 @@
 use Rattle.std.proofs.Common.{◌≡◌, arith}
+use Rattle.std.specs.Box.{boxed_slice_items}
 use Rattle.std.proofs.lemmas.Grind.{common_steps}
 use Rattle.tc_channel.specs.Reply.{waiting_units_within}
 use Rattle.tc_channel.specs.HeldQueues.{items_for}
@@ -9,10 +10,10 @@ use Rattle.tc_fixed.proofs.channel.FixedChannelWith.units.Goals as goal
 
 pub returns-in_err-find-clause-count : goal.returns-in_err-find-clause-count
 returns-in_err-find-clause-count g c =
-    let w : waiting_units_within (limit_of c.args.self.now.limits) c.args.self.now.settings c.args.self.now.journal c.args.map ≡ items_for c.args.map (rings_in c.self.inside.units.items) = rw (← c.self.view_is) (units-wait c.args.map c.self.invariant.holds) in
+    let w : waiting_units_within (limit_of c.args.self.now.limits) c.args.self.now.settings c.args.self.now.journal c.args.map ≡ items_for c.args.map (rings_in (boxed_slice_items c.self.inside.units)) = rw (← c.self.view_is) (units-wait c.args.map c.self.invariant.holds) in
     rw w (grind (arith, common_steps))
 
 pub returns-clause-count : goal.returns-clause-count
 returns-clause-count g c =
-    let w : waiting_units_within (limit_of c.args.self.now.limits) c.args.self.now.settings c.args.self.now.journal c.args.map ≡ items_for c.args.map (rings_in c.self.inside.units.items) = rw (← c.self.view_is) (units-wait c.args.map c.self.invariant.holds) in
+    let w : waiting_units_within (limit_of c.args.self.now.limits) c.args.self.now.settings c.args.self.now.journal c.args.map ≡ items_for c.args.map (rings_in (boxed_slice_items c.self.inside.units)) = rw (← c.self.view_is) (units-wait c.args.map c.self.invariant.holds) in
     rw w (grind (arith, common_steps))
