@@ -9,7 +9,7 @@ use Rattle.tc_channel.specs.HeldQueues.{keys_of, room_in, longer, shorter, poppe
 use Rattle.tc_channel.specs.declared.queues.HeldQueue.{HeldQueue}
 use Rattle.tc_channel.proofs.Copies.{put-set, longer-fits}
 use Rattle.tc_channel.proofs.Takes.{popped-at}
-use Rattle.tc_rooms.specs.Rooms.{Slotted, slotted, IsLaidBehind}
+use Rattle.tc_rooms.specs.Rooms.{slotted, IsLaidBehind}
 use Rattle.tc_queues.specs.Keyed.{Keyed, ring_in, rings_in, laid_in, all_laid_in, room_sizes, Fit, AreSettled, settled, let_go}
 use Rattle.tc_queues.specs.Delivering.{room_at, IsPutAt}
 

@@ -1,23 +1,20 @@
 -- Packets that go into their queues one after the other.
-use Rattle.std.proofs.Common.{◌≡◌, ◌≢◌, ℕ, zero, suc, ◌+◌, ◌-◌, ◌<◌, ◌≤◌, Bool, true, false, cond, eqb, List, [], ◌∷◌, ◌++◌, length, map, take, drop, get_or, Some, None, refl, sym, ap, subst, ◌∙◌, arith}
+use Rattle.std.proofs.Common.{◌≡◌, ◌≢◌, ℕ, zero, suc, ◌+◌, ◌-◌, ◌<◌, ◌≤◌, Bool, true, false, cond, eqb, List, [], ◌∷◌, ◌++◌, length, map, drop, get_or, Some, None, refl, sym, ap, subst, ◌∙◌, arith}
 use Rattle.std.specs.Prelude.{is_some}
 use Rattle.std.specs.List.{AllByRecursion}
 use Rattle.std.proofs.Math.ListN.{set}
 use Rattle.std.proofs.lemmas.Bool.{eq-eqb, ne_eqb}
-use Rattle.std.proofs.lemmas.List.{length-append, length-map, map-set, get_or-map, get_or_default, set-get_or}
+use Rattle.std.proofs.lemmas.List.{length-append, length-map, get_or-map, get_or_default}
 use Rattle.tc_packet.specs.SpacePacket.{packets_of, joined}
 use Rattle.tc_channel.specs.Admission.{is_for, is_of_map}
 use Rattle.tc_channel.specs.Reply.{delivered}
-use Rattle.tc_channel.specs.HeldQueues.{keys_of, AreDistinct, room_in, share, longer, shorter, popped, put, copied_to, copies_from, queue_for}
+use Rattle.tc_channel.specs.HeldQueues.{keys_of, AreDistinct, room_in, share, put, copied_to, copies_from, queue_for}
 use Rattle.tc_channel.specs.declared.queues.HeldQueue.{HeldQueue}
 use Rattle.tc_channel.specs.declared.reply.Delivery.{Delivery}
-use Rattle.tc_channel.proofs.Copies.{put-set, put_all-push, length-put_all, longer-fits}
+use Rattle.tc_channel.proofs.Copies.{put_all-push, length-put_all}
 use Rattle.tc_channel.proofs.Passes.{NoneFor, under-way, none-on, full-on, copy-on, as-many, all-shared}
-use Rattle.tc_channel.proofs.Takes.{popped-at}
 use Rattle.tc_channel.proofs.Wholes.{take-nil, takes-one, takes-none, packets-planned, whole-planned, nothing-planned}
-use Rattle.tc_rooms.specs.Rooms.{slotted}
 use Rattle.tc_queues.specs.Delivering.{room_at, IsOnItsWay, ArePut, IsPutWhole, IsDelivered}
-use Rattle.tc_queues.specs.Keyed.{Keyed}
 
 pub keys-put : (ws : List HeldQueue) (i : ℕ) (p : List ℕ) → keys_of (put ws i p) ≡ keys_of ws
 keys-put [] i p = refl

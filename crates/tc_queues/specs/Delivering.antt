@@ -1,6 +1,5 @@
 -- What the queues take of a unit, packet by packet.
-use Rattle.std.specs.Prelude.{◌≡◌, ◌≤◌, ℕ, ◌+◌, is_some, List, ◌∷◌, [], length, map, get_or, ◌<◌, Bool, true, false, Option, Some}
-use Rattle.std.specs.List.{AllByRecursion}
+use Rattle.std.specs.Prelude.{◌≡◌, ℕ, ◌+◌, is_some, List, ◌∷◌, [], length, map, get_or, ◌<◌, Bool, true, false, Option, Some}
 use Rattle.tc_packet.specs.SpacePacket.{packets_of}
 use Rattle.tc_channel.specs.Admission.{is_for, is_of_map, packets_offered, units_offered}
 use Rattle.tc_channel.specs.Reply.{delivered}

@@ -38,6 +38,7 @@ pub turned-set : (first count places : ℕ) (rooms : List Laid) (x : Laid) → l
 turned-set first count places rooms x long inside lt = by (nat_lt count (places - first)) refl where
   after : length (drop first rooms) ≡ places - first
   after = omega (arith, length-drop first rooms)
+
   by : (t : Bool) → nat_lt count (places - first) ≡ t → turned first (set rooms (cond t (first + count) (count - (places - first))) x) ≡ set (turned first rooms) count x
   by true e =
       let near : count < places - first = grind (arith, nat_tests) in
@@ -112,6 +113,7 @@ turned-next : (first places : ℕ) (rooms : List Laid) (d : Laid) → length roo
 turned-next first places rooms d long inside = by (nat_lt (first + 1) places) refl where
   round : drop (first + 1) rooms ++ take (first + 1) rooms ≡ (drop (first + 1) rooms ++ take first rooms) ++ get_or rooms first d ∷ []
   round = rw (take_more rooms first d (omega arith)) (sym (append_assoc (drop (first + 1) rooms) (take first rooms) (get_or rooms first d ∷ [])))
+
   by : (t : Bool) → nat_lt (first + 1) places ≡ t → turned (cond t (first + 1) 0) rooms ≡ (drop (first + 1) rooms ++ take first rooms) ++ get_or rooms first d ∷ []
   by true e = round
   by false e =
@@ -132,8 +134,14 @@ popped-seen places first (suc waiting) count size rooms x long inside some withi
     let t : turned (if nat_lt (first + 1) places then first + 1 else 0) (set rooms first x) ≡ u ++ get_or (set rooms first x) first x ∷ [] =
     next ∙ rw (kept, take-set rooms first x) refl in
     let d = length-drop waiting u in
-    rw (e, t, drop_more rooms first x (omega arith), take-append-le waiting u (get_or (set rooms first x) first x ∷ []) (omega arith), drop-append-le waiting u (get_or (set rooms first x) first x ∷ []) (omega arith),
-    take-append-le count (drop waiting u) (get_or (set rooms first x) first x ∷ []) (omega arith)) refl
+    rw (
+      e,
+      t,
+      drop_more rooms first x (omega arith),
+      take-append-le waiting u (get_or (set rooms first x) first x ∷ []) (omega arith),
+      drop-append-le waiting u (get_or (set rooms first x) first x ∷ []) (omega arith),
+      take-append-le count (drop waiting u) (get_or (set rooms first x) first x ∷ []) (omega arith),
+    ) refl
 
 -- the newest room that was laid is written
 pub cleared-slots : (places first waiting count size at : ℕ) (rooms later : List Laid) → length rooms ≡ places → AreSlots places first waiting count size rooms → 0 < count

@@ -67,11 +67,7 @@ fn next_place(first: usize, places: usize) -> usize
     ensures place { result ≡ (if nat_lt (first + 1) places then first + 1 else 0) }
     ensures within { result < places }
 {
-    if first + 1 < places {
-        first + 1
-    } else {
-        0
-    }
+    if first + 1 < places { first + 1 } else { 0 }
 }
 
 // Copies octets into the room at this place.

@@ -23,9 +23,10 @@ pub returns-in-Ok-clause-unit_sizes : goal.returns-in-Ok-clause-unit_sizes
 returns-in-Ok-clause-unit_sizes g c = ap room_sizes c.settle-in-Ok.ensures ∙ sizes-settled (boxed_slice_items c.lay_unit.new.units) ∙ c.lay_unit.ensures.unit_sizes
 
 pub returns-in-Err-clause-refused : goal.returns-in-Err-clause-refused
-returns-in-Err-clause-refused g c =
-    (ap rings_in c.let_go.ensures ∙ rings-let_go (boxed_slice_items c.lay_unit.new.queues) ∙ c.lay_unit.ensures.rings,
-    ap rings_in c.let_go-in-Err.ensures ∙ rings-let_go (boxed_slice_items c.lay_unit.new.units) ∙ c.lay_unit.ensures.unit_rings)
+returns-in-Err-clause-refused g c = (
+  ap rings_in c.let_go.ensures ∙ rings-let_go (boxed_slice_items c.lay_unit.new.queues) ∙ c.lay_unit.ensures.rings,
+  ap rings_in c.let_go-in-Err.ensures ∙ rings-let_go (boxed_slice_items c.lay_unit.new.units) ∙ c.lay_unit.ensures.unit_rings,
+)
 
 pub returns-in-Err-clause-settled : goal.returns-in-Err-clause-settled
 returns-in-Err-clause-settled g c = subst AreSettled (sym c.let_go.ensures) (all-let_go (boxed_slice_items c.lay_unit.new.queues))

@@ -1,4 +1,3 @@
-use Rattle.std.proofs.Common.{◌≡◌, ◌-◌, length, drop, take}
 use Rattle.std.proofs.lemmas.List.{take_rest}
 use Rattle.tc_queues.proofs.queues.deliver_ended.Goals as goal
 
@@ -24,4 +23,4 @@ pub deliver-requires-in-Joined-clause-units_fit : goal.deliver-requires-in-Joine
 deliver-requires-in-Joined-clause-units_fit g c = rw (c.in-Joined.is, ← c.joined.ensures) at c.requires.units_fit
 
 pub returns-in-Joined-clause-delivered : goal.returns-in-Joined-clause-delivered
-returns-in-Joined-clause-delivered g c = rw (c.in-Joined.is, ← c.joined.ensures) c.deliver.ensures.delivered
+returns-in-Joined-clause-delivered g c = rw (c.in-Joined.is, ← c.joined.ensures) c.deliver-in-Joined.ensures.delivered

@@ -1,7 +1,7 @@
-use Rattle.std.proofs.Common.{◌≡◌, ◌<◌, length, refl, sym, arith}
+use Rattle.std.proofs.Common.{◌<◌, length, refl, arith}
 use Rattle.std.specs.Box.{boxed_slice_items}
 use Rattle.std.proofs.lemmas.List.{length-map}
-use Rattle.tc_queues.specs.Keyed.{ring_in, rings_in, all_laid_in}
+use Rattle.tc_queues.specs.Keyed.{ring_in, rings_in}
 use Rattle.tc_queues.proofs.InRooms.{laid-none}
 use Rattle.tc_queues.proofs.Ways.{put-whole, put-none}
 use Rattle.tc_queues.proofs.queues.put_whole.Goals as goal

@@ -1,6 +1,5 @@
-use Rattle.std.proofs.Common.{◌≡◌, ◌-◌, length, map, ◌∙◌, subst, sym, ap, arith}
+use Rattle.std.proofs.Common.{◌≡◌, ◌-◌, length, map, ◌∙◌, subst, sym, ap}
 use Rattle.std.specs.Box.{boxed_slice_items}
-use Rattle.std.proofs.lemmas.Grind.{common_steps}
 use Rattle.std.proofs.lemmas.List.{length-map}
 use Rattle.tc_rooms.specs.Rooms.{AreSlots}
 use Rattle.tc_rooms.proofs.Turned.{cleared-slots}
