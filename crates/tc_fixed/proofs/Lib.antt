@@ -1,5 +1,5 @@
 pub mod Sizes
 pub mod Inside
-pub mod Taking
+pub mod Oldest
 pub mod Within
 pub mod ByMap

@@ -27,18 +27,18 @@ deliver_ended-requires-clause-units_fit c =
 
 pub returns-clause-follows : goal.returns-clause-follows
 returns-clause-follows c =
-    let at : place_of c.args.service c.read_segment.result.map ≡ stream_place c.args.service c.args.field.now = grind (arith, common_steps) in
-    settled-follows c.args.reassembler.now c.lay.new.self c.settle.new.self c.unwrap-ended.result c.args.service c.args.field.now (place_of c.args.service c.read_segment.result.map) at c.settle.ensures
+    let at : place_of c.args.service c.read_segment-map.result.map ≡ stream_place c.args.service c.args.field.now = grind (arith, common_steps) in
+    settled-follows c.args.reassembler.now c.lay.new.self c.settle.new.self c.unwrap-ended.result c.args.service c.args.field.now (place_of c.args.service c.read_segment-map.result.map) at c.settle.ensures
     c.lay.ensures.segmented c.lay.ensures.limits (λ fields left. rw c.unwrap-ended.ensures at c.lay.ensures.run fields left) c.lay.ensures.others
 
 pub returns-clause-limits : goal.returns-clause-limits
-returns-clause-limits c = λ place. rw c.settle.ensures (settled-limits c.lay.new.self c.unwrap-ended.result (place_of c.args.service c.read_segment.result.map) place ∙ c.lay.ensures.limits place)
+returns-clause-limits c = λ place. rw c.settle.ensures (settled-limits c.lay.new.self c.unwrap-ended.result (place_of c.args.service c.read_segment-map.result.map) place ∙ c.lay.ensures.limits place)
 
 pub returns-clause-segmented : goal.returns-clause-segmented
-returns-clause-segmented c = rw c.settle.ensures (settled-segmented c.lay.new.self c.unwrap-ended.result (place_of c.args.service c.read_segment.result.map) ∙ c.lay.ensures.segmented)
+returns-clause-segmented c = rw c.settle.ensures (settled-segmented c.lay.new.self c.unwrap-ended.result (place_of c.args.service c.read_segment-map.result.map) ∙ c.lay.ensures.segmented)
 
 pub returns-clause-delivered : goal.returns-clause-delivered
 returns-clause-delivered c =
-    let map : c.read_segment.result.map ≡ map_of c.args.field.now = grind (arith, common_steps) in
+    let map : c.read_segment-map.result.map ≡ map_of c.args.field.now = grind (arith, common_steps) in
     (unit_in c.unwrap-ended.result c.lay.new.self c.args.field.now, (λ fields left. rw c.unwrap-ended.ensures at c.lay.ensures.unit fields left),
     rw (← map) (rw c.unwrap-delivery.ensures at c.deliver_ended.ensures.delivered))

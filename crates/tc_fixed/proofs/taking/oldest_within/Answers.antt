@@ -1,6 +1,6 @@
 use Rattle.std.proofs.Common.{refl}
 use Rattle.tc_queues.specs.Keyed.{ring_in, rings_in}
-use Rattle.tc_fixed.proofs.Taking.{missing, empty, none-over}
+use Rattle.tc_fixed.proofs.Oldest.{missing, empty, none-over}
 use Rattle.tc_fixed.proofs.taking.oldest_within.Goals as goal
 
 pub returns-in_default-clause-no_queue : goal.returns-in_default-clause-no_queue
@@ -21,5 +21,5 @@ returns-in_default-clause-no_room c =
 
 pub returns-in_default-front-clause-empty : goal.returns-in_default-front-clause-empty
 returns-in_default-front-clause-empty c =
-    let e = empty c.args.key (rings_in c.args.queues.now) (ring_in c.in-Some.queue.now) (rw c.in-Some.is at c.find.ensures) (rw c.in_default-front.is at c.front.ensures.item) in
+    let e = empty c.args.key (rings_in c.args.queues.now) (ring_in c.in-Some.queue.now) (rw c.in-Some.is at c.find.ensures) (rw c.in_default-front.is at c.front.ensures) in
     (λ _. e.items, λ _. refl)
