@@ -334,11 +334,7 @@ impl<N: Noted> FixedChannelWith<N> {
 }
 
 // The open runs of a channel that starts. A plain data field is a unit by itself, with the limit of the MAPs that aren't listed.
-fn open_none(
-    alloc: Global,
-    segmented: bool,
-    limits: &Limits,
-) -> Result<Runs<FixedRoom>, AllocError>
+fn open_none(alloc: Global, segmented: bool, limits: &Limits) -> Result<Runs<FixedRoom>, AllocError>
     requires others { IsOthers limits.now.others segmented }
     requires octets { HaveOctets limits.now.maps }
     requires by_headers { HasMapsByHeaders limits.now.maps segmented }

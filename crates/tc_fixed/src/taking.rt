@@ -47,8 +47,12 @@ pub(crate) fn empty_unit_queues(
 {
     let mut units = Vec::with_capacity(alloc, maps.len())?;
     for chosen in maps {
-        let queue: FixedQueue =
-            Queue::with_capacity(alloc, chosen.map as u16, chosen.capacity, size)?;
+        let queue: FixedQueue = Queue::with_capacity(
+            alloc,
+            chosen.map as u16,
+            chosen.capacity,
+            size,
+        )?;
         units.push_reserved(queue);
     }
     Ok(units)

@@ -39,6 +39,8 @@ returns-clause-segmented c = rw c.settle.ensures (settled-segmented c.lay.new.se
 
 pub returns-clause-delivered : goal.returns-clause-delivered
 returns-clause-delivered c =
-    let map : c.read_segment-map.result.map ≡ map_of c.args.field.now = grind (arith, common_steps) in
-    (unit_in c.unwrap-ended.result c.lay.new.self c.args.field.now, (λ fields left. rw c.unwrap-ended.ensures at c.lay.ensures.unit fields left),
-    rw (← map) (rw c.unwrap-delivery.ensures at c.deliver_ended.ensures.delivered))
+    let map : c.read_segment-map.result.map ≡ map_of c.args.field.now = grind (arith, common_steps) in (
+      unit_in c.unwrap-ended.result c.lay.new.self c.args.field.now,
+      (λ fields left. rw c.unwrap-ended.ensures at c.lay.ensures.unit fields left),
+      rw (← map) (rw c.unwrap-delivery.ensures at c.deliver_ended.ensures.delivered),
+    )
