@@ -1,0 +1,119 @@
+"""The kit's prover over crates of this tree: checks/refuse_edits has it try edits, and checks/no_growth texts that can't be compiled."""
+import shutil
+import subprocess
+import tempfile
+from pathlib import Path
+
+from wrong_bodies import GIVEN_FILE, SOURCES, TOP, Crate, Fault, Trial
+
+
+def run(words: list[str], folder: Path) -> tuple[int, str]:
+    """Runs a command in a folder, and returns its status and what it printed."""
+    ran = subprocess.run(words, cwd=folder, stdin=subprocess.DEVNULL, stdout=subprocess.PIPE, stderr=subprocess.STDOUT, text=True, errors="replace",
+                         check=False)
+    return ran.returncode, ran.stdout
+
+
+class Prover:
+    """Checks crates by the kit's `rattle`, over the libraries that stand in a tree."""
+
+    def __init__(self, crates: dict[str, Crate], room: Path):
+        self.crates = crates
+        self.tree = TOP
+        self.room = room
+        # The kit has the page that `rt doc` names at its top.
+        status, printed = run(["rt", "doc"], TOP)
+        if status:
+            raise Fault(f"rt doc: {printed}")
+        self.kit = Path(printed.strip()).parent
+
+    def below(self, crate: Crate) -> list[Crate]:
+        """All crates of the repository that a crate stands on."""
+        names = {it for it in crate.named if it in self.crates}
+        names |= {deeper.name for it in names for deeper in self.below(self.crates[it])}
+        return [it for it in self.crates.values() if it.name in names]
+
+    def all_below(self, chosen: list[Crate]) -> list[Crate]:
+        """All crates that the chosen ones stand on, in the order of crates.txt."""
+        names = {below.name for it in chosen for below in self.below(it)}
+        return [it for it in self.crates.values() if it.name in names]
+
+    def build_below(self, chosen: list[Crate]) -> None:
+        """Builds the libraries that the crates stand on, where that wasn't done."""
+        for it in self.all_below(chosen):
+            status, printed = run(["rt", "lib"], it.folder)
+            if status:
+                raise Fault(f"{it.name} isn't proved:\n{printed}")
+
+    def take_below(self, chosen: list[Crate], since: Path) -> None:
+        """Takes the libraries that `rt ci` has left in the tree since the file was written. Where a developer's own checks had
+        left some before, `rt ci` has put these back in their place: then all are taken in a copy."""
+        below, begun = self.all_below(chosen), since.stat().st_mtime
+        if all(self.library(it).is_dir() and self.library(it).stat().st_mtime >= begun for it in below):
+            return
+        self.tree = self.room / "tree"
+        for it in below:
+            for part in SOURCES:
+                if (it.folder / part).is_dir():
+                    shutil.copytree(it.folder / part, self.tree / "crates" / it.name / part)
+        (self.tree / "crates.txt").write_text("".join(f"{it.line}\n" for it in below), encoding="utf-8")
+        shutil.copy(TOP / "HANDLES", self.tree)
+        status, printed = run(["rt", "ci"], self.tree)
+        if status:
+            raise Fault(f"the libraries below aren't proved:\n{printed}")
+
+    def library(self, crate: Crate) -> Path:
+        """Where a crate's library stands."""
+        return self.tree / "crates" / crate.name / "out" / "rlib" / f"{crate.name}.rlib"
+
+    def kept(self, crate: Crate) -> Path:
+        """Where what was proved of a crate stands."""
+        return self.room / crate.name
+
+    def rattle(self, verb: str, crate: Crate, folder: Path, kept: Path, more: list[str]) -> tuple[int, str]:
+        """Checks or builds a crate in a folder over what is kept of its proofs."""
+        words = [str(self.kit / "bin" / "rattle"), verb, "--crate-name", crate.name, crate.root]
+        of_kit = ["std", *(it for it in crate.named if it not in self.crates)]
+        of_ours = [self.crates[it] for it in crate.named if it in self.crates]
+        libraries = {it: self.kit / "rlibs" / f"{it}.rlib" for it in of_kit} | {it.name: self.library(it) for it in of_ours}
+        words += [word for name, place in libraries.items() for word in ("--extern", f"{name}={place}")]
+        folders = [self.kit / "rlibs", *(self.library(it).parent for it in self.below(crate))]
+        words += [word for it in folders for word in ("-L", f"dependency={it}")]
+        words += ["--antt-project", str(self.kit / "rattle" / "logic" / "antt-project.json")]
+        # What declares a foreign function is to name what defines it.
+        defined = "nothing" if (folder / GIVEN_FILE).is_file() else ""
+        words += ["--logic-built", str(self.kit / "logic_built"), "--links", f"{crate.name}={defined}"]
+        words += ["--crate-type", "staticlib"] if crate.is_static else []
+        return run([*words, "--incremental", str(kept), *more], folder)
+
+    def try_edits(self, crate: Crate, trial: Trial, is_first: bool, is_whole: bool, jobs: int) -> str:
+        """What the check of a copy of a crate with edits in it prints: the first one, which keeps what it proves, or a later
+        one over what is kept; of the whole crate, or of the wrong bodies and what they call."""
+        with tempfile.TemporaryDirectory(prefix="edits-", dir=self.room) as room:
+            for part in SOURCES:
+                if (crate.folder / part).is_dir():
+                    shutil.copytree(crate.folder / part, Path(room) / part)
+            for file in trial.gone:
+                (Path(room) / file).unlink()
+            for file, text in trial.files.items():
+                (Path(room) / file).parent.mkdir(parents=True, exist_ok=True)
+                (Path(room) / file).write_text(text, encoding="utf-8")
+            kept = self.kept(crate)
+            if not is_first:
+                kept = Path(room) / "kept"
+                shutil.copytree(self.kept(crate), kept)
+            only = [] if is_whole else [word for it in trial.paths for word in ("--only", it)]
+            return self.rattle("check", crate, Path(room), kept, ["--jobs", str(jobs), *only])[1]
+
+    def build_archive(self, crate: Crate, jobs: int) -> str:
+        """Builds a static library over what its first check proved, and returns why it can't be built, if so."""
+        made = crate.folder / "out" / f"lib{crate.name}.a"
+        made.parent.mkdir(exist_ok=True)
+        more = ["--jobs", str(jobs), "--toolchain", str(self.kit / "toolchain"), "--backend", "llvm", "-o", str(made)]
+        status, printed = self.rattle("build", crate, crate.folder, self.kept(crate), more)
+        # The library for other machines takes proofs of its own over these (tools/target).
+        if not status:
+            kept = made.parent / "targets" / "incremental"
+            shutil.rmtree(kept, ignore_errors=True)
+            shutil.copytree(self.kept(crate), kept)
+        return printed if status else ""
