@@ -1,5 +1,5 @@
 -- What the receiving end gives.
-use Rattle.std.proofs.Common.{◌≡◌, ℕ, zero, suc, ◌+◌, ◌*◌, ◌/◌, ◌<◌, ◌≤◌, Bool, true, false, List, [], ◌∷◌, ◌++◌, Option, Some, None, bit_xor, length, length-append, append_assoc, get_or, take, set, drop, drop-cons, add-one, nat_lt, if◌then◌else◌, subst, refl, ap, sym, ◌∙◌, arith, inl, inr}
+use Rattle.std.proofs.Common.{◌≡◌, ℕ, zero, suc, ◌+◌, ◌*◌, ◌/◌, ◌<◌, ◌≤◌, Bool, true, false, List, [], ◌∷◌, ◌++◌, Option, Some, None, bit_xor, length, length-append, append_assoc, add_assoc, get_or, take, set, drop, drop-cons, add-one, is_some, nat_lt, if◌then◌else◌, subst, refl, ap, sym, ◌∙◌, arith, inl, inr}
 use Rattle.std.proofs.lemmas.Bool.{le-ltb, lt-ltb, cases_lt}
 use Rattle.std.proofs.lemmas.Bool.Decides.{nat_tests}
 use Rattle.std.proofs.lemmas.List.{append-nil, append_cancel_right, drop_all, length-take-le, take_more, take-append-drop}
@@ -7,8 +7,9 @@ use lib.Bits.{xor_self}
 use Rattle.tc_cltu.specs.Bits.{IsOctets, octet_bits}
 use Rattle.tc_cltu.specs.CodeBlock.{IsInformation, parity_of, times_x, code_block, decoded, turned}
 use Rattle.tc_cltu.specs.Cltu.{cltu, start_sequence, tail_sequence, code_blocks, fill, filled, fault_of}
-use Rattle.tc_cltu.specs.Reception.{Receiver, Reception, Searching, Decoding, Step, is_start, step, after_block, fate_in, fate_of, state_after, frames_of, HasNoStart, IsSearching, IsReception, idle}
+use Rattle.tc_cltu.specs.Reception.{Receiver, Reception, Searching, Decoding, Step, is_start, step, after_block, rejected_as, fate_in, fate_of, counted_in, state_after, frames_of, HasNoStart, IsSearching, IsReception, idle}
 use Rattle.tc_cltu.specs.declared.block.Fate.{Fate}
+use Rattle.tc_cltu.specs.declared.block.Fate.TheVariants.{Right, Corrected}
 use Rattle.tc_cltu.specs.declared.block.Mode.{Mode}
 use Rattle.tc_cltu.specs.declared.block.Mode.TheVariants.{Detect, Correct}
 use Rattle.tc_cltu.proofs.Words.{AreOctets, are-octets, is-octets, parity-fits}
@@ -364,6 +365,11 @@ found-after-idle mode room state before frame rest short each some fits =
     ∙ ap (λ (fs : List (List ℕ)). frames_of mode room state (before ++ idle 15) ++ fs) (search-given mode room (state_after mode room state (before ++ idle 15)) frame rest back each some fits)
 
 -- ---- the decoder's own step
+pub corrected-fate : (mode : Mode) (block information : List ℕ) → decoded Detect block ≡ None → decoded mode block ≡ Some information → Corrected ≡ fate_in mode block
+corrected-fate mode block information wrong taken =
+    sym (ap (λ (o : Option (List ℕ)). if is_some o then Right else if is_some (decoded mode block) then Corrected else rejected_as block) wrong
+    ∙ ap (λ (o : Option (List ℕ)). if is_some o then Corrected else rejected_as block) taken)
+
 set-last : (block : List ℕ) (octet : ℕ) → length block ≡ 8 → (set block 7 octet ≡ take 7 block ++ octet ∷ []) × (length (take 7 block) ≡ 7)
 set-last (a ∷ b ∷ c ∷ d ∷ e ∷ f ∷ g ∷ h ∷ []) octet l = (refl, refl)
 set-last [] octet l = absurd (omega arith)
@@ -428,6 +434,24 @@ fed-frames mode was room i os state next out more target less same_mode is given
     ∙ ap (λ (s : Reception). out ++ (step was room state o).1 ++ frames_of was room s (drop (i + 1) os)) (is ∙ ap (λ (m : Mode). (step m room state o).0) same_mode)
     ∙ append_assoc out (step was room state o).1 (frames_of was room (step was room state o).0 (drop (i + 1) os))
     ∙ sym (ap (λ (x : List ℕ). out ++ frames_of was room state x) (more-drop os i less)) ∙ h
+
+-- one code block more is counted
+pub fed-counted : (count : Option Fate → ℕ) (mode was : Mode) (room i : ℕ) (os : List ℕ) (state next : Reception) (n k target : ℕ) → i < length os → mode ≡ was
+    → next ≡ (step mode room state (get_or os i 0)).0 → k ≡ count (fate_of mode state (get_or os i 0))
+    → n + counted_in count was room state (drop i os) ≡ target → n + k + counted_in count was room next (drop (i + 1) os) ≡ target
+fed-counted count mode was room i os state next n k target less same is now h =
+    let o = get_or os i 0 in
+    let rest = drop (i + 1) os in
+    ap (λ (x : ℕ). n + x + counted_in count was room next rest) (now ∙ ap (λ (m : Mode). count (fate_of m state o)) same)
+    ∙ ap (λ (s : Reception). n + count (fate_of was state o) + counted_in count was room s rest) (is ∙ ap (λ (m : Mode). (step m room state o).0) same)
+    ∙ add_assoc n (count (fate_of was state o)) (counted_in count was room (step was room state o).0 rest)
+    ∙ sym (ap (λ (x : List ℕ). n + counted_in count was room state x) (more-drop os i less)) ∙ h
+
+pub fed-all-counted : (count : Option Fate → ℕ) (was : Mode) (room i : ℕ) (os : List ℕ) (state : Reception) (n target : ℕ) → length os ≤ i
+    → n + counted_in count was room state (drop i os) ≡ target → n ≡ target
+fed-all-counted count was room i os state n target past h =
+    let none : counted_in count was room state (drop i os) ≡ 0 = ap (counted_in count was room state) (drop_all i os past) in
+    omega (arith, none, h)
 
 pub fed-all-state : (was : Mode) (room i : ℕ) (os : List ℕ) (state target : Reception) → length os ≤ i → state_after was room state (drop i os) ≡ target → state ≡ target
 fed-all-state was room i os state target past h = sym (ap (state_after was room state) (drop_all i os past)) ∙ h

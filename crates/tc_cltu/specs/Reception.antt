@@ -49,18 +49,41 @@ abbrev pub frames_of : Mode → ℕ → Reception → List ℕ → List (List �
 frames_of mode room state [] = []
 frames_of mode room state (octet ∷ octets) = (step mode room state octet).1 ++ frames_of mode room (step mode room state octet).0 octets
 
--- what becomes of a code block
+-- what becomes of a code block: of one that isn't taken, and of any
+abbrev pub rejected_as : List ℕ → Fate
+rejected_as block = if pointwise nat_eq block tail_sequence then Tail else Rejected
+
 abbrev pub fate_in : Mode → List ℕ → Fate
 fate_in mode block =
     if is_some (decoded Detect block) then Right
     else if is_some (decoded mode block) then Corrected
-    else if pointwise nat_eq block tail_sequence then Tail
-    else Rejected
+    else rejected_as block
 
 -- what becomes of the code block that an octet ends, if it ends one
 abbrev pub fate_of : Mode → Reception → ℕ → Option Fate
 fate_of mode (Searching last) octet = None
 fate_of mode (Decoding frame block) octet = if nat_lt (length block) 7 then None else Some (fate_in mode (block ++ octet ∷ []))
+
+abbrev pub corrections_of : Option Fate → ℕ
+corrections_of (Some Corrected) = 1
+corrections_of _ = 0
+
+abbrev pub rejections_of : Option Fate → ℕ
+rejections_of (Some Rejected) = 1
+rejections_of _ = 0
+
+-- the sum over the code blocks that end in the octets, each counted by what becomes of it
+abbrev pub counted_in : (Option Fate → ℕ) → Mode → ℕ → Reception → List ℕ → ℕ
+counted_in count mode room state [] = 0
+counted_in count mode room state (octet ∷ octets) =
+    count (fate_of mode state octet) + counted_in count mode room (step mode room state octet).0 octets
+
+-- how many code blocks are corrected, and how many are rejected that aren't the tail sequence
+abbrev pub corrected_in : Mode → ℕ → Reception → List ℕ → ℕ
+corrected_in mode room state octets = counted_in corrections_of mode room state octets
+
+abbrev pub rejected_in : Mode → ℕ → Reception → List ℕ → ℕ
+rejected_in mode room state octets = counted_in rejections_of mode room state octets
 
 -- what contracts see of a decoder: how it takes code blocks, where it is, and the octets of the blocks that it has taken since the last
 -- start sequence

@@ -1,9 +1,10 @@
 //! Code blocks.
 
-ghost use Rattle.std.specs.Prelude.{◌≡◌, ◌+◌, ◌<◌, ◌≤◌, ◌++◌, ◌∷◌, [], ℕ, List, Some, None, length, IfSome, MatchOption};
+ghost use Rattle.std.specs.Prelude.{◌≡◌, ◌≢◌, ◌+◌, ◌<◌, ◌≤◌, ◌++◌, ◌∷◌, [], ℕ, List, Some, None, length, IfSome, MatchOption};
 ghost use Rattle.tc_cltu.specs.Bits.{IsOctets};
 ghost use Rattle.tc_cltu.specs.CodeBlock.{parity_of, code_block, decoded, errors, most_errors, turned, IsInformation};
-ghost use Rattle.tc_cltu.specs.Reception.{fate_in};
+ghost use Rattle.tc_cltu.specs.Reception.{fate_in, rejected_as, corrections_of, rejections_of};
+ghost use Rattle.tc_cltu.specs.declared.block.Mode.TheVariants.{Detect};
 
 use crate::tables::{PLACES, REMAINDERS};
 use crate::writer::TAIL;
@@ -28,6 +29,14 @@ pub enum Fate {
     Tail,
     /// It is rejected, and isn't the tail sequence.
     Rejected,
+}
+
+/// What a code block came to.
+#[derive(Clone, Copy, Debug, PartialEq, Eq)]
+pub struct Judged {
+    pub fate: Fate,
+    /// The seven octets that it carries, where it is taken.
+    pub information: Option<[u8; 7]>,
 }
 
 // The seven parity bits over octets.
@@ -61,29 +70,61 @@ pub fn decode_block(block: [u8; 8], mode: Mode) -> Option<[u8; 7]>
     ensures refused { (information : List ℕ) → IsInformation information → most_errors mode < errors block information
         → errors block information + most_errors mode ≤ 3 → result ≡ None }
 {
+    read_block(block, mode).information
+}
+
+/// What becomes of a code block, and the seven octets that it carries where it is taken.
+pub fn judge(block: [u8; 8], mode: Mode) -> Judged
+    ensures fate { result.fate ≡ fate_in mode block }
+    ensures information { result.information ≡ decoded mode block }
+{
     read_block(block, mode)
 }
 
 // The same, and that the block is seven octets and one more.
-fn read_block(block: [u8; 8], mode: Mode) -> Option<[u8; 7]>
-    ensures decoded { result ≡ decoded mode block }
+fn read_block(block: [u8; 8], mode: Mode) -> Judged
+    ensures fate { result.fate ≡ fate_in mode block }
+    ensures decoded { result.information ≡ decoded mode block }
     ensures parts { (own : List ℕ) × (last : ℕ) × IsInformation own × (block ≡ own ++ last ∷ []) }
 {
     let [a, b, c, d, e, f, g, last] = block;
     let mut information = [a, b, c, d, e, f, g];
     match place_of_error(&information, last, mode) {
-        None => None,
+        None => Judged {
+            fate: rejection(block),
+            information: None,
+        },
+        Some(63) => Judged {
+            fate: Fate::Right,
+            information: Some(information),
+        },
         Some(place) => {
             turn(&mut information, place);
-            Some(information)
+            Judged {
+                fate: Fate::Corrected,
+                information: Some(information),
+            }
         }
     }
 }
 
-// Which bit of the seven octets and the last one of a block is to be turned: one past the octets where there is none.
+// What becomes of a block that isn't taken.
+fn rejection(block: [u8; 8]) -> Fate
+    ensures { result ≡ rejected_as block }
+{
+    if block.as_slice() == TAIL.as_slice() {
+        Fate::Tail
+    } else {
+        Fate::Rejected
+    }
+}
+
+// Which bit of the seven octets and the last one of a block is to be turned: one past the 63 where none is.
 fn place_of_error(own: &[u8], last: u8, mode: Mode) -> Option<u8>
     requires { length own.now ≡ 7 }
     ensures place { MatchOption result (decoded mode (own.now ++ last ∷ []) ≡ None) (λ place. decoded mode (own.now ++ last ∷ []) ≡ Some (turned own.now place)) }
+    ensures right { result ≡ Some 63 → decoded Detect (own.now ++ last ∷ []) ≡ Some own.now }
+    ensures wrong { result ≢ Some 63 → decoded Detect (own.now ++ last ∷ []) ≡ None }
     ensures each { IsInformation own.now }
 {
     let syndrome = parity(own) ^ (last >> 1);
@@ -110,17 +151,24 @@ fn turn(octets: &mut [u8], place: u8)
     octets[at] ^= 0x80 >> (place % 8);
 }
 
-/// What becomes of a code block.
-pub fn judge(block: [u8; 8], mode: Mode) -> Fate
-    ensures { result ≡ fate_in mode block }
+/// How many code blocks were corrected that an octet ended: one or none.
+pub fn corrections(fate: Option<Fate>) -> usize
+    ensures count { result ≡ corrections_of fate }
+    ensures one { result ≤ 1 }
 {
-    if decode_block(block, Mode::Detect).is_some() {
-        Fate::Right
-    } else if decode_block(block, mode).is_some() {
-        Fate::Corrected
-    } else if block.as_slice() == TAIL.as_slice() {
-        Fate::Tail
-    } else {
-        Fate::Rejected
+    match fate {
+        Some(Fate::Corrected) => 1,
+        _ => 0,
+    }
+}
+
+/// How many code blocks were rejected that an octet ended, and aren't the tail sequence: one or none.
+pub fn rejections(fate: Option<Fate>) -> usize
+    ensures count { result ≡ rejections_of fate }
+    ensures one { result ≤ 1 }
+{
+    match fate {
+        Some(Fate::Rejected) => 1,
+        _ => 0,
     }
 }

@@ -4,10 +4,24 @@ ghost use Rattle.std.specs.Prelude.{◌≡◌, ◌++◌, ◌∷◌, [], List, �
 ghost use Rattle.tc_cltu.specs.Cltu.{most_octets};
 ghost use Rattle.tc_cltu.specs.Reception.{Receiver, Searching, StopsShort, start_errors, is_start, step, state_after, frames_of, fate_of};
 
-use crate::block::{Fate, Mode, decode_block, judge};
+use crate::block::{Fate, Judged, Mode, judge};
 use crate::writer::{MOST_OCTETS, START};
 use std::alloc::{AllocError, Global};
 use std::marker::Model;
+
+/// What an octet of a stream came to.
+#[derive(Clone, Copy, Debug, PartialEq, Eq)]
+pub struct Fed {
+    /// What became of the code block that it ended.
+    pub fate: Option<Fate>,
+    /// Whether it ended a candidate frame, which [`held`](Decoder::held) lends then.
+    pub ended: bool,
+}
+
+const NOTHING: Fed = Fed {
+    fate: None,
+    ended: false,
+};
 
 /// Finds CLTUs in a stream of octets, and gives what each carries: a candidate frame, with fill behind it.
 ///
@@ -57,13 +71,12 @@ impl Decoder {
         })
     }
 
-    /// Takes the next octet of the stream. True if it ends a candidate frame, which [`held`](Decoder::held) lends then.
-    ///
-    /// It asks for no memory.
-    pub fn feed_octet(&mut self, octet: u8) -> bool
+    /// Takes the next octet of the stream. It asks for no memory.
+    pub fn feed_octet(&mut self, octet: u8) -> Fed
         ensures mode { self.new.mode ≡ self.old.mode }
         ensures state { self.new.state ≡ (step self.old.mode most_octets self.old.state octet).0 }
-        ensures given { (if result then self.new.held ∷ [] else []) ≡ (step self.old.mode most_octets self.old.state octet).1 }
+        ensures given { (if result.ended then self.new.held ∷ [] else []) ≡ (step self.old.mode most_octets self.old.state octet).1 }
+        ensures fate { result.fate ≡ fate_of self.old.mode self.old.state octet }
     {
         if !self.decoding {
             if begins(self.mode, self.last, octet) {
@@ -73,28 +86,38 @@ impl Decoder {
             } else {
                 self.last = octet;
             }
-            return false;
+            return NOTHING;
         }
         self.block[self.count] = octet;
         if self.count < 7 {
             self.count += 1;
-            return false;
+            return NOTHING;
         }
         self.count = 0;
-        match decode_block(self.block, self.mode) {
+        let Judged { fate, information } = judge(self.block, self.mode);
+        match information {
             None => {
                 self.decoding = false;
                 self.last = 0;
-                self.frame.len() > 0
+                Fed {
+                    fate: Some(fate),
+                    ended: self.frame.len() > 0,
+                }
             }
             Some(information) => {
-                if self.frame.len() + 7 <= MOST_OCTETS {
-                    self.frame.extend_from_slice(&information).unwrap();
-                } else {
+                if self.frame.len() + 7 > MOST_OCTETS {
                     self.decoding = false;
                     self.last = 0;
+                    return Fed {
+                        fate: Some(fate),
+                        ended: false,
+                    };
                 }
-                false
+                self.frame.extend_from_slice(&information).unwrap();
+                Fed {
+                    fate: Some(fate),
+                    ended: false,
+                }
             }
         }
     }
@@ -104,21 +127,6 @@ impl Decoder {
         ensures { result.now ≡ self.now.held }
     {
         &self.frame
-    }
-
-    /// What is to become of the code block that the next octet ends, if it is this octet and ends one. Nothing is taken.
-    pub fn fate(&self, octet: u8) -> Option<Fate>
-        ensures { result ≡ fate_of self.now.mode self.now.state octet }
-    {
-        if !self.decoding {
-            return None;
-        }
-        if self.count < 7 {
-            return None;
-        }
-        let mut block = self.block;
-        block[self.count] = octet;
-        Some(judge(block, self.mode))
     }
 
     /// Takes the next piece of the stream, of any length, and adds a copy of each candidate frame that ends in it.
@@ -158,7 +166,7 @@ impl Decoder {
         ensures frames { OnOk result (map (λ frame. frame.items) frames.new.items
             ≡ map (λ frame. frame.items) frames.old.items ++ (step self.old.mode most_octets self.old.state octet).1) }
     {
-        if !self.feed_octet(octet) {
+        if !self.feed_octet(octet).ended {
             return Ok(());
         }
         let frame = Vec::from_slice(alloc, self.held())?;

@@ -13,8 +13,8 @@ mod randomiser;
 mod tables;
 mod writer;
 
-pub use block::{Fate, Mode, decode_block, encode_block, judge};
-pub use decoder::{Decoder, begins};
+pub use block::{Fate, Judged, Mode, corrections, decode_block, encode_block, judge, rejections};
+pub use decoder::{Decoder, Fed, begins};
 pub use laws::{
     a_cltu_gives_its_frame, code_blocks_differ_in_four_places, each_turned_bit_is_an_error,
     the_next_cltu_is_found, the_parity_is_the_remainder,
