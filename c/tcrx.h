@@ -274,15 +274,6 @@ typedef struct {
     uint16_t pointer;      /**< The first header pointer: 2,046 where all data are idle, 2,047 where no packet begins. */
 } tcrx_tm;
 
-/** What became of a code block. */
-enum {
-    TCRX_NO_BLOCK = 0,  /**< No code block ended. */
-    TCRX_RIGHT = 1,     /**< It was taken as it was. */
-    TCRX_CORRECTED = 2, /**< It was taken, and one of its bits corrected. */
-    TCRX_TAIL = 3,      /**< It was rejected, and is the tail sequence. */
-    TCRX_REJECTED = 4   /**< It was rejected, and isn't the tail sequence. */
-};
-
 /** Room for what a decoder holds. */
 enum { TCRX_DECODER_ROOM = 1037 /**< The 1,029 octets that a CLTU carries at most, and one code block. */ };
 
@@ -298,12 +289,14 @@ typedef struct {
     uint16_t held;    /**< The octets that code blocks have carried since the start sequence, 0 to 1,029. */
 } tcrx_decoder;
 
-/** What an octet came to. */
+/** What octets of a stream came to. */
 typedef struct {
     tcrx_status status;   /**< #TCRX_DONE, or why not. */
-    tcrx_decoder decoder; /**< The decoder after the octet; where the call is refused, as it was given. */
-    uint8_t fate;         /**< #TCRX_NO_BLOCK to #TCRX_REJECTED, of the code block that it ended. */
-    uint8_t ended;        /**< Whether it ended a candidate frame: the first `held` octets of the buffer. */
+    tcrx_decoder decoder; /**< The decoder after the octets that were taken; where the call is refused, as it was given. */
+    uint8_t ended;        /**< Whether the last of them ended a candidate frame: the first `held` octets of the buffer. */
+    uint64_t taken;       /**< How many octets were taken. */
+    uint64_t corrected;   /**< How many code blocks ended in them of which one bit was corrected. */
+    uint64_t rejected;    /**< How many ended in them that were rejected, and aren't the tail sequence. */
 } tcrx_decoded;
 
 /** What was written into a buffer. */
@@ -638,22 +631,24 @@ static inline tcrx_written tcrx_write_cltu(const uint8_t *frame, size_t frame_co
 }
 
 /**
- * Gives a decoder the next octet of a stream. It looks for a start sequence, and then decodes code blocks until one is rejected, as the
- * tail sequence is: what the others carried is a candidate frame, with fill behind it. Give the record of the answer to the next call,
- * with the same buffer, all of which is the decoder's. A CLTU that carries more than 1,029 octets gives nothing.
+ * Gives a decoder the next octets of a stream: up to and with the first that ends a candidate frame, or all. It looks for a start
+ * sequence, and then decodes code blocks until one is rejected, as the tail sequence is: what the others carried is a candidate frame,
+ * with fill behind it. Give the record of the answer to the next call, with the octets behind those that were taken and the same buffer,
+ * all of which is the decoder's. A CLTU that carries more than 1,029 octets gives nothing.
  *
  * @param decoder the record of the decoder
- * @param octet   the octet
+ * @param octets  the next octets of the stream
+ * @param count   how many there are
  * @param frame   the buffer of the decoder, of #TCRX_DECODER_ROOM octets
  * @param room    how many octets the buffer has
- * @return what the octet came to. Refused by #TCRX_NULL, #TCRX_BAD_FLAG, #TCRX_BAD_DECODER, #TCRX_NO_ROOM.
+ * @return what the octets came to. Refused by #TCRX_NULL, #TCRX_BAD_FLAG, #TCRX_BAD_DECODER, #TCRX_NO_ROOM.
  */
-static inline tcrx_decoded tcrx_cltu_octet(tcrx_decoder decoder, uint8_t octet, uint8_t *frame, size_t room) {
-    if (frame == NULL) {
-        const tcrx_decoded refused = {TCRX_NULL, decoder, 0, 0};
+static inline tcrx_decoded tcrx_cltu_octets(tcrx_decoder decoder, const uint8_t *octets, size_t count, uint8_t *frame, size_t room) {
+    if (octets == NULL || frame == NULL) {
+        const tcrx_decoded refused = {TCRX_NULL, decoder, 0, 0, 0, 0};
         return refused;
     }
-    return tcrx_cltu_octet_at(decoder, octet, frame, room);
+    return tcrx_cltu_octets_at(decoder, octets, count, frame, room);
 }
 
 /**

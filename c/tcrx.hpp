@@ -433,37 +433,34 @@ inline Result<Octets> write_cltu(Octets frame, Room room) noexcept {
     return detail::written(tcrx_write_cltu(detail::pointer(frame), frame.size(), detail::pointer(room, nothing), room.size()), room);
 }
 
-/** What became of a code block. */
-enum class Fate : std::uint8_t {
-    none = TCRX_NO_BLOCK,
-    right = TCRX_RIGHT,
-    corrected = TCRX_CORRECTED,
-    tail = TCRX_TAIL,
-    rejected = TCRX_REJECTED
-};
-
-/** What an octet of a stream came to. */
+/** What octets of a stream came to. */
 struct Fed {
-    /** What became of the code block that it ended. */
-    Fate fate = Fate::none;
-    /** Whether it ended a candidate frame. */
+    /** Whether the last of those that were taken ended a candidate frame. */
     bool ended = false;
-    /** That frame, with fill behind it, until the next octet. */
+    /** That frame, with fill behind it, until the next octets. */
     Octets frame;
+    /** The octets behind those that were taken. */
+    Octets rest;
+    /** How many code blocks ended of which one bit was corrected. */
+    std::uint64_t corrected = 0;
+    /** How many ended that were rejected, and aren't the tail sequence. */
+    std::uint64_t rejected = 0;
 };
 
-/** A decoder of CLTUs in a stream, with the octets that it holds: tcrx_cltu_octet(). */
+/** A decoder of CLTUs in a stream, with the octets that it holds: tcrx_cltu_octets(). */
 class Decoder {
 public:
     /** With correction of one wrong bit in each code block, or with detection alone. */
     explicit Decoder(bool correct) noexcept { kept_.correct = detail::flag(correct); }
 
-    /** Takes the next octet of the stream. */
-    Fed octet(std::uint8_t octet) noexcept {
-        const tcrx_decoded answer = tcrx_cltu_octet(kept_, octet, held_.data(), held_.size());
+    /** Takes the next octets of the stream, up to and with the first that ends a candidate frame, or all. */
+    Fed feed(Octets octets) noexcept {
+        const tcrx_decoded answer = tcrx_cltu_octets(kept_, detail::pointer(octets), octets.size(), held_.data(), held_.size());
         kept_ = answer.decoder;
+        const auto taken = static_cast<std::size_t>(answer.taken);
         const bool ended = answer.ended == 1;
-        return {static_cast<Fate>(answer.fate), ended, ended ? Octets(held_.data(), kept_.held) : Octets()};
+        return {ended, ended ? Octets(held_.data(), kept_.held) : Octets(), Octets(octets.data() + taken, octets.size() - taken),
+                answer.corrected, answer.rejected};
     }
 
 private:

@@ -51,8 +51,9 @@ TCRX_LAYOUT(tcrx_tm, sizeof(tcrx_tm) == 16 && TCRX_AT(tcrx_tm, status, 0) && TCR
 TCRX_LAYOUT(tcrx_decoder, sizeof(tcrx_decoder) == 6 && TCRX_AT(tcrx_decoder, correct, 0) && TCRX_AT(tcrx_decoder, decoding, 1)
                               && TCRX_AT(tcrx_decoder, last, 2) && TCRX_AT(tcrx_decoder, count, 3)
                               && TCRX_AT(tcrx_decoder, held, 4));
-TCRX_LAYOUT(tcrx_decoded, sizeof(tcrx_decoded) == 12 && TCRX_AT(tcrx_decoded, status, 0) && TCRX_AT(tcrx_decoded, decoder, 4)
-                              && TCRX_AT(tcrx_decoded, fate, 10) && TCRX_AT(tcrx_decoded, ended, 11));
+TCRX_LAYOUT(tcrx_decoded, sizeof(tcrx_decoded) == 40 && TCRX_AT(tcrx_decoded, status, 0) && TCRX_AT(tcrx_decoded, decoder, 4)
+                              && TCRX_AT(tcrx_decoded, ended, 10) && TCRX_AT(tcrx_decoded, taken, 16)
+                              && TCRX_AT(tcrx_decoded, corrected, 24) && TCRX_AT(tcrx_decoded, rejected, 32));
 TCRX_LAYOUT(tcrx_written, sizeof(tcrx_written) == 2 * sizeof(size_t) && TCRX_AT(tcrx_written, status, 0)
                               && TCRX_AT(tcrx_written, length, sizeof(size_t)));
 TCRX_LAYOUT(tcrx_channel, sizeof(tcrx_channel) == 2 * sizeof(void *) && TCRX_AT(tcrx_channel, held, 0)
@@ -111,8 +112,8 @@ tcrx_written tcrx_write_packet_at(tcrx_packet_header header, const uint8_t *fiel
 tcrx_packet tcrx_read_packet_at(const uint8_t *octets, size_t count);
 /** @copydoc tcrx_write_cltu */
 tcrx_written tcrx_write_cltu_at(const uint8_t *frame, size_t frame_count, uint8_t *octets, size_t room);
-/** @copydoc tcrx_cltu_octet */
-tcrx_decoded tcrx_cltu_octet_at(tcrx_decoder decoder, uint8_t octet, uint8_t *frame, size_t room);
+/** @copydoc tcrx_cltu_octets */
+tcrx_decoded tcrx_cltu_octets_at(tcrx_decoder decoder, const uint8_t *octets, size_t count, uint8_t *frame, size_t room);
 /** @copydoc tcrx_randomise */
 tcrx_written tcrx_randomise_at(const uint8_t *frame, size_t frame_count, uint8_t *octets, size_t room);
 /** @copydoc tcrx_write_tm */

@@ -225,15 +225,17 @@ u32 EXPORT(module_write_cltu)(const uint8_t *frame, u32 frame_count, uint8_t *oc
     return answer.status;
 }
 
-u32 EXPORT(module_cltu_octet)(u32 octet, uint8_t *frame, u32 room) {
-    const tcrx_decoded answer = tcrx_cltu_octet_at(decoder_given(), (uint8_t)octet, frame, room);
+u32 EXPORT(module_cltu_octets)(const uint8_t *octets, u32 count, uint8_t *frame, u32 room) {
+    const tcrx_decoded answer = tcrx_cltu_octets_at(decoder_given(), octets, count, frame, room);
     numbers[0] = answer.decoder.correct;
     numbers[1] = answer.decoder.decoding;
     numbers[2] = answer.decoder.last;
     numbers[3] = answer.decoder.count;
     numbers[4] = answer.decoder.held;
-    numbers[5] = answer.fate;
-    numbers[6] = answer.ended;
+    numbers[5] = answer.ended;
+    answer_count(6, answer.taken);
+    answer_count(8, answer.corrected);
+    answer_count(10, answer.rejected);
     return answer.status;
 }
 

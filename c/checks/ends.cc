@@ -316,22 +316,24 @@ void check_made() {
 
 // A CLTU amid other octets, without a wrong bit and with one, which is corrected in one mode, and rejected in the other.
 void check_streams() {
-    using tcrx::Fate;
-    const std::vector<Fate> wanted[] = {{Fate::right, Fate::right, Fate::tail}, {Fate::corrected, Fate::right, Fate::tail}, {Fate::rejected}};
     for (std::size_t i = 0; i < 3; i++) {
         tcrx::Decoder decoder(i != 2);
-        std::vector<Fate> fates;
         Bytes stream(cltu_octets, cltu_octets + sizeof cltu_octets), given;
         stream[5] ^= i == 0 ? 0 : 16;
         stream.insert(stream.begin(), 0xeb);
-        for (const std::uint8_t octet : stream) {
-            const tcrx::Fed fed = decoder.octet(octet);
-            if (fed.fate != Fate::none) fates.push_back(fed.fate);
+        stream.insert(stream.end(), {0xeb, 0x90});
+        std::uint64_t corrected = 0, rejected = 0;
+        for (tcrx::Octets rest = stream; rest.size() > 0;) {
+            const tcrx::Fed fed = decoder.feed(rest);
+            tell(fed.ended == (fed.frame.size() > 0) && fed.rest.size() == (fed.ended ? 2u : 0u), "how far octets are taken");
             given.insert(given.end(), fed.frame.begin(), fed.frame.end());
+            corrected += fed.corrected;
+            rejected += fed.rejected;
+            rest = fed.rest;
         }
         Bytes carried(frame_rows[0].octets, frame_rows[0].octets + frame_rows[0].fields[5]);
         carried.resize(14, 0x55);
-        tell(fates == wanted[i], "what became of code blocks");
+        tell(corrected == (i == 1 ? 1u : 0u) && rejected == (i == 2 ? 1u : 0u), "what became of code blocks");
         tell(given == (i == 2 ? Bytes() : carried), "what a CLTU carried");
     }
 }

@@ -77,42 +77,50 @@ static void expect_tm(tcrx_tm read, tcrx_tm_header header, uint64_t place) {
     expect(read.header.master_count == header.master_count && read.header.channel_count == header.channel_count, "which one it is", place);
 }
 
-/* The CLTU with a wrong bit in its first code block, or with none: what becomes of its code blocks, and what it carries. */
-static void check_stream(uint8_t correct, uint8_t wrong, const uint8_t *fates, size_t fate_count, uint64_t place) {
+/* In pieces of so many octets, the CLTU with a wrong bit in its first code block, or with none, and another octet behind it: what becomes
+ * of its code blocks, and what it carries. */
+static void check_stream(uint8_t correct, uint8_t wrong, size_t size, uint64_t place) {
     static uint8_t held[TCRX_DECODER_ROOM];
     const frame_row *plain = &frame_rows[0];
-    const size_t length = plain->fields[5];
+    const size_t length = plain->fields[5], all = sizeof cltu_octets + 1;
+    uint8_t octets[sizeof cltu_octets + 1];
+    memcpy(octets, cltu_octets, sizeof cltu_octets);
+    octets[5] ^= wrong;
+    octets[all - 1] = 0x55;
     tcrx_decoder decoder = {correct, 0, 0, 0, 0};
-    size_t ended = 0, blocks = 0;
-    for (size_t i = 0; i < sizeof cltu_octets; i++) {
-        const tcrx_decoded answer = tcrx_cltu_octet(decoder, cltu_octets[i] ^ (i == 5 ? wrong : 0), held, sizeof held);
+    uint64_t ended = 0, corrected = 0, rejected = 0;
+    for (size_t at = 0; at < all;) {
+        const size_t count = all - at < size ? all - at : size;
+        const tcrx_decoded answer = tcrx_cltu_octets(decoder, octets + at, count, held, sizeof held);
         decoder = answer.decoder;
-        if (answer.fate != TCRX_NO_BLOCK) {
-            expect(blocks < fate_count && answer.fate == fates[blocks], "what becomes of a code block", place);
-            blocks++;
-        }
+        at += (size_t)answer.taken;
+        corrected += answer.corrected;
+        rejected += answer.rejected;
+        expect(answer.status == TCRX_DONE && (answer.ended ? at == all - 1 : answer.taken == count), "how far octets are taken", place);
         if (answer.ended) {
             ended++;
             expect(decoder.held == 14 && memcmp(held, plain->octets, length) == 0, "what a CLTU carries", place);
             for (size_t k = length; k < 14; k++) expect(held[k] == 0x55, "its fill", place);
         }
     }
-    expect(blocks == fate_count && ended == (fate_count == 3 ? 1u : 0u), "how many code blocks and frames end", place);
+    expect(corrected == (correct && wrong ? 1u : 0u), "how many code blocks are corrected", place);
+    expect(rejected == (!correct && wrong ? 1u : 0u), "how many code blocks are rejected", place);
+    expect(ended == (correct || !wrong ? 1u : 0u), "how many frames end", place);
 }
 
 static void check_ends_of_the_link(void) {
-    static const uint8_t right[] = {TCRX_RIGHT, TCRX_RIGHT, TCRX_TAIL}, corrected[] = {TCRX_CORRECTED, TCRX_RIGHT, TCRX_TAIL};
-    static const uint8_t rejected[] = {TCRX_REJECTED};
     const frame_row *plain = &frame_rows[0];
     const size_t length = plain->fields[5];
     const tcrx_tm_header header = {675, 5, 200, 77};
     uint8_t octets[32], again[32];
     const size_t all = sizeof octets;
     expect_made(tcrx_write_cltu(plain->octets, length, octets, all), octets, cltu_octets, sizeof cltu_octets, 10);
-    check_stream(0, 0, right, sizeof right, 20);
-    check_stream(1, 0, right, sizeof right, 21);
-    check_stream(1, 16, corrected, sizeof corrected, 22);
-    check_stream(0, 16, rejected, sizeof rejected, 23);
+    for (size_t size = 1; size <= sizeof cltu_octets + 1; size++) {
+        check_stream(0, 0, size, 20);
+        check_stream(1, 0, size, 21);
+        check_stream(1, 16, size, 22);
+        check_stream(0, 16, size, 23);
+    }
     expect_made(tcrx_randomise(plain->octets, length, octets, all), octets, random_row.octets, random_row.count, 11);
     expect_made(tcrx_randomise(octets, length, again, all), again, plain->octets, length, 12);
     expect_made(tcrx_write_tm(header, 0, TM_CLCW, 13, octets, all), octets, tm_row.octets, tm_row.count, 13);

@@ -308,9 +308,11 @@ static void check_cltus_made(void) {
 }
 
 static void expect_undecoded(tcrx_decoder decoder, uint8_t *frame, size_t room, tcrx_status status, unsigned long place) {
-    const tcrx_decoded answer = tcrx_cltu_octet(decoder, 0x55, frame, room);
+    static const uint8_t octets[] = {0x55, 0x55};
+    const tcrx_decoded answer = tcrx_cltu_octets(decoder, octets, sizeof octets, frame, room);
     const tcrx_decoder kept = answer.decoder;
-    expect(answer.status == status && answer.fate == 0 && answer.ended == 0, "an octet that is refused", place);
+    expect(answer.status == status && answer.ended == 0 && answer.taken == 0, "octets that are refused", place);
+    expect(answer.corrected == 0 && answer.rejected == 0, "code blocks of octets that are refused", place);
     expect(kept.correct == decoder.correct && kept.decoding == decoder.decoding && kept.last == decoder.last, "a decoder as it was", place);
     expect(kept.count == decoder.count && kept.held == decoder.held && is_filled(made, sizeof made), "what it holds as it was", place);
 }
@@ -325,7 +327,9 @@ static void check_decoders(void) {
     expect_undecoded(too_much, fresh(), 0, TCRX_BAD_DECODER, 233);
     expect_undecoded(full, fresh(), TCRX_DECODER_ROOM - 1, TCRX_NO_ROOM, 234);
     expect_undecoded(full, NULL, TCRX_DECODER_ROOM, TCRX_NULL, 235);
-    const tcrx_decoded answer = tcrx_cltu_octet(full, 0xfe, held, sizeof held);
+    expect(tcrx_cltu_octets(full, NULL, 0, fresh(), TCRX_DECODER_ROOM).status == TCRX_NULL, "no octets", 237);
+    const uint8_t last = 0xfe;
+    const tcrx_decoded answer = tcrx_cltu_octets(full, &last, 1, held, sizeof held);
     expect(answer.status == TCRX_DONE && answer.decoder.decoding == 0 && answer.ended == 0, "no room for a code block", 236);
 }
 

@@ -9,10 +9,10 @@ __all__ = ["CALLS", "DONE", "SHORT", "BAD_VERSION", "SPARE", "LENGTH_SMALL", "TR
            "BAD_CAPACITY", "BAD_MAP", "DOUBLE_MAP", "BAD_UNITS", "PLAIN_MAP", "NO_CHANNEL", "IN_USE", "NO_QUEUE", "NO_MAP",
            "EMPTY", "OTHER_SPACECRAFT", "UNKNOWN_CHANNEL", "BAD_OTHERS", "BAD_LIMIT_MAP", "DOUBLE_LIMIT", "BAD_LIMIT",
            "PLAIN_LIMIT", "UNLISTED_MAP", "LONG_CLTU", "BAD_LENGTH", "NO_CONTROL", "BAD_DECODER", "TEXT_ROOM", "OPEN", "WAIT",
-           "LOCKOUT", "AD", "BD", "UNLOCK", "SET_VR", "INVALID", "RELEASE", "NO_BLOCK", "RIGHT", "CORRECTED", "TAIL", "REJECTED",
-           "DECODER_ROOM", "_Farm", "_FarmAnswer", "_StepAnswer", "_ClcwAnswer", "_ClcwFields", "_Header", "_Frame", "_KindAnswer",
-           "_Packet", "_PacketHeader", "_TmHeader", "_Tm", "_Decoder", "_Decoded", "_Written", "_Channel", "_Settings", "_Queue",
-           "_Map", "_Limit", "_Reply", "_Delivery", "_RackReply", "_Place", "_Count"]
+           "LOCKOUT", "AD", "BD", "UNLOCK", "SET_VR", "INVALID", "RELEASE", "DECODER_ROOM", "_Farm", "_FarmAnswer", "_StepAnswer",
+           "_ClcwAnswer", "_ClcwFields", "_Header", "_Frame", "_KindAnswer", "_Packet", "_PacketHeader", "_TmHeader", "_Tm",
+           "_Decoder", "_Decoded", "_Written", "_Channel", "_Settings", "_Queue", "_Map", "_Limit", "_Reply", "_Delivery",
+           "_RackReply", "_Place", "_Count"]
 
 DONE = 0
 SHORT = 1
@@ -81,11 +81,6 @@ UNLOCK = 3
 SET_VR = 4
 INVALID = 5
 RELEASE = 6
-NO_BLOCK = 0
-RIGHT = 1
-CORRECTED = 2
-TAIL = 3
-REJECTED = 4
 DECODER_ROOM = 1037
 
 
@@ -147,7 +142,8 @@ class _Decoder(Structure):
 
 
 class _Decoded(Structure):
-    _fields_ = [("status", c_uint32), ("decoder", _Decoder), ("fate", c_uint8), ("ended", c_uint8)]
+    _fields_ = [("status", c_uint32), ("decoder", _Decoder), ("ended", c_uint8), ("taken", c_uint64), ("corrected", c_uint64),
+                ("rejected", c_uint64)]
 
 
 class _Written(Structure):
@@ -213,7 +209,7 @@ CALLS: Dict[str, Tuple[Any, List[Any]]] = {
     "tcrx_write_packet_at": (_Written, [_PacketHeader, c_char_p, c_size_t, c_void_p, c_size_t]),
     "tcrx_read_packet_at": (_Packet, [c_char_p, c_size_t]),
     "tcrx_write_cltu_at": (_Written, [c_char_p, c_size_t, c_void_p, c_size_t]),
-    "tcrx_cltu_octet_at": (_Decoded, [_Decoder, c_uint8, c_void_p, c_size_t]),
+    "tcrx_cltu_octets_at": (_Decoded, [_Decoder, c_char_p, c_size_t, c_void_p, c_size_t]),
     "tcrx_randomise_at": (_Written, [c_char_p, c_size_t, c_void_p, c_size_t]),
     "tcrx_write_tm_at": (_Written, [_TmHeader, c_uint8, c_uint32, c_uint16, c_void_p, c_size_t]),
     "tcrx_read_tm_at": (_Tm, [c_uint8, c_char_p, c_size_t]),

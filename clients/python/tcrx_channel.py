@@ -66,6 +66,8 @@ STATES = {OPEN: State.OPEN, WAIT: State.WAIT, LOCKOUT: State.LOCKOUT}
 NOTHING, ONE_QUEUED = Delivery(0, 0, False), Delivery(1, 0, False)
 # Octets that a packet or a unit is taken into; a longer one is taken again into as many as it needs.
 FIRST_ROOM = 4096
+# Octets of a stream that a decoder is given at a time.
+PIECE = 4096
 
 
 class BadSettings(Fault):
@@ -293,13 +295,16 @@ class Decoder:
     def feed(self, octets: Octets) -> List[bytes]:
         """The candidate frames that end in these octets, each with fill behind it."""
         frames: List[bytes] = []
-        for octet in bytes(octets):
-            answer = self._library.tcrx_cltu_octet_at(self._kept, octet, self._held, DECODER_ROOM)
-            self._kept = answer.decoder
-            self.corrected += answer.fate == CORRECTED
-            self.rejected += answer.fate == REJECTED
-            if answer.ended:
-                frames.append(self._held.raw[:self._kept.held])
+        whole = bytes(octets)
+        for at in range(0, len(whole), PIECE):
+            rest = whole[at:at + PIECE]
+            while rest:
+                answer = self._library.tcrx_cltu_octets_at(self._kept, rest, len(rest), self._held, DECODER_ROOM)
+                self._kept, rest = answer.decoder, rest[answer.taken:]
+                self.corrected += answer.corrected
+                self.rejected += answer.rejected
+                if answer.ended:
+                    frames.append(self._held.raw[:self._kept.held])
         return frames
 
 

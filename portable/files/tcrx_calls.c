@@ -58,27 +58,32 @@ static uint32_t put_frame(tcrx_instance *at, const uint8_t *octets, size_t count
     return looked_at;
 }
 
-/* The buffer is read and written: what the decoder has in it, and the octet. */
-tcrx_decoded tcrx_cltu_octet_at(tcrx_decoder decoder, uint8_t octet, uint8_t *frame, size_t room) {
-    tcrx_decoded answer;
+/* The buffer is read and written: what the decoder has in it. More octets than the module has room for are given piece by piece. */
+tcrx_decoded tcrx_cltu_octets_at(tcrx_decoder decoder, const uint8_t *octets, size_t count, uint8_t *frame, size_t room) {
+    tcrx_decoded answer = {TCRX_DONE, decoder, 0, 0, 0, 0};
     tcrx_instance *at = tcrx_instance_shared();
-    const uint32_t has = least(room, TCRX_DECODER_ROOM), kept = least((size_t)decoder.held + decoder.count, has);
+    const uint32_t has = least(room, TCRX_DECODER_ROOM);
     tcrx_set_number(at, 0, decoder.correct);
     tcrx_set_number(at, 1, decoder.decoding);
     tcrx_set_number(at, 2, decoder.last);
     tcrx_set_number(at, 3, decoder.count);
     tcrx_set_number(at, 4, decoder.held);
-    tcrx_put(at, at->written, frame, kept);
-    answer.status = Z_tcrxZ_module_cltu_octet(&at->module, octet, at->written, has);
-    answer.decoder.correct = (uint8_t)tcrx_number(at, 0);
+    tcrx_put(at, at->written, frame, least((size_t)decoder.held + decoder.count, has));
+    do {
+        const uint32_t given = least(count - (size_t)answer.taken, TCRX_MODULE_FRAME);
+        tcrx_put(at, at->read, octets + answer.taken, given);
+        answer.status = Z_tcrxZ_module_cltu_octets(&at->module, at->read, given, at->written, has);
+        answer.ended = (uint8_t)tcrx_number(at, 5);
+        answer.taken += count_of(at, 6);
+        answer.corrected += count_of(at, 8);
+        answer.rejected += count_of(at, 10);
+    } while (answer.status == TCRX_DONE && !answer.ended && answer.taken < count);
     answer.decoder.decoding = (uint8_t)tcrx_number(at, 1);
     answer.decoder.last = (uint8_t)tcrx_number(at, 2);
     answer.decoder.count = (uint8_t)tcrx_number(at, 3);
     answer.decoder.held = (uint16_t)tcrx_number(at, 4);
-    answer.fate = (uint8_t)tcrx_number(at, 5);
-    answer.ended = (uint8_t)tcrx_number(at, 6);
-    if (answer.status == TCRX_DONE && decoder.decoding) {
-        tcrx_get(at, at->written, frame, least((size_t)kept + 1, has));
+    if (answer.status == TCRX_DONE) {
+        tcrx_get(at, at->written, frame, least((size_t)answer.decoder.held + answer.decoder.count, has));
     }
     tcrx_instance_back();
     return answer;

@@ -1,7 +1,5 @@
 -- A decoder of CLTUs as a record of numbers, and a buffer that has what it holds.
-use Rattle.std.specs.Prelude.{ℕ, ◌==◌, ◌||◌, Bool, true, false, List, [], ◌∷◌, take, drop, Option, Some, None, Result, Ok, Err, nat_lt, if◌then◌else◌}
-use Rattle.tc_cltu.specs.declared.block.Fate.{Fate}
-use Rattle.tc_cltu.specs.declared.block.Fate.TheVariants.{Right, Corrected, Tail, Rejected}
+use Rattle.std.specs.Prelude.{ℕ, ◌==◌, ◌||◌, Bool, true, false, List, [], ◌∷◌, take, drop, Result, Ok, Err, nat_lt, if◌then◌else◌}
 use Rattle.tc_cltu.specs.declared.block.Mode.{Mode}
 use Rattle.tc_cltu.specs.declared.block.Mode.TheVariants.{Detect, Correct}
 use Rattle.tc_cltu.specs.Cltu.{most_octets}
@@ -40,16 +38,10 @@ reception_of decoder frame =
     if decoder.decoding == 0 then Searching decoder.last
     else Decoding (take decoder.held frame) (take decoder.count (drop decoder.held frame))
 
-abbrev pub fate_number : Option Fate → ℕ
-fate_number None = 0
-fate_number (Some Right) = 1
-fate_number (Some Corrected) = 2
-fate_number (Some Tail) = 3
-fate_number (Some Rejected) = 4
-
 -- the candidate frames that an answer gives
 abbrev pub given_by : DecodedRecord → List ℕ → List (List ℕ)
 given_by answer frame = if answer.ended == 0 then [] else take answer.decoder.held frame ∷ []
 
-abbrev pub no_step : Status → DecoderRecord → DecodedRecord
-no_step fault decoder = record { status = code_of fault; decoder = decoder; fate = 0; ended = 0 }
+-- no octet was taken
+abbrev pub none_taken : Status → DecoderRecord → DecodedRecord
+none_taken fault decoder = record { status = code_of fault; decoder = decoder; ended = 0; taken = 0; corrected = 0; rejected = 0 }

@@ -9,11 +9,7 @@ ghost use Rattle.tc_c.specs.Cltus.{cltu_status};
 
 use crate::buffer::{WrittenRecord, no_room, not_written, written};
 use crate::status::Status;
-use tc_cltu::{CltuFault, MOST_OCTETS, encode_block, randomise};
-
-const START: [u8; 2] = [0xeb, 0x90];
-
-const TAIL: [u8; 8] = [0xc5, 0xc5, 0xc5, 0xc5, 0xc5, 0xc5, 0xc5, 0x79];
+use tc_cltu::{CltuFault, MOST_OCTETS, START, TAIL, encode_block, randomise};
 
 /// Writes the CLTU that carries a frame, or other octets, to the front of a buffer: the start sequence, the code blocks, with fill in
 /// the last one where it needs some, and the tail sequence (CCSDS 231.0-B).

@@ -38,7 +38,7 @@ pub use counts::{
     CountRecord, tcrx_channel_buffered_at, tcrx_channel_clcw_at, tcrx_channel_events_at,
     tcrx_channel_queued_at, tcrx_channel_report_at, tcrx_channel_units_at,
 };
-pub use decoder::{DecodedRecord, DecoderRecord, tcrx_cltu_octet_at};
+pub use decoder::{DecodedRecord, DecoderRecord, tcrx_cltu_octets_at};
 pub use farm::{FarmAnswer, FarmRecord, StepAnswer, tcrx_farm_start, tcrx_farm_step};
 pub use frames::{
     FrameRecord, HeaderRecord, KindRecord, tcrx_kind_at, tcrx_read_frame_at, tcrx_write_frame_at,

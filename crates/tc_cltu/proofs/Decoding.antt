@@ -480,13 +480,30 @@ fed-given was room i os first state before out at h =
     append_cancel_right out (before ++ frames_of was room first (take i os)) more
     (h ∙ ap (λ (x : List (List ℕ)). before ++ x) whole ∙ sym (append_assoc before (frames_of was room first (take i os)) more))
 
--- where the next octet ends a candidate frame that isn't given
-pub fed-short : (mode was : Mode) (room i : ℕ) (os : List ℕ) (first state : Reception) (held : List ℕ) → i < length os → mode ≡ was
-    → state ≡ state_after was room first (take i os) → (step mode room state (get_or os i 0)).1 ≡ held ∷ []
-    → frames_of was room first (take (i + 1) os) ≡ frames_of was room first (take i os) ++ held ∷ []
-fed-short mode was room i os first state held less same_mode at h =
+-- one octet more: the candidate frame that it ends
+pub fed-more : (mode was : Mode) (room i : ℕ) (os : List ℕ) (first state : Reception) (more : List (List ℕ)) → i < length os → mode ≡ was
+    → state ≡ state_after was room first (take i os) → (step mode room state (get_or os i 0)).1 ≡ more
+    → frames_of was room first (take (i + 1) os) ≡ frames_of was room first (take i os) ++ more
+fed-more mode was room i os first state more less same_mode at h =
     let o = get_or os i 0 in
     ap (frames_of was room first) (take_more os i 0 less) ∙ frames-append was room (take i os) (o ∷ []) first
     ∙ ap (λ (x : List (List ℕ)). frames_of was room first (take i os) ++ x)
     (append-nil (step was room (state_after was room first (take i os)) o).1 ∙ sym (ap (λ (s : Reception). (step was room s o).1) at)
     ∙ sym (ap (λ (m : Mode). (step m room state o).1) same_mode) ∙ h)
+
+counted-append : (count : Option Fate → ℕ) (mode : Mode) (room : ℕ) (xs ys : List ℕ) (s : Reception)
+    → counted_in count mode room s (xs ++ ys) ≡ counted_in count mode room s xs + counted_in count mode room (state_after mode room s xs) ys
+counted-append count mode room [] ys s = refl
+counted-append count mode room (x ∷ xs) ys s =
+    ap (λ (n : ℕ). count (fate_of mode s x) + n) (counted-append count mode room xs ys (step mode room s x).0)
+    ∙ sym (add_assoc (count (fate_of mode s x)) (counted_in count mode room (step mode room s x).0 xs) (counted_in count mode room (state_after mode room (step mode room s x).0 xs) ys))
+
+-- and what becomes of its code block
+pub fed-more-counted : (count : Option Fate → ℕ) (mode : Mode) (room i : ℕ) (os : List ℕ) (first state : Reception) (n k : ℕ) → i < length os
+    → state ≡ state_after mode room first (take i os) → k ≡ count (fate_of mode state (get_or os i 0))
+    → n ≡ counted_in count mode room first (take i os) → n + k ≡ counted_in count mode room first (take (i + 1) os)
+fed-more-counted count mode room i os first state n k less at now h =
+    let o = get_or os i 0 in
+    let all = ap (counted_in count mode room first) (take_more os i 0 less) ∙ counted-append count mode room (take i os) (o ∷ []) first in
+    let one : k ≡ count (fate_of mode (state_after mode room first (take i os)) o) = now ∙ ap (λ (s : Reception). count (fate_of mode s o)) at in
+    omega (arith, all, one, h)

@@ -21,4 +21,4 @@ pub use laws::{
     the_random_sequence_comes_off_as_it_went_on,
 };
 pub use randomiser::randomise;
-pub use writer::{CltuFault, MOST_OCTETS, write_cltu};
+pub use writer::{CltuFault, MOST_OCTETS, START, TAIL, write_cltu};

@@ -12,9 +12,11 @@ use thiserror::Error;
 /// many.
 pub const MOST_OCTETS: usize = 1029;
 
-pub(crate) const START: [u8; 2] = [0xeb, 0x90];
+/// The start sequence of a CLTU.
+pub const START: [u8; 2] = [0xeb, 0x90];
 
-pub(crate) const TAIL: [u8; 8] = [0xc5, 0xc5, 0xc5, 0xc5, 0xc5, 0xc5, 0xc5, 0x79];
+/// The tail sequence, a block that no mode takes.
+pub const TAIL: [u8; 8] = [0xc5, 0xc5, 0xc5, 0xc5, 0xc5, 0xc5, 0xc5, 0x79];
 
 /// Why octets get no CLTU: the first of these that applies.
 #[derive(Clone, Copy, Debug, PartialEq, Eq, Error)]

@@ -1,17 +1,15 @@
 -- Octets that a decoder is given, one after the other.
-use Rattle.std.proofs.Common.{◌≡◌, ℕ, ◌+◌, ◌<◌, ◌≤◌, List, [], ◌∷◌, ◌++◌, length, get_or, drop, drop-cons, add-one, Option, refl, ap, sym, subst, ◌∙◌, add_assoc, arith, Some, None, slice_index_or, slice_set}
+use Rattle.std.proofs.Common.{◌≡◌, ℕ, ◌+◌, ◌<◌, ◌≤◌, List, [], ◌∷◌, ◌++◌, length, get_or, drop, Option, refl, ap, sym, subst, ◌∙◌, arith, Some, None, slice_index_or, slice_set}
 use Rattle.std.specs.Io.KnownBytes.{Appends}
 use Rattle.std.proofs.KnownBytes.{Appends-nil}
 use Rattle.std.proofs.lemmas.Grind.{flat_map-append}
-use Rattle.std.proofs.lemmas.List.{drop_all}
 use Rattle.std.proofs.lemmas.Option.{get_or_from_slice_get}
 use Rattle.std.specs.Prelude.{codes, slice_get}
 use Rattle.tc_lines.specs.Answering.{Writes}
-use Rattle.tc_cltu.specs.Reception.{Receiver, Reception, step, frames_of, fate_of}
-use Rattle.tc_cltu.specs.declared.block.Fate.{Fate}
+use Rattle.tc_cltu.specs.Reception.{Receiver, Reception, step, frames_of, corrected_in, rejected_in}
 use Rattle.tc_cltu.specs.declared.block.Mode.{Mode}
 use Rattle.tc_cltu.proofs.Decoding.{fed-frames, fed-all-frames}
-use Rattle.tc_make.specs.Decoders.{IsFed, IsPieceSaid, counted_in, corrected_in, rejected_in, candidates_text, blocks_text}
+use Rattle.tc_make.specs.Decoders.{IsFed, IsPieceSaid, candidates_text, blocks_text}
 use Rattle.tc_make.specs.Printed.{named_text}
 use Rattle.tc_make.proofs.Written.{joined}
 
@@ -33,37 +31,16 @@ one-fed mode was i os first state next a b c less same is (given, before, h) now
       fed-frames mode was 1029 i os state next given (given ++ more) (frames_of was 1029 first os) less same is refl h,
     )
 
-more-drop : (os : List ℕ) (i : ℕ) → i < length os → drop i os ≡ get_or os i 0 ∷ drop (i + 1) os
-more-drop os i less = drop-cons os i 0 less ∙ ap (λ (n : ℕ). get_or os i 0 ∷ drop n os) (sym (add-one i))
-
--- one code block more is counted
-pub one-counted : (count : Option Fate → ℕ) (mode was : Mode) (i : ℕ) (os : List ℕ) (state next : Reception) (n k target : ℕ) → i < length os → mode ≡ was
-    → next ≡ (step mode 1029 state (get_or os i 0)).0 → k ≡ count (fate_of mode state (get_or os i 0))
-    → n + counted_in count was state (drop i os) ≡ target → n + k + counted_in count was next (drop (i + 1) os) ≡ target
-one-counted count mode was i os state next n k target less same is now h =
-    let o = get_or os i 0 in
-    let rest = drop (i + 1) os in
-    ap (λ (x : ℕ). n + x + counted_in count was next rest) (now ∙ ap (λ (m : Mode). count (fate_of m state o)) same)
-    ∙ ap (λ (s : Reception). n + count (fate_of was state o) + counted_in count was s rest) (is ∙ ap (λ (m : Mode). (step m 1029 state o).0) same)
-    ∙ add_assoc n (count (fate_of was state o)) (counted_in count was (step was 1029 state o).0 rest)
-    ∙ sym (ap (λ (x : List ℕ). n + counted_in count was state x) (more-drop os i less)) ∙ h
-
-pub all-counted : (count : Option Fate → ℕ) (was : Mode) (i : ℕ) (os : List ℕ) (state : Reception) (n target : ℕ) → length os ≤ i
-    → n + counted_in count was state (drop i os) ≡ target → n ≡ target
-all-counted count was i os state n target past h =
-    let none : counted_in count was state (drop i os) ≡ 0 = ap (counted_in count was state) (drop_all i os past) in
-    omega (arith, none, h)
-
 -- all octets were taken
 pub all-fed : (mode : Mode) (i corrected rejected : ℕ) (os : List ℕ) (first state : Reception) (a b c : Option (List ℕ)) → length os ≤ i
-    → IsSoFar mode i os first state a b → corrected ≡ corrected_in mode first os → rejected ≡ rejected_in mode first os
+    → IsSoFar mode i os first state a b → corrected ≡ corrected_in mode 1029 first os → rejected ≡ rejected_in mode 1029 first os
     → Appends b c (blocks_text corrected rejected)
-    → Appends a c (candidates_text (frames_of mode 1029 first os) ++ blocks_text (corrected_in mode first os) (rejected_in mode first os))
+    → Appends a c (candidates_text (frames_of mode 1029 first os) ++ blocks_text (corrected_in mode 1029 first os) (rejected_in mode 1029 first os))
 all-fed mode i corrected rejected os first state a b c past (given, before, h) e f now =
     let frames : given ≡ frames_of mode 1029 first os = fed-all-frames mode 1029 i os state given (frames_of mode 1029 first os) past h in
-    joined a b c (candidates_text (frames_of mode 1029 first os)) (blocks_text (corrected_in mode first os) (rejected_in mode first os))
+    joined a b c (candidates_text (frames_of mode 1029 first os)) (blocks_text (corrected_in mode 1029 first os) (rejected_in mode 1029 first os))
     (subst (λ (x : List (List ℕ)). Appends a b (candidates_text x)) frames before)
-    (subst (λ (x : ℕ). Appends b c (blocks_text (corrected_in mode first os) x)) f (subst (λ (x : ℕ). Appends b c (blocks_text x rejected)) e now))
+    (subst (λ (x : ℕ). Appends b c (blocks_text (corrected_in mode 1029 first os) x)) f (subst (λ (x : ℕ). Appends b c (blocks_text x rejected)) e now))
 
 -- the decoder of a stream was given octets
 pub piece-fed : (old items : List (Option Receiver)) (id at : ℕ) (octets : List ℕ) (was slot : Option Receiver) (a b : Option (List ℕ)) → items ≡ old → at ≡ id

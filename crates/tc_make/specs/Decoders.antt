@@ -1,10 +1,8 @@
 -- The decoders of streams, and what their octets are answered.
-use Rattle.std.specs.Prelude.{◌≡◌, ◌⊎◌, ℕ, ◌+◌, List, [], ◌∷◌, ◌++◌, codes, decimal, replicate, slice_index_or, slice_set, Option, Some, None}
+use Rattle.std.specs.Prelude.{◌≡◌, ◌⊎◌, ℕ, List, [], ◌∷◌, ◌++◌, codes, decimal, replicate, slice_index_or, slice_set, Option, Some, None}
 use Rattle.std.specs.List.{flat_map}
 use Rattle.tc_cltu.specs.Cltu.{most_octets}
-use Rattle.tc_cltu.specs.Reception.{Receiver, Reception, Searching, step, state_after, frames_of, fate_of}
-use Rattle.tc_cltu.specs.declared.block.Fate.{Fate}
-use Rattle.tc_cltu.specs.declared.block.Fate.TheVariants.{Corrected, Rejected}
+use Rattle.tc_cltu.specs.Reception.{Receiver, Searching, state_after, frames_of, corrected_in, rejected_in}
 use Rattle.tc_cltu.specs.declared.block.Mode.{Mode}
 use Rattle.tc_make.specs.Printed.{bad_text, named_text}
 use Rattle.tc_make.specs.declared.fault.Reason.TheVariants.{NoDecoder, NoMemory}
@@ -19,27 +17,6 @@ new_decoder mode = record { mode = mode; state = Searching 0; held = [] }
 abbrev pub begun : List (Option Receiver) → ℕ → Mode → List (Option Receiver)
 begun decoders id mode = slice_set decoders id (Some (new_decoder mode))
 
-abbrev pub corrections_of : Option Fate → ℕ
-corrections_of (Some Corrected) = 1
-corrections_of _ = 0
-
-abbrev pub rejections_of : Option Fate → ℕ
-rejections_of (Some Rejected) = 1
-rejections_of _ = 0
-
--- the sum over the code blocks that end in the octets, each counted by what becomes of it
-abbrev pub counted_in : (Option Fate → ℕ) → Mode → Reception → List ℕ → ℕ
-counted_in count mode state [] = 0
-counted_in count mode state (octet ∷ octets) =
-    count (fate_of mode state octet) + counted_in count mode (step mode most_octets state octet).0 octets
-
--- how many code blocks are corrected, and how many are rejected that aren't the tail sequence
-abbrev pub corrected_in : Mode → Reception → List ℕ → ℕ
-corrected_in mode state octets = counted_in corrections_of mode state octets
-
-abbrev pub rejected_in : Mode → Reception → List ℕ → ℕ
-rejected_in mode state octets = counted_in rejections_of mode state octets
-
 -- a line for each candidate frame
 abbrev pub candidates_text : List (List ℕ) → List ℕ
 candidates_text frames = flat_map (named_text (codes "frame")) frames
@@ -51,7 +28,7 @@ blocks_text corrected rejected = codes "blocks corrected " ++ decimal corrected 
 -- what octets are answered that a decoder is given
 abbrev pub fed_text : Receiver → List ℕ → List ℕ
 fed_text d octets =
-    candidates_text (frames_of d.mode most_octets d.state octets) ++ blocks_text (corrected_in d.mode d.state octets) (rejected_in d.mode d.state octets)
+    candidates_text (frames_of d.mode most_octets d.state octets) ++ blocks_text (corrected_in d.mode most_octets d.state octets) (rejected_in d.mode most_octets d.state octets)
 
 -- a decoder was given octets, and this was answered; or there is none
 abbrev pub IsFed : Option Receiver → List ℕ → Option Receiver → List ℕ → Type 0

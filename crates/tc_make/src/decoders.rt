@@ -1,11 +1,11 @@
 //! The decoders of streams of CLTUs.
 
-ghost use Rattle.std.specs.Prelude.{◌≡◌, ◌≤◌, OnOk};
+ghost use Rattle.std.specs.Prelude.{◌≡◌, ◌∷◌, [], OnOk, if◌then◌else◌};
 ghost use Rattle.std.specs.Io.KnownBytes.{Appends};
 ghost use Rattle.tc_cltu.specs.Cltu.{most_octets};
-ghost use Rattle.tc_cltu.specs.Reception.{step, state_after};
+ghost use Rattle.tc_cltu.specs.Reception.{state_after};
 ghost use Rattle.tc_lines.specs.Answering.{Writes};
-ghost use Rattle.tc_make.specs.Decoders.{IsFed, fed_text, candidates_text, blocks_text, corrections_of, rejections_of};
+ghost use Rattle.tc_make.specs.Decoders.{IsFed, fed_text, candidates_text, blocks_text};
 
 use crate::fault::Reason;
 use crate::printed::{write_bad, write_named};
@@ -13,7 +13,7 @@ use std::alloc::{AllocError, Global};
 use std::io;
 use std::io::Write;
 use std::marker::Model;
-use tc_cltu::{Decoder, Fate, Mode};
+use tc_cltu::{Decoder, Mode, corrections, rejections};
 
 // How many streams there may be at a time: their ids are octets.
 const STREAMS: usize = 256;
@@ -89,10 +89,10 @@ fn write_fed<W: Write>(decoder: &mut Decoder, octets: &[u8], writer: &mut W) -> 
     let mut corrected = 0usize;
     let mut rejected = 0usize;
     for octet in octets {
-        let fate = decoder.fate(*octet);
-        corrected += corrections(fate);
-        rejected += rejections(fate);
-        write_next(decoder, *octet, writer)?;
+        let fed = decoder.feed_octet(*octet);
+        corrected += corrections(fed.fate);
+        rejected += rejections(fed.fate);
+        write_ended(decoder, fed.ended, writer)?;
     }
     write_blocks(corrected, rejected, writer)
 }
@@ -103,35 +103,12 @@ fn write_blocks<W: Write>(corrected: usize, rejected: usize, writer: &mut W) -> 
     writeln!(writer, "blocks corrected {corrected} rejected {rejected}")
 }
 
-// Takes an octet, and writes the candidate frame that it ends.
-fn write_next<W: Write>(decoder: &mut Decoder, octet: u8, writer: &mut W) -> io::Result<()>
-    ensures mode { decoder.new.mode ≡ decoder.old.mode }
-    ensures state { decoder.new.state ≡ (step decoder.old.mode most_octets decoder.old.state octet).0 }
-    ensures text { OnOk result (Appends (W.contents writer.old) (W.contents writer.new)
-        (candidates_text (step decoder.old.mode most_octets decoder.old.state octet).1)) }
+// Writes the candidate frame that the last octet ended.
+fn write_ended<W: Write>(decoder: &Decoder, ended: bool, writer: &mut W) -> io::Result<()>
+    ensures { OnOk result (Appends (W.contents writer.old) (W.contents writer.new) (candidates_text (if ended then decoder.now.held ∷ [] else []))) }
 {
-    if decoder.feed_octet(octet) {
+    if ended {
         return write_named("frame", decoder.held(), writer);
     }
     Ok(())
-}
-
-fn corrections(fate: Option<Fate>) -> usize
-    ensures count { result ≡ corrections_of fate }
-    ensures one { result ≤ 1 }
-{
-    match fate {
-        Some(Fate::Corrected) => 1,
-        _ => 0,
-    }
-}
-
-fn rejections(fate: Option<Fate>) -> usize
-    ensures count { result ≡ rejections_of fate }
-    ensures one { result ≤ 1 }
-{
-    match fate {
-        Some(Fate::Rejected) => 1,
-        _ => 0,
-    }
 }

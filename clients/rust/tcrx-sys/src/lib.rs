@@ -186,16 +186,6 @@ numbers! {
     INVALID: u8 = 5;
     /// A data field has left the buffer.
     RELEASE: u8 = 6;
-    /// No code block ended.
-    NO_BLOCK: u8 = 0;
-    /// It was taken as it was.
-    RIGHT: u8 = 1;
-    /// It was taken, and one of its bits corrected.
-    CORRECTED: u8 = 2;
-    /// It was rejected, and is the tail sequence.
-    TAIL: u8 = 3;
-    /// It was rejected, and isn't the tail sequence.
-    REJECTED: u8 = 4;
     /// The 1,029 octets that a CLTU carries at most, and one code block.
     DECODER_ROOM: usize = 1037;
 }
@@ -363,16 +353,20 @@ records! {
         /// The octets that code blocks have carried since the start sequence, 0 to 1,029.
         held: u16,
     }
-    /// What an octet came to.
+    /// What octets of a stream came to.
     Decoded as "tcrx_decoded" {
         /// `TCRX_DONE`, or why not.
         status: Status,
-        /// The decoder after the octet; where the call is refused, as it was given.
+        /// The decoder after the octets that were taken; where the call is refused, as it was given.
         decoder: Decoder,
-        /// `TCRX_NO_BLOCK` to `TCRX_REJECTED`, of the code block that it ended.
-        fate: u8,
-        /// Whether it ended a candidate frame: the first `held` octets of the buffer.
+        /// Whether the last of them ended a candidate frame: the first `held` octets of the buffer.
         ended: u8,
+        /// How many octets were taken.
+        taken: u64,
+        /// How many code blocks ended in them of which one bit was corrected.
+        corrected: u64,
+        /// How many ended in them that were rejected, and aren't the tail sequence.
+        rejected: u64,
     }
     /// What was written into a buffer.
     Written as "tcrx_written" {
@@ -563,13 +557,13 @@ extern "C" {
     ///
     /// Answer: the length of the CLTU, at most 1,186. Refused by `TCRX_EMPTY_DATA`, `TCRX_LONG_CLTU`, `TCRX_NO_ROOM`.
     pub fn tcrx_write_cltu_at(frame: *const u8, frame_count: usize, octets: *mut u8, room: usize) -> Written;
-    /// Gives a decoder the next octet of a stream. It looks for a start sequence, and then decodes code blocks until one is
-    /// rejected, as the tail sequence is: what the others carried is a candidate frame, with fill behind it. Give the record of the
-    /// answer to the next call, with the same buffer, all of which is the decoder's. A CLTU that carries more than 1,029 octets
-    /// gives nothing.
+    /// Gives a decoder the next octets of a stream: up to and with the first that ends a candidate frame, or all. It looks for a
+    /// start sequence, and then decodes code blocks until one is rejected, as the tail sequence is: what the others carried is a
+    /// candidate frame, with fill behind it. Give the record of the answer to the next call, with the octets behind those that were
+    /// taken and the same buffer, all of which is the decoder's. A CLTU that carries more than 1,029 octets gives nothing.
     ///
-    /// Answer: what the octet came to. Refused by `TCRX_BAD_FLAG`, `TCRX_BAD_DECODER`, `TCRX_NO_ROOM`.
-    pub fn tcrx_cltu_octet_at(decoder: Decoder, octet: u8, frame: *mut u8, room: usize) -> Decoded;
+    /// Answer: what the octets came to. Refused by `TCRX_BAD_FLAG`, `TCRX_BAD_DECODER`, `TCRX_NO_ROOM`.
+    pub fn tcrx_cltu_octets_at(decoder: Decoder, octets: *const u8, count: usize, frame: *mut u8, room: usize) -> Decoded;
     /// Writes octets with the random sequence added to the front of a buffer. Where a mission randomises its CLTUs, a sender gives
     /// it each frame before `tcrx_write_cltu`, and a receiver what each CLTU carried: added twice, the sequence changes nothing.
     ///

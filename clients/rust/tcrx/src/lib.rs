@@ -36,7 +36,7 @@ pub use errors::{
     BringError, FarmError, FecfError, FrameError, RackError, ReleaseError, SettingsError, TakeError, TmError, WriteError,
 };
 pub use link::{
-    add_fecf, check_fecf, randomise, write_cltu, Arrival, Clcw, Command, Decoder, Event, Farm, Fate, Fed, Frame, Header, Kind,
-    Packet, PacketHeader, Segments, State, Step, Tm, TmHeader,
+    add_fecf, check_fecf, randomise, write_cltu, Arrival, Clcw, Command, Decoder, Event, Farm, Fed, Frame, Header, Kind, Packet,
+    PacketHeader, Segments, State, Step, Tm, TmHeader,
 };
 pub use tcrx_sys::{Limit, Map, Queue};

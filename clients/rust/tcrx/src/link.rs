@@ -113,26 +113,17 @@ pub fn write_cltu<'room>(frame: &[u8], room: &'room mut [u8]) -> Result<&'room [
     written(answer, room)
 }
 
-/// What became of a code block.
+/// What octets of a stream came to.
 #[derive(Clone, Copy, Debug, PartialEq, Eq, Hash)]
-pub enum Fate {
-    /// It was taken as it was.
-    Right,
-    /// It was taken, and one of its bits corrected.
-    Corrected,
-    /// It was rejected, and is the tail sequence.
-    Tail,
-    /// It was rejected, and isn't the tail sequence.
-    Rejected,
-}
-
-/// What an octet of a stream came to.
-#[derive(Clone, Copy, Debug, PartialEq, Eq, Hash)]
-pub struct Fed<'held> {
-    /// What became of the code block that it ended, if it ended one.
-    pub fate: Option<Fate>,
-    /// The candidate frame that it ended, with fill behind it, if it ended one.
+pub struct Fed<'held, 'octets> {
+    /// The candidate frame that the last of those that were taken ended, with fill behind it, if it ended one.
     pub frame: Option<&'held [u8]>,
+    /// The octets behind those that were taken.
+    pub rest: &'octets [u8],
+    /// How many code blocks ended of which one bit was corrected.
+    pub corrected: u64,
+    /// How many ended that were rejected, and aren't the tail sequence.
+    pub rejected: u64,
 }
 
 /// A decoder of CLTUs in a stream, with the octets that it holds.
@@ -149,19 +140,18 @@ impl Decoder {
         Decoder { kept, held: [0; sys::DECODER_ROOM] }
     }
 
-    /// Takes the next octet of the stream.
-    pub fn octet(&mut self, octet: u8) -> Fed<'_> {
-        // SAFETY: the pointer is to as many octets as the room says.
-        let answer = unsafe { sys::tcrx_cltu_octet_at(self.kept, octet, self.held.as_mut_ptr(), self.held.len()) };
+    /// Takes the next octets of the stream, up to and with the first that ends a candidate frame, or all.
+    pub fn feed<'held, 'octets>(&'held mut self, octets: &'octets [u8]) -> Fed<'held, 'octets> {
+        // SAFETY: both pointers are to as many octets as the counts say, and only one of them is written to.
+        let answer =
+            unsafe { sys::tcrx_cltu_octets_at(self.kept, octets.as_ptr(), octets.len(), self.held.as_mut_ptr(), self.held.len()) };
         self.kept = answer.decoder;
-        let fate = match answer.fate {
-            sys::RIGHT => Some(Fate::Right),
-            sys::CORRECTED => Some(Fate::Corrected),
-            sys::TAIL => Some(Fate::Tail),
-            sys::REJECTED => Some(Fate::Rejected),
-            _ => None,
-        };
-        Fed { fate, frame: (answer.ended == 1).then(|| &self.held[..self.kept.held.into()]) }
+        Fed {
+            frame: (answer.ended == 1).then(|| &self.held[..self.kept.held.into()]),
+            rest: &octets[answer.taken as usize..],
+            corrected: answer.corrected,
+            rejected: answer.rejected,
+        }
     }
 }
 

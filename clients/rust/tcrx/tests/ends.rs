@@ -4,7 +4,7 @@
 use std::error::Error;
 use std::thread;
 use tcrx::{
-    add_fecf, check_fecf, randomise, write_cltu, Arrival, Channel, Clcw, Command, Decoder, Delivery, Event, Farm, FarmError, Fate,
+    add_fecf, check_fecf, randomise, write_cltu, Arrival, Channel, Clcw, Command, Decoder, Delivery, Event, Farm, FarmError,
     FecfError, Frame, Header, Kind, Limit, Limits, Link, Map, Packet, PacketHeader, Queue, Rack, RackError, ReleaseError, Segments,
     Settings, SettingsError, State, TakeError, Tm, TmError, TmHeader, WriteError,
 };
@@ -338,20 +338,31 @@ fn streams_of_cltus() {
     ];
     let carried = [0x22, 0xa3, 0x94, 0x07, 0xc8, 0xc0, 0xaa, 0xbb, 0x55, 0x55, 0x55, 0x55, 0x55, 0x55];
     let mut decoder = Decoder::new(true);
-    for (turned, first) in [(0, Fate::Right), (0x10, Fate::Corrected)] {
-        let mut fates = Vec::new();
-        let mut frames = Vec::new();
-        for (place, octet) in cltu.into_iter().enumerate() {
-            let fed = decoder.octet(if place == 5 { octet ^ turned } else { octet });
-            fates.extend(fed.fate);
-            frames.extend(fed.frame.map(<[u8]>::to_vec));
+    for (turned, wrong) in [(0, 0), (0x10, 1)] {
+        let mut stream = cltu;
+        stream[5] ^= turned;
+        for size in 1..=stream.len() {
+            let (mut frames, mut corrected) = (Vec::new(), 0);
+            for piece in stream.chunks(size) {
+                let mut rest = piece;
+                while !rest.is_empty() {
+                    let fed = decoder.feed(rest);
+                    frames.extend(fed.frame.map(<[u8]>::to_vec));
+                    corrected += fed.corrected;
+                    assert_eq!(fed.rejected, 0);
+                    rest = fed.rest;
+                }
+            }
+            assert_eq!((frames, corrected), (vec![carried.to_vec()], wrong));
         }
-        assert_eq!((fates, frames), (vec![first, Fate::Right, Fate::Tail], vec![carried.to_vec()]));
     }
+    let fed = decoder.feed(&cltu);
+    assert_eq!((fed.frame, fed.rest), (Some(&carried[..]), &cltu[26..]));
+    let mut stream = cltu;
+    stream[5] ^= 0x10;
     let mut strict = Decoder::new(false);
-    let fates: Vec<Fate> =
-        cltu.into_iter().enumerate().filter_map(|(place, octet)| strict.octet(octet ^ u8::from(place == 5)).fate).collect();
-    assert_eq!(fates, [Fate::Rejected]);
+    let fed = strict.feed(&stream);
+    assert_eq!((fed.frame, fed.rest, fed.corrected, fed.rejected), (None, &[][..], 0, 1));
 }
 
 /// With each value of the sequence flags. An octet of fill follows each packet.

@@ -1,6 +1,5 @@
-use Rattle.std.proofs.Common.{◌≡◌, ℕ, ◌++◌, List, take, drop, length, Some, ap, ◌∙◌, append_assoc, arith}
+use Rattle.std.proofs.Common.{◌≡◌, ℕ, ◌++◌, List, take, drop, length, Some, refl, ap, ◌∙◌, append_assoc, arith}
 use Rattle.tc_cltu.specs.CodeBlock.{decoded}
-use Rattle.tc_c.specs.declared.decoder.DecodedRecord.{DecodedRecord}
 use Rattle.tc_c.proofs.Receiving.{taken-state}
 use Rattle.tc_c.proofs.decoder.end_block.Goals as goal
 
@@ -14,5 +13,5 @@ returns-else-held-gt-MOST_OCTETS-clause-state c =
     let seven : length c.in-Some.information ≡ 7 = grind arith in
     let parts : front ++ (block ++ (one ++ other)) ≡ take d.held f ++ (c.in-Some.information ++ (one ++ other)) = grind arith in
     let whole : front ++ (block ++ one ++ other) ≡ take d.held f ++ (c.in-Some.information ++ (one ++ other)) = ap (λ (x : List ℕ). front ++ x) (append_assoc block one other) ∙ parts in
-    taken-state d c.told-in-Some.result.decoder f (front ++ (block ++ one ++ other)) (one ++ other) c.in-Some.information
-    (decoded c.args.mode (take 8 (drop d.held f))) c.requires.decoding (omega arith) (omega arith) seven is (ap (λ (r : DecodedRecord). r.decoder) c.told-in-Some.ensures) whole
+    taken-state d (record d { count = 0; held = d.held + 7 }) f (front ++ (block ++ one ++ other)) (one ++ other) c.in-Some.information
+    (decoded c.args.mode (take 8 (drop d.held f))) c.requires.decoding (omega arith) (omega arith) seven is refl whole

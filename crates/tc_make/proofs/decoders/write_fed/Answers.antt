@@ -1,15 +1,16 @@
-use Rattle.std.proofs.Common.{◌<◌, ◌≤◌, length, ap, ◌∙◌, arith}
+use Rattle.std.proofs.Common.{◌<◌, ◌≤◌, ℕ, List, length, subst, ap, ◌∙◌, arith}
+use Rattle.std.specs.Io.KnownBytes.{Appends}
 use Rattle.std.proofs.lemmas.Result.{on_ok_weaker}
-use Rattle.tc_cltu.specs.Reception.{state_after}
-use Rattle.tc_cltu.proofs.Decoding.{fed-state}
-use Rattle.tc_make.specs.Decoders.{corrections_of, rejections_of, corrected_in, rejected_in}
-use Rattle.tc_make.proofs.Fed.{one-fed, one-counted, all-counted, all-fed}
+use Rattle.tc_cltu.specs.Reception.{state_after, corrections_of, rejections_of, corrected_in, rejected_in}
+use Rattle.tc_cltu.proofs.Decoding.{fed-state, fed-counted, fed-all-counted}
+use Rattle.tc_make.specs.Decoders.{candidates_text}
+use Rattle.tc_make.proofs.Fed.{one-fed, all-fed}
 use Rattle.tc_make.proofs.decoders.write_fed.Goals as goal
 
 pub loop-octet-preserved : goal.loop-octet-preserved
 loop-octet-preserved g c =
     let l = c.loop-octet in let was = c.args.decoder.now in let os = c.args.octets.now in let i = l.octet-index in
-    let d = l.decoder in let next = c.write_next.new.decoder in
+    let d = l.decoder in let next = c.feed_octet-fed.new.self in
     let inv = l.invariant in
     let less : i < length os = c.loop-octet-test.true in
     let one = c.corrections-corrected.ensures.one in
@@ -17,14 +18,15 @@ loop-octet-preserved g c =
     let within = inv.corrected_within in
     let also = inv.rejected_within in
     record {
-      mode = c.write_next.ensures.mode ∙ inv.mode;
-      state = fed-state d.mode was.mode 1029 i os d.state next.state (state_after was.mode 1029 was.state os) less inv.mode c.write_next.ensures.state inv.state;
-      text = one-fed d.mode was.mode i os was.state d.state next.state _ _ _ less inv.mode c.write_next.ensures.state inv.text c.in_ok-write_next.ensures.text;
-      corrected = one-counted corrections_of d.mode was.mode i os d.state next.state l.corrected c.corrections-corrected.result (corrected_in was.mode was.state os) less inv.mode
-          c.write_next.ensures.state (c.corrections-corrected.ensures.count ∙ ap corrections_of c.fate-fate.ensures) inv.corrected;
+      mode = c.feed_octet-fed.ensures.mode ∙ inv.mode;
+      state = fed-state d.mode was.mode 1029 i os d.state next.state (state_after was.mode 1029 was.state os) less inv.mode c.feed_octet-fed.ensures.state inv.state;
+      text = one-fed d.mode was.mode i os was.state d.state next.state _ _ _ less inv.mode c.feed_octet-fed.ensures.state inv.text
+          (subst (λ (x : List (List ℕ)). Appends _ _ (candidates_text x)) c.feed_octet-fed.ensures.given c.in_ok-write_ended.ensures);
+      corrected = fed-counted corrections_of d.mode was.mode 1029 i os d.state next.state l.corrected c.corrections-corrected.result (corrected_in was.mode 1029 was.state os) less inv.mode
+          c.feed_octet-fed.ensures.state (c.corrections-corrected.ensures.count ∙ ap corrections_of c.feed_octet-fed.ensures.fate) inv.corrected;
       corrected_within = omega arith;
-      rejected = one-counted rejections_of d.mode was.mode i os d.state next.state l.rejected c.rejections-rejected.result (rejected_in was.mode was.state os) less inv.mode
-          c.write_next.ensures.state (c.rejections-rejected.ensures.count ∙ ap rejections_of c.fate-fate.ensures) inv.rejected;
+      rejected = fed-counted rejections_of d.mode was.mode 1029 i os d.state next.state l.rejected c.rejections-rejected.result (rejected_in was.mode 1029 was.state os) less inv.mode
+          c.feed_octet-fed.ensures.state (c.rejections-rejected.ensures.count ∙ ap rejections_of c.feed_octet-fed.ensures.fate) inv.rejected;
       rejected_within = omega arith;
     }
 
@@ -35,6 +37,6 @@ returns-clause-text g c =
     let past : length os ≤ i = omega arith in
     on_ok_weaker c.write_blocks.result
     (all-fed was.mode i l.corrected l.rejected os was.state l.decoder.state _ _ _ past inv.text
-    (all-counted corrections_of was.mode i os l.decoder.state l.corrected (corrected_in was.mode was.state os) past inv.corrected)
-    (all-counted rejections_of was.mode i os l.decoder.state l.rejected (rejected_in was.mode was.state os) past inv.rejected))
+    (fed-all-counted corrections_of was.mode 1029 i os l.decoder.state l.corrected (corrected_in was.mode 1029 was.state os) past inv.corrected)
+    (fed-all-counted rejections_of was.mode 1029 i os l.decoder.state l.rejected (rejected_in was.mode 1029 was.state os) past inv.rejected))
     c.write_blocks.ensures

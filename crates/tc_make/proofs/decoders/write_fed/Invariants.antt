@@ -1,6 +1,5 @@
 use Rattle.std.proofs.Common.{◌≡◌, ◌+◌, ◌≤◌, drop}
-use Rattle.tc_cltu.specs.Reception.{state_after}
-use Rattle.tc_make.specs.Decoders.{corrected_in, rejected_in}
+use Rattle.tc_cltu.specs.Reception.{state_after, corrected_in, rejected_in}
 use Rattle.tc_make.proofs.Fed.{IsSoFar}
 use Rattle.tc_make.proofs.decoders.write_fed.Given as goal
 
@@ -9,8 +8,8 @@ invariant-loop-octet g l = record {
   mode : l.decoder.mode ≡ l.initial.decoder.mode;
   state : state_after l.initial.decoder.mode 1029 l.decoder.state (drop l.octet-index l.octets) ≡ state_after l.initial.decoder.mode 1029 l.initial.decoder.state l.octets;
   text : IsSoFar l.initial.decoder.mode l.octet-index l.octets l.initial.decoder.state l.decoder.state (g.W.Write.contents l.initial.writer) (g.W.Write.contents l.writer);
-  corrected : l.corrected + corrected_in l.initial.decoder.mode l.decoder.state (drop l.octet-index l.octets) ≡ corrected_in l.initial.decoder.mode l.initial.decoder.state l.octets;
+  corrected : l.corrected + corrected_in l.initial.decoder.mode 1029 l.decoder.state (drop l.octet-index l.octets) ≡ corrected_in l.initial.decoder.mode 1029 l.initial.decoder.state l.octets;
   corrected_within : l.corrected ≤ l.octet-index;
-  rejected : l.rejected + rejected_in l.initial.decoder.mode l.decoder.state (drop l.octet-index l.octets) ≡ rejected_in l.initial.decoder.mode l.initial.decoder.state l.octets;
+  rejected : l.rejected + rejected_in l.initial.decoder.mode 1029 l.decoder.state (drop l.octet-index l.octets) ≡ rejected_in l.initial.decoder.mode 1029 l.initial.decoder.state l.octets;
   rejected_within : l.rejected ≤ l.octet-index;
 }

@@ -1,6 +1,6 @@
-use Rattle.std.proofs.Common.{◌≡◌, ℕ, ◌+◌, ◌≤◌, List, ◌++◌, Result, Ok, Err, OnErr, length, map, take, ◌∙◌, arith}
+use Rattle.std.proofs.Common.{◌≡◌, ℕ, ◌+◌, ◌≤◌, List, [], ◌∷◌, ◌++◌, Result, Ok, Err, OnErr, length, map, take, ◌∙◌, arith}
 use Rattle.tc_cltu.specs.Reception.{StopsShort, state_after, frames_of}
-use Rattle.tc_cltu.proofs.Decoding.{fed-state, fed-front, fed-frames, fed-given, fed-short, fed-all-state, fed-all-frames}
+use Rattle.tc_cltu.proofs.Decoding.{fed-state, fed-front, fed-frames, fed-given, fed-more, fed-all-state, fed-all-frames}
 use Rattle.tc_cltu.proofs.decoder.Decoder.feed.Goals as goal
 
 pub loop-octet-preserved : goal.loop-octet-preserved
@@ -32,7 +32,7 @@ returns-in_err-keep-clause-short c =
         count = i + 1;
         within = within;
         state = fed-front l.self.mode was.mode 1029 i os was.state l.self.state c.keep.new.self.state c.loop-octet-test.true inv.mode c.keep.ensures.state inv.front;
-        frames = fed-short l.self.mode was.mode 1029 i os was.state l.self.state c.keep.new.self.held c.loop-octet-test.true inv.mode inv.front c.in_err-keep.ensures.held;
+        frames = fed-more l.self.mode was.mode 1029 i os was.state l.self.state (c.keep.new.self.held ∷ []) c.loop-octet-test.true inv.mode inv.front c.in_err-keep.ensures.held;
       },
     ) in
     of-error c.from_residual.result short

@@ -1,39 +1,45 @@
-use Rattle.std.proofs.Common.{◌≡◌, ℕ, ◌+◌, set, ap, sym, ◌∙◌, arith}
+use Rattle.std.proofs.Common.{◌≡◌, ℕ, ◌+◌, set, refl, ap, sym, ◌∙◌, arith}
 use Rattle.tc_cltu.specs.Reception.{Step}
-use Rattle.tc_c.specs.declared.decoder.DecodedRecord.{DecodedRecord}
-use Rattle.tc_c.specs.Decoder.{fate_number}
 use Rattle.tc_c.proofs.Receiving.{more-state, last-state, last-fate}
-use Rattle.tc_c.proofs.decoder.decoded_octet.Goals as goal
+use Rattle.tc_c.proofs.decoder.take_octet.Goals as goal
 
 pub returns-then-decoder-eq7-clause-state : goal.returns-then-decoder-eq7-clause-state
 returns-then-decoder-eq7-clause-state c =
     let d = c.args.decoder in let f = c.args.frame.now in let o = c.args.octet in
+    let decoding = c.requires.decoding in let other = c.if-decoder-eq0.false in
+    let on : d.decoding ≡ 1 = omega arith in
     let held = c.requires.held in let room = c.requires.room in let last = c.if-decoder-eq7.true in
     let h = c.from.ensures in let k = c.from-2.ensures in
     let place : c.from.result + c.from-2.result ≡ d.held + d.count = omega arith in
-    c.end_block.ensures.state ∙ sym (ap (λ (s : Step). s.0) (last-state c.args.mode o d f (set f (c.from.result + c.from-2.result) o) c.requires.decoding last (omega arith) (ap (λ (n : ℕ). set f n o) place)))
+    c.end_block.ensures.state ∙ sym (ap (λ (s : Step). s.0) (last-state c.args.mode o d f (set f (c.from.result + c.from-2.result) o) on last (omega arith) (ap (λ (n : ℕ). set f n o) place)))
 
 pub returns-then-decoder-eq7-clause-given : goal.returns-then-decoder-eq7-clause-given
 returns-then-decoder-eq7-clause-given c =
     let d = c.args.decoder in let f = c.args.frame.now in let o = c.args.octet in
+    let decoding = c.requires.decoding in let other = c.if-decoder-eq0.false in
+    let on : d.decoding ≡ 1 = omega arith in
     let held = c.requires.held in let room = c.requires.room in let last = c.if-decoder-eq7.true in
     let h = c.from.ensures in let k = c.from-2.ensures in
     let place : c.from.result + c.from-2.result ≡ d.held + d.count = omega arith in
-    c.end_block.ensures.given ∙ sym (ap (λ (s : Step). s.1) (last-state c.args.mode o d f (set f (c.from.result + c.from-2.result) o) c.requires.decoding last (omega arith) (ap (λ (n : ℕ). set f n o) place)))
+    c.end_block.ensures.given ∙ sym (ap (λ (s : Step). s.1) (last-state c.args.mode o d f (set f (c.from.result + c.from-2.result) o) on last (omega arith) (ap (λ (n : ℕ). set f n o) place)))
 
 pub returns-then-decoder-eq7-clause-fate : goal.returns-then-decoder-eq7-clause-fate
 returns-then-decoder-eq7-clause-fate c =
     let d = c.args.decoder in let f = c.args.frame.now in let o = c.args.octet in
+    let decoding = c.requires.decoding in let other = c.if-decoder-eq0.false in
+    let on : d.decoding ≡ 1 = omega arith in
     let held = c.requires.held in let room = c.requires.room in let last = c.if-decoder-eq7.true in
     let h = c.from.ensures in let k = c.from-2.ensures in
     let place : c.from.result + c.from-2.result ≡ d.held + d.count = omega arith in
-    c.end_block.ensures.fate ∙ sym (ap fate_number (last-fate c.args.mode o d f (set f (c.from.result + c.from-2.result) o) c.requires.decoding last (omega arith) (ap (λ (n : ℕ). set f n o) place)))
+    c.end_block.ensures.fate ∙ sym (last-fate c.args.mode o d f (set f (c.from.result + c.from-2.result) o) on last (omega arith) (ap (λ (n : ℕ). set f n o) place))
 
 pub returns-clause-state : goal.returns-clause-state
 returns-clause-state c =
     let d = c.args.decoder in let f = c.args.frame.now in let o = c.args.octet in
-    let held = c.requires.held in let room = c.requires.room in let count = c.requires.count in let other = c.if-decoder-eq7.false in
+    let decoding = c.requires.decoding in let other = c.if-decoder-eq0.false in
+    let on : d.decoding ≡ 1 = omega arith in
+    let held = c.requires.held in let room = c.requires.room in let count = c.requires.count in let few = c.if-decoder-eq7.false in
     let h = c.from.ensures in let k = c.from-2.ensures in
     let place : c.from.result + c.from-2.result ≡ d.held + d.count = omega arith in
-    more-state c.args.mode o d c.told.result.decoder f (set f (c.from.result + c.from-2.result) o) c.requires.decoding (omega arith) (omega arith)
-    (ap (λ (n : ℕ). set f n o) place) (ap (λ (r : DecodedRecord). r.decoder) c.told.ensures)
+    more-state c.args.mode o d (record d { count = d.count + 1 }) f (set f (c.from.result + c.from-2.result) o) on (omega arith) (omega arith)
+    (ap (λ (n : ℕ). set f n o) place) refl

@@ -1,0 +1,20 @@
+use Rattle.std.proofs.Common.{◌≡◌, ◌<◌, ◌≤◌, [], length, take}
+use Rattle.tc_cltu.specs.Reception.{state_after, frames_of, corrected_in, rejected_in}
+use Rattle.tc_c.specs.Decoder.{reception_of}
+use Rattle.tc_c.proofs.decoder.take_octets.Given as goal
+
+abbrev pub invariant-loop-octet : goal.invariant-loop-octet
+invariant-loop-octet l = record {
+  correct : l.now.correct ≡ l.fn.decoder.correct;
+  count : l.now.count < 8;
+  held : l.now.held ≤ 1029;
+  decoding : l.now.decoding < 2;
+  room : length l.frame ≡ length l.fn.frame;
+  taken : l.taken ≡ l.octet-index;
+  state : reception_of l.now l.frame ≡ state_after l.fn.mode 1029 (reception_of l.fn.decoder l.fn.frame) (take l.octet-index l.octets);
+  none : frames_of l.fn.mode 1029 (reception_of l.fn.decoder l.fn.frame) (take l.octet-index l.octets) ≡ [];
+  corrected : l.corrected ≡ corrected_in l.fn.mode 1029 (reception_of l.fn.decoder l.fn.frame) (take l.octet-index l.octets);
+  corrected_within : l.corrected ≤ l.octet-index;
+  rejected : l.rejected ≡ rejected_in l.fn.mode 1029 (reception_of l.fn.decoder l.fn.frame) (take l.octet-index l.octets);
+  rejected_within : l.rejected ≤ l.octet-index;
+}
