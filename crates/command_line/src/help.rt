@@ -71,7 +71,8 @@ pub(crate) const MAKER_LINES: &str = "Lines, each of which is answered before th
   tm SCID VC SIZE HEX                  makes the next telemetry frame of a virtual channel (0 to 7): SIZE octets (11 to 2048),
                                        with a CLCW, four octets
   telemetry HEX                        takes a telemetry frame apart
-  decoder ID MODE                      gives a stream (0 to 255) a new decoder of CLTUs, which does detect or correct
+  decoder ID MODE                      gives a stream (0 to 255) a new decoder of CLTUs. MODE is detect, or correct: one wrong
+                                       bit of each code block is corrected, and one of the start sequence passes
   octets ID HEX                        gives the decoder of a stream its next octets
   # WORDS                              is a comment
 The word plain in the place of a MAP of ad and bd leaves the segment header out. A bad line is answered bad and why. A line

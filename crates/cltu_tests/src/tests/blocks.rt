@@ -1,7 +1,7 @@
 //! Code blocks.
 
 use std::process::Abort;
-use tc_cltu::{Mode, decode_block, encode_block};
+use tc_cltu::{Fate, Mode, TAIL, decode_block, encode_block, judge};
 
 // Seven octets and the last octet of their code block. G is x^7 + x^6 + x^2 + 1, and the octets are a polynomial M, which is divided
 // by hand:
@@ -101,4 +101,19 @@ fn the_tail_sequence_is_rejected_in_each_mode(rt: HostRuntime) {
         check(&rt, block, Mode::Detect, None);
         check(&rt, block, Mode::Correct, None);
     }
+}
+
+fn check_fate(rt: &impl Abort, block: [u8; 8], mode: Mode, expected: Fate) {
+    assert_eq!(rt; judge(block, mode).fate, expected, "{mode:?}");
+}
+
+#[test]
+fn what_becomes_of_a_block_is_told(rt: HostRuntime) {
+    for mode in [Mode::Detect, Mode::Correct] {
+        check_fate(&rt, BLOCK, mode, Fate::Right);
+        check_fate(&rt, TAIL, mode, Fate::Tail);
+        check_fate(&rt, [0x55; 8], mode, Fate::Rejected);
+    }
+    check_fate(&rt, turned(BLOCK, 9), Mode::Correct, Fate::Corrected);
+    check_fate(&rt, turned(BLOCK, 9), Mode::Detect, Fate::Rejected);
 }

@@ -138,7 +138,7 @@ fn wrong_bits_are_detected_or_corrected(rt: HostRuntime) {
 fn feed_all(decoder: &mut Decoder, octets: &[u8]) -> bool {
     let mut ends = false;
     for octet in octets {
-        if decoder.feed_octet(*octet) {
+        if decoder.feed_octet(*octet).ended {
             ends = true;
         }
     }
