@@ -60,7 +60,7 @@ pub extern "C" fn tcrx_cltu_octets_at(
     ensures kept { IfOk (decoder_given decoder (length frame.old)) (λ mode. decoder_given result.decoder (length frame.new) ≡ Ok mode) }
     ensures state { IfOk (decoder_given decoder (length frame.old)) (λ mode. reception_of result.decoder frame.new ≡ state_after mode most_octets (reception_of decoder frame.old) (take result.taken octets.now)) }
     ensures given { IfOk (decoder_given decoder (length frame.old)) (λ mode. given_by result frame.new ≡ frames_of mode most_octets (reception_of decoder frame.old) (take result.taken octets.now)) }
-    ensures before { IfOk (decoder_given decoder (length frame.old)) (λ mode. frames_of mode most_octets (reception_of decoder frame.old) (take (result.taken - 1) octets.now) ≡ []) }
+    ensures before { IfOk (decoder_given decoder (length frame.old)) (λ mode. result.ended ≡ 1 → frames_of mode most_octets (reception_of decoder frame.old) (take (result.taken - 1) octets.now) ≡ []) }
     ensures all { IfOk (decoder_given decoder (length frame.old)) (λ mode. result.ended ≡ 0 → result.taken ≡ length octets.now) }
     ensures flag { IfOk (decoder_given decoder (length frame.old)) (λ mode. result.ended < 2) }
     ensures corrected { IfOk (decoder_given decoder (length frame.old)) (λ mode. result.corrected ≡ corrected_in mode most_octets (reception_of decoder frame.old) (take result.taken octets.now)) }
@@ -99,7 +99,7 @@ fn take_octets(
     ensures length { length frame.new ≡ length frame.old }
     ensures state { reception_of result.decoder frame.new ≡ state_after mode most_octets (reception_of decoder frame.old) (take result.taken octets.now) }
     ensures given { given_by result frame.new ≡ frames_of mode most_octets (reception_of decoder frame.old) (take result.taken octets.now) }
-    ensures before { frames_of mode most_octets (reception_of decoder frame.old) (take (result.taken - 1) octets.now) ≡ [] }
+    ensures before { result.ended ≡ 1 → frames_of mode most_octets (reception_of decoder frame.old) (take (result.taken - 1) octets.now) ≡ [] }
     ensures all { result.ended ≡ 0 → result.taken ≡ length octets.now }
     ensures flag { result.ended < 2 }
     ensures corrected { result.corrected ≡ corrected_in mode most_octets (reception_of decoder frame.old) (take result.taken octets.now) }

@@ -493,7 +493,7 @@ fed-more mode was room i os first state more less same_mode at h =
 
 counted-append : (count : Option Fate → ℕ) (mode : Mode) (room : ℕ) (xs ys : List ℕ) (s : Reception)
     → counted_in count mode room s (xs ++ ys) ≡ counted_in count mode room s xs + counted_in count mode room (state_after mode room s xs) ys
-counted-append count mode room [] ys s = refl
+counted-append count mode room [] ys s = omega arith
 counted-append count mode room (x ∷ xs) ys s =
     ap (λ (n : ℕ). count (fate_of mode s x) + n) (counted-append count mode room xs ys (step mode room s x).0)
     ∙ sym (add_assoc (count (fate_of mode s x)) (counted_in count mode room (step mode room s x).0 xs) (counted_in count mode room (state_after mode room (step mode room s x).0 xs) ys))

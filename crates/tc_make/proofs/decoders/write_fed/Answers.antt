@@ -21,7 +21,7 @@ loop-octet-preserved g c =
       mode = c.feed_octet-fed.ensures.mode ∙ inv.mode;
       state = fed-state d.mode was.mode 1029 i os d.state next.state (state_after was.mode 1029 was.state os) less inv.mode c.feed_octet-fed.ensures.state inv.state;
       text = one-fed d.mode was.mode i os was.state d.state next.state _ _ _ less inv.mode c.feed_octet-fed.ensures.state inv.text
-          (subst (λ (x : List (List ℕ)). Appends _ _ (candidates_text x)) c.feed_octet-fed.ensures.given c.in_ok-write_ended.ensures);
+          (subst (λ (x : List (List ℕ)). Appends (g.W.Write.contents l.writer) (g.W.Write.contents c.write_ended.new.writer) (candidates_text x)) c.feed_octet-fed.ensures.given c.in_ok-write_ended.ensures);
       corrected = fed-counted corrections_of d.mode was.mode 1029 i os d.state next.state l.corrected c.corrections-corrected.result (corrected_in was.mode 1029 was.state os) less inv.mode
           c.feed_octet-fed.ensures.state (c.corrections-corrected.ensures.count ∙ ap corrections_of c.feed_octet-fed.ensures.fate) inv.corrected;
       corrected_within = omega arith;

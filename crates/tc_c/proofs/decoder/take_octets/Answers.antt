@@ -1,0 +1,31 @@
+use Rattle.std.proofs.Common.{◌≡◌, ℕ, ◌+◌, ◌-◌, ◌<◌, ◌≤◌, Bool, List, [], ◌∷◌, ◌++◌, length, get_or, take, if◌then◌else◌, refl, ap, sym, ◌∙◌, arith}
+use Rattle.std.proofs.lemmas.List.{take_all}
+use Rattle.tc_cltu.specs.Reception.{Reception, step, state_after, frames_of, corrections_of, rejections_of, corrected_in, rejected_in}
+use Rattle.tc_cltu.proofs.Decoding.{fed-front, fed-more, fed-more-counted}
+use Rattle.tc_c.specs.Decoder.{reception_of}
+use Rattle.tc_c.proofs.decoder.take_octets.Goals as goal
+
+pub loop-octet-preserved : goal.loop-octet-preserved
+loop-octet-preserved c =
+    let l = c.loop-octet in let os = c.args.octets.now in let i = l.octet-index in let m = c.args.mode in
+    let first = reception_of c.args.decoder c.args.frame.now in let at = reception_of l.now l.frame in
+    let n = c.take_octet-next.result in let t = c.take_octet-next.ensures in let inv = l.invariant in
+    let less : i < length os = c.loop-octet-test.true in
+    let one = c.corrections.ensures.one in let other = c.rejections.ensures.one in
+    let within = inv.corrected_within in let also = inv.rejected_within in
+    let given : (step m 1029 at (get_or os i 0)).1 ≡ [] =
+    sym t.given ∙ ap (λ (b : Bool). if b then take n.decoder.held c.take_octet-next.new.frame ∷ [] else []) c.if-next.false in
+    record {
+      correct = t.mode ∙ inv.correct;
+      count = t.count;
+      held = t.held;
+      decoding = t.decoding;
+      room = t.length ∙ inv.room;
+      taken = ap (λ (k : ℕ). k + 1) inv.taken;
+      state = fed-front m m 1029 i os first at (reception_of n.decoder c.take_octet-next.new.frame) less refl t.state inv.state;
+      none = fed-more m m 1029 i os first at [] less refl inv.state given ∙ ap (λ (x : List (List ℕ)). x ++ []) inv.none;
+      corrected = fed-more-counted corrections_of m 1029 i os first at l.corrected c.corrections.result less inv.state (c.corrections.ensures.count ∙ ap corrections_of t.fate) inv.corrected;
+      corrected_within = omega arith;
+      rejected = fed-more-counted rejections_of m 1029 i os first at l.rejected c.rejections.result less inv.state (c.rejections.ensures.count ∙ ap rejections_of t.fate) inv.rejected;
+      rejected_within = omega arith;
+    }
