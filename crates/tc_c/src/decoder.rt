@@ -81,12 +81,7 @@ pub extern "C" fn tcrx_cltu_octets_at(
 }
 
 // After octets, up to and with the first that ends a candidate frame.
-fn take_octets(
-    mode: Mode,
-    decoder: DecoderRecord,
-    octets: &[u8],
-    frame: &mut [u8],
-) -> DecodedRecord
+fn take_octets(mode: Mode, decoder: DecoderRecord, octets: &[u8], frame: &mut [u8]) -> DecodedRecord
     requires count { decoder.count < 8 }
     requires held { decoder.held ≤ most_octets }
     requires decoding { decoder.decoding < 2 }

@@ -1,4 +1,4 @@
-use Rattle.std.proofs.Common.{◌≡◌, ℕ, ◌++◌, List, take, drop, length, Some, refl, ap, ◌∙◌, append_assoc, arith}
+use Rattle.std.proofs.Common.{◌≡◌, ℕ, ◌+◌, ◌++◌, List, take, drop, length, Some, refl, ap, ◌∙◌, append_assoc, arith}
 use Rattle.tc_cltu.specs.CodeBlock.{decoded}
 use Rattle.tc_c.proofs.Receiving.{taken-state}
 use Rattle.tc_c.proofs.decoder.end_block.Goals as goal
