@@ -9,7 +9,7 @@ ghost use Rattle.tc_c.specs.Decoder.{decoder_room, decoder_given, reception_of, 
 
 use crate::farm::flag;
 use crate::status::{Status, code};
-use tc_cltu::{Fate, Judged, MOST_OCTETS, Mode, begins, corrections, judge, rejections};
+use tc_cltu::{Blocks, Fate, Judged, MOST_OCTETS, Mode, begins, judge};
 
 /// A decoder of CLTUs, apart from what it holds, which is in a buffer. Flags are 0 or 1.
 #[repr(C)]
@@ -102,22 +102,23 @@ fn take_octets(mode: Mode, decoder: DecoderRecord, octets: &[u8], frame: &mut [u
 {
     let mut now = decoder;
     let mut taken = 0u64;
-    let mut corrected = 0u64;
-    let mut rejected = 0u64;
+    let mut counts = Blocks {
+        corrected: 0,
+        rejected: 0,
+    };
     for octet in octets {
         let next = take_octet(mode, now, *octet, frame);
         now = next.decoder;
         taken += 1;
-        corrected += corrections(next.fate) as u64;
-        rejected += rejections(next.fate) as u64;
+        counts.count(next.fate);
         if next.ended {
             return DecodedRecord {
                 status: code(Status::Done),
                 decoder: now,
                 ended: 1,
                 taken,
-                corrected,
-                rejected,
+                corrected: counts.corrected,
+                rejected: counts.rejected,
             };
         }
     }
@@ -126,8 +127,8 @@ fn take_octets(mode: Mode, decoder: DecoderRecord, octets: &[u8], frame: &mut [u
         decoder: now,
         ended: 0,
         taken,
-        corrected,
-        rejected,
+        corrected: counts.corrected,
+        rejected: counts.rejected,
     }
 }
 

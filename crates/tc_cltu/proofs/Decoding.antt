@@ -7,9 +7,9 @@ use lib.Bits.{xor_self}
 use Rattle.tc_cltu.specs.Bits.{IsOctets, octet_bits}
 use Rattle.tc_cltu.specs.CodeBlock.{IsInformation, parity_of, times_x, code_block, decoded, turned}
 use Rattle.tc_cltu.specs.Cltu.{cltu, start_sequence, tail_sequence, code_blocks, fill, filled, fault_of}
-use Rattle.tc_cltu.specs.Reception.{Receiver, Reception, Searching, Decoding, Step, is_start, step, after_block, rejected_as, fate_in, fate_of, counted_in, state_after, frames_of, HasNoStart, IsSearching, IsReception, idle}
+use Rattle.tc_cltu.specs.Reception.{Receiver, Reception, Searching, Decoding, Step, is_start, step, after_block, rejected_as, fate_in, fate_of, corrections_of, rejections_of, counted_in, state_after, frames_of, HasNoStart, IsSearching, IsReception, idle}
 use Rattle.tc_cltu.specs.declared.block.Fate.{Fate}
-use Rattle.tc_cltu.specs.declared.block.Fate.TheVariants.{Right, Corrected}
+use Rattle.tc_cltu.specs.declared.block.Fate.TheVariants.{Right, Corrected, Tail, Rejected}
 use Rattle.tc_cltu.specs.declared.block.Mode.{Mode}
 use Rattle.tc_cltu.specs.declared.block.Mode.TheVariants.{Detect, Correct}
 use Rattle.tc_cltu.proofs.Words.{AreOctets, are-octets, is-octets, parity-fits}
@@ -434,6 +434,14 @@ fed-frames mode was room i os state next out more target less same_mode is given
     ∙ ap (λ (s : Reception). out ++ (step was room state o).1 ++ frames_of was room s (drop (i + 1) os)) (is ∙ ap (λ (m : Mode). (step m room state o).0) same_mode)
     ∙ append_assoc out (step was room state o).1 (frames_of was room (step was room state o).0 (drop (i + 1) os))
     ∙ sym (ap (λ (x : List ℕ). out ++ frames_of was room state x) (more-drop os i less)) ∙ h
+
+-- one code block is counted once at most
+pub one-counted : (fate : Option Fate) → (corrections_of fate ≤ 1) × (rejections_of fate ≤ 1)
+one-counted None = (omega arith, omega arith)
+one-counted (Some Right) = (omega arith, omega arith)
+one-counted (Some Corrected) = (omega arith, omega arith)
+one-counted (Some Tail) = (omega arith, omega arith)
+one-counted (Some Rejected) = (omega arith, omega arith)
 
 -- one code block more is counted
 pub fed-counted : (count : Option Fate → ℕ) (mode was : Mode) (room i : ℕ) (os : List ℕ) (state next : Reception) (n k target : ℕ) → i < length os → mode ≡ was

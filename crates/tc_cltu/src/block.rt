@@ -1,6 +1,6 @@
 //! Code blocks.
 
-ghost use Rattle.std.specs.Prelude.{◌≡◌, ◌≢◌, ◌+◌, ◌<◌, ◌≤◌, ◌++◌, ◌∷◌, [], ℕ, List, Some, None, length, IfSome, MatchOption};
+ghost use Rattle.std.specs.Prelude.{◌≡◌, ◌≢◌, ◌+◌, ◌^◌, ◌<◌, ◌≤◌, ◌++◌, ◌∷◌, [], ℕ, List, Some, None, length, IfSome, MatchOption};
 ghost use Rattle.tc_cltu.specs.Bits.{IsOctets};
 ghost use Rattle.tc_cltu.specs.CodeBlock.{parity_of, code_block, decoded, errors, most_errors, turned, IsInformation};
 ghost use Rattle.tc_cltu.specs.Reception.{fate_in, rejected_as, corrections_of, rejections_of};
@@ -151,24 +151,25 @@ fn turn(octets: &mut [u8], place: u8)
     octets[at] ^= 0x80 >> (place % 8);
 }
 
-/// How many code blocks were corrected that an octet ended: one or none.
-pub fn corrections(fate: Option<Fate>) -> usize
-    ensures count { result ≡ corrections_of fate }
-    ensures one { result ≤ 1 }
-{
-    match fate {
-        Some(Fate::Corrected) => 1,
-        _ => 0,
-    }
+/// How many code blocks were corrected, and how many rejected that aren't the tail sequence.
+#[derive(Clone, Copy, Debug, PartialEq, Eq)]
+pub struct Blocks {
+    pub corrected: u64,
+    pub rejected: u64,
 }
 
-/// How many code blocks were rejected that an octet ended, and aren't the tail sequence: one or none.
-pub fn rejections(fate: Option<Fate>) -> usize
-    ensures count { result ≡ rejections_of fate }
-    ensures one { result ≤ 1 }
-{
-    match fate {
-        Some(Fate::Rejected) => 1,
-        _ => 0,
+impl Blocks {
+    /// Counts the code block that an octet ended, if it ended one.
+    pub fn count(&mut self, fate: Option<Fate>)
+        requires corrected { self.old.corrected + 1 < 2 ^ 64 }
+        requires rejected { self.old.rejected + 1 < 2 ^ 64 }
+        ensures corrected { self.new.corrected ≡ self.old.corrected + corrections_of fate }
+        ensures rejected { self.new.rejected ≡ self.old.rejected + rejections_of fate }
+    {
+        match fate {
+            Some(Fate::Corrected) => self.corrected += 1,
+            Some(Fate::Rejected) => self.rejected += 1,
+            _ => {}
+        }
     }
 }

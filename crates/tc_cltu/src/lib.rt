@@ -13,7 +13,7 @@ mod randomiser;
 mod tables;
 mod writer;
 
-pub use block::{Fate, Judged, Mode, corrections, decode_block, encode_block, judge, rejections};
+pub use block::{Blocks, Fate, Judged, Mode, decode_block, encode_block, judge};
 pub use decoder::{Decoder, Fed, begins};
 pub use laws::{
     a_cltu_gives_its_frame, code_blocks_differ_in_four_places, each_turned_bit_is_an_error,

@@ -13,7 +13,7 @@ use std::alloc::{AllocError, Global};
 use std::io;
 use std::io::Write;
 use std::marker::Model;
-use tc_cltu::{Decoder, Mode, corrections, rejections};
+use tc_cltu::{Blocks, Decoder, Mode};
 
 // How many streams there may be at a time: their ids are octets.
 const STREAMS: usize = 256;
@@ -86,20 +86,22 @@ fn write_fed<W: Write>(decoder: &mut Decoder, octets: &[u8], writer: &mut W) -> 
     ensures state { OnOk result (decoder.new.state ≡ state_after decoder.old.mode most_octets decoder.old.state octets.now) }
     ensures text { OnOk result (Appends (W.contents writer.old) (W.contents writer.new) (fed_text decoder.old octets.now)) }
 {
-    let mut corrected = 0usize;
-    let mut rejected = 0usize;
+    let mut counts = Blocks {
+        corrected: 0,
+        rejected: 0,
+    };
     for octet in octets {
         let fed = decoder.feed_octet(*octet);
-        corrected += corrections(fed.fate);
-        rejected += rejections(fed.fate);
+        counts.count(fed.fate);
         write_ended(decoder, fed.ended, writer)?;
     }
-    write_blocks(corrected, rejected, writer)
+    write_blocks(counts, writer)
 }
 
-fn write_blocks<W: Write>(corrected: usize, rejected: usize, writer: &mut W) -> io::Result<()>
-    ensures { OnOk result (Appends (W.contents writer.old) (W.contents writer.new) (blocks_text corrected rejected)) }
+fn write_blocks<W: Write>(blocks: Blocks, writer: &mut W) -> io::Result<()>
+    ensures { OnOk result (Appends (W.contents writer.old) (W.contents writer.new) (blocks_text blocks.corrected blocks.rejected)) }
 {
+    let Blocks { corrected, rejected } = blocks;
     writeln!(writer, "blocks corrected {corrected} rejected {rejected}")
 }
 

@@ -1,6 +1,6 @@
 use Rattle.std.proofs.Common.{◌≡◌, ℕ, ◌+◌, ◌-◌, ◌<◌, ◌≤◌, Bool, List, [], ◌∷◌, ◌++◌, length, get_or, take, if◌then◌else◌, refl, ap, sym, ◌∙◌, arith}
 use Rattle.tc_cltu.specs.Reception.{Reception, step, state_after, frames_of, corrections_of, rejections_of, corrected_in, rejected_in}
-use Rattle.tc_cltu.proofs.Decoding.{fed-front, fed-more, fed-more-counted}
+use Rattle.tc_cltu.proofs.Decoding.{fed-front, fed-more, fed-more-counted, one-counted}
 use Rattle.tc_c.specs.Decoder.{reception_of}
 use Rattle.tc_c.proofs.decoder.take_octets.Goals as goal
 
@@ -10,8 +10,9 @@ loop-octet-preserved c =
     let first = reception_of c.args.decoder c.args.frame.now in let at = reception_of l.now l.frame in
     let n = c.take_octet-next.result in let t = c.take_octet-next.ensures in let inv = l.invariant in
     let less : i < length os = c.loop-octet-test.true in
-    let one = c.corrections.ensures.one in let other = c.rejections.ensures.one in
-    let within = inv.corrected_within in let also = inv.rejected_within in
+    let counts = one-counted n.fate in let one = counts.0 in let two = counts.1 in
+    let is = c.count.ensures.corrected in let also = c.count.ensures.rejected in
+    let within = inv.corrected_within in let other = inv.rejected_within in
     let given : (step m 1029 at (get_or os i 0)).1 ≡ [] =
     sym t.given ∙ ap (λ (b : Bool). if b then take n.decoder.held c.take_octet-next.new.frame ∷ [] else []) c.if-next.false in
     record {
@@ -23,9 +24,9 @@ loop-octet-preserved c =
       taken = ap (λ (k : ℕ). k + 1) inv.taken;
       state = fed-front m m 1029 i os first at (reception_of n.decoder c.take_octet-next.new.frame) less refl t.state inv.state;
       none = fed-more m m 1029 i os first at [] less refl inv.state given ∙ ap (λ (x : List (List ℕ)). x ++ []) inv.none;
-      corrected = fed-more-counted corrections_of m 1029 i os first at l.corrected c.corrections.result less inv.state (c.corrections.ensures.count ∙ ap corrections_of t.fate) inv.corrected;
+      corrected = c.count.ensures.corrected ∙ fed-more-counted corrections_of m 1029 i os first at l.counts.corrected (corrections_of n.fate) less inv.state (ap corrections_of t.fate) inv.corrected;
       corrected_within = omega arith;
-      rejected = fed-more-counted rejections_of m 1029 i os first at l.rejected c.rejections.result less inv.state (c.rejections.ensures.count ∙ ap rejections_of t.fate) inv.rejected;
+      rejected = c.count.ensures.rejected ∙ fed-more-counted rejections_of m 1029 i os first at l.counts.rejected (rejections_of n.fate) less inv.state (ap rejections_of t.fate) inv.rejected;
       rejected_within = omega arith;
     }
 
@@ -54,16 +55,16 @@ pub returns-then-next-clause-corrected : goal.returns-then-next-clause-corrected
 returns-then-next-clause-corrected c =
     let l = c.loop-octet in let os = c.args.octets.now in let i = l.octet-index in let m = c.args.mode in
     let first = reception_of c.args.decoder c.args.frame.now in let at = reception_of l.now l.frame in
-    let t = c.take_octet-next.ensures in let inv = l.invariant in
+    let n = c.take_octet-next.result in let t = c.take_octet-next.ensures in let inv = l.invariant in
     let less : i < length os = c.loop-octet-test.true in
-    fed-more-counted corrections_of m 1029 i os first at l.corrected c.corrections.result less inv.state (c.corrections.ensures.count ∙ ap corrections_of t.fate) inv.corrected
+    c.count.ensures.corrected ∙ fed-more-counted corrections_of m 1029 i os first at l.counts.corrected (corrections_of n.fate) less inv.state (ap corrections_of t.fate) inv.corrected
     ∙ sym (ap (λ (k : ℕ). corrected_in m 1029 first (take (k + 1) os)) inv.taken)
 
 pub returns-then-next-clause-rejected : goal.returns-then-next-clause-rejected
 returns-then-next-clause-rejected c =
     let l = c.loop-octet in let os = c.args.octets.now in let i = l.octet-index in let m = c.args.mode in
     let first = reception_of c.args.decoder c.args.frame.now in let at = reception_of l.now l.frame in
-    let t = c.take_octet-next.ensures in let inv = l.invariant in
+    let n = c.take_octet-next.result in let t = c.take_octet-next.ensures in let inv = l.invariant in
     let less : i < length os = c.loop-octet-test.true in
-    fed-more-counted rejections_of m 1029 i os first at l.rejected c.rejections.result less inv.state (c.rejections.ensures.count ∙ ap rejections_of t.fate) inv.rejected
+    c.count.ensures.rejected ∙ fed-more-counted rejections_of m 1029 i os first at l.counts.rejected (rejections_of n.fate) less inv.state (ap rejections_of t.fate) inv.rejected
     ∙ sym (ap (λ (k : ℕ). rejected_in m 1029 first (take (k + 1) os)) inv.taken)

@@ -13,8 +13,8 @@ invariant-loop-octet l = record {
   taken : l.taken ≡ l.octet-index;
   state : reception_of l.now l.frame ≡ state_after l.fn.mode 1029 (reception_of l.fn.decoder l.fn.frame) (take l.octet-index l.octets);
   none : frames_of l.fn.mode 1029 (reception_of l.fn.decoder l.fn.frame) (take l.octet-index l.octets) ≡ [];
-  corrected : l.corrected ≡ corrected_in l.fn.mode 1029 (reception_of l.fn.decoder l.fn.frame) (take l.octet-index l.octets);
-  corrected_within : l.corrected ≤ l.octet-index;
-  rejected : l.rejected ≡ rejected_in l.fn.mode 1029 (reception_of l.fn.decoder l.fn.frame) (take l.octet-index l.octets);
-  rejected_within : l.rejected ≤ l.octet-index;
+  corrected : l.counts.corrected ≡ corrected_in l.fn.mode 1029 (reception_of l.fn.decoder l.fn.frame) (take l.octet-index l.octets);
+  corrected_within : l.counts.corrected ≤ l.octet-index;
+  rejected : l.counts.rejected ≡ rejected_in l.fn.mode 1029 (reception_of l.fn.decoder l.fn.frame) (take l.octet-index l.octets);
+  rejected_within : l.counts.rejected ≤ l.octet-index;
 }
