@@ -101,7 +101,10 @@ fn write_fed<W: Write>(decoder: &mut Decoder, octets: &[u8], writer: &mut W) -> 
 fn write_blocks<W: Write>(blocks: Blocks, writer: &mut W) -> io::Result<()>
     ensures { OnOk result (Appends (W.contents writer.old) (W.contents writer.new) (blocks_text blocks.corrected blocks.rejected)) }
 {
-    let Blocks { corrected, rejected } = blocks;
+    let Blocks {
+        corrected,
+        rejected,
+    } = blocks;
     writeln!(writer, "blocks corrected {corrected} rejected {rejected}")
 }
 
