@@ -34,8 +34,7 @@ fn octets_in_a_room_that_grows(rt: HostRuntime) {
 // Three items, one after the other, in two rooms.
 #[test]
 fn items_in_two_rooms(rt: HostRuntime) {
-    let mut slots: Slots<FixedRoom> =
-        Slots::with_capacity(rt.alloc(), 2, 3).expect(&rt, "rooms");
+    let mut slots: Slots<FixedRoom> = Slots::with_capacity(rt.alloc(), 2, 3).expect(&rt, "rooms");
     assert_eq!(&rt; (slots.capacity(), slots.size(), slots.len()), (2, 3, 0));
     assert!(&rt; slots.is_empty());
     assert_eq!(&rt; slots.front(), None);
@@ -56,8 +55,7 @@ fn items_in_two_rooms(rt: HostRuntime) {
 // Of three items the first one waits, and the others are laid and let go.
 #[test]
 fn items_laid_and_let_go(rt: HostRuntime) {
-    let mut slots: Slots<GrowingRoom> =
-        Slots::with_capacity(rt.alloc(), 3, 3).expect(&rt, "rooms");
+    let mut slots: Slots<GrowingRoom> = Slots::with_capacity(rt.alloc(), 3, 3).expect(&rt, "rooms");
     assert!(&rt; slots.lay(&[1]).expect(&rt, "an item"));
     slots.settle();
     assert!(&rt; slots.lay(&[2]).expect(&rt, "an item"));
