@@ -1,7 +1,8 @@
--- Where the operator of a station has made all events of its desks, each of its answers is what the lines before it make it.
-use Rattle.std.proofs.Common.{◌≡◌, ◌<◌, ℕ, zero, suc, List, [], ◌∷◌, Some, All, map, length, get_or, set, slice_get, inl, inr, refl, sym, ap, ◌∙◌, subst, arith}
+-- Where the operator of a station has made all events of its desks, each of its answers is what the lines before it make it. And so is what its
+-- watchers read, each of which has seen just what the operator has in the end.
+use Rattle.std.proofs.Common.{◌≡◌, ◌<◌, ℕ, zero, suc, List, [], ◌∷◌, ◌++◌, Some, All, map, length, get_or, set, slice_get, inl, inr, refl, sym, ap, ◌∙◌, subst, arith}
 use Rattle.std.specs.Prelude.{◌==◌, Contains, slice_index}
-use Rattle.std.proofs.lemmas.Bool.{eqb-true}
+use Rattle.std.proofs.lemmas.Bool.{cases_lt, eqb-true}
 use Rattle.std.proofs.lemmas.Bool.Decides.{eqb_tells}
 use Rattle.std.proofs.lemmas.List.{get_or-map, get_or-set_same, get_or-set_other, length-map, length-set, map-set, set-get_or}
 use Rattle.std.proofs.lemmas.List.Elements.{All-set, All-head, All-tail}
@@ -13,30 +14,32 @@ use Rattle.tc_channel.specs.declared.settings.Settings.{Settings}
 use Rattle.tc_channel.specs.declared.event.Event.{Event}
 use Rattle.tc_channel.specs.declared.event.Event.TheVariants.{Release}
 use Rattle.tc_channel.specs.Reply.{clcw}
-use Rattle.tc_channel.specs.Run.{IsLawful}
 use Rattle.tc_link.specs.Frame.{header_of}
 use Rattle.tc_desk.specs.Alone.{HasMadeAll, HasSeenItsOwn, placed}
-use Rattle.tc_desk.specs.Call.{looked, made}
+use Rattle.tc_desk.specs.Call.{HasMet, HasSeenNoMore, looked, made}
 use Rattle.tc_desk.specs.Log.{AtLock, Identity, Moment, Own, history_of}
 use Rattle.tc_desk.specs.{TableId}
 use Rattle.tc_desk.specs.Closing.{IsClosed}
 use Rattle.tc_desk.specs.Together.{heads_of, locks_of, nobody}
-use Rattle.tc_status.specs.Board.{no_flag}
+use Rattle.tc_status.specs.Board.{Watching, no_flag}
+use Rattle.tc_status.specs.Board as board
 use Rattle.tc_station.specs.Location.{IsPlaced}
 use Rattle.tc_station.specs.Location as at_station
-use Rattle.tc_station.specs.Roster.{Roster, settings_in}
+use Rattle.tc_station.specs.Roster.{Roster, IsPlace, settings_in}
 use Rattle.tc_station.specs.StationSettings.{vcids_of}
 use Rattle.tc_station.specs.Tally.{AtStation, KnowsDesks}
 use Rattle.tc_station.specs.Together.{AreClosedTogether}
 use Rattle.tc_link.specs.declared.location.LocateFault.{LocateFault}
 use Rattle.tc_link.specs.declared.location.LocateFault.TheVariants.{Frame, OtherSpacecraft, UnknownChannel}
-use Rattle.tc_rack.specs.Linked.{Linked, vcid_of, new_linked, IsFrameAnswered, IsReleaseAnswered, IsTakeAnswered, IsUnitAnswered}
-use Rattle.tc_cli.specs.Manned.{Manned, IsAnsweredAt, IsBringAnswer, IsDeskAnswer, IsMannedAnswer, IsNewlyManned, IsWordAnswer, linked}
-use Rattle.tc_rack.specs.Operation.{IsChannelAnswer, IsFrameAnswer}
-use Rattle.tc_cli.specs.Progress.{IsScriptAnswer, IsWordRead}
+use Rattle.tc_rack.specs.Linked.{Linked, vcid_of, new_linked, told_word, IsFrameAnswered, IsReleaseAnswered, IsTakeAnswered, IsUnitAnswered}
+use Rattle.tc_cli.specs.Manned.{Manned, IsAnsweredAt, IsBringAnswer, IsDeskAnswer, IsMannedAnswer, IsNewlyManned, IsReadAt, IsWordAnswer, AllHaveMet, HasMetAt, HaveMet, linked}
+use Rattle.tc_rack.specs.Operation.{IsAnswerOf, IsChannelAnswer, IsClcwAnswer, IsFrameAnswer}
+use Rattle.tc_cli.proofs.Beginnings.{AreEach, IsLevel, beginning-same, beginning-self, beginning-trans, each-back, each-set, each-there, set-same}
+use Rattle.tc_cli.proofs.Planned.{mapped-at, set-elsewhere, set-there}
 use Rattle.tc_rack.specs.Rack.{Racked, Changes, IsLocateFault, IsThere, histories, new_rack}
 use Rattle.tc_rack.specs.declared.answer.Answer.{Answer}
-use Rattle.tc_rack.specs.declared.answer.Answer.TheVariants.{Clcw}
+use Rattle.tc_rack.specs.declared.answer.Answer.TheVariants.{Clcw, Refused}
+use Rattle.tc_rack.specs.declared.answer.Refusal.TheVariants.{UnknownChannel}
 use Rattle.tc_rack.specs.declared.operation.Operation.{Operation}
 use Rattle.tc_rack.specs.declared.operation.Operation.TheVariants as operations
 
@@ -63,10 +66,19 @@ AreSeen desks = All (λ (d : AtLock). HasSeenItsOwn d.own) desks
 abbrev pub AreAlone : List AtLock → Type 0
 AreAlone desks = All (λ (d : AtLock). HasMadeAll d.own) desks
 
+-- where the operator has made all that it has seen, the watcher has seen it, too
+abbrev pub IsAhead : AtLock → History → Type 0
+IsAhead d seen = HasMadeAll d.own → board.IsBeginning (history_of d.own.seen) seen
+
 pub record IsSound (m : Manned) : Type 0 where
   pub knows : KnowsDesks m.station m.operator
   pub named : vcids_of (settings_in m.station) ≡ m.station.vcids
   pub seen : AreSeen m.operator.desks
+  pub ahead : AreEach IsAhead m.operator.desks m.watchers
+
+-- it has made all that it has seen, and each watcher has seen just that
+abbrev pub IsAlone : Manned → Type 0
+IsAlone m = AreAlone m.operator.desks × AreEach IsLevel m.operator.desks m.watchers
 
 map-map : {X Y Z : Type 0} (f : Y → Z) (g : X → Y) (xs : List X) → map f (map g xs) ≡ map (λ (x : X). f (g x)) xs
 map-map f g [] = refl
@@ -91,43 +103,39 @@ was-there P xs place there was all = subst P (get_or_from_slice_get xs place the
 own-after : (e : Event) (now : Moment) (there next : AtLock) → next.own ≡ made e now there.own → next.own.seen ≡ with_entry now e
 own-after e now there next is = ap (λ (o : Own). o.seen) is
 
-head-after : (Answers : Linked → Answer → Linked → Type 0) (place vcid : ℕ) (before after : AtStation) (answer : Answer) → (a : IsAnsweredAt place vcid Answers before answer after) → a.next.own.seen.head ≡ a.there.own.seen.head
+head-after : (Answers : Linked → Answer → Linked → Type 0) (place vcid : ℕ) (before after : Manned) (answer : Answer) → (a : IsAnsweredAt place vcid Answers before answer after) → a.next.own.seen.head ≡ a.there.own.seen.head
 head-after Answers place vcid before after answer a = elim a.answered [
   | inl h ↦ ap (λ (o : Own). o.seen.head) h.2 ∙ a.later.0
   | inr h ↦ ap (λ (o : Own). o.seen.head) h.1 ∙ a.later.0
 ]
 
-heads-after : (Answers : Linked → Answer → Linked → Type 0) (place vcid : ℕ) (before after : AtStation) (answer : Answer) → IsAnsweredAt place vcid Answers before answer after → heads_of after.desks ≡ heads_of before.desks
+heads-after : (Answers : Linked → Answer → Linked → Type 0) (place vcid : ℕ) (before after : Manned) (answer : Answer) → IsAnsweredAt place vcid Answers before answer after → heads_of after.operator.desks ≡ heads_of before.operator.desks
 heads-after Answers place vcid before after answer a =
     let head : AtLock → Identity = λ d. d.own.seen.head in
-    let desks = before.desks in
+    let desks = before.operator.desks in
     let here : get_or desks place a.there ≡ a.there = get_or_from_slice_get desks place a.there a.there a.was in
     ap heads_of a.others
     ∙ (map-set head desks place a.next
     ∙ (ap (λ (h : Identity). set (heads_of desks) place h) (head-after Answers place vcid before after answer a ∙ ap head (sym here))
     ∙ (sym (map-set head desks place (get_or desks place a.there)) ∙ ap heads_of (set-get_or desks place a.there))))
 
--- a CLCW of a channel with this head
-abbrev WordAt : Answer → Identity → Type 0
-WordAt answer head = (journal : List Event) × IsLawful head.settings journal × (answer ≡ Clcw head.settings.vcid (clcw head.settings journal no_flag))
-
 module _ (laws : AloneLaws) where
-  seen-after : (Answers : Linked → Answer → Linked → Type 0) (place vcid : ℕ) (before after : AtStation) (answer : Answer) → IsAnsweredAt place vcid Answers before answer after → AreSeen before.desks → AreSeen after.desks
+  seen-after : (Answers : Linked → Answer → Linked → Type 0) (place vcid : ℕ) (before after : Manned) (answer : Answer) → IsAnsweredAt place vcid Answers before answer after → AreSeen before.operator.desks → AreSeen after.operator.desks
   seen-after Answers place vcid before after answer a all =
-      let own = was-there (λ (d : AtLock). HasSeenItsOwn d.own) before.desks place a.there a.was all in
+      let own = was-there (λ (d : AtLock). HasSeenItsOwn d.own) before.operator.desks place a.there a.was all in
       let next : HasSeenItsOwn a.next.own = elim a.answered [
         | inl h ↦ subst HasSeenItsOwn (sym h.2) (laws.seen a.there.own a.now h.0 own a.later).0
         | inr h ↦ subst HasSeenItsOwn (sym h.1) (laws.seen a.there.own a.now Release own a.later).1
       ] in
-      subst AreSeen (sym a.others) (All-set (λ (d : AtLock). HasSeenItsOwn d.own) before.desks place a.next next all)
+      subst AreSeen (sym a.others) (All-set (λ (d : AtLock). HasSeenItsOwn d.own) before.operator.desks place a.next next all)
 
   -- where it has made all events in the end, it had before this answer, which is that of what it had seen
-  pub alone-before : (Answers : Linked → Answer → Linked → Type 0) (place vcid : ℕ) (before after : AtStation) (answer : Answer) → (a : IsAnsweredAt place vcid Answers before answer after) → AreSeen before.desks → AreAlone after.desks
-      → AreAlone before.desks × Answers (channel_at a.there) answer (channel_at a.next) × (a.there.own.seen ≡ a.now)
+  pub alone-before : (Answers : Linked → Answer → Linked → Type 0) (place vcid : ℕ) (before after : Manned) (answer : Answer) → (a : IsAnsweredAt place vcid Answers before answer after) → AreSeen before.operator.desks → AreAlone after.operator.desks
+      → AreAlone before.operator.desks × Answers (channel_at a.there) answer (channel_at a.next) × (a.there.own.seen ≡ a.now)
   alone-before Answers place vcid before after answer a seen all =
-      let own = was-there (λ (d : AtLock). HasSeenItsOwn d.own) before.desks place a.there a.was seen in
-      let set_all : AreAlone (set before.desks place a.next) = subst AreAlone a.others all in
-      let last : HasMadeAll a.next.own = at-place (λ (d : AtLock). HasMadeAll d.own) before.desks place a.there a.next a.was set_all in
+      let own = was-there (λ (d : AtLock). HasSeenItsOwn d.own) before.operator.desks place a.there a.was seen in
+      let set_all : AreAlone (set before.operator.desks place a.next) = subst AreAlone a.others all in
+      let last : HasMadeAll a.next.own = at-place (λ (d : AtLock). HasMadeAll d.own) before.operator.desks place a.there a.next a.was set_all in
       let step : HasMadeAll a.there.own × (a.now ≡ a.there.own.seen) × Answers (channel_at a.there) answer (channel_at a.next) = elim a.answered [
         | inl h ↦
             let law = laws.event a.there.own a.now h.0 own a.later (subst HasMadeAll h.2 last) in
@@ -138,13 +146,31 @@ module _ (laws : AloneLaws) where
             let one : Answers (channel_at a.there) answer (linked a.now) = subst (λ (m : Moment). Answers (linked m) answer (linked a.now)) law.1 h.0 in
             (law.0, law.1, subst (λ (m : Moment). Answers (channel_at a.there) answer (linked m)) (sym (ap (λ (o : Own). o.seen) h.1)) one)
       ] in
-      (back (λ (d : AtLock). HasMadeAll d.own) before.desks place a.there a.next a.was step.0 set_all, step.2, sym step.1)
+      (back (λ (d : AtLock). HasMadeAll d.own) before.operator.desks place a.there a.next a.was step.0 set_all, step.2, sym step.1)
+
+  -- what its watchers have seen stays ahead
+  ahead-after : (Answers : Linked → Answer → Linked → Type 0) (place vcid : ℕ) (before after : Manned) (answer : Answer) → IsAnsweredAt place vcid Answers before answer after → AreEach IsAhead before.operator.desks before.watchers
+      → AreEach IsAhead after.operator.desks after.watchers
+  ahead-after Answers place vcid before after answer a all =
+      each-set IsAhead before.operator.desks after.operator.desks before.watchers after.watchers place a.there a.next a.early a.late a.others a.watchers a.was a.watched all
+      (λ made. subst (board.IsBeginning (history_of a.next.own.seen)) (sym a.met.1) (beginning-self (history_of a.next.own.seen)))
+
+  -- where each watcher has seen just what the operator has in the end, it had before this answer
+  level-before : (Answers : Linked → Answer → Linked → Type 0) (place vcid : ℕ) (before after : Manned) (answer : Answer) → (a : IsAnsweredAt place vcid Answers before answer after) → AreEach IsAhead before.operator.desks before.watchers
+      → AreAlone before.operator.desks → a.there.own.seen ≡ a.now → AreEach IsLevel after.operator.desks after.watchers → AreEach IsLevel before.operator.desks before.watchers
+  level-before Answers place vcid before after answer a ahead alone same all =
+      let made = was-there (λ (d : AtLock). HasMadeAll d.own) before.operator.desks place a.there a.was alone in
+      let least = ahead place a.there a.early a.was a.watched made in
+      let most : board.IsBeginning a.early.seen (history_of a.there.own.seen) = subst (HasSeenNoMore a.early) (sym same) a.no_more in
+      each-back IsLevel before.operator.desks after.operator.desks before.watchers after.watchers place a.there a.next a.early a.late a.others a.watchers a.was a.watched all
+      (beginning-same a.early.seen (history_of a.there.own.seen) most least)
 
   -- the same, as a change of the channels
-  changed : (Answers : Linked → Answer → Linked → Type 0) (place vcid : ℕ) (m new : Manned) (answer : Answer) → new.station ≡ m.station → IsAnsweredAt place vcid Answers m.operator answer new.operator → AreSeen m.operator.desks
-      → AreAlone new.operator.desks → AreAlone m.operator.desks × Changes (rack_of m) vcid (λ before after. Answers before answer after) (rack_of new)
-  changed Answers place vcid m new answer station a seen all =
-      let b = alone-before Answers place vcid m.operator new.operator answer a seen all in
+  changed : (Answers : Linked → Answer → Linked → Type 0) (place vcid : ℕ) (m new : Manned) (answer : Answer) → IsAnsweredAt place vcid Answers m answer new → IsSound m
+      → IsAlone new → IsAlone m × Changes (rack_of m) vcid (λ before after. Answers before answer after) (rack_of new)
+  changed Answers place vcid m new answer a sound alone =
+      let b = alone-before Answers place vcid m new answer a sound.seen alone.0 in
+      let level = level-before Answers place vcid m new answer a sound.ahead b.0 b.2 alone.1 in
       let desks = m.operator.desks in
       let inside = slice_get_within desks place a.there a.was in
       let within : place < length (map channel_at desks) = omega (arith, inside, length-map desks channel_at) in
@@ -153,7 +179,7 @@ module _ (laws : AloneLaws) where
       ∙ ap (λ (c : Linked). Some c) (get_or-map channel_at desks place a.there (channel_at a.there) inside ∙ ap channel_at (get_or_from_slice_get desks place a.there a.there a.was)) in
       let id : vcid_of (channel_at a.there) ≡ vcid = ap (λ (n : Moment). n.head.settings.vcid) b.2 ∙ a.named in
       let channels : map channel_at new.operator.desks ≡ set (map channel_at desks) place (channel_at a.next) = ap (map channel_at) a.others ∙ map-set channel_at desks place a.next in
-      (b.0, (place, channel_at a.there, channel_at a.next, (at, id), b.1, λ i. record { scid = (station i).scid; channels = channels i }))
+      ((b.0, level), (place, channel_at a.there, channel_at a.next, (at, id), b.1, λ i. record { scid = (a.station i).scid; channels = channels i }))
 
   -- the ids of the channels
   ids : (m : Manned) → IsSound m → map vcid_of (map channel_at m.operator.desks) ≡ m.station.vcids
@@ -176,23 +202,19 @@ module _ (laws : AloneLaws) where
   located m octets OtherSpacecraft sound why = why
   located m octets UnknownChannel sound (frame, ours, none) = (frame, ours.0, ours.1, unknown m (header_of frame).vcid sound none)
 
-  same-rack : (m new : Manned) → new.station ≡ m.station → new.operator ≡ m.operator → rack_of new ≡ rack_of m
-  same-rack m new station operator = λ i. record { scid = (station i).scid; channels = map channel_at (operator i).desks }
+  desk-answer : (Answers : Linked → Answer → Linked → Type 0) (vcid : ℕ) (m new : Manned) (answer : Answer) → IsSound m → IsDeskAnswer vcid Answers m answer new → IsAlone new
+      → IsAlone m × IsChannelAnswer vcid Answers (rack_of m) answer (rack_of new)
+  desk-answer Answers vcid m new answer sound (inl (place, at, a)) alone = let c = changed Answers place vcid m new answer a sound alone in (c.0, inl c.1)
+  desk-answer Answers vcid m new answer sound (inr (none, is, same)) alone = (subst IsAlone same alone, inr ((unknown m vcid sound none, is), ap rack_of same))
 
-  desk-answer : (Answers : Linked → Answer → Linked → Type 0) (vcid : ℕ) (m new : Manned) (answer : Answer) → IsSound m → new.station ≡ m.station → IsDeskAnswer vcid Answers m answer new.operator → AreAlone new.operator.desks
-      → AreAlone m.operator.desks × IsChannelAnswer vcid Answers (rack_of m) answer (rack_of new)
-  desk-answer Answers vcid m new answer sound station (inl (place, at, a)) all = let c = changed Answers place vcid m new answer station a sound.seen all in (c.0, inl c.1)
-  desk-answer Answers vcid m new answer sound station (inr (none, is, same)) all =
-      (subst (λ (o : AtStation). AreAlone o.desks) same all, inr ((unknown m vcid sound none, is), same-rack m new station same))
-
-  bring-answer : (octets : List ℕ) (m new : Manned) (answer : Answer) → IsSound m → new.station ≡ m.station → IsBringAnswer octets m answer new.operator → AreAlone new.operator.desks
-      → AreAlone m.operator.desks × IsFrameAnswer octets (rack_of m) answer (rack_of new)
-  bring-answer octets m new answer sound station (inl (place, vcid, frame, placed, a)) all =
-      let c = changed (IsFrameAnswered frame) place vcid m new answer station a sound.seen all in
+  bring-answer : (octets : List ℕ) (m new : Manned) (answer : Answer) → IsSound m → IsBringAnswer octets m answer new → IsAlone new
+      → IsAlone m × IsFrameAnswer octets (rack_of m) answer (rack_of new)
+  bring-answer octets m new answer sound (inl (place, vcid, frame, placed, a)) alone =
+      let c = changed (IsFrameAnswered frame) place vcid m new answer a sound alone in
       let named : (header_of frame).vcid ≡ vcid = placed.0.1 in
       (c.0, inl (frame, placed.0.0.0, placed.0.0.1, subst (λ (v : ℕ). Changes (rack_of m) v (λ before after. IsFrameAnswered frame before answer after) (rack_of new)) (sym named) c.1))
-  bring-answer octets m new answer sound station (inr (fault, why, is, same)) all =
-      (subst (λ (o : AtStation). AreAlone o.desks) same all, inr (fault, located m octets fault sound why, is, same-rack m new station same))
+  bring-answer octets m new answer sound (inr (fault, why, is, same)) alone =
+      (subst IsAlone same alone, inr (fault, located m octets fault sound why, is, ap rack_of same))
 
   -- the desk at a place has the head that the station knows there
   desk-of : (desks : List AtLock) (place : ℕ) (head : Identity) → slice_get (heads_of desks) place ≡ Some head → (d : AtLock) × (slice_get desks place ≡ Some d) × (d.own.seen.head ≡ head)
@@ -210,56 +232,161 @@ module _ (laws : AloneLaws) where
   id-at (h ∷ hs) zero head at = ap (λ (x : Identity). x.settings.vcid) (same_Some h head at)
   id-at (h ∷ hs) (suc place) head at = id-at hs place head at
 
-  word-answer : (vcid : ℕ) (m : Manned) (answer : Answer) → IsSound m → IsWordAnswer vcid m answer → IsWordRead vcid (rack_of m) answer
-  word-answer vcid m answer sound (inr (none, is)) = inr (unknown m vcid sound none, is)
-  word-answer vcid m answer sound (inl (head, word, (place, here, at), is, (journal, lawful, of))) =
-      let desk = desk-of m.operator.desks place head (ap (λ (l : List Identity). slice_get l place) sound.knows ∙ at) in
-      let d = desk.0 in
+  -- the desk of the channel whose CLCW its watcher read
+  read-desk : (place vcid : ℕ) (m new : Manned) (answer : Answer) → IsSound m → IsPlace m.station vcid place → IsReadAt place vcid m answer new
+      → (d : AtLock) × (slice_get m.operator.desks place ≡ Some d) × (d.own.seen.head.settings.vcid ≡ vcid)
+  read-desk place vcid m new answer sound here a =
+      let same : a.desk.0 ≡ place = same_Some a.desk.0 place (sym a.desk.1 ∙ here) in
+      let known : slice_get m.station.heads place ≡ Some a.head = ap (λ (k : ℕ). slice_get m.station.heads k) (sym same) ∙ a.desk.2 in
+      let desk = desk-of m.operator.desks place a.head (ap (λ (l : List Identity). slice_get l place) sound.knows ∙ known) in
       let passes = (position-Some (λ v. v == vcid) m.station.vcids place 0 here).1 in
-      let id : head.settings.vcid ≡ vcid =
-      sym (id-at m.station.heads place head at) ∙ (ap (λ (l : List ℕ). slice_index l place) sound.named ∙ eqb-true (slice_index m.station.vcids place) vcid passes) in
-      let mine : d.own.seen.head.settings.vcid ≡ vcid = ap (λ (h : Identity). h.settings.vcid) desk.2 ∙ id in
-      inl (
-        place,
-        channel_at d,
-        (channel-of m.operator.desks place d desk.1, mine),
-        subst (WordAt answer) (sym desk.2) (journal, lawful, is ∙ (λ i. Clcw (sym id i) (of i))),
+      let id : a.head.settings.vcid ≡ vcid =
+      sym (id-at m.station.heads place a.head known) ∙ (ap (λ (l : List ℕ). slice_index l place) sound.named ∙ eqb-true (slice_index m.station.vcids place) vcid passes) in
+      (desk.0, desk.1, ap (λ (h : Identity). h.settings.vcid) desk.2 ∙ id)
+
+  word-answer : (vcid : ℕ) (m new : Manned) (answer : Answer) → IsSound m → IsWordAnswer vcid m answer new → IsAlone new
+      → IsAlone m × IsClcwAnswer vcid (rack_of m) answer × (rack_of new ≡ rack_of m)
+  word-answer vcid m new answer sound (inr (none, is, same)) alone = (subst IsAlone same alone, inr (unknown m vcid sound none, is), ap rack_of same)
+  word-answer vcid m new answer sound (inl (place, here, a)) alone =
+      let found = read-desk place vcid m new answer sound here a in
+      let d = found.0 in
+      let still : new.operator ≡ m.operator = ap (λ (x : Manned). x.operator) a.change in
+      let all : AreAlone m.operator.desks = subst (λ (o : AtStation). AreAlone o.desks) still alone.0 in
+      let desks : new.operator.desks ≡ set m.operator.desks place d = ap (λ (o : AtStation). o.desks) still ∙ sym (set-same m.operator.desks place d found.1) in
+      let watchers = ap (λ (x : Manned). x.watchers) a.change in
+      let level : a.late.seen ≡ history_of d.own.seen = each-there IsLevel m.operator.desks new.operator.desks m.watchers new.watchers place d d a.early a.late desks watchers found.1 a.watched alone.1 in
+      let least = sound.ahead place d a.early found.1 a.watched (was-there (λ (x : AtLock). HasMadeAll x.own) m.operator.desks place d found.1 all) in
+      let most : board.IsBeginning a.early.seen (history_of d.own.seen) = subst (board.IsBeginning a.early.seen) level a.later in
+      let before =
+      each-back IsLevel m.operator.desks new.operator.desks m.watchers new.watchers place d d a.early a.late desks watchers found.1 a.watched alone.1
+      (beginning-same a.early.seen (history_of d.own.seen) most least) in
+      let word : answer ≡ told_word (channel_at d) = a.word ∙ (λ i. Clcw (sym found.2 i) (clcw (level i).settings (level i).journal no_flag)) in (
+        (all, before),
+        inl (place, channel_at d, (channel-of m.operator.desks place d found.1, found.2), word),
+        λ i. record { scid = (a.change i).station.scid; channels = map channel_at (still i).desks },
       )
 
-  pub answered-alone : (operation : Operation) (m new : Manned) (answer : Answer) → IsSound m → IsMannedAnswer operation m answer new → AreAlone new.operator.desks
-      → AreAlone m.operator.desks × IsScriptAnswer operation (rack_of m) answer (rack_of new)
-  answered-alone (operations.Frame octets) m new answer sound a all = bring-answer octets m new answer sound a.0 a.1 all
-  answered-alone (operations.Release vcid) m new answer sound a all = desk-answer IsReleaseAnswered vcid m new answer sound a.0 a.1 all
-  answered-alone (operations.Take vcid apid) m new answer sound a all = desk-answer (IsTakeAnswered apid) vcid m new answer sound a.0 a.1 all
-  answered-alone (operations.Unit vcid map_id) m new answer sound a all = desk-answer (IsUnitAnswered map_id) vcid m new answer sound a.0 a.1 all
-  answered-alone (operations.Clcw vcid) m new answer sound a all =
-      (subst (λ (o : AtStation). AreAlone o.desks) a.1.1 all, (word-answer vcid m answer sound a.1.0, same-rack m new a.0 a.1.1))
+  pub answered-alone : (operation : Operation) (m new : Manned) (answer : Answer) → IsSound m → IsMannedAnswer operation m answer new → IsAlone new
+      → IsAlone m × IsAnswerOf operation (rack_of m) answer (rack_of new)
+  answered-alone (operations.Frame octets) m new answer sound a alone = bring-answer octets m new answer sound a alone
+  answered-alone (operations.Release vcid) m new answer sound a alone = desk-answer IsReleaseAnswered vcid m new answer sound a alone
+  answered-alone (operations.Take vcid apid) m new answer sound a alone = desk-answer (IsTakeAnswered apid) vcid m new answer sound a alone
+  answered-alone (operations.Unit vcid map_id) m new answer sound a alone = desk-answer (IsUnitAnswered map_id) vcid m new answer sound a alone
+  answered-alone (operations.Clcw vcid) m new answer sound a alone = let w = word-answer vcid m new answer sound a alone in (w.0, (w.1, w.2))
 
   -- what is sound stays so
-  moved : (Answers : Linked → Answer → Linked → Type 0) (place vcid : ℕ) (m new : Manned) (answer : Answer) → IsSound m → new.station ≡ m.station → IsAnsweredAt place vcid Answers m.operator answer new.operator → IsSound new
-  moved Answers place vcid m new answer sound station a = record {
-    knows = heads-after Answers place vcid m.operator new.operator answer a ∙ (sound.knows ∙ ap (λ (r : Roster). r.heads) (sym station));
-    named = subst (λ (r : Roster). vcids_of (settings_in r) ≡ r.vcids) (sym station) sound.named;
-    seen = seen-after Answers place vcid m.operator new.operator answer a sound.seen;
+  moved : (Answers : Linked → Answer → Linked → Type 0) (place vcid : ℕ) (m new : Manned) (answer : Answer) → IsSound m → IsAnsweredAt place vcid Answers m answer new → IsSound new
+  moved Answers place vcid m new answer sound a = record {
+    knows = heads-after Answers place vcid m new answer a ∙ (sound.knows ∙ ap (λ (r : Roster). r.heads) (sym a.station));
+    named = subst (λ (r : Roster). vcids_of (settings_in r) ≡ r.vcids) (sym a.station) sound.named;
+    seen = seen-after Answers place vcid m new answer a sound.seen;
+    ahead = ahead-after Answers place vcid m new answer a sound.ahead;
   }
 
-  stayed : (m new : Manned) → IsSound m → new.station ≡ m.station → new.operator ≡ m.operator → IsSound new
-  stayed m new sound station operator = subst IsSound (λ i. record { station = sym station i; operator = sym operator i }) sound
+  desk-sound : (Answers : Linked → Answer → Linked → Type 0) (vcid : ℕ) (m new : Manned) (answer : Answer) → IsSound m → IsDeskAnswer vcid Answers m answer new → IsSound new
+  desk-sound Answers vcid m new answer sound (inl (place, at, a)) = moved Answers place vcid m new answer sound a
+  desk-sound Answers vcid m new answer sound (inr (none, is, same)) = subst IsSound (sym same) sound
 
-  desk-sound : (Answers : Linked → Answer → Linked → Type 0) (vcid : ℕ) (m new : Manned) (answer : Answer) → IsSound m → new.station ≡ m.station → IsDeskAnswer vcid Answers m answer new.operator → IsSound new
-  desk-sound Answers vcid m new answer sound station (inl (place, at, a)) = moved Answers place vcid m new answer sound station a
-  desk-sound Answers vcid m new answer sound station (inr (none, is, same)) = stayed m new sound station same
+  bring-sound : (octets : List ℕ) (m new : Manned) (answer : Answer) → IsSound m → IsBringAnswer octets m answer new → IsSound new
+  bring-sound octets m new answer sound (inl (place, vcid, frame, placed, a)) = moved (IsFrameAnswered frame) place vcid m new answer sound a
+  bring-sound octets m new answer sound (inr (fault, why, is, same)) = subst IsSound (sym same) sound
 
-  bring-sound : (octets : List ℕ) (m new : Manned) (answer : Answer) → IsSound m → new.station ≡ m.station → IsBringAnswer octets m answer new.operator → IsSound new
-  bring-sound octets m new answer sound station (inl (place, vcid, frame, placed, a)) = moved (IsFrameAnswered frame) place vcid m new answer sound station a
-  bring-sound octets m new answer sound station (inr (fault, why, is, same)) = stayed m new sound station same
+  word-sound : (vcid : ℕ) (m new : Manned) (answer : Answer) → IsSound m → IsWordAnswer vcid m answer new → IsSound new
+  word-sound vcid m new answer sound (inr (none, is, same)) = subst IsSound (sym same) sound
+  word-sound vcid m new answer sound (inl (place, here, a)) =
+      let found = read-desk place vcid m new answer sound here a in
+      let d = found.0 in
+      let desks = m.operator.desks in
+      let ahead =
+      each-set IsAhead desks desks m.watchers (set m.watchers place a.late) place d d a.early a.late (sym (set-same desks place d found.1)) refl found.1 a.watched sound.ahead
+      (λ made. beginning-trans (history_of d.own.seen) a.early.seen a.late.seen (sound.ahead place d a.early found.1 a.watched made) a.later) in
+      subst IsSound (sym a.change) (record { knows = sound.knows; named = sound.named; seen = sound.seen; ahead = ahead })
 
   pub sound-after : (operation : Operation) (m new : Manned) (answer : Answer) → IsSound m → IsMannedAnswer operation m answer new → IsSound new
-  sound-after (operations.Frame octets) m new answer sound a = bring-sound octets m new answer sound a.0 a.1
-  sound-after (operations.Release vcid) m new answer sound a = desk-sound IsReleaseAnswered vcid m new answer sound a.0 a.1
-  sound-after (operations.Take vcid apid) m new answer sound a = desk-sound (IsTakeAnswered apid) vcid m new answer sound a.0 a.1
-  sound-after (operations.Unit vcid map_id) m new answer sound a = desk-sound (IsUnitAnswered map_id) vcid m new answer sound a.0 a.1
-  sound-after (operations.Clcw vcid) m new answer sound a = stayed m new sound a.0 a.1.1
+  sound-after (operations.Frame octets) m new answer sound a = bring-sound octets m new answer sound a
+  sound-after (operations.Release vcid) m new answer sound a = desk-sound IsReleaseAnswered vcid m new answer sound a
+  sound-after (operations.Take vcid apid) m new answer sound a = desk-sound (IsTakeAnswered apid) vcid m new answer sound a
+  sound-after (operations.Unit vcid map_id) m new answer sound a = desk-sound (IsUnitAnswered map_id) vcid m new answer sound a
+  sound-after (operations.Clcw vcid) m new answer sound a = word-sound vcid m new answer sound a
+
+  -- ---- the watchers meet their desks
+
+  -- a meeting is an answer that changes nothing
+  as-answer : (place : ℕ) (m new : Manned) → (a : HasMetAt place m new) → IsAnsweredAt place a.vcid (λ old answer after. after ≡ old) m (Refused UnknownChannel) new
+  as-answer place m new a =
+      let met = a.meeting in
+      let look = met.meeting.look in
+      record {
+        there = met.there;
+        next = met.next;
+        now = look.now;
+        was = met.was;
+        later = look.later;
+        moment = look.moment;
+        named = ap (λ (h : Identity). h.settings.vcid) look.later.0 ∙ met.named;
+        lock = look.lock;
+        answered = inr (refl, look.looked);
+        others = met.others;
+        vcids = met.vcids;
+        early = a.early;
+        late = a.late;
+        watched = a.watched;
+        no_more = look.answer;
+        met = met.meeting.met;
+        watchers = a.watchers;
+        station = a.station;
+      }
+
+  met-sound : (place : ℕ) (m new : Manned) → HasMetAt place m new → IsSound m → IsSound new
+  met-sound place m new a sound = moved (λ old answer after. after ≡ old) place a.vcid m new (Refused UnknownChannel) sound (as-answer place m new a)
+
+  met-alone : (place : ℕ) (m new : Manned) → HasMetAt place m new → IsSound m → IsAlone new → IsAlone m × (rack_of new ≡ rack_of m)
+  met-alone place m new a sound alone =
+      let c = changed (λ old answer after. after ≡ old) place a.vcid m new (Refused UnknownChannel) (as-answer place m new a) sound alone in
+      let (k, old, after, at, same, is) = c.1 in
+      let rack = rack_of m in (
+        c.0,
+        is ∙ (ap (λ (x : Linked). record rack { channels = set rack.channels k x }) same ∙ ap (λ (l : List Linked). record rack { channels = l }) (set-same rack.channels k old at.0)),
+      )
+
+  pub all-met-sound : (n : ℕ) (m met : Manned) → HaveMet n m met → IsSound m → IsSound met
+  all-met-sound zero m met same sound = subst IsSound (sym same) sound
+  all-met-sound (suc n) m met (mid, first, last) sound = met-sound n mid met last (all-met-sound n m mid first sound)
+
+  pub all-met-alone : (n : ℕ) (m met : Manned) → HaveMet n m met → IsSound m → IsAlone met → IsAlone m × (rack_of met ≡ rack_of m)
+  all-met-alone zero m met same sound alone = (subst IsAlone same alone, ap rack_of same)
+  all-met-alone (suc n) m met (mid, first, last) sound alone =
+      let late = met-alone n mid met last (all-met-sound n m mid first sound) alone in
+      let early = all-met-alone n m mid first sound late.0 in
+      (early.0, late.1 ∙ early.1)
+
+  -- who has met has seen just what the operator has
+  level-so-far : (n : ℕ) (m met : Manned) → HaveMet n m met → (k : ℕ) (d : AtLock) (w : Watching) → k < n → slice_get met.operator.desks k ≡ Some d → slice_get met.watchers k ≡ Some w → IsLevel d w.seen
+  level-so-far zero m met same k d w lt at here = absurd (omega (arith, lt))
+  level-so-far (suc n) m met (mid, first, last) k d w lt at here =
+      let a = as-answer n mid met last in
+      elim (cases_lt k n) [
+        | inl less ↦
+            let apart : k ≡ n → ⊥ = λ e. omega (arith, less, e) in
+            level-so-far n m mid first k d w less (sym (set-elsewhere mid.operator.desks n k a.next apart) ∙ (ap (λ (l : List AtLock). slice_get l k) (sym a.others) ∙ at))
+            (sym (set-elsewhere mid.watchers n k a.late apart) ∙ (ap (λ (l : List Watching). slice_get l k) (sym a.watchers) ∙ here))
+        | inr ge ↦
+            let same : n ≡ k = omega (arith, ge, lt) in
+            let d-is : a.next ≡ d =
+            same_Some a.next d (sym (set-there mid.operator.desks n a.there a.next a.was) ∙ (ap (λ (j : ℕ). slice_get (set mid.operator.desks n a.next) j) same ∙ (ap (λ (l : List AtLock). slice_get l k) (sym a.others) ∙ at))) in
+            let w-is : a.late ≡ w =
+            same_Some a.late w (sym (set-there mid.watchers n a.early a.late a.watched) ∙ (ap (λ (j : ℕ). slice_get (set mid.watchers n a.late) j) same ∙ (ap (λ (l : List Watching). slice_get l k) (sym a.watchers) ∙ here))) in
+            subst (λ (x : AtLock × Watching). IsLevel x.0 x.1.seen) (λ i. (d-is i, w-is i)) a.met.1
+      ]
+
+  watchers-kept : (n : ℕ) (m met : Manned) → HaveMet n m met → length met.watchers ≡ length m.watchers
+  watchers-kept zero m met same = ap (λ (x : Manned). length x.watchers) same
+  watchers-kept (suc n) m met (mid, first, last) = ap (length {A = Watching}) last.watchers ∙ (length-set mid.watchers n last.late ∙ watchers-kept n m mid first)
+
+  pub all-level : (m met : Manned) → AllHaveMet m met → AreEach IsLevel met.operator.desks met.watchers
+  all-level m met have = λ k d w at here.
+      let inside = slice_get_within met.watchers k w here in
+      level-so-far (length m.watchers) m met have k d w (omega (arith, inside, watchers-kept (length m.watchers) m met have)) at here
 
 -- ---- a new station
 
@@ -282,6 +409,11 @@ new-sound scid list m new = record {
   knows = new.knows;
   named = ap vcids_of new.settings ∙ sym new.vcids;
   seen = λ k d lt. let none = ap (length {A = ℕ × Event}) (new.nothing k d lt) in omega (arith, none);
+  ahead = λ k d w at here made.
+      let none = no-event d.own made (was-there (λ (x : AtLock). x.own.made ≡ []) m.operator.desks k d at new.nothing) in
+      let head : slice_get m.station.heads k ≡ Some d.own.seen.head =
+      ap (λ (l : List Identity). slice_get l k) (sym new.knows) ∙ mapped-at (λ (x : AtLock). x.own.seen.head) m.operator.desks k d at in
+      ((new.watchers.1 k d.own.seen.head w head here).1, (w.seen.journal, ap (λ (l : List Event). l ++ w.seen.journal) none));
 }
 
 pub new-rack : (scid : ℕ) (list : List Settings) (m : Manned) → IsNewlyManned scid list m → AreAlone m.operator.desks → rack_of m ≡ new_rack scid list

@@ -1,15 +1,14 @@
 -- What a script does is a function of its lines.
 use Rattle.std.proofs.Common.{◌≡◌, ◌<◌, ℕ, zero, suc, List, [], ◌∷◌, ◌++◌, ◌⊎◌, Ok, Option, None, Some, map, length, set, slice_get, inl, inr, refl, sym, ap, ◌∙◌, subst, arith}
 use Rattle.std.specs.Prelude.{◌≢◌, All, Any, Contains, IsPermutation}
-use Rattle.std.specs.List.{AllZip}
 use Rattle.std.specs.Option.{option_and_then}
 use Rattle.std.proofs.lemmas.Bool.{cases_lt}
 use Rattle.std.proofs.lemmas.List.{length_push, nil_from_length}
-use Rattle.std.proofs.lemmas.List.Elements.{All-head, All-tail, AllZip-push}
+use Rattle.std.proofs.lemmas.List.Elements.{All-head, All-tail}
 use Rattle.std.proofs.lemmas.List.Sorted.{length_permutation}
 use Rattle.std.proofs.lemmas.Option.{get_or_from_slice_get, none-some, same_Some, slice_get_within, slice_get-get_or}
 use Rattle.tc_channel.specs.Journal.{History}
-use Rattle.tc_channel.specs.Reply.{clcw, waiting_packets, waiting_units}
+use Rattle.tc_channel.specs.Reply.{waiting_packets, waiting_units}
 use Rattle.tc_channel.specs.declared.event.Event.TheVariants as events
 use Rattle.tc_channel.specs.declared.settings.Settings.{Settings}
 use Rattle.tc_link.specs.declared.frame.FrameFault.{FrameFault}
@@ -27,9 +26,9 @@ use Rattle.tc_text.specs.Reading.{IsFirstLine}
 use Rattle.tc_text.specs.declared.line.Line.{Line as Said}
 use Rattle.tc_cli.proofs.Framed.{IsOneAtMost, no-fault}
 use Rattle.tc_cli.proofs.Reported.{one-order}
-use Rattle.tc_rack.specs.Linked.{Linked, vcid_of, new_linked, later, IsFrameAnswered, IsReleaseAnswered, IsTakeAnswered, IsUnitAnswered}
-use Rattle.tc_rack.specs.Operation.{IsChannelAnswer, IsFrameAnswer}
-use Rattle.tc_cli.specs.Progress.{Progress, rack_for, AgreeBesidesWords, IsPerformed, IsScriptAnswer, IsWordRead}
+use Rattle.tc_rack.specs.Linked.{Linked, vcid_of, new_linked, later, IsFrameAnswered, IsReleaseAnswered, IsTakeAnswered, IsUnitAnswered, told_word}
+use Rattle.tc_rack.specs.Operation.{IsAnswerOf, IsChannelAnswer, IsClcwAnswer, IsFrameAnswer}
+use Rattle.tc_cli.specs.Progress.{Progress, rack_for, IsPerformed}
 use Rattle.tc_rack.specs.Rack.{Racked, Changes, IsLocateFault, IsThere, histories}
 use Rattle.tc_rack.specs.Report.{IsReportOf, report_text}
 use Rattle.tc_cli.specs.Session.{IsAnswered, IsDoneSo}
@@ -260,28 +259,20 @@ frame-ids : (octets : List ℕ) (old new : Racked) (answer : Answer) → IsFrame
 frame-ids octets old new answer (inl (frame, begins, ours, change)) = change-ids (IsFrameAnswered frame) (frame-kept frame) (header_of frame).vcid old new answer change
 frame-ids octets old new answer (inr (fault, why, is, still)) = ap (λ (r : Racked). map vcid_of r.channels) still
 
-operation-ids : (operation : Operation) (old new : Racked) (answer : Answer) → IsScriptAnswer operation old answer new → map vcid_of new.channels ≡ map vcid_of old.channels
+operation-ids : (operation : Operation) (old new : Racked) (answer : Answer) → IsAnswerOf operation old answer new → map vcid_of new.channels ≡ map vcid_of old.channels
 operation-ids (operations.Frame octets) old new answer a = frame-ids octets old new answer a
 operation-ids (operations.Release vcid) old new answer a = channel-ids IsReleaseAnswered release-kept vcid old new answer a
 operation-ids (operations.Take vcid apid) old new answer a = channel-ids (IsTakeAnswered apid) (take-kept apid) vcid old new answer a
 operation-ids (operations.Unit vcid map_id) old new answer a = channel-ids (IsUnitAnswered map_id) (unit-kept map_id) vcid old new answer a
 operation-ids (operations.Clcw vcid) old new answer (read, still) = ap (λ (r : Racked). map vcid_of r.channels) still
 
--- a CLCW is one of the channel, by its id
-word-agrees : (vcid : ℕ) (rack : Racked) (answer another : Answer) → IsWordRead vcid rack answer → IsWordRead vcid rack another → AgreeBesidesWords (Some answer) (Some another)
-word-agrees vcid rack answer another (inl (place, channel, at, (journal, lawful, is))) (inl (second, same, to, (events, may, too))) =
-    let word = clcw channel.history.settings journal channel.link in
-    let read = clcw same.history.settings events same.link in
-    inr (
-      vcid,
-      word,
-      read,
-      ap (λ (a : Answer). Some a) (is ∙ ap (λ (v : ℕ). answers.Clcw v word) at.1),
-      ap (λ (a : Answer). Some a) (too ∙ ap (λ (v : ℕ). answers.Clcw v read) to.1),
-    )
-word-agrees vcid rack answer another (inl (place, channel, at, word)) (inr (none, too)) = absurd (none (there vcid_of rack.channels place channel vcid at.0 at.1))
-word-agrees vcid rack answer another (inr (none, is)) (inl (place, channel, at, word)) = absurd (none (there vcid_of rack.channels place channel vcid at.0 at.1))
-word-agrees vcid rack answer another (inr (none, is)) (inr (nothing, too)) = inl (ap (λ (a : Answer). Some a) (is ∙ sym too))
+-- a CLCW is that of the channel with the id
+word-determined : (vcid : ℕ) (rack : Racked) (answer another : Answer) → AreApart (map vcid_of rack.channels) → IsClcwAnswer vcid rack answer → IsClcwAnswer vcid rack another → answer ≡ another
+word-determined vcid rack answer another apart (inl (place, channel, at, is)) (inl (second, other, to, too)) =
+    is ∙ (ap told_word (same-at vcid_of rack.channels apart vcid place second channel other at.0 at.1 to.0 to.1).1 ∙ sym too)
+word-determined vcid rack answer another apart (inl (place, channel, at, word)) (inr (none, too)) = absurd (none (there vcid_of rack.channels place channel vcid at.0 at.1))
+word-determined vcid rack answer another apart (inr (none, is)) (inl (place, channel, at, word)) = absurd (none (there vcid_of rack.channels place channel vcid at.0 at.1))
+word-determined vcid rack answer another apart (inr (none, is)) (inr (nothing, too)) = is ∙ sym too
 
 -- ---- octets that begin with a frame, and octets that don't
 
@@ -323,21 +314,17 @@ module _ (only : IsOneAtMost) where
   frame-answer-determined octets old new other answer another apart (inr (fault, why, is, still)) (inr (second, since, too, rests)) =
       (is ∙ (ap (λ (f : LocateFault). answers.Refused (Unlocated f)) (same-fault octets old fault second why since) ∙ sym too), still ∙ sym rests)
 
-  agrees : (new other : Racked) (answer another : Answer) → (answer ≡ another) × (new ≡ other) → (new ≡ other) × AgreeBesidesWords (Some answer) (Some another)
-  agrees new other answer another (is, left) = (left, inl (ap (λ (a : Answer). Some a) is))
-
   operation-determined : (operation : Operation) (old new other : Racked) (answer another : Answer) → AreApart (map vcid_of old.channels)
-      → IsScriptAnswer operation old answer new → IsScriptAnswer operation old another other → (new ≡ other) × AgreeBesidesWords (Some answer) (Some another)
-  operation-determined (operations.Frame octets) old new other answer another apart one two =
-      agrees new other answer another (frame-answer-determined octets old new other answer another apart one two)
+      → IsAnswerOf operation old answer new → IsAnswerOf operation old another other → (answer ≡ another) × (new ≡ other)
+  operation-determined (operations.Frame octets) old new other answer another apart one two = frame-answer-determined octets old new other answer another apart one two
   operation-determined (operations.Release vcid) old new other answer another apart one two =
-      agrees new other answer another (channel-determined IsReleaseAnswered release-determined vcid old new other answer another apart one two)
+      channel-determined IsReleaseAnswered release-determined vcid old new other answer another apart one two
   operation-determined (operations.Take vcid apid) old new other answer another apart one two =
-      agrees new other answer another (channel-determined (IsTakeAnswered apid) (take-determined apid) vcid old new other answer another apart one two)
+      channel-determined (IsTakeAnswered apid) (take-determined apid) vcid old new other answer another apart one two
   operation-determined (operations.Unit vcid map_id) old new other answer another apart one two =
-      agrees new other answer another (channel-determined (IsUnitAnswered map_id) (unit-determined map_id) vcid old new other answer another apart one two)
+      channel-determined (IsUnitAnswered map_id) (unit-determined map_id) vcid old new other answer another apart one two
   operation-determined (operations.Clcw vcid) old new other answer another apart (read, still) (again, rests) =
-      (still ∙ sym rests, word-agrees vcid old answer another read again)
+      (word-determined vcid old answer another apart read again, still ∙ sym rests)
 
 -- ---- what a line is answered, and what it leaves
 
@@ -394,27 +381,27 @@ module _ (only : IsOneAtMost) (scid : ℕ) where
       line-apart (instruction_of answered.0) old progress answer (all-apart script before old _ leads) answered.2 answered.3
 
   done-determined : (operation : Operation) (old new other : Progress) (answer another : Option Answer) → AreApart (ids_of old) → IsDoneSo (IsPerformed scid) operation old answer new
-      → IsDoneSo (IsPerformed scid) operation old another other → (new ≡ other) × AgreeBesidesWords answer another
+      → IsDoneSo (IsPerformed scid) operation old another other → (new ≡ other) × (answer ≡ another)
   done-determined operation old new other answer another apart (a, (rack, performed, is), told) (b, (second, done, too), said) =
       let ids : AreApart (map vcid_of (rack_for scid old).channels) = subst AreApart (sym (rack-ids scid old)) apart in
       let one = operation-determined only operation (rack_for scid old) rack second a b ids performed done in (
-        is ∙ (ap (λ (r : Racked). Operating r) one.0 ∙ sym too),
-        subst (λ (x : Option Answer × Option Answer). AgreeBesidesWords x.0 x.1) (λ i. (sym told i, sym said i)) one.1,
+        is ∙ (ap (λ (r : Racked). Operating r) one.1 ∙ sym too),
+        told ∙ (ap (λ (x : Answer). Some x) one.0 ∙ sym said),
       )
 
   line-determined : (instruction : Instruction) (old new other : Progress) (answer another : Option Answer) → AreApart (ids_of old)
       → Does (phase_of old) instruction (phase_of new) → IsAnswered (IsPerformed scid) old instruction new answer
-      → Does (phase_of old) instruction (phase_of other) → IsAnswered (IsPerformed scid) old instruction other another → (new ≡ other) × AgreeBesidesWords answer another
-  line-determined Nothing old new other answer another apart does a did b = (a.1 ∙ sym b.1, inl (a.0 ∙ sym b.0))
+      → Does (phase_of old) instruction (phase_of other) → IsAnswered (IsPerformed scid) old instruction other another → (new ≡ other) × (answer ≡ another)
+  line-determined Nothing old new other answer another apart does a did b = (a.1 ∙ sym b.1, a.0 ∙ sym b.0)
   line-determined (Channel settings) old new other answer another apart (list, longer, was, adds, is) a (first, long, before, added, too) b =
       let same : first ≡ list = same-setup old list first was before in
       let grown : longer ≡ long = adds.2 ∙ (ap (λ (l : List Settings). l ++ settings ∷ []) (sym same) ∙ sym added.2) in
-      (set-up new longer is ∙ (ap setting_up grown ∙ sym (set-up other long too)), inl (a ∙ sym b))
+      (set-up new longer is ∙ (ap setting_up grown ∙ sym (set-up other long too)), a ∙ sym b)
   line-determined (Add vcid addition) old new other answer another apart (list, longer, was, adds, is) a (first, long, before, added, too) b =
       let same : first ≡ list = same-setup old list first was before in
       let ids : AreApart (vcids_of list) = subst (λ (p : Progress). AreApart (ids_of p)) (set-up old list was) apart in
       let grown : longer ≡ long = addition-determined list longer long vcid addition ids adds (subst (λ (l : List Settings). AddsToChannel l vcid addition long) same added) in
-      (set-up new longer is ∙ (ap setting_up grown ∙ sym (set-up other long too)), inl (a ∙ sym b))
+      (set-up new longer is ∙ (ap setting_up grown ∙ sym (set-up other long too)), a ∙ sym b)
   line-determined (Frame octets) old new other answer another apart does a did b = done-determined (operations.Frame octets) old new other answer another apart a b
   line-determined (Release vcid) old new other answer another apart does a did b = done-determined (operations.Release vcid) old new other answer another apart a b
   line-determined (Take vcid apid) old new other answer another apart does a did b = done-determined (operations.Take vcid apid) old new other answer another apart a b
@@ -425,7 +412,7 @@ module _ (only : IsOneAtMost) (scid : ℕ) where
 
   -- the same line, from the same progress
   next-determined : (line : List ℕ) (old new other : Progress) (answer another : Option Answer) → AreApart (ids_of old) → IsLineAnswered (IsPerformed scid) old line new answer
-      → IsLineAnswered (IsPerformed scid) old line other another → (new ≡ other) × AgreeBesidesWords answer another
+      → IsLineAnswered (IsPerformed scid) old line other another → (new ≡ other) × (answer ≡ another)
   next-determined line old new other answer another apart (said, is, does, a) (again, too, did, b) =
       let same : again ≡ said = let e : Ok again ≡ Ok said = sym too ∙ is in cc in
       let moved = subst (λ (s : Said). Does (phase_of old) (instruction_of s) (phase_of other) × IsAnswered (IsPerformed scid) old (instruction_of s) other another) same (did, b) in
@@ -433,8 +420,8 @@ module _ (only : IsOneAtMost) (scid : ℕ) where
 
   -- two ways through as many lines
   same-way : (script : List ℕ) (answers others : List (Option Answer)) (progress other : Progress) (rest left : List ℕ) → AreAnswers (IsPerformed scid) script answers progress rest
-      → AreAnswers (IsPerformed scid) script others other left → length answers ≡ length others → (rest ≡ left) × (progress ≡ other) × AllZip AgreeBesidesWords answers others
-  same-way script answers others progress other rest left at_first at_first long = (refl, refl, tt)
+      → AreAnswers (IsPerformed scid) script others other left → length answers ≡ length others → (rest ≡ left) × (progress ≡ other) × (answers ≡ others)
+  same-way script answers others progress other rest left at_first at_first long = (refl, refl, refl)
   same-way script answers others progress other rest left at_first (one_more {answers = before} {answer = answer} leads next answered) long =
       absurd (omega (arith, long, length_push before answer))
   same-way script answers others progress other rest left (one_more {answers = before} {answer = answer} leads next answered) at_first long =
@@ -448,7 +435,7 @@ module _ (only : IsOneAtMost) (scid : ℕ) where
       let parts = same-line from line rest read left next first in
       let told_here = subst (λ (x : Progress × List ℕ). IsLineAnswered (IsPerformed scid) x.0 x.1 other another) (λ i. (sym one.1 i, sym parts.0 i)) told in
       let both = next-determined line old progress other answer another (all-apart script before old from leads) answered told_here in
-      (parts.1, both.0, AllZip-push AgreeBesidesWords before prior answer another one.2 both.1)
+      (parts.1, both.0, λ i. one.2 i ++ both.1 i ∷ [])
 
   -- a way through fewer lines, after which a line follows
   shorter-way : (script : List ℕ) (answers : List (Option Answer)) (progress : Progress) (rest : List ℕ) (count : ℕ) → AreAnswers (IsPerformed scid) script answers progress rest → count < length answers
@@ -470,7 +457,7 @@ module _ (only : IsOneAtMost) (scid : ℕ) where
       omega (arith, few, ap (length {A = ℕ}) same.0)
 
   pub determined : (script : List ℕ) (answers others : List (Option Answer)) (progress other : Progress) → AreAnswers (IsPerformed scid) script answers progress []
-      → AreAnswers (IsPerformed scid) script others other [] → (progress ≡ other) × AllZip AgreeBesidesWords answers others
+      → AreAnswers (IsPerformed scid) script others other [] → (progress ≡ other) × (answers ≡ others)
   determined script answers others progress other one two = elim (cases_lt (length answers) (length others)) [
     | inl less ↦ absurd (no-shorter script answers others progress other one two less)
     | inr ge ↦ elim (cases_lt (length others) (length answers)) [

@@ -45,7 +45,7 @@ first-place (x ∷ vs) (suc k) v at apart =
     ∙ omega (arith, first-place vs k v at (λ j lt. apart (suc j) (omega (arith, lt))))
 
 -- where no two ids are the same, each id has its place
-place-of : (station : Roster) (k v : ℕ) → AllPairs (λ (a b : ℕ). a ≢ b) station.vcids → slice_get station.vcids k ≡ Some v → IsPlace station v k
+pub place-of : (station : Roster) (k v : ℕ) → AllPairs (λ (a b : ℕ). a ≢ b) station.vcids → slice_get station.vcids k ≡ Some v → IsPlace station v k
 place-of station k v distinct at =
     let vs = station.vcids in
     let inside = slice_get_within vs k v at in

@@ -1,4 +1,5 @@
 pub mod Alone
+pub mod Beginnings
 pub mod Answered
 pub mod Sessions
 pub mod Framed

@@ -6,8 +6,7 @@ use Rattle.std.specs.Option.{option_and_then, option_map}
 use Rattle.std.proofs.lemmas.Bool.Decides.{eqb_tells}
 use Rattle.std.proofs.lemmas.List.{get_or-map, length-map, map-id}
 use Rattle.std.proofs.lemmas.Option.{get_or_from_slice_get, none-some, same_Some, slice_get-map, slice_get_within}
-use Rattle.tc_channel.specs.Reply.{buffered_fields, clcw, frame_reply, release_reply, waiting_packets, waiting_units}
-use Rattle.tc_channel.specs.Run.{IsLawful, IsLawfulWithin}
+use Rattle.tc_channel.specs.Reply.{buffered_fields, frame_reply, release_reply, waiting_packets, waiting_units}
 use Rattle.tc_channel.specs.declared.event.Event.{Event}
 use Rattle.tc_channel.specs.declared.event.Event.TheVariants as events
 use Rattle.tc_channel.specs.declared.settings.Settings.{Settings}
@@ -24,11 +23,11 @@ use Rattle.tc_station.specs.declared.work.Job.{Job}
 use Rattle.tc_station.specs.declared.work.Order.{Order}
 use Rattle.tc_station.specs.declared.work.Order.TheVariants as orders
 use Rattle.tc_station.specs.declared.work.WorkList.{WorkList}
-use Rattle.tc_rack.specs.Linked.{Linked, vcid_of, new_linked, later, IsFrameAnswered, IsReleaseAnswered, IsTakeAnswered, IsUnitAnswered}
-use Rattle.tc_rack.specs.Operation.{IsChannelAnswer, IsFrameAnswer}
+use Rattle.tc_rack.specs.Linked.{Linked, vcid_of, new_linked, later, IsFrameAnswered, IsReleaseAnswered, IsTakeAnswered, IsUnitAnswered, told_word}
+use Rattle.tc_rack.specs.Operation.{IsAnswerOf, IsChannelAnswer, IsClcwAnswer, IsFrameAnswer}
 use Rattle.tc_cli.specs.Parallel.{Plan, AreParted, none_parted, one_parted, ArePartedFor, IsParted, Parts}
 use Rattle.tc_cli.specs.Parting.{Parted, IsNewlyParted, IsGiven, IsFrameGiven, IsListed, empty_list, with_job}
-use Rattle.tc_cli.specs.Progress.{Progress, rack_for, IsPerformed, IsScriptAnswer, IsWordRead}
+use Rattle.tc_cli.specs.Progress.{Progress, rack_for, IsPerformed}
 use Rattle.tc_rack.specs.Rack.{Racked, IsAt, IsLocateFault, IsThere, new_rack}
 use Rattle.tc_cli.specs.Session.{IsAnswered, IsDoneSo}
 use Rattle.tc_rack.specs.Stage.{phase_of}
@@ -292,21 +291,16 @@ there-or-not (c ∷ xs) vcid = elim (eqb_tells (vcid_of c) vcid) [
   ]
 ]
 
--- the journal of no event is one that a channel can have
-no-event-lawful : (s : Settings) → IsLawful s []
-unfolding IsLawfulWithin
-no-event-lawful s = tt
-
 word-planned : (vcid : ℕ) (found parted : Parted) (rack : Racked) → IsPlanned found rack → parted ≡ found
-    → IsAnsweredSo (λ old answer new. IsWordRead vcid old answer × (new ≡ old)) parted rack
+    → IsAnsweredSo (λ old answer new. IsClcwAnswer vcid old answer × (new ≡ old)) parted rack
 word-planned vcid found parted rack planned is =
     let still = subst (λ (p : Parted). IsPlanned p rack) (sym is) planned in
     elim (there-or-not rack.channels vcid) [
       | inl there ↦
           let c = there.1 in (
-            answers.Clcw (vcid_of c) (clcw c.history.settings [] c.link),
+            told_word c,
             rack,
-            (inl (there.0, c, there.2, ([], no-event-lawful c.history.settings, refl)), refl),
+            (inl (there.0, c, there.2, refl), refl),
             still,
           )
       | inr none ↦ (answers.Refused UnknownChannel, rack, (inr (none, refl), refl), still)
@@ -336,7 +330,7 @@ IsLineMatched scid progress instruction new =
     (answer : Option Answer) × (next : Progress) × IsAnswered (IsPerformed scid) progress instruction next answer × AreMatched new next
 
 parts-planned : (scid : ℕ) (operation : Operation) (Gives : Parted → Parted → Type 0) (plan new : Plan) (progress : Progress) → AreMatched plan progress → Parts scid Gives plan new
-    → ((found parted : Parted) (rack : Racked) → IsPlanned found rack → Gives found parted → IsAnsweredSo (IsScriptAnswer operation) parted rack)
+    → ((found parted : Parted) (rack : Racked) → IsPlanned found rack → Gives found parted → IsAnsweredSo (IsAnswerOf operation) parted rack)
     → (answer : Option Answer) × (next : Progress) × IsDoneSo (IsPerformed scid) operation progress answer next × AreMatched new next
 parts-planned scid operation Gives plan new progress matched (found, parted, for, gives, is) can =
     let one = can found parted (rack_for scid progress) (found-planned scid plan progress found matched for) gives in (

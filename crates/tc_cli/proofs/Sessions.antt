@@ -14,7 +14,8 @@ use Rattle.tc_station.specs.Roster.{Roster}
 use Rattle.tc_station.specs.Tally.{AtStation}
 use Rattle.tc_station.specs.Together.{AreClosedTogether, crews_of}
 use Rattle.tc_cli.specs.Manned.{Manned}
-use Rattle.tc_cli.specs.Progress.{Progress, rack_for, IsPerformed, IsScriptAnswer}
+use Rattle.tc_cli.specs.Progress.{Progress, rack_for, IsPerformed}
+use Rattle.tc_rack.specs.Operation.{IsAnswerOf}
 use Rattle.tc_rack.specs.Rack.{Racked, histories}
 use Rattle.tc_cli.specs.Session.{Session, IsAnswered, IsDoneSo, IsFound, IsOperated}
 use Rattle.tc_rack.specs.Stage.{phase_of}
@@ -23,7 +24,7 @@ use Rattle.tc_rack.specs.declared.answer.Answer.{Answer}
 use Rattle.tc_rack.specs.declared.operation.Operation.{Operation}
 use Rattle.tc_rack.specs.declared.operation.Operation.TheVariants as operations
 use Rattle.tc_rack.specs.declared.stage.Stage.TheVariants.{SettingUp, Operating}
-use Rattle.tc_cli.proofs.Alone.{AloneLaws, AreAlone, IsSound, answered-alone, closed-alone, new-rack, new-sound, rack_of, sound-after}
+use Rattle.tc_cli.proofs.Alone.{AloneLaws, IsAlone, IsSound, all-level, all-met-alone, all-met-sound, answered-alone, closed-alone, new-rack, new-sound, rack_of, sound-after}
 
 -- how far the session has come, by the lines alone
 abbrev pub progress_of : Session → Progress
@@ -36,7 +37,7 @@ IsSoundSession (Operating m) = IsSound m
 
 abbrev pub IsAloneSession : Session → Type 0
 IsAloneSession (SettingUp list) = Unit {0}
-IsAloneSession (Operating m) = AreAlone m.operator.desks
+IsAloneSession (Operating m) = IsAlone m
 
 phase-of : (s : Session) → phase_of s ≡ phase_of (progress_of s)
 phase-of (SettingUp list) = refl
@@ -58,12 +59,12 @@ found-sound : (scid : ℕ) (s : Session) (m : Manned) → IsFound scid s m → I
 found-sound scid (SettingUp list) m found sound = new-sound scid list m found
 found-sound scid (Operating manned) m found sound = subst IsSound (sym found) sound
 
-found-alone : (scid : ℕ) (s : Session) (m : Manned) → IsFound scid s m → AreAlone m.operator.desks → IsAloneSession s
+found-alone : (scid : ℕ) (s : Session) (m : Manned) → IsFound scid s m → IsAlone m → IsAloneSession s
 found-alone scid (SettingUp list) m found alone = tt
-found-alone scid (Operating manned) m found alone = subst (λ (x : Manned). AreAlone x.operator.desks) found alone
+found-alone scid (Operating manned) m found alone = subst IsAlone found alone
 
-found-rack : (scid : ℕ) (s : Session) (m : Manned) → IsFound scid s m → AreAlone m.operator.desks → rack_of m ≡ rack_for scid (progress_of s)
-found-rack scid (SettingUp list) m found alone = new-rack scid list m found alone
+found-rack : (scid : ℕ) (s : Session) (m : Manned) → IsFound scid s m → IsAlone m → rack_of m ≡ rack_for scid (progress_of s)
+found-rack scid (SettingUp list) m found alone = new-rack scid list m found alone.0
 found-rack scid (Operating manned) m found alone = ap rack_of found
 
 module _ (laws : AloneLaws) (scid : ℕ) where
@@ -76,7 +77,7 @@ module _ (laws : AloneLaws) (scid : ℕ) where
   operated-alone operation s new answer sound (m, after, found, answered, is) alone =
       let one = answered-alone laws operation m after answer (found-sound scid s m found sound) answered (subst IsAloneSession is alone) in (
         found-alone scid s m found one.0,
-        (rack_of after, subst (λ (r : Racked). IsScriptAnswer operation r answer (rack_of after)) (found-rack scid s m found one.0) one.1, ap progress_of is),
+        (rack_of after, subst (λ (r : Racked). IsAnswerOf operation r answer (rack_of after)) (found-rack scid s m found one.0) one.1, ap progress_of is),
       )
 
   done-sound : (operation : Operation) (s new : Session) (answer : Option Answer) → IsSoundSession s → IsDoneSo (IsOperated scid) operation s answer new → IsSoundSession new
@@ -125,10 +126,12 @@ module _ (laws : AloneLaws) (scid : ℕ) where
       → AreAnswers (IsPerformed scid) script answers (progress_of s) [] × IsReport scid (progress_of s) text
   reported-alone script answers s text leads (inl (none, empty)) =
       (all-alone script answers s [] leads (setup-alone s [] none), inl (sym (phase-of s) ∙ none, empty))
-  reported-alone script answers s text leads (inr (m, channels, found, ours, closed, of)) =
+  reported-alone script answers s text leads (inr (m, met, channels, found, have, ours, closed, of)) =
       let sound = found-sound scid s m found (all-sound script answers s [] leads) in
-      let alone = closed-alone laws m closed.there sound.seen ours.1 closed.closed in
-      let same : closed.there ≡ histories (rack_for scid (progress_of s)) = alone.1 ∙ ap histories (found-rack scid s m found alone.0) in
+      let there = all-met-sound laws (length m.watchers) m met have sound in
+      let whole = closed-alone laws met closed.there there.seen ours.1 closed.closed in
+      let alone = all-met-alone laws (length m.watchers) m met have sound (whole.0, all-level laws m met have) in
+      let same : closed.there ≡ histories (rack_for scid (progress_of s)) = whole.1 ∙ ap histories (alone.1 ∙ found-rack scid s m found alone.0) in
       (all-alone script answers s [] leads (found-alone scid s m found alone.0), inr (channels, subst (λ (l : List History). IsPermutation l channels) same closed.all, of))
 
 -- ---- the number of events of each channel that was closed

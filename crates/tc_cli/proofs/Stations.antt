@@ -1,12 +1,16 @@
--- A configuration has none of the faults that settings of a station may have, but that it is empty.
+-- A configuration has none of the faults that settings of a station may have, but that it is empty. What is known of a new station.
 use Rattle.std.proofs.Common.{◌≡◌, ℕ, ◌<◌, List, length, get_or, sym, ap, ◌∙◌, subst, arith}
-use Rattle.std.proofs.lemmas.List.{get_or-take, get_or_default, length-take}
+use Rattle.std.proofs.lemmas.List.{get_or-map, get_or-take, get_or_default, length-map, length-take}
 use Rattle.std.proofs.lemmas.Option.{get_or_from_slice_get, slice_get_within}
 use Rattle.std.specs.Prelude.{All}
 use Rattle.tc_channel.specs.declared.settings.Settings.{Settings}
 use Rattle.tc_channel.specs.declared.settings.SettingsFault.{SettingsFault}
 use Rattle.tc_channel.specs.Settings.{IsAllowed, IsFault}
-use Rattle.tc_station.specs.StationSettings.{HaveDistinctVcids, IsFirstDouble, IsFirstRefused}
+use Rattle.tc_station.specs.Roster.{Roster}
+use Rattle.tc_station.specs.StationSettings.{HaveDistinctVcids, IsFirstDouble, IsFirstRefused, vcids_of}
+use Rattle.tc_cli.specs.Parting.{IsNewStation}
+use Rattle.tc_cli.specs.Watched.{IsOrdered}
+use Rattle.tc_cli.proofs.Planned.{element}
 
 -- no two entries of a list with distinct ids have one id
 pub no-double : (list : List Settings) (vcid : ℕ) → HaveDistinctVcids list → IsFirstDouble list vcid → ⊥
@@ -20,3 +24,15 @@ no-double list vcid distinct (i, s, at, v, before, (k, t, kt, is, tv)) =
 pub no-refusal : (no_fault : (s : Settings) (f : SettingsFault) → IsAllowed s → IsFault s f → ⊥) (list : List Settings) (vcid : ℕ) (f : SettingsFault) → All IsAllowed list → IsFirstRefused list vcid f → ⊥
 no-refusal no_fault list vcid f allowed (i, s, at, v, fault, before) =
     no_fault s f (subst IsAllowed (get_or_from_slice_get list i s s at) (allowed i s (slice_get_within list i s at))) fault
+
+-- a new station has the ids of its settings, no two the same
+pub new-ordered : (scid : ℕ) (list : List Settings) (station : Roster) → IsNewStation scid list station → IsOrdered station
+new-ordered scid list station new = record {
+  named = ap vcids_of new.settings ∙ sym new.vcids;
+  distinct = λ i j d lt inside same.
+      let within : j < length list = omega (arith, inside, ap (length {A = ℕ}) new.vcids, length-map list (λ (s : Settings). s.vcid)) in
+      let there = element list j within in
+      let at : (k : ℕ) → k < length list → get_or station.vcids k d ≡ (get_or list k there.0).vcid =
+      λ k lt'. ap (λ (l : List ℕ). get_or l k d) new.vcids ∙ get_or-map (λ (s : Settings). s.vcid) list k there.0 d lt' in
+      new.distinct i j there.0 lt within (sym (at i (omega (arith, lt, within))) ∙ (same ∙ at j within));
+}

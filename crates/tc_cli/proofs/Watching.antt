@@ -1,58 +1,160 @@
--- The watchers of a script's channels, by the settings of those.
-use Rattle.std.proofs.Common.{◌≡◌, ◌<◌, ℕ, List, [], ◌∷◌, ◌++◌, ◌+◌, Some, All, length, map, take, get_or, slice_get, inl, inr, refl, sym, ap, ◌∙◌, subst, arith}
-use Rattle.std.specs.Prelude.{Contains, slice_index}
-use Rattle.std.proofs.lemmas.List.{get_or-map, length-map, map-append, take_more}
-use Rattle.std.proofs.lemmas.List.Elements.{All-push}
-use Rattle.std.proofs.lemmas.Option.{get_or_from_slice_get, slice_get-get_or, slice_get_within}
-use Rattle.tc_channel.specs.declared.settings.Settings.{Settings}
+-- The watchers of a script's channels, each of the desk at its place.
+use Rattle.std.proofs.Common.{◌≡◌, ◌<◌, ◌+◌, ℕ, zero, suc, List, [], ◌∷◌, ◌++◌, ◌⊎◌, Some, Result, length, map, get_or, inl, inr, refl, sym, ap, ◌∙◌, subst, arith}
+use Rattle.std.specs.Prelude.{◌==◌, position, slice_get, slice_set}
+use Rattle.std.proofs.lemmas.Bool.Decides.{eqb_tells}
+use Rattle.std.proofs.lemmas.List.{length-map, length-set}
+use Rattle.std.proofs.lemmas.Option.{none-some, same_Some, slice_get-get_or, slice_get_read, slice_get_within}
 use Rattle.tc_channel.specs.declared.event.Event.{Event}
+use Rattle.tc_channel.specs.declared.settings.Settings.{Settings}
 use Rattle.tc_channel.specs.Reply.{clcw}
 use Rattle.tc_channel.specs.Run.{IsLawful}
-use Rattle.tc_status.specs.Board.{no_flag}
-use Rattle.tc_station.specs.Roster.{Roster, IsDeskOf}
-use Rattle.tc_station.specs.StationSettings.{vcids_of}
-use Rattle.tc_cli.specs.Manned.{Manned, IsSomeWord, IsWordAnswer}
-use Rattle.tc_cli.specs.Watched.{AreWatchedOf, IsWatchedOf}
-use Rattle.tc_rack.specs.declared.answer.Answer.TheVariants.{Clcw, Refused}
-use Rattle.tc_rack.specs.declared.answer.Refusal.TheVariants.{UnknownChannel}
+use Rattle.tc_desk.specs.Log.{Identity, Moment}
+use Rattle.tc_status.specs.Board.{IsBeginning, Watching, no_flag}
+use Rattle.tc_station.specs.Call.{IsMetAt, IsMetCallAt}
+use Rattle.tc_station.specs.Moments.{IsWatcherOf}
+use Rattle.tc_station.specs.Roster.{Roster, IsPlace}
+use Rattle.tc_station.specs.Tally.{AtStation}
+use Rattle.tc_cli.specs.Manned.{Manned, HasMetAt, HaveMet, IsMannedCall, IsWordAnswer}
+use Rattle.tc_cli.specs.Watched.{AreWatchersOf, AreWatching, IsOrdered, IsWatching}
+use Rattle.tc_rack.specs.declared.answer.Answer.TheVariants.{Clcw}
+use Rattle.tc_cli.proofs.Joined.{place-of}
+use Rattle.tc_cli.proofs.Planned.{element, set-elsewhere, set-there}
 
-module _ {W : Type 0} (settings_of : W → Settings) where
-  -- the watcher at the place of an id reads a word of the channel with this id
-  pub word-read : (self : List Settings) (items : List W) (place : ℕ) (old : W) (s : Settings) (journal : List Event) (vcids : List ℕ) (vcid word : ℕ) → map settings_of items ≡ self → vcids_of (map settings_of items) ≡ vcids
-      → place < length vcids → slice_index vcids place ≡ vcid → old ≡ get_or items place old → s ≡ settings_of old → IsLawful s journal → word ≡ clcw s journal no_flag
-      → (x : ℕ) × (t : Settings) × (slice_get self x ≡ Some t) × (t.vcid ≡ vcid) × IsSomeWord t word
-  word-read self items place old s journal vcids vcid word is ids inside at here same lawful of =
-      let long : length items ≡ length vcids = sym (length-map items settings_of) ∙ (sym (length-map (map settings_of items) (λ (t : Settings). t.vcid)) ∙ ap (length {A = ℕ}) ids) in
-      let within : place < length items = omega (arith, inside, long) in
-      let mapped : place < length (map settings_of items) = omega (arith, within, length-map items settings_of) in
-      let settings : get_or (map settings_of items) place s ≡ s = get_or-map settings_of items place old s within ∙ (ap settings_of (sym here) ∙ sym same) in
-      let found : slice_get self place ≡ Some s =
-      ap (λ (l : List Settings). slice_get l place) (sym is) ∙ (slice_get-get_or (map settings_of items) place s mapped ∙ ap (λ (t : Settings). Some t) settings) in
-      let id : s.vcid ≡ vcid =
-      ap (λ (t : Settings). t.vcid) (sym settings)
-      ∙ (sym (get_or-map (λ (t : Settings). t.vcid) (map settings_of items) place s 0 mapped) ∙ (ap (λ (l : List ℕ). slice_index l place) ids ∙ at)) in
-      (place, s, found, id, (journal, lawful, of))
+-- as many desks as ids
+pub as-many : (station : Roster) → IsOrdered station → length station.heads ≡ length station.vcids
+as-many station ordered =
+    let settings : Identity → Settings = λ h. h.settings in
+    sym (length-map station.heads settings)
+    ∙ (sym (length-map (map settings station.heads) (λ (s : Settings). s.vcid)) ∙ ap (length {A = ℕ}) ordered.named)
 
-  pub one-watched-more : (station : Roster) (items next : List W) (w : W) → next ≡ items ++ w ∷ [] → All (IsWatchedOf station) (map settings_of items) → IsWatchedOf station (settings_of w) → All (IsWatchedOf station) (map settings_of next)
-  one-watched-more station items next w is all one =
-      let mapped : map settings_of items ++ settings_of w ∷ [] ≡ map settings_of next = sym (map-append settings_of items (w ∷ [])) ∙ ap (map settings_of) (sym is) in
-      subst (All (IsWatchedOf station)) mapped (All-push (IsWatchedOf station) (map settings_of items) (settings_of w) all one)
+-- what a watcher of the channel with an id is to the desk at the place of this id
+pub at-place : (station : Roster) (vcid place : ℕ) (w : Watching) → IsPlace station vcid place → IsWatcherOf station vcid w → (head : Identity) × (slice_get station.heads place ≡ Some head) × IsWatching head w
+at-place station vcid place w here (head, (p, there, at), board, settings) =
+    (head, ap (λ (k : ℕ). slice_get station.heads k) (sym (same_Some p place (sym there ∙ here))) ∙ at, (board, settings))
 
-  pub one-id-more : (items next : List W) (w : W) (vcids : List ℕ) (i vcid : ℕ) → next ≡ items ++ w ∷ [] → vcids_of (map settings_of items) ≡ take i vcids → (settings_of w).vcid ≡ vcid → i < length vcids → vcid ≡ get_or vcids i vcid
-      → vcids_of (map settings_of next) ≡ take (i + 1) vcids
-  one-id-more items next w vcids i vcid is ids id inside at =
-      ap (λ (l : List W). vcids_of (map settings_of l)) is
-      ∙ (ap vcids_of (map-append settings_of items (w ∷ []))
-      ∙ (map-append (λ (s : Settings). s.vcid) (map settings_of items) (settings_of w ∷ [])
-      ∙ ((λ j. ids j ++ (id ∙ at) j ∷ []) ∙ sym (take_more vcids i vcid inside))))
+-- the watcher at the place of an id is of the channel with this id
+pub watcher-there : (station : Roster) (watchers : List Watching) (vcid place : ℕ) (w : Watching) → AreWatchersOf station watchers → IsPlace station vcid place → slice_get watchers place ≡ Some w
+    → IsWatcherOf station vcid w
+watcher-there station watchers vcid place w all here at =
+    let inside = slice_get_within watchers place w at in
+    let there = element station.heads place (omega (arith, inside, all.0)) in
+    let one = all.1 place there.0 w there.1 at in
+    (there.0, (place, here, there.1), one.0, one.1)
+
+-- another watcher of the same desk in its place
+pub one-watcher-set : (station : Roster) (watchers : List Watching) (place : ℕ) (head : Identity) (early late : Watching) → AreWatchersOf station watchers → slice_get station.heads place ≡ Some head
+    → slice_get watchers place ≡ Some early → IsWatching head late → AreWatchersOf station (slice_set watchers place late)
+one-watcher-set station watchers place head early late all known was one = (
+  length-set watchers place late ∙ all.0,
+  λ k h w at here. elim (eqb_tells k place) [
+    | inl same ↦
+        let w-is : late ≡ w = same_Some late w (sym (set-there watchers place early late was) ∙ (ap (λ (j : ℕ). slice_get (slice_set watchers place late) j) (sym same.1) ∙ here)) in
+        let h-is : head ≡ h = same_Some head h (sym known ∙ (ap (λ (j : ℕ). slice_get station.heads j) (sym same.1) ∙ at)) in
+        subst (λ (x : Identity × Watching). IsWatching x.0 x.1) (λ i. (h-is i, w-is i)) one
+    | inr apart ↦ all.1 k h w at (sym (set-elsewhere watchers place k late apart.1) ∙ here)
+  ],
+)
+
+pub watcher-set : (station : Roster) (watchers : List Watching) (vcid place : ℕ) (early late : Watching) → AreWatchersOf station watchers → IsPlace station vcid place → slice_get watchers place ≡ Some early
+    → IsWatcherOf station vcid late → AreWatchersOf station (slice_set watchers place late)
+watcher-set station watchers vcid place early late all here was of =
+    let at = at-place station vcid place late here of in
+    one-watcher-set station watchers place at.0 early late all at.1 was at.2
+
+-- one element more
+push-cases : {X : Type 0} (xs : List X) (x y : X) (k : ℕ) → slice_get (xs ++ x ∷ []) k ≡ Some y → (slice_get xs k ≡ Some y) ⊎ ((k ≡ length xs) × (x ≡ y))
+push-cases [] x y zero at = inr (refl, same_Some x y at)
+push-cases [] x y (suc k) at = absurd (none-some y at)
+push-cases (z ∷ xs) x y zero at = inl at
+push-cases (z ∷ xs) x y (suc k) at = elim (push-cases xs x y k at) [
+  | inl h ↦ inl h
+  | inr h ↦ inr (ap suc h.0, h.1)
+]
+
+-- one watcher more
+pub one-watcher-more : (station : Roster) (vcids : List ℕ) (items next : List Watching) (w : Watching) (i vcid : ℕ) → IsOrdered station → vcids ≡ station.vcids → next ≡ items ++ w ∷ [] → length items ≡ i → i < length vcids
+    → vcid ≡ get_or vcids i vcid → AreWatching station.heads items → IsWatcherOf station vcid w → AreWatching station.heads next
+one-watcher-more station vcids items next w i vcid ordered whole is many inside at all of = λ k head x known here.
+    elim (push-cases items w x k (ap (λ (l : List Watching). slice_get l k) (sym is) ∙ here)) [
+      | inl h ↦ all k head x known h
+      | inr h ↦
+          let id : slice_get station.vcids i ≡ Some vcid =
+          ap (λ (l : List ℕ). slice_get l i) (sym whole) ∙ (slice_get-get_or vcids i vcid inside ∙ ap (λ (v : ℕ). Some v) (sym at)) in
+          let one = at-place station vcid i w (place-of station i vcid ordered.distinct id) of in
+          let head-is : one.0 ≡ head = same_Some one.0 head (sym one.1 ∙ (ap (λ (j : ℕ). slice_get station.heads j) (sym (h.0 ∙ many)) ∙ known)) in
+          subst (λ (y : Identity × Watching). IsWatching y.0 y.1) (λ i. (head-is i, h.1 i)) one.2
+    ]
+
+-- ---- the watcher at a place meets its desk
+
+-- the watcher at a place is of the channel there
+pub meets-at : (station : Roster) (items : List Watching) (vcids : List ℕ) (place vcid : ℕ) (w : Watching) → IsOrdered station → vcids ≡ station.vcids → AreWatchersOf station items → place < length items
+    → vcid ≡ get_or vcids place vcid → w ≡ get_or items place w → IsPlace station vcid place × (slice_get items place ≡ Some w) × IsWatcherOf station vcid w
+meets-at station items vcids place vcid w ordered whole all inside id is =
+    let within : place < length vcids = omega (arith, inside, all.0, as-many station ordered, ap (length {A = ℕ}) whole) in
+    let at : slice_get station.vcids place ≡ Some vcid =
+    ap (λ (l : List ℕ). slice_get l place) (sym whole) ∙ (slice_get-get_or vcids place vcid within ∙ ap (λ (v : ℕ). Some v) (sym id)) in
+    let here = place-of station place vcid ordered.distinct at in
+    let seat = slice_get_read items (length items) place w refl inside is in
+    (here, seat, watcher-there station items vcid place w all here seat)
+
+-- the same of the watcher of an id
+pub meets-of : (station : Roster) (items : List Watching) (vcids : List ℕ) (place vcid : ℕ) (w : Watching) → IsOrdered station → vcids ≡ station.vcids → AreWatchersOf station items → place < length vcids
+    → position (λ v. v == vcid) vcids ≡ Some place → w ≡ get_or items place w → IsPlace station vcid place × (slice_get items place ≡ Some w) × IsWatcherOf station vcid w
+meets-of station items vcids place vcid w ordered whole all within at is =
+    let here : IsPlace station vcid place = ap (λ (l : List ℕ). position (λ v. v == vcid) l) (sym whole) ∙ at in
+    let inside : place < length items = omega (arith, within, all.0, as-many station ordered, ap (length {A = ℕ}) whole) in
+    let seat = slice_get_read items (length items) place w refl inside is in
+    (here, seat, watcher-there station items vcid place w all here seat)
+
+pub has-met : (station : Roster) (operator next : AtStation) (items : List Watching) (place vcid : ℕ) (early late : Watching) → IsPlace station vcid place → slice_get items place ≡ Some early
+    → (p : ℕ) × IsPlace station vcid p × IsMetAt p vcid early operator late next
+    → HasMetAt place (record { station = station; operator = operator; watchers = items }) (record { station = station; operator = next; watchers = slice_set items place late })
+has-met station operator next items place vcid early late here seat (p, there, met) =
+    let same : p ≡ place = same_Some p place (sym there ∙ here) in
+    record { vcid = vcid; early = early; late = late; watched = seat; meeting = subst (λ (k : ℕ). IsMetAt k vcid early operator late next) same met; watchers = refl; station = refl }
+
+pub manned-call : {R F : Type 0} (e : Event) (ok : Moment → R → Type 0) (err : Moment → F → Type 0) (station : Roster) (operator next : AtStation) (items : List Watching) (place vcid : ℕ) (early late : Watching) (r : Result R F)
+    → IsPlace station vcid place → slice_get items place ≡ Some early → (p : ℕ) × IsPlace station vcid p × IsMetCallAt p vcid e ok err early operator r late next
+    → (p : ℕ) × IsPlace station vcid p
+    × IsMannedCall p vcid e ok err (record { station = station; operator = operator; watchers = items }) r (record { station = station; operator = next; watchers = slice_set items place late })
+manned-call e ok err station operator next items place vcid early late r here seat (p, there, call) =
+    let same : p ≡ place = same_Some p place (sym there ∙ here) in (
+      place,
+      here,
+      record { early = early; late = late; watched = seat; call = subst (λ (k : ℕ). IsMetCallAt k vcid e ok err early operator r late next) same call; watchers = refl; station = refl },
+    )
+
+-- what a watcher read is of its desk
+pub read-of : (station : Roster) (vcid place : ℕ) (early late : Watching) → IsPlace station vcid place → IsWatcherOf station vcid early → late.board ≡ early.board → IsBeginning early.seen late.seen
+    → IsWatcherOf station vcid late
+read-of station vcid place early late here (head, at, board, settings) same later = (head, at, same ∙ board, later.0 ∙ settings)
 
 -- the answer of a line that asks for a CLCW
-pub word-answered : (m : Manned) (watched : List Settings) (vcid word : ℕ) → AreWatchedOf m.station watched → (x : ℕ) × (t : Settings) × (slice_get watched x ≡ Some t) × (t.vcid ≡ vcid) × IsSomeWord t word
-    → IsWordAnswer vcid m (Clcw vcid word)
-word-answered m watched vcid word all (x, t, at, id, some) =
-    let inside = slice_get_within watched x t at in
-    let of : IsWatchedOf m.station t = subst (IsWatchedOf m.station) (get_or_from_slice_get watched x t t at) (all.1 x t inside) in
-    inl (of.0, word, subst (λ (v : ℕ). IsDeskOf m.station v of.0) id of.1, refl, subst (λ (s : Settings). IsSomeWord s word) of.2 some)
+pub word-answered : (station : Roster) (operator : AtStation) (items : List Watching) (place vcid word : ℕ) (early late : Watching) → IsPlace station vcid place → slice_get items place ≡ Some early
+    → IsWatcherOf station vcid early → IsBeginning early.seen late.seen → IsLawful late.seen.settings late.seen.journal → word ≡ clcw late.seen.settings late.seen.journal no_flag
+    → IsWordAnswer vcid (record { station = station; operator = operator; watchers = items }) (Clcw vcid word) (record { station = station; operator = operator; watchers = slice_set items place late })
+word-answered station operator items place vcid word early late here seat (head, desk, board, settings) later lawful of =
+    inl (
+      place,
+      here,
+      record {
+        head = head;
+        early = early;
+        late = late;
+        desk = desk;
+        watched = seat;
+        later = later;
+        settings = later.0 ∙ settings;
+        lawful = lawful;
+        word = ap (λ (w : ℕ). Clcw vcid w) of;
+        change = refl;
+      },
+    )
 
-pub no-word : (m : Manned) (watched : List Settings) (vcid : ℕ) → AreWatchedOf m.station watched → ¬ Contains (vcids_of watched) vcid → IsWordAnswer vcid m (Refused UnknownChannel)
-no-word m watched vcid all none = inr (subst (λ (l : List ℕ). ¬ Contains l vcid) all.0 none, refl)
+-- one meeting more
+pub one-more-met : (n : ℕ) (m mid met : Manned) → HaveMet n m mid → HasMetAt n mid met → HaveMet (n + 1) m met
+one-more-met n m mid met have at =
+    let more : HaveMet (suc n) m met = (mid, have, at) in
+    let same : suc n ≡ n + 1 = omega arith in
+    subst (λ (k : ℕ). HaveMet k m met) same more

@@ -14,7 +14,7 @@ use Rattle.tc_text.specs.declared.fault.Reason.{Reason}
 use Rattle.tc_text.specs.declared.fault.Reason.TheVariants.{NoMemory}
 use Rattle.tc_text.specs.declared.fault.ScriptFault.{ScriptFault}
 use Rattle.tc_text.specs.declared.fault.ScriptFault.TheVariants.{Line, Read, TooLong, Write, Unbalanced}
-use Rattle.tc_cli.specs.Manned.{Manned}
+use Rattle.tc_cli.specs.Manned.{Manned, AllHaveMet}
 use Rattle.tc_cli.specs.Parallel.{AreWorkedChannels}
 use Rattle.tc_rack.specs.Printed.{answer_line}
 use Rattle.tc_cli.specs.Progress.{Progress, IsPerformed}
@@ -110,15 +110,15 @@ end-cut-short (Err fault) scid script count session rest a b c so-far end (inr (
     subst (IsCutShort scid script a c) (sym memory) (inl (refl, inr (inr (unreported scid script count session rest a b c so-far end kept))))
 
 -- the report of the station of a session
-pub reported : (scid : ℕ) (session : Session) (manned : Manned) (station : Roster) (operator : AtStation) (operators : List AtStation) (channels shown : List History) (a b : Option (List ℕ))
-    → shown ≡ channels → IsFound scid session manned → station ≡ manned.station → operator ≡ manned.operator → IsOurs station operator → operators ≡ operator ∷ []
+pub reported : (scid : ℕ) (session : Session) (manned met : Manned) (station : Roster) (operator : AtStation) (operators : List AtStation) (channels shown : List History) (a b : Option (List ℕ))
+    → shown ≡ channels → IsFound scid session manned → AllHaveMet manned met → station ≡ met.station → operator ≡ met.operator → IsOurs station operator → operators ≡ operator ∷ []
     → IsClosedReport station operators channels → All IsNumberTold channels → All IsLawfulHistory shown → Appends a b (report_text shown)
     → IsReportWritten scid session a b
-reported scid session manned station operator operators channels shown a b lent found place hand ours all closed told lawful text =
+reported scid session manned met station operator operators channels shown a b lent found have place hand ours all closed told lawful text =
     let one = subst (λ (x : Roster × List AtStation). IsClosedReport x.0 x.1 channels) (λ i. (place i, (all ∙ ap (λ (o : AtStation). o ∷ []) hand) i)) closed in
     let mine = subst (λ (x : Roster × AtStation). IsOurs x.0 x.1) (λ i. (place i, hand i)) ours in
     let of : IsReportOf channels (report_text shown) = record { rising = closed.rising; told = told; lawful = subst (All IsLawfulHistory) lent lawful; written = ap report_text lent } in
-    (report_text shown, inr (manned, channels, found, mine, one, of), text)
+    (report_text shown, inr (manned, met, channels, found, have, mine, one, of), text)
 
 -- the report of channels is that of a script where its lines are done in order
 abbrev pub IsReportInOrder : Type 0

@@ -13,7 +13,7 @@ use Rattle.tc_text.specs.declared.fault.ScriptFault.{ScriptFault}
 use Rattle.tc_text.specs.declared.fault.ScriptFault.TheVariants.{Line, Read, TooLong, Write, Unbalanced}
 use Rattle.tc_setup.specs.Instruction.{instruction_of}
 use Rattle.tc_setup.specs.Phase.{Setup, Does}
-use Rattle.tc_cli.specs.Manned.{Manned}
+use Rattle.tc_cli.specs.Manned.{Manned, AllHaveMet}
 use Rattle.tc_rack.specs.Printed.{answer_line}
 use Rattle.tc_cli.specs.Progress.{Progress, rack_for, IsPerformed}
 use Rattle.tc_rack.specs.Rack.{histories}
@@ -51,12 +51,12 @@ IsReport scid progress text =
     ((phase_of progress ≡ Setup []) × (text ≡ []))
     ⊎ ((channels : List History) × IsPermutation (histories (rack_for scid progress)) channels × IsReportOf channels text)
 
--- the same of a station that was found at the end of a session, and closed together with its operator
+-- the same of a station that was found at the end of a session, and closed together with its operator, once each watcher had met its desk
 abbrev pub IsSessionReport : ℕ → Session → List ℕ → Type 0
 IsSessionReport scid session text =
     ((phase_of session ≡ Setup []) × (text ≡ []))
-    ⊎ ((found : Manned) × (channels : List History) × IsFound scid session found × IsOurs found.station found.operator
-    × IsClosedReport found.station (found.operator ∷ []) channels × IsReportOf channels text)
+    ⊎ ((found met : Manned) × (channels : List History) × IsFound scid session found × AllHaveMet found met × IsOurs met.station met.operator
+    × IsClosedReport met.station (met.operator ∷ []) channels × IsReportOf channels text)
 
 -- known octets grow by the report
 abbrev pub IsReportWritten : ℕ → Session → Option (List ℕ) → Option (List ℕ) → Type 0

@@ -1,10 +1,9 @@
 //! Laws over the definitions.
 
-ghost use Rattle.std.specs.List.{AllZip};
 ghost use Rattle.std.specs.Prelude.{◌≡◌, ◌<◌, ℕ, [], List, Option};
 ghost use Rattle.tc_channel.specs.Journal.{History};
 ghost use Rattle.tc_cli.specs.Parallel.{AreWorkedChannels};
-ghost use Rattle.tc_cli.specs.Progress.{Progress, AgreeBesidesWords, IsPerformed};
+ghost use Rattle.tc_cli.specs.Progress.{Progress, IsPerformed};
 ghost use Rattle.tc_rack.specs.Report.{IsReportOf};
 ghost use Rattle.tc_cli.specs.Script.{AreFirstGood, IsFault};
 ghost use Rattle.tc_cli.specs.Written.{AreAnswers, IsReport};
@@ -21,11 +20,11 @@ pub fn the_lines_before_memory_ran_out_are_good()
 {}
 
 /// What a script does follows from its lines: two ways through all of them lead to the same channels with the same journals, and have the
-/// same answers, except for CLCWs, which are of the same channel then. And there is one report of them.
+/// same answers. And there is one report of them.
 pub fn what_a_script_does_follows_from_its_lines()
     ensures answers { (scid : ℕ) (script : List ℕ) (answers others : List (Option Answer)) (progress other : Progress)
         → AreAnswers (IsPerformed scid) script answers progress [] → AreAnswers (IsPerformed scid) script others other []
-        → (progress ≡ other) × AllZip AgreeBesidesWords answers others }
+        → (progress ≡ other) × (answers ≡ others) }
     ensures report { (scid : ℕ) (script : List ℕ) (answers : List (Option Answer)) (progress : Progress) (text another : List ℕ)
         → AreAnswers (IsPerformed scid) script answers progress [] → IsReport scid progress text → IsReport scid progress another → text ≡ another }
 {

@@ -1,43 +1,44 @@
-//! A station with its operator, and what the operations of a script are answered.
+//! A station with its operator and its watchers, and what the operations of a script are answered.
 
-ghost use Rattle.std.specs.Prelude.{◌≡◌, IfOk, IfErr, OnOk, OnErr};
+ghost use Rattle.std.specs.Prelude.{◌≡◌, ◌<◌, ℕ, Contains, length, IfOk, IfErr, IfSome, MatchOption, OnOk, OnErr};
 ghost use Rattle.tc_rack.specs.Linked.{IsReleaseAnswered, IsTakeAnswered, IsUnitAnswered};
-ghost use Rattle.tc_cli.specs.Manned.{AreAsCounted, IsBringAnswer, IsDeskAnswer, IsMannedAnswer, IsNewlyManned, IsWordAnswer};
-ghost use Rattle.tc_station.specs.Roster.{settings_in};
-ghost use Rattle.tc_station.specs.StationSettings.{vcids_of};
+ghost use Rattle.tc_cli.specs.Manned.{AllHaveMet, AreAsCounted, HasMetAt, IsBringAnswer, IsDeskAnswer, IsMannedAnswer, IsMannedCall, IsNewlyManned, IsWordAnswer};
+ghost use Rattle.tc_station.specs.Roster.{IsPlace, settings_in};
+ghost use Rattle.tc_cli.specs.Watched.{IsOrdered};
 ghost use Rattle.tc_station.specs.Tally.{HasMadeNothing, IsOurs, KnowsDesks, tally};
 
-use crate::watchers::Watchers;
+use crate::watchers::{NO_FLAGS, place_of, watch_each};
 use std::alloc::Global;
 use std::marker::Model;
 use std::sync::Wait;
-use tc_channel::Octets;
+use tc_channel::{NoMemory, Octets, ReleaseFault, TakeFault, TakeUnitFault, Unkept};
+use tc_desk::{Framing, Operation as DeskOperation, Release, Taking, UnitTaking};
 use tc_rack::{Answer, Operation, Refusal};
-use tc_station::{
-    BringFault, FlightStation, Operator, OperatorsFault, ReleaseRefused, TakeRefused,
-    TakeUnitRefused,
-};
+use tc_station::{FlightStation, Operator, OperatorsFault};
+use tc_status::Watcher;
 use tc_text::Reason;
 
-/// A station with the one operator that it has issued, and a watcher for each channel.
+/// A station with the one operator that it has issued, and a watcher for each channel, which meets its channel at each operation.
 #[derive(Drop)]
 pub(crate) struct MannedStation {
     station: FlightStation,
     operator: Operator,
-    watchers: Watchers,
+    vcids: Vec<u8>,
+    watchers: Vec<Watcher>,
 }
 
 impl Model for MannedStation {
     ghost use Rattle.std.specs.Prelude.{◌≡◌};
     ghost use Rattle.tc_cli.specs.Manned.{Manned};
-    ghost use Rattle.tc_cli.specs.Watched.{AreWatchedOf};
-    ghost use Rattle.tc_station.specs.Tally.{IsOurs};
+    ghost use Rattle.tc_cli.specs.Watched.{AreWatchersOf, IsOrdered};
+    ghost use Rattle.tc_station.specs.Tally.{IsOurs, KnowsDesks};
 
     ghost Value = { Manned };
 
-    ghost view = { λ o. record { station = o.station; operator = o.operator } };
+    ghost view = { λ o. record { station = o.station; operator = o.operator; watchers = o.watchers.items } };
 
-    ghost invariant = { λ o. IsOurs o.station o.operator × (o.station.issued ≡ 1) × AreWatchedOf o.station o.watchers };
+    ghost invariant = { λ o. IsOurs o.station o.operator × (o.station.issued ≡ 1) × KnowsDesks o.station o.operator × IsOrdered o.station
+        × (o.vcids.items ≡ o.station.vcids) × AreWatchersOf o.station o.watchers.items };
 }
 
 impl MannedStation {
@@ -51,15 +52,16 @@ impl MannedStation {
     ) -> Result<MannedStation, Reason>
         requires new { station.issued ≡ 0 }
         requires all { vcids.items ≡ station.vcids }
-        requires settings { vcids_of (settings_in station) ≡ station.vcids }
+        requires ordered { IsOrdered station }
         ensures manned { IfOk result (IsNewlyManned station.scid (settings_in station)) }
         ensures reason { IfErr result (λ reason. reason ≡ Reason.NoMemory) }
     {
         let operator = only_operator(&mut station)?;
-        let watchers = Watchers::new(rt, alloc, &station, vcids)?;
+        let watchers = watch_each(rt, alloc, &station, &vcids)?;
         Ok(MannedStation {
             station,
             operator,
+            vcids,
             watchers,
         })
     }
@@ -73,9 +75,30 @@ impl MannedStation {
         let MannedStation {
             station,
             operator,
+            vcids: _,
             watchers: _,
         } = self;
         (station, operator)
+    }
+
+    /// Lets each watcher meet its channel, one after the other.
+    pub(crate) fn meet_all(&mut self, rt: &impl Wait)
+        ensures { AllHaveMet self.old self.new }
+    {
+        for place in 0..self.watchers.len() {
+            self.meet_at(rt, place);
+        }
+    }
+
+    // Lets the watcher at this place meet its channel.
+    fn meet_at(&mut self, rt: &impl Wait, place: usize)
+        requires { place < length self.old.watchers }
+        ensures met { HasMetAt place self.old self.new }
+        ensures as_many { length self.new.watchers ≡ length self.old.watchers }
+    {
+        let vcid = self.vcids[place];
+        let watcher = &mut self.watchers[place];
+        self.station.meet(rt, &mut self.operator, watcher, vcid);
     }
 
     /// Does an operation.
@@ -93,87 +116,104 @@ impl MannedStation {
         }
     }
 
+    // The operation on the channel with this id, whose watcher meets it before and behind. None: no such channel.
+    fn operate_at<O: DeskOperation<Unkept>>(
+        &mut self,
+        rt: &impl Wait,
+        vcid: u8,
+        operation: &O,
+    ) -> Option<Result<O::Answer, O::Fault>>
+        ensures call { MatchOption result (¬ Contains self.old.station.vcids vcid × (self.new ≡ self.old)) (λ r. (place : ℕ) × IsPlace self.old.station vcid place
+            × IsMannedCall place vcid (O.event operation.now) (O.answers operation.now) (O.refuses operation.now) self.old r self.new) }
+        ensures counted { IfSome result (λ r. OnErr r (AreAsCounted self.old self.new)) }
+    {
+        let place = place_of(&self.vcids, vcid)?;
+        let watcher = &mut self.watchers[place];
+        let station = &self.station;
+        Some(station.operate_met(rt, &mut self.operator, watcher, vcid, operation))
+    }
+
     // Brings octets to the channel that their frame names.
     fn bring(&mut self, rt: &impl Wait, octets: &[u8]) -> Result<Answer, Reason>
-        ensures answer { IfOk result (λ answer. IsBringAnswer octets.now self.old answer self.new.operator) }
-        ensures station { self.new.station ≡ self.old.station }
+        ensures answer { IfOk result (λ answer. IsBringAnswer octets.now self.old answer self.new) }
         ensures reason { IfErr result (λ reason. reason ≡ Reason.NoMemory) }
-        ensures counted { OnErr result (tally self.new.operator ≡ tally self.old.operator) }
+        ensures counted { OnErr result (AreAsCounted self.old self.new) }
     {
-        match self.station.bring(rt, &mut self.operator, octets) {
-            Ok(brought) => Ok(Answer::Frame {
-                vcid: brought.vcid,
-                reply: brought.reply,
-            }),
-            Err(BringFault::Locate(fault)) => Ok(Answer::Refused(Refusal::Unlocated(fault))),
-            Err(BringFault::NoMemory) => Err(Reason::NoMemory),
+        let located = match self.station.locate(octets) {
+            Ok(located) => located,
+            Err(fault) => return Ok(Answer::Refused(Refusal::Unlocated(fault))),
+        };
+        let vcid = located.vcid;
+        let frame = &located.frame;
+        match self.operate_at(rt, vcid, &Framing { frame }) {
+            Some(Ok(reply)) => Ok(Answer::Frame { vcid, reply }),
+            Some(Err(NoMemory)) => Err(Reason::NoMemory),
+            None => unreachable!(),
         }
     }
 
     // Releases the oldest data field of a channel's buffer.
     fn release(&mut self, rt: &impl Wait, vcid: u8) -> Result<Answer, Reason>
-        ensures answer { IfOk result (λ answer. IsDeskAnswer vcid IsReleaseAnswered self.old answer self.new.operator) }
-        ensures station { self.new.station ≡ self.old.station }
+        ensures answer { IfOk result (λ answer. IsDeskAnswer vcid IsReleaseAnswered self.old answer self.new) }
         ensures reason { IfErr result (λ reason. reason ≡ Reason.NoMemory) }
-        ensures counted { OnErr result (tally self.new.operator ≡ tally self.old.operator) }
+        ensures counted { OnErr result (AreAsCounted self.old self.new) }
     {
-        match self.station.release(rt, &mut self.operator, vcid) {
-            Ok(delivery) => Ok(Answer::Release { vcid, delivery }),
-            Err(ReleaseRefused::UnknownChannel) => Ok(Answer::Refused(Refusal::UnknownChannel)),
-            Err(ReleaseRefused::Empty) => Ok(Answer::Refused(Refusal::Empty)),
-            Err(ReleaseRefused::NoMemory) => Err(Reason::NoMemory),
+        match self.operate_at(rt, vcid, &Release) {
+            Some(Ok(delivery)) => Ok(Answer::Release { vcid, delivery }),
+            Some(Err(ReleaseFault::Empty)) => Ok(Answer::Refused(Refusal::Empty)),
+            Some(Err(ReleaseFault::NoMemory)) => Err(Reason::NoMemory),
+            None => Ok(Answer::Refused(Refusal::UnknownChannel)),
         }
     }
 
     // Takes the oldest packet of a channel's queue.
     fn take(&mut self, rt: &impl Wait, vcid: u8, apid: u16) -> Result<Answer, Reason>
-        ensures answer { IfOk result (λ answer. IsDeskAnswer vcid (IsTakeAnswered apid) self.old answer self.new.operator) }
-        ensures station { self.new.station ≡ self.old.station }
+        ensures answer { IfOk result (λ answer. IsDeskAnswer vcid (IsTakeAnswered apid) self.old answer self.new) }
         ensures reason { IfErr result (λ reason. reason ≡ Reason.NoMemory) }
-        ensures counted { OnErr result (tally self.new.operator ≡ tally self.old.operator) }
+        ensures counted { OnErr result (AreAsCounted self.old self.new) }
     {
-        match self.station.take(rt, &mut self.operator, vcid, apid) {
-            Ok(packet) => Ok(Answer::Take {
+        match self.operate_at(rt, vcid, &Taking { apid }) {
+            Some(Ok(packet)) => Ok(Answer::Take {
                 vcid,
                 apid,
                 packet: Octets::from(packet),
             }),
-            Err(TakeRefused::UnknownChannel) => Ok(Answer::Refused(Refusal::UnknownChannel)),
-            Err(TakeRefused::NoQueue) => Ok(Answer::Refused(Refusal::NoQueue)),
-            Err(TakeRefused::Empty) => Ok(Answer::Refused(Refusal::Empty)),
-            Err(TakeRefused::NoMemory) => Err(Reason::NoMemory),
+            Some(Err(TakeFault::NoQueue)) => Ok(Answer::Refused(Refusal::NoQueue)),
+            Some(Err(TakeFault::Empty)) => Ok(Answer::Refused(Refusal::Empty)),
+            Some(Err(TakeFault::NoMemory)) => Err(Reason::NoMemory),
+            None => Ok(Answer::Refused(Refusal::UnknownChannel)),
         }
     }
 
     // Takes the oldest unit of a channel's chosen MAP.
     fn unit(&mut self, rt: &impl Wait, vcid: u8, map: u8) -> Result<Answer, Reason>
-        ensures answer { IfOk result (λ answer. IsDeskAnswer vcid (IsUnitAnswered map) self.old answer self.new.operator) }
-        ensures station { self.new.station ≡ self.old.station }
+        ensures answer { IfOk result (λ answer. IsDeskAnswer vcid (IsUnitAnswered map) self.old answer self.new) }
         ensures reason { IfErr result (λ reason. reason ≡ Reason.NoMemory) }
-        ensures counted { OnErr result (tally self.new.operator ≡ tally self.old.operator) }
+        ensures counted { OnErr result (AreAsCounted self.old self.new) }
     {
-        match self.station.take_unit(rt, &mut self.operator, vcid, map) {
-            Ok(unit) => Ok(Answer::Unit {
+        match self.operate_at(rt, vcid, &UnitTaking { map }) {
+            Some(Ok(unit)) => Ok(Answer::Unit {
                 vcid,
                 map,
                 unit: Octets::from(unit),
             }),
-            Err(TakeUnitRefused::UnknownChannel) => Ok(Answer::Refused(Refusal::UnknownChannel)),
-            Err(TakeUnitRefused::NoMap) => Ok(Answer::Refused(Refusal::NoMap)),
-            Err(TakeUnitRefused::Empty) => Ok(Answer::Refused(Refusal::Empty)),
-            Err(TakeUnitRefused::NoMemory) => Err(Reason::NoMemory),
+            Some(Err(TakeUnitFault::NoMap)) => Ok(Answer::Refused(Refusal::NoMap)),
+            Some(Err(TakeUnitFault::Empty)) => Ok(Answer::Refused(Refusal::Empty)),
+            Some(Err(TakeUnitFault::NoMemory)) => Err(Reason::NoMemory),
+            None => Ok(Answer::Refused(Refusal::UnknownChannel)),
         }
     }
 
-    // Reports a channel's CLCW, by its watcher.
+    // Reports a channel's CLCW, by its watcher, without the channel's lock.
     fn clcw(&mut self, vcid: u8) -> Answer
-        ensures answer { IsWordAnswer vcid self.old result }
-        ensures same { self.new ≡ self.old }
+        ensures answer { IsWordAnswer vcid self.old result self.new }
     {
-        match self.watchers.watch(&self.station, vcid) {
-            Some(word) => Answer::Clcw { vcid, word },
-            None => Answer::Refused(Refusal::UnknownChannel),
-        }
+        let Some(place) = place_of(&self.vcids, vcid) else {
+            return Answer::Refused(Refusal::UnknownChannel);
+        };
+        let watcher = &mut self.watchers[place];
+        let word = self.station.watch(watcher, NO_FLAGS);
+        Answer::Clcw { vcid, word }
     }
 }
 

@@ -25,9 +25,9 @@ use tc_text::{Reason, ScriptFault, next_line, parse_line, read_whole};
 ///
 /// The script, of 1,048,576 octets at most, is read whole and kept before the first line is done.
 /// Where the octets of the reader are known, a script is done to its end only if each line is good,
-/// and a bad line that ends it is the first one. Then each answer, and the report, is what the lines before make it; only a CLCW,
-/// which is read without its channel's lock, is one of some moment of this channel. Where it ends early, the answers of the lines
-/// before are written alone, unless a write failed.
+/// and a bad line that ends it is the first one. Then each answer, and the report, is what the lines before make it. A CLCW, too, which is
+/// read without its channel's lock: the reader meets its channel at each operation, and once more before the report. Where the
+/// script ends early, the answers of the lines before are written alone, unless a write failed.
 pub fn run_script<T: Wait, R: Read, W: Write>(
     rt: &T,
     alloc: Global,
@@ -121,7 +121,7 @@ fn report<W: Write>(
     ensures fault { IfErr result (IsReportFault lines) }
     ensures kept { IfErr result (λ fault. (fault ≡ ScriptFault.Write) ⊎ Keeps (W.contents writer.old) (W.contents writer.new)) }
 {
-    let manned = match start(session, rt, alloc, scid) {
+    let mut manned = match start(session, rt, alloc, scid) {
         Ok(manned) => manned,
         Err(Reason::NoChannel) => return Ok(()),
         Err(reason) => {
@@ -131,6 +131,7 @@ fn report<W: Write>(
             });
         }
     };
+    manned.meet_all(rt);
     let (station, operator) = manned.into_parts();
     let Ok(operators) = vec![in alloc; operator] else {
         return Err(ScriptFault::Line {

@@ -18,6 +18,7 @@ use Rattle.tc_channel.specs.Settings.{IsAllowed}
 use Rattle.tc_channel.specs.Run.{IsLawful, run}
 use Rattle.tc_channel.specs.Reply.{IsBypassData, frame_reply, release_reply, take_reply, unit_reply, waiting_packets, waiting_units, buffered_fields, clcw}
 use Rattle.tc_status.specs.Board.{Watching}
+use Rattle.tc_status.specs.Board as board
 use Rattle.logged_lock.specs.Log.{IsBeginning, with_entry}
 use Rattle.tc_desk.specs.Log.{Moment, Own, AtLock, history_of}
 
@@ -69,6 +70,25 @@ IsFramed frame m reply = reply ≡ frame_reply m.head.settings m.entries frame
 -- the watcher is of the desk's board, and has seen this history
 abbrev pub HasSeen : Moment → History → Watching → Type 0
 HasSeen m seen watcher = (watcher.board ≡ m.head.board) × (watcher.seen ≡ seen)
+
+-- what the watcher has seen is a beginning of the journal at this moment
+abbrev pub HasSeenNoMore : Watching → Moment → Type 0
+HasSeenNoMore watcher m = board.IsBeginning watcher.seen (history_of m)
+
+-- the watcher is of the desk's board, and has seen the journal as it is
+abbrev pub HasMet : Moment → Watching → Type 0
+HasMet m watcher = HasSeen m (history_of m) watcher
+
+-- The same call, before which a watcher of the desk's board had seen no more than what was there at its moment; behind it the watcher
+-- has seen all that the operator has.
+pub record IsMetCall {R F : Type 0} (e : Event) (ok : Moment → R → Type 0) (err : Moment → F → Type 0) (early : Watching) (before : AtLock) (result : Result R F) (late : Watching) (after : AtLock) : Type 0 where
+  pub call : IsCall e (λ m r. ok m r × HasSeenNoMore early m) (λ m f. err m f × HasSeenNoMore early m) before result after
+  pub met : HasMet after.own.seen late
+
+-- the watcher met the desk at a moment of it, and nothing was made
+pub record IsMeeting (early : Watching) (before : AtLock) (late : Watching) (after : AtLock) : Type 0 where
+  pub look : IsLook (λ m (done : Unit {0}). HasSeenNoMore early m) before tt after
+  pub met : HasMet after.own.seen late
 
 -- the reply to this frame, and a watcher of the desk's board that has seen the journal with the frame at its end
 abbrev pub IsFramedWatched : List ℕ → Moment → FrameReply × Watching → Type 0

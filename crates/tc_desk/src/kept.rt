@@ -4,7 +4,7 @@ ghost use Rattle.std.specs.Prelude.{◌≡◌, Some, IsSome};
 ghost use Rattle.crossbeam_utils.specs.Padded.{padded_value};
 ghost use Rattle.tc_desk.specs.{TableId};
 ghost use Rattle.tc_desk.specs.Log.{identity_of, log_of};
-ghost use Rattle.tc_desk.specs.Call.{IsAsked};
+ghost use Rattle.tc_desk.specs.Call.{HasMet, HasSeenNoMore, IsAsked, IsMoment};
 
 use crate::operation::Question;
 use crossbeam_utils::CachePadded;
@@ -12,7 +12,7 @@ use logged_lock::{Head, Logged};
 use std::marker::Model;
 use std::snapshot::Snapshot;
 use tc_channel::{ChannelWith, Event, Journal};
-use tc_status::{DeskOf, Publisher};
+use tc_status::{DeskOf, Publisher, Watcher};
 
 /// What never changes of a desk, as clauses see it. It takes no memory, and no program can read it.
 #[derive(Drop)]
@@ -92,5 +92,22 @@ impl<J: Journal> KeptDesk<J> {
         let desk: &mut Option<DeskOf<J>> = &mut self.desk;
         let Some(desk) = desk else { unreachable!() };
         question.ask(desk)
+    }
+
+    // The watcher meets the desk.
+    pub(crate) fn meet(&mut self, watcher: &mut Watcher)
+        requires there { IsSome (padded_value self.old.desk) }
+        requires board { watcher.old.board ≡ (log_of (padded_value self.old.desk)).head.board }
+        ensures there { IsSome (padded_value self.new.desk) }
+        ensures same { log_of (padded_value self.new.desk) ≡ log_of (padded_value self.old.desk) }
+        ensures moment { IsMoment (log_of (padded_value self.old.desk)) }
+        ensures before { HasSeenNoMore watcher.old (log_of (padded_value self.old.desk)) }
+        ensures met { HasMet (log_of (padded_value self.old.desk)) watcher.new }
+    {
+        let desk: &mut Option<DeskOf<J>> = &mut self.desk;
+        let Some(desk) = desk else { unreachable!() };
+        // It ensures that the settings are allowed and the journal is lawful.
+        let _ = desk.channel().settings();
+        desk.meet(watcher);
     }
 }

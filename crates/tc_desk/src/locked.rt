@@ -1,15 +1,15 @@
 //! The lock of a desk, and its operators.
 
 ghost use Rattle.crossbeam_utils.specs.Padded.{padded_value};
-ghost use Rattle.std.specs.Prelude.{◌≡◌, ◌∷◌, [], true, IfOk, MatchResult, IsSome};
+ghost use Rattle.std.specs.Prelude.{◌≡◌, ◌+◌, ◌-◌, ◌^◌, ◌∷◌, [], true, min, IfOk, MatchResult, IsSome};
 ghost use Rattle.logged_lock.specs.Rule.{HasLock};
 ghost use Rattle.tc_channel.specs.Settings.{IsAllowed, IsRefusal};
 ghost use Rattle.logged_lock.specs.Rule as rule;
 ghost use Rattle.tc_desk.specs.Log.{Moment, IsResting, log_of, at_lock, view_in, count_of, issued_count, issued_one};
-ghost use Rattle.tc_desk.specs.Call.{IsMoment, IsAsked, IsCall, IsLook};
+ghost use Rattle.tc_desk.specs.Call.{HasMet, HasSeenNoMore, IsMoment, IsAsked, IsCall, IsLook, IsMeeting, IsMetCall};
 
 use crate::kept::{DeskHead, KeptDesk};
-use crate::operation::{Makes, Occasion, Operation, Question};
+use crate::operation::{Makes, Occasion, Operation, Question, run_met};
 use crate::resident::ResidentBadge;
 use atomic_table::Badge;
 use crossbeam_utils::CachePadded;
@@ -19,7 +19,7 @@ use std::marker::{Brand, Model};
 use std::mem;
 use std::sync::Wait;
 use tc_channel::{Event, Journal, Settings, SettingsFault};
-use tc_status::DeskOf;
+use tc_status::{DeskOf, Watcher};
 
 pub(crate) type DeskLock<J> = LoggedLock<KeptDesk<J>, DeskHead, Event>;
 
@@ -114,6 +114,38 @@ fn operate_by<P: Occasion, J: Journal, O: Operation<J>, R: Wait>(
     answer
 }
 
+// The same, and a watcher of the desk's board meets it before and behind.
+fn operate_met_by<P: Occasion, J: Journal, O: Operation<J>, R: Wait>(
+    lock: &DeskLock<J>,
+    rt: &R,
+    badge: &mut DeskBadge,
+    watcher: &mut Watcher,
+    operation: &O,
+) -> Result<O::Answer, O::Fault>
+    requires event { P.event ≡ O.event operation.now }
+    requires own { badge.old.table_id ≡ lock.now.id }
+    requires resting { IsResting badge.old.views }
+    requires maker { (view_in badge.old.views).maker ≡ true }
+    requires board { watcher.old.board ≡ (view_in badge.old.views).own.seen.head.board }
+    ensures resting { IsResting badge.new.views }
+    ensures maker { (view_in badge.new.views).maker ≡ true }
+    ensures call { IsMetCall (O.event operation.now) (O.answers operation.now) (O.refuses operation.now) watcher.old (at_lock badge.old.table_id badge.old.views) result watcher.new (at_lock badge.new.table_id badge.new.views) }
+{
+    let mut held: DeskSeat<J> = mem::replace(badge, Badge::blank()).into_seat();
+    lock.lock(rt, &mut held);
+    let kept = held.slot_mut(lock.table(), 0);
+    let desk: &mut Option<DeskOf<J>> = &mut kept.desk;
+    let Some(desk) = desk else { unreachable!() };
+    let answer = run_met(desk, watcher, operation);
+    if answer.is_ok() {
+        lock.unlock_with::<Makes<P>>(&mut held);
+    } else {
+        lock.unlock(&mut held);
+    }
+    *badge = held.into_badge();
+    answer
+}
+
 // The desk answers the question, by the seat that has the lock.
 pub(crate) fn answer_at<J: Journal, Q: Question<J>>(
     lock: &DeskLock<J>,
@@ -149,6 +181,37 @@ fn ask_by<J: Journal, Q: Question<J>, R: Wait>(
     let answer = answer_at(lock, &mut seat, question);
     lock.unlock(&mut seat);
     (seat.into_badge(), answer)
+}
+
+// Takes the lock, lets the watcher meet the desk, and gives the lock back.
+fn meet_by<J: Journal, R: Wait>(
+    lock: &DeskLock<J>,
+    rt: &R,
+    badge: DeskBadge,
+    watcher: &mut Watcher,
+) -> DeskBadge
+    requires own { badge.table_id ≡ lock.now.id }
+    requires resting { IsResting badge.views }
+    requires board { watcher.old.board ≡ (view_in badge.views).own.seen.head.board }
+    ensures resting { IsResting result.views }
+    ensures made { (view_in result.views).own.made ≡ (view_in badge.views).own.made }
+    ensures maker { (view_in result.views).maker ≡ (view_in badge.views).maker }
+    ensures meeting { IsMeeting watcher.old (at_lock badge.table_id badge.views) watcher.new (at_lock result.table_id result.views) }
+{
+    let mut seat: DeskSeat<J> = badge.into_seat();
+    lock.lock(rt, &mut seat);
+    let kept = seat.slot_mut(lock.table(), 0);
+    kept.meet(watcher);
+    lock.unlock(&mut seat);
+    seat.into_badge()
+}
+
+// One event more.
+fn raise(count: &mut CachePadded<u64>)
+    ensures count { padded_value count.new ≡ min (padded_value count.old + 1) (2 ^ 64 - 1) }
+{
+    let count: &mut u64 = count;
+    *count = count.saturating_add(1);
 }
 
 // A new seat, from the first one.
@@ -241,10 +304,46 @@ impl DeskOperator {
     {
         let answer = operate_by::<Brand, J, O, R>(&desk.lock, rt, &mut self.badge, operation);
         if answer.is_ok() {
-            let count: &mut u64 = &mut self.count;
-            *count = count.saturating_add(1);
+            raise(&mut self.count);
         }
         answer
+    }
+
+    /// The same under one hold of the lock, and a watcher of the desk's board meets the desk before the operation and behind it: what it
+    /// had seen is a beginning of the journal at that moment, and then it has seen all that the operator has.
+    pub fn operate_met<J: Journal, O: Operation<J>, R: Wait>(
+        &mut self,
+        desk: &LockedDesk<J>,
+        rt: &R,
+        watcher: &mut Watcher,
+        operation: &O,
+    ) -> Result<O::Answer, O::Fault>
+        requires ours { self.old.lock ≡ desk.now.id }
+        requires board { watcher.old.board ≡ self.old.own.seen.head.board }
+        ensures call { IsMetCall (O.event operation.now) (O.answers operation.now) (O.refuses operation.now) watcher.old self.old result watcher.new self.new }
+    {
+        let answer = operate_met_by::<Brand, J, O, R>(
+            &desk.lock,
+            rt,
+            &mut self.badge,
+            watcher,
+            operation,
+        );
+        if answer.is_ok() {
+            raise(&mut self.count);
+        }
+        answer
+    }
+
+    /// A watcher of the desk's board meets the desk, by this operator, under the lock: what it had seen is a beginning of the journal at
+    /// that moment, and then it has seen all that the operator has. It allocates nothing.
+    pub fn meet<J: Journal, R: Wait>(&mut self, desk: &LockedDesk<J>, rt: &R, watcher: &mut Watcher)
+        requires ours { self.old.lock ≡ desk.now.id }
+        requires board { watcher.old.board ≡ self.old.own.seen.head.board }
+        ensures meeting { IsMeeting watcher.old self.old watcher.new self.new }
+    {
+        let badge = mem::replace(&mut self.badge, Badge::blank());
+        self.badge = meet_by(&desk.lock, rt, badge, watcher);
     }
 
     /// The desk's answer to the question, by this operator, under the lock.

@@ -1,7 +1,8 @@
 //! What operators ask a desk for.
 
+ghost use Rattle.std.specs.Prelude.{◌≡◌};
 ghost use Rattle.tc_desk.specs.Log.{moment_of};
-ghost use Rattle.tc_desk.specs.Call.{IsStep, IsAsked};
+ghost use Rattle.tc_desk.specs.Call.{HasMet, HasSeenNoMore, IsStep, IsAsked};
 
 use logged_lock::NextEntry;
 use std::marker::{Brand, PhantomData};
@@ -53,6 +54,22 @@ pub trait Operation<J: Journal> {
 
     fn run(&self, desk: &mut DeskOf<J>) -> Result<Self::Answer, Self::Fault>
         ensures step { IsStep (event self.now) (answers self.now) (refuses self.now) (moment_of desk.old) result (moment_of desk.new) };
+}
+
+/// The operation on the desk, which the watcher meets before and behind.
+pub(crate) fn run_met<J: Journal, O: Operation<J>>(
+    desk: &mut DeskOf<J>,
+    watcher: &mut Watcher,
+    operation: &O,
+) -> Result<O::Answer, O::Fault>
+    requires board { watcher.old.board ≡ desk.old.board }
+    ensures step { IsStep (O.event operation.now) (λ m r. O.answers operation.now m r × HasSeenNoMore watcher.old m) (λ m f. O.refuses operation.now m f × HasSeenNoMore watcher.old m) (moment_of desk.old) result (moment_of desk.new) }
+    ensures met { HasMet (moment_of desk.new) watcher.new }
+{
+    desk.meet(watcher);
+    let answer = operation.run(desk);
+    desk.meet(watcher);
+    answer
 }
 
 /// A question to a desk, which leaves it as it is.

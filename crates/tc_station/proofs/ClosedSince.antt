@@ -3,19 +3,23 @@ use Rattle.std.proofs.Common.{◌≡◌, ◌<◌, ℕ, zero, suc, List, [], ◌�
 use mathlib.Core.List.{IsPrefix}
 use mathlib.Core.Option.{some}
 use lib.ListN.{get_elem?}
-use Rattle.std.specs.Prelude.{slice_get, slice_index_or, slice_set}
+use Rattle.std.specs.Prelude.{◌≤◌, slice_get, slice_index_or, slice_set}
+use Rattle.std.proofs.lemmas.List.{length-append}
 use Rattle.std.proofs.lemmas.Option.{none-some, same_Some, slice_get_within}
 use Rattle.logged_lock.specs.Log.{IsBeginning}
 use Rattle.tc_channel.specs.declared.event.Event.{Event}
 use Rattle.tc_channel.specs.declared.settings.Settings.{Settings}
 use Rattle.tc_channel.specs.Journal.{History}
+use Rattle.tc_channel.specs.Reply.{clcw}
+use Rattle.tc_link.specs.declared.Link.{Link}
+use Rattle.tc_status.specs.Board.{Watching}
 use Rattle.tc_desk.specs.Call.{made}
 use Rattle.tc_desk.specs.Log.{AtLock, Identity, Moment, Own, accounts_of}
 use Rattle.tc_desk.specs.Together.{column, nobody}
-use Rattle.tc_station.specs.Call.{IsCallAt}
+use Rattle.tc_station.specs.Call.{IsCallAt, IsMetAt}
 use Rattle.tc_station.specs.Roster.{Roster}
 use Rattle.tc_station.specs.Tally.{AtStation}
-use Rattle.tc_station.specs.Through.{IsClosedSince}
+use Rattle.tc_station.specs.Through.{IsClosedSince, IsRead, IsShownIn}
 use Rattle.tc_station.specs.Together.{crews_of}
 
 prefix-trans : (es fs gs : List Event) → IsPrefix es fs → IsPrefix fs gs → IsPrefix es gs
@@ -81,3 +85,31 @@ answered stands station place vcid e ok err before after r channel c since =
     let begun = subst (λ (o : Own). IsBeginning o.seen closed) answer.1 seen.2 in
     let stood = stands c.there.own now e closed begun in
     (seen.0, length now.entries, seen.1, stood.0, subst (λ (m : Moment). ok m r) stood.1 answer.0)
+
+-- the beginning of a journal, by its length
+taken-front : (es fs gs : List Event) → es ++ fs ≡ gs → take (length es) gs ≡ es
+taken-front [] fs gs is = refl
+taken-front (e ∷ es) fs [] is = absurd cc
+taken-front (e ∷ es) fs (g ∷ gs) is =
+    let first : e ≡ g = cc in
+    let rest : es ++ fs ≡ gs = cc in
+    λ i. sym first i ∷ taken-front es fs gs rest i
+
+-- a CLCW that was read before a meeting is that of a place in what was given out
+pub shown : (station : Roster) (place vcid : ℕ) (link : Link) (early late met : Watching) (word : ℕ) (before after : AtStation) (channel : History)
+    → IsRead link early word late → IsMetAt place vcid late before met after → IsClosedSince station place after channel → IsShownIn channel early link word
+shown station place vcid link early late met word before after channel (later, of) m since =
+    let at = ap (λ (l : List AtLock). slice_get l place) m.others ∙ set-there before.desks place m.there m.next m.was in
+    let seen = seen-in-closed station place after channel m.next at since in
+    let look = m.meeting.look in
+    let closed : Moment = record { head = seen.0; entries = channel.journal } in
+    let begun : IsBeginning look.now closed = subst (λ (o : Own). IsBeginning o.seen closed) look.looked seen.2 in
+    let front = prefix-trans late.seen.journal look.now.entries channel.journal look.answer.1 begun.1 in
+    let settings : late.seen.settings ≡ channel.settings = sym look.answer.0 ∙ (sym (ap (λ (h : Identity). h.settings) begun.0) ∙ seen.1) in
+    let journal : late.seen.journal ≡ take (length late.seen.journal) channel.journal = sym (taken-front late.seen.journal front.0 channel.journal front.1) in
+    let n = length late.seen.journal in (
+      n,
+      omega (arith, length-append early.seen.journal later.1.0, ap (length {A = Event}) later.1.1),
+      omega (arith, length-append late.seen.journal front.0, ap (length {A = Event}) front.1),
+      of ∙ (λ i. clcw (settings i) (journal i) link),
+    )

@@ -6,3 +6,4 @@ pub mod Posts
 pub mod Works
 pub mod Ordered
 pub mod ClosedSince
+pub mod Meetings

@@ -8,7 +8,7 @@ use Rattle.tc_channel.specs.declared.reply.TakeUnitFault.{TakeUnitFault}
 use Rattle.tc_channel.specs.Reply.{IsBypassData}
 use Rattle.tc_status.specs.Board.{Watching}
 use Rattle.tc_desk.specs.Log.{Moment, AtLock}
-use Rattle.tc_desk.specs.Call.{IsCall, IsFramed, IsFramedWatched, IsReleaseFault, IsTakeFault, IsTakeUnitFault}
+use Rattle.tc_desk.specs.Call.{IsCall, IsMeeting, HasMet, HasSeenNoMore, IsFramed, IsFramedWatched, IsReleaseFault, IsTakeFault, IsTakeUnitFault}
 use Rattle.tc_station.specs.Roster.{Roster, IsPlace}
 use Rattle.tc_station.specs.Tally.{AtStation}
 use Rattle.tc_station.specs.Location.{IsPlaced, IsLocateFault}
@@ -28,6 +28,22 @@ pub record IsCallAt {R F : Type 0} (place vcid : ℕ) (e : Event) (ok : Moment �
   pub was : slice_get before.desks place ≡ Some there
   pub named : there.own.seen.head.settings.vcid ≡ vcid
   pub call : IsCall e ok err there result next
+  pub others : after.desks ≡ slice_set before.desks place next
+  pub vcids : after.vcids ≡ before.vcids
+
+-- The same, where a watcher met the desk before the call and behind it, all under one hold of the desk's lock: it had seen no more than
+-- what was there at the moment of the call, and then it has seen all that the operator has.
+pub record IsMetCallAt {R F : Type 0} (place vcid : ℕ) (e : Event) (ok : Moment → R → Type 0) (err : Moment → F → Type 0) (early : Watching) (before : AtStation) (result : Result R F) (late : Watching) (after : AtStation) : Type 0 where
+  pub at : IsCallAt place vcid e (λ m r. ok m r × HasSeenNoMore early m) (λ m f. err m f × HasSeenNoMore early m) before result after
+  pub met : HasMet at.next.own.seen late
+
+-- A watcher met the operator's desk of this place, and nothing was made. Its other desks are as they were.
+pub record IsMetAt (place vcid : ℕ) (early : Watching) (before : AtStation) (late : Watching) (after : AtStation) : Type 0 where
+  pub there : AtLock
+  pub next : AtLock
+  pub was : slice_get before.desks place ≡ Some there
+  pub named : there.own.seen.head.settings.vcid ≡ vcid
+  pub meeting : IsMeeting early there late next
   pub others : after.desks ≡ slice_set before.desks place next
   pub vcids : after.vcids ≡ before.vcids
 

@@ -1,8 +1,12 @@
 -- The calls of an operator, seen from the channel that was given out when its station was closed.
-use Rattle.std.specs.Prelude.{◌≡◌, ℕ, List, Some, slice_get, take}
+use Rattle.std.specs.Prelude.{◌≡◌, ◌≤◌, ℕ, List, Some, length, slice_get, take}
 use Rattle.logged_lock.specs.Log.{IsBeginning}
 use Rattle.tc_channel.specs.declared.event.Event.{Event}
 use Rattle.tc_channel.specs.Journal.{History}
+use Rattle.tc_channel.specs.Reply.{clcw}
+use Rattle.tc_link.specs.declared.Link.{Link}
+use Rattle.tc_status.specs.Board.{Watching}
+use Rattle.tc_status.specs.Board as board
 use Rattle.tc_desk.specs.Log.{AtLock}
 use Rattle.tc_station.specs.Roster.{Roster}
 use Rattle.tc_station.specs.Tally.{AtStation}
@@ -30,3 +34,12 @@ pub record IsClosedSince (station : Roster) (place : ℕ) (operator : AtStation)
 -- the event has a place in the channel's journal, and what the events before it make was answered
 abbrev pub IsAnsweredIn : History → Event → (List Event → Type 0) → Type 0
 IsAnsweredIn channel e Answers = (n : ℕ) × (slice_get channel.journal n ≡ Some e) × Answers (take n channel.journal)
+
+-- the watcher read this CLCW, with these flags of the link, of all that it has seen then, which goes on from what it had seen
+abbrev pub IsRead : Link → Watching → ℕ → Watching → Type 0
+IsRead link early word late = board.IsBeginning early.seen late.seen × (word ≡ clcw late.seen.settings late.seen.journal link)
+
+-- the CLCW is that of a place in the channel's journal, which isn't before all that the watcher had seen
+abbrev pub IsShownIn : History → Watching → Link → ℕ → Type 0
+IsShownIn channel early link word =
+    (n : ℕ) × (length early.seen.journal ≤ n) × (n ≤ length channel.journal) × (word ≡ clcw channel.settings (take n channel.journal) link)

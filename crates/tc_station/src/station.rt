@@ -1,6 +1,6 @@
 //! The station: a lock for each channel.
 
-ghost use Rattle.std.specs.Prelude.{◌≡◌, ◌≤◌, ◌<◌, ◌+◌, ◌↔◌, [], false, All, Any, IsTrue, length, map, replicate, vec_len, vec_capacity, IfOk, IfErr, IsErrOf, OnOk, OnErr, MatchOption, MatchResult};
+ghost use Rattle.std.specs.Prelude.{◌≡◌, ◌≤◌, ◌<◌, ◌+◌, ◌↔◌, ℕ, [], false, All, Any, IsTrue, length, map, replicate, vec_len, vec_capacity, IfOk, IfErr, IsErrOf, OnOk, OnErr, MatchOption, MatchResult};
 ghost use Rattle.tc_channel.specs.Settings.{IsAllowed};
 ghost use Rattle.tc_channel.specs.Run.{IsLawful};
 ghost use Rattle.tc_channel.specs.Reply.{BeginsWithBypassData, clcw};
@@ -10,7 +10,7 @@ ghost use Rattle.tc_desk.specs.Together.{settings_of};
 ghost use Rattle.tc_station.specs.Roster.{IsDeskOf, IsPlace, settings_in};
 ghost use Rattle.tc_station.specs.Room.{IsRoomFor};
 ghost use Rattle.tc_station.specs.Tally.{HasMadeNothing, KnowsDesks, IsOurs, counted, fresh, issued_more, newcomer, tally};
-ghost use Rattle.tc_station.specs.Call.{IsBringCall, IsCallAt, IsCallOn, IsNotBrought, IsNotBroughtWatched, IsNotReleased, IsNotTaken, IsReplied, IsRepliedWatched, IsUnitNotTaken};
+ghost use Rattle.tc_station.specs.Call.{IsBringCall, IsCallAt, IsCallOn, IsMetAt, IsMetCallAt, IsNotBrought, IsNotBroughtWatched, IsNotReleased, IsNotTaken, IsReplied, IsRepliedWatched, IsUnitNotTaken};
 ghost use Rattle.tc_station.specs.Balance.{AreInBalance};
 ghost use Rattle.tc_channel.specs.Journal.{IsNumberTold};
 ghost use Rattle.tc_station.specs.StationSettings.{vcids_of, HaveDistinctVcids, IsFirstDouble, IsFirstRefused, AreStationSettings, IsStationFault};
@@ -321,6 +321,52 @@ impl<J: Journal> StationOf<J> {
             return Err(BringFault::NoMemory);
         };
         Ok((Brought { vcid, reply }, watcher))
+    }
+
+    /// The operation on the channel of the watcher, which meets the channel before it and behind it, all under one hold of the
+    /// channel's lock. So the watcher had seen no more than what was there, and then it has seen all that the operator has.
+    pub fn operate_met<O: Operation<J>, R: Wait>(
+        &self,
+        rt: &R,
+        operator: &mut Operator,
+        watcher: &mut Watcher,
+        vcid: u8,
+        operation: &O,
+    ) -> Result<O::Answer, O::Fault>
+        requires ours { IsOurs self.now operator.old }
+        requires knows { KnowsDesks self.now operator.old }
+        requires watcher { IsWatcherOf self.now vcid watcher.old }
+        ensures call { (place : ℕ) × IsPlace self.now vcid place × IsMetCallAt place vcid (O.event operation.now) (O.answers operation.now) (O.refuses operation.now) watcher.old operator.old result watcher.new operator.new }
+        ensures counted { OnOk result (tally operator.new ≡ counted vcid (tally operator.old)) }
+        ensures refused { OnErr result (tally operator.new ≡ tally operator.old) }
+        ensures ours { IsOurs self.now operator.new }
+        ensures knows { KnowsDesks self.now operator.new }
+        ensures watcher { IsWatcherOf self.now vcid watcher.new }
+    {
+        let Some(place) = place_of(&self.vcids, vcid) else {
+            unreachable!()
+        };
+        let post = &self.desks[place];
+        operator.desks[place].operate_met(post.desk(), rt, watcher, operation)
+    }
+
+    /// The watcher meets its channel, under the channel's lock: what it had seen is a beginning of the journal at that moment, and then
+    /// it has seen all that the operator has.
+    pub fn meet<R: Wait>(&self, rt: &R, operator: &mut Operator, watcher: &mut Watcher, vcid: u8)
+        requires ours { IsOurs self.now operator.old }
+        requires knows { KnowsDesks self.now operator.old }
+        requires watcher { IsWatcherOf self.now vcid watcher.old }
+        ensures met { (place : ℕ) × IsPlace self.now vcid place × IsMetAt place vcid watcher.old operator.old watcher.new operator.new }
+        ensures same { tally operator.new ≡ tally operator.old }
+        ensures ours { IsOurs self.now operator.new }
+        ensures knows { KnowsDesks self.now operator.new }
+        ensures watcher { IsWatcherOf self.now vcid watcher.new }
+    {
+        let Some(place) = place_of(&self.vcids, vcid) else {
+            unreachable!()
+        };
+        let post = &self.desks[place];
+        operator.desks[place].meet(post.desk(), rt, watcher);
     }
 
     // The operation on the desk of the channel at this place, which has this id, by the operator there.

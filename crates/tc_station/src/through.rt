@@ -17,10 +17,12 @@ ghost use Rattle.tc_desk.specs.Call as at_desk;
 ghost use Rattle.tc_desk.specs.Log.{accounts_of};
 ghost use Rattle.tc_desk.specs.Together.{column};
 ghost use Rattle.tc_station.specs.declared.station.Brought.{Brought};
-ghost use Rattle.tc_station.specs.Call.{IsCallAt, IsReplied, IsNotBrought, IsNotReleased, IsNotTaken, IsUnitNotTaken};
+ghost use Rattle.tc_status.specs.Board.{Watching};
+ghost use Rattle.tc_link.specs.declared.Link.{Link};
+ghost use Rattle.tc_station.specs.Call.{IsCallAt, IsMetAt, IsReplied, IsNotBrought, IsNotReleased, IsNotTaken, IsUnitNotTaken};
 ghost use Rattle.tc_station.specs.Roster.{Roster};
 ghost use Rattle.tc_station.specs.Tally.{AtStation};
-ghost use Rattle.tc_station.specs.Through.{IsAnsweredIn, IsClosedSince};
+ghost use Rattle.tc_station.specs.Through.{IsAnsweredIn, IsClosedSince, IsRead, IsShownIn};
 ghost use Rattle.tc_station.specs.Together.{AreClosedTogether, crews_of};
 
 use tc_channel::{what_was_passed_on_is_admitted_in_order, what_was_sent_is_given_in_order};
@@ -32,6 +34,8 @@ use tc_desk::each_event_stands_at_its_place;
 /// - `merge`: the journal of each channel is a merge of the events that its operators made: each once, and each operator's in its order.
 /// - `frames`, `releases`, `takes`, `units`: each call that was answered is an event of that journal, and its answer is the one that the model
 ///   gives at the journal before it. So one thread could have made all calls, in the journal's order, and got the same answers.
+/// - `words`: each CLCW that a watcher read is that of a place in that journal, which isn't before all that the watcher had seen, where an
+///   operator lets the watcher meet the channel later on. So it is for each read before the last meeting.
 /// - `sent`: where the Type-AD frames of an era, which is the journal's part since a Set V(R) was last obeyed, or else all of it, are one
 ///   sender's, numbered on from the V(R) with which it starts, and none came 256 or more numbers early or late, the Type-AD data fields
 ///   of the era that were released are what was sent, each once, in order; and what all takes of an application gave is, in order,
@@ -59,6 +63,9 @@ pub fn from_a_sender_to_packets()
         → IsCallAt place vcid (Event.TakeUnit map_id) (λ m u. at_desk.IsUnitTaken map_id m u.items) (IsUnitNotTaken grows map_id) before (Ok unit) after
         → IsClosedSince station place after channel
         → IsAnsweredIn channel (Event.TakeUnit map_id) (λ journal. unit_reply channel.settings journal map_id ≡ Some unit.items) }
+    ensures words { (station : Roster) (place vcid : ℕ) (link : Link) (early late met : Watching) (word : ℕ) (before after : AtStation) (channel : History)
+        → IsRead link early word late → IsMetAt place vcid late before met after → IsClosedSince station place after channel
+        → IsShownIn channel early link word }
     ensures sent { (channel : History) (before later : List Event) (x : ℕ) (sent : ℕ → List ℕ) (apid : ℕ) (q : Queue) → IsLawful channel.settings channel.journal
         → IsEra channel.settings channel.journal before later x → ComesFromWithin no_limits channel.settings before later x sent
         → queue_of apid (run channel.settings channel.journal).queues ≡ Some q

@@ -9,7 +9,7 @@ use Rattle.tc_channel.specs.Reply.{buffered_fields, frame_reply, release_reply, 
 use Rattle.tc_desk.specs.Call.{IsReleased, IsTaken, IsUnitTaken}
 use Rattle.tc_desk.specs.Log.{Moment}
 use Rattle.tc_station.specs.Call.{IsReplied, IsNotBrought, IsNotReleased, IsNotTaken, IsUnitNotTaken}
-use Rattle.tc_station.proofs.ClosedSince.{answered, post-there}
+use Rattle.tc_station.proofs.ClosedSince.{answered, post-there, shown}
 use Rattle.tc_station.proofs.through.from_a_sender_to_packets.Goals as goal
 
 pub returns-clause-merge : goal.returns-clause-merge
@@ -40,6 +40,9 @@ pub returns-clause-units : goal.returns-clause-units
 returns-clause-units c = λ station place vcid map_id grows before after unit channel call since.
     let is = answered c.each_event_stands_at_its_place.ensures station place vcid (TakeUnit map_id) (λ (m : Moment) (u : Vec ℕ). IsUnitTaken map_id m u.items) (IsUnitNotTaken grows map_id) before after unit channel call since in
     (is.1, is.3, subst (λ (s : Settings). unit_reply s (take is.1 channel.journal) map_id ≡ Some unit.items) is.2 is.4)
+
+pub returns-clause-words : goal.returns-clause-words
+returns-clause-words c = shown
 
 pub returns-clause-sent : goal.returns-clause-sent
 returns-clause-sent c = λ channel before later x sent apid q lawful era comes has.

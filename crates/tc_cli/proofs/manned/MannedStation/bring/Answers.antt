@@ -1,11 +1,15 @@
-use Rattle.tc_cli.proofs.Answered.{brought, not-located}
-use Rattle.tc_cli.proofs.manned.MannedStation.bring.Goals.{in-Ok, in-Err-Locate, in-Err-NoMemory}
+use Rattle.std.proofs.Common.{inr, refl, subst}
+use Rattle.tc_station.specs.Location.{IsLocated, IsLocateFault}
+use Rattle.tc_cli.specs.Manned.{Manned}
+use Rattle.tc_cli.proofs.Answered.{brought}
 use Rattle.tc_cli.proofs.manned.MannedStation.bring.Goals as goal
 
-pub returns-clause-answer : goal.returns-clause-answer
-returns-clause-answer g c =
-    rw (← c.self.view_is) (elim c.match-bring.branch [
-      | in-Ok w ↦ rw w.result-is (brought _ (record { station = c.self.inside.station; operator = c.self.inside.operator }) c.args.octets.now w.in-Ok.brought c.bring.new.operator w.in-Ok.ensures.call)
-      | in-Err-Locate w ↦ rw w.result-is (not-located _ (record { station = c.self.inside.station; operator = c.self.inside.operator }) c.args.octets.now _ c.bring.new.operator (rw w.in-Err-Locate.field-0-is at w.in-Err-Locate.ensures.call))
-      | in-Err-NoMemory w ↦ rw w.result-is tt
-    ])
+pub returns-in-Err-clause-answer : goal.returns-in-Err-clause-answer
+returns-in-Err-clause-answer g c =
+    inr (c.in-Err.fault, subst (λ (m : Manned). IsLocateFault m.station c.args.octets.now c.in-Err.fault) c.self.view_is c.in-Err.ensures, refl, refl)
+
+pub returns-in-Some-Ok-clause-answer : goal.returns-in-Some-Ok-clause-answer
+returns-in-Some-Ok-clause-answer g c =
+    brought _ c.args.self.now c.operate_at.new.self c.args.octets.now c.in-Ok.located.vcid c.in-Ok.located.frame c.in-Some-Ok.reply
+    (subst (λ (m : Manned). IsLocated m.station c.args.octets.now c.in-Ok.located.vcid c.in-Ok.located.frame) c.self.view_is c.in-Ok.ensures)
+    (rw c.in-Some-Ok.field-0-is at c.in-Some-Ok.ensures.call)

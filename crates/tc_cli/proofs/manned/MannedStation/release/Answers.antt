@@ -1,12 +1,11 @@
-use Rattle.tc_cli.proofs.Answered.{release-empty, release-unknown, released}
-use Rattle.tc_cli.proofs.manned.MannedStation.release.Goals.{in-Ok, in-Err-UnknownChannel, in-Err-Empty, in-Err-NoMemory}
+use Rattle.std.proofs.Common.{◌∙◌, Err, ap}
+use Rattle.tc_cli.proofs.Answered.{release-empty, released}
 use Rattle.tc_cli.proofs.manned.MannedStation.release.Goals as goal
 
-pub returns-clause-answer : goal.returns-clause-answer
-returns-clause-answer g c =
-    rw (← c.self.view_is) (elim c.match-release.branch [
-      | in-Ok w ↦ rw w.result-is (released (record { station = c.self.inside.station; operator = c.self.inside.operator }) c.args.vcid w.in-Ok.delivery c.release.new.operator w.in-Ok.ensures.call)
-      | in-Err-UnknownChannel w ↦ rw w.result-is (release-unknown (record { station = c.self.inside.station; operator = c.self.inside.operator }) c.args.vcid c.release.new.operator (rw w.in-Err-UnknownChannel.field-0-is at w.in-Err-UnknownChannel.ensures.call))
-      | in-Err-Empty w ↦ rw w.result-is (release-empty (record { station = c.self.inside.station; operator = c.self.inside.operator }) c.args.vcid c.release.new.operator (rw w.in-Err-Empty.field-0-is at w.in-Err-Empty.ensures.call))
-      | in-Err-NoMemory w ↦ rw w.result-is tt
-    ])
+pub returns-in-Some-Ok-clause-answer : goal.returns-in-Some-Ok-clause-answer
+returns-in-Some-Ok-clause-answer g c =
+    released c.args.self.now c.operate_at.new.self c.args.vcid c.in-Some-Ok.delivery (rw c.in-Some-Ok.field-0-is at c.in-Some-Ok.ensures.call)
+
+pub returns-in-Some-Err-Empty-clause-answer : goal.returns-in-Some-Err-Empty-clause-answer
+returns-in-Some-Err-Empty-clause-answer g c =
+    release-empty c.args.self.now c.operate_at.new.self c.args.vcid (rw (c.in-Some-Err-Empty.field-0-is ∙ ap (λ f. Err f) c.in-Some-Err-Empty.field-0-0-is) at c.in-Some-Err-Empty.ensures.call)

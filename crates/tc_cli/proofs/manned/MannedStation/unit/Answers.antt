@@ -1,13 +1,15 @@
-use Rattle.tc_cli.proofs.Answered.{unit-of-none, unit-taken, unit-unknown, unit-without-map}
-use Rattle.tc_cli.proofs.manned.MannedStation.unit.Goals.{in-Ok, in-Err-UnknownChannel, in-Err-NoMap, in-Err-Empty, in-Err-NoMemory}
+use Rattle.std.proofs.Common.{◌∙◌, Err, ap}
+use Rattle.tc_cli.proofs.Answered.{unit-of-none, unit-taken, unit-without-map}
 use Rattle.tc_cli.proofs.manned.MannedStation.unit.Goals as goal
 
-pub returns-clause-answer : goal.returns-clause-answer
-returns-clause-answer g c =
-    rw (← c.self.view_is) (elim c.match-take_unit.branch [
-      | in-Ok w ↦ rw w.result-is (rw w.from.ensures (unit-taken (λ p. p.items) _ (record { station = c.self.inside.station; operator = c.self.inside.operator }) c.args.vcid c.args.map w.in-Ok.unit c.take_unit.new.operator w.in-Ok.ensures.call))
-      | in-Err-UnknownChannel w ↦ rw w.result-is (unit-unknown (λ p. p.items) _ (record { station = c.self.inside.station; operator = c.self.inside.operator }) c.args.vcid c.args.map c.take_unit.new.operator (rw w.in-Err-UnknownChannel.field-0-is at w.in-Err-UnknownChannel.ensures.call))
-      | in-Err-NoMap w ↦ rw w.result-is (unit-without-map (λ p. p.items) _ (record { station = c.self.inside.station; operator = c.self.inside.operator }) c.args.vcid c.args.map c.take_unit.new.operator (rw w.in-Err-NoMap.field-0-is at w.in-Err-NoMap.ensures.call))
-      | in-Err-Empty w ↦ rw w.result-is (unit-of-none (λ p. p.items) _ (record { station = c.self.inside.station; operator = c.self.inside.operator }) c.args.vcid c.args.map c.take_unit.new.operator (rw w.in-Err-Empty.field-0-is at w.in-Err-Empty.ensures.call))
-      | in-Err-NoMemory w ↦ rw w.result-is tt
-    ])
+pub returns-in-Some-Ok-clause-answer : goal.returns-in-Some-Ok-clause-answer
+returns-in-Some-Ok-clause-answer g c =
+    rw c.from.ensures (unit-taken (λ p. p.items) _ c.args.self.now c.operate_at.new.self c.args.vcid c.args.map c.in-Some-Ok.unit (rw c.in-Some-Ok.field-0-is at c.in-Some-Ok.ensures.call))
+
+pub returns-in-Some-Err-NoMap-clause-answer : goal.returns-in-Some-Err-NoMap-clause-answer
+returns-in-Some-Err-NoMap-clause-answer g c =
+    unit-without-map (λ p. p.items) _ c.args.self.now c.operate_at.new.self c.args.vcid c.args.map (rw (c.in-Some-Err-NoMap.field-0-is ∙ ap (λ f. Err f) c.in-Some-Err-NoMap.field-0-0-is) at c.in-Some-Err-NoMap.ensures.call)
+
+pub returns-in-Some-Err-Empty-clause-answer : goal.returns-in-Some-Err-Empty-clause-answer
+returns-in-Some-Err-Empty-clause-answer g c =
+    unit-of-none (λ p. p.items) _ c.args.self.now c.operate_at.new.self c.args.vcid c.args.map (rw (c.in-Some-Err-Empty.field-0-is ∙ ap (λ f. Err f) c.in-Some-Err-Empty.field-0-0-is) at c.in-Some-Err-Empty.ensures.call)

@@ -1,0 +1,5 @@
+use Rattle.tc_desk.proofs.locked.DeskOperator.operate_met.Given as goal
+
+-- the event that is made is the operation's
+abbrev pub ghosts-operate_met_by : goal.ghosts-operate_met_by
+ghosts-operate_met_by g a = record { event = g.O.Operation.event a.operation.now }
