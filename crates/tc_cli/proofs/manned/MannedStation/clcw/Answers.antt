@@ -10,10 +10,15 @@ invariant_of-self c =
     let e = c.watch-word.ensures in
     let at =
     meets-of c.self.inside.station c.self.inside.watchers.items c.deref.result.now c.in-Some.place c.args.vcid c.index_mut-watcher.result.now i.3 (c.deref.ensures.value ∙ i.4) i.5 c.in-Some.ensures.found (sym c.in-Some.ensures.place)
-    c.index_mut-watcher.ensures.value in
-    (i.0, i.1, i.2, i.3, i.4,
-    watcher-set c.self.inside.station c.self.inside.watchers.items c.args.vcid c.in-Some.place c.index_mut-watcher.result.now c.watch-word.new.watcher i.5 at.0 at.1
-    (read-of c.self.inside.station c.args.vcid c.in-Some.place c.index_mut-watcher.result.now c.watch-word.new.watcher at.0 at.2 e.board e.later))
+    c.index_mut-watcher.ensures.value in (
+      i.0,
+      i.1,
+      i.2,
+      i.3,
+      i.4,
+      watcher-set c.self.inside.station c.self.inside.watchers.items c.args.vcid c.in-Some.place c.index_mut-watcher.result.now c.watch-word.new.watcher i.5 at.0 at.1
+          (read-of c.self.inside.station c.args.vcid c.in-Some.place c.index_mut-watcher.result.now c.watch-word.new.watcher at.0 at.2 e.board e.later),
+    )
 
 pub returns : goal.returns
 returns c =
@@ -22,7 +27,9 @@ returns c =
     let at =
     meets-of c.self.inside.station c.self.inside.watchers.items c.deref.result.now c.in-Some.place c.args.vcid c.index_mut-watcher.result.now i.3 (c.deref.ensures.value ∙ i.4) i.5 c.in-Some.ensures.found (sym c.in-Some.ensures.place)
     c.index_mut-watcher.ensures.value in
-    record { answer = subst
-    (λ (m : Manned). IsWordAnswer c.args.vcid m (Clcw c.args.vcid c.watch-word.result) (record { station = c.self.inside.station; operator = c.self.inside.operator; watchers = set c.self.inside.watchers.items c.in-Some.place c.watch-word.new.watcher }))
-    c.self.view_is
-    (word-answered c.self.inside.station c.self.inside.operator c.self.inside.watchers.items c.in-Some.place c.args.vcid c.watch-word.result c.index_mut-watcher.result.now c.watch-word.new.watcher at.0 at.1 at.2 e.later e.lawful e.word) }
+    record {
+      answer = subst
+          (λ (m : Manned). IsWordAnswer c.args.vcid m (Clcw c.args.vcid c.watch-word.result) (record { station = c.self.inside.station; operator = c.self.inside.operator; watchers = set c.self.inside.watchers.items c.in-Some.place c.watch-word.new.watcher }))
+          c.self.view_is
+          (word-answered c.self.inside.station c.self.inside.operator c.self.inside.watchers.items c.in-Some.place c.args.vcid c.watch-word.result c.index_mut-watcher.result.now c.watch-word.new.watcher at.0 at.1 at.2 e.later e.lawful e.word);
+    }
