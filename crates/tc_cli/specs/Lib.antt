@@ -10,3 +10,4 @@ pub mod Report
 pub mod Parting
 pub mod Parallel
 pub mod Written
+pub mod Examples

@@ -14,6 +14,7 @@ mod parting;
 mod script;
 mod session;
 mod watchers;
+mod worked;
 
 pub use laws::{
     the_lines_before_memory_ran_out_are_good, what_a_script_does_follows_from_its_lines,
@@ -22,3 +23,4 @@ pub use parallel::parallel_script;
 pub use script::run_script;
 pub use tc_rack::{Answer, Operation, Refusal, Stage, write_report};
 pub use tc_text::{Line, Reason, ScriptFault, parse_line};
+pub use worked::a_script_writes_this;

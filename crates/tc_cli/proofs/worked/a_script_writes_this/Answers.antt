@@ -1,0 +1,342 @@
+use Rattle.std.proofs.Common.{take, ◌≡◌, ◌≢◌, ℕ, zero, suc, ◌<◌, ◌≤◌, Bool, true, false, eqb, ltb, ◌&&◌, List, [], ◌∷◌, ◌++◌, Option, Some, None, refl, inl, inr, lit<, lit≤, arith}
+use Rattle.std.specs.Prelude.{All, AllPairs, codes, not}
+use Rattle.std.specs.Fmt.{digits}
+use Rattle.std.proofs.lemmas.Bool.{eq-eqb}
+use Rattle.std.proofs.lemmas.Bool.Decides.{nat_tests}
+use Rattle.std.proofs.lemmas.List.{length-append}
+use Rattle.hex.specs.Hex.{encode_with}
+use Rattle.hex.proofs.OnLiterals.{hex_on_literals}
+use Rattle.tc_link.specs.Frame.{IsOctets, IsWhole}
+use Rattle.tc_link.specs.Window.{some_of_first}
+use Rattle.tc_channel.specs.declared.settings.MapSetting.{MapSetting}
+use Rattle.tc_channel.specs.declared.settings.QueueSetting.{QueueSetting}
+use Rattle.tc_channel.specs.declared.settings.Settings.{Settings}
+use Rattle.tc_channel.specs.declared.event.Event.{Event}
+use Rattle.tc_channel.specs.declared.event.Event.TheVariants as events
+use Rattle.tc_channel.specs.ChannelState.{Queue, no_limits}
+use Rattle.tc_channel.specs.Journal.{History, IsNumberTold}
+use Rattle.tc_channel.specs.Reply.{frame_reply_within, release_reply_within, waiting_packets_within, waiting_units_within, buffered_fields_within, clcw_within}
+use Rattle.tc_channel.specs.Run.{IsLawful, IsLawfulWithin, run_within, passed_on}
+use Rattle.tc_channel.specs.Settings.{IsAllowed}
+use Rattle.tc_text.specs.Line.{line_of}
+use Rattle.tc_text.specs.Reading.{IsFirstLine}
+use Rattle.tc_text.specs.Word.{words}
+use Rattle.tc_text.specs.declared.line.Line.TheVariants as said
+use Rattle.tc_rack.specs.Linked.{Linked, no_flag}
+use Rattle.tc_rack.specs.Rack.{Racked}
+use Rattle.tc_rack.specs.Report.{AreRising, IsLawfulHistory}
+use Rattle.tc_rack.specs.declared.answer.Answer.{Answer}
+use Rattle.tc_rack.specs.declared.answer.Answer.TheVariants as answers
+use Rattle.tc_rack.specs.declared.answer.Refusal.TheVariants.{NoQueue, NoMap, Empty}
+use Rattle.tc_rack.specs.declared.stage.Stage.TheVariants.{SettingUp, Operating}
+use Rattle.tc_cli.specs.Examples as example
+use Rattle.tc_cli.specs.Progress.{Progress, IsPerformed}
+use Rattle.tc_cli.specs.Written.{AreAnswers, at_first, one_more, IsLineAnswered, IsReport}
+use Rattle.tc_cli.proofs.worked.a_script_writes_this.Goals as goal
+
+-- the channel as it is set up, and after events
+
+abbrev settings : List QueueSetting → List MapSetting → Settings
+settings queues maps = record { vcid = 1; width = 10; buffer = 2; first = 0; segmented = true; queues = queues; maps = maps }
+
+abbrev queue : QueueSetting
+queue = record { apid = 5; capacity = 1 }
+
+abbrev chosen : MapSetting
+chosen = record { map = 3; capacity = 1 }
+
+abbrev all : Settings
+all = settings (queue ∷ []) (chosen ∷ [])
+
+abbrev channel : List Event → Linked
+channel journal = record { history = record { settings = all; journal = journal }; link = no_flag }
+
+abbrev rack : List Event → Racked
+rack journal = record { scid = 42; channels = channel journal ∷ [] }
+
+abbrev at : List Event → Progress
+at journal = Operating (rack journal)
+
+-- facts on short lists
+
+none-of : {A : Type 0} (P : A → Type 0) → All P []
+none-of P k d inside = absurd (omega arith)
+
+one-of : {A : Type 0} (P : A → Type 0) (one : A) → P one → All P (one ∷ [])
+one-of P one p zero d inside = p
+one-of P one p (suc k) d inside = absurd (omega arith)
+
+none-apart : {A : Type 0} (R : A → A → Type 0) → AllPairs R []
+none-apart R i j d before inside = absurd (omega arith)
+
+one-apart : {A : Type 0} (R : A → A → Type 0) (one : A) → AllPairs R (one ∷ [])
+one-apart R one i j d before inside = absurd (omega arith)
+
+one-rising : (one : History) → AreRising (one ∷ [])
+one-rising one zero zero d le inside = omega arith
+one-rising one (suc i) zero d le inside = absurd (omega arith)
+one-rising one i (suc j) d le inside = absurd (omega arith)
+
+abbrev has_apid : QueueSetting → Type 0
+has_apid q = q.apid ≤ 2046
+
+abbrev are_apart : QueueSetting → QueueSetting → Type 0
+are_apart p q = p.apid ≢ q.apid
+
+abbrev has_room : QueueSetting → Type 0
+has_room q = (1 ≤ q.capacity) × (q.capacity ≤ 256)
+
+abbrev has_map : MapSetting → Type 0
+has_map m = m.map ≤ 63
+
+abbrev are_maps_apart : MapSetting → MapSetting → Type 0
+are_maps_apart m n = m.map ≢ n.map
+
+abbrev has_units : MapSetting → Type 0
+has_units m = (1 ≤ m.capacity) × (m.capacity ≤ 256)
+
+allowed-with : (queues : List QueueSetting) (maps : List MapSetting) → All has_apid queues → AllPairs are_apart queues
+    → All has_room queues → All has_map maps → AllPairs are_maps_apart maps → All has_units maps → IsAllowed (settings queues maps)
+allowed-with queues maps apids apart capacities ids ids_apart units = record {
+  vcid = lit≤ tt;
+  width = record { least = lit≤ tt; most = lit≤ tt; even = refl };
+  buffer = (lit≤ tt, lit≤ tt);
+  first = lit< tt;
+  apids = apids;
+  apart = apart;
+  capacities = capacities;
+  maps = ids;
+  maps_apart = ids_apart;
+  unit_capacities = units;
+  by_headers = λ plain. absurd cc;
+}
+
+allowed-none : IsAllowed (settings [] [])
+allowed-none = allowed-with [] [] (none-of has_apid) (none-apart are_apart) (none-of has_room) (none-of has_map) (none-apart are_maps_apart) (none-of has_units)
+
+allowed-queue : IsAllowed (settings (queue ∷ []) [])
+allowed-queue = allowed-with (queue ∷ []) [] (one-of has_apid queue (lit≤ tt)) (one-apart are_apart queue) (one-of has_room queue (lit≤ tt, lit≤ tt)) (none-of has_map) (none-apart are_maps_apart) (none-of has_units)
+
+allowed-all : IsAllowed all
+allowed-all = allowed-with (queue ∷ []) (chosen ∷ []) (one-of has_apid queue (lit≤ tt)) (one-apart are_apart queue) (one-of has_room queue (lit≤ tt, lit≤ tt)) (one-of has_map chosen (lit≤ tt)) (one-apart are_maps_apart chosen) (one-of has_units chosen (lit≤ tt, lit≤ tt))
+
+-- the frames
+
+both-true : (a b : Bool) → (a && b) ≡ true → (a ≡ true) × (b ≡ true)
+both-true true b h = (refl, h)
+both-true false b h = absurd cc
+
+abbrev are_octets : List ℕ → Bool
+are_octets [] = true
+are_octets (x ∷ xs) = ltb x 256 && are_octets xs
+
+octets : (xs : List ℕ) → are_octets xs ≡ true → IsOctets xs
+octets [] h i = lit< tt
+octets (x ∷ xs) h zero = let small = (both-true (ltb x 256) (are_octets xs) h).0 in grind (arith, nat_tests)
+octets (x ∷ xs) h (suc i) = octets xs (both-true (ltb x 256) (are_octets xs) h).1 i
+
+abbrev packet : List ℕ
+packet = 0x10 ∷ 0x05 ∷ 0xc0 ∷ 0x00 ∷ 0x00 ∷ 0x00 ∷ 0xaa ∷ []
+
+abbrev expected : ℕ → List ℕ
+expected ns = 0x00 ∷ 0x2a ∷ 0x04 ∷ 0x0c ∷ ns ∷ 0xc0 ∷ packet
+
+abbrev bypassing : List ℕ
+bypassing = 0x20 ∷ 0x2a ∷ 0x04 ∷ 0x07 ∷ 0x00 ∷ 0xc3 ∷ 0xaa ∷ 0xbb ∷ []
+
+whole-first : IsWhole (expected 0)
+whole-first = record { each = octets (expected 0) refl; least = lit≤ tt; most = lit≤ tt; version = refl; spare = refl; named = refl }
+
+whole-second : IsWhole (expected 1)
+whole-second = record { each = octets (expected 1) refl; least = lit≤ tt; most = lit≤ tt; version = refl; spare = refl; named = refl }
+
+whole-bypassing : IsWhole bypassing
+whole-bypassing = record { each = octets bypassing refl; least = lit≤ tt; most = lit≤ tt; version = refl; spare = refl; named = refl }
+
+-- the journals
+
+abbrev first : List Event
+first = events.Frame (expected 0) ∷ []
+
+abbrev released : List Event
+released = events.Frame (expected 0) ∷ events.Release ∷ []
+
+abbrev taken : List Event
+taken = events.Frame (expected 0) ∷ events.Release ∷ events.Take 5 ∷ []
+
+abbrev bypassed : List Event
+bypassed = events.Frame (expected 0) ∷ events.Release ∷ events.Take 5 ∷ events.Frame bypassing ∷ []
+
+abbrev last : List Event
+last = events.Frame (expected 0) ∷ events.Release ∷ events.Take 5 ∷ events.Frame bypassing ∷ events.Frame (expected 1) ∷ []
+
+-- lines
+
+abbrev no_feed : List ℕ → Bool
+no_feed [] = true
+no_feed (x ∷ xs) = not (eqb x 10) && no_feed xs
+
+one-line : (xs : List ℕ) → no_feed xs ≡ true → All (λ octet. octet ≢ 10) xs
+one-line [] h k d inside = absurd (omega arith)
+one-line (x ∷ xs) h zero d inside = λ e. (let is = eq-eqb x 10 e in let no = (both-true (not (eqb x 10)) (no_feed xs) h).0 in cc)
+one-line (x ∷ xs) h (suc k) d inside = one-line xs (both-true (not (eqb x 10)) (no_feed xs) h).1 k d (omega arith)
+
+line : (octets after : List ℕ) → no_feed octets ≡ true → IsFirstLine (octets ++ 10 ∷ after) octets after
+line octets after h = record { one = one-line octets h; parts = inl refl; shorter = omega (arith, length-append octets (10 ∷ after)) }
+
+abbrev IsDone : Progress → List ℕ → Progress → Option Answer → Type 0
+IsDone old octets new answer = IsLineAnswered (IsPerformed 42) old octets new answer
+
+abbrev framed : ℕ → ℕ → Answer
+framed event queued = answers.Frame 1 (record { act = record { event = event; accepted = true }; delivery = record { queued = queued; dropped = 0; rest = false } })
+
+abbrev release : Answer
+release = answers.Release 1 (record { queued = 1; dropped = 0; rest = false })
+
+channel-line : IsDone (SettingUp []) (codes "channel 1 10 2 0") (SettingUp (settings [] [] ∷ [])) None
+unfolding line_of words
+channel-line = (said.Channel 1 10 2 0 true, refl, ([], settings [] [] ∷ [], refl, (λ there. (let inside : there.0 < 0 = there.2 in omega arith), allowed-none, refl), refl), refl)
+
+queue-line : IsDone (SettingUp (settings [] [] ∷ [])) (codes "queue 1 5 1") (SettingUp (settings (queue ∷ []) [] ∷ [])) None
+unfolding line_of words
+queue-line = (said.Queue 1 5 1, refl, (settings [] [] ∷ [], settings (queue ∷ []) [] ∷ [], refl, (0, settings [] [], (refl, refl), allowed-queue, refl), refl), refl)
+
+map-line : IsDone (SettingUp (settings (queue ∷ []) [] ∷ [])) (codes "map 1 3 1") (SettingUp (all ∷ [])) None
+unfolding line_of words
+map-line = (said.Map 1 3 1, refl, (settings (queue ∷ []) [] ∷ [], all ∷ [], refl, (0, settings (queue ∷ []) [], (refl, refl), allowed-all, refl), refl), refl)
+
+empty-line : IsDone (SettingUp (all ∷ [])) (codes "release 1") (at []) (Some (answers.Refused Empty))
+unfolding line_of words run_within no_limits buffered_fields_within
+empty-line = (said.Release 1, refl, ((λ e. cc), refl), (answers.Refused Empty, (rack [], inl (0, channel [], channel [], (refl, refl), inr (refl, refl, refl), refl), refl), refl))
+
+first-line : IsDone (at []) (codes "frame 002a040c00c01005c0000000aa") (at first) (Some (framed 1 0))
+unfolding line_of words hex_on_literals run_within no_limits passed_on frame_reply_within
+first-line = (said.Frame (expected 0), refl, ((λ e. cc), refl), (framed 1 0, (rack first, inl (expected 0, (whole-first, refl), refl, (0, channel [], channel first, (refl, refl), (refl, refl), refl)), refl), refl))
+
+release-line : IsDone (at first) (codes "release 1") (at released) (Some release)
+unfolding line_of words run_within no_limits passed_on release_reply_within buffered_fields_within
+release-line = (said.Release 1, refl, ((λ e. cc), refl), (release, (rack released, inl (0, channel first, channel released, (refl, refl), inl ((λ e. (let one : (0xc0 ∷ packet) ∷ [] ≡ [] = e in cc)), refl, refl), refl), refl), refl))
+
+take-line : IsDone (at released) (codes "take 1 5") (at taken) (Some (answers.Take 1 5 packet))
+unfolding line_of words run_within no_limits passed_on waiting_packets_within
+take-line = (said.Take 1 5, refl, ((λ e. cc), refl), (answers.Take 1 5 packet, (rack taken, inl (0, channel released, channel taken, (refl, refl), inl (packet, refl, refl, refl), refl), refl), refl))
+
+no-queue-line : IsDone (at taken) (codes "take 1 6") (at taken) (Some (answers.Refused NoQueue))
+unfolding line_of words run_within no_limits passed_on waiting_packets_within
+no-queue-line = (said.Take 1 6, refl, ((λ e. cc), refl), (answers.Refused NoQueue, (rack taken, inl (0, channel taken, channel taken, (refl, refl), inr (inl (refl, refl), refl), refl), refl), refl))
+
+no-map-line : IsDone (at taken) (codes "unit 1 4") (at taken) (Some (answers.Refused NoMap))
+unfolding line_of words run_within no_limits passed_on waiting_units_within
+no-map-line = (said.Unit 1 4, refl, ((λ e. cc), refl), (answers.Refused NoMap, (rack taken, inl (0, channel taken, channel taken, (refl, refl), inr (inl (refl, refl), refl), refl), refl), refl))
+
+bypass-line : IsDone (at taken) (codes "frame 202a040700c3aabb") (at bypassed) (Some (framed 6 1))
+unfolding line_of words hex_on_literals run_within no_limits passed_on frame_reply_within
+bypass-line = (said.Frame bypassing, refl, ((λ e. cc), refl), (framed 6 1, (rack bypassed, inl (bypassing, (whole-bypassing, refl), refl, (0, channel taken, channel bypassed, (refl, refl), (refl, refl), refl)), refl), refl))
+
+second-line : IsDone (at bypassed) (codes "frame 002a040c01c01005c0000000aa") (at last) (Some (framed 1 0))
+unfolding line_of words hex_on_literals run_within no_limits passed_on frame_reply_within
+second-line = (said.Frame (expected 1), refl, ((λ e. cc), refl), (framed 1 0, (rack last, inl (expected 1, (whole-second, refl), refl, (0, channel bypassed, channel last, (refl, refl), (refl, refl), refl)), refl), refl))
+
+-- the report
+
+-- the queue before the take
+abbrev waiting : Queue
+waiting = record { key = 5; capacity = 1; admitted = packet ∷ []; taken = 0 }
+
+lawful : IsLawful all last
+unfolding IsLawfulWithin no_limits passed_on some_of_first
+lawful = ((whole-first, refl), (lit< tt, ((0, waiting, lit< tt, refl, (refl, lit< tt)), ((whole-bypassing, refl), ((whole-second, refl), tt)))))
+
+reported : IsReport 42 (at last) (codes "final 1 01040202 events 5 buffered 1\nqueue 1 5 0\nmap 1 3 1\n")
+unfolding run_within no_limits passed_on waiting_packets_within waiting_units_within buffered_fields_within clcw_within digits encode_with
+reported =
+    let own : History = record { settings = all; journal = last } in
+    inr (
+      own ∷ [],
+      record { moves = []; below = tt; is = refl },
+      record {
+        rising = one-rising own;
+        told = one-of IsNumberTold own (lit< tt);
+        lawful = one-of IsLawfulHistory own (allowed-all, lawful);
+        written = refl;
+      },
+    )
+
+-- what is left of the script behind each line
+
+abbrev from_second : List ℕ
+from_second = codes "frame 002a040c01c01005c0000000aa\n"
+
+abbrev from_bypass : List ℕ
+from_bypass = codes "frame 202a040700c3aabb\n" ++ from_second
+
+abbrev from_no_map : List ℕ
+from_no_map = codes "unit 1 4\n" ++ from_bypass
+
+abbrev from_no_queue : List ℕ
+from_no_queue = codes "take 1 6\n" ++ from_no_map
+
+abbrev from_take : List ℕ
+from_take = codes "take 1 5\n" ++ from_no_queue
+
+abbrev from_release : List ℕ
+from_release = codes "release 1\n" ++ from_take
+
+abbrev from_first : List ℕ
+from_first = codes "frame 002a040c00c01005c0000000aa\n" ++ from_release
+
+abbrev from_empty : List ℕ
+from_empty = codes "release 1\n" ++ from_first
+
+abbrev from_map : List ℕ
+from_map = codes "map 1 3 1\n" ++ from_empty
+
+abbrev from_queue : List ℕ
+from_queue = codes "queue 1 5 1\n" ++ from_map
+
+abbrev all_answers : List (Option Answer)
+all_answers =
+    None ∷ None ∷ None ∷ Some (answers.Refused Empty) ∷ Some (framed 1 0) ∷ Some release ∷ Some (answers.Take 1 5 packet)
+    ∷ Some (answers.Refused NoQueue) ∷ Some (answers.Refused NoMap) ∷ Some (framed 6 1) ∷ Some (framed 1 0) ∷ []
+
+-- so many first lines are answered
+
+abbrev AreDone : ℕ → Progress → List ℕ → Type 0
+AreDone count stage after = AreAnswers (IsPerformed 42) example.script (take count all_answers) stage after
+
+channelled : AreDone 1 (SettingUp (settings [] [] ∷ [])) from_queue
+channelled = one_more {answers = take 0 all_answers} {answer = None} at_first (line (codes "channel 1 10 2 0") from_queue refl) channel-line
+
+queued : AreDone 2 (SettingUp (settings (queue ∷ []) [] ∷ [])) from_map
+queued = one_more {answers = take 1 all_answers} {answer = None} channelled (line (codes "queue 1 5 1") from_map refl) queue-line
+
+mapped : AreDone 3 (SettingUp (all ∷ [])) from_empty
+mapped = one_more {answers = take 2 all_answers} {answer = None} queued (line (codes "map 1 3 1") from_empty refl) map-line
+
+emptied : AreDone 4 (at []) from_first
+emptied = one_more {answers = take 3 all_answers} {answer = Some (answers.Refused Empty)} mapped (line (codes "release 1") from_first refl) empty-line
+
+framed-first : AreDone 5 (at first) from_release
+framed-first = one_more {answers = take 4 all_answers} {answer = Some (framed 1 0)} emptied (line (codes "frame 002a040c00c01005c0000000aa") from_release refl) first-line
+
+released-first : AreDone 6 (at released) from_take
+released-first = one_more {answers = take 5 all_answers} {answer = Some release} framed-first (line (codes "release 1") from_take refl) release-line
+
+taken-first : AreDone 7 (at taken) from_no_queue
+taken-first = one_more {answers = take 6 all_answers} {answer = Some (answers.Take 1 5 packet)} released-first (line (codes "take 1 5") from_no_queue refl) take-line
+
+no-queue : AreDone 8 (at taken) from_no_map
+no-queue = one_more {answers = take 7 all_answers} {answer = Some (answers.Refused NoQueue)} taken-first (line (codes "take 1 6") from_no_map refl) no-queue-line
+
+no-map : AreDone 9 (at taken) from_bypass
+no-map = one_more {answers = take 8 all_answers} {answer = Some (answers.Refused NoMap)} no-queue (line (codes "unit 1 4") from_bypass refl) no-map-line
+
+framed-bypass : AreDone 10 (at bypassed) from_second
+framed-bypass = one_more {answers = take 9 all_answers} {answer = Some (framed 6 1)} no-map (line (codes "frame 202a040700c3aabb") from_second refl) bypass-line
+
+done : AreDone 11 (at last) []
+done = one_more {answers = take 10 all_answers} {answer = Some (framed 1 0)} framed-bypass (line (codes "frame 002a040c01c01005c0000000aa") [] refl) second-line
+
+pub returns : goal.returns
+unfolding digits encode_with
+returns c = (all_answers, at last, codes "final 1 01040202 events 5 buffered 1\nqueue 1 5 0\nmap 1 3 1\n", done, reported, refl)
