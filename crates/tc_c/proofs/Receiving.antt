@@ -4,7 +4,7 @@ use Rattle.std.proofs.lemmas.Bool.{le-ltb, lt-ltb}
 use Rattle.std.proofs.lemmas.List.{length-drop, length-take-le, take-set-le, drop-set-add, take_more_set, take_at}
 use Rattle.tc_cltu.specs.declared.block.Mode.{Mode}
 use Rattle.tc_cltu.specs.CodeBlock.{decoded}
-use Rattle.tc_cltu.specs.Reception.{Reception, Searching, Decoding, Step, step, after_block, fate_in, fate_of}
+use Rattle.tc_cltu.specs.Reception.{Reception, Searching, Decoding, Step, reception_step, after_block, fate_in, fate_of}
 use Rattle.tc_c.specs.declared.decoder.DecoderRecord.{DecoderRecord}
 use Rattle.tc_c.specs.Decoder.{reception_of}
 
@@ -24,7 +24,7 @@ block-length h c f room =
     length-take-le c (drop h f) (omega arith)
 
 pub step-more : (mode : Mode) (room h c o : ℕ) (f : List ℕ) → c < 7 → h + c < length f
-    → step mode room (Decoding (take h f) (take c (drop h f))) o ≡ (Decoding (take h (set f (h + c) o)) (take (c + 1) (drop h (set f (h + c) o))), [])
+    → reception_step mode room (Decoding (take h f) (take c (drop h f))) o ≡ (Decoding (take h (set f (h + c) o)) (take (c + 1) (drop h (set f (h + c) o))), [])
 step-more mode room h c o f less there =
     let long = block-length h c f there in
     let all : Step = after_block room (take h f) (decoded mode (take c (drop h f) ++ o ∷ [])) in
@@ -33,7 +33,7 @@ step-more mode room h c o f less there =
     ∙ ap (λ (x : List ℕ). (Decoding (take h (set f (h + c) o)) x, [])) (sym (block-more h c o f there))
 
 pub step-last : (mode : Mode) (room h o : ℕ) (f : List ℕ) → h + 7 < length f
-    → step mode room (Decoding (take h f) (take 7 (drop h f))) o ≡ after_block room (take h (set f (h + 7) o)) (decoded mode (take 8 (drop h (set f (h + 7) o))))
+    → reception_step mode room (Decoding (take h f) (take 7 (drop h f))) o ≡ after_block room (take h (set f (h + 7) o)) (decoded mode (take 8 (drop h (set f (h + 7) o))))
 step-last mode room h o f there =
     let long = block-length h 7 f there in
     let kept : Step = (Decoding (take h f) (take 7 (drop h f) ++ o ∷ []), []) in
@@ -57,18 +57,18 @@ decoding-state : (d : DecoderRecord) (f : List ℕ) → d.decoding ≡ 1 → rec
 decoding-state d f on = ap (λ (k : ℕ). if k == 0 then Searching d.last else Decoding (take d.held f) (take d.count (drop d.held f))) on
 
 pub more-state : (mode : Mode) (o : ℕ) (d n : DecoderRecord) (f g : List ℕ) → d.decoding ≡ 1 → d.count < 7 → d.held + d.count < length f
-    → g ≡ set f (d.held + d.count) o → n ≡ record d { count = d.count + 1 } → reception_of n g ≡ (step mode 1029 (reception_of d f) o).0
+    → g ≡ set f (d.held + d.count) o → n ≡ record d { count = d.count + 1 } → reception_of n g ≡ (reception_step mode 1029 (reception_of d f) o).0
 more-state mode o d n f g on less room made next =
     ap (λ (x : DecoderRecord). reception_of x g) next ∙ ap (λ (x : List ℕ). reception_of (record d { count = d.count + 1 }) x) made
     ∙ decoding-state (record d { count = d.count + 1 }) (set f (d.held + d.count) o) on
     ∙ sym (ap (λ (s : Step). s.0) (step-more mode 1029 d.held d.count o f less room))
-    ∙ sym (ap (λ (s : Reception). (step mode 1029 s o).0) (decoding-state d f on))
+    ∙ sym (ap (λ (s : Reception). (reception_step mode 1029 s o).0) (decoding-state d f on))
 
 pub last-state : (mode : Mode) (o : ℕ) (d : DecoderRecord) (f g : List ℕ) → d.decoding ≡ 1 → d.count ≡ 7 → d.held + 7 < length f
-    → g ≡ set f (d.held + d.count) o → step mode 1029 (reception_of d f) o ≡ after_block 1029 (take d.held g) (decoded mode (take 8 (drop d.held g)))
+    → g ≡ set f (d.held + d.count) o → reception_step mode 1029 (reception_of d f) o ≡ after_block 1029 (take d.held g) (decoded mode (take 8 (drop d.held g)))
 last-state mode o d f g on last room made =
-    ap (λ (s : Reception). step mode 1029 s o) (decoding-state d f on)
-    ∙ ap (λ (k : ℕ). step mode 1029 (Decoding (take d.held f) (take k (drop d.held f))) o) last
+    ap (λ (s : Reception). reception_step mode 1029 s o) (decoding-state d f on)
+    ∙ ap (λ (k : ℕ). reception_step mode 1029 (Decoding (take d.held f) (take k (drop d.held f))) o) last
     ∙ step-last mode 1029 d.held o f room
     ∙ sym (ap (λ (k : ℕ). after_block 1029 (take d.held (set f (d.held + k) o)) (decoded mode (take 8 (drop d.held (set f (d.held + k) o))))) last)
     ∙ sym (ap (λ (x : List ℕ). after_block 1029 (take d.held x) (decoded mode (take 8 (drop d.held x)))) made)

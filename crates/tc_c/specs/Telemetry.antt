@@ -9,7 +9,7 @@ use Rattle.tc_tm.specs.declared.frame.TmFault.TheVariants as writing
 use Rattle.tc_tm.specs.declared.reading.TmFields.{TmFields}
 use Rattle.tc_tm.specs.declared.reading.TmReadFault.{TmReadFault}
 use Rattle.tc_tm.specs.declared.reading.TmReadFault.TheVariants as reading
-use Rattle.tc_tm.specs.TmFrame.{tm_frame, most_length, fault_of, fields_of, read_fault_of}
+use Rattle.tc_tm.specs.TmFrame.{tm_frame, most_length, tm_fault_of, tm_fields_of, read_fault_of}
 use Rattle.tc_c.specs.declared.status.Status.{Status}
 use Rattle.tc_c.specs.declared.status.Status.TheVariants as st
 use Rattle.tc_c.specs.declared.telemetry.TmHeaderRecord.{TmHeaderRecord}
@@ -56,7 +56,7 @@ tm_read_status reading.WrongSum = st.WrongFecf
 
 -- with which frame error control field a frame of so many octets is written, or the first reason why none is
 abbrev pub tm_allowed : TmHeaderRecord → ℕ → ErrorControl → Result ErrorControl Status
-tm_allowed header size error = elim (fault_of error header.scid header.vcid size) [ None ↦ Ok error | Some fault ↦ Err (tm_write_status fault) ]
+tm_allowed header size error = elim (tm_fault_of error header.scid header.vcid size) [ None ↦ Ok error | Some fault ↦ Err (tm_write_status fault) ]
 
 abbrev pub tm_to_write : TmHeaderRecord → ℕ → ℕ → Result ErrorControl Status
 tm_to_write header fecf size = with_ok (error_given fecf) (tm_allowed header size)
@@ -69,7 +69,7 @@ tm_of error header clcw size = tm_frame error (tm_header_in header) (to_be_bytes
 abbrev pub tm_read : List ℕ → ErrorControl → Result TmFields Status
 tm_read octets error =
     if nat_lt most_length (length octets) then Err st.BadLength
-    else elim (read_fault_of error octets) [ None ↦ Ok (fields_of error octets) | Some fault ↦ Err (tm_read_status fault) ]
+    else elim (read_fault_of error octets) [ None ↦ Ok (tm_fields_of error octets) | Some fault ↦ Err (tm_read_status fault) ]
 
 abbrev pub tm_to_read : ℕ → List ℕ → Result TmFields Status
 tm_to_read fecf octets = with_ok (error_given fecf) (tm_read octets)

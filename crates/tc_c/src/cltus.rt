@@ -2,7 +2,7 @@
 
 ghost use Rattle.std.specs.Prelude.{◌≡◌, ◌<◌, ◌≤◌, ◌+◌, ◌*◌, ◌/◌, ◌++◌, Some, None, length, take, drop, IfSome, IfNone, IfOk, MatchResult};
 ghost use Rattle.tc_cltu.specs.CodeBlock.{code_block};
-ghost use Rattle.tc_cltu.specs.Cltu.{cltu, filled, code_blocks, most_octets, fault_of};
+ghost use Rattle.tc_cltu.specs.Cltu.{cltu, filled, code_blocks, most_octets, cltu_fault_of};
 ghost use Rattle.tc_cltu.specs.Randomiser.{randomised};
 ghost use Rattle.tc_c.specs.Channel.{no_octets, too_short, taken};
 ghost use Rattle.tc_c.specs.Cltus.{cltu_status};
@@ -19,11 +19,11 @@ use tc_cltu::{CltuFault, MOST_OCTETS, START, TAIL, encode_block, randomise};
 /// refused.
 #[unsafe(no_mangle)]
 pub extern "C" fn tcrx_write_cltu_at(frame: &[u8], octets: &mut [u8]) -> WrittenRecord
-    ensures written { IfNone (fault_of frame.now) (length (cltu frame.now) ≤ length octets.old → result ≡ taken (length (cltu frame.now))) }
-    ensures cltu { IfNone (fault_of frame.now) (length (cltu frame.now) ≤ length octets.old → take (length (cltu frame.now)) octets.new ≡ cltu frame.now) }
-    ensures rest { IfNone (fault_of frame.now) (length (cltu frame.now) ≤ length octets.old → drop (length (cltu frame.now)) octets.new ≡ drop (length (cltu frame.now)) octets.old) }
-    ensures no_room { IfNone (fault_of frame.now) (length octets.old < length (cltu frame.now) → (result ≡ too_short (length (cltu frame.now))) × (octets.new ≡ octets.old)) }
-    ensures refused { IfSome (fault_of frame.now) (λ fault. (result ≡ no_octets (cltu_status fault)) × (octets.new ≡ octets.old)) }
+    ensures written { IfNone (cltu_fault_of frame.now) (length (cltu frame.now) ≤ length octets.old → result ≡ taken (length (cltu frame.now))) }
+    ensures cltu { IfNone (cltu_fault_of frame.now) (length (cltu frame.now) ≤ length octets.old → take (length (cltu frame.now)) octets.new ≡ cltu frame.now) }
+    ensures rest { IfNone (cltu_fault_of frame.now) (length (cltu frame.now) ≤ length octets.old → drop (length (cltu frame.now)) octets.new ≡ drop (length (cltu frame.now)) octets.old) }
+    ensures no_room { IfNone (cltu_fault_of frame.now) (length octets.old < length (cltu frame.now) → (result ≡ too_short (length (cltu frame.now))) × (octets.new ≡ octets.old)) }
+    ensures refused { IfSome (cltu_fault_of frame.now) (λ fault. (result ≡ no_octets (cltu_status fault)) × (octets.new ≡ octets.old)) }
 {
     match check_carried(frame) {
         Ok(()) => {}
@@ -40,7 +40,7 @@ pub extern "C" fn tcrx_write_cltu_at(frame: &[u8], octets: &mut [u8]) -> Written
 
 // That a CLTU can carry as many octets.
 fn check_carried(octets: &[u8]) -> Result<(), CltuFault>
-    ensures fault { MatchResult result (λ _. fault_of octets.now ≡ None) (λ fault. fault_of octets.now ≡ Some fault) }
+    ensures fault { MatchResult result (λ _. cltu_fault_of octets.now ≡ None) (λ fault. cltu_fault_of octets.now ≡ Some fault) }
     ensures most { IfOk result (λ _. length octets.now ≤ most_octets) }
 {
     if octets.is_empty() {
@@ -145,11 +145,11 @@ fn with_fill(octets: &[u8]) -> [u8; 7]
 /// by NoRoom, with the length that is needed. A buffer stays as it was where the call is refused.
 #[unsafe(no_mangle)]
 pub extern "C" fn tcrx_randomise_at(given: &[u8], octets: &mut [u8]) -> WrittenRecord
-    ensures written { IfNone (fault_of given.now) (length given.now ≤ length octets.old → result ≡ taken (length given.now)) }
-    ensures octets { IfNone (fault_of given.now) (length given.now ≤ length octets.old → take (length given.now) octets.new ≡ randomised given.now) }
-    ensures rest { IfNone (fault_of given.now) (length given.now ≤ length octets.old → drop (length given.now) octets.new ≡ drop (length given.now) octets.old) }
-    ensures no_room { IfNone (fault_of given.now) (length octets.old < length given.now → (result ≡ too_short (length given.now)) × (octets.new ≡ octets.old)) }
-    ensures refused { IfSome (fault_of given.now) (λ fault. (result ≡ no_octets (cltu_status fault)) × (octets.new ≡ octets.old)) }
+    ensures written { IfNone (cltu_fault_of given.now) (length given.now ≤ length octets.old → result ≡ taken (length given.now)) }
+    ensures octets { IfNone (cltu_fault_of given.now) (length given.now ≤ length octets.old → take (length given.now) octets.new ≡ randomised given.now) }
+    ensures rest { IfNone (cltu_fault_of given.now) (length given.now ≤ length octets.old → drop (length given.now) octets.new ≡ drop (length given.now) octets.old) }
+    ensures no_room { IfNone (cltu_fault_of given.now) (length octets.old < length given.now → (result ≡ too_short (length given.now)) × (octets.new ≡ octets.old)) }
+    ensures refused { IfSome (cltu_fault_of given.now) (λ fault. (result ≡ no_octets (cltu_status fault)) × (octets.new ≡ octets.old)) }
 {
     match check_carried(given) {
         Ok(()) => {}

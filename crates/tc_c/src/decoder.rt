@@ -2,7 +2,7 @@
 
 ghost use Rattle.std.specs.Prelude.{◌≡◌, ◌<◌, ◌≤◌, ◌+◌, ◌-◌, ◌∷◌, [], Ok, Err, Some, length, take, drop, IfOk, IfErr, MatchResult, if◌then◌else◌};
 ghost use Rattle.tc_cltu.specs.Cltu.{most_octets};
-ghost use Rattle.tc_cltu.specs.Reception.{is_start, step, state_after, frames_of, fate_of, fate_in, after_block, corrected_in, rejected_in};
+ghost use Rattle.tc_cltu.specs.Reception.{is_start, reception_step, state_after, frames_of, fate_of, fate_in, after_block, corrected_in, rejected_in};
 ghost use Rattle.tc_cltu.specs.CodeBlock.{decoded};
 ghost use Rattle.tc_c.specs.Status.{code_of};
 ghost use Rattle.tc_c.specs.Decoder.{decoder_room, decoder_given, reception_of, given_by, none_taken};
@@ -154,8 +154,8 @@ fn take_octet(mode: Mode, decoder: DecoderRecord, octet: u8, frame: &mut [u8]) -
     ensures held { result.decoder.held ≤ most_octets }
     ensures decoding { result.decoder.decoding < 2 }
     ensures length { length frame.new ≡ length frame.old }
-    ensures state { reception_of result.decoder frame.new ≡ (step mode most_octets (reception_of decoder frame.old) octet).0 }
-    ensures given { (if result.ended then take result.decoder.held frame.new ∷ [] else []) ≡ (step mode most_octets (reception_of decoder frame.old) octet).1 }
+    ensures state { reception_of result.decoder frame.new ≡ (reception_step mode most_octets (reception_of decoder frame.old) octet).0 }
+    ensures given { (if result.ended then take result.decoder.held frame.new ∷ [] else []) ≡ (reception_step mode most_octets (reception_of decoder frame.old) octet).1 }
     ensures fate { result.fate ≡ fate_of mode (reception_of decoder frame.old) octet }
 {
     if decoder.decoding == 0 {

@@ -4,10 +4,10 @@ use Rattle.std.proofs.lemmas.Bool.{le-ltb, lt-ltb, cases_lt}
 use Rattle.std.proofs.lemmas.Bool.Decides.{nat_tests}
 use Rattle.std.proofs.lemmas.List.{append-nil, append_cancel_right, drop_all, length-take-le, take_more, take-append-drop}
 use lib.Bits.{xor_self}
-use Rattle.tc_cltu.specs.Bits.{IsOctets, octet_bits}
-use Rattle.tc_cltu.specs.CodeBlock.{IsInformation, parity_of, times_x, code_block, decoded, turned}
-use Rattle.tc_cltu.specs.Cltu.{cltu, start_sequence, tail_sequence, code_blocks, fill, filled, fault_of}
-use Rattle.tc_cltu.specs.Reception.{Receiver, Reception, Searching, Decoding, Step, is_start, step, after_block, rejected_as, fate_in, fate_of, corrections_of, rejections_of, counted_in, state_after, frames_of, HasNoStart, IsSearching, IsReception, idle}
+use Rattle.tc_cltu.specs.Bits.{AreOctetValues, bits_of_octet}
+use Rattle.tc_cltu.specs.CodeBlock.{IsInformation, parity_of, block_times_x, code_block, decoded, flipped}
+use Rattle.tc_cltu.specs.Cltu.{cltu, start_sequence, tail_sequence, code_blocks, fill, filled, cltu_fault_of}
+use Rattle.tc_cltu.specs.Reception.{Receiver, Reception, Searching, Decoding, Step, is_start, reception_step, after_block, rejected_as, fate_in, fate_of, corrections_of, rejections_of, counted_in, state_after, frames_of, HasNoStart, IsSearching, IsReception, idle}
 use Rattle.tc_cltu.specs.declared.block.Fate.{Fate}
 use Rattle.tc_cltu.specs.declared.block.Fate.TheVariants.{Right, Corrected, Tail, Rejected}
 use Rattle.tc_cltu.specs.declared.block.Mode.{Mode}
@@ -19,14 +19,14 @@ use Rattle.tc_cltu.proofs.Taking.{syndrome, none-wrong, some-wrong, more-wrong}
 
 state-append : (mode : Mode) (room : ℕ) (xs ys : List ℕ) (s : Reception) → state_after mode room s (xs ++ ys) ≡ state_after mode room (state_after mode room s xs) ys
 state-append mode room [] ys s = refl
-state-append mode room (x ∷ xs) ys s = state-append mode room xs ys (step mode room s x).0
+state-append mode room (x ∷ xs) ys s = state-append mode room xs ys (reception_step mode room s x).0
 
 pub frames-append : (mode : Mode) (room : ℕ) (xs ys : List ℕ) (s : Reception)
     → frames_of mode room s (xs ++ ys) ≡ frames_of mode room s xs ++ frames_of mode room (state_after mode room s xs) ys
 frames-append mode room [] ys s = refl
 frames-append mode room (x ∷ xs) ys s =
-    ap (λ (fs : List (List ℕ)). (step mode room s x).1 ++ fs) (frames-append mode room xs ys (step mode room s x).0)
-    ∙ sym (append_assoc (step mode room s x).1 (frames_of mode room (step mode room s x).0 xs) (frames_of mode room (state_after mode room (step mode room s x).0 xs) ys))
+    ap (λ (fs : List (List ℕ)). (reception_step mode room s x).1 ++ fs) (frames-append mode room xs ys (reception_step mode room s x).0)
+    ∙ sym (append_assoc (reception_step mode room s x).1 (frames_of mode room (reception_step mode room s x).0 xs) (frames_of mode room (state_after mode room (reception_step mode room s x).0 xs) ys))
 
 -- eight octets
 frames-block : (mode : Mode) (room : ℕ) (frame : List ℕ) (a b c d e f g h : ℕ) (rest : List ℕ)
@@ -87,10 +87,10 @@ filled-front (a ∷ b ∷ c ∷ d ∷ e ∷ f ∷ g ∷ rest) =
     let more = filled-front rest in (more.0, more.1, ap (λ (x : List ℕ). a ∷ b ∷ c ∷ d ∷ e ∷ f ∷ g ∷ x) more.2)
 
 -- what has no fault is within what a CLTU carries, with its fill
-pub some-octets : (fs : List ℕ) → fault_of fs ≡ None → 0 < length fs
+pub some-octets : (fs : List ℕ) → cltu_fault_of fs ≡ None → 0 < length fs
 some-octets fs none = grind (arith, nat_tests)
 
-few-octets : (fs : List ℕ) → fault_of fs ≡ None → length fs ≤ 1029
+few-octets : (fs : List ℕ) → cltu_fault_of fs ≡ None → length fs ≤ 1029
 few-octets fs none = grind (arith, nat_tests)
 
 sevens-count : (fs : List ℕ) → AreSevens fs → (m : ℕ) × (length fs ≡ 7 * m)
@@ -103,7 +103,7 @@ sevens-count (a ∷ b ∷ c ∷ d ∷ []) p = absurd p
 sevens-count (a ∷ b ∷ c ∷ d ∷ e ∷ []) p = absurd p
 sevens-count (a ∷ b ∷ c ∷ d ∷ e ∷ f ∷ []) p = absurd p
 
-pub filled-fits : (fs : List ℕ) → fault_of fs ≡ None → length (filled fs) ≤ 1029
+pub filled-fits : (fs : List ℕ) → cltu_fault_of fs ≡ None → length (filled fs) ≤ 1029
 filled-fits fs none =
     let most = few-octets fs none in
     let f = filled-front fs in
@@ -152,7 +152,7 @@ abbrev tail_information : List ℕ
 tail_information = 0xC5 ∷ 0xC5 ∷ 0xC5 ∷ 0xC5 ∷ 0xC5 ∷ 0xC5 ∷ 0xC5 ∷ []
 
 tail-syndrome : syndrome tail_information 0x79 ≡ 67
-unfolding syndrome octet_bits times_x
+unfolding syndrome bits_of_octet block_times_x
 tail-syndrome = refl
 
 tail-place : placed 67 ≡ 63
@@ -177,10 +177,10 @@ tail-ends mode room f fs rest =
     ∙ ap (λ (o : Option (List ℕ)). (after_block room (f ∷ fs) o).1 ++ frames_of mode room (after_block room (f ∷ fs) o).0 rest) (tail-rejected mode)
 
 -- the start sequence is found, whatever came last
-quiet-step : (mode : Mode) (room last o : ℕ) → is_start mode last o ≡ false → step mode room (Searching last) o ≡ (Searching o, [])
+quiet-step : (mode : Mode) (room last o : ℕ) → is_start mode last o ≡ false → reception_step mode room (Searching last) o ≡ (Searching o, [])
 quiet-step mode room last o h = ap (λ (t : Bool). if t then (Decoding [] [], []) else (Searching o, [])) h
 
-found-step : (mode : Mode) (room last o : ℕ) → is_start mode last o ≡ true → step mode room (Searching last) o ≡ (Decoding [] [], [])
+found-step : (mode : Mode) (room last o : ℕ) → is_start mode last o ≡ true → reception_step mode room (Searching last) o ≡ (Decoding [] [], [])
 found-step mode room last o h = ap (λ (t : Bool). if t then (Decoding [] [], []) else (Searching o, [])) h
 
 -- two octets that count as it, where the first of them doesn't end what does
@@ -205,7 +205,7 @@ filled-some frame some =
     omega arith
 
 -- what follows a start sequence gives what it carries, and the search goes on behind it
-body-given : (mode : Mode) (room : ℕ) (frame rest : List ℕ) → IsOctets frame → 0 < length frame → length (filled frame) ≤ room
+body-given : (mode : Mode) (room : ℕ) (frame rest : List ℕ) → AreOctetValues frame → 0 < length frame → length (filled frame) ≤ room
     → frames_of mode room (Decoding [] []) ((code_blocks (filled frame) ++ tail_sequence) ++ rest) ≡ filled frame ∷ frames_of mode room (Searching 0) rest
 body-given mode room frame rest each some fits =
     ap (frames_of mode room (Decoding [] [])) (append_assoc (code_blocks (filled frame)) tail_sequence rest)
@@ -213,14 +213,14 @@ body-given mode room frame rest each some fits =
     ∙ tail-ends-some mode room (filled frame) rest (filled-some frame some)
 
 -- so a CLTU does, whatever came last before it
-pub cltu-given : (mode : Mode) (room last : ℕ) (frame rest : List ℕ) → IsOctets frame → 0 < length frame → length (filled frame) ≤ room
+pub cltu-given : (mode : Mode) (room last : ℕ) (frame rest : List ℕ) → AreOctetValues frame → 0 < length frame → length (filled frame) ≤ room
     → frames_of mode room (Searching last) (cltu frame ++ rest) ≡ filled frame ∷ frames_of mode room (Searching 0) rest
 cltu-given mode room last frame rest each some fits =
     start-found mode room last ((code_blocks (filled frame) ++ tail_sequence) ++ rest) ∙ body-given mode room frame rest each some fits
 
 -- and with correction also one with a wrong bit in its start sequence
-pub cltu-begun : (room last k : ℕ) (frame rest : List ℕ) → k < 16 → IsOctets frame → 0 < length frame → length (filled frame) ≤ room
-    → frames_of Correct room (Searching last) (turned (cltu frame) k ++ rest) ≡ filled frame ∷ frames_of Correct room (Searching 0) rest
+pub cltu-begun : (room last k : ℕ) (frame rest : List ℕ) → k < 16 → AreOctetValues frame → 0 < length frame → length (filled frame) ≤ room
+    → frames_of Correct room (Searching last) (flipped (cltu frame) k ++ rest) ≡ filled frame ∷ frames_of Correct room (Searching 0) rest
 cltu-begun room last k frame rest less each some fits =
     let body = code_blocks (filled frame) ++ tail_sequence in
     let s = one-off k body less in
@@ -237,7 +237,7 @@ quiet mode room last (o ∷ os) rest h =
     (more.0, ap (λ (s : Step). s.1 ++ frames_of mode room s.0 (os ++ rest)) (quiet-step mode room last o h.0) ∙ more.1)
 
 -- octets before a CLTU: all that is asked of them is that no start sequence stands in them
-pub found-after : (mode : Mode) (room last : ℕ) (before frame rest : List ℕ) → HasNoStart mode last before → IsOctets frame → 0 < length frame → length (filled frame) ≤ room
+pub found-after : (mode : Mode) (room last : ℕ) (before frame rest : List ℕ) → HasNoStart mode last before → AreOctetValues frame → 0 < length frame → length (filled frame) ≤ room
     → frames_of mode room (Searching last) (before ++ (cltu frame ++ rest)) ≡ filled frame ∷ frames_of mode room (Searching 0) rest
 found-after mode room last before frame rest quietly each some fits =
     let q = quiet mode room last before (cltu frame ++ rest) quietly in
@@ -248,7 +248,7 @@ abbrev idle_information : List ℕ
 idle_information = 0x55 ∷ 0x55 ∷ 0x55 ∷ 0x55 ∷ 0x55 ∷ 0x55 ∷ 0x55 ∷ []
 
 idle-syndrome : syndrome idle_information 0x55 ≡ 65
-unfolding syndrome octet_bits times_x
+unfolding syndrome bits_of_octet block_times_x
 idle-syndrome = refl
 
 idle-place : placed 65 ≡ 63
@@ -311,11 +311,11 @@ idle-ends mode room (Decoding frame (a ∷ b ∷ c ∷ d ∷ e ∷ f ∷ g ∷ [
 idle-ends mode room (Decoding frame (a ∷ b ∷ c ∷ d ∷ e ∷ f ∷ g ∷ h ∷ more)) short = absurd (omega arith)
 
 -- ---- every state is one that the receiving end can be in
-whole-step : (mode : Mode) (room octet : ℕ) (frame block : List ℕ) → 7 ≤ length block → step mode room (Decoding frame block) octet ≡ after_block room frame (decoded mode (block ++ octet ∷ []))
+whole-step : (mode : Mode) (room octet : ℕ) (frame block : List ℕ) → 7 ≤ length block → reception_step mode room (Decoding frame block) octet ≡ after_block room frame (decoded mode (block ++ octet ∷ []))
 whole-step mode room octet frame block long =
     ap (λ (t : Bool). if t then (Decoding frame (block ++ octet ∷ []), []) else after_block room frame (decoded mode (block ++ octet ∷ []))) (le-ltb (length block) 7 long)
 
-part-step : (mode : Mode) (room octet : ℕ) (frame block : List ℕ) → length block < 7 → step mode room (Decoding frame block) octet ≡ (Decoding frame (block ++ octet ∷ []), [])
+part-step : (mode : Mode) (room octet : ℕ) (frame block : List ℕ) → length block < 7 → reception_step mode room (Decoding frame block) octet ≡ (Decoding frame (block ++ octet ∷ []), [])
 part-step mode room octet frame block short =
     ap (λ (t : Bool). if t then (Decoding frame (block ++ octet ∷ []), []) else after_block room frame (decoded mode (block ++ octet ∷ []))) (lt-ltb (length block) 7 short)
 
@@ -334,11 +334,11 @@ after-kept room frame (Some information) =
 after-kept room [] None = tt
 after-kept room (f ∷ fs) None = tt
 
-search-kept : (mode : Mode) (room last octet : ℕ) (found : Bool) → is_start mode last octet ≡ found → IsReception (step mode room (Searching last) octet).0
+search-kept : (mode : Mode) (room last octet : ℕ) (found : Bool) → is_start mode last octet ≡ found → IsReception (reception_step mode room (Searching last) octet).0
 search-kept mode room last octet true is = subst (λ (s : Step). IsReception s.0) (sym (found-step mode room last octet is)) none-waits
 search-kept mode room last octet false is = subst (λ (s : Step). IsReception s.0) (sym (quiet-step mode room last octet is)) tt
 
-step-kept : (mode : Mode) (room octet : ℕ) (state : Reception) → IsReception state → IsReception (step mode room state octet).0
+step-kept : (mode : Mode) (room octet : ℕ) (state : Reception) → IsReception state → IsReception (reception_step mode room state octet).0
 step-kept mode room octet (Searching last) short = search-kept mode room last octet (is_start mode last octet) refl
 step-kept mode room octet (Decoding frame block) short =
     elim (cases_lt (length block) 7) [
@@ -348,15 +348,15 @@ step-kept mode room octet (Decoding frame block) short =
 
 pub state-kept : (mode : Mode) (room : ℕ) (os : List ℕ) (state : Reception) → IsReception state → IsReception (state_after mode room state os)
 state-kept mode room [] state short = short
-state-kept mode room (o ∷ os) state short = state-kept mode room os (step mode room state o).0 (step-kept mode room o state short)
+state-kept mode room (o ∷ os) state short = state-kept mode room os (reception_step mode room state o).0 (step-kept mode room o state short)
 
 -- so the idle sequence leads to the next CLTU from any of them
-search-given : (mode : Mode) (room : ℕ) (state : Reception) (frame rest : List ℕ) → IsSearching state → IsOctets frame → 0 < length frame → length (filled frame) ≤ room
+search-given : (mode : Mode) (room : ℕ) (state : Reception) (frame rest : List ℕ) → IsSearching state → AreOctetValues frame → 0 < length frame → length (filled frame) ≤ room
     → frames_of mode room state (cltu frame ++ rest) ≡ filled frame ∷ frames_of mode room (Searching 0) rest
 search-given mode room (Searching last) frame rest searching each some fits = cltu-given mode room last frame rest each some fits
 search-given mode room (Decoding got block) frame rest searching each some fits = absurd searching
 
-pub found-after-idle : (mode : Mode) (room : ℕ) (state : Reception) (before frame rest : List ℕ) → IsReception state → IsOctets frame → 0 < length frame → length (filled frame) ≤ room
+pub found-after-idle : (mode : Mode) (room : ℕ) (state : Reception) (before frame rest : List ℕ) → IsReception state → AreOctetValues frame → 0 < length frame → length (filled frame) ≤ room
     → frames_of mode room state (before ++ idle 15 ++ (cltu frame ++ rest)) ≡ frames_of mode room state (before ++ idle 15) ++ filled frame ∷ frames_of mode room (Searching 0) rest
 found-after-idle mode room state before frame rest short each some fits =
     let back : IsSearching (state_after mode room state (before ++ idle 15)) =
@@ -385,7 +385,7 @@ set-last (a ∷ b ∷ c ∷ d ∷ e ∷ f ∷ g ∷ h ∷ i ∷ more) octet l = 
 pub last-step : (mode : Mode) (room octet last count : ℕ) (frame block : List ℕ) (decoding : Bool) (value : Receiver) (o : Option (List ℕ))
     → decoding ≡ true → 7 ≤ count → count < 8 → length block ≡ 8
     → record { mode = mode; state = (if decoding then Decoding frame (take count block) else Searching last); held = frame } ≡ value
-    → o ≡ decoded mode (set block count octet) → step value.mode room value.state octet ≡ after_block room frame o
+    → o ≡ decoded mode (set block count octet) → reception_step value.mode room value.state octet ≡ after_block room frame o
 last-step mode room octet last count frame block decoding value o on more less l view h =
     let at : 7 ≡ count = omega arith in
     let s = set-last block octet l in
@@ -393,8 +393,8 @@ last-step mode room octet last count frame block decoding value o on more less l
     let state : (if decoding then Decoding frame (take count block) else Searching last) ≡ Decoding frame (take 7 block) =
     ap (λ (t : Bool). if t then Decoding frame (take count block) else Searching last) on ∙ ap (λ (n : ℕ). Decoding frame (take n block)) (sym at) in
     let is : o ≡ decoded mode (take 7 block ++ octet ∷ []) = h ∙ ap (λ (n : ℕ). decoded mode (set block n octet)) (sym at) ∙ ap (decoded mode) s.0 in
-    subst (λ (v : Receiver). step v.mode room v.state octet ≡ after_block room frame o) view
-    (ap (λ (x : Reception). step mode room x octet) state ∙ whole-step mode room octet frame (take 7 block) (omega arith) ∙ ap (after_block room frame) (sym is))
+    subst (λ (v : Receiver). reception_step v.mode room v.state octet ≡ after_block room frame o) view
+    (ap (λ (x : Reception). reception_step mode room x octet) state ∙ whole-step mode room octet frame (take 7 block) (omega arith) ∙ ap (after_block room frame) (sym is))
 
 pub last-fate : (mode : Mode) (octet last count : ℕ) (frame block : List ℕ) (decoding : Bool) (value : Receiver) (f : Fate)
     → decoding ≡ true → 7 ≤ count → count < 8 → length block ≡ 8
@@ -420,19 +420,19 @@ more-drop : (os : List ℕ) (i : ℕ) → i < length os → drop i os ≡ get_or
 more-drop os i less = drop-cons os i 0 less ∙ ap (λ (n : ℕ). get_or os i 0 ∷ drop n os) (sym (add-one i))
 
 pub fed-state : (mode was : Mode) (room i : ℕ) (os : List ℕ) (state next target : Reception) → i < length os → mode ≡ was
-    → next ≡ (step mode room state (get_or os i 0)).0 → state_after was room state (drop i os) ≡ target → state_after was room next (drop (i + 1) os) ≡ target
+    → next ≡ (reception_step mode room state (get_or os i 0)).0 → state_after was room state (drop i os) ≡ target → state_after was room next (drop (i + 1) os) ≡ target
 fed-state mode was room i os state next target less same_mode is h =
-    ap (λ (s : Reception). state_after was room s (drop (i + 1) os)) (is ∙ ap (λ (m : Mode). (step m room state (get_or os i 0)).0) same_mode)
+    ap (λ (s : Reception). state_after was room s (drop (i + 1) os)) (is ∙ ap (λ (m : Mode). (reception_step m room state (get_or os i 0)).0) same_mode)
     ∙ sym (ap (state_after was room state) (more-drop os i less)) ∙ h
 
 pub fed-frames : (mode was : Mode) (room i : ℕ) (os : List ℕ) (state next : Reception) (out more target : List (List ℕ)) → i < length os → mode ≡ was
-    → next ≡ (step mode room state (get_or os i 0)).0 → more ≡ out ++ (step mode room state (get_or os i 0)).1
+    → next ≡ (reception_step mode room state (get_or os i 0)).0 → more ≡ out ++ (reception_step mode room state (get_or os i 0)).1
     → out ++ frames_of was room state (drop i os) ≡ target → more ++ frames_of was room next (drop (i + 1) os) ≡ target
 fed-frames mode was room i os state next out more target less same_mode is given h =
     let o = get_or os i 0 in
-    ap (λ (x : List (List ℕ)). x ++ frames_of was room next (drop (i + 1) os)) (given ∙ ap (λ (m : Mode). out ++ (step m room state o).1) same_mode)
-    ∙ ap (λ (s : Reception). out ++ (step was room state o).1 ++ frames_of was room s (drop (i + 1) os)) (is ∙ ap (λ (m : Mode). (step m room state o).0) same_mode)
-    ∙ append_assoc out (step was room state o).1 (frames_of was room (step was room state o).0 (drop (i + 1) os))
+    ap (λ (x : List (List ℕ)). x ++ frames_of was room next (drop (i + 1) os)) (given ∙ ap (λ (m : Mode). out ++ (reception_step m room state o).1) same_mode)
+    ∙ ap (λ (s : Reception). out ++ (reception_step was room state o).1 ++ frames_of was room s (drop (i + 1) os)) (is ∙ ap (λ (m : Mode). (reception_step m room state o).0) same_mode)
+    ∙ append_assoc out (reception_step was room state o).1 (frames_of was room (reception_step was room state o).0 (drop (i + 1) os))
     ∙ sym (ap (λ (x : List ℕ). out ++ frames_of was room state x) (more-drop os i less)) ∙ h
 
 -- one code block is counted once at most
@@ -445,14 +445,14 @@ one-counted (Some Rejected) = (omega arith, omega arith)
 
 -- one code block more is counted
 pub fed-counted : (count : Option Fate → ℕ) (mode was : Mode) (room i : ℕ) (os : List ℕ) (state next : Reception) (n k target : ℕ) → i < length os → mode ≡ was
-    → next ≡ (step mode room state (get_or os i 0)).0 → k ≡ count (fate_of mode state (get_or os i 0))
+    → next ≡ (reception_step mode room state (get_or os i 0)).0 → k ≡ count (fate_of mode state (get_or os i 0))
     → n + counted_in count was room state (drop i os) ≡ target → n + k + counted_in count was room next (drop (i + 1) os) ≡ target
 fed-counted count mode was room i os state next n k target less same is now h =
     let o = get_or os i 0 in
     let rest = drop (i + 1) os in
     ap (λ (x : ℕ). n + x + counted_in count was room next rest) (now ∙ ap (λ (m : Mode). count (fate_of m state o)) same)
-    ∙ ap (λ (s : Reception). n + count (fate_of was state o) + counted_in count was room s rest) (is ∙ ap (λ (m : Mode). (step m room state o).0) same)
-    ∙ add_assoc n (count (fate_of was state o)) (counted_in count was room (step was room state o).0 rest)
+    ∙ ap (λ (s : Reception). n + count (fate_of was state o) + counted_in count was room s rest) (is ∙ ap (λ (m : Mode). (reception_step m room state o).0) same)
+    ∙ add_assoc n (count (fate_of was state o)) (counted_in count was room (reception_step was room state o).0 rest)
     ∙ sym (ap (λ (x : List ℕ). n + counted_in count was room state x) (more-drop os i less)) ∙ h
 
 pub fed-all-counted : (count : Option Fate → ℕ) (was : Mode) (room i : ℕ) (os : List ℕ) (state : Reception) (n target : ℕ) → length os ≤ i
@@ -471,10 +471,10 @@ fed-all-frames was room i os state out target past h =
 
 -- ---- what was taken so far
 pub fed-front : (mode was : Mode) (room i : ℕ) (os : List ℕ) (first state next : Reception) → i < length os → mode ≡ was
-    → next ≡ (step mode room state (get_or os i 0)).0 → state ≡ state_after was room first (take i os) → next ≡ state_after was room first (take (i + 1) os)
+    → next ≡ (reception_step mode room state (get_or os i 0)).0 → state ≡ state_after was room first (take i os) → next ≡ state_after was room first (take (i + 1) os)
 fed-front mode was room i os first state next less same_mode is at =
     let o = get_or os i 0 in
-    is ∙ ap (λ (m : Mode). (step m room state o).0) same_mode ∙ ap (λ (s : Reception). (step was room s o).0) at
+    is ∙ ap (λ (m : Mode). (reception_step m room state o).0) same_mode ∙ ap (λ (s : Reception). (reception_step was room s o).0) at
     ∙ sym (state-append was room (take i os) (o ∷ []) first) ∙ sym (ap (state_after was room first) (take_more os i 0 less))
 
 -- and given
@@ -490,21 +490,21 @@ fed-given was room i os first state before out at h =
 
 -- one octet more: the candidate frame that it ends
 pub fed-more : (mode was : Mode) (room i : ℕ) (os : List ℕ) (first state : Reception) (more : List (List ℕ)) → i < length os → mode ≡ was
-    → state ≡ state_after was room first (take i os) → (step mode room state (get_or os i 0)).1 ≡ more
+    → state ≡ state_after was room first (take i os) → (reception_step mode room state (get_or os i 0)).1 ≡ more
     → frames_of was room first (take (i + 1) os) ≡ frames_of was room first (take i os) ++ more
 fed-more mode was room i os first state more less same_mode at h =
     let o = get_or os i 0 in
     ap (frames_of was room first) (take_more os i 0 less) ∙ frames-append was room (take i os) (o ∷ []) first
     ∙ ap (λ (x : List (List ℕ)). frames_of was room first (take i os) ++ x)
-    (append-nil (step was room (state_after was room first (take i os)) o).1 ∙ sym (ap (λ (s : Reception). (step was room s o).1) at)
-    ∙ sym (ap (λ (m : Mode). (step m room state o).1) same_mode) ∙ h)
+    (append-nil (reception_step was room (state_after was room first (take i os)) o).1 ∙ sym (ap (λ (s : Reception). (reception_step was room s o).1) at)
+    ∙ sym (ap (λ (m : Mode). (reception_step m room state o).1) same_mode) ∙ h)
 
 counted-append : (count : Option Fate → ℕ) (mode : Mode) (room : ℕ) (xs ys : List ℕ) (s : Reception)
     → counted_in count mode room s (xs ++ ys) ≡ counted_in count mode room s xs + counted_in count mode room (state_after mode room s xs) ys
 counted-append count mode room [] ys s = omega arith
 counted-append count mode room (x ∷ xs) ys s =
-    ap (λ (n : ℕ). count (fate_of mode s x) + n) (counted-append count mode room xs ys (step mode room s x).0)
-    ∙ sym (add_assoc (count (fate_of mode s x)) (counted_in count mode room (step mode room s x).0 xs) (counted_in count mode room (state_after mode room (step mode room s x).0 xs) ys))
+    ap (λ (n : ℕ). count (fate_of mode s x) + n) (counted-append count mode room xs ys (reception_step mode room s x).0)
+    ∙ sym (add_assoc (count (fate_of mode s x)) (counted_in count mode room (reception_step mode room s x).0 xs) (counted_in count mode room (state_after mode room (reception_step mode room s x).0 xs) ys))
 
 -- and what becomes of its code block
 pub fed-more-counted : (count : Option Fate → ℕ) (mode : Mode) (room i : ℕ) (os : List ℕ) (first state : Reception) (n k : ℕ) → i < length os

@@ -3,8 +3,8 @@ use Rattle.std.proofs.Common.{◌≡◌, ℕ, zero, suc, ◌+◌, ◌*◌, ◌%�
 use Rattle.std.proofs.lemmas.Bool.{eqb-true, cases_eq, lt-ltb}
 use Rattle.std.proofs.lemmas.Nat.{xor_lt}
 use lib.Bits.{xor_self, xor_zero_r}
-use Rattle.tc_cltu.specs.Bits.{bit, octet_bits, bits_of, differences}
-use Rattle.tc_cltu.specs.CodeBlock.{times_x, IsInformation, code_block, word, errors}
+use Rattle.tc_cltu.specs.Bits.{bit_at, bits_of_octet, bits_of_octets, block_differences}
+use Rattle.tc_cltu.specs.CodeBlock.{block_times_x, IsInformation, code_block, word, errors}
 use Rattle.tc_cltu.specs.declared.tables.TheConstants.{PLACES}
 use Rattle.tc_cltu.proofs.Each.{both, each, each-holds}
 use Rattle.tc_cltu.proofs.Linear.{same, times_x-fits}
@@ -13,10 +13,10 @@ use Rattle.tc_cltu.proofs.Words.{AreOctets, are-octets, are-bits, bits-append, l
 
 -- ---- the number of ones is even in what leaves nothing
 unfoldable pub parity : ℕ → ℕ
-parity y = (bit y 6 + bit y 5 + bit y 4 + bit y 3 + bit y 2 + bit y 1 + bit y 0) % 2
+parity y = (bit_at y 6 + bit_at y 5 + bit_at y 4 + bit_at y 3 + bit_at y 2 + bit_at y 1 + bit_at y 0) % 2
 
-kept : each (λ y. eqb (parity (times_x y)) (parity y)) 128 ≡ true
-unfolding each both parity times_x
+kept : each (λ y. eqb (parity (block_times_x y)) (parity y)) 128 ≡ true
+unfolding each both parity block_times_x
 kept = refl
 
 turns : each (λ y. eqb (parity (bit_xor y 1)) ((parity y + 1) % 2)) 128 ≡ true
@@ -36,10 +36,10 @@ counted : (bs : List ℕ) (r : ℕ) → AreBits bs → r < 128 → parity (left 
 unfolding left weight
 counted [] r p fits = let low = parity-low r in omega arith
 counted (b ∷ bs) r p fits =
-    let k : parity (times_x r) ≡ parity r = eqb-true _ _ (each-holds (λ y. eqb (parity (times_x y)) (parity y)) 128 kept r fits) in
-    let one = with-one (times_x r) b (times_x-fits r) p.0 in
+    let k : parity (block_times_x r) ≡ parity r = eqb-true _ _ (each-holds (λ y. eqb (parity (block_times_x y)) (parity y)) 128 kept r fits) in
+    let one = with-one (block_times_x r) b (times_x-fits r) p.0 in
     let b_fits = p.0 in
-    let rest = counted bs (bit_xor (times_x r) b) p.1 (xor_lt 7 (times_x r) b (times_x-fits r) (omega arith)) in
+    let rest = counted bs (bit_xor (block_times_x r) b) p.1 (xor_lt 7 (block_times_x r) b (times_x-fits r) (omega arith)) in
     omega arith
 
 -- ---- each single error leaves something of its own
@@ -47,7 +47,7 @@ abbrev pub placed : ℕ → ℕ
 placed s = get_or PLACES s 0
 
 places : each (λ k. eqb (placed (left 0 (single k 63))) k) 63 ≡ true
-unfolding each both left single zeros times_x
+unfolding each both left single zeros block_times_x
 places = refl
 
 pub place-of : (k : ℕ) → k < 63 → placed (left 0 (single k 63)) ≡ k
@@ -58,7 +58,7 @@ right_place : ℕ → Bool
 right_place s = if nat_lt (placed s) 63 then eqb (left 0 (single (placed s) 63)) s else true
 
 rights : each right_place 128 ≡ true
-unfolding each both right_place left single zeros times_x
+unfolding each both right_place left single zeros block_times_x
 rights = refl
 
 pub placed-is : (s : ℕ) → s < 128 → placed s < 63 → left 0 (single (placed s) 63) ≡ s
@@ -68,12 +68,12 @@ placed-is s fits less =
 
 -- ---- words
 word-length : (a b c d e f g h : ℕ) → length (word (a ∷ b ∷ c ∷ d ∷ e ∷ f ∷ g ∷ h ∷ [])) ≡ 63
-unfolding octet_bits
+unfolding bits_of_octet
 word-length a b c d e f g h = refl
 
 word-are : (a b c d e f g h : ℕ) → AreBits (word (a ∷ b ∷ c ∷ d ∷ e ∷ f ∷ g ∷ h ∷ []))
 word-are a b c d e f g h =
-    subst AreBits (sym (word-is a b c d e f g h)) (bits-append (bits_of (a ∷ b ∷ c ∷ d ∷ e ∷ f ∷ g ∷ [])) (seven h) (are-bits (a ∷ b ∷ c ∷ d ∷ e ∷ f ∷ g ∷ [])) (seven-bits h))
+    subst AreBits (sym (word-is a b c d e f g h)) (bits-append (bits_of_octets (a ∷ b ∷ c ∷ d ∷ e ∷ f ∷ g ∷ [])) (seven h) (are-bits (a ∷ b ∷ c ∷ d ∷ e ∷ f ∷ g ∷ [])) (seven-bits h))
 
 pub word-bits : (block : List ℕ) → length block ≡ 8 → (length (word block) ≡ 63) × AreBits (word block)
 word-bits (a ∷ b ∷ c ∷ d ∷ e ∷ f ∷ g ∷ h ∷ []) l = (word-length a b c d e f g h, word-are a b c d e f g h)
@@ -92,12 +92,12 @@ unfolding parity
 parity-none = refl
 
 -- two words of which the same is left, with at most three differences, are one
-near-words : (v w : List ℕ) → length v ≡ 63 → length w ≡ 63 → AreBits v → AreBits w → left 0 v ≡ left 0 w → differences v w ≤ 3 → v ≡ w
+near-words : (v w : List ℕ) → length v ≡ 63 → length w ≡ 63 → AreBits v → AreBits w → left 0 v ≡ left 0 w → block_differences v w ≤ 3 → v ≡ w
 near-words v w lv lw pv pw alike few =
     let e = xors v w in
     let e_long : length e ≡ 63 = xors-length v w (lv ∙ sym lw) ∙ lv in
     let e_bits = xors-bits v w pv pw in
-    let d : differences v w ≡ weight e = differences-weight v w pv pw in
+    let d : block_differences v w ≡ weight e = differences-weight v w pv pw in
     let none : left 0 e ≡ 0 = left-linear v w 0 0 (lv ∙ sym lw) ∙ ap (λ (x : ℕ). bit_xor x (left 0 w)) alike ∙ xor_self (left 0 w) in
     let even : (parity 0 + weight e) % 2 ≡ 0 = sym (counted e 0 e_bits (omega arith)) ∙ ap parity none ∙ parity-none in
     let start = parity-none in
@@ -121,28 +121,28 @@ unfoldable pub value : List ℕ → ℕ
 value (a ∷ b ∷ c ∷ d ∷ e ∷ f ∷ g ∷ h ∷ _) = 128 * a + 64 * b + 32 * c + 16 * d + 8 * e + 4 * f + 2 * g + h
 value _ = 0
 
-values : each (λ o. eqb (value (octet_bits o)) o) 256 ≡ true
-unfolding each both value octet_bits
+values : each (λ o. eqb (value (bits_of_octet o)) o) 256 ≡ true
+unfolding each both value bits_of_octet
 values = refl
 
-value-is : (o : ℕ) (bs : List ℕ) → o < 256 → value (octet_bits o ++ bs) ≡ o
-unfolding value octet_bits
-value-is o bs less = eqb-true _ _ (each-holds (λ o. eqb (value (octet_bits o)) o) 256 values o less)
+value-is : (o : ℕ) (bs : List ℕ) → o < 256 → value (bits_of_octet o ++ bs) ≡ o
+unfolding value bits_of_octet
+value-is o bs less = eqb-true _ _ (each-holds (λ o. eqb (value (bits_of_octet o)) o) 256 values o less)
 
 after : List ℕ → List ℕ
 after (a ∷ b ∷ c ∷ d ∷ e ∷ f ∷ g ∷ h ∷ bs) = bs
 after _ = []
 
-after-is : (o : ℕ) (bs : List ℕ) → after (octet_bits o ++ bs) ≡ bs
-unfolding after octet_bits
+after-is : (o : ℕ) (bs : List ℕ) → after (bits_of_octet o ++ bs) ≡ bs
+unfolding after bits_of_octet
 after-is o bs = refl
 
-pub octets-same : (os ps bs cs : List ℕ) → length os ≡ length ps → AreOctets os → AreOctets ps → bits_of os ++ bs ≡ bits_of ps ++ cs → os ≡ ps
+pub octets-same : (os ps bs cs : List ℕ) → length os ≡ length ps → AreOctets os → AreOctets ps → bits_of_octets os ++ bs ≡ bits_of_octets ps ++ cs → os ≡ ps
 octets-same [] [] bs cs l p q h = refl
 octets-same (o ∷ os) (p' ∷ ps) bs cs l p q h =
-    let e : octet_bits o ++ (bits_of os ++ bs) ≡ octet_bits p' ++ (bits_of ps ++ cs) = sym (append_assoc (octet_bits o) (bits_of os) bs) ∙ h ∙ append_assoc (octet_bits p') (bits_of ps) cs in
-    let head : o ≡ p' = sym (value-is o (bits_of os ++ bs) p.0) ∙ ap value e ∙ value-is p' (bits_of ps ++ cs) q.0 in
-    let rest : bits_of os ++ bs ≡ bits_of ps ++ cs = sym (after-is o (bits_of os ++ bs)) ∙ ap after e ∙ after-is p' (bits_of ps ++ cs) in
+    let e : bits_of_octet o ++ (bits_of_octets os ++ bs) ≡ bits_of_octet p' ++ (bits_of_octets ps ++ cs) = sym (append_assoc (bits_of_octet o) (bits_of_octets os) bs) ∙ h ∙ append_assoc (bits_of_octet p') (bits_of_octets ps) cs in
+    let head : o ≡ p' = sym (value-is o (bits_of_octets os ++ bs) p.0) ∙ ap value e ∙ value-is p' (bits_of_octets ps ++ cs) q.0 in
+    let rest : bits_of_octets os ++ bs ≡ bits_of_octets ps ++ cs = sym (after-is o (bits_of_octets os ++ bs)) ∙ ap after e ∙ after-is p' (bits_of_octets ps ++ cs) in
     let tail = octets-same os ps bs cs (omega arith) p.1 q.1 rest in
     cc
 octets-same [] (p' ∷ ps) bs cs l p q h = absurd (omega arith)
@@ -157,7 +157,7 @@ words-same one other o p is is' h =
 pub code-length : (information : List ℕ) → IsInformation information → length (code_block information) ≡ 8
 code-length information is = let l = is.seven in length-append information _ ∙ omega arith
 
-pub far : (one other : List ℕ) → IsInformation one → IsInformation other → differences (word (code_block one)) (word (code_block other)) ≤ 3 → one ≡ other
+pub far : (one other : List ℕ) → IsInformation one → IsInformation other → block_differences (word (code_block one)) (word (code_block other)) ≤ 3 → one ≡ other
 far one other is is' few =
     let a = word-bits (code_block one) (code-length one is) in let b = word-bits (code_block other) (code-length other is') in
     words-same one other _ _ is is'

@@ -2,7 +2,7 @@
 use Rattle.std.proofs.Common.{◌≡◌, ℕ, zero, suc, ◌+◌, ◌<◌, ◌≤◌, ◌==◌, if◌then◌else◌, List, [], ◌∷◌, ◌++◌, bit_xor, length, take, refl, ap, sym, ◌∙◌, arith}
 use Rattle.std.proofs.lemmas.Nat.{xor_lt}
 use lib.Bits.{xor_assoc, xor_self, xor_zero_r, xor_zero_l}
-use Rattle.tc_cltu.specs.Bits.{differences}
+use Rattle.tc_cltu.specs.Bits.{block_differences}
 use Rattle.tc_cltu.proofs.Linear.{same}
 
 -- every one is 0 or 1
@@ -104,7 +104,7 @@ place (suc zero) (suc zero) p q = refl
 place (suc (suc b)) c p q = absurd (omega arith)
 place b (suc (suc c)) p q = absurd (omega arith)
 
-pub differences-weight : (bs cs : List ℕ) → AreBits bs → AreBits cs → differences bs cs ≡ weight (xors bs cs)
+pub differences-weight : (bs cs : List ℕ) → AreBits bs → AreBits cs → block_differences bs cs ≡ weight (xors bs cs)
 unfolding xors weight
 differences-weight [] cs p q = refl
 differences-weight (b ∷ bs) [] p q = refl
@@ -112,7 +112,7 @@ differences-weight (b ∷ bs) (c ∷ cs) p q =
     let first = place b c p.0 q.0 in let rest = differences-weight bs cs p.1 q.1 in omega arith
 
 -- no difference: the same
-pub none-same : (bs cs : List ℕ) → length bs ≡ length cs → AreBits bs → AreBits cs → differences bs cs ≡ 0 → bs ≡ cs
+pub none-same : (bs cs : List ℕ) → length bs ≡ length cs → AreBits bs → AreBits cs → block_differences bs cs ≡ 0 → bs ≡ cs
 none-same [] [] l p q h = refl
 none-same [] (c ∷ cs) l p q h = absurd (omega arith)
 none-same (b ∷ bs) [] l p q h = absurd (omega arith)
@@ -137,7 +137,7 @@ triple b (suc (suc c)) d p q r = absurd (omega arith)
 triple b c (suc (suc d)) p q r = absurd (omega arith)
 
 pub by-way : (bs cs ds : List ℕ) → length bs ≡ length cs → length cs ≡ length ds → AreBits bs → AreBits cs → AreBits ds
-    → differences bs ds ≤ differences cs bs + differences cs ds
+    → block_differences bs ds ≤ block_differences cs bs + block_differences cs ds
 by-way [] [] [] l m p q r = omega arith
 by-way (b ∷ bs) (c ∷ cs) (d ∷ ds) l m p q r =
     let first = triple b c d p.0 q.0 r.0 in let rest = by-way bs cs ds (omega arith) (omega arith) p.1 q.1 r.1 in omega arith

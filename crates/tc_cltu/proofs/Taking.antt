@@ -3,8 +3,8 @@ use Rattle.std.proofs.Common.{◌≡◌, ◌≢◌, ◌⊎◌, ℕ, zero, suc, �
 use Rattle.std.proofs.lemmas.Bool.{cases_lt, cases_eq, lt-ltb, le-ltb}
 use Rattle.std.proofs.lemmas.Nat.{xor_lt, pow_below, xor_comm}
 use lib.Bits.{xor_self, xor_assoc, xor_zero_l}
-use Rattle.tc_cltu.specs.Bits.{bits_of, differences}
-use Rattle.tc_cltu.specs.CodeBlock.{IsInformation, parity_of, remainder, code_block, word, errors, most_errors, turned, near, first_within, decoded}
+use Rattle.tc_cltu.specs.Bits.{bits_of_octets, block_differences}
+use Rattle.tc_cltu.specs.CodeBlock.{IsInformation, parity_of, block_remainder, code_block, word, errors, most_errors, flipped, near, first_within, decoded}
 use Rattle.tc_cltu.specs.declared.block.Mode.{Mode}
 use Rattle.tc_cltu.specs.declared.block.Mode.TheVariants.{Detect, Correct}
 use Rattle.tc_cltu.proofs.Linear.{twice}
@@ -16,52 +16,52 @@ use Rattle.tc_cltu.proofs.Distance.{placed, place-of, placed-is, word-bits, octe
 power-fits : (k : ℕ) → 2 ^ (7 - k) < 2 ^ 8
 power-fits k = pow_below (7 - k) 8 (omega arith)
 
-turned-octets : (os : List ℕ) (k : ℕ) → AreOctets os → AreOctets (turned os k)
+turned-octets : (os : List ℕ) (k : ℕ) → AreOctets os → AreOctets (flipped os k)
 turned-octets [] k p = tt
 turned-octets (o ∷ os) k p =
     elim (cases_lt k 8) [
-      | inl low ↦ subst (λ (t : Bool). AreOctets (if t then bit_xor o (2 ^ (7 - k)) ∷ os else o ∷ turned os (k - 8))) (sym (lt-ltb k 8 low))
+      | inl low ↦ subst (λ (t : Bool). AreOctets (if t then bit_xor o (2 ^ (7 - k)) ∷ os else o ∷ flipped os (k - 8))) (sym (lt-ltb k 8 low))
           (xor_lt 8 o (2 ^ (7 - k)) p.0 (power-fits k), p.1)
-      | inr high ↦ subst (λ (t : Bool). AreOctets (if t then bit_xor o (2 ^ (7 - k)) ∷ os else o ∷ turned os (k - 8))) (sym (le-ltb k 8 high))
+      | inr high ↦ subst (λ (t : Bool). AreOctets (if t then bit_xor o (2 ^ (7 - k)) ∷ os else o ∷ flipped os (k - 8))) (sym (le-ltb k 8 high))
           (p.0, turned-octets os (k - 8) p.1)
     ]
 
-pub turned-length : (os : List ℕ) (k : ℕ) → length (turned os k) ≡ length os
+pub turned-length : (os : List ℕ) (k : ℕ) → length (flipped os k) ≡ length os
 turned-length [] k = refl
 turned-length (o ∷ os) k =
     elim (cases_lt k 8) [
-      | inl low ↦ ap (λ (t : Bool). length (if t then bit_xor o (2 ^ (7 - k)) ∷ os else o ∷ turned os (k - 8))) (lt-ltb k 8 low)
-      | inr high ↦ ap (λ (t : Bool). length (if t then bit_xor o (2 ^ (7 - k)) ∷ os else o ∷ turned os (k - 8))) (le-ltb k 8 high)
-          ∙ (let rest = turned-length os (k - 8) in let e : length (o ∷ turned os (k - 8)) ≡ length (o ∷ os) = omega arith in e)
+      | inl low ↦ ap (λ (t : Bool). length (if t then bit_xor o (2 ^ (7 - k)) ∷ os else o ∷ flipped os (k - 8))) (lt-ltb k 8 low)
+      | inr high ↦ ap (λ (t : Bool). length (if t then bit_xor o (2 ^ (7 - k)) ∷ os else o ∷ flipped os (k - 8))) (le-ltb k 8 high)
+          ∙ (let rest = turned-length os (k - 8) in let e : length (o ∷ flipped os (k - 8)) ≡ length (o ∷ os) = omega arith in e)
     ]
 
-turned-good : (information : List ℕ) (k : ℕ) → IsInformation information → IsInformation (turned information k)
+turned-good : (information : List ℕ) (k : ℕ) → IsInformation information → IsInformation (flipped information k)
 turned-good information k is = record {
-  each = is-octets (turned information k) (turned-octets information k (are-octets information is.each));
+  each = is-octets (flipped information k) (turned-octets information k (are-octets information is.each));
   seven = turned-length information k ∙ is.seven;
 }
 
-turned-front : (os ps : List ℕ) (k : ℕ) → k < 8 * length os → turned (os ++ ps) k ≡ turned os k ++ ps
+turned-front : (os ps : List ℕ) (k : ℕ) → k < 8 * length os → flipped (os ++ ps) k ≡ flipped os k ++ ps
 turned-front [] ps k less = absurd (omega arith)
 turned-front (o ∷ os) ps k less =
     elim (cases_lt k 8) [
       | inl low ↦
-          ap (λ (t : Bool). if t then bit_xor o (2 ^ (7 - k)) ∷ (os ++ ps) else o ∷ turned (os ++ ps) (k - 8)) (lt-ltb k 8 low)
-          ∙ sym (ap (λ (t : Bool). (if t then bit_xor o (2 ^ (7 - k)) ∷ os else o ∷ turned os (k - 8)) ++ ps) (lt-ltb k 8 low))
+          ap (λ (t : Bool). if t then bit_xor o (2 ^ (7 - k)) ∷ (os ++ ps) else o ∷ flipped (os ++ ps) (k - 8)) (lt-ltb k 8 low)
+          ∙ sym (ap (λ (t : Bool). (if t then bit_xor o (2 ^ (7 - k)) ∷ os else o ∷ flipped os (k - 8)) ++ ps) (lt-ltb k 8 low))
       | inr high ↦
-          ap (λ (t : Bool). if t then bit_xor o (2 ^ (7 - k)) ∷ (os ++ ps) else o ∷ turned (os ++ ps) (k - 8)) (le-ltb k 8 high)
+          ap (λ (t : Bool). if t then bit_xor o (2 ^ (7 - k)) ∷ (os ++ ps) else o ∷ flipped (os ++ ps) (k - 8)) (le-ltb k 8 high)
           ∙ ap (λ (x : List ℕ). o ∷ x) (turned-front os ps (k - 8) (omega arith))
-          ∙ sym (ap (λ (t : Bool). (if t then bit_xor o (2 ^ (7 - k)) ∷ os else o ∷ turned os (k - 8)) ++ ps) (le-ltb k 8 high))
+          ∙ sym (ap (λ (t : Bool). (if t then bit_xor o (2 ^ (7 - k)) ∷ os else o ∷ flipped os (k - 8)) ++ ps) (le-ltb k 8 high))
     ]
 
-turned-back : (os ps : List ℕ) (k : ℕ) → 8 * length os ≤ k → turned (os ++ ps) k ≡ os ++ turned ps (k - 8 * length os)
-turned-back [] ps k less = let e : k ≡ k - 8 * 0 = omega arith in ap (turned ps) e
+turned-back : (os ps : List ℕ) (k : ℕ) → 8 * length os ≤ k → flipped (os ++ ps) k ≡ os ++ flipped ps (k - 8 * length os)
+turned-back [] ps k less = let e : k ≡ k - 8 * 0 = omega arith in ap (flipped ps) e
 turned-back (o ∷ os) ps k less =
     let high : 8 ≤ k = omega arith in
     let e : k - 8 - 8 * length os ≡ k - 8 * length (o ∷ os) = omega arith in
-    ap (λ (t : Bool). if t then bit_xor o (2 ^ (7 - k)) ∷ (os ++ ps) else o ∷ turned (os ++ ps) (k - 8)) (le-ltb k 8 high)
+    ap (λ (t : Bool). if t then bit_xor o (2 ^ (7 - k)) ∷ (os ++ ps) else o ∷ flipped (os ++ ps) (k - 8)) (le-ltb k 8 high)
     ∙ ap (λ (x : List ℕ). o ∷ x) (turned-back os ps (k - 8) (omega arith))
-    ∙ ap (λ (n : ℕ). o ∷ (os ++ turned ps n)) e
+    ∙ ap (λ (n : ℕ). o ∷ (os ++ flipped ps n)) e
 
 -- ---- the first within a limit
 first-is : (limit : ℕ) (block : List ℕ) (xs : List (List ℕ)) (y : List ℕ) → first_within limit block xs ≡ Some y → errors block y ≤ limit
@@ -84,7 +84,7 @@ first-good limit block information zero y good h =
           let is : information ≡ y = cc in subst IsInformation is good
     ]
 first-good limit block information (suc n) y good h =
-    let x = turned information n in let more = first_within limit block (near information n) in
+    let x = flipped information n in let more = first_within limit block (near information n) in
     elim (cases_lt limit (errors block x)) [
       | inl over ↦ first-good limit block information n y good (sym (ap (λ (t : Bool). if t then more else Some x) (lt-ltb limit (errors block x) over)) ∙ h)
       | inr within ↦
@@ -95,20 +95,20 @@ first-good limit block information (suc n) y good h =
 first-own : (limit : ℕ) (block information : List ℕ) (n : ℕ) → errors block information ≤ limit → (y : List ℕ) × (first_within limit block (near information n) ≡ Some y)
 first-own limit block information zero within = (information, ap (λ (t : Bool). if t then None else Some information) (le-ltb limit (errors block information) within))
 first-own limit block information (suc n) within =
-    let x = turned information n in let more = first_within limit block (near information n) in
+    let x = flipped information n in let more = first_within limit block (near information n) in
     elim (cases_lt limit (errors block x)) [
       | inl over ↦ let rest = first-own limit block information n within in (rest.0, ap (λ (t : Bool). if t then more else Some x) (lt-ltb limit (errors block x) over) ∙ rest.1)
       | inr here ↦ (x, ap (λ (t : Bool). if t then more else Some x) (le-ltb limit (errors block x) here))
     ]
 
-first-turned : (limit : ℕ) (block information : List ℕ) (n k : ℕ) → k < n → errors block (turned information k) ≤ limit
+first-turned : (limit : ℕ) (block information : List ℕ) (n k : ℕ) → k < n → errors block (flipped information k) ≤ limit
     → (y : List ℕ) × (first_within limit block (near information n) ≡ Some y)
 first-turned limit block information zero k less within = absurd (omega arith)
 first-turned limit block information (suc n) k less within =
-    let x = turned information n in let more = first_within limit block (near information n) in
+    let x = flipped information n in let more = first_within limit block (near information n) in
     elim (cases_lt limit (errors block x)) [
       | inl over ↦
-          let other : k ≢ n = λ (e : k ≡ n). let w : errors block x ≤ limit = subst (λ (m : ℕ). errors block (turned information m) ≤ limit) e within in omega arith in
+          let other : k ≢ n = λ (e : k ≡ n). let w : errors block x ≤ limit = subst (λ (m : ℕ). errors block (flipped information m) ≤ limit) e within in omega arith in
           let rest = first-turned limit block information n k (omega arith) within in
           (rest.0, ap (λ (t : Bool). if t then more else Some x) (lt-ltb limit (errors block x) over) ∙ rest.1)
       | inr here ↦ (x, ap (λ (t : Bool). if t then more else Some x) (le-ltb limit (errors block x) here))
@@ -121,7 +121,7 @@ take-front [] ps (suc n) l = absurd (omega arith)
 take-front (o ∷ os) ps zero l = absurd (omega arith)
 take-front (o ∷ os) ps (suc n) l = ap (λ (x : List ℕ). o ∷ x) (take-front os ps n (omega arith))
 
-differences-append : (xs bs cs ds : List ℕ) → length xs ≡ length cs → differences (xs ++ bs) (cs ++ ds) ≡ differences xs cs + differences bs ds
+differences-append : (xs bs cs ds : List ℕ) → length xs ≡ length cs → block_differences (xs ++ bs) (cs ++ ds) ≡ block_differences xs cs + block_differences bs ds
 differences-append [] bs [] ds l = omega arith
 differences-append (x ∷ xs) bs (c ∷ cs) ds l = let rest = differences-append xs bs cs ds (omega arith) in omega arith
 differences-append [] bs (c ∷ cs) ds l = absurd (omega arith)
@@ -134,7 +134,7 @@ few Correct = omega arith
 block-length : (own : List ℕ) (last : ℕ) → length own ≡ 7 → length (own ++ last ∷ []) ≡ 8
 block-length own last l = length-append own (last ∷ []) ∙ omega arith
 
-fifty-six : (own : List ℕ) → length own ≡ 7 → length (bits_of own) ≡ 56
+fifty-six : (own : List ℕ) → length own ≡ 7 → length (bits_of_octets own) ≡ 56
 fifty-six own l = bits-length own ∙ ap (λ (n : ℕ). 8 * n) l
 
 -- a candidate is found
@@ -142,29 +142,29 @@ some-found : (own information : List ℕ) (last limit : ℕ) → IsInformation o
     → (y : List ℕ) × (first_within limit (own ++ last ∷ []) (near own 56) ≡ Some y)
 some-found own information last limit good is low within =
     let block = own ++ last ∷ [] in
-    let long : length (bits_of own) ≡ length (bits_of information) = fifty-six own good.seven ∙ sym (fifty-six information is.seven) in
-    let split : errors block information ≡ differences (bits_of own) (bits_of information) + differences (seven last) (seven (parity_of information * 2)) =
-    ap (λ (x : List ℕ). differences x (word (code_block information))) (word-parts own last good.seven)
-    ∙ ap (differences (bits_of own ++ seven last)) (word-parts information (parity_of information * 2) is.seven)
-    ∙ differences-append (bits_of own) (seven last) (bits_of information) (seven (parity_of information * 2)) long in
-    elim (cases_eq (differences (bits_of own) (bits_of information)) 0) [
+    let long : length (bits_of_octets own) ≡ length (bits_of_octets information) = fifty-six own good.seven ∙ sym (fifty-six information is.seven) in
+    let split : errors block information ≡ block_differences (bits_of_octets own) (bits_of_octets information) + block_differences (seven last) (seven (parity_of information * 2)) =
+    ap (λ (x : List ℕ). block_differences x (word (code_block information))) (word-parts own last good.seven)
+    ∙ ap (block_differences (bits_of_octets own ++ seven last)) (word-parts information (parity_of information * 2) is.seven)
+    ∙ differences-append (bits_of_octets own) (seven last) (bits_of_octets information) (seven (parity_of information * 2)) long in
+    elim (cases_eq (block_differences (bits_of_octets own) (bits_of_octets information)) 0) [
       | inl none ↦
-          let same_bits : bits_of own ≡ bits_of information = none-same (bits_of own) (bits_of information) long (are-bits own) (are-bits information) none in
+          let same_bits : bits_of_octets own ≡ bits_of_octets information = none-same (bits_of_octets own) (bits_of_octets information) long (are-bits own) (are-bits information) none in
           let is_own : information ≡ own =
           sym (octets-same own information [] [] (good.seven ∙ sym is.seven) (are-octets own good.each) (are-octets information is.each) (ap (λ (x : List ℕ). x ++ []) same_bits)) in
           first-own limit block own 56 (subst (λ (z : List ℕ). errors block z ≤ limit) is_own within)
       | inr some ↦
-          let e = xors (bits_of own) (bits_of information) in
-          let one : weight e ≡ 1 = sym (differences-weight (bits_of own) (bits_of information) (are-bits own) (are-bits information)) ∙ omega arith in
-          let s = one-is e (xors-bits (bits_of own) (bits_of information) (are-bits own) (are-bits information)) one in
-          let e_long : length e ≡ 56 = xors-length (bits_of own) (bits_of information) long ∙ fifty-six own good.seven in
+          let e = xors (bits_of_octets own) (bits_of_octets information) in
+          let one : weight e ≡ 1 = sym (differences-weight (bits_of_octets own) (bits_of_octets information) (are-bits own) (are-bits information)) ∙ omega arith in
+          let s = one-is e (xors-bits (bits_of_octets own) (bits_of_octets information) (are-bits own) (are-bits information)) one in
+          let e_long : length e ≡ 56 = xors-length (bits_of_octets own) (bits_of_octets information) long ∙ fifty-six own good.seven in
           let k = s.0 in
           let k_less : k < 56 = let a = s.1 in omega arith in
-          let is_bits : bits_of (turned own k) ≡ bits_of information =
-          bits-turned own k 56 (fifty-six own good.seven) k_less ∙ ap (xors (bits_of own)) (ap (single k) (sym e_long) ∙ sym s.2) ∙ xors-back (bits_of own) (bits_of information) long in
+          let is_bits : bits_of_octets (flipped own k) ≡ bits_of_octets information =
+          bits-turned own k 56 (fifty-six own good.seven) k_less ∙ ap (xors (bits_of_octets own)) (ap (single k) (sym e_long) ∙ sym s.2) ∙ xors-back (bits_of_octets own) (bits_of_octets information) long in
           let good' = turned-good own k good in
-          let is_turned : information ≡ turned own k =
-          sym (octets-same (turned own k) information [] [] (good'.seven ∙ sym is.seven) (are-octets (turned own k) good'.each) (are-octets information is.each) (ap (λ (x : List ℕ). x ++ []) is_bits)) in
+          let is_turned : information ≡ flipped own k =
+          sym (octets-same (flipped own k) information [] [] (good'.seven ∙ sym is.seven) (are-octets (flipped own k) good'.each) (are-octets information is.each) (ap (λ (x : List ℕ). x ++ []) is_bits)) in
           first-turned limit block own 56 k k_less (subst (λ (z : List ℕ). errors block z ≤ limit) is_turned within)
     ]
 
@@ -212,12 +212,12 @@ syndrome own last = bit_xor (parity_of own) (last / 2)
 left-syndrome : (own : List ℕ) (last : ℕ) → IsInformation own → last < 256 → left 0 (word (own ++ last ∷ [])) ≡ bit_xor 127 (syndrome own last)
 unfolding syndrome
 left-syndrome own last good fits =
-    let r = remainder 0 (bits_of own) in
+    let r = block_remainder 0 (bits_of_octets own) in
     word-left own last good.seven fits
     ∙ sym (xor_zero_l (bit_xor r (last / 2))) ∙ ap (λ (x : ℕ). bit_xor x (bit_xor r (last / 2))) (sym (xor_self 127)) ∙ xor_assoc 127 127 (bit_xor r (last / 2))
     ∙ ap (bit_xor 127) (sym (xor_assoc 127 r (last / 2)))
 
-differences-self : (bs : List ℕ) → AreBits bs → differences bs bs ≡ 0
+differences-self : (bs : List ℕ) → AreBits bs → block_differences bs bs ≡ 0
 differences-self [] p = refl
 differences-self (zero ∷ bs) p = let rest = differences-self bs p.1 in omega arith
 differences-self (suc zero ∷ bs) p = let rest = differences-self bs p.1 in omega arith
@@ -228,12 +228,12 @@ none-wrong mode own last good fits s =
     let l : left 0 (word (own ++ last ∷ [])) ≡ 127 = left-syndrome own last good fits ∙ ap (bit_xor 127) s in
     let w = left-block own last good.seven fits l in
     let own_bits = word-bits (own ++ last ∷ []) (block-length own last good.seven) in
-    let e : errors (own ++ last ∷ []) own ≡ 0 = sym (ap (differences (word (own ++ last ∷ []))) w) ∙ differences-self (word (own ++ last ∷ [])) own_bits.1 in
+    let e : errors (own ++ last ∷ []) own ≡ 0 = sym (ap (block_differences (word (own ++ last ∷ []))) w) ∙ differences-self (word (own ++ last ∷ [])) own_bits.1 in
     taken mode own last own good good (omega arith)
 
 -- the block with bit k the other way round is a code block
 one-turned : (own : List ℕ) (last k : ℕ) (own' : List ℕ) (last' : ℕ) → IsInformation own → last < 256 → k < 63 → left 0 (single k 63) ≡ syndrome own last
-    → IsInformation own' → last' < 256 → turned (own ++ last ∷ []) k ≡ own' ++ last' ∷ [] → decoded Correct (own ++ last ∷ []) ≡ Some own'
+    → IsInformation own' → last' < 256 → flipped (own ++ last ∷ []) k ≡ own' ++ last' ∷ [] → decoded Correct (own ++ last ∷ []) ≡ Some own'
 one-turned own last k own' last' good fits less s good' fits' is =
     let block = own ++ last ∷ [] in
     let l = block-length own last good.seven in
@@ -250,11 +250,11 @@ one-turned own last k own' last' good fits less s good' fits' is =
     taken Correct own last own' good good' (omega arith)
 
 information-wrong : (own : List ℕ) (last : ℕ) → IsInformation own → last < 256 → syndrome own last < 128 → placed (syndrome own last) < 56
-    → decoded Correct (own ++ last ∷ []) ≡ Some (turned own (placed (syndrome own last)))
+    → decoded Correct (own ++ last ∷ []) ≡ Some (flipped own (placed (syndrome own last)))
 information-wrong own last good fits small less =
     let k = placed (syndrome own last) in
     let seven_long = good.seven in
-    one-turned own last k (turned own k) last good fits (omega arith) (placed-is (syndrome own last) small (omega arith)) (turned-good own k good) fits
+    one-turned own last k (flipped own k) last good fits (omega arith) (placed-is (syndrome own last) small (omega arith)) (turned-good own k good) fits
     (turned-front own (last ∷ []) k (omega arith))
 
 parity-wrong : (own : List ℕ) (last : ℕ) → IsInformation own → last < 256 → syndrome own last < 128 → 56 ≤ placed (syndrome own last) → placed (syndrome own last) < 63
@@ -266,19 +266,19 @@ parity-wrong own last good fits small more less =
     let low : k - 56 < 8 = omega arith in
     let last' = bit_xor last (2 ^ (7 - (k - 56))) in
     one-turned own last k own last' good fits less (placed-is (syndrome own last) small less) good (xor_lt 8 last (2 ^ (7 - (k - 56))) fits (power-fits (k - 56)))
-    (turned-back own (last ∷ []) k (omega arith) ∙ ap (λ (n : ℕ). own ++ turned (last ∷ []) n) at
-    ∙ ap (λ (t : Bool). own ++ (if t then last' ∷ [] else last ∷ turned [] (k - 56 - 8))) (lt-ltb (k - 56) 8 low))
+    (turned-back own (last ∷ []) k (omega arith) ∙ ap (λ (n : ℕ). own ++ flipped (last ∷ []) n) at
+    ∙ ap (λ (t : Bool). own ++ (if t then last' ∷ [] else last ∷ flipped [] (k - 56 - 8))) (lt-ltb (k - 56) 8 low))
 
 -- past the octets, nothing is turned
-pub turned-past : (os : List ℕ) (k : ℕ) → 8 * length os ≤ k → turned os k ≡ os
+pub turned-past : (os : List ℕ) (k : ℕ) → 8 * length os ≤ k → flipped os k ≡ os
 turned-past [] k less = refl
 turned-past (o ∷ os) k less =
     let high : 8 ≤ k = omega arith in
-    ap (λ (t : Bool). if t then bit_xor o (2 ^ (7 - k)) ∷ os else o ∷ turned os (k - 8)) (le-ltb k 8 high)
+    ap (λ (t : Bool). if t then bit_xor o (2 ^ (7 - k)) ∷ os else o ∷ flipped os (k - 8)) (le-ltb k 8 high)
     ∙ ap (λ (x : List ℕ). o ∷ x) (turned-past os (k - 8) (omega arith))
 
 pub one-wrong : (own : List ℕ) (last : ℕ) → IsInformation own → last < 256 → syndrome own last < 128 → placed (syndrome own last) < 63
-    → decoded Correct (own ++ last ∷ []) ≡ Some (turned own (placed (syndrome own last)))
+    → decoded Correct (own ++ last ∷ []) ≡ Some (flipped own (placed (syndrome own last)))
 one-wrong own last good fits small less =
     elim (cases_lt (placed (syndrome own last)) 56) [
       | inl low ↦ information-wrong own last good fits small low
@@ -299,20 +299,20 @@ power (suc (suc (suc (suc (suc (suc zero)))))) less = refl
 power (suc (suc (suc (suc (suc (suc (suc zero))))))) less = refl
 power (suc (suc (suc (suc (suc (suc (suc (suc m)))))))) less = absurd (omega arith)
 
-pub turned-set : (os : List ℕ) (k : ℕ) → k / 8 < length os → turned os k ≡ set os (k / 8) (bit_xor (get_or os (k / 8) 0) (128 / 2 ^ (k % 8)))
+pub turned-set : (os : List ℕ) (k : ℕ) → k / 8 < length os → flipped os k ≡ set os (k / 8) (bit_xor (get_or os (k / 8) 0) (128 / 2 ^ (k % 8)))
 turned-set [] k less = absurd (omega arith)
 turned-set (o ∷ os) k less =
     elim (cases_lt k 8) [
       | inl low ↦
           let q : 0 ≡ k / 8 = omega arith in
           let m : k ≡ k % 8 = omega arith in
-          ap (λ (t : Bool). if t then bit_xor o (2 ^ (7 - k)) ∷ os else o ∷ turned os (k - 8)) (lt-ltb k 8 low)
+          ap (λ (t : Bool). if t then bit_xor o (2 ^ (7 - k)) ∷ os else o ∷ flipped os (k - 8)) (lt-ltb k 8 low)
           ∙ ap (λ (x : ℕ). bit_xor o x ∷ os) (power k low ∙ ap (λ (x : ℕ). 128 / 2 ^ x) m)
           ∙ ap (λ (x : ℕ). set (o ∷ os) x (bit_xor (get_or (o ∷ os) x 0) (128 / 2 ^ (k % 8)))) q
       | inr high ↦
           let q : suc ((k - 8) / 8) ≡ k / 8 = omega arith in
           let m : (k - 8) % 8 ≡ k % 8 = omega arith in
-          ap (λ (t : Bool). if t then bit_xor o (2 ^ (7 - k)) ∷ os else o ∷ turned os (k - 8)) (le-ltb k 8 high)
+          ap (λ (t : Bool). if t then bit_xor o (2 ^ (7 - k)) ∷ os else o ∷ flipped os (k - 8)) (le-ltb k 8 high)
           ∙ ap (λ (x : List ℕ). o ∷ x) (turned-set os (k - 8) (omega arith))
           ∙ ap (λ (x : ℕ). o ∷ set os ((k - 8) / 8) (bit_xor (get_or os ((k - 8) / 8) 0) (128 / 2 ^ x))) m
           ∙ ap (λ (x : ℕ). set (o ∷ os) x (bit_xor (get_or (o ∷ os) x 0) (128 / 2 ^ (k % 8)))) q

@@ -1,8 +1,8 @@
 -- Code blocks with some bits the other way round.
 use Rattle.std.proofs.Common.{◌≡◌, ℕ, zero, suc, ◌<◌, ◌==◌, if◌then◌else◌, List, [], ◌∷◌, bit_xor, length, refl, ap, sym, ◌∙◌, arith}
 use lib.Bits.{xor_assoc}
-use Rattle.tc_cltu.specs.Bits.{differences}
-use Rattle.tc_cltu.specs.CodeBlock.{IsInformation, code_block, word, errors, turned}
+use Rattle.tc_cltu.specs.Bits.{block_differences}
+use Rattle.tc_cltu.specs.CodeBlock.{IsInformation, code_block, word, errors, flipped}
 use Rattle.tc_cltu.proofs.Patterns.{AreBits, xors, weight, zeros, single, xors-bits, xors-length, zeros-xors, single-length, single-weight}
 use Rattle.tc_cltu.proofs.Words.{word-turned}
 use Rattle.tc_cltu.proofs.Distance.{word-bits, code-length}
@@ -25,7 +25,7 @@ place-sum (suc zero) (suc zero) p q = refl
 place-sum (suc (suc c)) e p q = absurd (omega arith)
 place-sum c (suc (suc e)) p q = absurd (omega arith)
 
-differences-sum : (cs es : List ℕ) → length cs ≡ length es → AreBits cs → AreBits es → differences (xors cs es) cs ≡ weight es
+differences-sum : (cs es : List ℕ) → length cs ≡ length es → AreBits cs → AreBits es → block_differences (xors cs es) cs ≡ weight es
 unfolding xors weight
 differences-sum [] [] l p q = refl
 differences-sum [] (e ∷ es) l p q = absurd (omega arith)
@@ -71,43 +71,43 @@ length-single : (i j : ℕ) → length (single i 63) ≡ length (single j 63)
 length-single i j = single-length i 63 ∙ sym (single-length j 63)
 
 added : (information es : List ℕ) → IsInformation information → length es ≡ 63 → AreBits es
-    → differences (xors (word (code_block information)) es) (word (code_block information)) ≡ weight es
+    → block_differences (xors (word (code_block information)) es) (word (code_block information)) ≡ weight es
 added information es is l bits =
     let w = word-bits (code_block information) (code-length information is) in
     differences-sum (word (code_block information)) es (w.0 ∙ sym l) w.1 bits
 
-pub one-error : (information : List ℕ) (i : ℕ) → IsInformation information → i < 63 → errors (turned (code_block information) i) information ≡ 1
+pub one-error : (information : List ℕ) (i : ℕ) → IsInformation information → i < 63 → errors (flipped (code_block information) i) information ≡ 1
 one-error information i is less =
     let w = word (code_block information) in
-    ap (λ (x : List ℕ). differences x w) (word-turned (code_block information) i (code-length information is) less)
+    ap (λ (x : List ℕ). block_differences x w) (word-turned (code_block information) i (code-length information is) less)
     ∙ added information (single i 63) is (single-length i 63) (single-bits i 63) ∙ single-weight i 63 less
 
-word-twice : (block : List ℕ) (i j : ℕ) → length block ≡ 8 → i < 63 → j < 63 → word (turned (turned block i) j) ≡ xors (word block) (xors (single i 63) (single j 63))
+word-twice : (block : List ℕ) (i j : ℕ) → length block ≡ 8 → i < 63 → j < 63 → word (flipped (flipped block i) j) ≡ xors (word block) (xors (single i 63) (single j 63))
 word-twice block i j l i_less j_less =
-    word-turned (turned block i) j (turned-length block i ∙ l) j_less
+    word-turned (flipped block i) j (turned-length block i ∙ l) j_less
     ∙ ap (λ (x : List ℕ). xors x (single j 63)) (word-turned block i l i_less)
     ∙ xors-assoc (word block) (single i 63) (single j 63)
 
-pub two-errors : (information : List ℕ) (i j : ℕ) → IsInformation information → i < j → j < 63 → errors (turned (turned (code_block information) i) j) information ≡ 2
+pub two-errors : (information : List ℕ) (i j : ℕ) → IsInformation information → i < j → j < 63 → errors (flipped (flipped (code_block information) i) j) information ≡ 2
 two-errors information i j is before less =
     let w = word (code_block information) in let es = xors (single i 63) (single j 63) in
-    ap (λ (x : List ℕ). differences x w) (word-twice (code_block information) i j (code-length information is) (omega arith) less)
+    ap (λ (x : List ℕ). block_differences x w) (word-twice (code_block information) i j (code-length information is) (omega arith) less)
     ∙ added information es is (xors-length (single i 63) (single j 63) (length-single i j) ∙ single-length i 63)
     (xors-bits (single i 63) (single j 63) (single-bits i 63) (single-bits j 63))
     ∙ two-ones i j 63 before less
 
 pub three-errors : (information : List ℕ) (i j k : ℕ) → IsInformation information → i < j → j < k → k < 63
-    → errors (turned (turned (turned (code_block information) i) j) k) information ≡ 3
+    → errors (flipped (flipped (flipped (code_block information) i) j) k) information ≡ 3
 three-errors information i j k is before next less =
     let block = code_block information in let l = code-length information is in
     let two = xors (single i 63) (single j 63) in let es = xors two (single k 63) in
     let two_long : length two ≡ 63 = xors-length (single i 63) (single j 63) (length-single i j) ∙ single-length i 63 in
     let two_bits = xors-bits (single i 63) (single j 63) (single-bits i 63) (single-bits j 63) in
-    let whole : word (turned (turned (turned block i) j) k) ≡ xors (word block) es =
-    word-turned (turned (turned block i) j) k (turned-length (turned block i) j ∙ turned-length block i ∙ l) less
+    let whole : word (flipped (flipped (flipped block i) j) k) ≡ xors (word block) es =
+    word-turned (flipped (flipped block i) j) k (turned-length (flipped block i) j ∙ turned-length block i ∙ l) less
     ∙ ap (λ (x : List ℕ). xors x (single k 63)) (word-twice block i j l (omega arith) (omega arith))
     ∙ xors-assoc (word block) two (single k 63) in
-    ap (λ (x : List ℕ). differences x (word block)) whole
+    ap (λ (x : List ℕ). block_differences x (word block)) whole
     ∙ added information es is (xors-length two (single k 63) (two_long ∙ sym (single-length k 63)) ∙ two_long)
     (xors-bits two (single k 63) two_bits (single-bits k 63))
     ∙ three-ones i j k 63 before next less

@@ -3,8 +3,8 @@ use Rattle.std.proofs.Common.{◌≡◌, ℕ, zero, suc, ◌+◌, ◌-◌, ◌*�
 use Rattle.std.proofs.lemmas.Bool.{eqb-true, cases_lt, lt-ltb, le-ltb}
 use Rattle.std.proofs.lemmas.Nat.{xor_lt, xor_comm}
 use lib.Bits.{xor_assoc, xor_self, xor_zero_r, xor_zero_l}
-use Rattle.tc_cltu.specs.Bits.{bit, octet_bits, bits_of, IsOctets}
-use Rattle.tc_cltu.specs.CodeBlock.{times_x, with_bit, remainder, parity_of, code_block, word, turned}
+use Rattle.tc_cltu.specs.Bits.{bit_at, bits_of_octet, bits_of_octets, AreOctetValues}
+use Rattle.tc_cltu.specs.CodeBlock.{block_times_x, block_with_bit, block_remainder, parity_of, code_block, word, flipped}
 use Rattle.tc_cltu.proofs.Each.{both, each, each-holds}
 use Rattle.tc_cltu.proofs.Linear.{exchange, bit_of_sum, times_x-linear, remainder-fits}
 use Rattle.tc_cltu.proofs.Patterns.{AreBits, xors, zeros, single, xors-append, xors-zeros, xors-take, zeros-length, single-length, single-take}
@@ -14,11 +14,11 @@ abbrev pub AreOctets : List ℕ → Type 0
 AreOctets [] = Unit {0}
 AreOctets (o ∷ os) = (o < 256) × AreOctets os
 
-pub are-octets : (os : List ℕ) → IsOctets os → AreOctets os
+pub are-octets : (os : List ℕ) → AreOctetValues os → AreOctets os
 are-octets [] h = tt
 are-octets (o ∷ os) h = (h 0, are-octets os (λ i. h (suc i)))
 
-pub is-octets : (os : List ℕ) → AreOctets os → IsOctets os
+pub is-octets : (os : List ℕ) → AreOctets os → AreOctetValues os
 is-octets [] h i = omega arith
 is-octets (o ∷ os) h zero = h.0
 is-octets (o ∷ os) h (suc i) = is-octets os h.1 i
@@ -28,32 +28,32 @@ pub bits-append : (bs cs : List ℕ) → AreBits bs → AreBits cs → AreBits (
 bits-append [] cs p q = q
 bits-append (b ∷ bs) cs p q = (p.0, bits-append bs cs p.1 q)
 
-pub are-bits : (os : List ℕ) → AreBits (bits_of os)
-unfolding octet_bits
+pub are-bits : (os : List ℕ) → AreBits (bits_of_octets os)
+unfolding bits_of_octet
 are-bits [] = tt
 are-bits (o ∷ os) = (omega arith, (omega arith, (omega arith, (omega arith, (omega arith, (omega arith, (omega arith, (omega arith, are-bits os))))))))
 
-pub bits-length : (os : List ℕ) → length (bits_of os) ≡ 8 * length os
-unfolding octet_bits
+pub bits-length : (os : List ℕ) → length (bits_of_octets os) ≡ 8 * length os
+unfolding bits_of_octet
 bits-length [] = refl
 bits-length (o ∷ os) = let rest = bits-length os in omega arith
 
 abbrev pub seven : ℕ → List ℕ
-seven o = bit o 7 ∷ bit o 6 ∷ bit o 5 ∷ bit o 4 ∷ bit o 3 ∷ bit o 2 ∷ bit o 1 ∷ []
+seven o = bit_at o 7 ∷ bit_at o 6 ∷ bit_at o 5 ∷ bit_at o 4 ∷ bit_at o 3 ∷ bit_at o 2 ∷ bit_at o 1 ∷ []
 
 sevens : ℕ → List ℕ
-sevens h = bit h 6 ∷ bit h 5 ∷ bit h 4 ∷ bit h 3 ∷ bit h 2 ∷ bit h 1 ∷ bit h 0 ∷ []
+sevens h = bit_at h 6 ∷ bit_at h 5 ∷ bit_at h 4 ∷ bit_at h 3 ∷ bit_at h 2 ∷ bit_at h 1 ∷ bit_at h 0 ∷ []
 
 seven-half : (o : ℕ) → seven o ≡ sevens (o / 2)
 unfolding sevens
 seven-half o =
-    let a : bit o 7 ≡ bit (o / 2) 6 = omega arith in
-    let b : bit o 6 ≡ bit (o / 2) 5 = omega arith in
-    let c : bit o 5 ≡ bit (o / 2) 4 = omega arith in
-    let d : bit o 4 ≡ bit (o / 2) 3 = omega arith in
-    let e : bit o 3 ≡ bit (o / 2) 2 = omega arith in
-    let f : bit o 2 ≡ bit (o / 2) 1 = omega arith in
-    let g : bit o 1 ≡ bit (o / 2) 0 = omega arith in
+    let a : bit_at o 7 ≡ bit_at (o / 2) 6 = omega arith in
+    let b : bit_at o 6 ≡ bit_at (o / 2) 5 = omega arith in
+    let c : bit_at o 5 ≡ bit_at (o / 2) 4 = omega arith in
+    let d : bit_at o 4 ≡ bit_at (o / 2) 3 = omega arith in
+    let e : bit_at o 3 ≡ bit_at (o / 2) 2 = omega arith in
+    let f : bit_at o 2 ≡ bit_at (o / 2) 1 = omega arith in
+    let g : bit_at o 1 ≡ bit_at (o / 2) 0 = omega arith in
     cc
 
 seven-alike : (o p : ℕ) → o / 2 ≡ p / 2 → seven o ≡ seven p
@@ -65,66 +65,66 @@ seven-bits o = (omega arith, (omega arith, (omega arith, (omega arith, (omega ar
 -- ---- division, as the bits come
 unfoldable pub left : ℕ → List ℕ → ℕ
 left r [] = r
-left r (b ∷ bs) = left (bit_xor (times_x r) b) bs
+left r (b ∷ bs) = left (bit_xor (block_times_x r) b) bs
 
 unfoldable pub steps : ℕ → ℕ → ℕ
 steps zero r = r
-steps (suc n) r = steps n (times_x r)
+steps (suc n) r = steps n (block_times_x r)
 
 pub left-linear : (bs cs : List ℕ) (r s : ℕ) → length bs ≡ length cs → left (bit_xor r s) (xors bs cs) ≡ bit_xor (left r bs) (left s cs)
 unfolding left xors
 left-linear [] [] r s l = refl
 left-linear (b ∷ bs) (c ∷ cs) r s l =
-    ap (λ (x : ℕ). left x (xors bs cs)) (ap (λ (x : ℕ). bit_xor x (bit_xor b c)) (times_x-linear r s) ∙ exchange (times_x r) (times_x s) b c)
-    ∙ left-linear bs cs (bit_xor (times_x r) b) (bit_xor (times_x s) c) (omega arith)
+    ap (λ (x : ℕ). left x (xors bs cs)) (ap (λ (x : ℕ). bit_xor x (bit_xor b c)) (times_x-linear r s) ∙ exchange (block_times_x r) (block_times_x s) b c)
+    ∙ left-linear bs cs (bit_xor (block_times_x r) b) (bit_xor (block_times_x s) c) (omega arith)
 left-linear [] (c ∷ cs) r s l = absurd (omega arith)
 left-linear (b ∷ bs) [] r s l = absurd (omega arith)
 
 left-onward : (cs bs : List ℕ) (r : ℕ) → left r (cs ++ bs) ≡ left (left r cs) bs
 unfolding left
 left-onward [] bs r = refl
-left-onward (c ∷ cs) bs r = left-onward cs bs (bit_xor (times_x r) c)
+left-onward (c ∷ cs) bs r = left-onward cs bs (bit_xor (block_times_x r) c)
 
 steps-linear : (n a b : ℕ) → steps n (bit_xor a b) ≡ bit_xor (steps n a) (steps n b)
 unfolding steps
 steps-linear zero a b = refl
-steps-linear (suc n) a b = ap (steps n) (times_x-linear a b) ∙ steps-linear n (times_x a) (times_x b)
+steps-linear (suc n) a b = ap (steps n) (times_x-linear a b) ∙ steps-linear n (block_times_x a) (block_times_x b)
 
-steps-turn : (n r : ℕ) → steps n (times_x r) ≡ times_x (steps n r)
+steps-turn : (n r : ℕ) → steps n (block_times_x r) ≡ block_times_x (steps n r)
 unfolding steps
 steps-turn zero r = refl
-steps-turn (suc n) r = steps-turn n (times_x r)
+steps-turn (suc n) r = steps-turn n (block_times_x r)
 
 left-zeros : (n r : ℕ) → left r (zeros n) ≡ steps n r
 unfolding left zeros steps
 left-zeros zero r = refl
-left-zeros (suc n) r = ap (λ (x : ℕ). left x (zeros n)) (xor_zero_r (times_x r)) ∙ left-zeros n (times_x r)
+left-zeros (suc n) r = ap (λ (x : ℕ). left x (zeros n)) (xor_zero_r (block_times_x r)) ∙ left-zeros n (block_times_x r)
 
-once : (b : ℕ) → b < 2 → times_x (b * 2 ^ 6) ≡ steps 7 b
-unfolding times_x steps
+once : (b : ℕ) → b < 2 → block_times_x (b * 2 ^ 6) ≡ steps 7 b
+unfolding block_times_x steps
 once zero less = refl
 once (suc zero) less = refl
 once (suc (suc b)) less = absurd (omega arith)
 
 -- seven places up
-up : (bs : List ℕ) (q : ℕ) → AreBits bs → remainder (steps 7 q) bs ≡ steps 7 (left q bs)
+up : (bs : List ℕ) (q : ℕ) → AreBits bs → block_remainder (steps 7 q) bs ≡ steps 7 (left q bs)
 unfolding left
 up [] q p = refl
 up (b ∷ bs) q p =
-    let one : with_bit (steps 7 q) b ≡ steps 7 (bit_xor (times_x q) b) =
-    times_x-linear (steps 7 q) (b * 2 ^ 6) ∙ ap (λ (x : ℕ). bit_xor x (times_x (b * 2 ^ 6))) (sym (steps-turn 7 q)) ∙ ap (bit_xor (steps 7 (times_x q))) (once b p.0)
-    ∙ sym (steps-linear 7 (times_x q) b) in
-    ap (λ (x : ℕ). remainder x bs) one ∙ up bs (bit_xor (times_x q) b) p.1
+    let one : block_with_bit (steps 7 q) b ≡ steps 7 (bit_xor (block_times_x q) b) =
+    times_x-linear (steps 7 q) (b * 2 ^ 6) ∙ ap (λ (x : ℕ). bit_xor x (block_times_x (b * 2 ^ 6))) (sym (steps-turn 7 q)) ∙ ap (bit_xor (steps 7 (block_times_x q))) (once b p.0)
+    ∙ sym (steps-linear 7 (block_times_x q) b) in
+    ap (λ (x : ℕ). block_remainder x bs) one ∙ up bs (bit_xor (block_times_x q) b) p.1
 
 halves : each (λ o. eqb (left 0 (seven o)) (o / 2)) 256 ≡ true
-unfolding each both left times_x
+unfolding each both left block_times_x
 halves = refl
 
 xors-front : (o : ℕ) → xors (zeros 7) (seven o) ≡ seven o
 unfolding xors zeros
 xors-front o =
-    let a = xor_zero_l (bit o 7) in let b = xor_zero_l (bit o 6) in let c = xor_zero_l (bit o 5) in let d = xor_zero_l (bit o 4) in
-    let e = xor_zero_l (bit o 3) in let f = xor_zero_l (bit o 2) in let g = xor_zero_l (bit o 1) in
+    let a = xor_zero_l (bit_at o 7) in let b = xor_zero_l (bit_at o 6) in let c = xor_zero_l (bit_at o 5) in let d = xor_zero_l (bit_at o 4) in
+    let e = xor_zero_l (bit_at o 3) in let f = xor_zero_l (bit_at o 2) in let g = xor_zero_l (bit_at o 1) in
     cc
 
 left-seven : (o r : ℕ) → o < 256 → left r (seven o) ≡ bit_xor (steps 7 r) (o / 2)
@@ -136,11 +136,11 @@ left-seven o r fits =
     ∙ ap (bit_xor (steps 7 r)) (eqb-true _ _ (each-holds (λ o. eqb (left 0 (seven o)) (o / 2)) 256 halves o fits))
 
 -- ---- words
-pub word-is : (a b c d e f g last : ℕ) → word (a ∷ b ∷ c ∷ d ∷ e ∷ f ∷ g ∷ last ∷ []) ≡ bits_of (a ∷ b ∷ c ∷ d ∷ e ∷ f ∷ g ∷ []) ++ seven last
-unfolding octet_bits
+pub word-is : (a b c d e f g last : ℕ) → word (a ∷ b ∷ c ∷ d ∷ e ∷ f ∷ g ∷ last ∷ []) ≡ bits_of_octets (a ∷ b ∷ c ∷ d ∷ e ∷ f ∷ g ∷ []) ++ seven last
+unfolding bits_of_octet
 word-is a b c d e f g last = refl
 
-pub word-parts : (information : List ℕ) (last : ℕ) → length information ≡ 7 → word (information ++ last ∷ []) ≡ bits_of information ++ seven last
+pub word-parts : (information : List ℕ) (last : ℕ) → length information ≡ 7 → word (information ++ last ∷ []) ≡ bits_of_octets information ++ seven last
 word-parts (a ∷ b ∷ c ∷ d ∷ e ∷ f ∷ g ∷ []) last l = word-is a b c d e f g last
 word-parts [] last l = absurd (omega arith)
 word-parts (a ∷ []) last l = absurd (omega arith)
@@ -152,29 +152,29 @@ word-parts (a ∷ b ∷ c ∷ d ∷ e ∷ f ∷ []) last l = absurd (omega arith
 word-parts (a ∷ b ∷ c ∷ d ∷ e ∷ f ∷ g ∷ h ∷ more) last l = absurd (omega arith)
 
 steps-none : steps 7 0 ≡ 0
-unfolding steps times_x
+unfolding steps block_times_x
 steps-none = refl
 
 -- what is left of a block's word
 pub word-left : (information : List ℕ) (last : ℕ) → length information ≡ 7 → last < 256
-    → left 0 (word (information ++ last ∷ [])) ≡ bit_xor (remainder 0 (bits_of information)) (last / 2)
+    → left 0 (word (information ++ last ∷ [])) ≡ bit_xor (block_remainder 0 (bits_of_octets information)) (last / 2)
 word-left information last l fits =
-    ap (left 0) (word-parts information last l) ∙ left-onward (bits_of information) (seven last) 0 ∙ left-seven last (left 0 (bits_of information)) fits
-    ∙ ap (λ (x : ℕ). bit_xor x (last / 2)) (sym (up (bits_of information) 0 (are-bits information)) ∙ ap (λ (x : ℕ). remainder x (bits_of information)) steps-none)
+    ap (left 0) (word-parts information last l) ∙ left-onward (bits_of_octets information) (seven last) 0 ∙ left-seven last (left 0 (bits_of_octets information)) fits
+    ∙ ap (λ (x : ℕ). bit_xor x (last / 2)) (sym (up (bits_of_octets information) 0 (are-bits information)) ∙ ap (λ (x : ℕ). block_remainder x (bits_of_octets information)) steps-none)
 
 -- the same seven octets, and last octets that differ in the filler bit alone
 word-alike : (information : List ℕ) (o p : ℕ) → length information ≡ 7 → o / 2 ≡ p / 2 → word (information ++ o ∷ []) ≡ word (information ++ p ∷ [])
 word-alike information o p l h =
-    word-parts information o l ∙ ap (λ (x : List ℕ). bits_of information ++ x) (seven-alike o p h) ∙ sym (word-parts information p l)
+    word-parts information o l ∙ ap (λ (x : List ℕ). bits_of_octets information ++ x) (seven-alike o p h) ∙ sym (word-parts information p l)
 
 pub parity-fits : (information : List ℕ) → parity_of information < 2 ^ 7
-parity-fits information = xor_lt 7 127 (remainder 0 (bits_of information)) (omega arith) (remainder-fits (bits_of information) 0 (omega arith))
+parity-fits information = xor_lt 7 127 (block_remainder 0 (bits_of_octets information)) (omega arith) (remainder-fits (bits_of_octets information) 0 (omega arith))
 
 -- 127 is left of a code block, and of no other block with its information
 pub block-left : (information : List ℕ) → length information ≡ 7 → left 0 (word (code_block information)) ≡ 127
 block-left information l =
     let fits = parity-fits information in
-    let r = remainder 0 (bits_of information) in
+    let r = block_remainder 0 (bits_of_octets information) in
     let half : parity_of information * 2 / 2 ≡ parity_of information = omega arith in
     word-left information (parity_of information * 2) l (omega arith) ∙ ap (bit_xor r) half
     ∙ ap (bit_xor r) (xor_comm 127 r) ∙ sym (xor_assoc r r 127) ∙ ap (λ (x : ℕ). bit_xor x 127) (xor_self r) ∙ xor_zero_l 127
@@ -182,7 +182,7 @@ block-left information l =
 pub left-block : (information : List ℕ) (last : ℕ) → length information ≡ 7 → last < 256 → left 0 (word (information ++ last ∷ [])) ≡ 127
     → word (information ++ last ∷ []) ≡ word (code_block information)
 left-block information last l fits h =
-    let r = remainder 0 (bits_of information) in
+    let r = block_remainder 0 (bits_of_octets information) in
     let e : bit_xor r (last / 2) ≡ 127 = sym (word-left information last l fits) ∙ h in
     let half : last / 2 ≡ parity_of information =
     sym (xor_zero_l (last / 2)) ∙ ap (λ (x : ℕ). bit_xor x (last / 2)) (sym (xor_self r)) ∙ xor_assoc r r (last / 2) ∙ ap (bit_xor r) e ∙ xor_comm r 127 in
@@ -190,15 +190,15 @@ left-block information last l fits h =
     word-alike information last (parity_of information * 2) l (omega arith)
 
 -- ---- one bit the other way round
-pub octet-sum : (a b : ℕ) → octet_bits (bit_xor a b) ≡ xors (octet_bits a) (octet_bits b)
-unfolding octet_bits xors
+pub octet-sum : (a b : ℕ) → bits_of_octet (bit_xor a b) ≡ xors (bits_of_octet a) (bits_of_octet b)
+unfolding bits_of_octet xors
 octet-sum a b =
     let a0 = bit_of_sum a b 0 in let a1 = bit_of_sum a b 1 in let a2 = bit_of_sum a b 2 in let a3 = bit_of_sum a b 3 in
     let a4 = bit_of_sum a b 4 in let a5 = bit_of_sum a b 5 in let a6 = bit_of_sum a b 6 in let a7 = bit_of_sum a b 7 in
     cc
 
-octet-one : (k : ℕ) → k < 8 → octet_bits (2 ^ (7 - k)) ≡ single k 8
-unfolding octet_bits single zeros
+octet-one : (k : ℕ) → k < 8 → bits_of_octet (2 ^ (7 - k)) ≡ single k 8
+unfolding bits_of_octet single zeros
 octet-one zero less = refl
 octet-one (suc zero) less = refl
 octet-one (suc (suc zero)) less = refl
@@ -232,36 +232,36 @@ single-back (suc k) (suc m) n less =
     let f : k - m ≡ suc k - suc m = omega arith in
     ap (single (suc k)) e ∙ ap (λ (x : List ℕ). 0 ∷ x) (single-back k m n (omega arith)) ∙ ap (λ (x : ℕ). 0 ∷ (zeros m ++ single x n)) f
 
-eight : (o : ℕ) → length (octet_bits o) ≡ 8
-unfolding octet_bits
+eight : (o : ℕ) → length (bits_of_octet o) ≡ 8
+unfolding bits_of_octet
 eight o = refl
 
-octet-same : (o : ℕ) → xors (octet_bits o) (zeros 8) ≡ octet_bits o
-octet-same o = ap (λ (n : ℕ). xors (octet_bits o) (zeros n)) (sym (eight o)) ∙ xors-zeros (octet_bits o)
+octet-same : (o : ℕ) → xors (bits_of_octet o) (zeros 8) ≡ bits_of_octet o
+octet-same o = ap (λ (n : ℕ). xors (bits_of_octet o) (zeros n)) (sym (eight o)) ∙ xors-zeros (bits_of_octet o)
 
-pub bits-turned : (os : List ℕ) (k n : ℕ) → length (bits_of os) ≡ n → k < n → bits_of (turned os k) ≡ xors (bits_of os) (single k n)
+pub bits-turned : (os : List ℕ) (k n : ℕ) → length (bits_of_octets os) ≡ n → k < n → bits_of_octets (flipped os k) ≡ xors (bits_of_octets os) (single k n)
 bits-turned [] k n l less = absurd (omega arith)
 bits-turned (o ∷ os) k n l less =
-    let m = length (bits_of os) in
-    let total : n ≡ 8 + m = sym l ∙ length-append (octet_bits o) (bits_of os) ∙ ap (λ (x : ℕ). x + m) (eight o) in
+    let m = length (bits_of_octets os) in
+    let total : n ≡ 8 + m = sym l ∙ length-append (bits_of_octet o) (bits_of_octets os) ∙ ap (λ (x : ℕ). x + m) (eight o) in
     elim (cases_lt k 8) [
       | inl low ↦
-          ap (λ (t : Bool). bits_of (if t then bit_xor o (2 ^ (7 - k)) ∷ os else o ∷ turned os (k - 8))) (lt-ltb k 8 low)
-          ∙ ap (λ (x : List ℕ). x ++ bits_of os) (octet-sum o (2 ^ (7 - k)) ∙ ap (xors (octet_bits o)) (octet-one k low))
-          ∙ ap (λ (x : List ℕ). xors (octet_bits o) (single k 8) ++ x) (sym (xors-zeros (bits_of os)))
-          ∙ sym (xors-append (octet_bits o) (bits_of os) (single k 8) (zeros m) (eight o ∙ sym (single-length k 8)))
-          ∙ ap (xors (octet_bits o ++ bits_of os)) (sym (ap (single k) total ∙ single-front k 8 m low))
+          ap (λ (t : Bool). bits_of_octets (if t then bit_xor o (2 ^ (7 - k)) ∷ os else o ∷ flipped os (k - 8))) (lt-ltb k 8 low)
+          ∙ ap (λ (x : List ℕ). x ++ bits_of_octets os) (octet-sum o (2 ^ (7 - k)) ∙ ap (xors (bits_of_octet o)) (octet-one k low))
+          ∙ ap (λ (x : List ℕ). xors (bits_of_octet o) (single k 8) ++ x) (sym (xors-zeros (bits_of_octets os)))
+          ∙ sym (xors-append (bits_of_octet o) (bits_of_octets os) (single k 8) (zeros m) (eight o ∙ sym (single-length k 8)))
+          ∙ ap (xors (bits_of_octet o ++ bits_of_octets os)) (sym (ap (single k) total ∙ single-front k 8 m low))
       | inr high ↦
-          ap (λ (t : Bool). bits_of (if t then bit_xor o (2 ^ (7 - k)) ∷ os else o ∷ turned os (k - 8))) (le-ltb k 8 high)
-          ∙ ap (λ (x : List ℕ). octet_bits o ++ x) (bits-turned os (k - 8) m refl (omega arith))
-          ∙ ap (λ (x : List ℕ). x ++ xors (bits_of os) (single (k - 8) m)) (sym (octet-same o))
-          ∙ sym (xors-append (octet_bits o) (bits_of os) (zeros 8) (single (k - 8) m) (eight o ∙ sym (zeros-length 8)))
-          ∙ ap (xors (octet_bits o ++ bits_of os)) (sym (ap (single k) total ∙ single-back k 8 m high))
+          ap (λ (t : Bool). bits_of_octets (if t then bit_xor o (2 ^ (7 - k)) ∷ os else o ∷ flipped os (k - 8))) (le-ltb k 8 high)
+          ∙ ap (λ (x : List ℕ). bits_of_octet o ++ x) (bits-turned os (k - 8) m refl (omega arith))
+          ∙ ap (λ (x : List ℕ). x ++ xors (bits_of_octets os) (single (k - 8) m)) (sym (octet-same o))
+          ∙ sym (xors-append (bits_of_octet o) (bits_of_octets os) (zeros 8) (single (k - 8) m) (eight o ∙ sym (zeros-length 8)))
+          ∙ ap (xors (bits_of_octet o ++ bits_of_octets os)) (sym (ap (single k) total ∙ single-back k 8 m high))
     ]
 
 -- of a whole block
-pub word-turned : (block : List ℕ) (k : ℕ) → length block ≡ 8 → k < 63 → word (turned block k) ≡ xors (word block) (single k 63)
+pub word-turned : (block : List ℕ) (k : ℕ) → length block ≡ 8 → k < 63 → word (flipped block k) ≡ xors (word block) (single k 63)
 word-turned block k l less =
-    let n : length (bits_of block) ≡ 64 = bits-length block ∙ ap (λ (x : ℕ). 8 * x) l in
-    ap (take 63) (bits-turned block k 64 n (omega arith)) ∙ xors-take 63 (bits_of block) (single k 64)
+    let n : length (bits_of_octets block) ≡ 64 = bits-length block ∙ ap (λ (x : ℕ). 8 * x) l in
+    ap (take 63) (bits-turned block k 64 n (omega arith)) ∙ xors-take 63 (bits_of_octets block) (single k 64)
     ∙ ap (xors (word block)) (single-take k 63 64 (omega arith))

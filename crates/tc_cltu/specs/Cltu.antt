@@ -34,8 +34,8 @@ abbrev pub most_octets : ℕ
 most_octets = 1029
 
 -- why octets get no CLTU
-abbrev pub fault_of : List ℕ → Option CltuFault
-fault_of frame =
+abbrev pub cltu_fault_of : List ℕ → Option CltuFault
+cltu_fault_of frame =
     if length frame == 0 then Some Empty
     else if nat_lt most_octets (length frame) then Some TooLong
     else None

@@ -3,30 +3,30 @@
 -- A polynomial over GF(2) is the number whose binary digits are its coefficients: x ^ i is 2 ^ i, and a sum is `bit_xor`.
 -- The generator G is x ^ 7 + x ^ 6 + x ^ 2 + 1.
 use Rattle.std.specs.Prelude.{◌≡◌, ℕ, zero, suc, ◌+◌, ◌*◌, ◌-◌, ◌%◌, ◌^◌, List, [], ◌∷◌, ◌++◌, bit_xor, length, take, Option, Some, None, nat_lt, if◌then◌else◌}
-use Rattle.tc_cltu.specs.Bits.{bit, bits_of, IsOctets, differences}
+use Rattle.tc_cltu.specs.Bits.{bit_at, bits_of_octets, AreOctetValues, block_differences}
 use Rattle.tc_cltu.specs.declared.block.Mode.{Mode}
 use Rattle.tc_cltu.specs.declared.block.Mode.TheVariants.{Detect, Correct}
 
 -- a polynomial of degree under 7, times x, modulo G: where a term in x ^ 7 comes, the rest of G takes its place
-unfoldable pub times_x : ℕ → ℕ
-times_x r = bit_xor (r * 2 % 2 ^ 7) (bit r 6 * (2 ^ 6 + 2 ^ 2 + 1))
+unfoldable pub block_times_x : ℕ → ℕ
+block_times_x r = bit_xor (r * 2 % 2 ^ 7) (bit_at r 6 * (2 ^ 6 + 2 ^ 2 + 1))
 
 -- one bit more: (r + b x ^ 6) x modulo G, as the information is 7 places up
-abbrev pub with_bit : ℕ → ℕ → ℕ
-with_bit r b = times_x (bit_xor r (b * 2 ^ 6))
+abbrev pub block_with_bit : ℕ → ℕ → ℕ
+block_with_bit r b = block_times_x (bit_xor r (b * 2 ^ 6))
 
 -- what is left from r on, bit after bit
-abbrev pub remainder : ℕ → List ℕ → ℕ
-remainder r [] = r
-remainder r (b ∷ bs) = remainder (with_bit r b) bs
+abbrev pub block_remainder : ℕ → List ℕ → ℕ
+block_remainder r [] = r
+block_remainder r (b ∷ bs) = block_remainder (block_with_bit r b) bs
 
 -- the seven parity bits: the remainder, complemented
 abbrev pub parity_of : List ℕ → ℕ
-parity_of information = bit_xor (2 ^ 7 - 1) (remainder 0 (bits_of information))
+parity_of information = bit_xor (2 ^ 7 - 1) (block_remainder 0 (bits_of_octets information))
 
 -- seven octets, as many as a code block carries
 pub record IsInformation (information : List ℕ) : Type 0 where
-  pub each : IsOctets information
+  pub each : AreOctetValues information
   pub seven : length information ≡ 7
 
 -- the code block: the seven octets, the parity bits, and a filler bit 0
@@ -35,11 +35,11 @@ code_block information = information ++ parity_of information * 2 ∷ []
 
 -- the 63 bits before the filler bit
 abbrev pub word : List ℕ → List ℕ
-word block = take 63 (bits_of block)
+word block = take 63 (bits_of_octets block)
 
 -- at how many of these a block differs from the code block of the information
 abbrev pub errors : List ℕ → List ℕ → ℕ
-errors block information = differences (word block) (word (code_block information))
+errors block information = block_differences (word block) (word (code_block information))
 
 -- how many errors a block may have and still be taken
 abbrev pub most_errors : Mode → ℕ
@@ -47,14 +47,14 @@ most_errors Detect = 0
 most_errors Correct = 1
 
 -- a list of octets with bit k the other way round, counted from the most significant of the first
-abbrev pub turned : List ℕ → ℕ → List ℕ
-turned [] k = []
-turned (o ∷ os) k = if nat_lt k 8 then bit_xor o (2 ^ (7 - k)) ∷ os else o ∷ turned os (k - 8)
+abbrev pub flipped : List ℕ → ℕ → List ℕ
+flipped [] k = []
+flipped (o ∷ os) k = if nat_lt k 8 then bit_xor o (2 ^ (7 - k)) ∷ os else o ∷ flipped os (k - 8)
 
 -- the information with each one of its bits the other way round, from bit k - 1 down, and at last the information itself
 abbrev pub near : List ℕ → ℕ → List (List ℕ)
 near information zero = information ∷ []
-near information (suc k) = turned information k ∷ near information k
+near information (suc k) = flipped information k ∷ near information k
 
 -- the first of these that the block has at most so many errors from
 abbrev pub first_within : ℕ → List ℕ → List (List ℕ) → Option (List ℕ)

@@ -2,16 +2,16 @@
 use Rattle.std.specs.Prelude.{◌≡◌, ℕ, ◌*◌, ◌^◌, ◌<◌, List, [], ◌∷◌, bit_xor, length}
 
 -- the polynomial with these coefficients, the highest first
-abbrev pub polynomial : List ℕ → ℕ
-polynomial [] = 0
-polynomial (b ∷ bs) = bit_xor (b * 2 ^ length bs) (polynomial bs)
+abbrev pub block_polynomial : List ℕ → ℕ
+block_polynomial [] = 0
+block_polynomial (b ∷ bs) = bit_xor (b * 2 ^ length bs) (block_polynomial bs)
 
 -- Q G, as Q x ^ 7 + Q x ^ 6 + Q x ^ 2 + Q
-unfoldable pub times_generator : ℕ → ℕ
-times_generator q = bit_xor (bit_xor (q * 2 ^ 7) (q * 2 ^ 6)) (bit_xor (q * 2 ^ 2) q)
+unfoldable pub times_block_generator : ℕ → ℕ
+times_block_generator q = bit_xor (bit_xor (q * 2 ^ 7) (q * 2 ^ 6)) (bit_xor (q * 2 ^ 2) q)
 
 -- r is what is left of x ^ 7 M by G: of degree under 7, and x ^ 7 M is Q G + r
-pub record IsRemainder (r : ℕ) (m : List ℕ) : Type 0 where
+pub record IsBlockRemainder (r : ℕ) (m : List ℕ) : Type 0 where
   pub degree : r < 2 ^ 7
   pub quotient : ℕ
-  pub divides : polynomial m * 2 ^ 7 ≡ bit_xor (times_generator quotient) r
+  pub divides : block_polynomial m * 2 ^ 7 ≡ bit_xor (times_block_generator quotient) r

@@ -1,11 +1,11 @@
 -- The randomiser (CCSDS 231.0-B): h(x) = x ^ 8 + x ^ 6 + x ^ 4 + x ^ 3 + x ^ 2 + x + 1, and all ones at the start.
 use Rattle.std.specs.Prelude.{ℕ, zero, suc, ◌+◌, ◌*◌, ◌%◌, ◌^◌, List, [], ◌∷◌, bit_xor}
-use Rattle.tc_cltu.specs.Bits.{bit}
+use Rattle.tc_cltu.specs.Bits.{bit_at}
 
 -- The register is the next eight bits of the sequence, the first as its most significant bit. Bit n + 8 of the sequence is the
 -- sum of bits n + 6, n + 4, n + 3, n + 2, n + 1 and n.
 unfoldable pub next_bit : ℕ → ℕ
-next_bit r = (bit r 1 + bit r 3 + bit r 4 + bit r 5 + bit r 6 + bit r 7) % 2
+next_bit r = (bit_at r 1 + bit_at r 3 + bit_at r 4 + bit_at r 5 + bit_at r 6 + bit_at r 7) % 2
 
 unfoldable pub moved_on : ℕ → ℕ
 moved_on r = r * 2 % 2 ^ 8 + next_bit r
@@ -29,4 +29,4 @@ random_octets r (suc n) = r ∷ random_octets (octet_on r) n
 
 abbrev pub random_bits : ℕ → ℕ → List ℕ
 random_bits r zero = []
-random_bits r (suc n) = bit r 7 ∷ random_bits (moved_on r) n
+random_bits r (suc n) = bit_at r 7 ∷ random_bits (moved_on r) n

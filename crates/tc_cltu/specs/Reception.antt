@@ -1,7 +1,7 @@
 -- The receiving end (CCSDS 231.0-B): it searches for a start sequence, and then decodes code blocks until it rejects one.
 use Rattle.std.specs.Prelude.{◌≡◌, ℕ, zero, suc, ◌+◌, ◌<◌, ◌≤◌, Bool, true, false, List, [], ◌∷◌, ◌++◌, length, take, Option, Some, None, is_some, nat_eq, nat_lt, if◌then◌else◌}
 use Rattle.std.specs.Cmp.Lexicographic.{pointwise}
-use Rattle.tc_cltu.specs.Bits.{bits_of, differences}
+use Rattle.tc_cltu.specs.Bits.{bits_of_octets, block_differences}
 use Rattle.tc_cltu.specs.CodeBlock.{decoded, most_errors}
 use Rattle.tc_cltu.specs.Cltu.{start_sequence, tail_sequence}
 use Rattle.tc_cltu.specs.declared.block.Fate.{Fate}
@@ -28,26 +28,26 @@ after_block room (o ∷ frame) None = (Searching 0, (o ∷ frame) ∷ [])
 
 -- at how many of their sixteen bits two octets differ from the start sequence
 unfoldable pub start_errors : ℕ → ℕ → ℕ
-start_errors last octet = differences (bits_of (last ∷ octet ∷ [])) (bits_of start_sequence)
+start_errors last octet = block_differences (bits_of_octets (last ∷ octet ∷ [])) (bits_of_octets start_sequence)
 
 -- whether two octets count as the start sequence: with as many wrong bits as the mode allows a code block
 unfoldable pub is_start : Mode → ℕ → ℕ → Bool
 is_start mode last octet = if nat_lt (most_errors mode) (start_errors last octet) then false else true
 
-abbrev pub step : Mode → ℕ → Reception → ℕ → Step
-step mode room (Searching last) octet = if is_start mode last octet then (Decoding [] [], []) else (Searching octet, [])
-step mode room (Decoding frame block) octet =
+abbrev pub reception_step : Mode → ℕ → Reception → ℕ → Step
+reception_step mode room (Searching last) octet = if is_start mode last octet then (Decoding [] [], []) else (Searching octet, [])
+reception_step mode room (Decoding frame block) octet =
     if nat_lt (length block) 7 then (Decoding frame (block ++ octet ∷ []), [])
     else after_block room frame (decoded mode (block ++ octet ∷ []))
 
 -- after many octets: where it is, and all candidate frames
 abbrev pub state_after : Mode → ℕ → Reception → List ℕ → Reception
 state_after mode room state [] = state
-state_after mode room state (octet ∷ octets) = state_after mode room (step mode room state octet).0 octets
+state_after mode room state (octet ∷ octets) = state_after mode room (reception_step mode room state octet).0 octets
 
 abbrev pub frames_of : Mode → ℕ → Reception → List ℕ → List (List ℕ)
 frames_of mode room state [] = []
-frames_of mode room state (octet ∷ octets) = (step mode room state octet).1 ++ frames_of mode room (step mode room state octet).0 octets
+frames_of mode room state (octet ∷ octets) = (reception_step mode room state octet).1 ++ frames_of mode room (reception_step mode room state octet).0 octets
 
 -- what becomes of a code block: of one that isn't taken, and of any
 abbrev pub rejected_as : List ℕ → Fate
@@ -76,7 +76,7 @@ rejections_of _ = 0
 abbrev pub counted_in : (Option Fate → ℕ) → Mode → ℕ → Reception → List ℕ → ℕ
 counted_in count mode room state [] = 0
 counted_in count mode room state (octet ∷ octets) =
-    count (fate_of mode state octet) + counted_in count mode room (step mode room state octet).0 octets
+    count (fate_of mode state octet) + counted_in count mode room (reception_step mode room state octet).0 octets
 
 -- how many code blocks are corrected, and how many are rejected that aren't the tail sequence
 abbrev pub corrected_in : Mode → ℕ → Reception → List ℕ → ℕ

@@ -1,8 +1,8 @@
 //! Code blocks.
 
 ghost use Rattle.std.specs.Prelude.{◌≡◌, ◌≢◌, ◌+◌, ◌^◌, ◌<◌, ◌≤◌, ◌++◌, ◌∷◌, [], ℕ, List, Some, None, length, IfSome, MatchOption};
-ghost use Rattle.tc_cltu.specs.Bits.{IsOctets};
-ghost use Rattle.tc_cltu.specs.CodeBlock.{parity_of, code_block, decoded, errors, most_errors, turned, IsInformation};
+ghost use Rattle.tc_cltu.specs.Bits.{AreOctetValues};
+ghost use Rattle.tc_cltu.specs.CodeBlock.{parity_of, code_block, decoded, errors, most_errors, flipped, IsInformation};
 ghost use Rattle.tc_cltu.specs.Reception.{fate_in, rejected_as, corrections_of, rejections_of};
 ghost use Rattle.tc_cltu.specs.declared.block.Mode.TheVariants.{Detect};
 
@@ -43,7 +43,7 @@ pub struct Judged {
 pub(crate) fn parity(octets: &[u8]) -> u8
     ensures bits { result ≡ parity_of octets.now }
     ensures fits { result < 128 }
-    ensures each { IsOctets octets.now }
+    ensures each { AreOctetValues octets.now }
 {
     let mut rest: u8 = 0;
     for octet in octets {
@@ -122,7 +122,7 @@ fn rejection(block: [u8; 8]) -> Fate
 // Which bit of the seven octets and the last one of a block is to be turned: one past the 63 where none is.
 fn place_of_error(own: &[u8], last: u8, mode: Mode) -> Option<u8>
     requires { length own.now ≡ 7 }
-    ensures place { MatchOption result (decoded mode (own.now ++ last ∷ []) ≡ None) (λ place. decoded mode (own.now ++ last ∷ []) ≡ Some (turned own.now place)) }
+    ensures place { MatchOption result (decoded mode (own.now ++ last ∷ []) ≡ None) (λ place. decoded mode (own.now ++ last ∷ []) ≡ Some (flipped own.now place)) }
     ensures right { result ≡ Some 63 → decoded Detect (own.now ++ last ∷ []) ≡ Some own.now }
     ensures wrong { result ≢ Some 63 → decoded Detect (own.now ++ last ∷ []) ≡ None }
     ensures each { IsInformation own.now }
@@ -142,7 +142,7 @@ fn place_of_error(own: &[u8], last: u8, mode: Mode) -> Option<u8>
 
 // One bit the other way round, if it is there.
 fn turn(octets: &mut [u8], place: u8)
-    ensures { octets.new ≡ turned octets.old place }
+    ensures { octets.new ≡ flipped octets.old place }
 {
     let at = usize::from(place / 8);
     if at >= octets.len() {

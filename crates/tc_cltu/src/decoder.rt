@@ -2,7 +2,7 @@
 
 ghost use Rattle.std.specs.Prelude.{◌≡◌, ◌++◌, ◌∷◌, [], List, ℕ, map, IfOk, OnOk, OnErr, if◌then◌else◌};
 ghost use Rattle.tc_cltu.specs.Cltu.{most_octets};
-ghost use Rattle.tc_cltu.specs.Reception.{Receiver, Searching, StopsShort, start_errors, is_start, step, state_after, frames_of, fate_of};
+ghost use Rattle.tc_cltu.specs.Reception.{Receiver, Searching, StopsShort, start_errors, is_start, reception_step, state_after, frames_of, fate_of};
 
 use crate::block::{Fate, Judged, Mode, judge};
 use crate::writer::{MOST_OCTETS, START};
@@ -74,8 +74,8 @@ impl Decoder {
     /// Takes the next octet of the stream. It asks for no memory.
     pub fn feed_octet(&mut self, octet: u8) -> Fed
         ensures mode { self.new.mode ≡ self.old.mode }
-        ensures state { self.new.state ≡ (step self.old.mode most_octets self.old.state octet).0 }
-        ensures given { (if result.ended then self.new.held ∷ [] else []) ≡ (step self.old.mode most_octets self.old.state octet).1 }
+        ensures state { self.new.state ≡ (reception_step self.old.mode most_octets self.old.state octet).0 }
+        ensures given { (if result.ended then self.new.held ∷ [] else []) ≡ (reception_step self.old.mode most_octets self.old.state octet).1 }
         ensures fate { result.fate ≡ fate_of self.old.mode self.old.state octet }
     {
         if !self.decoding {
@@ -160,11 +160,11 @@ impl Decoder {
         octet: u8,
     ) -> Result<(), AllocError>
         ensures mode { self.new.mode ≡ self.old.mode }
-        ensures state { self.new.state ≡ (step self.old.mode most_octets self.old.state octet).0 }
+        ensures state { self.new.state ≡ (reception_step self.old.mode most_octets self.old.state octet).0 }
         ensures unchanged { OnErr result (map (λ frame. frame.items) frames.new.items ≡ map (λ frame. frame.items) frames.old.items) }
-        ensures held { OnErr result ((step self.old.mode most_octets self.old.state octet).1 ≡ self.new.held ∷ []) }
+        ensures held { OnErr result ((reception_step self.old.mode most_octets self.old.state octet).1 ≡ self.new.held ∷ []) }
         ensures frames { OnOk result (map (λ frame. frame.items) frames.new.items
-            ≡ map (λ frame. frame.items) frames.old.items ++ (step self.old.mode most_octets self.old.state octet).1) }
+            ≡ map (λ frame. frame.items) frames.old.items ++ (reception_step self.old.mode most_octets self.old.state octet).1) }
     {
         if !self.feed_octet(octet).ended {
             return Ok(());

@@ -2,7 +2,7 @@
 
 ghost use Rattle.std.specs.Prelude.{◌≡◌, ◌+◌, ◌*◌, ◌/◌, ◌<◌, ◌≤◌, ◌++◌, None, length, vec_len, vec_capacity, unwrap_or, IfOk, IfErr, OnOk};
 ghost use Rattle.tc_cltu.specs.CodeBlock.{code_block};
-ghost use Rattle.tc_cltu.specs.Cltu.{cltu, filled, code_blocks, most_octets, fault_of};
+ghost use Rattle.tc_cltu.specs.Cltu.{cltu, filled, code_blocks, most_octets, cltu_fault_of};
 
 use crate::block::parity;
 use std::alloc::{AllocError, Global};
@@ -37,8 +37,8 @@ pub enum CltuFault {
 /// The only allocation is the CLTU.
 pub fn write_cltu(alloc: Global, frame: &[u8]) -> Result<Vec<u8>, CltuFault>
     ensures octets { IfOk result (λ made. made.items ≡ cltu frame.now) }
-    ensures made { OnOk result (fault_of frame.now ≡ None) }
-    ensures refused { IfErr result (λ fault. fault ≡ unwrap_or (fault_of frame.now) CltuFault.NoMemory) }
+    ensures made { OnOk result (cltu_fault_of frame.now ≡ None) }
+    ensures refused { IfErr result (λ fault. fault ≡ unwrap_or (cltu_fault_of frame.now) CltuFault.NoMemory) }
 {
     if frame.is_empty() {
         return Err(CltuFault::Empty);

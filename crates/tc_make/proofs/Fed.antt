@@ -6,7 +6,7 @@ use Rattle.std.proofs.lemmas.Grind.{flat_map-append}
 use Rattle.std.proofs.lemmas.Option.{get_or_from_slice_get}
 use Rattle.std.specs.Prelude.{codes, slice_get}
 use Rattle.tc_lines.specs.Answering.{Writes}
-use Rattle.tc_cltu.specs.Reception.{Receiver, Reception, step, frames_of, corrected_in, rejected_in}
+use Rattle.tc_cltu.specs.Reception.{Receiver, Reception, reception_step, frames_of, corrected_in, rejected_in}
 use Rattle.tc_cltu.specs.declared.block.Mode.{Mode}
 use Rattle.tc_cltu.proofs.Decoding.{fed-frames, fed-all-frames}
 use Rattle.tc_make.specs.Decoders.{IsFed, IsPieceSaid, candidates_text, blocks_text}
@@ -22,10 +22,10 @@ pub none-fed : (mode : Mode) (os : List ℕ) (first : Reception) (a : Option (Li
 none-fed mode os first a = ([], Appends-nil a, refl)
 
 pub one-fed : (mode was : Mode) (i : ℕ) (os : List ℕ) (first state next : Reception) (a b c : Option (List ℕ)) → i < length os → mode ≡ was
-    → next ≡ (step mode 1029 state (get_or os i 0)).0 → IsSoFar was i os first state a b
-    → Appends b c (candidates_text (step mode 1029 state (get_or os i 0)).1) → IsSoFar was (i + 1) os first next a c
+    → next ≡ (reception_step mode 1029 state (get_or os i 0)).0 → IsSoFar was i os first state a b
+    → Appends b c (candidates_text (reception_step mode 1029 state (get_or os i 0)).1) → IsSoFar was (i + 1) os first next a c
 one-fed mode was i os first state next a b c less same is (given, before, h) now =
-    let more = (step mode 1029 state (get_or os i 0)).1 in (
+    let more = (reception_step mode 1029 state (get_or os i 0)).1 in (
       given ++ more,
       subst (Appends a c) (sym (flat_map-append (named_text (codes "frame")) given more)) (joined a b c (candidates_text given) (candidates_text more) before now),
       fed-frames mode was 1029 i os state next given (given ++ more) (frames_of was 1029 first os) less same is refl h,

@@ -2,8 +2,8 @@
 use Rattle.std.specs.Prelude.{◌≡◌, ◌⊎◌, ℕ, ◌==◌, ◌||◌, if◌then◌else◌, List, length, codes, nat_lt, Option, Some, None, unwrap_or}
 use Rattle.tc_cltu.specs.Cltu.{cltu, most_octets}
 use Rattle.tc_cltu.specs.Randomiser.{randomised}
-use Rattle.tc_tm.specs.Counting.{Counted, next_header, counted}
-use Rattle.tc_tm.specs.TmFrame.{tm_frame, least_length, most_length, fields_of, read_fault_of}
+use Rattle.tc_tm.specs.Counting.{Counted, next_header, frame_counted}
+use Rattle.tc_tm.specs.TmFrame.{tm_frame, least_length, most_length, tm_fields_of, read_fault_of}
 use Rattle.tc_tm.specs.declared.frame.ErrorControl.{ErrorControl}
 use Rattle.tc_tm.specs.declared.frame.ErrorControl.TheVariants.{Absent, Present}
 use Rattle.tc_tm.specs.declared.reading.TmReadFault.{TmReadFault}
@@ -35,7 +35,7 @@ error_of endings.ErrorControl = Present
 -- octets as a telemetry frame, or why they are none
 abbrev pub IsTelemetrySaid : Ending → List ℕ → List ℕ → Type 0
 IsTelemetrySaid ending octets text =
-    ((read_fault_of (error_of ending) octets ≡ None) × (text ≡ tm_text (fields_of (error_of ending) octets)))
+    ((read_fault_of (error_of ending) octets ≡ None) × (text ≡ tm_text (tm_fields_of (error_of ending) octets)))
     ⊎ ((fault : TmReadFault) × (read_fault_of (error_of ending) octets ≡ Some fault) × (text ≡ refused_text (tm_fault_text fault)))
 
 -- the first reason for which a telemetry frame isn't made, in this order
@@ -49,6 +49,6 @@ tm_reason_of ending order =
 -- the next frame of a virtual channel, by the counts; or why it isn't made, and they don't go on
 abbrev pub IsTmSaid : Ending → Counted → TmOrder → Counted → List ℕ → Type 0
 IsTmSaid ending old order new text =
-    ((tm_reason_of ending order ≡ None) × (new ≡ counted old order.scid order.vcid)
+    ((tm_reason_of ending order ≡ None) × (new ≡ frame_counted old order.scid order.vcid)
     × (text ≡ named_text (codes "tm") (tm_frame (error_of ending) (next_header old order.scid order.vcid) order.control order.size)))
     ⊎ ((new ≡ old) × (text ≡ bad_text (unwrap_or (tm_reason_of ending order) NoMemory)))

@@ -5,7 +5,7 @@ ghost use Rattle.std.specs.Io.KnownBytes.{Appends};
 ghost use Rattle.tc_cltu.specs.Cltu.{cltu};
 ghost use Rattle.tc_cltu.specs.Randomiser.{randomised};
 ghost use Rattle.tc_lines.specs.Answering.{Writes};
-ghost use Rattle.tc_tm.specs.Counting.{next_header, counted};
+ghost use Rattle.tc_tm.specs.Counting.{next_header, frame_counted};
 ghost use Rattle.tc_tm.specs.TmFrame.{tm_frame};
 ghost use Rattle.tc_make.specs.Answer.{OrNoMemory};
 ghost use Rattle.tc_make.specs.LinkAnswer.{IsCltuSaid, IsRandomSaid, IsTelemetrySaid, IsTmSaid, cltu_reason_of, tm_reason_of, error_of};
@@ -149,7 +149,7 @@ fn next_frame(
     order: TmOrder,
 ) -> Result<Vec<u8>, Reason>
     ensures frame { IfOk result (λ frame. frame.items ≡ tm_frame (error_of ending) (next_header counts.old order.scid order.vcid) order.control order.size) }
-    ensures counted { OnOk result (counts.new ≡ counted counts.old order.scid order.vcid) }
+    ensures counted { OnOk result (counts.new ≡ frame_counted counts.old order.scid order.vcid) }
     ensures unchanged { OnErr result (counts.new ≡ counts.old) }
     ensures made { OnOk result (tm_reason_of ending order ≡ None) }
     ensures refused { IfErr result (λ reason. reason ≡ unwrap_or (tm_reason_of ending order) Reason.NoMemory) }

@@ -7,7 +7,7 @@ use Rattle.tc_link.specs.Bits.{word_at, bits}
 use Rattle.tc_fecf.specs.Checksum.{checksum_of}
 use Rattle.tc_fecf.specs.FrameWithField.{spelled}
 use Rattle.tc_fecf.proofs.Closing.{closed}
-use Rattle.tc_tm.specs.TmFrame.{IsTmHeader, identifiers, idle_status, only_idle, primary_header, before_sum, tm_frame, least_length, fields_before_sum, fields_of, sum_fault_of, read_fault_of}
+use Rattle.tc_tm.specs.TmFrame.{IsTmHeader, identifiers, idle_status, only_idle, primary_header, before_sum, tm_frame, least_length, fields_before_sum, tm_fields_of, sum_fault_of, read_fault_of}
 use Rattle.tc_tm.specs.declared.frame.ErrorControl.{ErrorControl}
 use Rattle.tc_tm.specs.declared.frame.ErrorControl.TheVariants.{Absent, Present}
 use Rattle.tc_tm.specs.declared.frame.TmHeader.{TmHeader}
@@ -54,7 +54,7 @@ before-fields header control n fits four least =
     (drop (length octets - 4) octets) control scid vcid refl end
 
 pub fields-back : (error : ErrorControl) (header : TmHeader) (control : List ℕ) (n : ℕ) → IsTmHeader header → length control ≡ 4 → least_length error ≤ n
-    → fields_of error (tm_frame error header control n) ≡ record { header = header; pointer = only_idle; control = control }
+    → tm_fields_of error (tm_frame error header control n) ≡ record { header = header; pointer = only_idle; control = control }
 fields-back Absent header control n fits four least = before-fields header control n fits four (omega arith)
 fields-back Present header control n fits four least =
     let before = before_sum header control (n - 2) in

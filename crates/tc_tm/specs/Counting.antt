@@ -11,8 +11,8 @@ unfoldable pub none_yet : Counted
 none_yet = record { masters = replicate 1024 0; channels = replicate 8192 0 }
 
 -- where a virtual channel of a spacecraft is counted
-abbrev pub place_of : ℕ → ℕ → ℕ
-place_of scid vcid = 8 * scid + vcid
+abbrev pub count_place : ℕ → ℕ → ℕ
+count_place scid vcid = 8 * scid + vcid
 
 -- the header of the next frame of a virtual channel
 abbrev pub next_header : Counted → ℕ → ℕ → TmHeader
@@ -20,12 +20,12 @@ next_header counts scid vcid = record {
   scid = scid;
   vcid = vcid;
   master_count = slice_index counts.masters scid;
-  channel_count = slice_index counts.channels (place_of scid vcid);
+  channel_count = slice_index counts.channels (count_place scid vcid);
 }
 
 -- one frame more of a virtual channel
-abbrev pub counted : Counted → ℕ → ℕ → Counted
-counted counts scid vcid = record {
+abbrev pub frame_counted : Counted → ℕ → ℕ → Counted
+frame_counted counts scid vcid = record {
   masters = slice_set counts.masters scid ((slice_index counts.masters scid + 1) % 256);
-  channels = slice_set counts.channels (place_of scid vcid) ((slice_index counts.channels (place_of scid vcid) + 1) % 256);
+  channels = slice_set counts.channels (count_place scid vcid) ((slice_index counts.channels (count_place scid vcid) + 1) % 256);
 }

@@ -52,8 +52,8 @@ abbrev pub most_length : ℕ
 most_length = 2048
 
 -- the first fault of a frame that is to be written, in this order
-abbrev pub fault_of : ErrorControl → ℕ → ℕ → ℕ → Option TmFault
-fault_of error scid vcid n =
+abbrev pub tm_fault_of : ErrorControl → ℕ → ℕ → ℕ → Option TmFault
+tm_fault_of error scid vcid n =
     if nat_lt 1023 scid then Some BadScid
     else if nat_lt 7 vcid then Some BadVcid
     else if nat_lt n (least_length error) || nat_lt most_length n then Some BadLength
@@ -72,9 +72,9 @@ fields_before_sum octets = record {
   control = drop (length octets - 4) octets;
 }
 
-abbrev pub fields_of : ErrorControl → List ℕ → TmFields
-fields_of Absent octets = fields_before_sum octets
-fields_of Present octets = fields_before_sum (take (length octets - 2) octets)
+abbrev pub tm_fields_of : ErrorControl → List ℕ → TmFields
+tm_fields_of Absent octets = fields_before_sum octets
+tm_fields_of Present octets = fields_before_sum (take (length octets - 2) octets)
 
 abbrev pub sum_fault_of : ErrorControl → List ℕ → Option TmReadFault
 sum_fault_of Absent octets = None

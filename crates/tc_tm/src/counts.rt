@@ -24,8 +24,8 @@ impl Model for Counts {
 
 impl Counts {
     ghost use Rattle.std.specs.Prelude.{◌≡◌, None, unwrap_or, IfOk, IfErr, OnOk, OnErr};
-    ghost use Rattle.tc_tm.specs.TmFrame.{tm_frame, fault_of};
-    ghost use Rattle.tc_tm.specs.Counting.{none_yet, next_header, counted};
+    ghost use Rattle.tc_tm.specs.TmFrame.{tm_frame, tm_fault_of};
+    ghost use Rattle.tc_tm.specs.Counting.{none_yet, next_header, frame_counted};
 
     /// No frame yet. This asks for memory, 9,216 octets.
     pub fn new(alloc: Global) -> Result<Counts, AllocError>
@@ -49,10 +49,10 @@ impl Counts {
         length: usize,
     ) -> Result<Vec<u8>, TmFault>
         ensures frame { IfOk result (λ frame. frame.items ≡ tm_frame error (next_header self.old scid vcid) control length) }
-        ensures counted { OnOk result (self.new ≡ counted self.old scid vcid) }
+        ensures counted { OnOk result (self.new ≡ frame_counted self.old scid vcid) }
         ensures unchanged { OnErr result (self.new ≡ self.old) }
-        ensures written { OnOk result (fault_of error scid vcid length ≡ None) }
-        ensures refused { IfErr result (λ fault. fault ≡ unwrap_or (fault_of error scid vcid length) TmFault.NoMemory) }
+        ensures written { OnOk result (tm_fault_of error scid vcid length ≡ None) }
+        ensures refused { IfErr result (λ fault. fault ≡ unwrap_or (tm_fault_of error scid vcid length) TmFault.NoMemory) }
     {
         if scid > 1023 {
             return Err(TmFault::BadScid);

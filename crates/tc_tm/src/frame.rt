@@ -1,7 +1,7 @@
 //! Telemetry frames, as they are sent.
 
 ghost use Rattle.std.specs.Prelude.{◌≡◌, ◌<◌, ◌≤◌, None, vec_len, vec_capacity, unwrap_or, IfOk, IfErr, OnOk};
-ghost use Rattle.tc_tm.specs.TmFrame.{primary_header as primary, before_sum, tm_frame, least_length as least_of, fault_of};
+ghost use Rattle.tc_tm.specs.TmFrame.{primary_header as primary, before_sum, tm_frame, least_length as least_of, tm_fault_of};
 
 use std::alloc::{AllocError, Global};
 use tc_fecf::checksum;
@@ -53,8 +53,8 @@ pub fn write_tm(
     length: usize,
 ) -> Result<Vec<u8>, TmFault>
     ensures frame { IfOk result (λ frame. frame.items ≡ tm_frame error header.now control length) }
-    ensures written { OnOk result (fault_of error header.now.scid header.now.vcid length ≡ None) }
-    ensures refused { IfErr result (λ fault. fault ≡ unwrap_or (fault_of error header.now.scid header.now.vcid length) TmFault.NoMemory) }
+    ensures written { OnOk result (tm_fault_of error header.now.scid header.now.vcid length ≡ None) }
+    ensures refused { IfErr result (λ fault. fault ≡ unwrap_or (tm_fault_of error header.now.scid header.now.vcid length) TmFault.NoMemory) }
 {
     if header.scid > 1023 {
         return Err(TmFault::BadScid);

@@ -1,7 +1,7 @@
 //! Telemetry frames, as they are read.
 
 ghost use Rattle.std.specs.Prelude.{◌≡◌, ◌≤◌, None, length, IfOk, MatchResult};
-ghost use Rattle.tc_tm.specs.TmFrame.{fields_before_sum, fields_of, read_fault_of};
+ghost use Rattle.tc_tm.specs.TmFrame.{fields_before_sum, tm_fields_of, read_fault_of};
 
 use crate::frame::{ErrorControl, TmHeader, least_length};
 use tc_fecf::passes;
@@ -37,7 +37,7 @@ pub enum TmReadFault {
 ///
 /// It allocates nothing.
 pub fn read_tm(error: ErrorControl, octets: &[u8]) -> Result<TmFields, TmReadFault>
-    ensures fields { IfOk result (λ fields. fields ≡ fields_of error octets.now) }
+    ensures fields { IfOk result (λ fields. fields ≡ tm_fields_of error octets.now) }
     ensures fault { MatchResult result (λ _. read_fault_of error octets.now ≡ None) (λ fault. read_fault_of error octets.now ≡ Some fault) }
 {
     if octets.len() < least_length(error) {

@@ -1,5 +1,5 @@
 use Rattle.std.proofs.Common.{◌≡◌, ℕ, ◌+◌, ◌-◌, ◌<◌, ◌≤◌, Bool, List, [], ◌∷◌, ◌++◌, length, get_or, take, if◌then◌else◌, refl, ap, sym, ◌∙◌, arith}
-use Rattle.tc_cltu.specs.Reception.{Reception, step, state_after, frames_of, corrections_of, rejections_of, corrected_in, rejected_in}
+use Rattle.tc_cltu.specs.Reception.{Reception, reception_step, state_after, frames_of, corrections_of, rejections_of, corrected_in, rejected_in}
 use Rattle.tc_cltu.proofs.Decoding.{fed-front, fed-more, fed-more-counted, one-counted}
 use Rattle.tc_c.specs.Decoder.{reception_of}
 use Rattle.tc_c.proofs.decoder.take_octets.Goals as goal
@@ -13,7 +13,7 @@ loop-octet-preserved c =
     let counts = one-counted n.fate in let one = counts.0 in let two = counts.1 in
     let is = c.count.ensures.corrected in let also = c.count.ensures.rejected in
     let within = inv.corrected_within in let other = inv.rejected_within in
-    let given : (step m 1029 at (get_or os i 0)).1 ≡ [] =
+    let given : (reception_step m 1029 at (get_or os i 0)).1 ≡ [] =
     sym t.given ∙ ap (λ (b : Bool). if b then take n.decoder.held c.take_octet-next.new.frame ∷ [] else []) c.if-next.false in
     record {
       correct = t.mode ∙ inv.correct;
@@ -45,7 +45,7 @@ returns-then-next-clause-given c =
     let first = reception_of c.args.decoder c.args.frame.now in let at = reception_of l.now l.frame in
     let n = c.take_octet-next.result in let t = c.take_octet-next.ensures in let inv = l.invariant in
     let less : i < length os = c.loop-octet-test.true in
-    let given : (step m 1029 at (get_or os i 0)).1 ≡ take n.decoder.held c.take_octet-next.new.frame ∷ [] =
+    let given : (reception_step m 1029 at (get_or os i 0)).1 ≡ take n.decoder.held c.take_octet-next.new.frame ∷ [] =
     sym t.given ∙ ap (λ (b : Bool). if b then take n.decoder.held c.take_octet-next.new.frame ∷ [] else []) c.if-next.true in
     sym (ap (λ (k : ℕ). frames_of m 1029 first (take (k + 1) os)) inv.taken
     ∙ fed-more m m 1029 i os first at (take n.decoder.held c.take_octet-next.new.frame ∷ []) less refl inv.state given
