@@ -9,7 +9,7 @@ use Rattle.std.proofs.lemmas.Option.{slice_get_within, slice_get-get_or}
 use Rattle.std.specs.Prelude.{option_map, slice_get}
 use Rattle.tc_fixed.specs.History.{LimitedHistory}
 use Rattle.tc_c.specs.declared.seat.Seat.{Seat}
-use Rattle.tc_c.specs.Rack.{channels_in, IsAt, IsFirst, IsThere}
+use Rattle.tc_c.specs.Rack.{channels_in, IsHeldAt, IsFirst, IsHeld}
 
 abbrev channel_of : Seat → Option LimitedHistory
 channel_of seat = seat.place.channel
@@ -49,7 +49,7 @@ differs (Some n) vcid e = λ is. let same : n ≡ vcid = cc in grind (arith, nat
 differs None vcid e = λ is. cc
 
 abbrev pub AreLater : List (Option LimitedHistory) → ℕ → ℕ → Type 0
-AreLater channels vcid place = (at : ℕ) (other : LimitedHistory) → IsAt channels vcid at other → place ≤ at
+AreLater channels vcid place = (at : ℕ) (other : LimitedHistory) → IsHeldAt channels vcid at other → place ≤ at
 
 -- the channel in a seat has the id, and none before it
 pub first : (seats : List Seat) (i : ℕ) (d : Seat) (old : List (Option LimitedHistory)) (vcid : ℕ) → i < length seats
@@ -71,7 +71,7 @@ passed seats i d old vcid inside same not later = λ place other is.
     omega (arith, below, apart)
 
 -- none has the id
-pub nowhere : (seats : List Seat) (n : ℕ) (old : List (Option LimitedHistory)) (vcid : ℕ) → length seats ≤ n → channels_in seats ≡ old → AreLater old vcid n → ¬ IsThere old vcid
+pub nowhere : (seats : List Seat) (n : ℕ) (old : List (Option LimitedHistory)) (vcid : ℕ) → length seats ≤ n → channels_in seats ≡ old → AreLater old vcid n → ¬ IsHeld old vcid
 nowhere seats n old vcid all same later = λ there.
     let at : there.0 < length old = slice_get_within old there.0 (Some there.1) there.2.0 in
     let count : length old ≡ length seats = ap length (sym same) ∙ length-map seats channel_of in

@@ -24,8 +24,8 @@ use Rattle.tc_c.specs.Status.{code_of, settings_status, limits_status}
 use Rattle.tc_c.specs.Farm.{with_ok, flag_of}
 
 -- the settings that the records stand for
-abbrev pub settings_of : SettingsRecord → List QueueSetting → List MapSetting → Result Settings Status
-settings_of settings queues maps =
+abbrev pub settings_in_records : SettingsRecord → List QueueSetting → List MapSetting → Result Settings Status
+settings_in_records settings queues maps =
     with_ok (flag_of settings.segmented) (λ segmented.
     Ok (record {
       vcid = settings.vcid;

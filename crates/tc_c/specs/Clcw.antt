@@ -11,8 +11,8 @@ use Rattle.tc_c.specs.Status.{code_of}
 use Rattle.tc_c.specs.Farm.{with_ok, flag_of, farm_of}
 
 -- the word, or the first reason why there is none, in this order
-abbrev pub clcw_of : FarmRecord → ℕ → ℕ → ℕ → Result ℕ Status
-clcw_of kept vcid no_rf no_bit_lock =
+abbrev pub clcw_or_status : FarmRecord → ℕ → ℕ → ℕ → Result ℕ Status
+clcw_or_status kept vcid no_rf no_bit_lock =
     with_ok (farm_of kept) (λ farm.
     if nat_lt 63 vcid then Err BadVcid else
     with_ok (flag_of no_rf) (λ rf.

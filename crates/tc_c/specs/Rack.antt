@@ -21,29 +21,29 @@ abbrev pub channels_in : List Seat → List (Option LimitedHistory)
 channels_in seats = map (λ (seat : Seat). seat.place.channel) seats
 
 -- the channel at this place, which has this virtual channel id
-abbrev pub IsAt : List (Option LimitedHistory) → ℕ → ℕ → LimitedHistory → Type 0
-IsAt channels vcid place h = (slice_get channels place ≡ Some (Some h)) × (h.settings.vcid ≡ vcid)
+abbrev pub IsHeldAt : List (Option LimitedHistory) → ℕ → ℕ → LimitedHistory → Type 0
+IsHeldAt channels vcid place h = (slice_get channels place ≡ Some (Some h)) × (h.settings.vcid ≡ vcid)
 
 -- it is the first one that has it
 abbrev pub IsFirst : List (Option LimitedHistory) → ℕ → ℕ → LimitedHistory → Type 0
 IsFirst channels vcid place h =
-    IsAt channels vcid place h × ((at : ℕ) (other : LimitedHistory) → IsAt channels vcid at other → place ≤ at)
+    IsHeldAt channels vcid place h × ((at : ℕ) (other : LimitedHistory) → IsHeldAt channels vcid at other → place ≤ at)
 
 -- one has it
-abbrev pub IsThere : List (Option LimitedHistory) → ℕ → Type 0
-IsThere channels vcid = (place : ℕ) × (h : LimitedHistory) × IsAt channels vcid place h
+abbrev pub IsHeld : List (Option LimitedHistory) → ℕ → Type 0
+IsHeld channels vcid = (place : ℕ) × (h : LimitedHistory) × IsHeldAt channels vcid place h
 
 -- the octets begin with this frame of the spacecraft, which is for this channel
-abbrev pub IsLocated : List (Option LimitedHistory) → ℕ → List ℕ → ℕ → List ℕ → LimitedHistory → Type 0
-IsLocated channels scid octets place frame h =
+abbrev pub IsLocatedAmong : List (Option LimitedHistory) → ℕ → List ℕ → ℕ → List ℕ → LimitedHistory → Type 0
+IsLocatedAmong channels scid octets place frame h =
     BeginsWith octets frame × ((header_of frame).scid ≡ scid) × IsFirst channels (header_of frame).vcid place h
 
 -- why octets are for none of the channels: the first of these that applies
-abbrev pub IsLocateFault : List (Option LimitedHistory) → ℕ → List ℕ → LocateFault → Type 0
-IsLocateFault channels scid octets (Frame fault) = fault_of octets ≡ Some fault
-IsLocateFault channels scid octets OtherSpacecraft = (frame : List ℕ) × BeginsWith octets frame × ((header_of frame).scid ≢ scid)
-IsLocateFault channels scid octets UnknownChannel =
-    (frame : List ℕ) × BeginsWith octets frame × ((header_of frame).scid ≡ scid) × ¬ IsThere channels (header_of frame).vcid
+abbrev pub IsLocateFaultAmong : List (Option LimitedHistory) → ℕ → List ℕ → LocateFault → Type 0
+IsLocateFaultAmong channels scid octets (Frame fault) = fault_of octets ≡ Some fault
+IsLocateFaultAmong channels scid octets OtherSpacecraft = (frame : List ℕ) × BeginsWith octets frame × ((header_of frame).scid ≢ scid)
+IsLocateFaultAmong channels scid octets UnknownChannel =
+    (frame : List ℕ) × BeginsWith octets frame × ((header_of frame).scid ≡ scid) × ¬ IsHeld channels (header_of frame).vcid
 
 abbrev pub rack_reply : ℕ → FrameReply → RackReplyRecord
 rack_reply vcid reply = record {
@@ -67,15 +67,15 @@ abbrev pub replied : LimitedHistory → List ℕ → RackReplyRecord
 replied h frame = rack_reply h.settings.vcid (frame_reply_within (limit_of h.limits) h.settings h.journal frame)
 
 -- the channel that the frame is for takes it in, and all others are as they were
-abbrev pub IsBrought : List (Option LimitedHistory) → ℕ → List ℕ → RackReplyRecord → List (Option LimitedHistory) → Type 0
-IsBrought old scid octets reply new =
-    (place : ℕ) × (frame : List ℕ) × (h : LimitedHistory) × IsLocated old scid octets place frame h
+abbrev pub IsTakenIn : List (Option LimitedHistory) → ℕ → List ℕ → RackReplyRecord → List (Option LimitedHistory) → Type 0
+IsTakenIn old scid octets reply new =
+    (place : ℕ) × (frame : List ℕ) × (h : LimitedHistory) × IsLocatedAmong old scid octets place frame h
     × (reply ≡ replied h frame) × (new ≡ slice_set old place (Some (with_event h (events.Frame frame))))
 
 -- the octets are for none of them, and all are as they were
 abbrev pub IsUnlocated : List (Option LimitedHistory) → ℕ → List ℕ → RackReplyRecord → List (Option LimitedHistory) → Type 0
 IsUnlocated old scid octets reply new =
-    (fault : LocateFault) × IsLocateFault old scid octets fault × (reply ≡ no_rack_reply (locate_status fault)) × (new ≡ old)
+    (fault : LocateFault) × IsLocateFaultAmong old scid octets fault × (reply ≡ no_rack_reply (locate_status fault)) × (new ≡ old)
 
-abbrev pub IsAnswered : List (Option LimitedHistory) → ℕ → List ℕ → RackReplyRecord → List (Option LimitedHistory) → Type 0
-IsAnswered old scid octets reply new = IsBrought old scid octets reply new ⊎ IsUnlocated old scid octets reply new
+abbrev pub IsRackReplied : List (Option LimitedHistory) → ℕ → List ℕ → RackReplyRecord → List (Option LimitedHistory) → Type 0
+IsRackReplied old scid octets reply new = IsTakenIn old scid octets reply new ⊎ IsUnlocated old scid octets reply new

@@ -95,12 +95,12 @@ statuses =
     ∷ st.PlainLimit ∷ st.UnlistedMap ∷ st.LongCltu ∷ st.BadLength ∷ st.NoControl ∷ st.BadDecoder ∷ []
 
 -- the first of some that has this number
-abbrev pub with_number : ℕ → List Status → Option Status
-with_number number [] = None
-with_number number (status ∷ others) = if number == code_of status then Some status else with_number number others
+abbrev pub status_numbered : ℕ → List Status → Option Status
+status_numbered number [] = None
+status_numbered number (status ∷ others) = if number == code_of status then Some status else status_numbered number others
 
 abbrev pub status_of : ℕ → Option Status
-status_of number = with_number number statuses
+status_of number = status_numbered number statuses
 
 -- the faults of frames, by their names
 abbrev pub frame_status : FrameFault → Status

@@ -62,8 +62,8 @@ abbrev pub tm_to_write : TmHeaderRecord → ℕ → ℕ → Result ErrorControl 
 tm_to_write header fecf size = with_ok (error_given fecf) (tm_allowed header size)
 
 -- the frame that carries this CLCW
-abbrev pub tm_of : ErrorControl → TmHeaderRecord → ℕ → ℕ → List ℕ
-tm_of error header clcw size = tm_frame error (tm_header_in header) (to_be_bytes w32 clcw) size
+abbrev pub tm_frame_carrying : ErrorControl → TmHeaderRecord → ℕ → ℕ → List ℕ
+tm_frame_carrying error header clcw size = tm_frame error (tm_header_in header) (to_be_bytes w32 clcw) size
 
 -- what octets say as a frame, or the first reason why they say nothing: they are at most as many as a frame is written with
 abbrev pub tm_read : List ℕ → ErrorControl → Result TmFields Status

@@ -3,10 +3,9 @@ use Rattle.std.specs.Prelude.{ℕ, ◌+◌, ◌==◌, ◌||◌, List, length, So
 use Rattle.tc_link.specs.declared.frame.Header.{Header}
 use Rattle.tc_link.specs.declared.command.Command.{Command}
 use Rattle.tc_link.specs.declared.command.Command.TheVariants.{Unlock, SetVr}
-use Rattle.tc_packet.specs.declared.segment.Segment.{Segment}
 use Rattle.tc_write.specs.declared.packets.PacketHeader.{PacketHeader}
 use Rattle.tc_write.specs.Frames.{IsMadeFrame, header_later}
-use Rattle.tc_write.specs.Parts.{count_of, part_at, piece_at}
+use Rattle.tc_write.specs.Parts.{segments_needed, piece_at, segment_at}
 use Rattle.tc_c.specs.declared.status.Status.{Status}
 use Rattle.tc_c.specs.declared.status.Status.TheVariants.{BadField, EmptyData, LongPacket, LongUnit, BadMap, BadSize, NoSegment, BadCommand}
 use Rattle.tc_c.specs.declared.frames.HeaderRecord.{HeaderRecord}
@@ -40,14 +39,11 @@ segment_allowed map size place unit header =
     else if nat_lt size 1 || nat_lt 1018 size then Err BadSize
     else if nat_lt (length unit) 1 then Err EmptyData
     else if nat_lt 65542 (length unit) then Err LongUnit
-    else if nat_lt place (count_of size (length unit)) then Ok (header_later header place)
+    else if nat_lt place (segments_needed size (length unit)) then Ok (header_later header place)
     else Err NoSegment
 
 abbrev pub segment_to_write : HeaderRecord → ℕ → ℕ → ℕ → List ℕ → Result Header Status
 segment_to_write header map size place unit = with_ok (header_in header) (segment_allowed map size place unit)
-
-abbrev pub segment_at : ℕ → ℕ → ℕ → List ℕ → Segment
-segment_at map size place unit = record { part = part_at place (count_of size (length unit)); map = map }
 
 -- the frame that carries the segment at a place of a unit
 abbrev pub IsSegmentFrame : List ℕ → Header → ℕ → ℕ → ℕ → List ℕ → Type 0

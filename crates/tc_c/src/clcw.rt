@@ -3,7 +3,7 @@
 ghost use Rattle.std.specs.Prelude.{◌≡◌, ◌↔◌, IfOk, IfErr};
 ghost use Rattle.tc_link.specs.Clcw.{IsClcw, fields_of};
 ghost use Rattle.tc_c.specs.Status.{code_of};
-ghost use Rattle.tc_c.specs.Clcw.{clcw_of, fields_record, no_clcw};
+ghost use Rattle.tc_c.specs.Clcw.{clcw_or_status, fields_record, no_clcw};
 
 use crate::farm::{FarmRecord, farm, flag};
 use crate::status::{Status, code};
@@ -44,8 +44,8 @@ pub struct ClcwFieldsRecord {
 /// no FARM-1 has is refused as by `tcrx_farm_step`, another id by BadVcid, another flag by BadFlag; the word then is 0.
 #[unsafe(no_mangle)]
 pub extern "C" fn tcrx_clcw(kept: FarmRecord, vcid: u8, no_rf: u8, no_bit_lock: u8) -> ClcwRecord
-    ensures word { IfOk (clcw_of kept vcid no_rf no_bit_lock) (λ word. result ≡ record { status = code_of Status.Done; word = word }) }
-    ensures refused { IfErr (clcw_of kept vcid no_rf no_bit_lock) (λ fault. result ≡ record { status = code_of fault; word = 0 }) }
+    ensures word { IfOk (clcw_or_status kept vcid no_rf no_bit_lock) (λ word. result ≡ record { status = code_of Status.Done; word = word }) }
+    ensures refused { IfErr (clcw_or_status kept vcid no_rf no_bit_lock) (λ fault. result ≡ record { status = code_of fault; word = 0 }) }
 {
     match word(kept, vcid, no_rf, no_bit_lock) {
         Ok(word) => ClcwRecord {
@@ -60,7 +60,7 @@ pub extern "C" fn tcrx_clcw(kept: FarmRecord, vcid: u8, no_rf: u8, no_bit_lock: 
 }
 
 fn word(kept: FarmRecord, vcid: u8, no_rf: u8, no_bit_lock: u8) -> Result<u32, Status>
-    ensures { result ≡ clcw_of kept vcid no_rf no_bit_lock }
+    ensures { result ≡ clcw_or_status kept vcid no_rf no_bit_lock }
 {
     let report = farm(kept)?.report();
     if vcid > 63 {

@@ -8,7 +8,7 @@ ghost use Rattle.tc_fecf.specs.FrameWithField.{frame_with_field, taking_fault_of
 ghost use Rattle.tc_fixed.specs.History.{LimitedHistory, with_event};
 ghost use Rattle.tc_fixed.specs.Limits.{limit_of};
 ghost use Rattle.tc_c.specs.Status.{code_of, field_status};
-ghost use Rattle.tc_c.specs.Rack.{channels_in, IsFirst, IsThere, IsLocated, IsLocateFault, rack_reply, no_rack_reply, no_place, IsAnswered};
+ghost use Rattle.tc_c.specs.Rack.{channels_in, IsFirst, IsHeld, IsLocatedAmong, IsLocateFaultAmong, rack_reply, no_rack_reply, no_place, IsRackReplied};
 
 use crate::channel::tcrx_channel_frame_at;
 use crate::farm::flag;
@@ -76,7 +76,7 @@ fn vcid_in(seat: &mut Seat) -> Option<u8>
 
 // The place of the first channel with this id.
 fn place_of(seats: &mut [Seat], vcid: u8) -> Option<usize>
-    ensures place { MatchOption result (¬ IsThere (channels_in seats.old) vcid) (λ place. (h : LimitedHistory) × IsFirst (channels_in seats.old) vcid place h) }
+    ensures place { MatchOption result (¬ IsHeld (channels_in seats.old) vcid) (λ place. (h : LimitedHistory) × IsFirst (channels_in seats.old) vcid place h) }
     ensures bound { IfSome result (λ place. place < length seats.new) }
     ensures unchanged { channels_in seats.new ≡ channels_in seats.old }
 {
@@ -90,7 +90,7 @@ fn place_of(seats: &mut [Seat], vcid: u8) -> Option<usize>
 
 // The place of the channel that the frame at the front of the octets is for, and the virtual channel id.
 fn located(seats: &mut [Seat], scid: u16, octets: &[u8]) -> Result<(usize, u8), LocateFault>
-    ensures located { MatchResult result (λ found. (frame : List ℕ) × (h : LimitedHistory) × IsLocated (channels_in seats.old) scid octets.now found.0 frame h × ((header_of frame).vcid ≡ found.1)) (IsLocateFault (channels_in seats.old) scid octets.now) }
+    ensures located { MatchResult result (λ found. (frame : List ℕ) × (h : LimitedHistory) × IsLocatedAmong (channels_in seats.old) scid octets.now found.0 frame h × ((header_of frame).vcid ≡ found.1)) (IsLocateFaultAmong (channels_in seats.old) scid octets.now) }
     ensures frame { IfOk result (λ _. fault_of octets.now ≡ None) }
     ensures bound { IfOk result (λ found. found.0 < length seats.new) }
     ensures unchanged { channels_in seats.new ≡ channels_in seats.old }
@@ -125,7 +125,7 @@ fn answer(seat: &mut Seat, vcid: u8, octets: &[u8]) -> RackReplyRecord
 
 // Brings the frame at the front of the octets to the channel that it is for.
 fn bring(seats: &mut [Seat], scid: u16, octets: &[u8]) -> RackReplyRecord
-    ensures answer { IsAnswered (channels_in seats.old) scid octets.now result (channels_in seats.new) }
+    ensures answer { IsRackReplied (channels_in seats.old) scid octets.now result (channels_in seats.new) }
 {
     // The frame that the channel takes in is the one that was located.
     each_input_begins_with_one_frame_at_most();
@@ -137,7 +137,7 @@ fn bring(seats: &mut [Seat], scid: u16, octets: &[u8]) -> RackReplyRecord
 
 // The same of a frame that ends with a frame error control field, without it.
 fn bring_checked(seats: &mut [Seat], scid: u16, octets: &[u8]) -> RackReplyRecord
-    ensures right { IfNone (taking_fault_of octets.now) ((frame : List ℕ) × IsWhole frame × (octets.now ≡ frame_with_field frame) × IsAnswered (channels_in seats.old) scid frame result (channels_in seats.new)) }
+    ensures right { IfNone (taking_fault_of octets.now) ((frame : List ℕ) × IsWhole frame × (octets.now ≡ frame_with_field frame) × IsRackReplied (channels_in seats.old) scid frame result (channels_in seats.new)) }
     ensures wrong { IfSome (taking_fault_of octets.now) (λ fault. (result ≡ no_rack_reply (field_status fault)) × (channels_in seats.new ≡ channels_in seats.old)) }
 {
     match check_taking(octets) {
@@ -164,8 +164,8 @@ pub extern "C" fn tcrx_rack_frame_at(
     fecf: u8,
     octets: &[u8],
 ) -> RackReplyRecord
-    ensures bare { fecf ≡ 0 → IsAnswered (channels_in seats.old) scid octets.now result (channels_in seats.new) }
-    ensures right { fecf ≡ 1 → IfNone (taking_fault_of octets.now) ((frame : List ℕ) × IsWhole frame × (octets.now ≡ frame_with_field frame) × IsAnswered (channels_in seats.old) scid frame result (channels_in seats.new)) }
+    ensures bare { fecf ≡ 0 → IsRackReplied (channels_in seats.old) scid octets.now result (channels_in seats.new) }
+    ensures right { fecf ≡ 1 → IfNone (taking_fault_of octets.now) ((frame : List ℕ) × IsWhole frame × (octets.now ≡ frame_with_field frame) × IsRackReplied (channels_in seats.old) scid frame result (channels_in seats.new)) }
     ensures wrong { fecf ≡ 1 → IfSome (taking_fault_of octets.now) (λ fault. result ≡ no_rack_reply (field_status fault)) }
     ensures bad_flag { 1 < fecf → result ≡ no_rack_reply Status.BadFlag }
     ensures refused { 0 < result.status → channels_in seats.new ≡ channels_in seats.old }
@@ -182,7 +182,7 @@ pub extern "C" fn tcrx_rack_frame_at(
 #[unsafe(no_mangle)]
 pub extern "C" fn tcrx_rack_find_at(seats: &mut [Seat], vcid: u8) -> PlaceRecord
     ensures found { result.status ≡ 0 → (h : LimitedHistory) × IsFirst (channels_in seats.old) vcid result.place h }
-    ensures none { 0 < result.status → (result ≡ no_place Status.UnknownChannel) × ¬ IsThere (channels_in seats.old) vcid }
+    ensures none { 0 < result.status → (result ≡ no_place Status.UnknownChannel) × ¬ IsHeld (channels_in seats.old) vcid }
     ensures unchanged { channels_in seats.new ≡ channels_in seats.old }
 {
     match place_of(seats, vcid) {

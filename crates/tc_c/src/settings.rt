@@ -6,7 +6,7 @@ ghost use Rattle.tc_c.specs.declared.status.Status.{Status as StatusName};
 ghost use Rattle.tc_c.specs.Status.{code_of};
 ghost use Rattle.tc_channel.specs.Settings.{settings_of as owned_of, IsAllowed};
 ghost use Rattle.tc_fixed.specs.Limits.{AreLimits, limits_of, none};
-ghost use Rattle.tc_c.specs.Channel.{settings_of, limits_given, IsUnfit, IsUnfitWithin, IsRefusedBy, IsRefusedWithin};
+ghost use Rattle.tc_c.specs.Channel.{settings_in_records, limits_given, IsUnfit, IsUnfitWithin, IsRefusedBy, IsRefusedWithin};
 
 use crate::farm::flag;
 use crate::seat::Seat;
@@ -37,7 +37,7 @@ fn lent<'a>(
     queues: &'a [QueueSetting],
     maps: &'a [MapSetting],
 ) -> Result<LentSettings<'a>, Status>
-    ensures settings { MatchResult result (λ lent. settings_of given queues.now maps.now ≡ Ok (owned_of lent)) (λ fault. settings_of given queues.now maps.now ≡ Err fault) }
+    ensures settings { MatchResult result (λ lent. settings_in_records given queues.now maps.now ≡ Ok (owned_of lent)) (λ fault. settings_in_records given queues.now maps.now ≡ Err fault) }
     ensures refusal { IfErr result (λ fault. 0 < code_of fault) }
 {
     let segmented = flag(given.segmented)?;
@@ -58,9 +58,9 @@ pub(crate) fn checked<'a>(
     queues: &'a [QueueSetting],
     maps: &'a [MapSetting],
 ) -> Result<LentSettings<'a>, Status>
-    ensures settings { IfOk result (λ lent. settings_of given queues.now maps.now ≡ Ok (owned_of lent)) }
+    ensures settings { IfOk result (λ lent. settings_in_records given queues.now maps.now ≡ Ok (owned_of lent)) }
     ensures allowed { IfOk result (λ lent. IsAllowed (owned_of lent)) }
-    ensures fault { IfErr result (λ fault. IsUnfit (settings_of given queues.now maps.now) fault) }
+    ensures fault { IfErr result (λ fault. IsUnfit (settings_in_records given queues.now maps.now) fault) }
     ensures refusal { IfErr result (λ fault. 0 < code_of fault) }
 {
     let lent = lent(given, queues, maps)?;
@@ -77,9 +77,9 @@ pub(crate) fn checked_within<'a>(
     maps: &'a [MapSetting],
     limits: LentLimits<'_>,
 ) -> Result<LentSettings<'a>, Status>
-    ensures settings { IfOk result (λ lent. settings_of given queues.now maps.now ≡ Ok (owned_of lent)) }
+    ensures settings { IfOk result (λ lent. settings_in_records given queues.now maps.now ≡ Ok (owned_of lent)) }
     ensures allowed { IfOk result (λ lent. IsAllowed (owned_of lent) × AreLimits (owned_of lent) (limits_of limits.entry)) }
-    ensures fault { IfErr result (λ fault. IsUnfitWithin (settings_of given queues.now maps.now) (limits_of limits.entry) fault) }
+    ensures fault { IfErr result (λ fault. IsUnfitWithin (settings_in_records given queues.now maps.now) (limits_of limits.entry) fault) }
     ensures refusal { IfErr result (λ fault. 0 < code_of fault) }
 {
     let lent = lent(given, queues, maps)?;
@@ -96,8 +96,8 @@ fn channel(
     queues: &[QueueSetting],
     maps: &[MapSetting],
 ) -> Result<Box<FixedChannel>, Status>
-    ensures made { IfOk result (λ held. (s : ChannelSettings) × (settings_of given queues.now maps.now ≡ Ok s) × IsAllowed s × (held.value ≡ record { settings = s; limits = none; journal = [] })) }
-    ensures fault { IfErr result (λ fault. IsRefusedBy (settings_of given queues.now maps.now) fault) }
+    ensures made { IfOk result (λ held. (s : ChannelSettings) × (settings_in_records given queues.now maps.now ≡ Ok s) × IsAllowed s × (held.value ≡ record { settings = s; limits = none; journal = [] })) }
+    ensures fault { IfErr result (λ fault. IsRefusedBy (settings_in_records given queues.now maps.now) fault) }
     ensures refusal { IfErr result (λ fault. 0 < code_of fault) }
 {
     let lent = checked(given, queues, maps)?;
@@ -121,8 +121,8 @@ fn channel_within(
     maps: &[MapSetting],
     limits: LentLimits<'_>,
 ) -> Result<Box<FixedChannel>, Status>
-    ensures made { IfOk result (λ held. (s : ChannelSettings) × (settings_of given queues.now maps.now ≡ Ok s) × IsAllowed s × AreLimits s (limits_of limits.entry) × (held.value ≡ record { settings = s; limits = limits_of limits.entry; journal = [] })) }
-    ensures fault { IfErr result (λ fault. IsRefusedWithin (settings_of given queues.now maps.now) (limits_of limits.entry) fault) }
+    ensures made { IfOk result (λ held. (s : ChannelSettings) × (settings_in_records given queues.now maps.now ≡ Ok s) × IsAllowed s × AreLimits s (limits_of limits.entry) × (held.value ≡ record { settings = s; limits = limits_of limits.entry; journal = [] })) }
+    ensures fault { IfErr result (λ fault. IsRefusedWithin (settings_in_records given queues.now maps.now) (limits_of limits.entry) fault) }
     ensures refusal { IfErr result (λ fault. 0 < code_of fault) }
 {
     let lent = checked_within(given, queues, maps, limits)?;
@@ -155,8 +155,8 @@ pub extern "C" fn tcrx_channel_new_at(
     queues: &[QueueSetting],
     maps: &[MapSetting],
 ) -> u32
-    ensures made { IfNone seat.old.place.channel (result ≡ 0 → (s : ChannelSettings) × (settings_of given queues.now maps.now ≡ Ok s) × IsAllowed s × (seat.new.place.channel ≡ Some (record { settings = s; limits = none; journal = [] }))) }
-    ensures fault { IfNone seat.old.place.channel (0 < result → (fault : StatusName) × IsRefusedBy (settings_of given queues.now maps.now) fault × (result ≡ code_of fault)) }
+    ensures made { IfNone seat.old.place.channel (result ≡ 0 → (s : ChannelSettings) × (settings_in_records given queues.now maps.now ≡ Ok s) × IsAllowed s × (seat.new.place.channel ≡ Some (record { settings = s; limits = none; journal = [] }))) }
+    ensures fault { IfNone seat.old.place.channel (0 < result → (fault : StatusName) × IsRefusedBy (settings_in_records given queues.now maps.now) fault × (result ≡ code_of fault)) }
     ensures in_use { IfSome seat.old.place.channel (λ _. result ≡ code_of Status.InUse) }
     ensures refused { 0 < result → seat.new.place.channel ≡ seat.old.place.channel }
 {
@@ -186,8 +186,8 @@ pub extern "C" fn tcrx_channel_new_with_limits_at(
     others: u32,
     limits: &[MapLimit],
 ) -> u32
-    ensures made { IfNone seat.old.place.channel (result ≡ 0 → (s : ChannelSettings) × (settings_of given queues.now maps.now ≡ Ok s) × IsAllowed s × AreLimits s (limits_given others limits.now) × (seat.new.place.channel ≡ Some (record { settings = s; limits = limits_given others limits.now; journal = [] }))) }
-    ensures fault { IfNone seat.old.place.channel (0 < result → (fault : StatusName) × IsRefusedWithin (settings_of given queues.now maps.now) (limits_given others limits.now) fault × (result ≡ code_of fault)) }
+    ensures made { IfNone seat.old.place.channel (result ≡ 0 → (s : ChannelSettings) × (settings_in_records given queues.now maps.now ≡ Ok s) × IsAllowed s × AreLimits s (limits_given others limits.now) × (seat.new.place.channel ≡ Some (record { settings = s; limits = limits_given others limits.now; journal = [] }))) }
+    ensures fault { IfNone seat.old.place.channel (0 < result → (fault : StatusName) × IsRefusedWithin (settings_in_records given queues.now maps.now) (limits_given others limits.now) fault × (result ≡ code_of fault)) }
     ensures in_use { IfSome seat.old.place.channel (λ _. result ≡ code_of Status.InUse) }
     ensures refused { 0 < result → seat.new.place.channel ≡ seat.old.place.channel }
 {

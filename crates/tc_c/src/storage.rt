@@ -7,7 +7,7 @@ ghost use Rattle.tc_fixed.specs.Limits.{AreLimits, limits_of};
 ghost use Rattle.tc_fixed.specs.Storage.{storage_of, storage_within};
 ghost use Rattle.tc_c.specs.declared.status.Status.{Status as StatusName};
 ghost use Rattle.tc_c.specs.Status.{code_of};
-ghost use Rattle.tc_c.specs.Channel.{settings_of, limits_given, IsUnfit, IsUnfitWithin, count_record, no_count};
+ghost use Rattle.tc_c.specs.Channel.{settings_in_records, limits_given, IsUnfit, IsUnfitWithin, count_record, no_count};
 
 use crate::counts::{CountRecord, counted, not_counted};
 use crate::settings::{SettingsRecord, checked, checked_within};
@@ -21,8 +21,8 @@ fn storage(
     queues: &[QueueSetting],
     maps: &[MapSetting],
 ) -> Result<u64, Status>
-    ensures storage { IfOk result (λ octets. (s : ChannelSettings) × (settings_of given queues.now maps.now ≡ Ok s) × IsAllowed s × (octets ≡ min (storage_of s) (2 ^ 64 - 1))) }
-    ensures fault { IfErr result (λ fault. IsUnfit (settings_of given queues.now maps.now) fault) }
+    ensures storage { IfOk result (λ octets. (s : ChannelSettings) × (settings_in_records given queues.now maps.now ≡ Ok s) × IsAllowed s × (octets ≡ min (storage_of s) (2 ^ 64 - 1))) }
+    ensures fault { IfErr result (λ fault. IsUnfit (settings_in_records given queues.now maps.now) fault) }
     ensures refusal { IfErr result (λ fault. 0 < code_of fault) }
 {
     Ok(storage_of_lent(checked(given, queues, maps)?))
@@ -35,8 +35,8 @@ fn limited_storage(
     maps: &[MapSetting],
     limits: LentLimits<'_>,
 ) -> Result<u64, Status>
-    ensures storage { IfOk result (λ octets. (s : ChannelSettings) × (settings_of given queues.now maps.now ≡ Ok s) × IsAllowed s × AreLimits s (limits_of limits.entry) × (octets ≡ min (storage_within s (limits_of limits.entry)) (2 ^ 64 - 1))) }
-    ensures fault { IfErr result (λ fault. IsUnfitWithin (settings_of given queues.now maps.now) (limits_of limits.entry) fault) }
+    ensures storage { IfOk result (λ octets. (s : ChannelSettings) × (settings_in_records given queues.now maps.now ≡ Ok s) × IsAllowed s × AreLimits s (limits_of limits.entry) × (octets ≡ min (storage_within s (limits_of limits.entry)) (2 ^ 64 - 1))) }
+    ensures fault { IfErr result (λ fault. IsUnfitWithin (settings_in_records given queues.now maps.now) (limits_of limits.entry) fault) }
     ensures refusal { IfErr result (λ fault. 0 < code_of fault) }
 {
     Ok(storage_with_lent(checked_within(given, queues, maps, limits)?, limits))
@@ -53,8 +53,8 @@ pub extern "C" fn tcrx_storage_at(
     queues: &[QueueSetting],
     maps: &[MapSetting],
 ) -> CountRecord
-    ensures storage { result.status ≡ 0 → (s : ChannelSettings) × (settings_of given queues.now maps.now ≡ Ok s) × IsAllowed s × (result ≡ count_record (min (storage_of s) (2 ^ 64 - 1))) }
-    ensures fault { 0 < result.status → (fault : StatusName) × IsUnfit (settings_of given queues.now maps.now) fault × (result ≡ no_count fault) }
+    ensures storage { result.status ≡ 0 → (s : ChannelSettings) × (settings_in_records given queues.now maps.now ≡ Ok s) × IsAllowed s × (result ≡ count_record (min (storage_of s) (2 ^ 64 - 1))) }
+    ensures fault { 0 < result.status → (fault : StatusName) × IsUnfit (settings_in_records given queues.now maps.now) fault × (result ≡ no_count fault) }
 {
     match storage(given, queues, maps) {
         Ok(octets) => counted(octets),
@@ -72,8 +72,8 @@ pub extern "C" fn tcrx_storage_with_limits_at(
     others: u32,
     limits: &[MapLimit],
 ) -> CountRecord
-    ensures storage { result.status ≡ 0 → (s : ChannelSettings) × (settings_of given queues.now maps.now ≡ Ok s) × IsAllowed s × AreLimits s (limits_given others limits.now) × (result ≡ count_record (min (storage_within s (limits_given others limits.now)) (2 ^ 64 - 1))) }
-    ensures fault { 0 < result.status → (fault : StatusName) × IsUnfitWithin (settings_of given queues.now maps.now) (limits_given others limits.now) fault × (result ≡ no_count fault) }
+    ensures storage { result.status ≡ 0 → (s : ChannelSettings) × (settings_in_records given queues.now maps.now ≡ Ok s) × IsAllowed s × AreLimits s (limits_given others limits.now) × (result ≡ count_record (min (storage_within s (limits_given others limits.now)) (2 ^ 64 - 1))) }
+    ensures fault { 0 < result.status → (fault : StatusName) × IsUnfitWithin (settings_in_records given queues.now maps.now) (limits_given others limits.now) fault × (result ≡ no_count fault) }
 {
     let limits = LentLimits {
         others,

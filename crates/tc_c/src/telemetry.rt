@@ -3,7 +3,7 @@
 ghost use Rattle.std.specs.Prelude.{◌≡◌, ◌<◌, ◌≤◌, length, take, drop, Ok, Err, IfOk, IfErr, MatchResult};
 ghost use Rattle.tc_tm.specs.TmFrame.{primary_header as primary, before_sum, tm_frame, least_length};
 ghost use Rattle.tc_c.specs.Channel.{no_octets, too_short, taken};
-ghost use Rattle.tc_c.specs.Telemetry.{error_given, tm_header_in, tm_header_record, tm_allowed, tm_read_status, tm_to_write, tm_of, tm_to_read, tm_record, no_tm};
+ghost use Rattle.tc_c.specs.Telemetry.{error_given, tm_header_in, tm_header_record, tm_allowed, tm_read_status, tm_to_write, tm_frame_carrying, tm_to_read, tm_record, no_tm};
 
 use crate::buffer::{WrittenRecord, no_room, not_written, written};
 use crate::farm::flag;
@@ -52,7 +52,7 @@ pub extern "C" fn tcrx_write_tm_at(
     octets: &mut [u8],
 ) -> WrittenRecord
     ensures written { IfOk (tm_to_write header fecf size) (λ error. size ≤ length octets.old → result ≡ taken size) }
-    ensures frame { IfOk (tm_to_write header fecf size) (λ error. size ≤ length octets.old → take size octets.new ≡ tm_of error header clcw size) }
+    ensures frame { IfOk (tm_to_write header fecf size) (λ error. size ≤ length octets.old → take size octets.new ≡ tm_frame_carrying error header clcw size) }
     ensures rest { IfOk (tm_to_write header fecf size) (λ error. size ≤ length octets.old → drop size octets.new ≡ drop size octets.old) }
     ensures no_room { IfOk (tm_to_write header fecf size) (λ error. length octets.old < size → (result ≡ too_short size) × (octets.new ≡ octets.old)) }
     ensures refused { IfErr (tm_to_write header fecf size) (λ fault. (result ≡ no_octets fault) × (octets.new ≡ octets.old)) }
@@ -106,7 +106,7 @@ fn put_tm(
     requires vcid { header.vcid < 8 }
     requires least { least_length error ≤ size }
     ensures put { size ≤ length octets.old → result ≡ taken size }
-    ensures frame { size ≤ length octets.old → take size octets.new ≡ tm_of error header clcw size }
+    ensures frame { size ≤ length octets.old → take size octets.new ≡ tm_frame_carrying error header clcw size }
     ensures rest { size ≤ length octets.old → drop size octets.new ≡ drop size octets.old }
     ensures no_room { length octets.old < size → (result ≡ too_short size) × (octets.new ≡ octets.old) }
 {

@@ -5,7 +5,7 @@ ghost use Rattle.tc_link.specs.Frame.{IsWhole};
 ghost use Rattle.tc_fecf.specs.FrameWithField.{frame_with_field, adding_fault_of, taking_fault_of};
 ghost use Rattle.tc_write.specs.Frames.{IsMadeFrame, IsCommandFrame, command_length};
 ghost use Rattle.tc_write.specs.Packets.{IsPacketOf};
-ghost use Rattle.tc_write.specs.Parts.{count_of};
+ghost use Rattle.tc_write.specs.Parts.{segments_needed};
 ghost use Rattle.tc_c.specs.Channel.{no_octets, too_short, taken};
 ghost use Rattle.tc_c.specs.Status.{field_status};
 ghost use Rattle.tc_c.specs.Writing.{packet_to_write, packet_header_in, segment_to_write, IsSegmentFrame, segment_length, command_to_write};
@@ -138,7 +138,7 @@ fn header_at(
     ensures some { IfOk result (λ h. 1 ≤ size) }
     ensures size { IfOk result (λ h. size ≤ 1018) }
     ensures unit { IfOk result (λ h. length unit.now ≤ 65542) }
-    ensures place { IfOk result (λ h. place < count_of size (length unit.now)) }
+    ensures place { IfOk result (λ h. place < segments_needed size (length unit.now)) }
 {
     let header = read_header(header)?;
     if header.scid > 1023 || header.vcid > 63 {

@@ -15,7 +15,7 @@ use Rattle.tc_channel.specs.declared.event.Event.{Event}
 use Rattle.tc_channel.specs.declared.event.Event.TheVariants.{Release}
 use Rattle.tc_channel.specs.Reply.{clcw}
 use Rattle.tc_link.specs.Frame.{header_of}
-use Rattle.tc_desk.specs.Alone.{HasMadeAll, HasSeenItsOwn, placed}
+use Rattle.tc_desk.specs.Alone.{HasMadeAll, HasSeenItsOwn, with_places}
 use Rattle.tc_desk.specs.Call.{HasMet, HasSeenNoMore, looked, made}
 use Rattle.tc_desk.specs.Log.{AtLock, Identity, Moment, Own, history_of}
 use Rattle.tc_desk.specs.{TableId}
@@ -36,7 +36,7 @@ use Rattle.tc_cli.specs.Manned.{Manned, IsAnsweredAt, IsBringAnswer, IsDeskAnswe
 use Rattle.tc_rack.specs.Operation.{IsAnswerOf, IsChannelAnswer, IsClcwAnswer, IsFrameAnswer}
 use Rattle.tc_cli.proofs.Beginnings.{AreEach, IsLevel, beginning-same, beginning-self, beginning-trans, each-back, each-set, each-there, set-same}
 use Rattle.tc_cli.proofs.Planned.{mapped-at, set-elsewhere, set-there}
-use Rattle.tc_rack.specs.Rack.{Racked, Changes, IsLocateFault, IsThere, histories, new_rack}
+use Rattle.tc_rack.specs.Rack.{Racked, Changes, IsRackLocateFault, HasChannel, histories, new_rack}
 use Rattle.tc_rack.specs.declared.answer.Answer.{Answer}
 use Rattle.tc_rack.specs.declared.answer.Answer.TheVariants.{Clcw, Refused}
 use Rattle.tc_rack.specs.declared.answer.Refusal.TheVariants.{UnknownChannel}
@@ -68,7 +68,7 @@ AreAlone desks = All (λ (d : AtLock). HasMadeAll d.own) desks
 
 -- where the operator has made all that it has seen, the watcher has seen it, too
 abbrev pub IsAhead : AtLock → History → Type 0
-IsAhead d seen = HasMadeAll d.own → board.IsBeginning (history_of d.own.seen) seen
+IsAhead d seen = HasMadeAll d.own → board.IsEarlier (history_of d.own.seen) seen
 
 pub record IsSound (m : Manned) : Type 0 where
   pub knows : KnowsDesks m.station m.operator
@@ -153,7 +153,7 @@ module _ (laws : AloneLaws) where
       → AreEach IsAhead after.operator.desks after.watchers
   ahead-after Answers place vcid before after answer a all =
       each-set IsAhead before.operator.desks after.operator.desks before.watchers after.watchers place a.there a.next a.early a.late a.others a.watchers a.was a.watched all
-      (λ made. subst (board.IsBeginning (history_of a.next.own.seen)) (sym a.met.1) (beginning-self (history_of a.next.own.seen)))
+      (λ made. subst (board.IsEarlier (history_of a.next.own.seen)) (sym a.met.1) (beginning-self (history_of a.next.own.seen)))
 
   -- where each watcher has seen just what the operator has in the end, it had before this answer
   level-before : (Answers : Linked → Answer → Linked → Type 0) (place vcid : ℕ) (before after : Manned) (answer : Answer) → (a : IsAnsweredAt place vcid Answers before answer after) → AreEach IsAhead before.operator.desks before.watchers
@@ -161,7 +161,7 @@ module _ (laws : AloneLaws) where
   level-before Answers place vcid before after answer a ahead alone same all =
       let made = was-there (λ (d : AtLock). HasMadeAll d.own) before.operator.desks place a.there a.was alone in
       let least = ahead place a.there a.early a.was a.watched made in
-      let most : board.IsBeginning a.early.seen (history_of a.there.own.seen) = subst (HasSeenNoMore a.early) (sym same) a.no_more in
+      let most : board.IsEarlier a.early.seen (history_of a.there.own.seen) = subst (HasSeenNoMore a.early) (sym same) a.no_more in
       each-back IsLevel before.operator.desks after.operator.desks before.watchers after.watchers place a.there a.next a.early a.late a.others a.watchers a.was a.watched all
       (beginning-same a.early.seen (history_of a.there.own.seen) most least)
 
@@ -190,14 +190,14 @@ module _ (laws : AloneLaws) where
       ∙ (ap (map (λ (h : Identity). h.settings.vcid)) sound.knows
       ∙ (sym (map-map (λ (s : Settings). s.vcid) (λ (h : Identity). h.settings) m.station.heads) ∙ sound.named)))
 
-  unknown : (m : Manned) (vcid : ℕ) → IsSound m → ¬ Contains m.station.vcids vcid → ¬ IsThere (map channel_at m.operator.desks) vcid
+  unknown : (m : Manned) (vcid : ℕ) → IsSound m → ¬ Contains m.station.vcids vcid → ¬ HasChannel (map channel_at m.operator.desks) vcid
   unknown m vcid sound none (k, c, lt, is, id) =
       let all = ids m sound in
       let channels = map channel_at m.operator.desks in
       let inside : k < length m.station.vcids = omega (arith, lt, length-map channels vcid_of, ap (length {A = ℕ}) all) in
       none (k, inside, ap (λ (l : List ℕ). get_or l k vcid) (sym all) ∙ (get_or-map vcid_of channels k c vcid lt ∙ (ap vcid_of is ∙ id)))
 
-  located : (m : Manned) (octets : List ℕ) (fault : LocateFault) → IsSound m → at_station.IsLocateFault m.station octets fault → IsLocateFault (rack_of m) octets fault
+  located : (m : Manned) (octets : List ℕ) (fault : LocateFault) → IsSound m → at_station.IsLocateFault m.station octets fault → IsRackLocateFault (rack_of m) octets fault
   located m octets (Frame f) sound why = why
   located m octets OtherSpacecraft sound why = why
   located m octets UnknownChannel sound (frame, ours, none) = (frame, ours.0, ours.1, unknown m (header_of frame).vcid sound none)
@@ -256,7 +256,7 @@ module _ (laws : AloneLaws) where
       let watchers = ap (λ (x : Manned). x.watchers) a.change in
       let level : a.late.seen ≡ history_of d.own.seen = each-there IsLevel m.operator.desks new.operator.desks m.watchers new.watchers place d d a.early a.late desks watchers found.1 a.watched alone.1 in
       let least = sound.ahead place d a.early found.1 a.watched (was-there (λ (x : AtLock). HasMadeAll x.own) m.operator.desks place d found.1 all) in
-      let most : board.IsBeginning a.early.seen (history_of d.own.seen) = subst (board.IsBeginning a.early.seen) level a.later in
+      let most : board.IsEarlier a.early.seen (history_of d.own.seen) = subst (board.IsEarlier a.early.seen) level a.later in
       let before =
       each-back IsLevel m.operator.desks new.operator.desks m.watchers new.watchers place d d a.early a.late desks watchers found.1 a.watched alone.1
       (beginning-same a.early.seen (history_of d.own.seen) most least) in
@@ -392,7 +392,7 @@ module _ (laws : AloneLaws) where
 
 no-event : (own : Own) → HasMadeAll own → own.made ≡ [] → own.seen.entries ≡ []
 no-event own all none = none-placed own.seen.entries (sym all ∙ none) where
-  none-placed : (es : List Event) → placed 0 es ≡ [] → es ≡ []
+  none-placed : (es : List Event) → with_places 0 es ≡ [] → es ≡ []
   none-placed [] is = refl
   none-placed (e ∷ es) is = let l = ap (length {A = ℕ × Event}) is in absurd (omega arith)
 

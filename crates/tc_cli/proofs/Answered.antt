@@ -113,61 +113,61 @@ release-empty m after vcid (place, at, c) = inl (
 -- what was taken is of a type with octets that are known
 module _ {P : Type 0} (octets_of : P → List ℕ) where
   pub taken : (grows : Bool) (m after : Manned) (vcid apid : ℕ) (packet : P)
-      → IsMannedCallOn vcid (events.Take apid) (λ now p. at_desk.IsTaken apid now (octets_of p)) (at_desk.IsTakeFault grows apid) m (Ok packet) after
+      → IsMannedCallOn vcid (events.Take apid) (λ now p. at_desk.IsOldestPacket apid now (octets_of p)) (at_desk.IsTakeFault grows apid) m (Ok packet) after
       → IsDeskAnswer vcid (IsTakeAnswered apid) m (Take vcid apid (octets_of packet)) after
   taken grows m after vcid apid packet (place, at, c) = inl (
     place,
     at,
-    answered-at place vcid (events.Take apid) (λ now p. at_desk.IsTaken apid now (octets_of p)) (at_desk.IsTakeFault grows apid) (IsTakeAnswered apid) m after (Ok packet) (Take vcid apid (octets_of packet)) c
+    answered-at place vcid (events.Take apid) (λ now p. at_desk.IsOldestPacket apid now (octets_of p)) (at_desk.IsTakeFault grows apid) (IsTakeAnswered apid) m after (Ok packet) (Take vcid apid (octets_of packet)) c
         (λ now named is. inl (octets_of packet, is, λ i. Take (sym named i) apid (octets_of packet), refl)),
   )
 
   pub take-without-queue : (grows : Bool) (m after : Manned) (vcid apid : ℕ)
-      → IsMannedCallOn {R = P} vcid (events.Take apid) (λ now p. at_desk.IsTaken apid now (octets_of p)) (at_desk.IsTakeFault grows apid) m (Err take_faults.NoQueue) after
+      → IsMannedCallOn {R = P} vcid (events.Take apid) (λ now p. at_desk.IsOldestPacket apid now (octets_of p)) (at_desk.IsTakeFault grows apid) m (Err take_faults.NoQueue) after
       → IsDeskAnswer vcid (IsTakeAnswered apid) m (Refused NoQueue) after
   take-without-queue grows m after vcid apid (place, at, c) = inl (
     place,
     at,
-    answered-at place vcid (events.Take apid) (λ now p. at_desk.IsTaken apid now (octets_of p)) (at_desk.IsTakeFault grows apid) (IsTakeAnswered apid) m after (Err take_faults.NoQueue) (Refused NoQueue) c
+    answered-at place vcid (events.Take apid) (λ now p. at_desk.IsOldestPacket apid now (octets_of p)) (at_desk.IsTakeFault grows apid) (IsTakeAnswered apid) m after (Err take_faults.NoQueue) (Refused NoQueue) c
         (λ now named why. inr (inl (why, refl), refl)),
   )
 
   pub take-of-none : (grows : Bool) (m after : Manned) (vcid apid : ℕ)
-      → IsMannedCallOn {R = P} vcid (events.Take apid) (λ now p. at_desk.IsTaken apid now (octets_of p)) (at_desk.IsTakeFault grows apid) m (Err take_faults.Empty) after
+      → IsMannedCallOn {R = P} vcid (events.Take apid) (λ now p. at_desk.IsOldestPacket apid now (octets_of p)) (at_desk.IsTakeFault grows apid) m (Err take_faults.Empty) after
       → IsDeskAnswer vcid (IsTakeAnswered apid) m (Refused Empty) after
   take-of-none grows m after vcid apid (place, at, c) = inl (
     place,
     at,
-    answered-at place vcid (events.Take apid) (λ now p. at_desk.IsTaken apid now (octets_of p)) (at_desk.IsTakeFault grows apid) (IsTakeAnswered apid) m after (Err take_faults.Empty) (Refused Empty) c
+    answered-at place vcid (events.Take apid) (λ now p. at_desk.IsOldestPacket apid now (octets_of p)) (at_desk.IsTakeFault grows apid) (IsTakeAnswered apid) m after (Err take_faults.Empty) (Refused Empty) c
         (λ now named why. inr (inr (why, refl), refl)),
   )
 
   pub unit-taken : (grows : Bool) (m after : Manned) (vcid map_id : ℕ) (unit : P)
-      → IsMannedCallOn vcid (events.TakeUnit map_id) (λ now p. at_desk.IsUnitTaken map_id now (octets_of p)) (at_desk.IsTakeUnitFault grows map_id) m (Ok unit) after
+      → IsMannedCallOn vcid (events.TakeUnit map_id) (λ now p. at_desk.IsOldestUnit map_id now (octets_of p)) (at_desk.IsTakeUnitFault grows map_id) m (Ok unit) after
       → IsDeskAnswer vcid (IsUnitAnswered map_id) m (TakeUnit vcid map_id (octets_of unit)) after
   unit-taken grows m after vcid map_id unit (place, at, c) = inl (
     place,
     at,
-    answered-at place vcid (events.TakeUnit map_id) (λ now p. at_desk.IsUnitTaken map_id now (octets_of p)) (at_desk.IsTakeUnitFault grows map_id) (IsUnitAnswered map_id) m after (Ok unit) (TakeUnit vcid map_id (octets_of unit)) c
+    answered-at place vcid (events.TakeUnit map_id) (λ now p. at_desk.IsOldestUnit map_id now (octets_of p)) (at_desk.IsTakeUnitFault grows map_id) (IsUnitAnswered map_id) m after (Ok unit) (TakeUnit vcid map_id (octets_of unit)) c
         (λ now named is. inl (octets_of unit, is, λ i. TakeUnit (sym named i) map_id (octets_of unit), refl)),
   )
 
   pub unit-without-map : (grows : Bool) (m after : Manned) (vcid map_id : ℕ)
-      → IsMannedCallOn {R = P} vcid (events.TakeUnit map_id) (λ now p. at_desk.IsUnitTaken map_id now (octets_of p)) (at_desk.IsTakeUnitFault grows map_id) m (Err unit_faults.NoMap) after
+      → IsMannedCallOn {R = P} vcid (events.TakeUnit map_id) (λ now p. at_desk.IsOldestUnit map_id now (octets_of p)) (at_desk.IsTakeUnitFault grows map_id) m (Err unit_faults.NoMap) after
       → IsDeskAnswer vcid (IsUnitAnswered map_id) m (Refused NoMap) after
   unit-without-map grows m after vcid map_id (place, at, c) = inl (
     place,
     at,
-    answered-at place vcid (events.TakeUnit map_id) (λ now p. at_desk.IsUnitTaken map_id now (octets_of p)) (at_desk.IsTakeUnitFault grows map_id) (IsUnitAnswered map_id) m after (Err unit_faults.NoMap) (Refused NoMap) c
+    answered-at place vcid (events.TakeUnit map_id) (λ now p. at_desk.IsOldestUnit map_id now (octets_of p)) (at_desk.IsTakeUnitFault grows map_id) (IsUnitAnswered map_id) m after (Err unit_faults.NoMap) (Refused NoMap) c
         (λ now named why. inr (inl (why, refl), refl)),
   )
 
   pub unit-of-none : (grows : Bool) (m after : Manned) (vcid map_id : ℕ)
-      → IsMannedCallOn {R = P} vcid (events.TakeUnit map_id) (λ now p. at_desk.IsUnitTaken map_id now (octets_of p)) (at_desk.IsTakeUnitFault grows map_id) m (Err unit_faults.Empty) after
+      → IsMannedCallOn {R = P} vcid (events.TakeUnit map_id) (λ now p. at_desk.IsOldestUnit map_id now (octets_of p)) (at_desk.IsTakeUnitFault grows map_id) m (Err unit_faults.Empty) after
       → IsDeskAnswer vcid (IsUnitAnswered map_id) m (Refused Empty) after
   unit-of-none grows m after vcid map_id (place, at, c) = inl (
     place,
     at,
-    answered-at place vcid (events.TakeUnit map_id) (λ now p. at_desk.IsUnitTaken map_id now (octets_of p)) (at_desk.IsTakeUnitFault grows map_id) (IsUnitAnswered map_id) m after (Err unit_faults.Empty) (Refused Empty) c
+    answered-at place vcid (events.TakeUnit map_id) (λ now p. at_desk.IsOldestUnit map_id now (octets_of p)) (at_desk.IsTakeUnitFault grows map_id) (IsUnitAnswered map_id) m after (Err unit_faults.Empty) (Refused Empty) c
         (λ now named why. inr (inr (why, refl), refl)),
   )

@@ -8,7 +8,7 @@ use mathlib.Core.List.{IsPrefix}
 use Rattle.tc_channel.specs.declared.event.Event.{Event}
 use Rattle.tc_channel.specs.Journal.{History}
 use Rattle.tc_desk.specs.Log.{AtLock, history_of}
-use Rattle.tc_status.specs.Board.{IsBeginning, Watching}
+use Rattle.tc_status.specs.Board.{IsEarlier, Watching}
 use Rattle.tc_cli.proofs.Planned.{set-elsewhere, set-there}
 
 prefix-trans : (es fs gs : List Event) → IsPrefix es fs → IsPrefix fs gs → IsPrefix es gs
@@ -22,13 +22,13 @@ prefix-same es fs p q =
     (omega (arith, length-append es p.0, ap (length {A = Event}) p.1, length-append fs q.0, ap (length {A = Event}) q.1)) in
     sym (append-nil es) ∙ (ap (λ w. es ++ w) (sym none) ∙ p.1)
 
-pub beginning-self : (h : History) → IsBeginning h h
+pub beginning-self : (h : History) → IsEarlier h h
 beginning-self h = (refl, ([], append-nil h.journal))
 
-pub beginning-trans : (a b c : History) → IsBeginning a b → IsBeginning b c → IsBeginning a c
+pub beginning-trans : (a b c : History) → IsEarlier a b → IsEarlier b c → IsEarlier a c
 beginning-trans a b c p q = (q.0 ∙ p.0, prefix-trans a.journal b.journal c.journal p.1 q.1)
 
-pub beginning-same : (a b : History) → IsBeginning a b → IsBeginning b a → a ≡ b
+pub beginning-same : (a b : History) → IsEarlier a b → IsEarlier b a → a ≡ b
 beginning-same a b p q =
     let journals = prefix-same a.journal b.journal p.1 q.1 in
     λ i. record { settings = q.0 i; journal = journals i }

@@ -29,11 +29,11 @@ use Rattle.tc_cli.proofs.Reported.{one-order}
 use Rattle.tc_rack.specs.Linked.{Linked, vcid_of, new_linked, later, IsFrameAnswered, IsReleaseAnswered, IsTakeAnswered, IsUnitAnswered, told_word}
 use Rattle.tc_rack.specs.Operation.{IsAnswerOf, IsChannelAnswer, IsClcwAnswer, IsFrameAnswer}
 use Rattle.tc_cli.specs.Progress.{Progress, rack_for, IsPerformed}
-use Rattle.tc_rack.specs.Rack.{Racked, Changes, IsLocateFault, IsThere, histories}
+use Rattle.tc_rack.specs.Rack.{Racked, Changes, IsRackLocateFault, HasChannel, histories}
 use Rattle.tc_rack.specs.Report.{IsReportOf, report_text}
-use Rattle.tc_cli.specs.Session.{IsAnswered, IsDoneSo}
+use Rattle.tc_cli.specs.Session.{IsInstructionAnswered, IsDoneSo}
 use Rattle.tc_rack.specs.Stage.{phase_of}
-use Rattle.tc_cli.specs.Written.{AreAnswers, at_first, one_more, IsLineAnswered, IsReport}
+use Rattle.tc_cli.specs.Written.{AreAnswers, at_first, one_more, IsLineAnswered, IsScriptReport}
 use Rattle.tc_rack.specs.declared.answer.Answer.{Answer}
 use Rattle.tc_rack.specs.declared.answer.Answer.TheVariants as answers
 use Rattle.tc_rack.specs.declared.answer.Refusal.TheVariants.{NoQueue, NoMap, Empty, Unlocated}
@@ -238,7 +238,7 @@ change-ids : (Answers : Linked → Answer → Linked → Type 0) → IsIdKept An
 change-ids Answers kept vcid old new answer (place, before, after, at, a, is) =
     ap (λ (r : Racked). map vcid_of r.channels) is ∙ ids-set vcid_of old.channels place before after at.0 (kept before after answer a)
 
-not-unknown : (Becomes : Linked → Linked → Type 0) (vcid : ℕ) (old new : Racked) → Changes old vcid Becomes new → ¬ IsThere old.channels vcid → ⊥
+not-unknown : (Becomes : Linked → Linked → Type 0) (vcid : ℕ) (old new : Racked) → Changes old vcid Becomes new → ¬ HasChannel old.channels vcid → ⊥
 not-unknown Becomes vcid old new (place, before, after, at, a, is) none = none (there vcid_of old.channels place before vcid at.0 at.1)
 
 channel-determined : (Answers : Linked → Answer → Linked → Type 0) → IsDetermined Answers → (vcid : ℕ) (old new other : Racked) (answer another : Answer) → AreApart (map vcid_of old.channels)
@@ -279,14 +279,14 @@ word-determined vcid rack answer another apart (inr (none, is)) (inr (nothing, t
 module _ (only : IsOneAtMost) where
   -- octets that a channel is brought are not refused
   not-located : (octets frame : List ℕ) (rack : Racked) (fault : LocateFault) → BeginsWith octets frame → (header_of frame).scid ≡ rack.scid
-      → ((¬ IsThere rack.channels (header_of frame).vcid) → ⊥) → IsLocateFault rack octets fault → ⊥
+      → ((¬ HasChannel rack.channels (header_of frame).vcid) → ⊥) → IsRackLocateFault rack octets fault → ⊥
   not-located octets frame rack (faults.Frame f) begins ours here why = none-some f (sym (no-fault octets frame begins) ∙ why)
   not-located octets frame rack faults.OtherSpacecraft begins ours here (other, from, apart) =
       apart (ap (λ (x : List ℕ). (header_of x).scid) (only octets other frame from begins) ∙ ours)
   not-located octets frame rack faults.UnknownChannel begins ours here (other, from, its, none) =
-      here (subst (λ (x : List ℕ). ¬ IsThere rack.channels (header_of x).vcid) (only octets other frame from begins) none)
+      here (subst (λ (x : List ℕ). ¬ HasChannel rack.channels (header_of x).vcid) (only octets other frame from begins) none)
 
-  same-fault : (octets : List ℕ) (rack : Racked) (fault other : LocateFault) → IsLocateFault rack octets fault → IsLocateFault rack octets other → fault ≡ other
+  same-fault : (octets : List ℕ) (rack : Racked) (fault other : LocateFault) → IsRackLocateFault rack octets fault → IsRackLocateFault rack octets other → fault ≡ other
   same-fault octets rack (faults.Frame f) (faults.Frame g) why since = ap (λ (x : FrameFault). faults.Frame x) (same_Some f g (sym why ∙ since))
   same-fault octets rack (faults.Frame f) faults.OtherSpacecraft why (frame, begins, apart) = absurd (none-some f (sym (no-fault octets frame begins) ∙ why))
   same-fault octets rack (faults.Frame f) faults.UnknownChannel why (frame, begins, ours, none) = absurd (none-some f (sym (no-fault octets frame begins) ∙ why))
@@ -355,7 +355,7 @@ module _ (only : IsOneAtMost) (scid : ℕ) where
       subst AreApart (sym same) apart
 
   line-apart : (instruction : Instruction) (old new : Progress) (answer : Option Answer) → AreApart (ids_of old) → Does (phase_of old) instruction (phase_of new)
-      → IsAnswered (IsPerformed scid) old instruction new answer → AreApart (ids_of new)
+      → IsInstructionAnswered (IsPerformed scid) old instruction new answer → AreApart (ids_of new)
   line-apart Nothing old new answer apart does a = subst (λ (p : Progress). AreApart (ids_of p)) (sym a.1) apart
   line-apart (Channel settings) old new answer apart (list, longer, was, (none, allowed, pushed), is) a =
       let before : AreApart (vcids_of list) = subst (λ (p : Progress). AreApart (ids_of p)) (set-up old list was) apart in
@@ -390,8 +390,8 @@ module _ (only : IsOneAtMost) (scid : ℕ) where
       )
 
   line-determined : (instruction : Instruction) (old new other : Progress) (answer another : Option Answer) → AreApart (ids_of old)
-      → Does (phase_of old) instruction (phase_of new) → IsAnswered (IsPerformed scid) old instruction new answer
-      → Does (phase_of old) instruction (phase_of other) → IsAnswered (IsPerformed scid) old instruction other another → (new ≡ other) × (answer ≡ another)
+      → Does (phase_of old) instruction (phase_of new) → IsInstructionAnswered (IsPerformed scid) old instruction new answer
+      → Does (phase_of old) instruction (phase_of other) → IsInstructionAnswered (IsPerformed scid) old instruction other another → (new ≡ other) × (answer ≡ another)
   line-determined Nothing old new other answer another apart does a did b = (a.1 ∙ sym b.1, a.0 ∙ sym b.0)
   line-determined (Channel settings) old new other answer another apart (list, longer, was, adds, is) a (first, long, before, added, too) b =
       let same : first ≡ list = same-setup old list first was before in
@@ -415,7 +415,7 @@ module _ (only : IsOneAtMost) (scid : ℕ) where
       → IsLineAnswered (IsPerformed scid) old line other another → (new ≡ other) × (answer ≡ another)
   next-determined line old new other answer another apart (said, is, does, a) (again, too, did, b) =
       let same : again ≡ said = let e : Ok again ≡ Ok said = sym too ∙ is in cc in
-      let moved = subst (λ (s : Said). Does (phase_of old) (instruction_of s) (phase_of other) × IsAnswered (IsPerformed scid) old (instruction_of s) other another) same (did, b) in
+      let moved = subst (λ (s : Said). Does (phase_of old) (instruction_of s) (phase_of other) × IsInstructionAnswered (IsPerformed scid) old (instruction_of s) other another) same (did, b) in
       line-determined (instruction_of said) old new other answer another apart does a moved.0 moved.1
 
   -- two ways through as many lines
@@ -491,7 +491,7 @@ no-channels all cs text none moved of =
     of.written ∙ ap report_text (nil_from_length cs many)
 
 pub one-report : (only : IsOneAtMost) (scid : ℕ) (script : List ℕ) (answers : List (Option Answer)) (progress : Progress) (text another : List ℕ)
-    → AreAnswers (IsPerformed scid) script answers progress [] → IsReport scid progress text → IsReport scid progress another → text ≡ another
+    → AreAnswers (IsPerformed scid) script answers progress [] → IsScriptReport scid progress text → IsScriptReport scid progress another → text ≡ another
 one-report only scid script answers progress text another leads (inl (none, is)) (inl (also, too)) = is ∙ sym too
 one-report only scid script answers progress text another leads (inl (none, is)) (inr (cs, moved, of)) = is ∙ sym (no-channels _ cs another (setup-report scid progress none) moved of)
 one-report only scid script answers progress text another leads (inr (cs, moved, of)) (inl (none, is)) = no-channels _ cs text (setup-report scid progress none) moved of ∙ sym is

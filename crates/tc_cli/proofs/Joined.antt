@@ -12,7 +12,7 @@ use Rattle.logged_lock.specs.Log.{IsBeginning, made_by}
 use Rattle.tc_channel.specs.Journal.{History}
 use Rattle.tc_channel.specs.declared.event.Event.{Event}
 use Rattle.tc_channel.specs.declared.settings.Settings.{Settings}
-use Rattle.tc_desk.specs.Alone.{HasMadeAll, HasSeenItsOwn, placed}
+use Rattle.tc_desk.specs.Alone.{HasMadeAll, HasSeenItsOwn, with_places}
 use Rattle.tc_desk.specs.Closing.{IsClosed}
 use Rattle.tc_desk.specs.Log.{AtLock, Identity, Own, accounts_of}
 use Rattle.tc_desk.specs.Together.{column, heads_of, nobody}
@@ -29,7 +29,7 @@ use Rattle.tc_cli.specs.Parting.{Parted, IsWorkedOut}
 use Rattle.tc_cli.specs.Progress.{Progress, rack_for, IsPerformed}
 use Rattle.tc_rack.specs.Rack.{Racked, histories}
 use Rattle.tc_rack.specs.Report.{IsReportOf, report_text}
-use Rattle.tc_cli.specs.Written.{AreAnswers, IsReport}
+use Rattle.tc_cli.specs.Written.{AreAnswers, IsScriptReport}
 use Rattle.tc_rack.specs.declared.answer.Answer.{Answer}
 use Rattle.tc_cli.proofs.Happened.{HasSeen, IsWorkedAt, WorkLaws, desk_at, list-worked}
 use Rattle.tc_cli.proofs.Planned.{IsPlanned, all-planned, element, found-planned, mapped-at, matched-phase}
@@ -104,7 +104,7 @@ nothing-at o place nothing = at-desk o.desks place nothing where
 
 no-event : (own : Own) → HasMadeAll own → own.made ≡ [] → own.seen.entries ≡ []
 no-event own all none = none-placed own.seen.entries (sym all ∙ none) where
-  none-placed : (es : List Event) → placed 0 es ≡ [] → es ≡ []
+  none-placed : (es : List Event) → with_places 0 es ≡ [] → es ≡ []
   none-placed [] is = refl
   none-placed (e ∷ es) is = let l = ap (length {A = ℕ × Event}) is in absurd (omega arith)
 
@@ -223,7 +223,7 @@ worked-channels laws parted rack channels planned out =
 
 -- their report is that of the script
 pub worked-report : WorkLaws → (scid : ℕ) (script : List ℕ) (channels : List History) (text : List ℕ) → AreWorkedChannels scid script channels → IsReportOf channels text
-    → (answers : List (Option Answer)) × (progress : Progress) × AreAnswers (IsPerformed scid) script answers progress [] × IsReport scid progress text
+    → (answers : List (Option Answer)) × (progress : Progress) × AreAnswers (IsPerformed scid) script answers progress [] × IsScriptReport scid progress text
 worked-report laws scid script channels text (count, plan, parted, inl (none, empty)) of =
     let lines = all-planned scid script count plan [] parted in
     (lines.0, lines.1, lines.2, inl (sym (matched-phase plan lines.1 lines.3) ∙ none, of.written ∙ ap report_text empty))

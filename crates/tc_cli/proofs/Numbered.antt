@@ -17,11 +17,11 @@ use Rattle.tc_station.specs.Work.{AreWorked, IsShift, IsWorked, Shift, lowest}
 use Rattle.tc_station.specs.declared.work.Job.{Job}
 use Rattle.tc_station.specs.declared.work.Order.TheVariants as orders
 use Rattle.tc_station.specs.declared.work.WorkList.{WorkList}
-use Rattle.tc_text.specs.Reading.{limit}
+use Rattle.tc_text.specs.Reading.{script_limit}
 use Rattle.tc_text.specs.declared.fault.ScriptFault.{ScriptFault}
-use Rattle.tc_cli.specs.Parallel.{Plan, AreParted, none_parted, one_parted, ArePartedFor, IsParted, Parts}
+use Rattle.tc_cli.specs.Parallel.{Plan, AreParted, none_parted, one_parted, ArePartedFor, IsParted, GivesToFound}
 use Rattle.tc_cli.specs.Parting.{Parted, IsGiven, IsFrameGiven, IsJobLine, IsWorkFault, empty_list, with_job}
-use Rattle.tc_cli.specs.Script.{IsFault}
+use Rattle.tc_cli.specs.Script.{IsScriptFault}
 use Rattle.tc_rack.specs.Stage.{phase_of}
 use Rattle.tc_rack.specs.declared.stage.Stage.TheVariants.{SettingUp, Operating}
 use Rattle.tc_cli.proofs.Planned.{element, set-elsewhere, set-there}
@@ -117,12 +117,12 @@ frame-numbered count octets found parted numbered (inl (vcid, frame, located, gi
 frame-numbered count octets found parted numbered (inr (fault, why, is)) =
     subst (λ (p : Parted). AreNumbered (count + 1) p.lists) (sym is) (one-more count (Operating found) numbered)
 
-parts-numbered : (scid count : ℕ) (Gives : Parted → Parted → Type 0) (old new : Plan) → IsNumbered count old → Parts scid Gives old new
+parts-numbered : (scid count : ℕ) (Gives : Parted → Parted → Type 0) (old new : Plan) → IsNumbered count old → GivesToFound scid Gives old new
     → ((found parted : Parted) → AreNumbered count found.lists → Gives found parted → AreNumbered (count + 1) parted.lists) → IsNumbered (count + 1) new
 parts-numbered scid count Gives old new numbered (found, parted, for, gives, is) each =
     subst (IsNumbered (count + 1)) (sym is) (each found parted (found-numbered scid count old found numbered for) gives)
 
-order-numbered : (scid count vcid : ℕ) (given : Job) (old new : Plan) → given.line ≡ count + 1 → IsNumbered count old → Parts scid (IsGiven vcid given) old new → IsNumbered (count + 1) new
+order-numbered : (scid count vcid : ℕ) (given : Job) (old new : Plan) → given.line ≡ count + 1 → IsNumbered count old → GivesToFound scid (IsGiven vcid given) old new → IsNumbered (count + 1) new
 order-numbered scid count vcid given old new number numbered parts =
     parts-numbered scid count (IsGiven vcid given) old new numbered parts (λ found parted. given-numbered count vcid given found parted number)
 
@@ -166,11 +166,11 @@ job-within count lists line numbered job =
 
 -- why the jobs of a good script aren't all done
 pub work-fault : (scid : ℕ) (script : List ℕ) (count : ℕ) (plan : Plan) (found : Parted) (fault : ScriptFault) → AreParted scid script count plan [] → ArePartedFor scid plan found
-    → length script ≤ limit → IsWorkFault count found.lists fault → IsFault script fault
+    → length script ≤ script_limit → IsWorkFault count found.lists fault → IsScriptFault script fault
 work-fault scid script count plan found fault parted for within (inl (inl unbalanced)) =
-    subst (IsFault script) (sym unbalanced) (within, (count, phase_of plan, parted-leads scid script count plan [] parted))
+    subst (IsScriptFault script) (sym unbalanced) (within, (count, phase_of plan, parted-leads scid script count plan [] parted))
 work-fault scid script count plan found fault parted for within (inl (inr memory)) =
-    subst (IsFault script) (sym memory) (inl (refl, inl (phase_of plan, [], parted-leads scid script count plan [] parted)))
+    subst (IsScriptFault script) (sym memory) (inl (refl, inl (phase_of plan, [], parted-leads scid script count plan [] parted)))
 work-fault scid script count plan found fault parted for within (inr (line, job, memory)) =
     let le = job-within count found.lists line (found-numbered scid count plan found (all-numbered scid script count plan [] parted) for) job in
-    subst (IsFault script) (sym memory) (inl (refl, inl (first-good script count (phase_of plan) [] line (parted-leads scid script count plan [] parted) le)))
+    subst (IsScriptFault script) (sym memory) (inl (refl, inl (first-good script count (phase_of plan) [] line (parted-leads scid script count plan [] parted) le)))

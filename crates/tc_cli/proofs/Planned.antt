@@ -25,11 +25,11 @@ use Rattle.tc_station.specs.declared.work.Order.TheVariants as orders
 use Rattle.tc_station.specs.declared.work.WorkList.{WorkList}
 use Rattle.tc_rack.specs.Linked.{Linked, vcid_of, new_linked, later, IsFrameAnswered, IsReleaseAnswered, IsTakeAnswered, IsUnitAnswered, told_word}
 use Rattle.tc_rack.specs.Operation.{IsAnswerOf, IsChannelAnswer, IsClcwAnswer, IsFrameAnswer}
-use Rattle.tc_cli.specs.Parallel.{Plan, AreParted, none_parted, one_parted, ArePartedFor, IsParted, Parts}
-use Rattle.tc_cli.specs.Parting.{Parted, IsNewlyParted, IsGiven, IsFrameGiven, IsListed, empty_list, with_job}
+use Rattle.tc_cli.specs.Parallel.{Plan, AreParted, none_parted, one_parted, ArePartedFor, IsParted, GivesToFound}
+use Rattle.tc_cli.specs.Parting.{Parted, IsNewlyParted, IsGiven, IsFrameGiven, HasWorkList, empty_list, with_job}
 use Rattle.tc_cli.specs.Progress.{Progress, rack_for, IsPerformed}
-use Rattle.tc_rack.specs.Rack.{Racked, IsAt, IsLocateFault, IsThere, new_rack}
-use Rattle.tc_cli.specs.Session.{IsAnswered, IsDoneSo}
+use Rattle.tc_rack.specs.Rack.{Racked, IsChannelAt, IsRackLocateFault, HasChannel, new_rack}
+use Rattle.tc_cli.specs.Session.{IsInstructionAnswered, IsDoneSo}
 use Rattle.tc_rack.specs.Stage.{phase_of}
 use Rattle.tc_cli.specs.Written.{AreAnswers, at_first, one_more}
 use Rattle.tc_rack.specs.declared.answer.Answer.{Answer}
@@ -175,10 +175,10 @@ CanAnswer Answers scid order c =
     × Happens scid (vcid_of c) c.history.settings order c.history.journal new.history.journal
 
 -- no list is for the id, so no channel has it
-no-channel : (parted : Parted) (rack : Racked) (vcid : ℕ) → IsPlanned parted rack → ¬ Contains parted.station.vcids vcid → ¬ IsThere rack.channels vcid
+no-channel : (parted : Parted) (rack : Racked) (vcid : ℕ) → IsPlanned parted rack → ¬ Contains parted.station.vcids vcid → ¬ HasChannel rack.channels vcid
 no-channel parted rack vcid planned none there = none (subst (λ (l : List ℕ). Contains l vcid) planned.ids (any-contains vcid_of rack.channels vcid there))
 
-no-list : (parted : Parted) (rack : Racked) (vcid : ℕ) → IsPlanned parted rack → ¬ IsListed parted.lists vcid → ¬ Contains parted.station.vcids vcid
+no-list : (parted : Parted) (rack : Racked) (vcid : ℕ) → IsPlanned parted rack → ¬ HasWorkList parted.lists vcid → ¬ Contains parted.station.vcids vcid
 no-list parted rack vcid planned none there =
     none (contains-any (λ (l : WorkList). l.vcid) parted.lists vcid (subst (λ (l : List ℕ). Contains l vcid) (sym planned.lists) there))
 
@@ -232,7 +232,7 @@ unit-can scid map_id c = elim (waits-or-not (waiting_units c.history.settings c.
 abbrev IsAnsweredSo : (Racked → Answer → Racked → Type 0) → Parted → Racked → Type 0
 IsAnsweredSo Answers parted rack = (answer : Answer) × (new : Racked) × Answers rack answer new × IsPlanned parted new
 
-located-for : (found : Parted) (rack : Racked) (octets : List ℕ) (fault : LocateFault) → IsPlanned found rack → at_station.IsLocateFault found.station octets fault → IsLocateFault rack octets fault
+located-for : (found : Parted) (rack : Racked) (octets : List ℕ) (fault : LocateFault) → IsPlanned found rack → at_station.IsLocateFault found.station octets fault → IsRackLocateFault rack octets fault
 located-for found rack octets (faults.Frame f) planned why = why
 located-for found rack octets faults.OtherSpacecraft planned (frame, begins, apart) = (frame, begins, λ same. apart (same ∙ planned.spacecraft))
 located-for found rack octets faults.UnknownChannel planned (frame, ours, none) =
@@ -247,12 +247,12 @@ brought octets frame vcid found parted rack new answer planned located (inl chan
     elim named [
       | inl there ↦ (answer, new, inl (frame, located.0.0, located.0.1 ∙ sym planned.spacecraft, there), moved)
       | inr none ↦
-          let fault : IsLocateFault rack octets faults.UnknownChannel = (frame, located.0.0, located.0.1 ∙ sym planned.spacecraft, none.0.0) in
+          let fault : IsRackLocateFault rack octets faults.UnknownChannel = (frame, located.0.0, located.0.1 ∙ sym planned.spacecraft, none.0.0) in
           (answers.Refused (Unlocated faults.UnknownChannel), new, inr (faults.UnknownChannel, fault, refl, none.1), moved)
     ]
 brought octets frame vcid found parted rack new answer planned located (inr ((none, is), same)) moved =
-    let fault : IsLocateFault rack octets faults.UnknownChannel =
-    (frame, located.0.0, located.0.1 ∙ sym planned.spacecraft, subst (λ (v : ℕ). ¬ IsThere rack.channels v) (sym located.1) none) in
+    let fault : IsRackLocateFault rack octets faults.UnknownChannel =
+    (frame, located.0.0, located.0.1 ∙ sym planned.spacecraft, subst (λ (v : ℕ). ¬ HasChannel rack.channels v) (sym located.1) none) in
     (answers.Refused (Unlocated faults.UnknownChannel), new, inr (faults.UnknownChannel, fault, refl, same), moved)
 
 frame-planned : (line : ℕ) (octets : List ℕ) (found parted : Parted) (rack : Racked) → IsPlanned found rack → IsFrameGiven line octets found parted
@@ -276,12 +276,12 @@ frame-planned line octets found parted rack planned (inr (fault, why, is)) = (
   subst (λ (p : Parted). IsPlanned p rack) (sym is) planned,
 )
 
-not-first : (c : Linked) (xs : List Linked) (vcid : ℕ) → vcid_of c ≢ vcid → ¬ IsThere xs vcid → IsThere (c ∷ xs) vcid → ⊥
+not-first : (c : Linked) (xs : List Linked) (vcid : ℕ) → vcid_of c ≢ vcid → ¬ HasChannel xs vcid → HasChannel (c ∷ xs) vcid → ⊥
 not-first c xs vcid apart none (zero, x, lt, is, id) = apart (ap vcid_of is ∙ id)
 not-first c xs vcid apart none (suc k, x, lt, is, id) = none (k, x, omega (arith, lt), is, id)
 
 -- a channel has the id, or none has
-there-or-not : (channels : List Linked) (vcid : ℕ) → ((place : ℕ) × (c : Linked) × IsAt channels vcid place c) ⊎ ¬ IsThere channels vcid
+there-or-not : (channels : List Linked) (vcid : ℕ) → ((place : ℕ) × (c : Linked) × IsChannelAt channels vcid place c) ⊎ ¬ HasChannel channels vcid
 there-or-not [] vcid = inr (λ there. absurd (omega (arith, there.2)))
 there-or-not (c ∷ xs) vcid = elim (eqb_tells (vcid_of c) vcid) [
   | inl h ↦ inl (0, c, (refl, h.1))
@@ -327,9 +327,9 @@ setup-matched (Operating parted) list is = absurd cc
 
 abbrev IsLineMatched : ℕ → Progress → Instruction → Plan → Type 0
 IsLineMatched scid progress instruction new =
-    (answer : Option Answer) × (next : Progress) × IsAnswered (IsPerformed scid) progress instruction next answer × AreMatched new next
+    (answer : Option Answer) × (next : Progress) × IsInstructionAnswered (IsPerformed scid) progress instruction next answer × AreMatched new next
 
-parts-planned : (scid : ℕ) (operation : Operation) (Gives : Parted → Parted → Type 0) (plan new : Plan) (progress : Progress) → AreMatched plan progress → Parts scid Gives plan new
+parts-planned : (scid : ℕ) (operation : Operation) (Gives : Parted → Parted → Type 0) (plan new : Plan) (progress : Progress) → AreMatched plan progress → GivesToFound scid Gives plan new
     → ((found parted : Parted) (rack : Racked) → IsPlanned found rack → Gives found parted → IsAnsweredSo (IsAnswerOf operation) parted rack)
     → (answer : Option Answer) × (next : Progress) × IsDoneSo (IsPerformed scid) operation progress answer next × AreMatched new next
 parts-planned scid operation Gives plan new progress matched (found, parted, for, gives, is) can =

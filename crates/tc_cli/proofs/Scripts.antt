@@ -4,9 +4,9 @@ use Rattle.std.proofs.lemmas.Bool.{cases_lt}
 use Rattle.std.specs.Prelude.{OnOk, IfErr}
 use Rattle.tc_setup.specs.Phase.{Phase, Setup}
 use Rattle.tc_cli.specs.Parallel.{Plan, AreParted, none_parted, one_parted}
-use Rattle.tc_cli.specs.Script.{Leads, starts, goes_on, AreFirstGood, IsReached, IsBadLine, IsFault, IsFirstBad, IsGood, IsReportFault}
+use Rattle.tc_cli.specs.Script.{Leads, starts, goes_on, AreFirstGood, IsReached, IsBadLine, IsScriptFault, IsFirstBad, IsGood, IsReportFault}
 use Rattle.tc_rack.specs.Stage.{phase_of}
-use Rattle.tc_text.specs.Reading.{IsFirstLine, IsReadFault, limit}
+use Rattle.tc_text.specs.Reading.{IsFirstLine, IsReadFault, script_limit}
 use Rattle.tc_text.specs.declared.fault.Reason.{Reason}
 use Rattle.tc_text.specs.declared.fault.Reason.TheVariants.{NoMemory}
 use Rattle.tc_text.specs.declared.fault.ScriptFault.{ScriptFault}
@@ -14,8 +14,8 @@ use Rattle.tc_text.specs.declared.fault.ScriptFault.TheVariants.{Line, Read, Too
 
 -- a bad line after good ones is the first bad one; out of memory, the lines before are good
 pub first-bad : (script rest line after : List ℕ) (before : ℕ) (phase : Phase) (reason : Reason)
-    → (reason ≡ NoMemory) ⊎ IsBadLine phase line reason → Leads script before phase rest → IsFirstLine rest line after → length script ≤ limit
-    → ((reason ≡ NoMemory) × IsReached script (before + 1)) ⊎ ((length script ≤ limit) × IsFirstBad script (before + 1) reason)
+    → (reason ≡ NoMemory) ⊎ IsBadLine phase line reason → Leads script before phase rest → IsFirstLine rest line after → length script ≤ script_limit
+    → ((reason ≡ NoMemory) × IsReached script (before + 1)) ⊎ ((length script ≤ script_limit) × IsFirstBad script (before + 1) reason)
 first-bad script rest line after before phase reason (inl memory) leads next within = inl (memory, inr (before, phase, rest, line, after, leads, next, refl))
 first-bad script rest line after before phase reason (inr bad) leads next within = inr (
   within,
@@ -39,14 +39,14 @@ good-end (Ok done) script rest count phase leads end = (count, phase, rw end at 
 good-end (Err fault) script rest count phase leads end = tt
 
 -- where nothing is left, and no report comes of it, this is why
-pub end-fault : (reported : Result (Unit {0}) ScriptFault) (script rest : List ℕ) (count : ℕ) (phase : Phase) → Leads script count phase rest → rest ≡ [] → length script ≤ limit
-    → IfErr reported (IsReportFault count) → IfErr reported (IsFault script)
+pub end-fault : (reported : Result (Unit {0}) ScriptFault) (script rest : List ℕ) (count : ℕ) (phase : Phase) → Leads script count phase rest → rest ≡ [] → length script ≤ script_limit
+    → IfErr reported (IsReportFault count) → IfErr reported (IsScriptFault script)
 end-fault (Ok done) script rest count phase leads end within why = tt
-end-fault (Err fault) script rest count phase leads end within (inl write) = subst (IsFault script) (sym write) within
+end-fault (Err fault) script rest count phase leads end within (inl write) = subst (IsScriptFault script) (sym write) within
 end-fault (Err fault) script rest count phase leads end within (inr (inl unbalanced)) =
-    subst (IsFault script) (sym unbalanced) (within, (count, phase, rw end at leads))
+    subst (IsScriptFault script) (sym unbalanced) (within, (count, phase, rw end at leads))
 end-fault (Err fault) script rest count phase leads end within (inr (inr memory)) =
-    subst (IsFault script) (sym memory) (inl (refl, inl (phase, rest, leads)))
+    subst (IsScriptFault script) (sym memory) (inl (refl, inl (phase, rest, leads)))
 
 -- lines that give their jobs are good
 pub parted-leads : (scid : ℕ) (script : List ℕ) (count : ℕ) (plan : Plan) (rest : List ℕ) → AreParted scid script count plan rest → Leads script count (phase_of plan) rest
@@ -58,7 +58,7 @@ pub parted-reached : (scid : ℕ) (script : List ℕ) (count : ℕ) (plan : Plan
 parted-reached scid script count plan parted = inl (phase_of plan, [], parted-leads scid script count plan [] parted)
 
 -- why a script isn't read: no line comes before that
-pub read-fault : (known : Option (List ℕ)) (fault : ScriptFault) → IsReadFault known fault → IfSome known (λ script. IsFault script fault)
+pub read-fault : (known : Option (List ℕ)) (fault : ScriptFault) → IsReadFault known fault → IfSome known (λ script. IsScriptFault script fault)
 read-fault None fault why = tt
 read-fault (Some script) Read why = tt
 read-fault (Some script) TooLong why = why
@@ -81,7 +81,7 @@ first-good script count phase rest less (goes_on {count = before} {phase = old} 
         (phase, rest, subst (λ n. Leads script n phase rest) all (goes_on leads next done))
 
 -- the lines before the one at which memory ran out
-pub good-before : (script : List ℕ) (number count : ℕ) → IsFault script (Line number NoMemory) → count < number → AreFirstGood script count
+pub good-before : (script : List ℕ) (number count : ℕ) → IsScriptFault script (Line number NoMemory) → count < number → AreFirstGood script count
 good-before script number count (inl (memory, inl (phase, rest, leads))) lt = first-good script number phase rest count leads (omega (arith, lt))
 good-before script number count (inl (memory, inr (before, phase, rest, line, after, leads, next, is))) lt =
     first-good script before phase rest count leads (omega (arith, is, lt))

@@ -17,9 +17,9 @@ use Rattle.tc_cli.specs.Manned.{Manned}
 use Rattle.tc_cli.specs.Progress.{Progress, rack_for, IsPerformed}
 use Rattle.tc_rack.specs.Operation.{IsAnswerOf}
 use Rattle.tc_rack.specs.Rack.{Racked, histories}
-use Rattle.tc_cli.specs.Session.{Session, IsAnswered, IsDoneSo, IsFound, IsOperated}
+use Rattle.tc_cli.specs.Session.{Session, IsInstructionAnswered, IsDoneSo, IsFound, IsOperated}
 use Rattle.tc_rack.specs.Stage.{phase_of}
-use Rattle.tc_cli.specs.Written.{AreAnswers, at_first, one_more, IsReport, IsSessionReport}
+use Rattle.tc_cli.specs.Written.{AreAnswers, at_first, one_more, IsScriptReport, IsSessionReport}
 use Rattle.tc_rack.specs.declared.answer.Answer.{Answer}
 use Rattle.tc_rack.specs.declared.operation.Operation.{Operation}
 use Rattle.tc_rack.specs.declared.operation.Operation.TheVariants as operations
@@ -87,7 +87,7 @@ module _ (laws : AloneLaws) (scid : ℕ) where
       → IsAloneSession s × IsDoneSo (IsPerformed scid) operation (progress_of s) answer (progress_of new)
   done-alone operation s new answer sound (a, operated, is) alone = let one = operated-alone operation s new a sound operated alone in (one.0, (a, one.1, is))
 
-  line-sound : (instruction : Instruction) (s new : Session) (answer : Option Answer) → IsSoundSession s → Does (phase_of s) instruction (phase_of new) → IsAnswered (IsOperated scid) s instruction new answer → IsSoundSession new
+  line-sound : (instruction : Instruction) (s new : Session) (answer : Option Answer) → IsSoundSession s → Does (phase_of s) instruction (phase_of new) → IsInstructionAnswered (IsOperated scid) s instruction new answer → IsSoundSession new
   line-sound Nothing s new answer sound does a = subst IsSoundSession (sym a.1) sound
   line-sound (Channel settings) s new answer sound (old, list, was, adds, is) a = setup-sound new list is
   line-sound (Add vcid addition) s new answer sound (old, list, was, adds, is) a = setup-sound new list is
@@ -97,8 +97,8 @@ module _ (laws : AloneLaws) (scid : ℕ) where
   line-sound (TakeUnit vcid map_id) s new answer sound does a = done-sound (operations.Unit vcid map_id) s new answer sound a
   line-sound (Clcw vcid) s new answer sound does a = done-sound (operations.Clcw vcid) s new answer sound a
 
-  line-alone : (instruction : Instruction) (s new : Session) (answer : Option Answer) → IsSoundSession s → Does (phase_of s) instruction (phase_of new) → IsAnswered (IsOperated scid) s instruction new answer → IsAloneSession new
-      → IsAloneSession s × IsAnswered (IsPerformed scid) (progress_of s) instruction (progress_of new) answer
+  line-alone : (instruction : Instruction) (s new : Session) (answer : Option Answer) → IsSoundSession s → Does (phase_of s) instruction (phase_of new) → IsInstructionAnswered (IsOperated scid) s instruction new answer → IsAloneSession new
+      → IsAloneSession s × IsInstructionAnswered (IsPerformed scid) (progress_of s) instruction (progress_of new) answer
   line-alone Nothing s new answer sound does a alone = (subst IsAloneSession a.1 alone, (a.0, ap progress_of a.1))
   line-alone (Channel settings) s new answer sound (old, list, was, adds, is) a alone = (setup-alone s old was, a)
   line-alone (Add vcid addition) s new answer sound (old, list, was, adds, is) a alone = (setup-alone s old was, a)
@@ -123,7 +123,7 @@ module _ (laws : AloneLaws) (scid : ℕ) where
 
   -- the report at the end of a session is that of the script
   pub reported-alone : (script : List ℕ) (answers : List (Option Answer)) (s : Session) (text : List ℕ) → AreAnswers (IsOperated scid) script answers s [] → IsSessionReport scid s text
-      → AreAnswers (IsPerformed scid) script answers (progress_of s) [] × IsReport scid (progress_of s) text
+      → AreAnswers (IsPerformed scid) script answers (progress_of s) [] × IsScriptReport scid (progress_of s) text
   reported-alone script answers s text leads (inl (none, empty)) =
       (all-alone script answers s [] leads (setup-alone s [] none), inl (sym (phase-of s) ∙ none, empty))
   reported-alone script answers s text leads (inr (m, met, channels, found, have, ours, closed, of)) =

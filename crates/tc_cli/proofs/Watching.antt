@@ -9,7 +9,7 @@ use Rattle.tc_channel.specs.declared.settings.Settings.{Settings}
 use Rattle.tc_channel.specs.Reply.{clcw}
 use Rattle.tc_channel.specs.Run.{IsLawful}
 use Rattle.tc_desk.specs.Log.{Identity, Moment}
-use Rattle.tc_status.specs.Board.{IsBeginning, Watching, no_flag}
+use Rattle.tc_status.specs.Board.{IsEarlier, Watching, no_flag}
 use Rattle.tc_station.specs.Call.{IsMetAt, IsMetCallAt}
 use Rattle.tc_station.specs.Moments.{IsWatcherOf}
 use Rattle.tc_station.specs.Roster.{Roster, IsPlace}
@@ -126,13 +126,13 @@ manned-call e ok err station operator next items place vcid early late r here se
     )
 
 -- what a watcher read is of its desk
-pub read-of : (station : Roster) (vcid place : ℕ) (early late : Watching) → IsPlace station vcid place → IsWatcherOf station vcid early → late.board ≡ early.board → IsBeginning early.seen late.seen
+pub read-of : (station : Roster) (vcid place : ℕ) (early late : Watching) → IsPlace station vcid place → IsWatcherOf station vcid early → late.board ≡ early.board → IsEarlier early.seen late.seen
     → IsWatcherOf station vcid late
 read-of station vcid place early late here (head, at, board, settings) same later = (head, at, same ∙ board, later.0 ∙ settings)
 
 -- the answer of a line that asks for a CLCW
 pub word-answered : (station : Roster) (operator : AtStation) (items : List Watching) (place vcid word : ℕ) (early late : Watching) → IsPlace station vcid place → slice_get items place ≡ Some early
-    → IsWatcherOf station vcid early → IsBeginning early.seen late.seen → IsLawful late.seen.settings late.seen.journal → word ≡ clcw late.seen.settings late.seen.journal no_flag
+    → IsWatcherOf station vcid early → IsEarlier early.seen late.seen → IsLawful late.seen.settings late.seen.journal → word ≡ clcw late.seen.settings late.seen.journal no_flag
     → IsWordAnswer vcid (record { station = station; operator = operator; watchers = items }) (Clcw vcid word) (record { station = station; operator = operator; watchers = slice_set items place late })
 word-answered station operator items place vcid word early late here seat (head, desk, board, settings) later lawful of =
     inl (

@@ -23,7 +23,7 @@ use Rattle.tc_rack.specs.Report.{AreRising, IsLawfulHistory, IsReportOf, report_
 use Rattle.tc_cli.specs.Script.{Leads, starts, goes_on, IsBadLine, IsReportFault}
 use Rattle.tc_cli.specs.Session.{Session, IsFound, IsOperated}
 use Rattle.tc_rack.specs.Stage.{phase_of}
-use Rattle.tc_cli.specs.Written.{AreAnswers, at_first, one_more, IsLineAnswered, IsReport, IsReportWritten, IsUnreported, IsWritten, IsWrittenInParallel, IsCutShort, answers_text}
+use Rattle.tc_cli.specs.Written.{AreAnswers, at_first, one_more, IsLineAnswered, IsScriptReport, IsSessionReportWritten, IsScriptUnreported, IsScriptWritten, IsWrittenInParallel, IsScriptCutShort, answers_text}
 use Rattle.tc_rack.specs.declared.answer.Answer.{Answer}
 use Rattle.tc_cli.proofs.Alone.{AloneLaws}
 use Rattle.tc_cli.proofs.Sessions.{progress_of, reported-alone}
@@ -79,7 +79,7 @@ one-more-so-far scid script count session new rest line after answer a b c (answ
 -- a bad line ends it
 pub cut-short : (scid : ℕ) (script : List ℕ) (count : ℕ) (session : Session) (rest line after : List ℕ) (reason : Reason) (a b : Option (List ℕ))
     → (reason ≡ NoMemory) ⊎ IsBadLine (phase_of session) line reason → IsSoFar scid script count session rest a b → IsFirstLine rest line after
-    → IsCutShort scid script a b (Line (count + 1) reason)
+    → IsScriptCutShort scid script a b (Line (count + 1) reason)
 cut-short scid script count session rest line after reason a b (inl memory) (answers, leads, is, text) next =
     inl (memory, inr (inl (answers, session, rest, line, after, leads, next, tt, ap (λ n. n + 1) is, text)))
 cut-short scid script count session rest line after reason a b (inr bad) (answers, leads, is, text) next =
@@ -87,33 +87,33 @@ cut-short scid script count session rest line after reason a b (inr bad) (answer
 
 -- the end of the script, and what comes of the report
 pub end-written : (laws : AloneLaws) (reported : Result (Unit {0}) ScriptFault) (scid : ℕ) (script : List ℕ) (count : ℕ) (session : Session) (rest : List ℕ) (a b c : Option (List ℕ))
-    → IsSoFar scid script count session rest a b → rest ≡ [] → OnOk reported (IsReportWritten scid session b c) → OnOk reported (IsWritten scid script a c)
+    → IsSoFar scid script count session rest a b → rest ≡ [] → OnOk reported (IsSessionReportWritten scid session b c) → OnOk reported (IsScriptWritten scid script a c)
 end-written laws (Err fault) scid script count session rest a b c so-far end written = tt
 end-written laws (Ok done) scid script count session rest a b c (answers, leads, is, text) end (report, of, more) =
     let alone = reported-alone laws scid script answers session report (rw end at leads) of in
     (answers, progress_of session, report, alone.0, alone.1, Appends-trans a b c _ _ text more)
 
 unreported : (scid : ℕ) (script : List ℕ) (count : ℕ) (session : Session) (rest : List ℕ) (a b c : Option (List ℕ))
-    → IsSoFar scid script count session rest a b → rest ≡ [] → Keeps b c → IsUnreported scid script count a c
+    → IsSoFar scid script count session rest a b → rest ≡ [] → Keeps b c → IsScriptUnreported scid script count a c
 unreported scid script count session rest a b c (answers, leads, is, text) end kept =
     (answers, session, rw end at leads, is, Appends-kept a b c _ text kept)
 
 pub end-cut-short : (reported : Result (Unit {0}) ScriptFault) (scid : ℕ) (script : List ℕ) (count : ℕ) (session : Session) (rest : List ℕ) (a b c : Option (List ℕ))
     → IsSoFar scid script count session rest a b → rest ≡ [] → IfErr reported (IsReportFault count) → IfErr reported (λ fault. (fault ≡ Write) ⊎ Keeps b c)
-    → IfErr reported (IsCutShort scid script a c)
+    → IfErr reported (IsScriptCutShort scid script a c)
 end-cut-short (Ok done) scid script count session rest a b c so-far end why kept = tt
-end-cut-short (Err fault) scid script count session rest a b c so-far end why (inl write) = subst (IsCutShort scid script a c) (sym write) tt
-end-cut-short (Err fault) scid script count session rest a b c so-far end (inl write) (inr kept) = subst (IsCutShort scid script a c) (sym write) tt
+end-cut-short (Err fault) scid script count session rest a b c so-far end why (inl write) = subst (IsScriptCutShort scid script a c) (sym write) tt
+end-cut-short (Err fault) scid script count session rest a b c so-far end (inl write) (inr kept) = subst (IsScriptCutShort scid script a c) (sym write) tt
 end-cut-short (Err fault) scid script count session rest a b c so-far end (inr (inl unbalanced)) (inr kept) =
-    subst (IsCutShort scid script a c) (sym unbalanced) (count, unreported scid script count session rest a b c so-far end kept)
+    subst (IsScriptCutShort scid script a c) (sym unbalanced) (count, unreported scid script count session rest a b c so-far end kept)
 end-cut-short (Err fault) scid script count session rest a b c so-far end (inr (inr memory)) (inr kept) =
-    subst (IsCutShort scid script a c) (sym memory) (inl (refl, inr (inr (unreported scid script count session rest a b c so-far end kept))))
+    subst (IsScriptCutShort scid script a c) (sym memory) (inl (refl, inr (inr (unreported scid script count session rest a b c so-far end kept))))
 
 -- the report of the station of a session
 pub reported : (scid : ℕ) (session : Session) (manned met : Manned) (station : Roster) (operator : AtStation) (operators : List AtStation) (channels shown : List History) (a b : Option (List ℕ))
     → shown ≡ channels → IsFound scid session manned → AllHaveMet manned met → station ≡ met.station → operator ≡ met.operator → IsOurs station operator → operators ≡ operator ∷ []
     → IsClosedReport station operators channels → All IsNumberTold channels → All IsLawfulHistory shown → Appends a b (report_text shown)
-    → IsReportWritten scid session a b
+    → IsSessionReportWritten scid session a b
 reported scid session manned met station operator operators channels shown a b lent found have place hand ours all closed told lawful text =
     let one = subst (λ (x : Roster × List AtStation). IsClosedReport x.0 x.1 channels) (λ i. (place i, (all ∙ ap (λ (o : AtStation). o ∷ []) hand) i)) closed in
     let mine = subst (λ (x : Roster × AtStation). IsOurs x.0 x.1) (λ i. (place i, hand i)) ours in
@@ -123,7 +123,7 @@ reported scid session manned met station operator operators channels shown a b l
 -- the report of channels is that of a script where its lines are done in order
 abbrev pub IsReportInOrder : Type 0
 IsReportInOrder = (scid : ℕ) (script : List ℕ) (channels : List History) (text : List ℕ) → AreWorkedChannels scid script channels → IsReportOf channels text
-    → (answers : List (Option Answer)) × (progress : Progress) × AreAnswers (IsPerformed scid) script answers progress [] × IsReport scid progress text
+    → (answers : List (Option Answer)) × (progress : Progress) × AreAnswers (IsPerformed scid) script answers progress [] × IsScriptReport scid progress text
 
 -- what was read is the script, where the octets of the reader are known, and the report is that of its lines in order
 pub parallel-written : IsReportInOrder → (flushed : Result (Unit {0}) ScriptFault) (known : Option (List ℕ)) (scid : ℕ) (script read : List ℕ) (channels shown : List History) (a b c : Option (List ℕ))
@@ -138,14 +138,14 @@ parallel-written in-order (Ok done) (Some octets) scid script read channels show
     (one.0, one.1, report_text shown, one.2, one.3, Appends-kept a b c _ text kept)
 
 -- no channel was set up
-pub not-reported : (scid : ℕ) (session : Session) (a : Option (List ℕ)) → phase_of session ≡ Setup [] → IsReportWritten scid session a a
+pub not-reported : (scid : ℕ) (session : Session) (a : Option (List ℕ)) → phase_of session ≡ Setup [] → IsSessionReportWritten scid session a a
 not-reported scid session a none = ([], inl (none, refl), Appends-nil a)
 
 -- what was written stays
-written-kept : (scid : ℕ) (script : List ℕ) (a b c : Option (List ℕ)) → IsWritten scid script a b → Keeps b c → IsWritten scid script a c
+written-kept : (scid : ℕ) (script : List ℕ) (a b c : Option (List ℕ)) → IsScriptWritten scid script a b → Keeps b c → IsScriptWritten scid script a c
 written-kept scid script a b c (answers, progress, report, leads, of, text) kept = (answers, progress, report, leads, of, Appends-kept a b c _ text kept)
 
-cut-short-kept : (scid : ℕ) (script : List ℕ) (a b c : Option (List ℕ)) (fault : ScriptFault) → IsCutShort scid script a b fault → Keeps b c → IsCutShort scid script a c fault
+cut-short-kept : (scid : ℕ) (script : List ℕ) (a b c : Option (List ℕ)) (fault : ScriptFault) → IsScriptCutShort scid script a b fault → Keeps b c → IsScriptCutShort scid script a c fault
 cut-short-kept scid script a b c Read short kept = Keeps-trans a b c short kept
 cut-short-kept scid script a b c TooLong short kept = Keeps-trans a b c short kept
 cut-short-kept scid script a b c Write short kept = tt
@@ -161,7 +161,7 @@ cut-short-kept scid script a b c (Line number reason) (inr (answers, session, re
 
 -- nothing was written where the script wasn't read
 pub read-cut-short : (known : Option (List ℕ)) (scid : ℕ) (a : Option (List ℕ)) (fault : ScriptFault) → IsReadFault known fault
-    → IfSome known (λ script. IsCutShort scid script a a fault)
+    → IfSome known (λ script. IsScriptCutShort scid script a a fault)
 read-cut-short None scid a fault why = tt
 read-cut-short (Some script) scid a Read why = Keeps-refl a
 read-cut-short (Some script) scid a TooLong why = Keeps-refl a
@@ -171,16 +171,16 @@ read-cut-short (Some script) scid a Unbalanced why = absurd why
 
 -- what was read is the script, where the octets of the reader are known
 pub whole-written : (done : Result (Unit {0}) ScriptFault) (known : Option (List ℕ)) (scid : ℕ) (script read : List ℕ) (a b c : Option (List ℕ))
-    → script ≡ read → IfSome known (λ octets. read ≡ octets) → OnOk done (IsWritten scid script a b) → Keeps b c → OnOk done (IfSome known (λ octets. IsWritten scid octets a c))
+    → script ≡ read → IfSome known (λ octets. read ≡ octets) → OnOk done (IsScriptWritten scid script a b) → Keeps b c → OnOk done (IfSome known (λ octets. IsScriptWritten scid octets a c))
 whole-written (Err fault) known scid script read a b c whole is written kept = tt
 whole-written (Ok done) None scid script read a b c whole is written kept = tt
 whole-written (Ok done) (Some octets) scid script read a b c whole is written kept =
-    subst (λ s. IsWritten scid s a c) (whole ∙ is) (written-kept scid script a b c written kept)
+    subst (λ s. IsScriptWritten scid s a c) (whole ∙ is) (written-kept scid script a b c written kept)
 
 pub whole-cut-short : (done : Result (Unit {0}) ScriptFault) (known : Option (List ℕ)) (scid : ℕ) (script read : List ℕ) (a b c : Option (List ℕ))
-    → script ≡ read → IfSome known (λ octets. read ≡ octets) → IfErr done (IsCutShort scid script a b) → Keeps b c
-    → IfErr done (λ fault. IfSome known (λ octets. IsCutShort scid octets a c fault))
+    → script ≡ read → IfSome known (λ octets. read ≡ octets) → IfErr done (IsScriptCutShort scid script a b) → Keeps b c
+    → IfErr done (λ fault. IfSome known (λ octets. IsScriptCutShort scid octets a c fault))
 whole-cut-short (Ok done) known scid script read a b c whole is short kept = tt
 whole-cut-short (Err fault) None scid script read a b c whole is short kept = tt
 whole-cut-short (Err fault) (Some octets) scid script read a b c whole is short kept =
-    subst (λ s. IsCutShort scid s a c fault) (whole ∙ is) (cut-short-kept scid script a b c fault short kept)
+    subst (λ s. IsScriptCutShort scid s a c fault) (whole ∙ is) (cut-short-kept scid script a b c fault short kept)

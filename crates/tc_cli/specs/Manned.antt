@@ -102,7 +102,7 @@ pub record IsReadAt (place vcid : ℕ) (before : Manned) (answer : Answer) (afte
   pub late : Watching
   pub desk : IsDeskOf before.station vcid head
   pub watched : slice_get before.watchers place ≡ Some early
-  pub later : board.IsBeginning early.seen late.seen
+  pub later : board.IsEarlier early.seen late.seen
   pub settings : late.seen.settings ≡ head.settings
   pub lawful : IsLawful late.seen.settings late.seen.journal
   pub word : answer ≡ Clcw vcid (clcw late.seen.settings late.seen.journal no_flag)

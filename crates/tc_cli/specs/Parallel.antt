@@ -27,19 +27,19 @@ ArePartedFor scid (Operating parted) found = found ≡ parted
 abbrev pub Begins : ℕ → Plan → Plan → Type 0
 Begins scid old new = (found : Parted) × ArePartedFor scid old found × (new ≡ Operating found)
 
-abbrev pub Parts : ℕ → (Parted → Parted → Type 0) → Plan → Plan → Type 0
-Parts scid Gives old new = (found parted : Parted) × ArePartedFor scid old found × Gives found parted × (new ≡ Operating parted)
+abbrev pub GivesToFound : ℕ → (Parted → Parted → Type 0) → Plan → Plan → Type 0
+GivesToFound scid Gives old new = (found parted : Parted) × ArePartedFor scid old found × Gives found parted × (new ≡ Operating parted)
 
 -- the job of a line is given to its channel; a CLCW is no job, and neither is a blank line. What a line sets up is told by its phase
 abbrev pub IsParted : ℕ → ℕ → Plan → Instruction → Plan → Type 0
 IsParted scid line old Nothing new = new ≡ old
 IsParted scid line old (Channel settings) new = Unit {0}
 IsParted scid line old (Add vcid addition) new = Unit {0}
-IsParted scid line old (Frame octets) new = Parts scid (IsFrameGiven line octets) old new
-IsParted scid line old (Release vcid) new = Parts scid (IsGiven vcid (record { line = line; order = orders.Release })) old new
-IsParted scid line old (Take vcid apid) new = Parts scid (IsGiven vcid (record { line = line; order = orders.Take apid })) old new
-IsParted scid line old (TakeUnit vcid map_id) new = Parts scid (IsGiven vcid (record { line = line; order = orders.TakeUnit map_id })) old new
-IsParted scid line old (Clcw vcid) new = Parts scid (λ before after. after ≡ before) old new
+IsParted scid line old (Frame octets) new = GivesToFound scid (IsFrameGiven line octets) old new
+IsParted scid line old (Release vcid) new = GivesToFound scid (IsGiven vcid (record { line = line; order = orders.Release })) old new
+IsParted scid line old (Take vcid apid) new = GivesToFound scid (IsGiven vcid (record { line = line; order = orders.Take apid })) old new
+IsParted scid line old (TakeUnit vcid map_id) new = GivesToFound scid (IsGiven vcid (record { line = line; order = orders.TakeUnit map_id })) old new
+IsParted scid line old (Clcw vcid) new = GivesToFound scid (λ before after. after ≡ before) old new
 
 -- the line with this number is good, leads from the one plan to the other, and its job is given to its channel
 abbrev pub IsLineParted : ℕ → ℕ → Plan → List ℕ → Plan → Type 0

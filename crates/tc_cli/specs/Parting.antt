@@ -15,7 +15,7 @@ use Rattle.tc_text.specs.declared.fault.Reason.TheVariants.{NoMemory}
 use Rattle.tc_text.specs.declared.fault.ScriptFault.{ScriptFault}
 use Rattle.tc_text.specs.declared.fault.ScriptFault.TheVariants.{Line}
 use Rattle.tc_cli.specs.Report.{IsClosedReport}
-use Rattle.tc_cli.specs.Script.{IsCloseFault}
+use Rattle.tc_cli.specs.Script.{IsScriptCloseFault}
 
 -- a station of these channels that has issued no operator
 pub record IsNewStation (scid : ℕ) (list : List Settings) (station : Roster) : Type 0 where
@@ -41,8 +41,8 @@ abbrev pub with_job : WorkList → Job → WorkList
 with_job l job = record l { jobs = l.jobs ++ job ∷ [] }
 
 -- there is a list for this channel
-abbrev pub IsListed : List WorkList → ℕ → Type 0
-IsListed lists vcid = Any (λ (l : WorkList). l.vcid ≡ vcid) lists
+abbrev pub HasWorkList : List WorkList → ℕ → Type 0
+HasWorkList lists vcid = Any (λ (l : WorkList). l.vcid ≡ vcid) lists
 
 -- the list for this channel, at its place
 abbrev pub IsListAt : List WorkList → ℕ → ℕ → WorkList → Type 0
@@ -52,7 +52,7 @@ IsListAt lists vcid place l = (slice_get lists place ≡ Some l) × (l.vcid ≡ 
 abbrev pub IsGiven : ℕ → Job → Parted → Parted → Type 0
 IsGiven vcid job old new =
     ((place : ℕ) × (l : WorkList) × IsListAt old.lists vcid place l × (new ≡ record old { lists = slice_set old.lists place (with_job l job) }))
-    ⊎ (¬ IsListed old.lists vcid × (new ≡ old))
+    ⊎ (¬ HasWorkList old.lists vcid × (new ≡ old))
 
 -- octets go to the channel that they are for, if there is one
 abbrev pub IsFrameGiven : ℕ → List ℕ → Parted → Parted → Type 0
@@ -78,4 +78,4 @@ IsJobLine lists line = Any (λ (l : WorkList). Any (λ (job : Job). job.line ≡
 
 -- why the jobs of a script of so many lines aren't all done, or their station isn't closed in balance
 abbrev pub IsWorkFault : ℕ → List WorkList → ScriptFault → Type 0
-IsWorkFault lines lists fault = IsCloseFault lines fault ⊎ ((line : ℕ) × IsJobLine lists line × (fault ≡ Line line NoMemory))
+IsWorkFault lines lists fault = IsScriptCloseFault lines fault ⊎ ((line : ℕ) × IsJobLine lists line × (fault ≡ Line line NoMemory))

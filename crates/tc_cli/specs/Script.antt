@@ -1,6 +1,6 @@
 -- The lines of a script, one after the other, and where a script ends early.
 use Rattle.std.specs.Prelude.{◌≡◌, ◌<◌, ◌≤◌, ℕ, ◌+◌, List, [], ◌⊎◌, length, Ok, Err}
-use Rattle.tc_text.specs.Reading.{IsFirstLine, limit}
+use Rattle.tc_text.specs.Reading.{IsFirstLine, script_limit}
 use Rattle.tc_text.specs.Word.{words}
 use Rattle.tc_text.specs.Line.{line_of}
 use Rattle.tc_setup.specs.Instruction.{instruction_of}
@@ -14,14 +14,14 @@ use Rattle.tc_desk.specs.declared.together.Refusal.{Refusal}
 use Rattle.tc_desk.specs.declared.together.Refusal.TheVariants as refusals
 
 -- the line is good, and leads from the one phase to the other
-abbrev pub IsDone : Phase → List ℕ → Phase → Type 0
-IsDone phase line new = (said : Said) × (line_of (words line) ≡ Ok said) × Does phase (instruction_of said) new
+abbrev pub IsGoodLine : Phase → List ℕ → Phase → Type 0
+IsGoodLine phase line new = (said : Said) × (line_of (words line) ≡ Ok said) × Does phase (instruction_of said) new
 
 -- the first lines of a script are good: so many of them lead to this phase, and leave these octets
 pub data Leads (script : List ℕ) : ℕ → Phase → List ℕ → Type 0 where
   starts : Leads script 0 (Setup []) script
   goes_on : {count : ℕ} {phase new : Phase} {rest line after : List ℕ}
-      → Leads script count phase rest → IsFirstLine rest line after → IsDone phase line new → Leads script (count + 1) new after
+      → Leads script count phase rest → IsFirstLine rest line after → IsGoodLine phase line new → Leads script (count + 1) new after
 
 -- why the line is bad that comes at a phase, memory aside
 abbrev pub IsBadLine : Phase → List ℕ → Reason → Type 0
@@ -55,8 +55,8 @@ IsReached script number =
     ⊎ ((before : ℕ) × (phase : Phase) × (rest line after : List ℕ) × Leads script before phase rest × IsFirstLine rest line after × (number ≡ before + 1))
 
 -- why the station of a script of so many lines isn't closed in balance
-abbrev pub IsCloseFault : ℕ → ScriptFault → Type 0
-IsCloseFault lines fault = (fault ≡ Unbalanced) ⊎ (fault ≡ Line lines NoMemory)
+abbrev pub IsScriptCloseFault : ℕ → ScriptFault → Type 0
+IsScriptCloseFault lines fault = (fault ≡ Unbalanced) ⊎ (fault ≡ Line lines NoMemory)
 
 -- what it is for a script of so many lines that its station isn't closed; a lock that isn't free leaves it out of balance
 abbrev pub close_fault : ℕ → Refusal → ScriptFault
@@ -66,12 +66,12 @@ close_fault lines refusals.Unbalanced = Unbalanced
 
 -- why a script of so many good lines gets no report, or not the whole of it
 abbrev pub IsReportFault : ℕ → ScriptFault → Type 0
-IsReportFault lines fault = (fault ≡ Write) ⊎ IsCloseFault lines fault
+IsReportFault lines fault = (fault ≡ Write) ⊎ IsScriptCloseFault lines fault
 
 -- why a script with these octets ends early
-abbrev pub IsFault : List ℕ → ScriptFault → Type 0
-IsFault script Read = Unit {0}
-IsFault script TooLong = limit < length script
-IsFault script (Line number reason) = ((reason ≡ NoMemory) × IsReached script number) ⊎ ((length script ≤ limit) × IsFirstBad script number reason)
-IsFault script Write = length script ≤ limit
-IsFault script Unbalanced = (length script ≤ limit) × IsGood script
+abbrev pub IsScriptFault : List ℕ → ScriptFault → Type 0
+IsScriptFault script Read = Unit {0}
+IsScriptFault script TooLong = script_limit < length script
+IsScriptFault script (Line number reason) = ((reason ≡ NoMemory) × IsReached script number) ⊎ ((length script ≤ script_limit) × IsFirstBad script number reason)
+IsScriptFault script Write = length script ≤ script_limit
+IsScriptFault script Unbalanced = (length script ≤ script_limit) × IsGood script

@@ -35,12 +35,12 @@ abbrev pub IsDoneSo : {O : Type 0} → (Operation → Stage O → Answer → Sta
 IsDoneSo Operates operation old answer new = (a : Answer) × Operates operation old a new × (answer ≡ Some a)
 
 -- what a line is answered: an operation its answer, and any other line nothing; a blank line leaves all as it is
-abbrev pub IsAnswered : {O : Type 0} → (Operation → Stage O → Answer → Stage O → Type 0) → Stage O → Instruction → Stage O → Option Answer → Type 0
-IsAnswered Operates old Nothing new answer = (answer ≡ None) × (new ≡ old)
-IsAnswered Operates old (Channel settings) new answer = answer ≡ None
-IsAnswered Operates old (Add vcid addition) new answer = answer ≡ None
-IsAnswered Operates old (Frame octets) new answer = IsDoneSo Operates (operations.Frame octets) old answer new
-IsAnswered Operates old (Release vcid) new answer = IsDoneSo Operates (operations.Release vcid) old answer new
-IsAnswered Operates old (Take vcid apid) new answer = IsDoneSo Operates (operations.Take vcid apid) old answer new
-IsAnswered Operates old (TakeUnit vcid map_id) new answer = IsDoneSo Operates (operations.Unit vcid map_id) old answer new
-IsAnswered Operates old (Clcw vcid) new answer = IsDoneSo Operates (operations.Clcw vcid) old answer new
+abbrev pub IsInstructionAnswered : {O : Type 0} → (Operation → Stage O → Answer → Stage O → Type 0) → Stage O → Instruction → Stage O → Option Answer → Type 0
+IsInstructionAnswered Operates old Nothing new answer = (answer ≡ None) × (new ≡ old)
+IsInstructionAnswered Operates old (Channel settings) new answer = answer ≡ None
+IsInstructionAnswered Operates old (Add vcid addition) new answer = answer ≡ None
+IsInstructionAnswered Operates old (Frame octets) new answer = IsDoneSo Operates (operations.Frame octets) old answer new
+IsInstructionAnswered Operates old (Release vcid) new answer = IsDoneSo Operates (operations.Release vcid) old answer new
+IsInstructionAnswered Operates old (Take vcid apid) new answer = IsDoneSo Operates (operations.Take vcid apid) old answer new
+IsInstructionAnswered Operates old (TakeUnit vcid map_id) new answer = IsDoneSo Operates (operations.Unit vcid map_id) old answer new
+IsInstructionAnswered Operates old (Clcw vcid) new answer = IsDoneSo Operates (operations.Clcw vcid) old answer new

@@ -20,7 +20,7 @@ use Rattle.tc_rack.specs.Rack.{histories}
 use Rattle.tc_cli.specs.Report.{IsClosedReport}
 use Rattle.tc_rack.specs.Report.{IsReportOf}
 use Rattle.tc_cli.specs.Script.{IsBadLine}
-use Rattle.tc_cli.specs.Session.{Session, IsAnswered, IsFound, IsOperated}
+use Rattle.tc_cli.specs.Session.{Session, IsInstructionAnswered, IsFound, IsOperated}
 use Rattle.tc_rack.specs.Stage.{phase_of}
 use Rattle.tc_rack.specs.declared.answer.Answer.{Answer}
 use Rattle.tc_rack.specs.declared.operation.Operation.{Operation}
@@ -31,7 +31,7 @@ use Rattle.tc_rack.specs.declared.stage.Stage.TheVariants.{SettingUp}
 abbrev pub IsLineAnswered : {O : Type 0} → (Operation → Stage O → Answer → Stage O → Type 0) → Stage O → List ℕ → Stage O → Option Answer → Type 0
 IsLineAnswered Operates old line new answer =
     (said : Said) × (line_of (words line) ≡ Ok said) × Does (phase_of old) (instruction_of said) (phase_of new)
-    × IsAnswered Operates old (instruction_of said) new answer
+    × IsInstructionAnswered Operates old (instruction_of said) new answer
 
 -- the first lines of a script are good, and were answered so, each by its own entry: they lead to this stage, and leave these octets
 pub data AreAnswers {O : Type 0} (Operates : Operation → Stage O → Answer → Stage O → Type 0) (script : List ℕ) : List (Option Answer) → Stage O → List ℕ → Type 0 where
@@ -46,8 +46,8 @@ answers_text answers = flat_map answer_line answers
 
 -- the text is the report at the end of a script that has come so far: of all its channels, each with the journal that the operations
 -- made of it; there is none where no channel was set up
-abbrev pub IsReport : ℕ → Progress → List ℕ → Type 0
-IsReport scid progress text =
+abbrev pub IsScriptReport : ℕ → Progress → List ℕ → Type 0
+IsScriptReport scid progress text =
     ((phase_of progress ≡ Setup []) × (text ≡ []))
     ⊎ ((channels : List History) × IsPermutation (histories (rack_for scid progress)) channels × IsReportOf channels text)
 
@@ -59,15 +59,15 @@ IsSessionReport scid session text =
     × IsClosedReport met.station (met.operator ∷ []) channels × IsReportOf channels text)
 
 -- known octets grow by the report
-abbrev pub IsReportWritten : ℕ → Session → Option (List ℕ) → Option (List ℕ) → Type 0
-IsReportWritten scid session old new = (text : List ℕ) × IsSessionReport scid session text × Appends old new text
+abbrev pub IsSessionReportWritten : ℕ → Session → Option (List ℕ) → Option (List ℕ) → Type 0
+IsSessionReportWritten scid session old new = (text : List ℕ) × IsSessionReport scid session text × Appends old new text
 
 -- known octets grow by the answers of all lines of the script, in their order, and then by the report. Each is what the lines before
 -- it make it, by definitions that know no station
-abbrev pub IsWritten : ℕ → List ℕ → Option (List ℕ) → Option (List ℕ) → Type 0
-IsWritten scid script old new =
+abbrev pub IsScriptWritten : ℕ → List ℕ → Option (List ℕ) → Option (List ℕ) → Type 0
+IsScriptWritten scid script old new =
     (answers : List (Option Answer)) × (progress : Progress) × (report : List ℕ) × AreAnswers (IsPerformed scid) script answers progress []
-    × IsReport scid progress report × Appends old new (answers_text answers ++ report)
+    × IsScriptReport scid progress report × Appends old new (answers_text answers ++ report)
 
 -- the script has a line with this number, of which this is so; known octets grow by the answers of the lines before it alone. Each is
 -- that of some moment of its channel's desk, since this isn't closed
@@ -78,29 +78,29 @@ IsWrittenBefore scid script number IsSo old new =
     × (number ≡ length answers + 1) × Appends old new (answers_text answers)
 
 -- known octets grow by the answers of all lines, of which there are so many, and by no report
-abbrev pub IsUnreported : ℕ → List ℕ → ℕ → Option (List ℕ) → Option (List ℕ) → Type 0
-IsUnreported scid script count old new =
+abbrev pub IsScriptUnreported : ℕ → List ℕ → ℕ → Option (List ℕ) → Option (List ℕ) → Type 0
+IsScriptUnreported scid script count old new =
     (answers : List (Option Answer)) × (session : Session) × AreAnswers (IsOperated scid) script answers session [] × (count ≡ length answers)
     × Appends old new (answers_text answers)
 
 -- memory ran out before the first line, which is told as line 0; at the line with this number; or for the report, after the last line
 abbrev pub IsOutOfMemory : ℕ → List ℕ → ℕ → Option (List ℕ) → Option (List ℕ) → Type 0
 IsOutOfMemory scid script number old new =
-    ((number ≡ 0) × Keeps old new) ⊎ IsWrittenBefore scid script number (λ _ _. ⊤) old new ⊎ IsUnreported scid script number old new
+    ((number ≡ 0) × Keeps old new) ⊎ IsWrittenBefore scid script number (λ _ _. ⊤) old new ⊎ IsScriptUnreported scid script number old new
 
 -- what was written where a script ends early: nothing where it wasn't read; where a line ends it, the answers of the lines before; and
 -- where counts are out of balance, those of all lines. Nothing of what failed to be written is known
-abbrev pub IsCutShort : ℕ → List ℕ → Option (List ℕ) → Option (List ℕ) → ScriptFault → Type 0
-IsCutShort scid script old new (Line number reason) =
+abbrev pub IsScriptCutShort : ℕ → List ℕ → Option (List ℕ) → Option (List ℕ) → ScriptFault → Type 0
+IsScriptCutShort scid script old new (Line number reason) =
     ((reason ≡ NoMemory) × IsOutOfMemory scid script number old new)
     ⊎ IsWrittenBefore scid script number (λ session line. IsBadLine (phase_of session) line reason) old new
-IsCutShort scid script old new Read = Keeps old new
-IsCutShort scid script old new TooLong = Keeps old new
-IsCutShort scid script old new Write = Unit {0}
-IsCutShort scid script old new Unbalanced = (count : ℕ) × IsUnreported scid script count old new
+IsScriptCutShort scid script old new Read = Keeps old new
+IsScriptCutShort scid script old new TooLong = Keeps old new
+IsScriptCutShort scid script old new Write = Unit {0}
+IsScriptCutShort scid script old new Unbalanced = (count : ℕ) × IsScriptUnreported scid script count old new
 
 -- known octets grow by the report that the script has where its lines are done in order
 abbrev pub IsWrittenInParallel : ℕ → List ℕ → Option (List ℕ) → Option (List ℕ) → Type 0
 IsWrittenInParallel scid script old new =
     (answers : List (Option Answer)) × (progress : Progress) × (text : List ℕ) × AreAnswers (IsPerformed scid) script answers progress []
-    × IsReport scid progress text × Appends old new text
+    × IsScriptReport scid progress text × Appends old new text

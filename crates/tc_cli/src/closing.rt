@@ -3,7 +3,7 @@
 ghost use Rattle.std.specs.Prelude.{◌≡◌, All, IfOk, IfErr};
 ghost use Rattle.tc_channel.specs.Journal.{IsNumberTold};
 ghost use Rattle.tc_cli.specs.Report.{IsClosedReport};
-ghost use Rattle.tc_cli.specs.Script.{IsCloseFault, close_fault};
+ghost use Rattle.tc_cli.specs.Script.{IsScriptCloseFault, close_fault};
 ghost use Rattle.tc_station.specs.Tally.{IsOurs};
 
 use tc_channel::FlightChannel;
@@ -20,7 +20,7 @@ pub(crate) fn close(
     requires ours { All (IsOurs station) operators.items }
     ensures closed { IfOk result (λ channels. IsClosedReport station operators.items channels.items) }
     ensures told { IfOk result (λ channels. All IsNumberTold channels.items) }
-    ensures fault { IfErr result (IsCloseFault lines) }
+    ensures fault { IfErr result (IsScriptCloseFault lines) }
 {
     match station.close_together(operators) {
         Ok(mut channels) => {
@@ -34,7 +34,7 @@ pub(crate) fn close(
 // What it is for a script of so many lines that its station isn't closed.
 fn fault_of(refusal: Refusal, lines: u32) -> ScriptFault
     ensures told { result ≡ close_fault lines refusal }
-    ensures fault { IsCloseFault lines result }
+    ensures fault { IsScriptCloseFault lines result }
 {
     match refusal {
         Refusal::NoMemory => ScriptFault::Line {

@@ -5,8 +5,8 @@ ghost use Rattle.tc_channel.specs.Journal.{History};
 ghost use Rattle.tc_cli.specs.Parallel.{AreWorkedChannels};
 ghost use Rattle.tc_cli.specs.Progress.{Progress, IsPerformed};
 ghost use Rattle.tc_rack.specs.Report.{IsReportOf};
-ghost use Rattle.tc_cli.specs.Script.{AreFirstGood, IsFault};
-ghost use Rattle.tc_cli.specs.Written.{AreAnswers, IsReport};
+ghost use Rattle.tc_cli.specs.Script.{AreFirstGood, IsScriptFault};
+ghost use Rattle.tc_cli.specs.Written.{AreAnswers, IsScriptReport};
 ghost use Rattle.tc_rack.specs.declared.answer.Answer.{Answer};
 ghost use Rattle.tc_text.specs.declared.fault.Reason.TheVariants.{NoMemory};
 ghost use Rattle.tc_text.specs.declared.fault.ScriptFault.TheVariants.{Line};
@@ -16,7 +16,7 @@ use tc_link::each_input_begins_with_one_frame_at_most;
 
 /// Where memory ran out at a line, each number of lines below that line's is the number of some first lines, which are good.
 pub fn the_lines_before_memory_ran_out_are_good()
-    ensures { (script : List ℕ) (number count : ℕ) → IsFault script (Line number NoMemory) → count < number → AreFirstGood script count }
+    ensures { (script : List ℕ) (number count : ℕ) → IsScriptFault script (Line number NoMemory) → count < number → AreFirstGood script count }
 {}
 
 /// What a script does follows from its lines: two ways through all of them lead to the same channels with the same journals, and have the
@@ -26,7 +26,7 @@ pub fn what_a_script_does_follows_from_its_lines()
         → AreAnswers (IsPerformed scid) script answers progress [] → AreAnswers (IsPerformed scid) script others other []
         → (progress ≡ other) × (answers ≡ others) }
     ensures report { (scid : ℕ) (script : List ℕ) (answers : List (Option Answer)) (progress : Progress) (text another : List ℕ)
-        → AreAnswers (IsPerformed scid) script answers progress [] → IsReport scid progress text → IsReport scid progress another → text ≡ another }
+        → AreAnswers (IsPerformed scid) script answers progress [] → IsScriptReport scid progress text → IsScriptReport scid progress another → text ≡ another }
 {
     each_input_begins_with_one_frame_at_most();
 }
@@ -34,7 +34,7 @@ pub fn what_a_script_does_follows_from_its_lines()
 /// The report of the channels that a script's workers have made is the one that the script has where its lines are done in order.
 pub(crate) fn the_workers_report_is_that_of_the_lines_in_order()
     ensures { (scid : ℕ) (script : List ℕ) (channels : List History) (text : List ℕ) → AreWorkedChannels scid script channels → IsReportOf channels text
-        → (answers : List (Option Answer)) × (progress : Progress) × AreAnswers (IsPerformed scid) script answers progress [] × IsReport scid progress text }
+        → (answers : List (Option Answer)) × (progress : Progress) × AreAnswers (IsPerformed scid) script answers progress [] × IsScriptReport scid progress text }
 {
     each_input_begins_with_one_frame_at_most();
     one_alone_is_answered_after_its_own_events();

@@ -2,15 +2,15 @@
 
 ghost use Rattle.std.specs.Prelude.{◌≡◌, ◌≢◌, ◌⊎◌, ◌≤◌, [], All, length, IfOk, IfErr, OnOk, IfSome};
 ghost use Rattle.std.specs.Io.KnownBytes.{Keeps};
-ghost use Rattle.tc_cli.specs.Parallel.{AreParted, ArePartedFor, AreWorkedChannels, Begins, IsLineParted, IsParted, Parts};
+ghost use Rattle.tc_cli.specs.Parallel.{AreParted, ArePartedFor, AreWorkedChannels, Begins, IsLineParted, IsParted, GivesToFound};
 ghost use Rattle.tc_cli.specs.Parting.{IsGiven, IsFrameGiven};
 ghost use Rattle.tc_setup.specs.Phase.{Does, IsBad, Setup};
 ghost use Rattle.tc_rack.specs.Report.{AreRising};
-ghost use Rattle.tc_cli.specs.Script.{IsFault, IsGood, IsDone, IsBadLine};
-ghost use Rattle.tc_rack.specs.Stage.{phase_of, IsKept};
+ghost use Rattle.tc_cli.specs.Script.{IsScriptFault, IsGood, IsGoodLine, IsBadLine};
+ghost use Rattle.tc_rack.specs.Stage.{phase_of, IsStageKept};
 ghost use Rattle.tc_cli.specs.Written.{IsWrittenInParallel};
 ghost use Rattle.tc_channel.specs.Journal.{IsNumberTold};
-ghost use Rattle.tc_text.specs.Reading.{limit};
+ghost use Rattle.tc_text.specs.Reading.{script_limit};
 
 use crate::laws::the_workers_report_is_that_of_the_lines_in_order;
 use crate::parting::Parted;
@@ -41,8 +41,8 @@ pub fn parallel_script<T: Threads + Wait + Sync, G: Gate + Sync, R: Read, W: Wri
     writer: &mut W,
 ) -> Result<(), ScriptFault>
     requires { scid ≤ 1023 }
-    ensures good { OnOk result (IfSome (R.remaining reader.old) (λ script. (length script ≤ limit) × IsGood script)) }
-    ensures fault { IfErr result (λ fault. IfSome (R.remaining reader.old) (λ script. IsFault script fault)) }
+    ensures good { OnOk result (IfSome (R.remaining reader.old) (λ script. (length script ≤ script_limit) × IsGood script)) }
+    ensures fault { IfErr result (λ fault. IfSome (R.remaining reader.old) (λ script. IsScriptFault script fault)) }
     ensures written { OnOk result (IfSome (R.remaining reader.old) (λ script. IsWrittenInParallel scid script (W.contents writer.old) (W.contents writer.new))) }
     ensures kept { IfErr result (λ fault. (fault ≡ ScriptFault.Write) ⊎ Keeps (W.contents writer.old) (W.contents writer.new)) }
 {
@@ -64,12 +64,12 @@ fn work_lines<T: Threads + Wait + Sync, G: Gate + Sync>(
     script: &[u8],
 ) -> Result<Vec<FlightChannel>, ScriptFault>
     requires spacecraft { scid ≤ 1023 }
-    requires within { length script.now ≤ limit }
+    requires within { length script.now ≤ script_limit }
     ensures rising { IfOk result (λ channels. AreRising channels.items) }
     ensures told { IfOk result (λ channels. All IsNumberTold channels.items) }
     ensures worked { IfOk result (λ channels. AreWorkedChannels scid script.now channels.items) }
     ensures good { OnOk result (IsGood script.now) }
-    ensures fault { IfErr result (IsFault script.now) }
+    ensures fault { IfErr result (IsScriptFault script.now) }
 {
     let (plan, lines) = part_lines(alloc, scid, script)?;
     match start(plan, alloc, scid) {
@@ -88,10 +88,10 @@ type Plan = Stage<Parted>;
 // What is to be done by a script, and how many lines it has.
 fn part_lines(alloc: Global, scid: u16, script: &[u8]) -> Result<(Plan, u32), ScriptFault>
     requires spacecraft { scid ≤ 1023 }
-    requires within { length script.now ≤ limit }
+    requires within { length script.now ≤ script_limit }
     ensures parted { IfOk result (λ parts. AreParted scid script.now parts.1 parts.0 []) }
     ensures good { OnOk result (IsGood script.now) }
-    ensures fault { IfErr result (IsFault script.now) }
+    ensures fault { IfErr result (IsScriptFault script.now) }
 {
     let mut plan = Stage::SettingUp(Configuration::new(alloc));
     let mut rest = script;
@@ -115,10 +115,10 @@ fn part_line(
     octets: &[u8],
 ) -> Result<(), Reason>
     requires { scid ≤ 1023 }
-    ensures done { OnOk result (IsDone (phase_of plan.old) octets.now (phase_of plan.new)) }
+    ensures done { OnOk result (IsGoodLine (phase_of plan.old) octets.now (phase_of plan.new)) }
     ensures parted { OnOk result (IsLineParted scid line plan.old octets.now plan.new) }
     ensures reason { IfErr result (λ reason. (reason ≡ Reason.NoMemory) ⊎ IsBadLine (phase_of plan.old) octets.now reason) }
-    ensures refused { IfErr result (λ reason. IsKept reason plan.old plan.new) }
+    ensures refused { IfErr result (λ reason. IsStageKept reason plan.old plan.new) }
 {
     let said = parse_line(alloc, octets)?;
     part(plan, alloc, scid, line, Instruction::of(alloc, said))
@@ -137,7 +137,7 @@ fn part(
     ensures done { OnOk result (Does (phase_of plan.old) instruction (phase_of plan.new)) }
     ensures parted { OnOk result (IsParted scid line plan.old instruction plan.new) }
     ensures reason { IfErr result (λ reason. (reason ≡ Reason.NoMemory) ⊎ IsBad (phase_of plan.old) instruction reason) }
-    ensures refused { IfErr result (λ reason. IsKept reason plan.old plan.new) }
+    ensures refused { IfErr result (λ reason. IsStageKept reason plan.old plan.new) }
 {
     match instruction {
         Instruction::Nothing => Ok(()),
@@ -175,9 +175,9 @@ fn give_frame(
 ) -> Result<(), Reason>
     requires { scid ≤ 1023 }
     ensures some { OnOk result (phase_of plan.old ≢ Setup []) }
-    ensures given { OnOk result (Parts scid (IsFrameGiven line octets) plan.old plan.new) }
+    ensures given { OnOk result (GivesToFound scid (IsFrameGiven line octets) plan.old plan.new) }
     ensures reason { IfErr result (λ reason. (reason ≡ Reason.NoMemory) ⊎ ((reason ≡ Reason.NoChannel) × (phase_of plan.old ≡ Setup []))) }
-    ensures refused { IfErr result (λ reason. IsKept reason plan.old plan.new) }
+    ensures refused { IfErr result (λ reason. IsStageKept reason plan.old plan.new) }
 {
     begin(plan, alloc, scid)?;
     match plan {
@@ -197,9 +197,9 @@ fn give_order(
 ) -> Result<(), Reason>
     requires { scid ≤ 1023 }
     ensures some { OnOk result (phase_of plan.old ≢ Setup []) }
-    ensures given { OnOk result (Parts scid (IsGiven vcid (record { line = line; order = order })) plan.old plan.new) }
+    ensures given { OnOk result (GivesToFound scid (IsGiven vcid (record { line = line; order = order })) plan.old plan.new) }
     ensures reason { IfErr result (λ reason. (reason ≡ Reason.NoMemory) ⊎ ((reason ≡ Reason.NoChannel) × (phase_of plan.old ≡ Setup []))) }
-    ensures refused { IfErr result (λ reason. IsKept reason plan.old plan.new) }
+    ensures refused { IfErr result (λ reason. IsStageKept reason plan.old plan.new) }
 {
     begin(plan, alloc, scid)?;
     match plan {
@@ -214,7 +214,7 @@ fn begin(plan: &mut Plan, alloc: Global, scid: u16) -> Result<(), Reason>
     ensures parted { OnOk result (Begins scid plan.old plan.new) }
     ensures some { OnOk result (phase_of plan.old ≢ Setup []) }
     ensures reason { IfErr result (λ reason. (reason ≡ Reason.NoMemory) ⊎ ((reason ≡ Reason.NoChannel) × (phase_of plan.old ≡ Setup []))) }
-    ensures refused { IfErr result (λ reason. IsKept reason plan.old plan.new) }
+    ensures refused { IfErr result (λ reason. IsStageKept reason plan.old plan.new) }
 {
     match plan {
         Stage::Operating(_) => Ok(()),

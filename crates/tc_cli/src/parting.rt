@@ -1,10 +1,10 @@
 //! Jobs, parted by the channels that they are for, and done by a worker for each channel.
 
 ghost use Rattle.std.specs.Prelude.{◌≡◌, ◌≢◌, ◌≤◌, ◌⊎◌, [], All, IfOk, IfErr, OnOk, OnErr, MatchOption};
-ghost use Rattle.tc_cli.specs.Parting.{IsNewlyParted, IsGiven, IsFrameGiven, IsListed, IsListAt, IsWorkedOut, IsWorkFault};
+ghost use Rattle.tc_cli.specs.Parting.{IsNewlyParted, IsGiven, IsFrameGiven, HasWorkList, IsListAt, IsWorkedOut, IsWorkFault};
 ghost use Rattle.tc_rack.specs.Report.{AreRising};
 ghost use Rattle.tc_channel.specs.Journal.{IsNumberTold};
-ghost use Rattle.tc_station.specs.Work.{line_of};
+ghost use Rattle.tc_station.specs.Work.{line_of_fault};
 
 use crate::closing::close;
 use crate::founding::{found, lists_for};
@@ -111,14 +111,14 @@ impl Parted {
 
 // The place of the list of this channel.
 fn place_of(lists: &[WorkList], vcid: u8) -> Option<usize>
-    ensures { MatchOption result (¬ IsListed lists.now vcid) (λ place. (l : WorkList) × IsListAt lists.now vcid place l) }
+    ensures { MatchOption result (¬ HasWorkList lists.now vcid) (λ place. (l : WorkList) × IsListAt lists.now vcid place l) }
 {
     lists.iter().position(|list| list.vcid == vcid)
 }
 
 // What it is for a script that memory was refused for a job.
 fn refused(fault: WorkFault) -> ScriptFault
-    ensures { result ≡ ScriptFault.Line (line_of fault) Reason.NoMemory }
+    ensures { result ≡ ScriptFault.Line (line_of_fault fault) Reason.NoMemory }
 {
     match fault {
         WorkFault::NoMemory { line } => no_memory(line),

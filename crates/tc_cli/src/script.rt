@@ -1,13 +1,13 @@
 //! A script from its octets to its answers.
 
 ghost use Rattle.std.specs.Prelude.{◌≡◌, ◌⊎◌, ◌≤◌, length, IfOk, IfErr, OnOk, IfSome};
-ghost use Rattle.tc_cli.specs.Script.{IsFault, IsGood, IsDone, IsBadLine, IsReportFault};
-ghost use Rattle.tc_text.specs.Reading.{limit};
+ghost use Rattle.tc_cli.specs.Script.{IsScriptFault, IsGood, IsGoodLine, IsBadLine, IsReportFault};
+ghost use Rattle.tc_text.specs.Reading.{script_limit};
 ghost use Rattle.tc_cli.specs.Session.{IsLeft, IsOperated};
 ghost use Rattle.tc_rack.specs.Stage.{phase_of};
 ghost use Rattle.std.specs.Io.KnownBytes.{Appends, Keeps};
 ghost use Rattle.tc_rack.specs.Printed.{answer_line};
-ghost use Rattle.tc_cli.specs.Written.{IsCutShort, IsLineAnswered, IsReportWritten, IsWritten};
+ghost use Rattle.tc_cli.specs.Written.{IsScriptCutShort, IsLineAnswered, IsSessionReportWritten, IsScriptWritten};
 
 use crate::closing::close;
 use crate::session::{Session, perform, start};
@@ -36,10 +36,10 @@ pub fn run_script<T: Wait, R: Read, W: Write>(
     writer: &mut W,
 ) -> Result<(), ScriptFault>
     requires { scid ≤ 1023 }
-    ensures good { OnOk result (IfSome (R.remaining reader.old) (λ script. (length script ≤ limit) × IsGood script)) }
-    ensures fault { IfErr result (λ fault. IfSome (R.remaining reader.old) (λ script. IsFault script fault)) }
-    ensures written { OnOk result (IfSome (R.remaining reader.old) (λ script. IsWritten scid script (W.contents writer.old) (W.contents writer.new))) }
-    ensures cut_short { IfErr result (λ fault. IfSome (R.remaining reader.old) (λ script. IsCutShort scid script (W.contents writer.old) (W.contents writer.new) fault)) }
+    ensures good { OnOk result (IfSome (R.remaining reader.old) (λ script. (length script ≤ script_limit) × IsGood script)) }
+    ensures fault { IfErr result (λ fault. IfSome (R.remaining reader.old) (λ script. IsScriptFault script fault)) }
+    ensures written { OnOk result (IfSome (R.remaining reader.old) (λ script. IsScriptWritten scid script (W.contents writer.old) (W.contents writer.new))) }
+    ensures cut_short { IfErr result (λ fault. IfSome (R.remaining reader.old) (λ script. IsScriptCutShort scid script (W.contents writer.old) (W.contents writer.new) fault)) }
 {
     let script = read_whole(alloc, reader)?;
     let done = run_lines(rt, alloc, scid, script.as_slice(), writer);
@@ -57,11 +57,11 @@ fn run_lines<W: Write>(
     writer: &mut W,
 ) -> Result<(), ScriptFault>
     requires spacecraft { scid ≤ 1023 }
-    requires within { length script.now ≤ limit }
+    requires within { length script.now ≤ script_limit }
     ensures good { OnOk result (IsGood script.now) }
-    ensures fault { IfErr result (IsFault script.now) }
-    ensures written { OnOk result (IsWritten scid script.now (W.contents writer.old) (W.contents writer.new)) }
-    ensures cut_short { IfErr result (IsCutShort scid script.now (W.contents writer.old) (W.contents writer.new)) }
+    ensures fault { IfErr result (IsScriptFault script.now) }
+    ensures written { OnOk result (IsScriptWritten scid script.now (W.contents writer.old) (W.contents writer.new)) }
+    ensures cut_short { IfErr result (IsScriptCutShort scid script.now (W.contents writer.old) (W.contents writer.new)) }
 {
     one_alone_is_answered_after_its_own_events();
     the_only_operator_made_the_whole_journal();
@@ -88,7 +88,7 @@ fn perform_line(
     octets: &[u8],
 ) -> Result<Option<Answer>, Reason>
     requires { scid ≤ 1023 }
-    ensures done { OnOk result (IsDone (phase_of session.old) octets.now (phase_of session.new)) }
+    ensures done { OnOk result (IsGoodLine (phase_of session.old) octets.now (phase_of session.new)) }
     ensures answer { IfOk result (IsLineAnswered (IsOperated scid) session.old octets.now session.new) }
     ensures reason { IfErr result (λ reason. (reason ≡ Reason.NoMemory) ⊎ IsBadLine (phase_of session.old) octets.now reason) }
     ensures refused { IfErr result (λ reason. IsLeft scid reason session.old session.new) }
@@ -117,7 +117,7 @@ fn report<W: Write>(
     writer: &mut W,
 ) -> Result<(), ScriptFault>
     requires { scid ≤ 1023 }
-    ensures written { OnOk result (IsReportWritten scid session (W.contents writer.old) (W.contents writer.new)) }
+    ensures written { OnOk result (IsSessionReportWritten scid session (W.contents writer.old) (W.contents writer.new)) }
     ensures fault { IfErr result (IsReportFault lines) }
     ensures kept { IfErr result (λ fault. (fault ≡ ScriptFault.Write) ⊎ Keeps (W.contents writer.old) (W.contents writer.new)) }
 {

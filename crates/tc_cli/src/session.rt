@@ -3,7 +3,7 @@
 ghost use Rattle.std.specs.Prelude.{◌≡◌, ◌≢◌, ◌≤◌, ◌⊎◌, [], IfOk, IfErr, OnErr, OnOk};
 ghost use Rattle.tc_cli.specs.Manned.{Manned};
 ghost use Rattle.tc_setup.specs.Phase.{Does, IsBad, IsBadOperation, Operates, Setup};
-ghost use Rattle.tc_cli.specs.Session.{IsAnswered, IsDoneSo, IsFound, IsLeft, IsOperated};
+ghost use Rattle.tc_cli.specs.Session.{IsInstructionAnswered, IsDoneSo, IsFound, IsLeft, IsOperated};
 ghost use Rattle.tc_rack.specs.Stage.{phase_of};
 
 use crate::founding::found;
@@ -28,7 +28,7 @@ pub(crate) fn perform(
 ) -> Result<Option<Answer>, Reason>
     requires { scid ≤ 1023 }
     ensures done { OnOk result (Does (phase_of session.old) instruction (phase_of session.new)) }
-    ensures answer { IfOk result (IsAnswered (IsOperated scid) session.old instruction session.new) }
+    ensures answer { IfOk result (IsInstructionAnswered (IsOperated scid) session.old instruction session.new) }
     ensures reason { IfErr result (λ reason. (reason ≡ Reason.NoMemory) ⊎ IsBad (phase_of session.old) instruction reason) }
     ensures refused { IfErr result (λ reason. IsLeft scid reason session.old session.new) }
 {

@@ -2,9 +2,9 @@
 
 ghost use Rattle.std.specs.Prelude.{[], Some};
 ghost use Rattle.tc_cli.specs.Examples as example;
-ghost use Rattle.tc_cli.specs.Written.{IsWritten};
+ghost use Rattle.tc_cli.specs.Written.{IsScriptWritten};
 
 /// A script with operations of each kind but the CLCW writes the text that was worked out by hand.
 pub fn a_script_writes_this()
-    ensures { IsWritten 42 example.script (Some []) (Some example.text) }
+    ensures { IsScriptWritten 42 example.script (Some []) (Some example.text) }
 {}

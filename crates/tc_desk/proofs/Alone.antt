@@ -7,7 +7,7 @@ use Rattle.tc_channel.specs.declared.event.Event.{Event}
 use Rattle.logged_lock.specs.Log.{owned, made_by, IsBeginning, IsMergeOf}
 use Rattle.tc_desk.specs.Log.{Moment, Own}
 use Rattle.tc_desk.specs.Call.{made, looked}
-use Rattle.tc_desk.specs.Alone.{placed, HasMadeAll, HasSeenItsOwn}
+use Rattle.tc_desk.specs.Alone.{with_places, HasMadeAll, HasSeenItsOwn}
 
 cons-not-nil : {A : Type 0} (x : A) (xs : List A) → x ∷ xs ≡ [] → ⊥
 cons-not-nil x xs e = absurd cc
@@ -21,7 +21,7 @@ owned-other t at o os e es apart = ap (λ (b : Bool). cond b ((at, e) ∷ owned 
 
 -- one place, where nobody but the k-th owns any
 own-step : (k at o : ℕ) (os : List ℕ) (e : Event) (es : List Event) → ((j : ℕ) → j ≢ k → owned j at (o ∷ os) (e ∷ es) ≡ [])
-    → (((j : ℕ) → j ≢ k → owned j (suc at) os es ≡ []) → owned k (suc at) os es ≡ placed (suc at) es) → owned k at (o ∷ os) (e ∷ es) ≡ placed at (e ∷ es)
+    → (((j : ℕ) → j ≢ k → owned j (suc at) os es ≡ []) → owned k (suc at) os es ≡ with_places (suc at) es) → owned k at (o ∷ os) (e ∷ es) ≡ with_places at (e ∷ es)
 own-step k at o os e es none rest = elim (eqb_tells o k) [
   | inl h ↦
       let others : (j : ℕ) → j ≢ k → owned j (suc at) os es ≡ [] = λ j apart. sym (owned-other j at o os e es (λ same. apart (sym same ∙ h.1))) ∙ none j apart in
@@ -30,19 +30,19 @@ own-step k at o os e es none rest = elim (eqb_tells o k) [
 ]
 
 -- where nobody but the k-th owns a place, the k-th owns all of them
-all-own : (k at : ℕ) (os : List ℕ) (es : List Event) → length os ≡ length es → ((j : ℕ) → j ≢ k → owned j at os es ≡ []) → owned k at os es ≡ placed at es
+all-own : (k at : ℕ) (os : List ℕ) (es : List Event) → length os ≡ length es → ((j : ℕ) → j ≢ k → owned j at os es ≡ []) → owned k at os es ≡ with_places at es
 all-own k at [] [] len none = refl
 all-own k at [] (e ∷ es) len none = absurd (omega arith)
 all-own k at (o ∷ os) [] len none = absurd (omega arith)
 all-own k at (o ∷ os) (e ∷ es) len none = own-step k at o os e es none (all-own k (suc at) os es (omega arith))
 
-length-placed : (at : ℕ) (es : List Event) → length (placed at es) ≡ length es
+length-placed : (at : ℕ) (es : List Event) → length (with_places at es) ≡ length es
 length-placed at [] = refl
 length-placed at (e ∷ es) = omega (arith, length-placed (suc at) es)
 
-placed-last : (at : ℕ) (es : List Event) (e : Event) → placed at (es ++ e ∷ []) ≡ placed at es ++ (at + length es, e) ∷ []
+placed-last : (at : ℕ) (es : List Event) (e : Event) → with_places at (es ++ e ∷ []) ≡ with_places at es ++ (at + length es, e) ∷ []
 placed-last at [] e = ap (λ (n : ℕ). (n, e) ∷ []) (omega arith)
-placed-last at (x ∷ es) e = ap (λ l. (at, x) ∷ l) (placed-last (suc at) es e) ∙ ap (λ (n : ℕ). (at, x) ∷ (placed (suc at) es ++ (n, e) ∷ [])) (omega arith)
+placed-last at (x ∷ es) e = ap (λ l. (at, x) ∷ l) (placed-last (suc at) es e) ∙ ap (λ (n : ℕ). (at, x) ∷ (with_places (suc at) es ++ (n, e) ∷ [])) (omega arith)
 
 -- lists that agree with one more at the end agree before it
 last-cancel : {A : Type 0} (xs ys : List A) (x y : A) → xs ++ x ∷ [] ≡ ys ++ y ∷ [] → xs ≡ ys
@@ -67,10 +67,10 @@ whole-prefix xs ys p le =
 pub maker-alone : (makers : List Own) (k : ℕ) (own : Own) (journal : List Event) → made_by makers k ≡ own.made → ((j : ℕ) → j ≢ k → made_by makers j ≡ []) → HasSeenItsOwn own
     → IsBeginning own.seen (record { head = own.seen.head; entries = journal }) → IsMergeOf journal makers → HasMadeAll own × (own.seen.entries ≡ journal)
 maker-alone makers k own journal mine none its behind merge =
-    let all : own.made ≡ placed 0 journal = sym mine ∙ (sym (merge.parts k) ∙ all-own k 0 merge.owners journal merge.long (λ j apart. merge.parts j ∙ none j apart)) in
+    let all : own.made ≡ with_places 0 journal = sym mine ∙ (sym (merge.parts k) ∙ all-own k 0 merge.owners journal merge.long (λ j apart. merge.parts j ∙ none j apart)) in
     let count : length own.made ≡ length journal = ap (λ l. length l) all ∙ length-placed 0 journal in
     let seen : own.seen.entries ≡ journal = whole-prefix own.seen.entries journal behind.1 (omega (arith, count, its)) in
-    (all ∙ ap (λ l. placed 0 l) (sym seen), seen)
+    (all ∙ ap (λ l. with_places 0 l) (sym seen), seen)
 
 nobody-else : (own : Own) (j : ℕ) → j ≢ 0 → made_by (own ∷ []) j ≡ []
 nobody-else own zero apart = absurd (apart refl)
@@ -81,15 +81,15 @@ pub only-maker : (own : Own) (journal : List Event) → HasSeenItsOwn own → Is
 only-maker own journal its behind merge = maker-alone (own ∷ []) 0 own journal refl (nobody-else own) its behind merge
 
 -- it was answered at the moment that it had seen
-same-moment : (before : Own) (now : Moment) → HasSeenItsOwn before → IsBeginning before.seen now → before.made ≡ placed 0 now.entries → HasMadeAll before × (now ≡ before.seen)
+same-moment : (before : Own) (now : Moment) → HasSeenItsOwn before → IsBeginning before.seen now → before.made ≡ with_places 0 now.entries → HasMadeAll before × (now ≡ before.seen)
 same-moment before now its later all =
     let count : length before.made ≡ length now.entries = ap (λ l. length l) all ∙ length-placed 0 now.entries in
     let seen : before.seen.entries ≡ now.entries = whole-prefix before.seen.entries now.entries later.1 (omega (arith, count, its)) in
-    (all ∙ ap (λ l. placed 0 l) (sym seen), λ i. record { head = later.0 i; entries = sym seen i })
+    (all ∙ ap (λ l. with_places 0 l) (sym seen), λ i. record { head = later.0 i; entries = sym seen i })
 
 pub alone-event : (before : Own) (now : Moment) (e : Event) → HasSeenItsOwn before → IsBeginning before.seen now → HasMadeAll (made e now before) → HasMadeAll before × (now ≡ before.seen)
 alone-event before now e its later all =
-    same-moment before now its later (last-cancel before.made (placed 0 now.entries) (length now.entries, e) (0 + length now.entries, e) (all ∙ placed-last 0 now.entries e))
+    same-moment before now its later (last-cancel before.made (with_places 0 now.entries) (length now.entries, e) (0 + length now.entries, e) (all ∙ placed-last 0 now.entries e))
 
 pub alone-look : (before : Own) (now : Moment) → HasSeenItsOwn before → IsBeginning before.seen now → HasMadeAll (looked now before) → HasMadeAll before × (now ≡ before.seen)
 alone-look before now its later all = same-moment before now its later all

@@ -15,7 +15,7 @@ use Rattle.tc_desk.specs.Closing.{CanClose, IsBalanced, IsCause, IsClosed}
 use Rattle.tc_desk.proofs.Counted.{as-balanced, cause-of, not-balanced}
 use Rattle.tc_desk.specs.declared.together.Refusal.{Refusal}
 use Rattle.tc_desk.specs.declared.together.Refusal.TheVariants.{Unbalanced}
-use Rattle.tc_desk.specs.Together.{IsRefusal, AreOurs, AreClosed, AreBalanced, AreMoments, AreSame, CanCloseEach, CannotCloseOne, HasCause, IsFresh, IsOut, column, heads_of, issued_of, keepers_of, locks_of, nobody, settings_of, told_one, told_row, told_rows}
+use Rattle.tc_desk.specs.Together.{IsClosingRefusal, AreOurs, AreClosed, AreBalanced, AreMoments, AreSame, CanCloseEach, CannotCloseOne, HasCause, IsFresh, IsOut, column, heads_of, issued_of, keepers_of, locks_of, nobody, settings_of_desks, told_one, told_row, told_rows}
 
 -- ---- locks that are taken and given back
 
@@ -253,7 +253,7 @@ written_back v start next rows from is =
     let six = v.ok.0 in
     with_items_is v next (omega (arith, one, two, three, four, five, six)) ∙ (is ∙ ap (λ (l : List AtHand). told_rows l rows) from)
 
-pub settings_out : (hs : List AtHand) (cs : List History) → AllZip IsOut hs cs → map (λ (c : History). c.settings) cs ≡ settings_of (keepers_of hs)
+pub settings_out : (hs : List AtHand) (cs : List History) → AllZip IsOut hs cs → map (λ (c : History). c.settings) cs ≡ settings_of_desks (keepers_of hs)
 settings_out [] [] all = refl
 settings_out [] (d ∷ cs) all = absurd all
 settings_out (g ∷ hs) [] all = absurd all
@@ -292,10 +292,10 @@ closed_all posts rows held told closed moments ours can all is =
     }
 
 -- desks that aren't balanced are a refusal
-pub unbalanced : (posts : List AtLock) (rows : List (List AtLock)) (held : List AtHand) (refusal : Refusal) → refusal ≡ Unbalanced → AreMoments posts held → CannotCloseOne held rows → IsRefusal posts rows refusal
+pub unbalanced : (posts : List AtLock) (rows : List (List AtLock)) (held : List AtHand) (refusal : Refusal) → refusal ≡ Unbalanced → AreMoments posts held → CannotCloseOne held rows → IsClosingRefusal posts rows refusal
 unbalanced posts rows held refusal is moments cannot =
     let h = cannot.1 in
-    subst (IsRefusal posts rows) (sym is) (held, moments, λ balanced. not-balanced h.keeper.own.issued (accounts_of (column cannot.0 rows)) h.now.entries cannot.3 (balanced cannot.0 h cannot.2))
+    subst (IsClosingRefusal posts rows) (sym is) (held, moments, λ balanced. not-balanced h.keeper.own.issued (accounts_of (column cannot.0 rows)) h.now.entries cannot.3 (balanced cannot.0 h cannot.2))
 
 pub caused : (posts : List AtLock) (rows : List (List AtLock)) (held : List AtHand) → AreMoments posts held → CannotCloseOne held rows → HasCause posts rows
 caused posts rows held moments cannot =

@@ -73,7 +73,7 @@ HasSeen m seen watcher = (watcher.board ≡ m.head.board) × (watcher.seen ≡ s
 
 -- what the watcher has seen is a beginning of the journal at this moment
 abbrev pub HasSeenNoMore : Watching → Moment → Type 0
-HasSeenNoMore watcher m = board.IsBeginning watcher.seen (history_of m)
+HasSeenNoMore watcher m = board.IsEarlier watcher.seen (history_of m)
 
 -- the watcher is of the desk's board, and has seen the journal as it is
 abbrev pub HasMet : Moment → Watching → Type 0
@@ -107,8 +107,8 @@ IsReleaseFault m release_faults.Empty = buffered_fields m.head.settings m.entrie
 IsReleaseFault m release_faults.NoMemory = ⊤
 
 -- the packet is the oldest that waited in the queue with this APID
-abbrev pub IsTaken : ℕ → Moment → List ℕ → Type 0
-IsTaken apid m packet = take_reply m.head.settings m.entries apid ≡ Some packet
+abbrev pub IsOldestPacket : ℕ → Moment → List ℕ → Type 0
+IsOldestPacket apid m packet = take_reply m.head.settings m.entries apid ≡ Some packet
 
 -- where the journal takes no memory, a take doesn't run out of it
 abbrev pub IsTakeFault : Bool → ℕ → Moment → TakeFault → Type 0
@@ -117,8 +117,8 @@ IsTakeFault grows apid m take_faults.Empty = waiting_packets m.head.settings m.e
 IsTakeFault grows apid m take_faults.NoMemory = grows ≡ false → ⊥
 
 -- the unit is the oldest that waited on this MAP
-abbrev pub IsUnitTaken : ℕ → Moment → List ℕ → Type 0
-IsUnitTaken map_id m unit = unit_reply m.head.settings m.entries map_id ≡ Some unit
+abbrev pub IsOldestUnit : ℕ → Moment → List ℕ → Type 0
+IsOldestUnit map_id m unit = unit_reply m.head.settings m.entries map_id ≡ Some unit
 
 abbrev pub IsTakeUnitFault : Bool → ℕ → Moment → TakeUnitFault → Type 0
 IsTakeUnitFault grows map_id m unit_faults.NoMap = waiting_units m.head.settings m.entries map_id ≡ None
@@ -130,8 +130,8 @@ abbrev pub IsReport : Moment → Report → Type 0
 IsReport m report = report ≡ (run m.head.settings m.entries).report
 
 -- the CLCW (CCSDS 232.0-B, 4.2) with these flags of the link
-abbrev pub IsClcw : Link → Moment → ℕ → Type 0
-IsClcw link m word = word ≡ clcw m.head.settings m.entries link
+abbrev pub IsClcwOf : Link → Moment → ℕ → Type 0
+IsClcwOf link m word = word ≡ clcw m.head.settings m.entries link
 
 -- how many events there are in the journal; where they are more than 2^64 - 1, that number
 abbrev pub IsCount : Moment → ℕ → Type 0

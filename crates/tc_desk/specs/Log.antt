@@ -4,7 +4,7 @@ use Rattle.atomic_table.specs.Seated.{TableId}
 use Rattle.tc_channel.specs.declared.settings.Settings.{Settings}
 use Rattle.tc_channel.specs.declared.event.Event.{Event}
 use Rattle.tc_channel.specs.Journal.{History}
-use Rattle.tc_status.specs.Board.{nothing}
+use Rattle.tc_status.specs.Board.{no_history}
 use Rattle.logged_lock.specs.declared.views.Log.{Log}
 use Rattle.logged_lock.specs.declared.views.Account.{Account}
 use Rattle.logged_lock.specs.declared.views.View.{View}
@@ -35,7 +35,7 @@ history_of m = record { settings = m.head.settings; journal = m.entries }
 -- what is put where no desk is meant
 abbrev pub nowhere : Identity
 nowhere = record {
-  settings = nothing.settings;
+  settings = no_history.settings;
   board = record { words = 0; slots = 0; views_name = 0; atom = 0; block = 0; offset = 0; slot_names = [] };
 }
 
@@ -47,9 +47,9 @@ abbrev pub moment_of : AtDesk → Moment
 moment_of d = record { head = identity_of d; entries = d.channel.journal }
 
 -- the same of what lies under the lock: the desk is there until it is taken out
-abbrev pub log_of : Option AtDesk → Moment
-log_of None = start_of nowhere
-log_of (Some d) = moment_of d
+abbrev pub desk_log : Option AtDesk → Moment
+desk_log None = start_of nowhere
+desk_log (Some d) = moment_of d
 
 -- which lock an operator works at, and what it has seen and made there
 pub record AtLock : Type 0 where
@@ -57,8 +57,8 @@ pub record AtLock : Type 0 where
   pub own : Own
 
 -- who has issued one operator more
-abbrev pub issued_one : AtLock → AtLock
-issued_one k = record { lock = k.lock; own = record { seen = k.own.seen; made = k.own.made; issued = suc k.own.issued } }
+abbrev pub with_one_issued : AtLock → AtLock
+with_one_issued k = record { lock = k.lock; own = record { seen = k.own.seen; made = k.own.made; issued = suc k.own.issued } }
 
 abbrev pub view_in : List Sight → Sight
 view_in [] = gone nowhere

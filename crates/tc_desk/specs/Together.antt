@@ -71,10 +71,10 @@ abbrev pub HasCause : List AtLock → List (List AtLock) → Type 0
 HasCause posts crews = (place : ℕ) × (post : AtLock) × (slice_get posts place ≡ Some post) × IsCause post.own.issued (accounts_of (column place crews))
 
 -- why the desks weren't closed: where counts are the reason, there were moments of the desks, all at once, at which one wasn't balanced
-abbrev pub IsRefusal : List AtLock → List (List AtLock) → Refusal → Type 0
-IsRefusal posts crews NoMemory = Unit {0}
-IsRefusal posts crews Held = Unit {0}
-IsRefusal posts crews Unbalanced = (held : List AtHand) × AreMoments posts held × ¬ AreBalanced held crews
+abbrev pub IsClosingRefusal : List AtLock → List (List AtLock) → Refusal → Type 0
+IsClosingRefusal posts crews NoMemory = Unit {0}
+IsClosingRefusal posts crews Held = Unit {0}
+IsClosingRefusal posts crews Unbalanced = (held : List AtHand) × AreMoments posts held × ¬ AreBalanced held crews
 
 -- the keeper was told of one operator more
 abbrev pub told_one : AtHand → AtLock → AtHand
@@ -104,5 +104,5 @@ abbrev pub AreOut : List AtHand → List History → Type 0
 AreOut held closed = AllZip IsOut held closed
 
 -- the settings of the desks
-abbrev pub settings_of : List AtLock → List Settings
-settings_of posts = map (λ (p : AtLock). p.own.seen.head.settings) posts
+abbrev pub settings_of_desks : List AtLock → List Settings
+settings_of_desks posts = map (λ (p : AtLock). p.own.seen.head.settings) posts

@@ -26,7 +26,7 @@ impl<J: Journal> Model for HeldDesk<J> {
     ghost use Rattle.std.specs.Prelude.{◌≡◌, [], min, length, ◌^◌, ◌-◌, IsSome};
     ghost use Rattle.crossbeam_utils.specs.Padded.{padded_value};
     ghost use Rattle.logged_lock.specs.Rule.{HasLock};
-    ghost use Rattle.tc_desk.specs.Log.{AtHand, log_of, issued_count};
+    ghost use Rattle.tc_desk.specs.Log.{AtHand, desk_log, issued_count};
 
     ghost Value = { AtHand };
 
@@ -36,7 +36,7 @@ impl<J: Journal> Model for HeldDesk<J> {
         × (h.first.me.0.own.seen.head ≡ h.keeper.value.own.seen.head)
         × (h.events ≡ min (length h.first.me.0.own.seen.entries) (2 ^ 64 - 1))
         × (h.issued ≡ issued_count h.keeper.value.own) × (h.first.me.0.own.issued ≡ h.keeper.value.own.issued) × (h.first.me.0.own.made ≡ [])
-        × HasLock (λ k. log_of (padded_value k.desk)) (λ k. IsSome (padded_value k.desk)) h.first.me h.first.me.0.own.seen };
+        × HasLock (λ k. desk_log (padded_value k.desk)) (λ k. IsSome (padded_value k.desk)) h.first.me h.first.me.0.own.seen };
 }
 
 impl<J: Journal> HeldDesk<J> {

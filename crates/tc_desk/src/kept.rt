@@ -3,7 +3,7 @@
 ghost use Rattle.std.specs.Prelude.{◌≡◌, Some, IsSome};
 ghost use Rattle.crossbeam_utils.specs.Padded.{padded_value};
 ghost use Rattle.tc_desk.specs.{TableId};
-ghost use Rattle.tc_desk.specs.Log.{identity_of, log_of};
+ghost use Rattle.tc_desk.specs.Log.{identity_of, desk_log};
 ghost use Rattle.tc_desk.specs.Call.{HasMet, HasSeenNoMore, IsAsked, IsMoment};
 
 use crate::operation::Question;
@@ -54,9 +54,9 @@ pub struct KeptDesk<J: Journal> {
 impl<J: Journal> Logged<DeskHead, Event> for KeptDesk<J> {
     ghost use Rattle.std.specs.Prelude.{IsSome};
     ghost use Rattle.crossbeam_utils.specs.Padded.{padded_value};
-    ghost use Rattle.tc_desk.specs.Log.{log_of};
+    ghost use Rattle.tc_desk.specs.Log.{desk_log};
 
-    ghost log = { λ k. log_of (padded_value k.desk) };
+    ghost log = { λ k. desk_log (padded_value k.desk) };
 
     ghost fits = { λ k. IsSome (padded_value k.desk) };
 }
@@ -87,7 +87,7 @@ impl<J: Journal> KeptDesk<J> {
     pub(crate) fn answer<Q: Question<J>>(&mut self, question: &Q) -> Q::Answer
         requires { IsSome (padded_value self.old.desk) }
         ensures there { IsSome (padded_value self.new.desk) }
-        ensures asked { IsAsked (Q.answers question.now) (log_of (padded_value self.old.desk)) result (log_of (padded_value self.new.desk)) }
+        ensures asked { IsAsked (Q.answers question.now) (desk_log (padded_value self.old.desk)) result (desk_log (padded_value self.new.desk)) }
     {
         let desk: &mut Option<DeskOf<J>> = &mut self.desk;
         let Some(desk) = desk else { unreachable!() };
@@ -97,12 +97,12 @@ impl<J: Journal> KeptDesk<J> {
     // The watcher meets the desk.
     pub(crate) fn meet(&mut self, watcher: &mut Watcher)
         requires there { IsSome (padded_value self.old.desk) }
-        requires board { watcher.old.board ≡ (log_of (padded_value self.old.desk)).head.board }
+        requires board { watcher.old.board ≡ (desk_log (padded_value self.old.desk)).head.board }
         ensures there { IsSome (padded_value self.new.desk) }
-        ensures same { log_of (padded_value self.new.desk) ≡ log_of (padded_value self.old.desk) }
-        ensures moment { IsMoment (log_of (padded_value self.old.desk)) }
-        ensures before { HasSeenNoMore watcher.old (log_of (padded_value self.old.desk)) }
-        ensures met { HasMet (log_of (padded_value self.old.desk)) watcher.new }
+        ensures same { desk_log (padded_value self.new.desk) ≡ desk_log (padded_value self.old.desk) }
+        ensures moment { IsMoment (desk_log (padded_value self.old.desk)) }
+        ensures before { HasSeenNoMore watcher.old (desk_log (padded_value self.old.desk)) }
+        ensures met { HasMet (desk_log (padded_value self.old.desk)) watcher.new }
     {
         let desk: &mut Option<DeskOf<J>> = &mut self.desk;
         let Some(desk) = desk else { unreachable!() };

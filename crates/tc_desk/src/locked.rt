@@ -5,7 +5,7 @@ ghost use Rattle.std.specs.Prelude.{◌≡◌, ◌+◌, ◌-◌, ◌^◌, ◌∷
 ghost use Rattle.logged_lock.specs.Rule.{HasLock};
 ghost use Rattle.tc_channel.specs.Settings.{IsAllowed, IsRefusal};
 ghost use Rattle.logged_lock.specs.Rule as rule;
-ghost use Rattle.tc_desk.specs.Log.{Moment, IsResting, log_of, at_lock, view_in, count_of, issued_count, issued_one};
+ghost use Rattle.tc_desk.specs.Log.{Moment, IsResting, desk_log, at_lock, view_in, count_of, issued_count, with_one_issued};
 ghost use Rattle.tc_desk.specs.Call.{HasMet, HasSeenNoMore, IsMoment, IsAsked, IsCall, IsLook, IsMeeting, IsMetCall};
 
 use crate::kept::{DeskHead, KeptDesk};
@@ -153,9 +153,9 @@ pub(crate) fn answer_at<J: Journal, Q: Question<J>>(
     question: &Q,
 ) -> Q::Answer
     requires own { seat.old.table_id ≡ lock.now.id }
-    requires locks { HasLock (λ k. log_of (padded_value k.desk)) (λ k. IsSome (padded_value k.desk)) seat.old.me seat.old.me.0.own.seen }
+    requires locks { HasLock (λ k. desk_log (padded_value k.desk)) (λ k. IsSome (padded_value k.desk)) seat.old.me seat.old.me.0.own.seen }
     ensures same { (seat.new.table_id ≡ seat.old.table_id) × (seat.new.id ≡ seat.old.id) × (seat.new.me.0 ≡ seat.old.me.0) }
-    ensures asked { (after : Moment) × HasLock (λ k. log_of (padded_value k.desk)) (λ k. IsSome (padded_value k.desk)) seat.new.me after
+    ensures asked { (after : Moment) × HasLock (λ k. desk_log (padded_value k.desk)) (λ k. IsSome (padded_value k.desk)) seat.new.me after
         × IsAsked (Q.answers question.now) seat.old.me.0.own.seen result after }
 {
     let kept = seat.slot_mut(lock.table(), 0);
@@ -233,7 +233,7 @@ impl DeskKeeper {
     /// A new operator, which has made nothing, and has seen what the keeper has seen.
     pub fn operator<J: Journal>(&mut self, desk: &LockedDesk<J>) -> DeskOperator
         requires ours { self.old.lock ≡ desk.now.id }
-        ensures issued { self.new ≡ issued_one self.old }
+        ensures issued { self.new ≡ with_one_issued self.old }
         ensures lock { result.lock ≡ self.old.lock }
         ensures seen { result.own.seen ≡ self.old.own.seen }
         ensures new { result.own.made ≡ [] }

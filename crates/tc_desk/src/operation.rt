@@ -170,7 +170,7 @@ pub struct Taking {
 
 impl<J: Journal> Operation<J> for Taking {
     ghost use Rattle.tc_channel.specs.declared.event.Event.TheVariants.{Take};
-    ghost use Rattle.tc_desk.specs.Call.{IsTaken, IsTakeFault};
+    ghost use Rattle.tc_desk.specs.Call.{IsOldestPacket, IsTakeFault};
 
     type Answer = Vec<u8>;
 
@@ -178,7 +178,7 @@ impl<J: Journal> Operation<J> for Taking {
 
     ghost event = { λ o. Take o.apid };
 
-    ghost answers = { λ o m packet. IsTaken o.apid m packet.items };
+    ghost answers = { λ o m packet. IsOldestPacket o.apid m packet.items };
 
     ghost refuses = { λ o. IsTakeFault J.grows o.apid };
 
@@ -195,7 +195,7 @@ pub struct UnitTaking {
 
 impl<J: Journal> Operation<J> for UnitTaking {
     ghost use Rattle.tc_channel.specs.declared.event.Event.TheVariants.{TakeUnit};
-    ghost use Rattle.tc_desk.specs.Call.{IsUnitTaken, IsTakeUnitFault};
+    ghost use Rattle.tc_desk.specs.Call.{IsOldestUnit, IsTakeUnitFault};
 
     type Answer = Vec<u8>;
 
@@ -203,7 +203,7 @@ impl<J: Journal> Operation<J> for UnitTaking {
 
     ghost event = { λ o. TakeUnit o.map };
 
-    ghost answers = { λ o m unit. IsUnitTaken o.map m unit.items };
+    ghost answers = { λ o m unit. IsOldestUnit o.map m unit.items };
 
     ghost refuses = { λ o. IsTakeUnitFault J.grows o.map };
 
@@ -253,11 +253,11 @@ pub struct WordMaking {
 }
 
 impl<J: Journal> Question<J> for WordMaking {
-    ghost use Rattle.tc_desk.specs.Call.{IsClcw};
+    ghost use Rattle.tc_desk.specs.Call.{IsClcwOf};
 
     type Answer = u32;
 
-    ghost answers = { λ q. IsClcw q.link };
+    ghost answers = { λ q. IsClcwOf q.link };
 
     fn ask(&self, desk: &mut DeskOf<J>) -> u32 {
         desk.channel().clcw(self.link)

@@ -2,7 +2,7 @@
 
 ghost use Rattle.std.specs.Prelude.{◌≡◌, [], IfOk, MatchResult};
 ghost use Rattle.tc_channel.specs.Settings.{IsAllowed, IsRefusal};
-ghost use Rattle.tc_desk.specs.Log.{issued_one};
+ghost use Rattle.tc_desk.specs.Log.{with_one_issued};
 
 use crate::locked::{DeskKeeper, DeskOperator, LockedDesk};
 use std::alloc::Global;
@@ -49,7 +49,7 @@ impl<J: Journal> Post<J> {
 
     /// A new operator of the desk, which has made nothing, and has seen what the keeper has seen.
     pub fn operator(&mut self) -> DeskOperator
-        ensures issued { self.new ≡ issued_one self.old }
+        ensures issued { self.new ≡ with_one_issued self.old }
         ensures lock { result.lock ≡ self.old.lock }
         ensures seen { result.own.seen ≡ self.old.own.seen }
         ensures new { result.own.made ≡ [] }

@@ -3,7 +3,7 @@
 ghost use Rattle.std.specs.Prelude.{◌≡◌, ◌≢◌, ◌<◌, ◌≤◌, ◌+◌, ◌-◌, ◌^◌, ◌++◌, [], All, true, min, length, map, reverse, IfOk, IfErr, MatchBool, vec_len, vec_capacity};
 ghost use Rattle.logged_lock.specs.Log.{total_made};
 ghost use Rattle.tc_desk.specs.Log.{accounts_of};
-ghost use Rattle.tc_desk.specs.Together.{AreOurs, AreClosed, AreMoments, AreOut, AreSame, CanCloseEach, CannotCloseOne, HasCause, IsFresh, IsRefusal, column, keepers_of, locks_of, settings_of, told_row, told_rows};
+ghost use Rattle.tc_desk.specs.Together.{AreOurs, AreClosed, AreMoments, AreOut, AreSame, CanCloseEach, CannotCloseOne, HasCause, IsFresh, IsClosingRefusal, column, keepers_of, locks_of, settings_of_desks, told_row, told_rows};
 
 use crate::held::HeldDesk;
 use crate::locked::DeskOperator;
@@ -248,7 +248,7 @@ pub fn close_together<J: Journal, C: Crew>(
     requires ours { AreOurs posts.items (map C.at_desks crews.items) }
     ensures closed { IfOk result (λ channels. AreClosed posts.items (map C.at_desks crews.items) channels.items) }
     ensures kept { IfErr result (λ left. AreSame posts.items left.posts.items × (left.crews.items ≡ crews.items)) }
-    ensures refusal { IfErr result (λ left. IsRefusal posts.items (map C.at_desks crews.items) left.refusal) }
+    ensures refusal { IfErr result (λ left. IsClosingRefusal posts.items (map C.at_desks crews.items) left.refusal) }
     ensures cause { IfErr result (λ left. left.refusal ≡ Refusal.Unbalanced → HasCause posts.items (map C.at_desks crews.items)) }
 {
     let Ok((room, hands)) = rooms(alloc, posts.len()) else {
@@ -272,7 +272,7 @@ pub fn take_out_together<J: Journal>(
     alloc: Global,
     posts: Vec<Post<J>>,
 ) -> Result<Vec<ChannelWith<J>>, (Vec<Post<J>>, Refusal)>
-    ensures channels { IfOk result (λ channels. map (λ c. c.settings) channels.items ≡ settings_of posts.items) }
+    ensures channels { IfOk result (λ channels. map (λ c. c.settings) channels.items ≡ settings_of_desks posts.items) }
     ensures kept { IfErr result (λ left. AreSame posts.items left.0.items) }
     ensures refusal { IfErr result (λ left. left.1 ≢ Refusal.Unbalanced) }
 {

@@ -11,16 +11,16 @@ abbrev pub with_digit : ℕ → ℕ → ℕ
 with_digit number digit = number * 10 + (digit - 48)
 
 -- the number that the digits spell, the first the most significant
-abbrev pub spelled : List ℕ → ℕ
-spelled digits = fold with_digit 0 digits
+abbrev pub spelled_number : List ℕ → ℕ
+spelled_number digits = fold with_digit 0 digits
 
 abbrev pub decimal_of : List ℕ → Option ℕ
 decimal_of word =
-    if nat_le 1 (length word) && nat_le (length word) 5 && list_all is_digit word then Some (spelled word) else None
+    if nat_le 1 (length word) && nat_le (length word) 5 && list_all is_digit word then Some (spelled_number word) else None
 
-abbrev pub at_most : ℕ → ℕ → Option ℕ
-at_most most number = if nat_le number most then Some number else None
+abbrev pub if_at_most : ℕ → ℕ → Option ℕ
+if_at_most most number = if nat_le number most then Some number else None
 
 -- the number that a word is, where it is one and is within its bound
-abbrev pub number_of : ℕ → List ℕ → Option ℕ
-number_of most word = option_and_then (at_most most) (decimal_of word)
+abbrev pub word_number : ℕ → List ℕ → Option ℕ
+word_number most word = option_and_then (if_at_most most) (decimal_of word)

@@ -1,5 +1,6 @@
--- The words of a line.
-use Rattle.std.specs.Prelude.{ℕ, Bool, true, false, ◌==◌, ◌||◌, List, [], ◌∷◌, filter}
+-- The words of a line, and what is read of them.
+use Rattle.std.specs.Prelude.{ℕ, Bool, true, false, ◌==◌, ◌||◌, List, [], ◌∷◌, filter, slice_index, nat_eq, Result, Ok, Err}
+use Rattle.std.specs.Cmp.Lexicographic.{pointwise}
 use Rattle.std.specs.List.{slice_split}
 
 -- space, tab and carriage return
@@ -13,3 +14,16 @@ is_filled (octet ∷ octets) = true
 -- the pieces between separators, without the empty ones
 unfoldable pub words : List ℕ → List (List ℕ)
 words octets = filter is_filled (slice_split is_separator octets)
+
+-- the word is this text
+abbrev pub is : List ℕ → List ℕ → Bool
+is word text = pointwise nat_eq word text
+
+-- the word begins with a number sign, and with it a comment
+abbrev pub is_comment : List ℕ → Bool
+is_comment word = slice_index word 0 == 35
+
+-- what follows where something could be read
+abbrev pub after_ok : {A B E : Type 0} → Result A E → (A → Result B E) → Result B E
+after_ok (Ok x) next = next x
+after_ok (Err reason) next = Err reason

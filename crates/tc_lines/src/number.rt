@@ -2,7 +2,7 @@
 
 ghost use Rattle.std.specs.Prelude.{◌≡◌, MatchResult};
 ghost use Rattle.std.specs.List.{list_all};
-ghost use Rattle.tc_lines.specs.Number.{is_digit, decimal_of, number_of};
+ghost use Rattle.tc_lines.specs.Number.{is_digit, decimal_of, word_number};
 
 const MAX_DIGITS: usize = 5;
 
@@ -13,8 +13,8 @@ pub struct BadNumber;
 /// The number of at most 255 that a word is.
 pub fn small_number(word: &[u8]) -> Result<u8, BadNumber>
     ensures { MatchResult result
-        (λ number. number_of 255 word.now ≡ Some number)
-        (λ fault. number_of 255 word.now ≡ None) }
+        (λ number. word_number 255 word.now ≡ Some number)
+        (λ fault. word_number 255 word.now ≡ None) }
 {
     let Some(number) = decimal(word) else {
         return Err(BadNumber);
@@ -28,8 +28,8 @@ pub fn small_number(word: &[u8]) -> Result<u8, BadNumber>
 /// The number of at most 65,535 that a word is.
 pub fn large_number(word: &[u8]) -> Result<u16, BadNumber>
     ensures { MatchResult result
-        (λ number. number_of 65535 word.now ≡ Some number)
-        (λ fault. number_of 65535 word.now ≡ None) }
+        (λ number. word_number 65535 word.now ≡ Some number)
+        (λ fault. word_number 65535 word.now ≡ None) }
 {
     let Some(number) = decimal(word) else {
         return Err(BadNumber);

@@ -4,7 +4,7 @@ use Rattle.tc_rack.specs.declared.answer.Answer.{Answer}
 use Rattle.tc_rack.specs.declared.operation.Operation.TheVariants as operations
 use Rattle.tc_rack.specs.declared.stage.Stage.{Stage}
 use Rattle.tc_rack.specs.declared.stage.Stage.TheVariants.{Operating}
-use Rattle.tc_rack.specs.Delivery.{AreTold, IsDeliveryEnded}
+use Rattle.tc_rack.specs.Delivery.{AreAnswersWritten, IsDeliveryEnded}
 use Rattle.tc_rack.specs.Operation.{IsAnswerOf}
 use Rattle.tc_rack.specs.Rack.{Racked}
 use Rattle.tc_live.specs.Receiver.{Receiving, IsDeliveryBegun, IsDeliveryDone, begun, rack_for}
@@ -19,8 +19,8 @@ release-told old now check scid stage rack after vcid a is_begun view is answere
     (a, after, subst (λ r. IsAnswerOf (operations.Release vcid) r a after) same answered, refl, ap (λ (x : Receiving). record x { stage = Operating after }) (view ∙ is_begun))
 
 pub handed-on : (old : Receiving) (check : FrameCheck) (scid : ℕ) (stage : Stage Racked) (rack after : Racked) (vcid : ℕ) (a b : Option (List ℕ))
-    → ◌≡◌ {A = Receiving} (record { check = check; scid = scid; stage = stage }) old → stage ≡ Operating rack → AreTold a b (λ answers. IsDeliveryEnded vcid rack answers after)
-    → AreTold a b (IsDeliveryDone old vcid (record { check = check; scid = scid; stage = Operating after }))
+    → ◌≡◌ {A = Receiving} (record { check = check; scid = scid; stage = stage }) old → stage ≡ Operating rack → AreAnswersWritten a b (λ answers. IsDeliveryEnded vcid rack answers after)
+    → AreAnswersWritten a b (IsDeliveryDone old vcid (record { check = check; scid = scid; stage = Operating after }))
 handed-on old check scid stage rack after vcid a b view is (answers, ended, written) =
     let same : rack ≡ rack_for old.scid old.stage = ap (rack_for old.scid) (sym is ∙ ap (λ (x : Receiving). x.stage) view) in
     (answers, (after, subst (λ r. IsDeliveryEnded vcid r answers after) same ended, ap (λ (x : Receiving). record x { stage = Operating after }) view), written)

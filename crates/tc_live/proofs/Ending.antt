@@ -11,14 +11,14 @@ use Rattle.tc_lines.specs.declared.answering.ServingFault.TheVariants as answeri
 use Rattle.tc_channel.specs.Journal.{History, IsNumberTold}
 use Rattle.tc_rack.specs.Rack.{histories}
 use Rattle.tc_live.specs.Receiver.{Receiving, rack_at}
-use Rattle.tc_live.specs.Serving.{IsClosingFault, IsCutShort, IsLineSaid, IsReportWritten, IsUntold, IsWritten, fault_of, limit}
+use Rattle.tc_live.specs.Serving.{IsClosingFault, IsReceptionCutShort, IsLineSaid, IsReportWritten, IsUntold, IsReceptionWritten, fault_at_lines, line_limit}
 use Rattle.tc_live.specs.declared.serving.ServingFault.{ServingFault}
 use Rattle.tc_live.specs.declared.serving.ServingFault.TheVariants.{Write}
 
 -- the report follows the answers
 pub all-written : (closed : Result (Unit {0}) ServingFault) (receiver last : Receiving) (known a b c : Option (List ℕ))
-    → IfSome known (λ octets. lines.AreAllWritten limit IsLineSaid receiver octets last a b) → OnOk closed (IsReportWritten last b c)
-    → OnOk closed (IfSome known (λ octets. IsWritten receiver octets a c))
+    → IfSome known (λ octets. lines.AreAllWritten line_limit IsLineSaid receiver octets last a b) → OnOk closed (IsReportWritten last b c)
+    → OnOk closed (IfSome known (λ octets. IsReceptionWritten receiver octets a c))
 all-written (Err fault) receiver last known a b c answered report = tt
 all-written (Ok done) receiver last None a b c answered report = tt
 all-written (Ok done) receiver last (Some octets) a b c (answers, is, before) (channels, all, rising, more) =
@@ -26,22 +26,22 @@ all-written (Ok done) receiver last (Some octets) a b c (answers, is, before) (c
 
 -- there is no report, or not the whole of it
 pub not-reported : (closed : Result (Unit {0}) ServingFault) (receiver last : Receiving) (known a b c : Option (List ℕ))
-    → IfSome known (λ octets. lines.AreAllWritten limit IsLineSaid receiver octets last a b)
+    → IfSome known (λ octets. lines.AreAllWritten line_limit IsLineSaid receiver octets last a b)
     → IfErr closed (IsClosingFault last) → IfErr closed (λ fault. (fault ≡ Write) ⊎ Keeps b c)
-    → IfErr closed (λ fault. IfSome known (λ octets. IsCutShort receiver octets a c fault))
+    → IfErr closed (λ fault. IfSome known (λ octets. IsReceptionCutShort receiver octets a c fault))
 not-reported (Ok done) receiver last known a b c answered why kept = tt
 not-reported (Err fault) receiver last None a b c answered why kept = tt
-not-reported (Err fault) receiver last (Some octets) a b c answered why (inl write) = subst (IsCutShort receiver octets a c) (sym write) tt
-not-reported (Err fault) receiver last (Some octets) a b c answered (inl write) (inr kept) = subst (IsCutShort receiver octets a c) (sym write) tt
+not-reported (Err fault) receiver last (Some octets) a b c answered why (inl write) = subst (IsReceptionCutShort receiver octets a c) (sym write) tt
+not-reported (Err fault) receiver last (Some octets) a b c answered (inl write) (inr kept) = subst (IsReceptionCutShort receiver octets a c) (sym write) tt
 not-reported (Err fault) receiver last (Some octets) a b c (answers, is, before) (inr (inl memory)) (inr kept) =
-    subst (IsCutShort receiver octets a c) (sym memory) (inr (last, (answers, is, Appends-kept a b c answers before kept)))
+    subst (IsReceptionCutShort receiver octets a c) (sym memory) (inr (last, (answers, is, Appends-kept a b c answers before kept)))
 not-reported (Err fault) receiver last (Some octets) a b c (answers, is, before) (inr (inr (unbalanced, untold))) (inr kept) =
-    subst (IsCutShort receiver octets a c) (sym unbalanced) (last, (answers, is, Appends-kept a b c answers before kept), untold)
+    subst (IsReceptionCutShort receiver octets a c) (sym unbalanced) (last, (answers, is, Appends-kept a b c answers before kept), untold)
 
 -- no more lines are answered
 pub lines-cut : (fault : AnsweringFault) (receiver last : Receiving) (known a b : Option (List ℕ))
-    → IfSome known (λ octets. lines.IsCutShort limit IsLineSaid receiver octets last a b fault)
-    → IfSome known (λ octets. IsCutShort receiver octets a b (fault_of fault))
+    → IfSome known (λ octets. lines.IsCutShort line_limit IsLineSaid receiver octets last a b fault)
+    → IfSome known (λ octets. IsReceptionCutShort receiver octets a b (fault_at_lines fault))
 lines-cut fault receiver last None a b cut = tt
 lines-cut answering.Read receiver last (Some octets) a b cut = (last, cut)
 lines-cut answering.Write receiver last (Some octets) a b cut = tt

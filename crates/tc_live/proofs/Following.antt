@@ -4,7 +4,7 @@ use Rattle.std.proofs.KnownBytes.{Appends-trans}
 use Rattle.std.specs.Io.KnownBytes.{Appends}
 use Rattle.tc_lines.specs.Answering.{Writes}
 use Rattle.tc_rack.specs.declared.answer.Answer.{Answer}
-use Rattle.tc_rack.specs.Delivery.{AreTold, told_lines}
+use Rattle.tc_rack.specs.Delivery.{AreAnswersWritten, told_lines}
 use Rattle.tc_setup.specs.Instruction.{instruction_of}
 use Rattle.tc_setup.specs.declared.instruction.Instruction.{Instruction}
 use Rattle.tc_setup.specs.declared.instruction.Instruction.TheVariants as instructions
@@ -12,7 +12,7 @@ use Rattle.tc_text.specs.declared.line.Line.{Line}
 use Rattle.tc_text.specs.declared.live.LiveLine.{LiveLine}
 use Rattle.tc_text.specs.declared.live.LiveLine.TheVariants.{Script, Link as LinkOf, Report, Deliver}
 use Rattle.tc_live.specs.Printed.{live_text}
-use Rattle.tc_live.specs.Receiver.{Receiving, IsInstructed, IsLineAnswered, IsLineDone, IsReady, IsScriptDone, link_told, report_told}
+use Rattle.tc_live.specs.Receiver.{Receiving, IsInstructed, IsLiveLineAnswered, IsLineDone, IsReady, IsScriptDone, link_told, report_told}
 use Rattle.tc_live.specs.Serving.{IsAnswerSaid, IsFollowedBy, IsLineSaid, IsTold}
 use Rattle.tc_live.specs.declared.answer.LiveAnswer.{LiveAnswer}
 use Rattle.tc_live.specs.declared.answer.LiveAnswer.TheVariants as told
@@ -65,14 +65,14 @@ line-ready old new (Report vcid) answer ((found, reported, is, becomes), operate
     subst (λ x. IsReady x new) (sym is) (no-delivery-ready (report_told vcid found) new (report-no-delivery vcid found))
 line-ready old new (Deliver vcid) answer ((a, rack, answered, is, becomes), operates) = subst (λ x. IsReady x new) (sym is) operates.1
 
-pub ready : (old new : Receiving) (octets : List ℕ) (answer : LiveAnswer) → IsLineAnswered old octets new answer → IsReady answer new
+pub ready : (old new : Receiving) (octets : List ℕ) (answer : LiveAnswer) → IsLiveLineAnswered old octets new answer → IsReady answer new
 ready old new octets answer (said, is, done) = line-ready old new said answer done
 
 -- what follows is written behind the answer
-pub followed : (answer : LiveAnswer) (old new : Receiving) (a b c : Option (List ℕ)) → Appends a b (live_text answer) → AreTold b c (IsFollowedBy answer old new) → Writes a c (IsTold answer old new)
+pub followed : (answer : LiveAnswer) (old new : Receiving) (a b c : Option (List ℕ)) → Appends a b (live_text answer) → AreAnswersWritten b c (IsFollowedBy answer old new) → Writes a c (IsTold answer old new)
 followed answer old new a b c first (answers, follow, rest) = (live_text answer ++ told_lines answers, (answers, follow, refl), Appends-trans a b c _ _ first rest)
 
 -- an answer and what follows it are those of the line
-pub said : (old between new : Receiving) (octets : List ℕ) (answer : LiveAnswer) (a b : Option (List ℕ)) → IsLineAnswered old octets between answer
+pub said : (old between new : Receiving) (octets : List ℕ) (answer : LiveAnswer) (a b : Option (List ℕ)) → IsLiveLineAnswered old octets between answer
     → Writes a b (IsTold answer between new) → Writes a b (IsLineSaid old octets new)
 said old between new octets answer a b answered (text, is, written) = (text, inl (answer, between, answered, is), written)

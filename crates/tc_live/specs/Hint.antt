@@ -1,13 +1,13 @@
 -- What follows the reason in what a bad line is answered: docs/reference/tclive.md shows it, under "Output".
 use Rattle.std.specs.Prelude.{ℕ, List, [], ◌∷◌, codes, if◌then◌else◌}
-use Rattle.tc_text.specs.Line.{is}
+use Rattle.tc_lines.specs.Word.{is}
 use Rattle.tc_text.specs.declared.fault.Reason.{Reason}
 use Rattle.tc_text.specs.declared.fault.Reason.TheVariants.{UnknownCommand, WordCount}
 
 -- how the command is written that the words begin with
-unfoldable pub form_text : List (List ℕ) → List ℕ
-form_text [] = []
-form_text (command ∷ arguments) =
+unfoldable pub command_form_text : List (List ℕ) → List ℕ
+command_form_text [] = []
+command_form_text (command ∷ arguments) =
     if is command (codes "channel") then codes ": write channel VC WIDTH BUFFER VR [plain]"
     else if is command (codes "queue") then codes ": write queue VC APID CAPACITY"
     else if is command (codes "map") then codes ": write map VC MAP CAPACITY"
@@ -22,7 +22,7 @@ form_text (command ∷ arguments) =
     else []
 
 -- what to write instead, by the words of the line: which commands there are, or how its command is written; nothing for any other reason
-abbrev pub hint_text : List (List ℕ) → Reason → List ℕ
-hint_text line UnknownCommand = codes ": use channel, queue, map, frame, release, take, unit, clcw, link, report or deliver"
-hint_text line WordCount = form_text line
-hint_text line _ = []
+abbrev pub line_hint_text : List (List ℕ) → Reason → List ℕ
+line_hint_text line UnknownCommand = codes ": use channel, queue, map, frame, release, take, unit, clcw, link, report or deliver"
+line_hint_text line WordCount = command_form_text line
+line_hint_text line _ = []

@@ -10,7 +10,7 @@ use Rattle.tc_channel.specs.declared.holding.Holding.{Holding}
 use Rattle.tc_channel.specs.declared.holding.QueueHolding.{QueueHolding}
 use Rattle.tc_channel.specs.declared.holding.MapHolding.{MapHolding}
 use Rattle.tc_rack.specs.Printed.{answer_text}
-use Rattle.tc_live.specs.Hint.{hint_text}
+use Rattle.tc_live.specs.Hint.{line_hint_text}
 use Rattle.tc_live.specs.declared.answer.LiveAnswer.{LiveAnswer}
 use Rattle.tc_live.specs.declared.answer.LiveAnswer.TheVariants.{Nothing, Operation, Delivery, Unchecked, Link as LinkOf, Report, UnknownChannel}
 
@@ -51,8 +51,8 @@ abbrev pub maps_text : List MapHolding → List ℕ
 maps_text maps = flat_map map_text maps
 
 -- what a channel has come to
-unfoldable pub report_text : ℕ → Holding → List ℕ
-report_text vcid holding =
+unfoldable pub holding_text : ℕ → Holding → List ℕ
+holding_text vcid holding =
     farm_text vcid holding ++ rest_text holding ++ queues_text holding.queues ++ maps_text holding.maps ++ codes "\n"
 
 -- what a line is answered
@@ -62,9 +62,9 @@ live_text (Operation answer) = answer_text answer ++ codes "\n"
 live_text (Delivery vcid answer) = answer_text answer ++ codes "\n"
 live_text Unchecked = codes "refused check\n"
 live_text (LinkOf vcid link) = link_text vcid link
-live_text (Report vcid holding) = report_text vcid holding
+live_text (Report vcid holding) = holding_text vcid holding
 live_text UnknownChannel = codes "refused channel\n"
 
 -- what a bad line of these words is answered: why, and what to write instead
-abbrev pub bad_text : List (List ℕ) → Reason → List ℕ
-bad_text line reason = codes "bad " ++ reason_text reason ++ hint_text line reason ++ codes "\n"
+abbrev pub bad_line_text : List (List ℕ) → Reason → List ℕ
+bad_line_text line reason = codes "bad " ++ reason_text reason ++ line_hint_text line reason ++ codes "\n"

@@ -125,8 +125,8 @@ IsLineDone old (Report vcid) new answer = IsReportDone old vcid new answer × Op
 IsLineDone old (Deliver vcid) new answer = IsDeliveryBegun old vcid new answer × Operates (phase_of old.stage) (phase_of new.stage)
 
 -- what a line is answered that says something
-abbrev pub IsLineAnswered : Receiving → List ℕ → Receiving → LiveAnswer → Type 0
-IsLineAnswered old octets new answer = (said : LiveLine) × (live_line_of (words octets) ≡ Ok said) × IsLineDone old said new answer
+abbrev pub IsLiveLineAnswered : Receiving → List ℕ → Receiving → LiveAnswer → Type 0
+IsLiveLineAnswered old octets new answer = (said : LiveLine) × (live_line_of (words octets) ≡ Ok said) × IsLineDone old said new answer
 
 -- why a line of a script is bad that passed
 abbrev pub IsBadScript : Receiving → Line → Reason → Type 0

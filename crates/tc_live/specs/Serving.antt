@@ -11,8 +11,8 @@ use Rattle.tc_rack.specs.declared.answer.Answer.{Answer}
 use Rattle.tc_rack.specs.Delivery.{told_lines}
 use Rattle.tc_live.specs.declared.answer.LiveAnswer.{LiveAnswer}
 use Rattle.tc_live.specs.declared.answer.LiveAnswer.TheVariants as told
-use Rattle.tc_live.specs.Printed.{live_text, bad_text}
-use Rattle.tc_live.specs.Receiver.{Receiving, rack_at, IsDeliveryDone, IsLineAnswered, IsBadLiveLine, IsReceiverLeft}
+use Rattle.tc_live.specs.Printed.{live_text, bad_line_text}
+use Rattle.tc_live.specs.Receiver.{Receiving, rack_at, IsDeliveryDone, IsLiveLineAnswered, IsBadLiveLine, IsReceiverLeft}
 use Rattle.tc_channel.specs.Journal.{History, IsNumberTold}
 use Rattle.tc_rack.specs.Rack.{histories}
 use Rattle.tc_rack.specs.Report.{AreRising, report_text}
@@ -45,13 +45,13 @@ IsTold answer old new text =
 -- a line is done, and answered by the text of its answer and of what follows it
 abbrev pub IsAnswerSaid : Receiving → List ℕ → Receiving → List ℕ → Type 0
 IsAnswerSaid old octets new text =
-    (answer : LiveAnswer) × (between : Receiving) × IsLineAnswered old octets between answer × IsTold answer between new text
+    (answer : LiveAnswer) × (between : Receiving) × IsLiveLineAnswered old octets between answer × IsTold answer between new text
 
 -- a line is refused, and answered by why and what to write instead
 abbrev pub IsReasonSaid : Receiving → List ℕ → Receiving → List ℕ → Type 0
 IsReasonSaid old octets new text =
     (reason : Reason) × ((reason ≡ reasons.NoMemory) ⊎ IsBadLiveLine old octets reason) × IsReceiverLeft reason old new
-    × (text ≡ bad_text (words octets) reason)
+    × (text ≡ bad_line_text (words octets) reason)
 
 -- what a line does to the receiver, and by what text it is answered
 abbrev pub IsLineSaid : Receiving → List ℕ → Receiving → List ℕ → Type 0
@@ -64,29 +64,29 @@ IsReportWritten receiver before after =
     × Appends before after (report_text channels)
 
 -- how many octets a line may have, without its line feed
-abbrev pub limit : ℕ
-limit = 8192
+abbrev pub line_limit : ℕ
+line_limit = 8192
 
 -- the answers of all lines of these octets were written, in their order, each once, and then the final report of the channels that they left
-abbrev pub IsWritten : Receiving → List ℕ → Option (List ℕ) → Option (List ℕ) → Type 0
-IsWritten receiver octets before after =
-    (last : Receiving) × (answers : List ℕ) × (channels : List History) × lines.AreAnswered limit IsLineSaid receiver (lines.lines_of octets) last answers
+abbrev pub IsReceptionWritten : Receiving → List ℕ → Option (List ℕ) → Option (List ℕ) → Type 0
+IsReceptionWritten receiver octets before after =
+    (last : Receiving) × (answers : List ℕ) × (channels : List History) × lines.AreAnswered line_limit IsLineSaid receiver (lines.lines_of octets) last answers
     × IsPermutation (histories (rack_at last)) channels × AreRising channels × Appends before after (answers ++ report_text channels)
 
 -- the answers of all lines were written, and no report
 abbrev pub IsUnreported : Receiving → List ℕ → Option (List ℕ) → Option (List ℕ) → Type 0
-IsUnreported receiver octets before after = (last : Receiving) × lines.AreAllWritten limit IsLineSaid receiver octets last before after
+IsUnreported receiver octets before after = (last : Receiving) × lines.AreAllWritten line_limit IsLineSaid receiver octets last before after
 
 -- what was written where it ended early: nothing of what failed to be written is known
-abbrev pub IsCutShort : Receiving → List ℕ → Option (List ℕ) → Option (List ℕ) → ServingFault → Type 0
-IsCutShort receiver octets before after Read = (last : Receiving) × lines.AreFirstWritten limit IsLineSaid receiver octets last before after
-IsCutShort receiver octets before after Write = Unit {0}
-IsCutShort receiver octets before after NoMemory = Keeps before after ⊎ IsUnreported receiver octets before after
-IsCutShort receiver octets before after Unbalanced =
-    (last : Receiving) × lines.AreAllWritten limit IsLineSaid receiver octets last before after × IsUntold last
+abbrev pub IsReceptionCutShort : Receiving → List ℕ → Option (List ℕ) → Option (List ℕ) → ServingFault → Type 0
+IsReceptionCutShort receiver octets before after Read = (last : Receiving) × lines.AreFirstWritten line_limit IsLineSaid receiver octets last before after
+IsReceptionCutShort receiver octets before after Write = Unit {0}
+IsReceptionCutShort receiver octets before after NoMemory = Keeps before after ⊎ IsUnreported receiver octets before after
+IsReceptionCutShort receiver octets before after Unbalanced =
+    (last : Receiving) × lines.AreAllWritten line_limit IsLineSaid receiver octets last before after × IsUntold last
 
 -- the same fault, met at the lines
-abbrev pub fault_of : AnsweringFault → ServingFault
-fault_of answering.Read = Read
-fault_of answering.Write = Write
-fault_of answering.NoMemory = NoMemory
+abbrev pub fault_at_lines : AnsweringFault → ServingFault
+fault_at_lines answering.Read = Read
+fault_at_lines answering.Write = Write
+fault_at_lines answering.NoMemory = NoMemory

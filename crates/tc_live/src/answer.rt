@@ -2,7 +2,7 @@
 
 ghost use Rattle.std.specs.Prelude.{◌≡◌, Some};
 ghost use Rattle.std.specs.Fmt.{WritesOnOk};
-ghost use Rattle.tc_live.specs.Printed.{live_text, link_text, report_text, farm_text, rest_text, queues_text, queue_text, maps_text, map_text, state_text};
+ghost use Rattle.tc_live.specs.Printed.{live_text, link_text, holding_text, farm_text, rest_text, queues_text, queue_text, maps_text, map_text, state_text};
 ghost use Rattle.tc_live.specs.Receiver.{link_told, report_told};
 
 use std::fmt;
@@ -76,13 +76,13 @@ fn write_link<W: fmt::Write>(f: &mut fmt::Formatter<W>, vcid: u8, link: Link) ->
     writeln!(f, "link {vcid} {no_rf} {no_bit_lock}")
 }
 
-#[tactic(auto, unfolding(crate::specs::Printed::report_text))]
+#[tactic(auto, unfolding(crate::specs::Printed::holding_text))]
 fn write_report<W: fmt::Write>(
     f: &mut fmt::Formatter<W>,
     vcid: u8,
     holding: &Holding,
 ) -> fmt::Result
-    ensures { WritesOnOk W.write_str_gives f.old result (report_text vcid holding.now) f.new }
+    ensures { WritesOnOk W.write_str_gives f.old result (holding_text vcid holding.now) f.new }
 {
     write_farm(f, vcid, holding)?;
     write_rest(f, holding)?;

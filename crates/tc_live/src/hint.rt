@@ -2,14 +2,14 @@
 
 ghost use Rattle.std.specs.Prelude.{◌≡◌};
 ghost use Rattle.tc_lines.specs.Word.{words};
-ghost use Rattle.tc_live.specs.Hint.{form_text, hint_text};
+ghost use Rattle.tc_live.specs.Hint.{command_form_text, line_hint_text};
 
 use tc_lines::next_word;
 use tc_text::Reason;
 
 /// What to write instead: which commands there are, or how the line's command is written. Nothing follows any other reason.
 pub(crate) fn hint_for(octets: &[u8], reason: Reason) -> &'static str
-    ensures { result.now ≡ hint_text (words octets.now) reason }
+    ensures { result.now ≡ line_hint_text (words octets.now) reason }
 {
     match reason {
         Reason::UnknownCommand => {
@@ -21,9 +21,9 @@ pub(crate) fn hint_for(octets: &[u8], reason: Reason) -> &'static str
 }
 
 // How the command is written that a line begins with.
-#[tactic(auto, unfolding(crate::specs::Hint::form_text))]
+#[tactic(auto, unfolding(crate::specs::Hint::command_form_text))]
 fn form(octets: &[u8]) -> &'static str
-    ensures { result.now ≡ form_text (words octets.now) }
+    ensures { result.now ≡ command_form_text (words octets.now) }
 {
     let Some((command, _arguments)) = next_word(octets) else {
         return "";

@@ -2,10 +2,10 @@
 
 ghost use Rattle.std.specs.Prelude.{◌≡◌, ◌≢◌, ◌⊎◌, ◌↔◌, [], All, IsPermutation, IsTrue, IfOk, IfErr, OnOk, OnErr};
 ghost use Rattle.std.specs.Io.KnownBytes.{Keeps};
-ghost use Rattle.tc_rack.specs.Delivery.{AreTold};
+ghost use Rattle.tc_rack.specs.Delivery.{AreAnswersWritten};
 ghost use Rattle.tc_rack.specs.Report.{AreRising};
 ghost use Rattle.tc_rack.specs.Stage.{phase_of};
-ghost use Rattle.tc_live.specs.Receiver.{new_receiver, begun, rack_at, IsInstructed, IsOperated, IsScriptDone, IsPerformed, IsLinked, IsReportDone, IsDeliveryBegun, IsDeliveryDone, IsLineAnswered, IsBadLiveLine, IsBadScript, IsReceiverLeft};
+ghost use Rattle.tc_live.specs.Receiver.{new_receiver, begun, rack_at, IsInstructed, IsOperated, IsScriptDone, IsPerformed, IsLinked, IsReportDone, IsDeliveryBegun, IsDeliveryDone, IsLiveLineAnswered, IsBadLiveLine, IsBadScript, IsReceiverLeft};
 ghost use Rattle.tc_live.specs.Serving.{IsClosingFault, IsReportWritten};
 ghost use Rattle.tc_rack.specs.Rack.{histories, new_rack};
 ghost use Rattle.tc_setup.specs.Instruction.{instruction_of};
@@ -59,7 +59,7 @@ impl Receiver {
     /// memory is wanting, the line can be done again; at the first operation the channels may have been made. A delivery is begun;
     /// [`hand_on`](Receiver::hand_on) ends it.
     pub fn do_line(&mut self, alloc: Global, octets: &[u8]) -> Result<LiveAnswer, Reason>
-        ensures answer { IfOk result (IsLineAnswered self.old octets.now self.new) }
+        ensures answer { IfOk result (IsLiveLineAnswered self.old octets.now self.new) }
         ensures reason { IfErr result (λ reason. (reason ≡ Reason.NoMemory) ⊎ IsBadLiveLine self.old octets.now reason) }
         ensures refused { IfErr result (λ reason. IsReceiverLeft reason self.old self.new) }
     {
@@ -186,7 +186,7 @@ impl Receiver {
     /// answers, the last of which is the CLCW. Where there is no such channel, nothing is written. Nothing is allocated.
     pub fn hand_on<W: Write>(&mut self, vcid: u8, writer: &mut W) -> io::Result<()>
         requires { phase_of self.old.stage ≡ InOperation }
-        ensures { OnOk result (AreTold (W.contents writer.old) (W.contents writer.new) (IsDeliveryDone self.old vcid self.new)) }
+        ensures { OnOk result (AreAnswersWritten (W.contents writer.old) (W.contents writer.new) (IsDeliveryDone self.old vcid self.new)) }
     {
         match &mut self.stage {
             Stage::Operating(rack) => rack.hand_on(vcid, writer),

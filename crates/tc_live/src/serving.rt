@@ -4,10 +4,10 @@ ghost use Rattle.std.specs.Io.KnownBytes.{Appends, Keeps};
 ghost use Rattle.std.specs.Prelude.{◌≡◌, ◌⊎◌, IfErr, IfSome, OnOk};
 ghost use Rattle.tc_lines.specs.Answering.{Writes};
 ghost use Rattle.tc_lines.specs.Word.{words};
-ghost use Rattle.tc_rack.specs.Delivery.{AreTold};
-ghost use Rattle.tc_live.specs.Printed.{live_text, bad_text};
+ghost use Rattle.tc_rack.specs.Delivery.{AreAnswersWritten};
+ghost use Rattle.tc_live.specs.Printed.{live_text, bad_line_text};
 ghost use Rattle.tc_live.specs.Receiver.{IsReady};
-ghost use Rattle.tc_live.specs.Serving.{IsClosingFault, IsCutShort, IsFollowedBy, IsLineSaid, IsReportWritten, IsTold, IsWritten, fault_of};
+ghost use Rattle.tc_live.specs.Serving.{IsClosingFault, IsReceptionCutShort, IsFollowedBy, IsLineSaid, IsReportWritten, IsTold, IsReceptionWritten, fault_at_lines};
 
 use crate::answer::LiveAnswer;
 use crate::hint::hint_for;
@@ -42,7 +42,7 @@ pub enum ServingFault {
 impl ServingFault {
     // Why the lines were answered no longer.
     fn of(fault: tc_lines::ServingFault) -> ServingFault
-        ensures { result ≡ fault_of fault }
+        ensures { result ≡ fault_at_lines fault }
     {
         match fault {
             tc_lines::ServingFault::Read => ServingFault::Read,
@@ -78,8 +78,8 @@ pub fn answer_lines<R: BufRead, W: Write>(
     reader: &mut R,
     writer: &mut W,
 ) -> Result<(), ServingFault>
-    ensures written { OnOk result (IfSome (R.remaining reader.old) (λ octets. IsWritten receiver octets (W.contents writer.old) (W.contents writer.new))) }
-    ensures cut_short { IfErr result (λ fault. IfSome (R.remaining reader.old) (λ octets. IsCutShort receiver octets (W.contents writer.old) (W.contents writer.new) fault)) }
+    ensures written { OnOk result (IfSome (R.remaining reader.old) (λ octets. IsReceptionWritten receiver octets (W.contents writer.old) (W.contents writer.new))) }
+    ensures cut_short { IfErr result (λ fault. IfSome (R.remaining reader.old) (λ octets. IsReceptionCutShort receiver octets (W.contents writer.old) (W.contents writer.new) fault)) }
 {
     let mut receiver = receiver;
     match tc_lines::answer_lines(alloc, MAX_LINE, &mut receiver, reader, writer) {
@@ -115,7 +115,7 @@ fn tell<W: Write>(receiver: &mut Receiver, answer: &LiveAnswer, writer: &mut W) 
 // Ends a delivery that was begun. Nothing follows any other answer.
 fn follow<W: Write>(receiver: &mut Receiver, answer: &LiveAnswer, writer: &mut W) -> io::Result<()>
     requires { IsReady answer.now receiver.old }
-    ensures { OnOk result (AreTold (W.contents writer.old) (W.contents writer.new) (IsFollowedBy answer.now receiver.old receiver.new)) }
+    ensures { OnOk result (AreAnswersWritten (W.contents writer.old) (W.contents writer.new) (IsFollowedBy answer.now receiver.old receiver.new)) }
 {
     match answer {
         LiveAnswer::Delivery { vcid, answer: _ } => receiver.hand_on(*vcid, writer),
@@ -138,7 +138,7 @@ fn write_answer<W: Write>(answer: &LiveAnswer, writer: &mut W) -> io::Result<()>
 }
 
 fn write_bad<W: Write>(octets: &[u8], reason: Reason, writer: &mut W) -> io::Result<()>
-    ensures { OnOk result (Appends (W.contents writer.old) (W.contents writer.new) (bad_text (words octets.now) reason)) }
+    ensures { OnOk result (Appends (W.contents writer.old) (W.contents writer.new) (bad_line_text (words octets.now) reason)) }
 {
     let hint = hint_for(octets, reason);
     writeln!(writer, "bad {reason}{hint}")

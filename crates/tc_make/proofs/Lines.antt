@@ -3,7 +3,7 @@ use Rattle.std.proofs.Common.{◌≡◌, ◌⊎◌, inl, inr, ℕ, List, Option,
 use Rattle.std.specs.Prelude.{Result, Ok, Err}
 use Rattle.std.specs.Io.KnownBytes.{Appends}
 use Rattle.tc_lines.specs.Answering.{Writes}
-use Rattle.tc_make.specs.Answer.{OrNoMemory, IsSaid, IsKept, IsLineSaid, IsAnswer}
+use Rattle.tc_make.specs.Answer.{OrNoMemory, IsSaid, IsKept, IsReadingSaid, IsAnswer}
 use Rattle.tc_make.specs.Printed.{bad_text}
 use Rattle.tc_make.specs.declared.fault.Reason.{Reason}
 use Rattle.tc_make.specs.declared.fault.Reason.TheVariants.{NoMemory}
@@ -14,13 +14,13 @@ use Rattle.tc_make.specs.declared.maker.Maker.{Maker}
 
 pub line-done : (old new : Maker) (said : Result Line Reason) (line : Line) (a b : Option (List ℕ)) → said ≡ Ok line → IsKept old line new
     → Writes a b (IsSaid old line new) → Writes a b (IsAnswer old said new)
-line-done old new said line a b e kept (text, is, w) = (text, inl (subst (λ (v : Result Line Reason). IsLineSaid old v new text) (sym e) (is, kept)), w)
+line-done old new said line a b e kept (text, is, w) = (text, inl (subst (λ (v : Result Line Reason). IsReadingSaid old v new text) (sym e) (is, kept)), w)
 
 pub line-refused : (old : Maker) (said : Result Line Reason) (reason : Reason) (a b : Option (List ℕ)) → (reason ≡ NoMemory) ⊎ (said ≡ Err reason)
     → Appends a b (bad_text reason) → Writes a b (IsAnswer old said old)
 line-refused old said reason a b (inl e) w = (bad_text reason, inr (ap bad_text e, refl), w)
 line-refused old said reason a b (inr e) w =
-    (bad_text reason, inl (subst (λ (v : Result Line Reason). IsLineSaid old v old (bad_text reason)) (sym e) (refl, refl)), w)
+    (bad_text reason, inl (subst (λ (v : Result Line Reason). IsReadingSaid old v old (bad_text reason)) (sym e) (refl, refl)), w)
 
 pub telemetry-said : (old : Maker) (line : Line) (octets shown : List ℕ) (a b : Option (List ℕ)) → line ≡ Telemetry octets → shown ≡ octets
     → Writes a b (OrNoMemory (IsTelemetrySaid old.ending shown)) → Writes a b (IsSaid old line old)

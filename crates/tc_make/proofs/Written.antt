@@ -13,8 +13,8 @@ use Rattle.tc_fecf.specs.FrameWithField.{taking_fault_of}
 use Rattle.tc_fecf.specs.declared.frames.FieldFault.{FieldFault}
 use Rattle.tc_fecf.specs.declared.frames.FieldFault.TheVariants as fields
 use Rattle.tc_lines.specs.Answering.{Writes}
-use Rattle.tc_make.specs.Answer.{OrNoMemory, Unless, IsSentAt, IsStopAt, AreSent, IsPart, IsFramesSaid, IsPartingOf, IsUnitSaid, IsExplained, frames_text, parts_of, field_fault_text}
-use Rattle.tc_make.specs.Printed.{bad_text, named_text, some_text, unit_text, packet_text, held_text, holds_text, whole_text}
+use Rattle.tc_make.specs.Answer.{OrNoMemory, Unless, IsSentAt, IsStopAt, AreSent, IsPartSaid, IsFramesSaid, IsPartingOf, IsUnitSaid, IsExplained, frames_text, parts_of, field_fault_text}
+use Rattle.tc_make.specs.Printed.{bad_text, named_text, some_text, unit_packets_text, packet_text, held_text, holds_text, whole_text}
 use Rattle.tc_make.specs.declared.ending.Ending.{Ending}
 use Rattle.tc_make.specs.declared.ending.Ending.TheVariants.{ErrorControl}
 use Rattle.tc_make.specs.declared.fault.Reason.{Reason}
@@ -50,32 +50,32 @@ held-packet p f =
     ∙ ap (λ (x : Bool). holds_text t a n g ++ whole_text x o) f.secondary
 
 unit-next : (unit packet after : List ℕ) → packets_of unit ≡ packet ∷ packets_of after → rest_of unit ≡ rest_of after
-    → unit_text unit ≡ packet_text packet ++ unit_text after
+    → unit_packets_text unit ≡ packet_text packet ++ unit_packets_text after
 unit-next unit packet after e f =
     ap (λ ps. flat_map packet_text ps ++ some_text (codes "rest") (rest_of unit)) e
     ∙ ap (λ r. (packet_text packet ++ flat_map packet_text (packets_of after)) ++ some_text (codes "rest") r) f
     ∙ append_assoc (packet_text packet) (flat_map packet_text (packets_of after)) (some_text (codes "rest") (rest_of after))
 
-unit-end : (unit : List ℕ) → packets_of unit ≡ [] → rest_of unit ≡ unit → unit_text unit ≡ some_text (codes "rest") unit
+unit-end : (unit : List ℕ) → packets_of unit ≡ [] → rest_of unit ≡ unit → unit_packets_text unit ≡ some_text (codes "rest") unit
 unit-end unit e f =
     ap (λ ps. flat_map packet_text ps ++ some_text (codes "rest") (rest_of unit)) e ∙ ap (λ r. some_text (codes "rest") r) f
 
 -- one more packet was written
 pub packet-on : (a b c : Option (List ℕ)) (p : Packet) (unit rest after done : List ℕ) → HasFields p
     → packets_of rest ≡ p.octets.now ∷ packets_of after → rest_of rest ≡ rest_of after
-    → Appends a b done → done ++ unit_text rest ≡ unit_text unit → Appends b c (held_text p)
-    → (more : List ℕ) × Appends a c more × (more ++ unit_text after ≡ unit_text unit)
+    → Appends a b done → done ++ unit_packets_text rest ≡ unit_packets_text unit → Appends b c (held_text p)
+    → (more : List ℕ) × Appends a c more × (more ++ unit_packets_text after ≡ unit_packets_text unit)
 packet-on a b c p unit rest after done has e f was so_far now = (
   done ++ packet_text p.octets.now,
   joined a b c done (packet_text p.octets.now) was (subst (Appends b c) (held-packet p has) now),
-  append_assoc done (packet_text p.octets.now) (unit_text after)
+  append_assoc done (packet_text p.octets.now) (unit_packets_text after)
       ∙ ap (λ t. done ++ t) (sym (unit-next rest p.octets.now after e f))
       ∙ so_far,
 )
 
 -- no packet is left
 pub packets-end : (a b c : Option (List ℕ)) (unit rest done : List ℕ) → packets_of rest ≡ [] → rest_of rest ≡ rest
-    → Appends a b done → done ++ unit_text rest ≡ unit_text unit → Appends b c (some_text (codes "rest") rest) → Appends a c (unit_text unit)
+    → Appends a b done → done ++ unit_packets_text rest ≡ unit_packets_text unit → Appends b c (some_text (codes "rest") rest) → Appends a c (unit_packets_text unit)
 packets-end a b c unit rest done e f was so_far now =
     subst (Appends a c) (ap (λ t. done ++ t) (sym (unit-end rest e f)) ∙ so_far) (joined a b c done _ was now)
 
@@ -99,7 +99,7 @@ none-before ending p a = ([], tt, refl, Appends-nil a)
 
 -- the frame at a place was written
 frame-sent : (ending : Ending) (p : Parting) (place : ℕ) (a b c : Option (List ℕ)) → Before ending p place a b
-    → Writes b c (IsPart true ending p place) → Before ending p (place + 1) a c
+    → Writes b c (IsPartSaid true ending p place) → Before ending p (place + 1) a c
 frame-sent ending p place a b c (frames, all, count, was) (text, (sent, is, spelled), now) = (
   frames ++ sent ∷ [],
   sent-more ending p 0 place frames sent all (omega (arith, count)) is,
@@ -109,7 +109,7 @@ frame-sent ending p place a b c (frames, all, count, was) (text, (sent, is, spel
 
 -- the frame at a place isn't made
 frames-stopped : (ending : Ending) (p : Parting) (place : ℕ) (a b c : Option (List ℕ)) → place < parts_of p → Before ending p place a b
-    → Writes b c (IsPart false ending p place) → Writes a c (IsFramesSaid ending p)
+    → Writes b c (IsPartSaid false ending p place) → Writes a c (IsFramesSaid ending p)
 frames-stopped ending p place a b c below (frames, all, count, was) (text, (reason, stops, spelled), now) = (
   frames_text frames ++ bad_text reason,
   (frames, all, inr (omega (arith, count, below), (reason, subst (λ n. IsStopAt ending p n reason) (sym count) stops, refl))),
@@ -117,13 +117,13 @@ frames-stopped ending p place a b c below (frames, all, count, was) (text, (reas
 )
 
 pub frame-on : (made : Bool) (ending : Ending) (p : Parting) (place : ℕ) (a b c : Option (List ℕ)) → made ≡ true → Before ending p place a b
-    → Writes b c (IsPart made ending p place) → Before ending p (place + 1) a c
-frame-on made ending p place a b c e before now = frame-sent ending p place a b c before (subst (λ m. Writes b c (IsPart m ending p place)) e now)
+    → Writes b c (IsPartSaid made ending p place) → Before ending p (place + 1) a c
+frame-on made ending p place a b c e before now = frame-sent ending p place a b c before (subst (λ m. Writes b c (IsPartSaid m ending p place)) e now)
 
 pub frames-stop : (made : Bool) (ending : Ending) (p : Parting) (place : ℕ) (a b c : Option (List ℕ)) → made ≡ false → place < parts_of p
-    → Before ending p place a b → Writes b c (IsPart made ending p place) → Writes a c (IsFramesSaid ending p)
+    → Before ending p place a b → Writes b c (IsPartSaid made ending p place) → Writes a c (IsFramesSaid ending p)
 frames-stop made ending p place a b c e below before now =
-    frames-stopped ending p place a b c below before (subst (λ m. Writes b c (IsPart m ending p place)) e now)
+    frames-stopped ending p place a b c below before (subst (λ m. Writes b c (IsPartSaid m ending p place)) e now)
 
 -- a unit that is parted, and one that isn't
 pub unit-parted : (ending : Ending) (stream : Stream) (sizing : Sizing) (unit : List ℕ) (p : Parting) (a b : Option (List ℕ)) → IsPartingOf stream sizing unit p

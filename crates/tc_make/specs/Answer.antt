@@ -16,7 +16,7 @@ use Rattle.tc_make.specs.Explanation.{Explains}
 use Rattle.tc_make.specs.Frames.{IsMadeFrame, IsCommandFrame, frame_reason_of, command_reason_of}
 use Rattle.tc_make.specs.Packets.{IsMadePacket, packet_reason_of}
 use Rattle.tc_make.specs.Parting.{IsFrameAt, parting_reason_of}
-use Rattle.tc_write.specs.Parts.{count_of}
+use Rattle.tc_write.specs.Parts.{segments_needed}
 use Rattle.tc_make.specs.Decoders.{IsDecoderSaid, IsPieceSaid}
 use Rattle.tc_make.specs.LinkAnswer.{IsCltuSaid, IsRandomSaid, IsTelemetrySaid, IsTmSaid}
 pub use Rattle.tc_make.specs.Printed.{OrNoMemory, Unless}
@@ -63,15 +63,15 @@ AreSent ending p place [] = Unit {0}
 AreSent ending p place (sent ∷ later) = IsSentAt ending p place sent × AreSent ending p (suc place) later
 
 -- one frame, or why there is none
-abbrev pub IsPart : Bool → Ending → Parting → ℕ → List ℕ → Type 0
-IsPart true ending p place text = (sent : List ℕ) × IsSentAt ending p place sent × (text ≡ named_text (codes "frame") sent)
-IsPart false ending p place text = (reason : Reason) × IsStopAt ending p place reason × (text ≡ bad_text reason)
+abbrev pub IsPartSaid : Bool → Ending → Parting → ℕ → List ℕ → Type 0
+IsPartSaid true ending p place text = (sent : List ℕ) × IsSentAt ending p place sent × (text ≡ named_text (codes "frame") sent)
+IsPartSaid false ending p place text = (reason : Reason) × IsStopAt ending p place reason × (text ≡ bad_text reason)
 
 abbrev pub frames_text : List (List ℕ) → List ℕ
 frames_text frames = flat_map (named_text (codes "frame")) frames
 
 abbrev pub parts_of : Parting → ℕ
-parts_of p = count_of p.size (length p.unit.now)
+parts_of p = segments_needed p.size (length p.unit.now)
 
 -- all frames of a unit, or those before one that isn't made, and why it isn't
 abbrev pub IsFramesSaid : Ending → Parting → List ℕ → Type 0
@@ -146,9 +146,9 @@ IsKept old (Piece id octets) new = new ≡ record old { decoders = new.decoders 
 IsKept old line new = new ≡ old
 
 -- what a line is answered: by what it says, or why it says nothing
-abbrev pub IsLineSaid : Maker → Result Line Reason → Maker → List ℕ → Type 0
-IsLineSaid old (Ok line) new text = IsSaid old line new text × IsKept old line new
-IsLineSaid old (Err reason) new text = (text ≡ bad_text reason) × (new ≡ old)
+abbrev pub IsReadingSaid : Maker → Result Line Reason → Maker → List ℕ → Type 0
+IsReadingSaid old (Ok line) new text = IsSaid old line new text × IsKept old line new
+IsReadingSaid old (Err reason) new text = (text ≡ bad_text reason) × (new ≡ old)
 
 abbrev pub IsAnswer : Maker → Result Line Reason → Maker → List ℕ → Type 0
-IsAnswer old said new text = IsLineSaid old said new text ⊎ ((text ≡ bad_text NoMemory) × (new ≡ old))
+IsAnswer old said new text = IsReadingSaid old said new text ⊎ ((text ≡ bad_text NoMemory) × (new ≡ old))

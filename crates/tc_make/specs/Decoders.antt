@@ -14,8 +14,8 @@ abbrev pub new_decoder : Mode → Receiver
 new_decoder mode = record { mode = mode; state = Searching 0; held = [] }
 
 -- a stream got a new decoder
-abbrev pub begun : List (Option Receiver) → ℕ → Mode → List (Option Receiver)
-begun decoders id mode = slice_set decoders id (Some (new_decoder mode))
+abbrev pub with_new_decoder : List (Option Receiver) → ℕ → Mode → List (Option Receiver)
+with_new_decoder decoders id mode = slice_set decoders id (Some (new_decoder mode))
 
 -- a line for each candidate frame
 abbrev pub candidates_text : List (List ℕ) → List ℕ
@@ -42,4 +42,4 @@ IsPieceSaid old id octets new text = (slot : Option Receiver) × (new ≡ slice_
 
 -- a stream got a new decoder, which has no answer; or memory ran out
 abbrev pub IsDecoderSaid : List (Option Receiver) → ℕ → Mode → List (Option Receiver) → List ℕ → Type 0
-IsDecoderSaid old id mode new text = ((text ≡ []) × (new ≡ begun old id mode)) ⊎ ((text ≡ bad_text NoMemory) × (new ≡ old))
+IsDecoderSaid old id mode new text = ((text ≡ []) × (new ≡ with_new_decoder old id mode)) ⊎ ((text ≡ bad_text NoMemory) × (new ≡ old))

@@ -1,13 +1,13 @@
 -- What a line asks for, by its words.
-use Rattle.std.specs.Prelude.{ℕ, Bool, true, false, Option, ◌==◌, List, [], ◌∷◌, length, slice_index, nat_eq, codes, Some, None, Result, Ok, Err, if◌then◌else◌}
-use Rattle.std.specs.Cmp.Lexicographic.{pointwise}
+use Rattle.std.specs.Prelude.{ℕ, Bool, true, false, Option, ◌==◌, List, [], ◌∷◌, length, codes, Some, None, Result, Ok, Err, if◌then◌else◌}
 use Rattle.hex.specs.Hex.{decode_of}
 use Rattle.tc_cltu.specs.declared.block.Mode.{Mode}
 use Rattle.tc_cltu.specs.declared.block.Mode.TheVariants.{Detect, Correct}
 use Rattle.tc_link.specs.declared.command.Command.TheVariants.{Unlock, SetVr}
 use Rattle.tc_packet.specs.declared.segment.Part.TheVariants.{Unsegmented}
 use Rattle.tc_packet.specs.declared.segment.Segment.{Segment}
-use Rattle.tc_lines.specs.Number.{number_of}
+use Rattle.tc_lines.specs.Number.{word_number}
+use Rattle.tc_lines.specs.Word.{is, is_comment, after_ok}
 use Rattle.tc_make.specs.declared.fault.Reason.{Reason}
 use Rattle.tc_make.specs.declared.fault.Reason.TheVariants.{UnknownCommand, WordCount, BadNumber, BadHex, BadMode, BadClcw}
 use Rattle.tc_link.specs.declared.frame.Header.{Header}
@@ -50,35 +50,27 @@ with_six form (a ∷ b ∷ c ∷ d ∷ e ∷ f ∷ []) says = says a b c d e f
 with_six form _ says = Err (WordCount form)
 
 -- what follows where a word is a number within its bound
-abbrev pub with_number : ℕ → List ℕ → (ℕ → Said) → Said
-with_number most word next = elim (number_of most word) [ None ↦ Err BadNumber | Some number ↦ next number ]
+abbrev pub if_number : ℕ → List ℕ → (ℕ → Said) → Said
+if_number most word next = elim (word_number most word) [ None ↦ Err BadNumber | Some number ↦ next number ]
 
 -- what follows where a word is octets in hexadecimal digits
 abbrev pub with_octets : List ℕ → (List ℕ → Said) → Said
 with_octets word next = elim (decode_of word) [ Ok octets ↦ next octets | Err fault ↦ Err BadHex ]
 
-abbrev pub is : List ℕ → List ℕ → Bool
-is word text = pointwise nat_eq word text
-
--- what follows where something could be read
-abbrev pub with_ok : {A : Type 0} → Result A Reason → (A → Said) → Said
-with_ok (Ok x) next = next x
-with_ok (Err reason) next = Err reason
-
 -- `plain` is for no segment header, and a number the MAP id of an unsegmented one
-abbrev pub segment_of : List ℕ → Result (Option Segment) Reason
-segment_of word =
+abbrev pub segment_word : List ℕ → Result (Option Segment) Reason
+segment_word word =
     if is word (codes "plain") then Ok None
-    else elim (number_of 255 word) [ None ↦ Err BadNumber | Some map ↦ Ok (Some (record { part = Unsegmented; map = map })) ]
+    else elim (word_number 255 word) [ None ↦ Err BadNumber | Some map ↦ Ok (Some (record { part = Unsegmented; map = map })) ]
 
 -- a spacecraft, a virtual channel of it and an N(S)
 abbrev pub stream_of : List ℕ → List ℕ → List ℕ → Result Stream Reason
 stream_of s v n =
-    elim (number_of 65535 s) [
+    elim (word_number 65535 s) [
       | None ↦ Err BadNumber
-      | Some scid ↦ elim (number_of 255 v) [
+      | Some scid ↦ elim (word_number 255 v) [
         | None ↦ Err BadNumber
-        | Some vcid ↦ elim (number_of 255 n) [
+        | Some vcid ↦ elim (word_number 255 n) [
           | None ↦ Err BadNumber
           | Some ns ↦ Ok (record { scid = scid; vcid = vcid; ns = ns })
         ]
@@ -88,9 +80,9 @@ stream_of s v n =
 -- a MAP and how many octets its segments carry
 abbrev pub sizing_of : List ℕ → List ℕ → Result Sizing Reason
 sizing_of m z =
-    elim (number_of 255 m) [
+    elim (word_number 255 m) [
       | None ↦ Err BadNumber
-      | Some map ↦ elim (number_of 65535 z) [
+      | Some map ↦ elim (word_number 65535 z) [
         | None ↦ Err BadNumber
         | Some size ↦ Ok (record { map = map; size = size })
       ]
@@ -104,7 +96,7 @@ abbrev pub bd_header : ℕ → ℕ → Header
 bd_header scid vcid = record { bypass = true; control = false; scid = scid; vcid = vcid; ns = 0 }
 
 abbrev pub packet_of : Words → Said
-packet_of words = with_three forms.Packet words (λ a c o. with_number 65535 a (λ apid. with_number 65535 c (λ count. with_octets o (λ octets.
+packet_of words = with_three forms.Packet words (λ a c o. if_number 65535 a (λ apid. if_number 65535 c (λ count. with_octets o (λ octets.
     Ok (Packet apid count octets)))))
 
 -- a frame that carries the octets of a word
@@ -112,17 +104,17 @@ abbrev pub framed_of : Header → Option Segment → List ℕ → Said
 framed_of header segment word = with_octets word (λ octets. Ok (Frame header segment octets))
 
 abbrev pub ad_of : Words → Said
-ad_of words = with_five forms.Ad words (λ s v n m o. with_ok (stream_of s v n) (λ stream. with_ok (segment_of m) (λ segment. framed_of (ad_header stream) segment o)))
+ad_of words = with_five forms.Ad words (λ s v n m o. after_ok (stream_of s v n) (λ stream. after_ok (segment_word m) (λ segment. framed_of (ad_header stream) segment o)))
 
 abbrev pub bd_of : Words → Said
-bd_of words = with_four forms.Bd words (λ s v m o. with_number 65535 s (λ scid. with_number 255 v (λ vcid. with_ok (segment_of m) (λ segment.
+bd_of words = with_four forms.Bd words (λ s v m o. if_number 65535 s (λ scid. if_number 255 v (λ vcid. after_ok (segment_word m) (λ segment.
     framed_of (bd_header scid vcid) segment o))))
 
 abbrev pub unlock_of : Words → Said
-unlock_of words = with_two forms.Unlock words (λ s v. with_number 65535 s (λ scid. with_number 255 v (λ vcid. Ok (Command scid vcid Unlock))))
+unlock_of words = with_two forms.Unlock words (λ s v. if_number 65535 s (λ scid. if_number 255 v (λ vcid. Ok (Command scid vcid Unlock))))
 
 abbrev pub setvr_of : Words → Said
-setvr_of words = with_three forms.SetVr words (λ s v x. with_number 65535 s (λ scid. with_number 255 v (λ vcid. with_number 255 x (λ vr.
+setvr_of words = with_three forms.SetVr words (λ s v x. if_number 65535 s (λ scid. if_number 255 v (λ vcid. if_number 255 x (λ vr.
     Ok (Command scid vcid (SetVr vr))))))
 
 -- the segments of the unit of a word
@@ -130,10 +122,10 @@ abbrev pub parted_of : Stream → Sizing → List ℕ → Said
 parted_of stream sizing word = with_octets word (λ unit. Ok (Segments stream sizing unit))
 
 abbrev pub sized_of : Stream → List ℕ → List ℕ → List ℕ → Said
-sized_of stream m z o = with_ok (sizing_of m z) (λ sizing. parted_of stream sizing o)
+sized_of stream m z o = after_ok (sizing_of m z) (λ sizing. parted_of stream sizing o)
 
 abbrev pub segments_of : Words → Said
-segments_of words = with_six forms.Segments words (λ s v n m z o. with_ok (stream_of s v n) (λ stream. sized_of stream m z o))
+segments_of words = with_six forms.Segments words (λ s v n m z o. after_ok (stream_of s v n) (λ stream. sized_of stream m z o))
 
 abbrev pub explain_of : Words → Said
 explain_of words = with_one forms.Explain words (λ o. with_octets o (λ octets. Ok (Explain octets)))
@@ -152,26 +144,23 @@ abbrev pub four_of : List ℕ → Result (List ℕ) Reason
 four_of word = elim (decode_of word) [ Ok octets ↦ (if length octets == 4 then Ok octets else Err BadClcw) | Err fault ↦ Err BadHex ]
 
 abbrev pub tm_of : Words → Said
-tm_of words = with_four forms.Tm words (λ s v z o. with_number 65535 s (λ scid. with_number 255 v (λ vcid. with_number 65535 z (λ size.
-    with_ok (four_of o) (λ control. Ok (Tm (record { scid = scid; vcid = vcid; size = size; control = control })))))))
+tm_of words = with_four forms.Tm words (λ s v z o. if_number 65535 s (λ scid. if_number 255 v (λ vcid. if_number 65535 z (λ size.
+    after_ok (four_of o) (λ control. Ok (Tm (record { scid = scid; vcid = vcid; size = size; control = control })))))))
 
 abbrev pub telemetry_of : Words → Said
 telemetry_of words = with_one forms.Telemetry words (λ o. with_octets o (λ octets. Ok (Telemetry octets)))
 
-abbrev pub mode_of : List ℕ → Result Mode Reason
-mode_of word =
+abbrev pub mode_word : List ℕ → Result Mode Reason
+mode_word word =
     if is word (codes "detect") then Ok Detect
     else if is word (codes "correct") then Ok Correct
     else Err BadMode
 
 abbrev pub decoder_of : Words → Said
-decoder_of words = with_two forms.Decoder words (λ i m. with_number 255 i (λ id. with_ok (mode_of m) (λ mode. Ok (Decoder id mode))))
+decoder_of words = with_two forms.Decoder words (λ i m. if_number 255 i (λ id. after_ok (mode_word m) (λ mode. Ok (Decoder id mode))))
 
-abbrev pub octets_of : Words → Said
-octets_of words = with_two forms.Octets words (λ i o. with_number 255 i (λ id. with_octets o (λ octets. Ok (Piece id octets))))
-
-abbrev pub is_comment : List ℕ → Bool
-is_comment word = slice_index word 0 == 35
+abbrev pub piece_of : Words → Said
+piece_of words = with_two forms.Octets words (λ i o. if_number 255 i (λ id. with_octets o (λ octets. Ok (Piece id octets))))
 
 -- what a line about the link asks for: its CLTUs and its telemetry frames
 unfoldable pub link_line_of : List ℕ → Words → Said
@@ -181,13 +170,13 @@ link_line_of command arguments =
     else if is command (codes "tm") then tm_of arguments
     else if is command (codes "telemetry") then telemetry_of arguments
     else if is command (codes "decoder") then decoder_of arguments
-    else if is command (codes "octets") then octets_of arguments
+    else if is command (codes "octets") then piece_of arguments
     else Err UnknownCommand
 
 -- what the words of a line ask for, or the first of the reasons why they ask for nothing
-unfoldable pub line_of : Words → Said
-line_of [] = Ok Blank
-line_of (command ∷ arguments) =
+unfoldable pub maker_line_of : Words → Said
+maker_line_of [] = Ok Blank
+maker_line_of (command ∷ arguments) =
     if is_comment command then Ok Blank
     else if is command (codes "packet") then packet_of arguments
     else if is command (codes "ad") then ad_of arguments

@@ -28,27 +28,27 @@ abbrev pub IsRandomSaid : List ℕ → List ℕ → Type 0
 IsRandomSaid octets text = text ≡ named_text (codes "random") (randomised octets)
 
 -- telemetry frames end as telecommand frames do
-abbrev pub error_of : Ending → ErrorControl
-error_of endings.DataField = Absent
-error_of endings.ErrorControl = Present
+abbrev pub telemetry_ending : Ending → ErrorControl
+telemetry_ending endings.DataField = Absent
+telemetry_ending endings.ErrorControl = Present
 
 -- octets as a telemetry frame, or why they are none
 abbrev pub IsTelemetrySaid : Ending → List ℕ → List ℕ → Type 0
 IsTelemetrySaid ending octets text =
-    ((read_fault_of (error_of ending) octets ≡ None) × (text ≡ tm_text (tm_fields_of (error_of ending) octets)))
-    ⊎ ((fault : TmReadFault) × (read_fault_of (error_of ending) octets ≡ Some fault) × (text ≡ refused_text (tm_fault_text fault)))
+    ((read_fault_of (telemetry_ending ending) octets ≡ None) × (text ≡ tm_text (tm_fields_of (telemetry_ending ending) octets)))
+    ⊎ ((fault : TmReadFault) × (read_fault_of (telemetry_ending ending) octets ≡ Some fault) × (text ≡ refused_text (tm_fault_text fault)))
 
 -- the first reason for which a telemetry frame isn't made, in this order
 abbrev pub tm_reason_of : Ending → TmOrder → Option Reason
 tm_reason_of ending order =
     if nat_lt 1023 order.scid then Some BadScid
     else if nat_lt 7 order.vcid then Some BadVcid
-    else if nat_lt order.size (least_length (error_of ending)) || nat_lt most_length order.size then Some BadSize
+    else if nat_lt order.size (least_length (telemetry_ending ending)) || nat_lt most_length order.size then Some BadSize
     else None
 
 -- the next frame of a virtual channel, by the counts; or why it isn't made, and they don't go on
 abbrev pub IsTmSaid : Ending → Counted → TmOrder → Counted → List ℕ → Type 0
 IsTmSaid ending old order new text =
     ((tm_reason_of ending order ≡ None) × (new ≡ frame_counted old order.scid order.vcid)
-    × (text ≡ named_text (codes "tm") (tm_frame (error_of ending) (next_header old order.scid order.vcid) order.control order.size)))
+    × (text ≡ named_text (codes "tm") (tm_frame (telemetry_ending ending) (next_header old order.scid order.vcid) order.control order.size)))
     ⊎ ((new ≡ old) × (text ≡ bad_text (unwrap_or (tm_reason_of ending order) NoMemory)))

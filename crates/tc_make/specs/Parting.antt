@@ -1,9 +1,8 @@
 -- A unit that is sent in segments (CCSDS 232.0-B, 4.1.3.2.2).
 use Rattle.std.specs.Prelude.{ℕ, ◌+◌, ◌%◌, false, List, length, Option, Some, None, nat_lt, if◌then◌else◌}
 use Rattle.tc_link.specs.declared.frame.Header.{Header}
-use Rattle.tc_packet.specs.declared.segment.Segment.{Segment}
 use Rattle.tc_make.specs.Frames.{IsMadeFrame}
-use Rattle.tc_write.specs.Parts.{count_of, part_at, piece_at}
+use Rattle.tc_write.specs.Parts.{piece_at, segment_at}
 use Rattle.tc_make.specs.declared.parting.Parting.{Parting}
 use Rattle.tc_make.specs.declared.fault.Reason.{Reason}
 use Rattle.tc_make.specs.declared.fault.Reason.TheVariants.{BadScid, BadVcid, BadMap, BadSize, NoData, TooMuchData}
@@ -12,12 +11,9 @@ use Rattle.tc_make.specs.declared.fault.Reason.TheVariants.{BadScid, BadVcid, Ba
 abbrev pub header_at : Parting → ℕ → Header
 header_at p place = record { bypass = false; control = false; scid = p.scid; vcid = p.vcid; ns = (p.ns + place) % 256 }
 
-abbrev pub segment_at : Parting → ℕ → Segment
-segment_at p place = record { part = part_at place (count_of p.size (length p.unit.now)); map = p.map }
-
 -- the frame at a place of the parting
 abbrev pub IsFrameAt : Parting → ℕ → List ℕ → Type 0
-IsFrameAt p place frame = IsMadeFrame frame (header_at p place) (Some (segment_at p place)) (piece_at p.size p.unit.now place)
+IsFrameAt p place frame = IsMadeFrame frame (header_at p place) (Some (segment_at p.map p.size place p.unit.now)) (piece_at p.size p.unit.now place)
 
 -- the first reason for which a unit isn't parted, in this order
 abbrev pub parting_reason_of : Parting → Option Reason

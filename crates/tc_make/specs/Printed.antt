@@ -26,23 +26,23 @@ use Rattle.tc_make.specs.declared.form.Form.{Form}
 use Rattle.tc_make.specs.declared.form.Form.TheVariants as forms
 
 -- why nothing is made of a line
-abbrev pub reason_text : Reason → List ℕ
-reason_text UnknownCommand = codes "unknown command"
-reason_text (WordCount form) = codes "wrong number of words"
-reason_text BadNumber = codes "bad number"
-reason_text BadHex = codes "bad hex"
-reason_text BadMode = codes "bad mode"
-reason_text BadClcw = codes "bad clcw"
-reason_text BadScid = codes "bad spacecraft"
-reason_text BadVcid = codes "bad channel"
-reason_text BadMap = codes "bad map"
-reason_text BadApid = codes "bad application"
-reason_text BadCount = codes "bad count"
-reason_text BadSize = codes "bad size"
-reason_text NoData = codes "no data"
-reason_text TooMuchData = codes "too much data"
-reason_text NoDecoder = codes "no decoder"
-reason_text NoMemory = codes "no memory"
+abbrev pub unmade_text : Reason → List ℕ
+unmade_text UnknownCommand = codes "unknown command"
+unmade_text (WordCount form) = codes "wrong number of words"
+unmade_text BadNumber = codes "bad number"
+unmade_text BadHex = codes "bad hex"
+unmade_text BadMode = codes "bad mode"
+unmade_text BadClcw = codes "bad clcw"
+unmade_text BadScid = codes "bad spacecraft"
+unmade_text BadVcid = codes "bad channel"
+unmade_text BadMap = codes "bad map"
+unmade_text BadApid = codes "bad application"
+unmade_text BadCount = codes "bad count"
+unmade_text BadSize = codes "bad size"
+unmade_text NoData = codes "no data"
+unmade_text TooMuchData = codes "too much data"
+unmade_text NoDecoder = codes "no decoder"
+unmade_text NoMemory = codes "no memory"
 
 -- a command and the names of its words
 abbrev pub form_text : Form → List ℕ
@@ -76,7 +76,7 @@ hint_text reason = codes "\n"
 
 -- the line `bad ..`
 abbrev pub bad_text : Reason → List ℕ
-bad_text reason = codes "bad " ++ reason_text reason ++ hint_text reason
+bad_text reason = codes "bad " ++ unmade_text reason ++ hint_text reason
 
 -- a line of a word and octets
 abbrev pub named_text : List ℕ → List ℕ → List ℕ
@@ -153,15 +153,15 @@ packet_text octets =
     ++ whole_text (bits (word_at octets 0) 11 1 == 1) octets
 
 -- the packets of a unit in their order, and then what is left of it
-abbrev pub unit_text : List ℕ → List ℕ
-unit_text unit = flat_map packet_text (packets_of unit) ++ some_text (codes "rest") (rest_of unit)
+abbrev pub unit_packets_text : List ℕ → List ℕ
+unit_packets_text unit = flat_map packet_text (packets_of unit) ++ some_text (codes "rest") (rest_of unit)
 
 -- what follows a segment header: a whole unit, or a part of one
 abbrev pub body_text : Part → List ℕ → List ℕ
 body_text First body = some_text (codes "body") body
 body_text Continuing body = some_text (codes "body") body
 body_text Last body = some_text (codes "body") body
-body_text Unsegmented body = unit_text body
+body_text Unsegmented body = unit_packets_text body
 
 -- a data field that begins with a segment header
 abbrev pub carried_text : List ℕ → List ℕ
@@ -181,8 +181,8 @@ abbrev pub explanation_text : Explanation → List ℕ
 explanation_text e = header_text e.header e.length e.fill ++ field_text e.kind e.field.now
 
 -- the front of the line `clcw ..`: the channel, the status and the flags of the link
-abbrev pub link_text : ClcwFields → List ℕ
-link_text f =
+abbrev pub clcw_front_text : ClcwFields → List ℕ
+clcw_front_text f =
     codes "clcw vc " ++ decimal f.vcid ++ codes " status " ++ decimal f.status ++ codes " norf " ++ flag_text f.link.no_rf
     ++ codes " nobitlock " ++ flag_text f.link.no_bit_lock
 
@@ -195,7 +195,7 @@ abbrev pub numbers_text : ClcwFields → List ℕ
 numbers_text f = codes " farmb " ++ decimal f.farm_b ++ codes " vr " ++ decimal f.vr ++ codes "\n"
 
 abbrev pub clcw_text : ClcwFields → List ℕ
-clcw_text f = link_text f ++ (flags_text f ++ numbers_text f)
+clcw_text f = clcw_front_text f ++ (flags_text f ++ numbers_text f)
 
 -- why octets are no telemetry frame
 abbrev pub tm_fault_text : TmReadFault → List ℕ

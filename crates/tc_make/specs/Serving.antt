@@ -3,7 +3,7 @@ use Rattle.std.specs.Prelude.{ℕ, List, Option}
 use Rattle.tc_lines.specs.Answering as lines
 use Rattle.tc_lines.specs.declared.answering.ServingFault.{ServingFault}
 use Rattle.tc_make.specs.Answer.{IsAnswer}
-use Rattle.tc_make.specs.Line.{line_of}
+use Rattle.tc_make.specs.Line.{maker_line_of}
 use Rattle.tc_lines.specs.Word.{words}
 use Rattle.tc_make.specs.Making.{new_maker}
 use Rattle.tc_make.specs.declared.ending.Ending.{Ending}
@@ -14,13 +14,13 @@ abbrev pub limit : ℕ
 limit = 262143
 
 -- a line is answered, and what it does to the counts and the decoders is there for the next
-abbrev pub IsAnswered : Maker → List ℕ → Maker → List ℕ → Type 0
-IsAnswered old line new text = IsAnswer old (line_of (words line)) new text
+abbrev pub IsMakerAnswered : Maker → List ℕ → Maker → List ℕ → Type 0
+IsMakerAnswered old line new text = IsAnswer old (maker_line_of (words line)) new text
 
 -- the answers of all lines of these octets were written, in their order, each once
 abbrev pub AreWritten : Ending → List ℕ → Option (List ℕ) → Option (List ℕ) → Type 0
-AreWritten ending octets before after = (last : Maker) × lines.AreAllWritten limit IsAnswered (new_maker ending) octets last before after
+AreWritten ending octets before after = (last : Maker) × lines.AreAllWritten limit IsMakerAnswered (new_maker ending) octets last before after
 
 -- what was written where it ended early
-abbrev pub IsCutShort : Ending → List ℕ → Option (List ℕ) → Option (List ℕ) → ServingFault → Type 0
-IsCutShort ending octets before after fault = (last : Maker) × lines.IsCutShort limit IsAnswered (new_maker ending) octets last before after fault
+abbrev pub IsMakingCutShort : Ending → List ℕ → Option (List ℕ) → Option (List ℕ) → ServingFault → Type 0
+IsMakingCutShort ending octets before after fault = (last : Maker) × lines.IsCutShort limit IsMakerAnswered (new_maker ending) octets last before after fault

@@ -2,10 +2,10 @@
 
 ghost use Rattle.std.specs.Prelude.{◌≡◌, ◌<◌, None, codes, length, IfOk, OnOk};
 ghost use Rattle.tc_lines.specs.Answering.{Writes};
-ghost use Rattle.tc_make.specs.Answer.{OrNoMemory, IsAnswer, IsSaid, IsKept, IsMadePacketSaid, IsMadeFrameSaid, IsCommandSaid, IsEnded, IsUnitSaid, IsFramesSaid, IsPart};
+ghost use Rattle.tc_make.specs.Answer.{OrNoMemory, IsAnswer, IsSaid, IsKept, IsMadePacketSaid, IsMadeFrameSaid, IsCommandSaid, IsEnded, IsUnitSaid, IsFramesSaid, IsPartSaid};
 ghost use Rattle.tc_link.specs.Frame.{IsWhole};
-ghost use Rattle.tc_make.specs.Line.{line_of};
-ghost use Rattle.tc_write.specs.Parts.{count_of};
+ghost use Rattle.tc_make.specs.Line.{maker_line_of};
+ghost use Rattle.tc_write.specs.Parts.{segments_needed};
 ghost use Rattle.tc_make.specs.Decoders.{IsDecoderSaid};
 ghost use Rattle.tc_make.specs.Parting.{parting_reason_of};
 ghost use Rattle.tc_lines.specs.Word.{words as words_of};
@@ -38,7 +38,7 @@ pub fn answer_line<W: Write>(
     octets: &[u8],
     writer: &mut W,
 ) -> io::Result<()>
-    ensures answer { OnOk result (Writes (W.contents writer.old) (W.contents writer.new) (IsAnswer maker.old (line_of (words_of octets.now)) maker.new)) }
+    ensures answer { OnOk result (Writes (W.contents writer.old) (W.contents writer.new) (IsAnswer maker.old (maker_line_of (words_of octets.now)) maker.new)) }
 {
     match parse_line(alloc, octets) {
         Ok(line) => answer(alloc, maker, &line, writer),
@@ -196,7 +196,7 @@ fn write_parts<W: Write>(
     writer: &mut W,
 ) -> io::Result<()>
     requires parted { parting_reason_of parting.now ≡ None }
-    requires all { count ≡ count_of parting.now.size (length parting.now.unit.now) }
+    requires all { count ≡ segments_needed parting.now.size (length parting.now.unit.now) }
     ensures { OnOk result (Writes (W.contents writer.old) (W.contents writer.new) (IsFramesSaid ending parting.now)) }
 {
     for place in 0..count {
@@ -216,8 +216,8 @@ fn write_part<W: Write>(
     writer: &mut W,
 ) -> io::Result<bool>
     requires parted { parting_reason_of parting.now ≡ None }
-    requires there { place < count_of parting.now.size (length parting.now.unit.now) }
-    ensures { IfOk result (λ made. Writes (W.contents writer.old) (W.contents writer.new) (IsPart made ending parting.now place)) }
+    requires there { place < segments_needed parting.now.size (length parting.now.unit.now) }
+    ensures { IfOk result (λ made. Writes (W.contents writer.old) (W.contents writer.new) (IsPartSaid made ending parting.now place)) }
 {
     let made = match parting.frame(alloc, place) {
         Ok(frame) => ending.end(alloc, frame),

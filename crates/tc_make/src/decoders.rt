@@ -38,7 +38,7 @@ impl Model for Decoders {
 impl Decoders {
     ghost use Rattle.std.specs.Prelude.{◌≡◌, IfOk, OnOk, OnErr};
     ghost use Rattle.tc_lines.specs.Answering.{Writes};
-    ghost use Rattle.tc_make.specs.Decoders.{no_decoders, begun, IsPieceSaid};
+    ghost use Rattle.tc_make.specs.Decoders.{no_decoders, with_new_decoder, IsPieceSaid};
 
     /// No decoder yet. This asks for memory, for as many as there may be.
     #[tactic(auto, unfolding(crate::specs::Decoders::no_decoders))]
@@ -54,7 +54,7 @@ impl Decoders {
 
     /// Gives a stream a new decoder, which searches, in place of one that it may have had. The decoder takes memory.
     pub fn begin(&mut self, alloc: Global, id: u8, mode: Mode) -> Result<(), AllocError>
-        ensures begun { OnOk result (self.new ≡ begun self.old id mode) }
+        ensures begun { OnOk result (self.new ≡ with_new_decoder self.old id mode) }
         ensures unchanged { OnErr result (self.new ≡ self.old) }
     {
         let decoder = Decoder::new(alloc, mode)?;

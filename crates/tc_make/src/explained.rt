@@ -4,7 +4,7 @@ ghost use Rattle.std.specs.Prelude.{◌≡◌, ◌++◌, OnOk};
 ghost use Rattle.std.specs.Io.KnownBytes.{Appends};
 ghost use Rattle.tc_lines.specs.Answering.{Writes};
 ghost use Rattle.tc_make.specs.Answer.{OrNoMemory, IsFrameSaid, IsExplained, IsClcwSaid, field_fault_text};
-ghost use Rattle.tc_make.specs.Printed.{frame_fault_text, kind_text, fields_text, lengths_text, header_text, part_text, segment_text, type_text, holds_text, whole_text, held_text, unit_text, body_text, carried_text, field_text, explanation_text, link_text, flags_text, numbers_text, clcw_text};
+ghost use Rattle.tc_make.specs.Printed.{frame_fault_text, kind_text, fields_text, lengths_text, header_text, part_text, segment_text, type_text, holds_text, whole_text, held_text, unit_packets_text, body_text, carried_text, field_text, explanation_text, clcw_front_text, flags_text, numbers_text, clcw_text};
 
 use crate::ending::Ending;
 use crate::explaining::{Explanation, explain};
@@ -184,7 +184,7 @@ fn write_body<W: Write>(part: Part, body: &[u8], writer: &mut W) -> io::Result<(
 
 // The packets of a unit in their order, and what is left.
 fn write_unit<W: Write>(unit: &[u8], writer: &mut W) -> io::Result<()>
-    ensures { OnOk result (Appends (W.contents writer.old) (W.contents writer.new) (unit_text unit.now)) }
+    ensures { OnOk result (Appends (W.contents writer.old) (W.contents writer.new) (unit_packets_text unit.now)) }
 {
     let mut rest = unit;
     while let Some((packet, after)) = next_packet(rest) {
@@ -252,7 +252,7 @@ fn write_clcw_fields<W: Write>(fields: &ClcwFields, writer: &mut W) -> io::Resul
 }
 
 fn write_link<W: Write>(fields: &ClcwFields, writer: &mut W) -> io::Result<()>
-    ensures { OnOk result (Appends (W.contents writer.old) (W.contents writer.new) (link_text fields.now)) }
+    ensures { OnOk result (Appends (W.contents writer.old) (W.contents writer.new) (clcw_front_text fields.now)) }
 {
     let vcid = fields.vcid;
     let status = fields.status;

@@ -1,7 +1,7 @@
 //! Why a line is bad.
 
 ghost use Rattle.std.specs.Prelude.{◌≡◌, Some};
-ghost use Rattle.tc_make.specs.Printed.{reason_text};
+ghost use Rattle.tc_make.specs.Printed.{unmade_text};
 
 use crate::form::Form;
 use std::error::Error;
@@ -49,7 +49,7 @@ pub enum Reason {
 impl Reason {
     /// The words of the reason.
     pub fn as_str(&self) -> &'static str
-        ensures { result.now ≡ reason_text self.now }
+        ensures { result.now ≡ unmade_text self.now }
     {
         match self {
             Reason::UnknownCommand => "unknown command",
@@ -73,7 +73,7 @@ impl Reason {
 }
 
 impl fmt::Display for Reason {
-    ghost output = { λ reason. Some (reason_text reason) };
+    ghost output = { λ reason. Some (unmade_text reason) };
 
     fn fmt<W: fmt::Write>(&self, f: &mut fmt::Formatter<W>) -> fmt::Result {
         f.write_str(self.as_str())

@@ -3,7 +3,8 @@
 ghost use Rattle.std.specs.Prelude.{◌≡◌, ◌⊎◌, map, IfOk, IfErr, IsErr, MatchResult};
 ghost use Rattle.hex.specs.Hex.{decode_of};
 ghost use Rattle.tc_lines.specs.Word.{words as words_of};
-ghost use Rattle.tc_make.specs.Line.{line_of, link_line_of, packet_of, ad_of, bd_of, unlock_of, setvr_of, segments_of, explain_of, clcw_of, cltu_of, random_of, tm_of, telemetry_of, decoder_of, octets_of, four_of, mode_of, segment_of, stream_of, sizing_of, framed_of, parted_of, sized_of, ad_header as ad_header_of, bd_header as bd_header_of, is_comment as is_comment_word};
+ghost use Rattle.tc_make.specs.Line.{maker_line_of, link_line_of, packet_of, ad_of, bd_of, unlock_of, setvr_of, segments_of, explain_of, clcw_of, cltu_of, random_of, tm_of, telemetry_of, decoder_of, piece_of, four_of, mode_word, segment_word, stream_of, sizing_of, framed_of, parted_of, sized_of, ad_header as ad_header_of, bd_header as bd_header_of};
+ghost use Rattle.tc_lines.specs.Word.{is_comment as is_comment_word};
 
 use crate::fault::Reason;
 use crate::form::Form;
@@ -93,10 +94,10 @@ pub enum Line {
 }
 
 /// Reads a line, which is given without its line feed. Its words and its octets take memory.
-#[tactic(auto, unfolding(crate::specs::Line::line_of))]
+#[tactic(auto, unfolding(crate::specs::Line::maker_line_of))]
 pub fn parse_line(alloc: Global, octets: &[u8]) -> Result<Line, Reason>
-    ensures line { IfOk result (λ line. line_of (words_of octets.now) ≡ Ok line) }
-    ensures reason { IfErr result (λ reason. (reason ≡ Reason.NoMemory) ⊎ (line_of (words_of octets.now) ≡ Err reason)) }
+    ensures line { IfOk result (λ line. maker_line_of (words_of octets.now) ≡ Ok line) }
+    ensures reason { IfErr result (λ reason. (reason ≡ Reason.NoMemory) ⊎ (maker_line_of (words_of octets.now) ≡ Err reason)) }
 {
     let Ok(words) = words(alloc, octets) else {
         return Err(Reason::NoMemory);
@@ -366,8 +367,8 @@ fn decoder(words: &[&[u8]]) -> Result<Line, Reason>
 }
 
 fn piece(alloc: Global, words: &[&[u8]]) -> Result<Line, Reason>
-    ensures line { IfOk result (λ line. octets_of (map (λ word. word.now) words.now) ≡ Ok line) }
-    ensures reason { IfErr result (λ reason. (reason ≡ Reason.NoMemory) ⊎ (octets_of (map (λ word. word.now) words.now) ≡ Err reason)) }
+    ensures line { IfOk result (λ line. piece_of (map (λ word. word.now) words.now) ≡ Ok line) }
+    ensures reason { IfErr result (λ reason. (reason ≡ Reason.NoMemory) ⊎ (piece_of (map (λ word. word.now) words.now) ≡ Err reason)) }
 {
     let [id, digits] = words else {
         return Err(Reason::WordCount(Form::Octets));
@@ -430,8 +431,8 @@ fn read_sizing(map: &[u8], size: &[u8]) -> Result<Sizing, Reason>
 // The segment header that a word names: none, or an unsegmented one with a MAP id.
 fn segment(word: &[u8]) -> Result<Option<Segment>, Reason>
     ensures { MatchResult result
-        (λ segment. segment_of word.now ≡ Ok segment)
-        (λ reason. segment_of word.now ≡ Err reason) }
+        (λ segment. segment_word word.now ≡ Ok segment)
+        (λ reason. segment_word word.now ≡ Err reason) }
 {
     if word == b"plain".as_slice() {
         return Ok(None);
@@ -469,8 +470,8 @@ fn four(alloc: Global, digits: &[u8]) -> Result<[u8; 4], Reason>
 // How code blocks are decoded, as a word names it.
 fn read_mode(word: &[u8]) -> Result<Mode, Reason>
     ensures { MatchResult result
-        (λ mode. mode_of word.now ≡ Ok mode)
-        (λ reason. mode_of word.now ≡ Err reason) }
+        (λ mode. mode_word word.now ≡ Ok mode)
+        (λ reason. mode_word word.now ≡ Err reason) }
 {
     if word == b"detect".as_slice() {
         Ok(Mode::Detect)

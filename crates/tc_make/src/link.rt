@@ -8,7 +8,7 @@ ghost use Rattle.tc_lines.specs.Answering.{Writes};
 ghost use Rattle.tc_tm.specs.Counting.{next_header, frame_counted};
 ghost use Rattle.tc_tm.specs.TmFrame.{tm_frame};
 ghost use Rattle.tc_make.specs.Answer.{OrNoMemory};
-ghost use Rattle.tc_make.specs.LinkAnswer.{IsCltuSaid, IsRandomSaid, IsTelemetrySaid, IsTmSaid, cltu_reason_of, tm_reason_of, error_of};
+ghost use Rattle.tc_make.specs.LinkAnswer.{IsCltuSaid, IsRandomSaid, IsTelemetrySaid, IsTmSaid, cltu_reason_of, tm_reason_of, telemetry_ending};
 ghost use Rattle.tc_make.specs.Printed.{tm_fault_text, tm_text, tm_front_text, tm_end_text};
 
 use crate::ending::Ending;
@@ -78,7 +78,7 @@ pub(crate) fn write_telemetry<W: Write>(
 }
 
 fn error_control(ending: Ending) -> ErrorControl
-    ensures { result ≡ error_of ending }
+    ensures { result ≡ telemetry_ending ending }
 {
     match ending {
         Ending::DataField => ErrorControl::Absent,
@@ -148,7 +148,7 @@ fn next_frame(
     counts: &mut Counts,
     order: TmOrder,
 ) -> Result<Vec<u8>, Reason>
-    ensures frame { IfOk result (λ frame. frame.items ≡ tm_frame (error_of ending) (next_header counts.old order.scid order.vcid) order.control order.size) }
+    ensures frame { IfOk result (λ frame. frame.items ≡ tm_frame (telemetry_ending ending) (next_header counts.old order.scid order.vcid) order.control order.size) }
     ensures counted { OnOk result (counts.new ≡ frame_counted counts.old order.scid order.vcid) }
     ensures unchanged { OnErr result (counts.new ≡ counts.old) }
     ensures made { OnOk result (tm_reason_of ending order ≡ None) }

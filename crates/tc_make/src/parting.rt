@@ -22,14 +22,14 @@ pub struct Parting<'a> {
 
 impl<'a> Parting<'a> {
     ghost use Rattle.std.specs.Prelude.{◌≡◌, ◌<◌, ◌≤◌, None, length, unwrap_or, IfOk, IfErr, OnOk};
-    ghost use Rattle.tc_write.specs.Parts.{count_of};
+    ghost use Rattle.tc_write.specs.Parts.{segments_needed};
     ghost use Rattle.tc_make.specs.Parting.{IsFrameAt, parting_reason_of};
 
     /// How many frames the unit is parted into.
     ///
     /// A segment is to carry 1 to 1,018 octets, and a unit has 1 to 65,542.
     pub fn count(&self) -> Result<usize, Reason>
-        ensures count { IfOk result (λ count. count ≡ count_of self.now.size (length self.now.unit.now)) }
+        ensures count { IfOk result (λ count. count ≡ segments_needed self.now.size (length self.now.unit.now)) }
         ensures parted { OnOk result (parting_reason_of self.now ≡ None) }
         ensures refused { IfErr result (λ reason. parting_reason_of self.now ≡ Some reason) }
     {
@@ -59,7 +59,7 @@ impl<'a> Parting<'a> {
     /// The only allocations are its data field and the frame.
     pub fn frame(&self, alloc: Global, place: usize) -> Result<Vec<u8>, Reason>
         requires parted { parting_reason_of self.now ≡ None }
-        requires there { place < count_of self.now.size (length self.now.unit.now) }
+        requires there { place < segments_needed self.now.size (length self.now.unit.now) }
         ensures frame { IfOk result (λ frame. IsFrameAt self.now place frame.items) }
         ensures refused { IfErr result (λ reason. reason ≡ Reason.NoMemory) }
     {

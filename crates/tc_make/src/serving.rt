@@ -1,7 +1,7 @@
 //! A bench: lines in, lines out.
 
 ghost use Rattle.std.specs.Prelude.{◌≡◌, IfErr, IfSome, OnOk};
-ghost use Rattle.tc_make.specs.Serving.{AreWritten, IsCutShort};
+ghost use Rattle.tc_make.specs.Serving.{AreWritten, IsMakingCutShort};
 
 use crate::answer;
 use crate::ending::Ending;
@@ -16,9 +16,9 @@ use tc_lines::{LineAnswerer, ServingFault};
 pub const MAX_LINE: usize = 262_144;
 
 impl LineAnswerer for Maker {
-    ghost use Rattle.tc_make.specs.Serving.{IsAnswered};
+    ghost use Rattle.tc_make.specs.Serving.{IsMakerAnswered};
 
-    ghost answers = { IsAnswered };
+    ghost answers = { IsMakerAnswered };
 
     fn answer_line<W: Write>(
         &mut self,
@@ -42,7 +42,7 @@ pub fn answer_lines<R: BufRead, W: Write>(
     writer: &mut W,
 ) -> Result<(), ServingFault>
     ensures written { OnOk result (IfSome (R.remaining reader.old) (λ octets. AreWritten ending octets (W.contents writer.old) (W.contents writer.new))) }
-    ensures cut_short { IfErr result (λ fault. IfSome (R.remaining reader.old) (λ octets. IsCutShort ending octets (W.contents writer.old) (W.contents writer.new) fault)) }
+    ensures cut_short { IfErr result (λ fault. IfSome (R.remaining reader.old) (λ octets. IsMakingCutShort ending octets (W.contents writer.old) (W.contents writer.new) fault)) }
 {
     let Ok(mut maker) = Maker::new(alloc, ending) else {
         return Err(ServingFault::NoMemory);

@@ -10,7 +10,7 @@ use Rattle.tc_rack.specs.declared.queue.QueueId.TheVariants.{Packets, Units}
 use Rattle.tc_channel.specs.declared.settings.Settings.{Settings}
 use Rattle.tc_channel.specs.declared.settings.QueueSetting.{QueueSetting}
 use Rattle.tc_channel.specs.declared.settings.MapSetting.{MapSetting}
-use Rattle.tc_rack.specs.Delivery.{AreEmptied, AreEmpty, AreTakenFrom, AreTold, IsHandedOn, IsTakenFrom, packet_queues, queues_of, told_line, told_lines, unit_queues, waiting_in}
+use Rattle.tc_rack.specs.Delivery.{AreEmptied, AreEmpty, AreTakenFrom, AreAnswersWritten, IsHandedOn, IsTakenFrom, packet_queues, queues_of, told_line, told_lines, unit_queues, waiting_in}
 use Rattle.tc_rack.specs.Linked.{Linked, told_word}
 use Rattle.tc_rack.proofs.Waiting.{stays-empty}
 
@@ -31,7 +31,7 @@ taken-more queue old between new (first ∷ answers) answer (next, here, rest) o
 
 -- what was taken of a queue so far, and how much is left
 pub record IsSoFar (queue : QueueId) (first now : Linked) (a b : Option (List ℕ)) (count : ℕ) : Type 0 where
-  pub told : AreTold a b (λ answers. AreTakenFrom queue first answers now)
+  pub told : AreAnswersWritten a b (λ answers. AreTakenFrom queue first answers now)
   pub left : length (waiting_in queue now) + count ≡ length (waiting_in queue first)
   pub settings : now.history.settings ≡ first.history.settings
 
@@ -55,7 +55,7 @@ none-long [] e = refl
 none-long (item ∷ items) e = absurd (omega arith)
 
 pub all-taken : (queue : QueueId) (first now : Linked) (a b : Option (List ℕ)) (count : ℕ) → IsSoFar queue first now a b count → count ≡ length (waiting_in queue first)
-    → AreTold a b (λ answers. AreTakenFrom queue first answers now × (waiting_in queue now ≡ []))
+    → AreAnswersWritten a b (λ answers. AreTakenFrom queue first answers now × (waiting_in queue now ≡ []))
 all-taken queue first now a b count so_far all =
     let told = so_far.told in
     let left = so_far.left in
@@ -85,14 +85,14 @@ emptied-more (queue ∷ queues) more old between new one two (next, first, later
 
 -- those of the first queues of a list
 pub record AreSoFar (queues : List QueueId) (first now : Linked) (a b : Option (List ℕ)) (place : ℕ) : Type 0 where
-  pub told : AreTold a b (λ answers. AreEmptied (take place queues) first answers now)
+  pub told : AreAnswersWritten a b (λ answers. AreEmptied (take place queues) first answers now)
   pub settings : now.history.settings ≡ first.history.settings
 
 pub none-emptied : (queues : List QueueId) (first : Linked) (a : Option (List ℕ)) → AreSoFar queues first first a a 0
 none-emptied queues first a = record { told = ([], (refl, refl), Appends-nil a); settings = refl }
 
 pub one-more-emptied : (queues : List QueueId) (queue : QueueId) (first now new : Linked) (a b c : Option (List ℕ)) (place : ℕ) → AreSoFar queues first now a b place
-    → place < length queues → get_or queues place queue ≡ queue → AreTold b c (λ answers. AreTakenFrom queue now answers new × (waiting_in queue new ≡ []))
+    → place < length queues → get_or queues place queue ≡ queue → AreAnswersWritten b c (λ answers. AreTakenFrom queue now answers new × (waiting_in queue new ≡ []))
     → new.history.settings ≡ now.history.settings → AreSoFar queues first new a c (place + 1)
 one-more-emptied queues queue first now new a b c place so_far less is (two, (taken, empty), written) settings =
     let told = so_far.told in
@@ -110,7 +110,7 @@ one-more-emptied queues queue first now new a b c place so_far less is (two, (ta
 -- the next of the packet queues, and of the unit queues
 
 pub packets-emptied : (settings : Settings) (list : List QueueSetting) (place : ℕ) (d : QueueSetting) (first now new : Linked) (a b c : Option (List ℕ)) → AreSoFar (packet_queues settings) first now a b place
-    → list ≡ settings.queues → place < length settings.queues → AreTold b c (λ answers. AreTakenFrom (Packets (get_or list place d).apid) now answers new × (waiting_in (Packets (get_or list place d).apid) new ≡ []))
+    → list ≡ settings.queues → place < length settings.queues → AreAnswersWritten b c (λ answers. AreTakenFrom (Packets (get_or list place d).apid) now answers new × (waiting_in (Packets (get_or list place d).apid) new ≡ []))
     → new.history.settings ≡ now.history.settings → AreSoFar (packet_queues settings) first new a c (place + 1)
 packets-emptied settings list place d first now new a b c so_far is less told same =
     let queue : QueueId = Packets (get_or list place d).apid in
@@ -119,7 +119,7 @@ packets-emptied settings list place d first now new a b c so_far is less told sa
     one-more-emptied (packet_queues settings) queue first now new a b c place so_far (omega (arith, length-map settings.queues (λ (q : QueueSetting). Packets q.apid), less)) found told same
 
 pub units-emptied : (settings : Settings) (list : List MapSetting) (place : ℕ) (d : MapSetting) (first now new : Linked) (a b c : Option (List ℕ)) → AreSoFar (unit_queues settings) first now a b place
-    → list ≡ settings.maps → place < length settings.maps → AreTold b c (λ answers. AreTakenFrom (Units (get_or list place d).map) now answers new × (waiting_in (Units (get_or list place d).map) new ≡ []))
+    → list ≡ settings.maps → place < length settings.maps → AreAnswersWritten b c (λ answers. AreTakenFrom (Units (get_or list place d).map) now answers new × (waiting_in (Units (get_or list place d).map) new ≡ []))
     → new.history.settings ≡ now.history.settings → AreSoFar (unit_queues settings) first new a c (place + 1)
 units-emptied settings list place d first now new a b c so_far is less told same =
     let queue : QueueId = Units (get_or list place d).map in
@@ -146,9 +146,9 @@ nothing-left (queue ∷ queues) old new answers (next, first, later, taken, out,
 
 -- packets, then units, then the CLCW
 pub all-handed-on : (old between new : Linked) (a b c d : Option (List ℕ)) (word : Answer) → between.history.settings ≡ old.history.settings
-    → AreTold a b (λ answers. AreEmptied (packet_queues old.history.settings) old answers between)
-    → AreTold b c (λ answers. AreEmptied (unit_queues between.history.settings) between answers new)
-    → word ≡ told_word new → Appends c d (told_line word) → AreTold a d (λ answers. IsHandedOn old answers new)
+    → AreAnswersWritten a b (λ answers. AreEmptied (packet_queues old.history.settings) old answers between)
+    → AreAnswersWritten b c (λ answers. AreEmptied (unit_queues between.history.settings) between answers new)
+    → word ≡ told_word new → Appends c d (told_line word) → AreAnswersWritten a d (λ answers. IsHandedOn old answers new)
 all-handed-on old between new a b c d word settings (one, packets, first) (two, units, second) is last =
     let emptied : AreEmptied (queues_of old.history.settings) old (one ++ two) new =
     emptied-more (packet_queues old.history.settings) (unit_queues old.history.settings) old between new one two packets

@@ -5,12 +5,12 @@ use Rattle.std.proofs.lemmas.Option.{get_or_from_slice_get}
 use Rattle.std.specs.Prelude.{AllPairs}
 use Rattle.tc_channel.specs.declared.settings.Settings.{Settings}
 use Rattle.tc_rack.specs.Linked.{Linked, vcid_of, new_linked}
-use Rattle.tc_rack.specs.Rack.{IsAt, AreApart}
+use Rattle.tc_rack.specs.Rack.{IsChannelAt, AreChannelsApart}
 
-pub found : (list : List Linked) (vcid place : ℕ) (x : Linked) → (s : Linked) × IsAt list vcid place s → x ≡ get_or list place x → IsAt list vcid place x
-found list vcid place x (s, (at, v)) is = subst (IsAt list vcid place) (sym (is ∙ get_or_from_slice_get list place s x at)) (at, v)
+pub found : (list : List Linked) (vcid place : ℕ) (x : Linked) → (s : Linked) × IsChannelAt list vcid place s → x ≡ get_or list place x → IsChannelAt list vcid place x
+found list vcid place x (s, (at, v)) is = subst (IsChannelAt list vcid place) (sym (is ∙ get_or_from_slice_get list place s x at)) (at, v)
 
-pub made-apart : (list : List Settings) → AllPairs (λ (p q : Settings). p.vcid ≢ q.vcid) list → AreApart (map new_linked list)
+pub made-apart : (list : List Settings) → AllPairs (λ (p q : Settings). p.vcid ≢ q.vcid) list → AreChannelsApart (map new_linked list)
 made-apart [] apart = λ i j d ij jl. λ same. omega arith
 made-apart (none ∷ rest) apart = λ i j d ij jl. λ same.
     let list : List Settings = none ∷ rest in

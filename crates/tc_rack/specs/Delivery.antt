@@ -11,7 +11,7 @@ use Rattle.tc_rack.specs.declared.queue.QueueId.{QueueId}
 use Rattle.tc_rack.specs.declared.queue.QueueId.TheVariants.{Packets, Units}
 use Rattle.tc_rack.specs.Linked.{Linked, IsPacketTaken, IsUnitTaken, told_word}
 use Rattle.tc_rack.specs.Printed.{answer_text}
-use Rattle.tc_rack.specs.Rack.{Racked, IsThere, Changes}
+use Rattle.tc_rack.specs.Rack.{Racked, HasChannel, Changes}
 
 -- the queues of a channel: those of packets, and then those of the units of the chosen MAPs, in the order of the settings
 abbrev pub packet_queues : Settings → List QueueId
@@ -63,7 +63,7 @@ IsHandedOn old answers new =
 -- the channel with this id hands on what waits in it; or there is no such channel, and nothing is told
 abbrev pub IsDeliveryEnded : ℕ → Racked → List Answer → Racked → Type 0
 IsDeliveryEnded vcid old answers new =
-    Changes old vcid (λ before after. IsHandedOn before answers after) new ⊎ (¬ IsThere old.channels vcid × (answers ≡ []) × (new ≡ old))
+    Changes old vcid (λ before after. IsHandedOn before answers after) new ⊎ (¬ HasChannel old.channels vcid × (answers ≡ []) × (new ≡ old))
 
 -- an answer, and answers, each with a line feed
 abbrev pub told_line : Answer → List ℕ
@@ -73,5 +73,5 @@ abbrev pub told_lines : List Answer → List ℕ
 told_lines answers = flat_map told_line answers
 
 -- answers that are such were written
-abbrev pub AreTold : Option (List ℕ) → Option (List ℕ) → (List Answer → Type 0) → Type 0
-AreTold before after Are = (answers : List Answer) × Are answers × Appends before after (told_lines answers)
+abbrev pub AreAnswersWritten : Option (List ℕ) → Option (List ℕ) → (List Answer → Type 0) → Type 0
+AreAnswersWritten before after Are = (answers : List Answer) × Are answers × Appends before after (told_lines answers)

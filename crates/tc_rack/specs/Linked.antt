@@ -52,15 +52,15 @@ IsPacketTaken apid old answer new =
     × (answer ≡ answers.Take (vcid_of old) apid packet) × (new ≡ later (events.Take apid) old)
 
 -- no packet is there to be taken: there is no queue for the APID, or it is empty
-abbrev pub IsTakeRefused : ℕ → Linked → Answer → Type 0
-IsTakeRefused apid old answer =
+abbrev pub IsPacketRefused : ℕ → Linked → Answer → Type 0
+IsPacketRefused apid old answer =
     ((waiting_packets old.history.settings old.history.journal apid ≡ None) × (answer ≡ answers.Refused NoQueue))
     ⊎ ((waiting_packets old.history.settings old.history.journal apid ≡ Some []) × (answer ≡ answers.Refused Empty))
 
 -- the oldest packet is taken, where there is one
 abbrev pub IsTakeAnswered : ℕ → Linked → Answer → Linked → Type 0
 IsTakeAnswered apid old answer new =
-    IsPacketTaken apid old answer new ⊎ (IsTakeRefused apid old answer × (new ≡ old))
+    IsPacketTaken apid old answer new ⊎ (IsPacketRefused apid old answer × (new ≡ old))
 
 -- the oldest unit is taken
 abbrev pub IsUnitTaken : ℕ → Linked → Answer → Linked → Type 0

@@ -8,11 +8,11 @@ use Rattle.tc_rack.specs.declared.answer.Refusal.TheVariants.{Unlocated, Unknown
 use Rattle.tc_rack.specs.declared.operation.Operation.{Operation}
 use Rattle.tc_rack.specs.declared.operation.Operation.TheVariants as operations
 use Rattle.tc_rack.specs.Linked.{Linked, IsFrameAnswered, IsReleaseAnswered, IsTakeAnswered, IsUnitAnswered, told_word}
-use Rattle.tc_rack.specs.Rack.{Racked, IsThere, IsOf, Changes, IsLocateFault}
+use Rattle.tc_rack.specs.Rack.{Racked, HasChannel, IsOf, Changes, IsRackLocateFault}
 
 -- there is no channel with this id, and the answer says so
 abbrev pub IsUnknown : Racked → ℕ → Answer → Type 0
-IsUnknown rack vcid answer = ¬ IsThere rack.channels vcid × (answer ≡ Refused UnknownChannel)
+IsUnknown rack vcid answer = ¬ HasChannel rack.channels vcid × (answer ≡ Refused UnknownChannel)
 
 -- the channel with this id answers so, and all others are as before; or there is no such channel
 abbrev pub IsChannelAnswer : ℕ → (Linked → Answer → Linked → Type 0) → Racked → Answer → Racked → Type 0
@@ -29,7 +29,7 @@ IsFrameBrought octets old answer new =
 abbrev pub IsFrameAnswer : List ℕ → Racked → Answer → Racked → Type 0
 IsFrameAnswer octets old answer new =
     IsFrameBrought octets old answer new
-    ⊎ ((fault : LocateFault) × IsLocateFault old octets fault × (answer ≡ Refused (Unlocated fault)) × (new ≡ old))
+    ⊎ ((fault : LocateFault) × IsRackLocateFault old octets fault × (answer ≡ Refused (Unlocated fault)) × (new ≡ old))
 
 -- the CLCW of the channel with this id; or there is no such channel
 abbrev pub IsClcwAnswer : ℕ → Racked → Answer → Type 0

@@ -24,46 +24,46 @@ abbrev pub histories : Racked → List History
 histories rack = map (λ (channel : Linked). channel.history) rack.channels
 
 -- there is a channel with this id
-abbrev pub IsThere : List Linked → ℕ → Type 0
-IsThere channels vcid = Any (λ (channel : Linked). vcid_of channel ≡ vcid) channels
+abbrev pub HasChannel : List Linked → ℕ → Type 0
+HasChannel channels vcid = Any (λ (channel : Linked). vcid_of channel ≡ vcid) channels
 
 -- the channel with this id, at its place
-abbrev pub IsAt : List Linked → ℕ → ℕ → Linked → Type 0
-IsAt channels vcid place channel = (slice_get channels place ≡ Some channel) × (vcid_of channel ≡ vcid)
+abbrev pub IsChannelAt : List Linked → ℕ → ℕ → Linked → Type 0
+IsChannelAt channels vcid place channel = (slice_get channels place ≡ Some channel) × (vcid_of channel ≡ vcid)
 
 -- this holds of the channel with this id
 abbrev pub IsOf : Racked → ℕ → (Linked → Type 0) → Type 0
-IsOf rack vcid Holds = (place : ℕ) × (channel : Linked) × IsAt rack.channels vcid place channel × Holds channel
+IsOf rack vcid Holds = (place : ℕ) × (channel : Linked) × IsChannelAt rack.channels vcid place channel × Holds channel
 
 -- the channel with this id becomes what this relates it to, and all others are as before
 abbrev pub Changes : Racked → ℕ → (Linked → Linked → Type 0) → Racked → Type 0
 Changes old vcid Becomes new =
-    (place : ℕ) × (before : Linked) × (after : Linked) × IsAt old.channels vcid place before × Becomes before after
+    (place : ℕ) × (before : Linked) × (after : Linked) × IsChannelAt old.channels vcid place before × Becomes before after
     × (new ≡ record old { channels = slice_set old.channels place after })
 
 -- why octets are for none of the channels: the first of these that applies
-abbrev pub IsLocateFault : Racked → List ℕ → LocateFault → Type 0
-IsLocateFault rack octets (Frame f) = fault_of octets ≡ Some f
-IsLocateFault rack octets OtherSpacecraft = (frame : List ℕ) × BeginsWith octets frame × ((header_of frame).scid ≢ rack.scid)
-IsLocateFault rack octets UnknownChannel =
-    (frame : List ℕ) × BeginsWith octets frame × ((header_of frame).scid ≡ rack.scid) × ¬ IsThere rack.channels (header_of frame).vcid
+abbrev pub IsRackLocateFault : Racked → List ℕ → LocateFault → Type 0
+IsRackLocateFault rack octets (Frame f) = fault_of octets ≡ Some f
+IsRackLocateFault rack octets OtherSpacecraft = (frame : List ℕ) × BeginsWith octets frame × ((header_of frame).scid ≢ rack.scid)
+IsRackLocateFault rack octets UnknownChannel =
+    (frame : List ℕ) × BeginsWith octets frame × ((header_of frame).scid ≡ rack.scid) × ¬ HasChannel rack.channels (header_of frame).vcid
 
 -- no two channels have one id
-abbrev pub AreApart : List Linked → Type 0
-AreApart channels = AllPairs (λ (p q : Linked). vcid_of p ≢ vcid_of q) channels
+abbrev pub AreChannelsApart : List Linked → Type 0
+AreChannelsApart channels = AllPairs (λ (p q : Linked). vcid_of p ≢ vcid_of q) channels
 
 -- the octets begin with this frame of the spacecraft, which is for the channel at this place
-abbrev pub IsLocated : Racked → List ℕ → ℕ → List ℕ → Type 0
-IsLocated rack octets place frame =
-    BeginsWith octets frame × ((header_of frame).scid ≡ rack.scid) × ((channel : Linked) × IsAt rack.channels (header_of frame).vcid place channel)
+abbrev pub IsLocatedInRack : Racked → List ℕ → ℕ → List ℕ → Type 0
+IsLocatedInRack rack octets place frame =
+    BeginsWith octets frame × ((header_of frame).scid ≡ rack.scid) × ((channel : Linked) × IsChannelAt rack.channels (header_of frame).vcid place channel)
 
 -- the channel with this id has these flags of its link from now on, if there is one
 abbrev pub IsLinkSet : Racked → ℕ → Link → Bool → Racked → Type 0
 IsLinkSet old vcid link true new = Changes old vcid (λ before after. after ≡ record before { link = link }) new
-IsLinkSet old vcid link false new = ¬ IsThere old.channels vcid × (new ≡ old)
+IsLinkSet old vcid link false new = ¬ HasChannel old.channels vcid × (new ≡ old)
 
 -- what the channel with this id has come to, if there is one
 abbrev pub IsReported : Racked → ℕ → Option Holding → Type 0
-IsReported rack vcid None = ¬ IsThere rack.channels vcid
+IsReported rack vcid None = ¬ HasChannel rack.channels vcid
 IsReported rack vcid (Some holding) =
     IsOf rack vcid (λ channel. holding ≡ holding_of channel.history.settings channel.history.journal)

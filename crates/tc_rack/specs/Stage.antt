@@ -11,5 +11,5 @@ phase_of (SettingUp list) = Setup list
 phase_of (Operating operating) = Operation
 
 -- a line that is refused for this reason leaves all as it is, unless memory is refused before operation
-abbrev pub IsKept : {O : Type 0} → Reason → Stage O → Stage O → Type 0
-IsKept reason old new = (new ≡ old) ⊎ ((reason ≡ NoMemory) × (phase_of old ≢ Operation))
+abbrev pub IsStageKept : {O : Type 0} → Reason → Stage O → Stage O → Type 0
+IsStageKept reason old new = (new ≡ old) ⊎ ((reason ≡ NoMemory) × (phase_of old ≢ Operation))

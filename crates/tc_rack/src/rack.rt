@@ -2,8 +2,8 @@
 
 ghost use Rattle.std.specs.Prelude.{◌≡◌, ◌≢◌, ◌⊎◌, map, IfOk, OnOk, OnErr, MatchOption, MatchResult};
 ghost use Rattle.tc_rack.specs.Linked.{Linked, new_linked, IsReleaseAnswered, IsTakeAnswered, IsUnitAnswered};
-ghost use Rattle.tc_rack.specs.Rack.{new_rack, IsThere, IsAt, IsLocateFault, AreApart, IsLocated, IsLinkSet, IsReported};
-ghost use Rattle.tc_rack.specs.Delivery.{AreTold, IsDeliveryEnded};
+ghost use Rattle.tc_rack.specs.Rack.{new_rack, HasChannel, IsChannelAt, IsRackLocateFault, AreChannelsApart, IsLocatedInRack, IsLinkSet, IsReported};
+ghost use Rattle.tc_rack.specs.Delivery.{AreAnswersWritten, IsDeliveryEnded};
 ghost use Rattle.tc_rack.specs.Operation.{IsAnswerOf, IsChannelAnswer, IsFrameAnswer, IsClcwAnswer};
 
 use crate::answer::{Answer, Refusal};
@@ -30,13 +30,13 @@ pub struct Rack {
 
 impl Model for Rack {
     ghost use Rattle.tc_rack.specs.Rack.{Racked};
-    ghost use Rattle.tc_rack.specs.Rack.{AreApart};
+    ghost use Rattle.tc_rack.specs.Rack.{AreChannelsApart};
 
     ghost Value = { Racked };
 
     ghost view = { λ o. record { scid = o.scid; channels = o.channels.items } };
 
-    ghost invariant = { λ o. AreApart o.channels.items };
+    ghost invariant = { λ o. AreChannelsApart o.channels.items };
 }
 
 impl Rack {
@@ -50,7 +50,7 @@ impl Rack {
 
     /// Does an operation. No more is allocated than by the channel that it names.
     pub fn operate(&mut self, operation: Operation) -> Result<Answer, NoMemory>
-        ensures apart { AreApart self.old.channels }
+        ensures apart { AreChannelsApart self.old.channels }
         ensures answer { IfOk result (λ answer. IsAnswerOf operation self.old answer self.new) }
         ensures refused { OnErr result (self.new ≡ self.old) }
     {
@@ -81,7 +81,7 @@ impl Rack {
 
     // The frame at the front of the octets, and the place of the channel that it is for.
     fn locate<'a>(&self, octets: &'a [u8]) -> Result<(usize, Frame<'a>), LocateFault>
-        ensures { MatchResult result (λ located. IsLocated self.now octets.now located.0 located.1) (IsLocateFault self.now octets.now) }
+        ensures { MatchResult result (λ located. IsLocatedInRack self.now octets.now located.0 located.1) (IsRackLocateFault self.now octets.now) }
     {
         let frame = read_frame(octets).map_err(LocateFault::Frame)?;
         let header = frame.header();
@@ -141,7 +141,7 @@ impl Rack {
     /// feed. Where there is no such channel, nothing is written. Nothing is allocated, and each answer is written before the next is made.
     /// Where the writer fails, what was taken last is lost.
     pub fn hand_on<W: Write>(&mut self, vcid: u8, writer: &mut W) -> io::Result<()>
-        ensures { OnOk result (AreTold (W.contents writer.old) (W.contents writer.new) (λ answers. IsDeliveryEnded vcid self.old answers self.new)) }
+        ensures { OnOk result (AreAnswersWritten (W.contents writer.old) (W.contents writer.new) (λ answers. IsDeliveryEnded vcid self.old answers self.new)) }
     {
         match place_of(&self.channels, vcid) {
             Some(place) => hand_on(&mut self.channels[place], writer),
@@ -181,7 +181,7 @@ impl Rack {
 
 // The place of the channel with this id.
 fn place_of(channels: &[LinkedChannel], vcid: u8) -> Option<usize>
-    ensures { MatchOption result (¬ IsThere channels.now vcid) (λ place. (channel : Linked) × IsAt channels.now vcid place channel) }
+    ensures { MatchOption result (¬ HasChannel channels.now vcid) (λ place. (channel : Linked) × IsChannelAt channels.now vcid place channel) }
 {
     channels.iter().position(|channel| channel.vcid() == vcid)
 }

@@ -14,7 +14,7 @@ use Rattle.std.specs.List.{list_any}
 use Rattle.std.specs.Prelude.{All, AllPairs, is_some, MatchOption}
 use Rattle.tc_channel.specs.declared.settings.Settings.{Settings}
 use Rattle.tc_channel.specs.Settings.{IsAllowed}
-use Rattle.tc_setup.specs.Configuration.{IsThere, IsAt, IsConfiguration}
+use Rattle.tc_setup.specs.Configuration.{HasSettings, IsAt, IsConfiguration}
 
 -- ids have 6 bits, and no two are the same
 pub few : (list : List Settings) → IsConfiguration list → length list ≤ 64
@@ -45,18 +45,18 @@ found list vcid place x (s, (at, v)) is = subst (IsAt list vcid place) (sym (is 
 
 -- what a search by id says of the channels, by whether it found one
 abbrev pub IsSearched : List Settings → ℕ → Option ℕ → Type 0
-IsSearched list vcid place = MatchOption place (¬ IsThere list vcid) (λ place. (s : Settings) × IsAt list vcid place s)
+IsSearched list vcid place = MatchOption place (¬ HasSettings list vcid) (λ place. (s : Settings) × IsAt list vcid place s)
 
-pub there-already : (list : List Settings) (vcid : ℕ) (place : Option ℕ) → is_some place ≡ true → IsSearched list vcid place → IsThere list vcid
+pub there-already : (list : List Settings) (vcid : ℕ) (place : Option ℕ) → is_some place ≡ true → IsSearched list vcid place → HasSettings list vcid
 there-already list vcid None e h = absurd cc
 there-already list vcid (Some place) e (s, (at, v)) = (place, s, slice_get_within list place s at, get_or_from_slice_get list place s s at, v)
 
-pub not-there : (list : List Settings) (vcid : ℕ) (place : Option ℕ) → is_some place ≡ false → IsSearched list vcid place → ¬ IsThere list vcid
+pub not-there : (list : List Settings) (vcid : ℕ) (place : Option ℕ) → is_some place ≡ false → IsSearched list vcid place → ¬ HasSettings list vcid
 not-there list vcid None e h = h
 not-there list vcid (Some place) e h = absurd cc
 
 -- one channel more, with the id of no other
-pub one-more : (list : List Settings) (s : Settings) → IsConfiguration list → ¬ IsThere list s.vcid → IsAllowed s → IsConfiguration (list ++ s ∷ [])
+pub one-more : (list : List Settings) (s : Settings) → IsConfiguration list → ¬ HasSettings list s.vcid → IsAllowed s → IsConfiguration (list ++ s ∷ [])
 one-more list s c new allowed = record {
   distinct = all_pairs_push (λ (p q : Settings). p.vcid ≢ q.vcid) list s c.distinct
       (λ k d l. λ same. new (k, get_or list k d, l, get_or_default list k (get_or list k d) d l, same));
@@ -64,7 +64,7 @@ one-more list s c new allowed = record {
 }
 
 -- as before where the memory for one channel more is refused
-pub one-more-if : (more : Bool) (list : List Settings) (s : Settings) → IsConfiguration list → ¬ IsThere list s.vcid → IsAllowed s
+pub one-more-if : (more : Bool) (list : List Settings) (s : Settings) → IsConfiguration list → ¬ HasSettings list s.vcid → IsAllowed s
     → IsConfiguration (if more then list ++ s ∷ [] else list)
 one-more-if true list s c new allowed = one-more list s c new allowed
 one-more-if false list s c new allowed = c

@@ -15,8 +15,8 @@ abbrev pub vcids_of : List Settings → List ℕ
 vcids_of list = map (λ (s : Settings). s.vcid) list
 
 -- there is a channel with this id
-abbrev pub IsThere : List Settings → ℕ → Type 0
-IsThere list vcid = Any (λ (s : Settings). s.vcid ≡ vcid) list
+abbrev pub HasSettings : List Settings → ℕ → Type 0
+HasSettings list vcid = Any (λ (s : Settings). s.vcid ≡ vcid) list
 
 -- the settings with this id, at their place
 abbrev pub IsAt : List Settings → ℕ → ℕ → Settings → Type 0
@@ -29,7 +29,7 @@ with_addition s (Map chosen) = record s { maps = s.maps ++ chosen ∷ [] }
 
 -- a channel is set up besides, with the id of no other
 abbrev pub AddsChannel : List Settings → Settings → List Settings → Type 0
-AddsChannel list s new = ¬ IsThere list s.vcid × IsAllowed s × (new ≡ list ++ s ∷ [])
+AddsChannel list s new = ¬ HasSettings list s.vcid × IsAllowed s × (new ≡ list ++ s ∷ [])
 
 -- the channel with this id gets a queue or a chosen MAP besides, and the others stay
 abbrev pub AddsToChannel : List Settings → ℕ → Addition → List Settings → Type 0

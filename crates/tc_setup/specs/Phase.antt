@@ -3,7 +3,7 @@ use Rattle.std.specs.Prelude.{◌≡◌, ◌≢◌, ℕ, List, [], ◌⊎◌}
 use Rattle.tc_channel.specs.declared.settings.Settings.{Settings}
 use Rattle.tc_channel.specs.declared.settings.SettingsFault.{SettingsFault}
 use Rattle.tc_channel.specs.Settings.{IsFault}
-use Rattle.tc_setup.specs.Configuration.{IsThere, IsAt, AddsChannel, AddsToChannel, with_addition}
+use Rattle.tc_setup.specs.Configuration.{HasSettings, IsAt, AddsChannel, AddsToChannel, with_addition}
 use Rattle.tc_text.specs.declared.fault.Reason.{Reason}
 use Rattle.tc_text.specs.declared.fault.Reason.TheVariants.{TooLate, NoChannel, DoubleChannel, UnknownChannel}
 use Rattle.tc_text.specs.Reason.{reason_of}
@@ -40,12 +40,12 @@ IsSettingsReason s reason = (fault : SettingsFault) × (reason ≡ reason_of fau
 -- why a channel can't be set up besides these
 abbrev pub IsChannelRefused : List Settings → Settings → Reason → Type 0
 IsChannelRefused list s reason =
-    (IsThere list s.vcid × (reason ≡ DoubleChannel)) ⊎ (¬ IsThere list s.vcid × IsSettingsReason s reason)
+    (HasSettings list s.vcid × (reason ≡ DoubleChannel)) ⊎ (¬ HasSettings list s.vcid × IsSettingsReason s reason)
 
 -- why none of these channels gets a queue or a chosen MAP
 abbrev pub IsAdditionRefused : List Settings → ℕ → Addition → Reason → Type 0
 IsAdditionRefused list vcid addition reason =
-    (¬ IsThere list vcid × (reason ≡ UnknownChannel))
+    (¬ HasSettings list vcid × (reason ≡ UnknownChannel))
     ⊎ ((place : ℕ) × (s : Settings) × IsAt list vcid place s × IsSettingsReason (with_addition s addition) reason)
 
 abbrev pub IsBadChannel : Phase → Settings → Reason → Type 0

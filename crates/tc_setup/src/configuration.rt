@@ -3,7 +3,7 @@
 ghost use Rattle.std.specs.Prelude.{◌≡◌, ◌↔◌, ◌≤◌, ◌⊎◌, Any, IsTrue, [], length, IfOk, IfErr, OnOk, OnErr, MatchOption, MatchResult};
 ghost use Rattle.tc_channel.specs.Settings.{IsAllowed, IsFault};
 ghost use Rattle.tc_channel.specs.declared.settings.Settings.{Settings};
-ghost use Rattle.tc_setup.specs.Configuration.{AddsChannel, AddsToChannel, IsConfiguration, IsThere, IsAt, vcids_of, with_addition};
+ghost use Rattle.tc_setup.specs.Configuration.{AddsChannel, AddsToChannel, IsConfiguration, HasSettings, IsAt, vcids_of, with_addition};
 ghost use Rattle.tc_setup.specs.Phase.{IsChannelRefused, IsAdditionRefused, IsSettingsReason};
 
 use crate::copying::copy_each;
@@ -120,7 +120,7 @@ impl Configuration {
 
 // The place of the settings with this id.
 fn place_of(list: &[Settings], vcid: u8) -> Option<usize>
-    ensures { MatchOption result (¬ IsThere list.now vcid) (λ place. (s : Settings) × IsAt list.now vcid place s) }
+    ensures { MatchOption result (¬ HasSettings list.now vcid) (λ place. (s : Settings) × IsAt list.now vcid place s) }
 {
     list.iter().position(|settings| settings.vcid == vcid)
 }

@@ -9,9 +9,9 @@ use Rattle.tc_channel.specs.declared.event.Event.{Event}
 use Rattle.tc_channel.specs.declared.settings.Settings.{Settings}
 use Rattle.tc_desk.specs.Log.{Moment, Own, AtLock, count_of}
 use Rattle.tc_desk.specs.Call.{IsCall, made}
-use Rattle.tc_desk.specs.Together.{locks_of, settings_of}
+use Rattle.tc_desk.specs.Together.{locks_of, settings_of_desks}
 use Rattle.tc_station.specs.StationSettings.{vcids_of}
-use Rattle.tc_station.specs.Tally.{AtStation, at_station, counts_of, counted, tally, raised, raised_at}
+use Rattle.tc_station.specs.Tally.{AtStation, at_station, counts_of, tallied, tally, raised, raised_at}
 use Rattle.tc_station.specs.Call.{IsCallAt}
 use Rattle.tc_station.proofs.Counts.{raised-is}
 
@@ -28,7 +28,7 @@ head-kept e ok err there next (Ok a) c = ap (λ (o : Own). o.seen.head) c.answer
 head-kept e ok err there next (Err f) c = ap (λ (o : Own). o.seen.head) c.answer.1 ∙ c.later.0
 
 pub settings-kept : {R F : Type 0} (e : Event) (ok : Moment → R → Type 0) (err : Moment → F → Type 0) (desks : List AtLock) (place : ℕ) (there next : AtLock) (r : Result R F) → there ≡ get_or desks place there → IsCall e ok err there r next
-    → settings_of (set desks place next) ≡ settings_of desks
+    → settings_of_desks (set desks place next) ≡ settings_of_desks desks
 settings-kept e ok err desks place there next r is c = same-set (λ (o : AtLock). o.own.seen.head.settings) desks place there next is (ap (λ h. h.settings) (head-kept e ok err there next r c))
 
 pub locks-kept : {R F : Type 0} (e : Event) (ok : Moment → R → Type 0) (err : Moment → F → Type 0) (desks : List AtLock) (place : ℕ) (there next : AtLock) (r : Result R F) → there ≡ get_or desks place there → IsCall e ok err there r next
@@ -52,7 +52,7 @@ counts-made e now vcids desks place vcid there next is inside at own =
 
 pub counted-by : {R F : Type 0} (e : Event) (ok : Moment → R → Type 0) (err : Moment → F → Type 0) (vcids : List ℕ) (desks : List AtLock) (place vcid : ℕ) (there next : AtLock) (r : Result R F) → there ≡ get_or desks place there
     → place < length desks → position (λ v. v == vcid) vcids ≡ Some place → IsCall e ok err there r next
-    → OnOk r (tally (at_station vcids (set desks place next)) ≡ counted vcid (tally (at_station vcids desks)))
+    → OnOk r (tally (at_station vcids (set desks place next)) ≡ tallied vcid (tally (at_station vcids desks)))
 counted-by e ok err vcids desks place vcid there next (Ok a) is inside at c =
     ap (λ cs. record { vcids = vcids; counts = cs }) (counts-made e c.now vcids desks place vcid there next is inside at c.answer.1)
 counted-by e ok err vcids desks place vcid there next (Err f) is inside at c = tt
@@ -64,25 +64,25 @@ refused-by e ok err vcids desks place there next (Err f) is c =
     ap (λ cs. record { vcids = vcids; counts = cs }) (same-set (λ (d : AtLock). count_of d.own) desks place there next is (ap (λ (o : Own). count_of o) c.answer.1))
 
 -- as many desks as ids
-pub as-many : (vcids : List ℕ) (desks : List AtLock) → vcids_of (settings_of desks) ≡ vcids → length desks ≡ length vcids
+pub as-many : (vcids : List ℕ) (desks : List AtLock) → vcids_of (settings_of_desks desks) ≡ vcids → length desks ≡ length vcids
 as-many vcids desks ids =
-    sym (length-map desks (λ (o : AtLock). o.own.seen.head.settings)) ∙ (sym (length-map (settings_of desks) (λ (s : Settings). s.vcid)) ∙ ap (length {A = ℕ}) ids)
+    sym (length-map desks (λ (o : AtLock). o.own.seen.head.settings)) ∙ (sym (length-map (settings_of_desks desks) (λ (s : Settings). s.vcid)) ∙ ap (length {A = ℕ}) ids)
 
 -- the desk of this place has this id
-pub id-of : (vcids : List ℕ) (desks : List AtLock) (place vcid : ℕ) (there : AtLock) → vcids_of (settings_of desks) ≡ vcids → there ≡ get_or desks place there → position (λ v. v == vcid) vcids ≡ Some place
+pub id-of : (vcids : List ℕ) (desks : List AtLock) (place vcid : ℕ) (there : AtLock) → vcids_of (settings_of_desks desks) ≡ vcids → there ≡ get_or desks place there → position (λ v. v == vcid) vcids ≡ Some place
     → (place < length desks) × (there.own.seen.head.settings.vcid ≡ vcid)
 id-of vcids desks place vcid there ids is at =
     let found = position-Some (λ v. v == vcid) vcids place 0 at in
     let inside : place < length desks = omega (arith, found.0, as-many vcids desks ids) in
-    let within : place < length (settings_of desks) = omega (arith, inside, length-map desks (λ (o : AtLock). o.own.seen.head.settings)) in
+    let within : place < length (settings_of_desks desks) = omega (arith, inside, length-map desks (λ (o : AtLock). o.own.seen.head.settings)) in
     let here : get_or vcids place 0 ≡ there.own.seen.head.settings.vcid =
     ap (λ vs. get_or vs place 0) (sym ids)
-    ∙ (get_or-map (λ (s : Settings). s.vcid) (settings_of desks) place there.own.seen.head.settings 0 within
+    ∙ (get_or-map (λ (s : Settings). s.vcid) (settings_of_desks desks) place there.own.seen.head.settings 0 within
     ∙ (ap (λ (s : Settings). s.vcid) (get_or-map (λ (o : AtLock). o.own.seen.head.settings) desks place there there.own.seen.head.settings inside)
     ∙ ap (λ (o : AtLock). o.own.seen.head.settings.vcid) (sym is))) in
     (inside, sym here ∙ eqb-true (get_or vcids place 0) vcid found.1)
 
-pub call-at : {R F : Type 0} (e : Event) (ok : Moment → R → Type 0) (err : Moment → F → Type 0) (vcids : List ℕ) (desks : List AtLock) (place vcid : ℕ) (there next : AtLock) (r : Result R F) → vcids_of (settings_of desks) ≡ vcids
+pub call-at : {R F : Type 0} (e : Event) (ok : Moment → R → Type 0) (err : Moment → F → Type 0) (vcids : List ℕ) (desks : List AtLock) (place vcid : ℕ) (there next : AtLock) (r : Result R F) → vcids_of (settings_of_desks desks) ≡ vcids
     → there ≡ get_or desks place there → position (λ v. v == vcid) vcids ≡ Some place → IsCall e ok err there r next
     → IsCallAt place vcid e ok err (at_station vcids desks) r (at_station vcids (set desks place next))
 call-at e ok err vcids desks place vcid there next r ids is at c =

@@ -19,7 +19,7 @@ use Rattle.tc_desk.specs.Together.{column, nobody}
 use Rattle.tc_station.specs.Call.{IsCallAt, IsMetAt}
 use Rattle.tc_station.specs.Roster.{Roster}
 use Rattle.tc_station.specs.Tally.{AtStation}
-use Rattle.tc_station.specs.Through.{IsClosedSince, IsRead, IsShownIn}
+use Rattle.tc_station.specs.Through.{IsClosedSince, IsWordRead, IsShownIn}
 use Rattle.tc_station.specs.Together.{crews_of}
 
 prefix-trans : (es fs gs : List Event) → IsPrefix es fs → IsPrefix fs gs → IsPrefix es gs
@@ -97,7 +97,7 @@ taken-front (e ∷ es) fs (g ∷ gs) is =
 
 -- a CLCW that was read before a meeting is that of a place in what was given out
 pub shown : (station : Roster) (place vcid : ℕ) (link : Link) (early late met : Watching) (word : ℕ) (before after : AtStation) (channel : History)
-    → IsRead link early word late → IsMetAt place vcid late before met after → IsClosedSince station place after channel → IsShownIn channel early link word
+    → IsWordRead link early word late → IsMetAt place vcid late before met after → IsClosedSince station place after channel → IsShownIn channel early link word
 shown station place vcid link early late met word before after channel (later, of) m since =
     let at = ap (λ (l : List AtLock). slice_get l place) m.others ∙ set-there before.desks place m.there m.next m.was in
     let seen = seen-in-closed station place after channel m.next at since in

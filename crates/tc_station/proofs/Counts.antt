@@ -11,7 +11,7 @@ use Rattle.tc_station.specs.Tally.{raised, raised_at}
 use Rattle.tc_station.specs.Location.{IsLocated, IsLocateFault}
 use Rattle.tc_link.specs.declared.location.LocateFault.{LocateFault}
 use Rattle.tc_link.specs.declared.location.LocateFault.TheVariants.{Frame, OtherSpacecraft, UnknownChannel}
-use Rattle.tc_station.specs.Work.{is_for, raised_by}
+use Rattle.tc_station.specs.Work.{is_frame_for, raised_by}
 
 front : (octets frame : List ℕ) (k : ℕ) → frame ≡ take (length frame) octets → k < length frame → get_or octets k 0 ≡ get_or frame k 0
 front octets frame k e lt = sym (ap (λ xs. get_or xs k 0) e ∙ get_or-take (length frame) octets k 0 lt)
@@ -52,7 +52,7 @@ both : (x : Option FrameFault) (a s b u v : ℕ) → x ≡ None → a ≡ s → 
 both x a s b u v p q r = (λ i. is_none (p i) && ((q i == s) && (r i == v))) ∙ ap (λ t. t && (u == v)) (eq-eqb s s refl)
 
 -- octets for one channel are for another only if it is the same
-pub for-located : (station : Roster) (octets frame : List ℕ) (u v : ℕ) → IsLocated station octets u frame → is_for station v octets ≡ (u == v)
+pub for-located : (station : Roster) (octets frame : List ℕ) (u v : ℕ) → IsLocated station octets u frame → is_frame_for station v octets ≡ (u == v)
 for-located station octets frame u v l =
     let h = same-header octets frame l.0.0 in
     both (fault_of octets) (header_of octets).scid station.scid (header_of octets).vcid u v (no-fault octets frame l.0.0) (ap (λ x. x.scid) h ∙ l.0.1) (ap (λ x. x.vcid) h ∙ l.1)
@@ -64,7 +64,7 @@ and-false : (a b : Bool) → b ≡ false → (a && b) ≡ false
 and-false true b e = e
 and-false false b e = refl
 
-pub for-nobody : (station : Roster) (octets : List ℕ) (f : LocateFault) (v : ℕ) → Contains station.vcids v → IsLocateFault station octets f → is_for station v octets ≡ false
+pub for-nobody : (station : Roster) (octets : List ℕ) (f : LocateFault) (v : ℕ) → Contains station.vcids v → IsLocateFault station octets f → is_frame_for station v octets ≡ false
 for-nobody station octets (Frame f) v there fault = ap (λ x. is_none x && ((header_of octets).scid == station.scid && (header_of octets).vcid == v)) fault
 for-nobody station octets OtherSpacecraft v there fault =
     let h = same-header octets fault.0 fault.1 in

@@ -8,13 +8,13 @@ use Rattle.tc_channel.specs.declared.event.Event.TheVariants.{Release}
 use Rattle.tc_channel.specs.Journal.{History}
 use Rattle.tc_desk.specs.Log.{AtLock, Identity, Moment, Own}
 use Rattle.tc_desk.specs.Call.{HasMet, HasSeenNoMore, IsCall, IsMeeting, IsMetCall}
-use Rattle.tc_desk.specs.Together.{heads_of, locks_of, settings_of}
+use Rattle.tc_desk.specs.Together.{heads_of, locks_of, settings_of_desks}
 use Rattle.tc_status.specs.Board.{Watching}
 use Rattle.tc_station.specs.Call.{IsCallAt, IsMetAt, IsMetCallAt}
 use Rattle.tc_station.specs.Moments.{IsWatcherOf}
 use Rattle.tc_station.specs.Roster.{Roster, IsPlace}
 use Rattle.tc_station.specs.StationSettings.{vcids_of}
-use Rattle.tc_station.specs.Tally.{at_station, counted, tally}
+use Rattle.tc_station.specs.Tally.{at_station, tallied, tally}
 use Rattle.tc_station.proofs.Called.{counted-by, head-kept, id-of, locks-kept, refused-by, same-set, settings-kept}
 
 -- a meeting is a call that was refused
@@ -47,7 +47,7 @@ pub watcher-kept : (station : Roster) (place vcid : ℕ) (there next : AtLock) (
 watcher-kept station place vcid there next late at known head met =
     (there.own.seen.head, (place, at, known), met.0 ∙ ap (λ (h : Identity). h.board) head, ap (λ (h : History). h.settings) met.1 ∙ ap (λ (h : Identity). h.settings) head)
 
-pub met-at : (vcids : List ℕ) (desks : List AtLock) (place vcid : ℕ) (early late : Watching) (there next : AtLock) → vcids_of (settings_of desks) ≡ vcids → there ≡ get_or desks place there → place < length desks
+pub met-at : (vcids : List ℕ) (desks : List AtLock) (place vcid : ℕ) (early late : Watching) (there next : AtLock) → vcids_of (settings_of_desks desks) ≡ vcids → there ≡ get_or desks place there → place < length desks
     → there.own.seen.head.settings.vcid ≡ vcid → IsMeeting early there late next → IsMetAt place vcid early (at_station vcids desks) late (at_station vcids (set desks place next))
 met-at vcids desks place vcid early late there next ids is inside named m =
     record { there = there; next = next; was = slice_get_read desks (length desks) place there refl inside is; named = named; meeting = m; others = refl; vcids = refl }
@@ -66,7 +66,7 @@ module _ {R F : Type 0} (e : Event) (ok : Moment → R → Type 0) (err : Moment
   abbrev Err-met : Moment → F → Type 0
   Err-met m f = err m f × HasSeenNoMore early m
 
-  pub met-settings : settings_of (set desks place next) ≡ settings_of desks
+  pub met-settings : settings_of_desks (set desks place next) ≡ settings_of_desks desks
   met-settings = settings-kept e Ok-met Err-met desks place there next r is c.call
 
   pub met-locks : locks_of (set desks place next) ≡ locks_of desks
@@ -79,13 +79,13 @@ module _ {R F : Type 0} (e : Event) (ok : Moment → R → Type 0) (err : Moment
   met-head = head-kept e Ok-met Err-met there next r c.call
 
   pub met-counted : (vcids : List ℕ) (vcid : ℕ) → place < length desks → position (λ v. v == vcid) vcids ≡ Some place
-      → OnOk r (tally (at_station vcids (set desks place next)) ≡ counted vcid (tally (at_station vcids desks)))
+      → OnOk r (tally (at_station vcids (set desks place next)) ≡ tallied vcid (tally (at_station vcids desks)))
   met-counted vcids vcid inside at = counted-by e Ok-met Err-met vcids desks place vcid there next r is inside at c.call
 
   pub met-refused : (vcids : List ℕ) → OnErr r (tally (at_station vcids (set desks place next)) ≡ tally (at_station vcids desks))
   met-refused vcids = refused-by e Ok-met Err-met vcids desks place there next r is c.call
 
-  pub met-call : (vcids : List ℕ) (vcid : ℕ) → vcids_of (settings_of desks) ≡ vcids → position (λ v. v == vcid) vcids ≡ Some place
+  pub met-call : (vcids : List ℕ) (vcid : ℕ) → vcids_of (settings_of_desks desks) ≡ vcids → position (λ v. v == vcid) vcids ≡ Some place
       → IsMetCallAt place vcid e ok err early (at_station vcids desks) r late (at_station vcids (set desks place next))
   met-call vcids vcid ids at =
       let id = id-of vcids desks place vcid there ids is at in
@@ -100,7 +100,7 @@ module _ (early late : Watching) (desks : List AtLock) (place : ℕ) (there next
   abbrev Err-meeting : Moment → Unit {0} → Type 0
   Err-meeting now done = HasSeenNoMore early now
 
-  pub meeting-settings : settings_of (set desks place next) ≡ settings_of desks
+  pub meeting-settings : settings_of_desks (set desks place next) ≡ settings_of_desks desks
   meeting-settings = settings-kept Release Ok-meeting Err-meeting desks place there next (Err tt) is (as-call early there late next m)
 
   pub meeting-locks : locks_of (set desks place next) ≡ locks_of desks

@@ -9,7 +9,7 @@ use Rattle.std.proofs.lemmas.List.Sums.{sum_by-cons}
 use Rattle.std.proofs.lemmas.List.Quantifiers.{position-Some}
 use Rattle.std.proofs.lemmas.Grind.{common_steps}
 use Rattle.tc_station.specs.Roster.{Roster, IsPlace}
-use Rattle.tc_station.specs.Tally.{Tally, AtStation, IsOurs, tally, counted, raised}
+use Rattle.tc_station.specs.Tally.{Tally, AtStation, IsOurs, tally, tallied, raised}
 use Rattle.tc_station.specs.Lowest.{lower}
 use Rattle.tc_station.specs.declared.work.Order.{Order}
 use Rattle.tc_station.specs.declared.work.Order.TheVariants.{Bring, Release, Take, TakeUnit}
@@ -85,7 +85,7 @@ pub moved-worked : (station : Roster) (fl gl : List WorkList) (a b : Option ℕ)
 moved-worked station fl gl a b fo go z w p q r = (w.0, w.1 ∙ p, w.2 ∙ r, w.3, w.4, w.5 ∙ q)
 
 -- what one job does to the count of a channel
-tally-counted : (station : Roster) (u : ℕ) (a : Tally) → IsTallyOf station a → IsTallyOf station (counted u a)
+tally-counted : (station : Roster) (u : ℕ) (a : Tally) → IsTallyOf station a → IsTallyOf station (tallied u a)
 tally-counted station u a f = record { vcids = f.vcids; counts = raised-length (position (λ w. w == u) a.vcids) a.counts ∙ f.counts }
 
 tried-kept : (station : Roster) (vcid : ℕ) (a b : Tally) → IsTried vcid a b → IsTallyOf station a → IsTallyOf station b
@@ -99,32 +99,32 @@ tally-kept station vcid Release a b d f = tried-kept station vcid a b d f
 tally-kept station vcid (Take apid) a b d f = tried-kept station vcid a b d f
 tally-kept station vcid (TakeUnit map_id) a b d f = tried-kept station vcid a b d f
 
-counted-here : (station : Roster) (u v place : ℕ) (a : Tally) → IsTallyOf station a → IsPlace station v place → u ≡ v → slice_index (counted u a).counts place ≡ raised (slice_index a.counts place)
+counted-here : (station : Roster) (u v place : ℕ) (a : Tally) → IsTallyOf station a → IsPlace station v place → u ≡ v → slice_index (tallied u a).counts place ≡ raised (slice_index a.counts place)
 counted-here station u v place a f at same =
     let there : position (λ w. w == u) a.vcids ≡ Some place = (λ i. position (λ w. w == same i) (f.vcids i)) ∙ at in
     let inside = (position-Some (λ w. w == v) station.vcids place 0 at).0 in
     raised-here (position (λ w. w == u) a.vcids) a.counts place there (omega (arith, f.counts, ap (length {A = ℕ}) f.vcids))
 
-counted-else : (station : Roster) (u v place : ℕ) (a : Tally) → IsTallyOf station a → IsPlace station v place → (u ≡ v → ⊥) → slice_index (counted u a).counts place ≡ slice_index a.counts place
+counted-else : (station : Roster) (u v place : ℕ) (a : Tally) → IsTallyOf station a → IsPlace station v place → (u ≡ v → ⊥) → slice_index (tallied u a).counts place ≡ slice_index a.counts place
 counted-else station u v place a f at other =
     raised-else (position (λ w. w == u) a.vcids) a.counts place (λ e.
     let mine = (position-Some (λ w. w == u) station.vcids place 0 (ap (λ vs. position (λ w. w == u) vs) (sym f.vcids) ∙ e)).1 in
     let theirs = (position-Some (λ w. w == v) station.vcids place 0 at).1 in
     other (sym (eqb-true (slice_index station.vcids place) u mine) ∙ eqb-true (slice_index station.vcids place) v theirs))
 
-bring-step : (station : Roster) (u v place : ℕ) (a : Tally) → IsTallyOf station a → IsPlace station v place → Between (cond (u == v) 1 0) 0 (slice_index a.counts place) (slice_index (counted u a).counts place)
+bring-step : (station : Roster) (u v place : ℕ) (a : Tally) → IsTallyOf station a → IsPlace station v place → Between (cond (u == v) 1 0) 0 (slice_index a.counts place) (slice_index (tallied u a).counts place)
 bring-step station u v place a f at = elim (eqb_tells u v) [
-  | inl h ↦ subst (λ t. Between (cond t 1 0) 0 (slice_index a.counts place) (slice_index (counted u a).counts place)) (sym h.0)
+  | inl h ↦ subst (λ t. Between (cond t 1 0) 0 (slice_index a.counts place) (slice_index (tallied u a).counts place)) (sym h.0)
       (subst (Between 1 0 (slice_index a.counts place)) (sym (counted-here station u v place a f at h.1)) (between-one (slice_index a.counts place)))
-  | inr h ↦ subst (λ t. Between (cond t 1 0) 0 (slice_index a.counts place) (slice_index (counted u a).counts place)) (sym h.0)
+  | inr h ↦ subst (λ t. Between (cond t 1 0) 0 (slice_index a.counts place) (slice_index (tallied u a).counts place)) (sym h.0)
       (subst (Between 0 0 (slice_index a.counts place)) (sym (counted-else station u v place a f at h.1)) (between-none 0 (slice_index a.counts place)))
 ]
 
-other-step : (station : Roster) (u v place : ℕ) (a : Tally) → IsTallyOf station a → IsPlace station v place → Between 0 (cond (u == v) 1 0) (slice_index a.counts place) (slice_index (counted u a).counts place)
+other-step : (station : Roster) (u v place : ℕ) (a : Tally) → IsTallyOf station a → IsPlace station v place → Between 0 (cond (u == v) 1 0) (slice_index a.counts place) (slice_index (tallied u a).counts place)
 other-step station u v place a f at = elim (eqb_tells u v) [
-  | inl h ↦ subst (λ t. Between 0 (cond t 1 0) (slice_index a.counts place) (slice_index (counted u a).counts place)) (sym h.0)
+  | inl h ↦ subst (λ t. Between 0 (cond t 1 0) (slice_index a.counts place) (slice_index (tallied u a).counts place)) (sym h.0)
       (subst (Between 0 1 (slice_index a.counts place)) (sym (counted-here station u v place a f at h.1)) (between-other (slice_index a.counts place)))
-  | inr h ↦ subst (λ t. Between 0 (cond t 1 0) (slice_index a.counts place) (slice_index (counted u a).counts place)) (sym h.0)
+  | inr h ↦ subst (λ t. Between 0 (cond t 1 0) (slice_index a.counts place) (slice_index (tallied u a).counts place)) (sym h.0)
       (subst (Between 0 0 (slice_index a.counts place)) (sym (counted-else station u v place a f at h.1)) (between-none 0 (slice_index a.counts place)))
 ]
 
@@ -147,7 +147,7 @@ step : (station : Roster) (own : ℕ) (order : Order) (a b : Tally) → IsDone s
     → JobRaises station own v order (slice_index a.counts place) (slice_index b.counts place)
 step station own (Bring octets) a b (inl d) f v place at =
     subst (λ t. JobRaises station own v (Bring octets) (slice_index a.counts place) (slice_index t.counts place)) (sym d.3)
-    (subst (λ t. Between (cond t 1 0) 0 (slice_index a.counts place) (slice_index (counted d.0 a).counts place)) (sym (for-located station octets d.1 d.0 v d.2)) (bring-step station d.0 v place a f at))
+    (subst (λ t. Between (cond t 1 0) 0 (slice_index a.counts place) (slice_index (tallied d.0 a).counts place)) (sym (for-located station octets d.1 d.0 v d.2)) (bring-step station d.0 v place a f at))
 step station own (Bring octets) a b (inr d) f v place at =
     subst (λ t. JobRaises station own v (Bring octets) (slice_index a.counts place) (slice_index t.counts place)) (sym d.2)
     (subst (λ t. Between (cond t 1 0) 0 (slice_index a.counts place) (slice_index a.counts place)) (sym (for-nobody station octets d.0 v (is-there station v place at) d.1)) (between-none 0 (slice_index a.counts place)))

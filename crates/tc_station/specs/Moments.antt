@@ -31,18 +31,18 @@ IsBroughtWatched station octets vcid reply seen =
     × AtSomeMomentOf vcid (λ s journal. (reply ≡ frame_reply s journal frame) × (seen ≡ with_event (record { settings = s; journal = journal }) (Frame frame)))
 
 -- a data field waited, and this became of it
-abbrev pub IsReleased : Roster → ℕ → Delivery → Type 0
-IsReleased station vcid delivery =
+abbrev pub IsReleasedAtStation : Roster → ℕ → Delivery → Type 0
+IsReleasedAtStation station vcid delivery =
     Contains station.vcids vcid × AtSomeMomentOf vcid (λ s journal. (buffered_fields s journal ≢ []) × (delivery ≡ release_reply s journal))
 
 -- the packet is the oldest that waited
-abbrev pub IsTaken : Roster → ℕ → ℕ → List ℕ → Type 0
-IsTaken station vcid apid packet =
+abbrev pub IsTakenAtStation : Roster → ℕ → ℕ → List ℕ → Type 0
+IsTakenAtStation station vcid apid packet =
     Contains station.vcids vcid × AtSomeMomentOf vcid (λ s journal. take_reply s journal apid ≡ Some packet)
 
 -- the unit is the oldest that waited on this MAP (the MAP Access Service of CCSDS 232.0-B)
-abbrev pub IsUnitTaken : Roster → ℕ → ℕ → List ℕ → Type 0
-IsUnitTaken station vcid map_id unit =
+abbrev pub IsUnitTakenAtStation : Roster → ℕ → ℕ → List ℕ → Type 0
+IsUnitTakenAtStation station vcid map_id unit =
     Contains station.vcids vcid × AtSomeMomentOf vcid (λ s journal. unit_reply s journal map_id ≡ Some unit)
 
 -- the watcher has seen a moment of a channel

@@ -33,8 +33,8 @@ abbrev pub arrival : AtLock → AtLock
 arrival post = record { lock = post.lock; own = record { seen = post.own.seen; made = []; issued = 0 } }
 
 -- the same at each of these desks
-abbrev pub newcomer : List ℕ → List AtLock → AtStation
-newcomer vcids posts = at_station vcids (map arrival posts)
+abbrev pub newcomer_at_desks : List ℕ → List AtLock → AtStation
+newcomer_at_desks vcids posts = at_station vcids (map arrival posts)
 
 -- so many operators more were issued from each of these posts
 abbrev pub issued_more : ℕ → List AtLock → List AtLock
@@ -68,5 +68,5 @@ raised_at (Some place) counts = slice_set counts place (raised (slice_index coun
 raised_at None counts = counts
 
 -- one operation more on a channel
-abbrev pub counted : ℕ → Tally → Tally
-counted vcid t = record t { counts = raised_at (position (λ v. v == vcid) t.vcids) t.counts }
+abbrev pub tallied : ℕ → Tally → Tally
+tallied vcid t = record t { counts = raised_at (position (λ v. v == vcid) t.vcids) t.counts }

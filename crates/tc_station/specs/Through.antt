@@ -36,8 +36,8 @@ abbrev pub IsAnsweredIn : History → Event → (List Event → Type 0) → Type
 IsAnsweredIn channel e Answers = (n : ℕ) × (slice_get channel.journal n ≡ Some e) × Answers (take n channel.journal)
 
 -- the watcher read this CLCW, with these flags of the link, of all that it has seen then, which goes on from what it had seen
-abbrev pub IsRead : Link → Watching → ℕ → Watching → Type 0
-IsRead link early word late = board.IsBeginning early.seen late.seen × (word ≡ clcw late.seen.settings late.seen.journal link)
+abbrev pub IsWordRead : Link → Watching → ℕ → Watching → Type 0
+IsWordRead link early word late = board.IsEarlier early.seen late.seen × (word ≡ clcw late.seen.settings late.seen.journal link)
 
 -- the CLCW is that of a place in the channel's journal, which isn't before all that the watcher had seen
 abbrev pub IsShownIn : History → Watching → Link → ℕ → Type 0

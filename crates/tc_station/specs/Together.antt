@@ -3,7 +3,7 @@ use Rattle.std.specs.Prelude.{◌<◌, ◌≤◌, ◌⊎◌, ◌-◌, ◌^◌, �
 use Rattle.logged_lock.specs.Log.{total_made}
 use Rattle.tc_channel.specs.Journal.{History}
 use Rattle.tc_desk.specs.Log.{AtLock, accounts_of}
-use Rattle.tc_desk.specs.Together.{AreClosed, IsRefusal, column}
+use Rattle.tc_desk.specs.Together.{AreClosed, IsClosingRefusal, column}
 use Rattle.tc_desk.specs.declared.together.Refusal.{Refusal}
 use Rattle.tc_station.specs.Roster.{Roster, ArePostsOf}
 use Rattle.tc_station.specs.Tally.{AtStation}
@@ -18,9 +18,9 @@ AreClosedTogether station operators closed = (posts : List AtLock) × ArePostsOf
 
 -- where counts are the reason, there were moments of the desks, all at once, at which one of them wasn't balanced
 abbrev pub IsNotClosedTogether : Roster → List AtStation → Refusal → Type 0
-IsNotClosedTogether station operators refusal = (posts : List AtLock) × ArePostsOf station posts × IsRefusal posts (crews_of operators) refusal
+IsNotClosedTogether station operators refusal = (posts : List AtLock) × ArePostsOf station posts × IsClosingRefusal posts (crews_of operators) refusal
 
 -- the cause of an imbalance: not all operators that the station issued are among them, or they have made too many events of a channel
 -- for a count
-abbrev pub IsCause : Roster → List AtStation → Type 0
-IsCause station operators = (length operators < station.issued) ⊎ ((place : ℕ) × (2 ^ 64 - 1 ≤ total_made (accounts_of (column place (crews_of operators)))))
+abbrev pub IsCauseAtStation : Roster → List AtStation → Type 0
+IsCauseAtStation station operators = (length operators < station.issued) ⊎ ((place : ℕ) × (2 ^ 64 - 1 ≤ total_made (accounts_of (column place (crews_of operators)))))

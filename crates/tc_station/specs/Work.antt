@@ -3,7 +3,7 @@ use Rattle.std.specs.Prelude.{◌≡◌, ℕ, ◌+◌, ◌≤◌, ◌==◌, ◌&
 use Rattle.std.specs.List.{AllByRecursion}
 use Rattle.tc_link.specs.Frame.{header_of, fault_of}
 use Rattle.tc_station.specs.Roster.{Roster}
-use Rattle.tc_station.specs.Tally.{Tally, AtStation, tally, counted, IsOurs}
+use Rattle.tc_station.specs.Tally.{Tally, AtStation, tally, tallied, IsOurs}
 use Rattle.tc_station.specs.Lowest.{lower}
 use Rattle.tc_station.specs.Location.{IsLocated, IsLocateFault}
 use Rattle.tc_station.specs.Tried.{IsListMade}
@@ -17,12 +17,12 @@ use Rattle.tc_station.specs.declared.work.WorkList.{WorkList}
 
 -- an operation on this channel was answered and counted, or refused
 abbrev pub IsTried : ℕ → Tally → Tally → Type 0
-IsTried vcid before after = (after ≡ counted vcid before) ⊎ (after ≡ before)
+IsTried vcid before after = (after ≡ tallied vcid before) ⊎ (after ≡ before)
 
 -- what a job of this channel's list that memory didn't refuse does to the counts
 abbrev pub IsDone : Roster → ℕ → Order → Tally → Tally → Type 0
 IsDone station vcid (Bring octets) before after =
-    ((v : ℕ) × (frame : List ℕ) × IsLocated station octets v frame × (after ≡ counted v before))
+    ((v : ℕ) × (frame : List ℕ) × IsLocated station octets v frame × (after ≡ tallied v before))
     ⊎ ((f : LocateFault) × IsLocateFault station octets f × (after ≡ before))
 IsDone station vcid Release before after = IsTried vcid before after
 IsDone station vcid (Take apid) before after = IsTried vcid before after
@@ -80,15 +80,15 @@ AreWorked station lists line befores afters =
     (shifts : List Shift) × (map (λ s. s.list) shifts ≡ lists) × (map (λ s. s.before) shifts ≡ befores) × (map (λ s. s.after) shifts ≡ afters)
     × AllByRecursion (IsShift station) shifts × (lowest shifts ≡ line)
 
-abbrev pub line_of : WorkFault → ℕ
-line_of (NoMemory line) = line
+abbrev pub line_of_fault : WorkFault → ℕ
+line_of_fault (NoMemory line) = line
 
 -- the octets begin with a frame for this channel
-abbrev pub is_for : Roster → ℕ → List ℕ → Bool
-is_for station vcid octets = is_none (fault_of octets) && ((header_of octets).scid == station.scid && ((header_of octets).vcid == vcid))
+abbrev pub is_frame_for : Roster → ℕ → List ℕ → Bool
+is_frame_for station vcid octets = is_none (fault_of octets) && ((header_of octets).scid == station.scid && ((header_of octets).vcid == vcid))
 
 abbrev pub brings_to : Roster → ℕ → Order → Bool
-brings_to station vcid (Bring octets) = is_for station vcid octets
+brings_to station vcid (Bring octets) = is_frame_for station vcid octets
 brings_to station vcid Release = false
 brings_to station vcid (Take apid) = false
 brings_to station vcid (TakeUnit map_id) = false

@@ -1,11 +1,11 @@
 //! Operators: who makes operations on the channels of a station.
 
 ghost use Rattle.std.specs.Prelude.{◌≡◌, ◌==◌, ◌<◌, ◌≤◌, [], vec_capacity, length, map, position, slice_index, IfOk, MatchOption, Contains};
-ghost use Rattle.tc_desk.specs.Log.{issued_one};
-ghost use Rattle.tc_desk.specs.Together.{settings_of};
+ghost use Rattle.tc_desk.specs.Log.{with_one_issued};
+ghost use Rattle.tc_desk.specs.Together.{settings_of_desks};
 ghost use Rattle.tc_station.specs.StationSettings.{vcids_of};
 ghost use Rattle.tc_station.specs.Room.{IsRoomFor};
-ghost use Rattle.tc_station.specs.Tally.{count_in, tally, newcomer, arrival};
+ghost use Rattle.tc_station.specs.Tally.{count_in, tally, newcomer_at_desks, arrival};
 
 use std::alloc::{AllocError, Global};
 use std::marker::Model;
@@ -23,7 +23,7 @@ pub struct Operator {
 
 impl Model for Operator {
     ghost use Rattle.std.specs.Prelude.{◌≡◌};
-    ghost use Rattle.tc_desk.specs.Together.{settings_of};
+    ghost use Rattle.tc_desk.specs.Together.{settings_of_desks};
     ghost use Rattle.tc_station.specs.StationSettings.{vcids_of};
     ghost use Rattle.tc_station.specs.Tally.{AtStation, at_station};
 
@@ -31,7 +31,7 @@ impl Model for Operator {
 
     ghost view = { λ o. at_station o.vcids.items o.desks.items };
 
-    ghost invariant = { λ o. vcids_of (settings_of o.desks.items) ≡ o.vcids.items };
+    ghost invariant = { λ o. vcids_of (settings_of_desks o.desks.items) ≡ o.vcids.items };
 }
 
 impl Crew for Operator {
@@ -80,7 +80,7 @@ fn desk_operators<J: Journal>(
 ) -> Vec<DeskOperator>
     requires empty { operators.items ≡ [] }
     requires room { length posts.old ≤ vec_capacity operators }
-    ensures issued { posts.new ≡ map issued_one posts.old }
+    ensures issued { posts.new ≡ map with_one_issued posts.old }
     ensures operators { result.items ≡ map arrival posts.old }
 {
     for place in 0..posts.len() {
@@ -92,9 +92,9 @@ fn desk_operators<J: Journal>(
 impl Operator {
     /// An operator that has made nothing, and has seen what the keepers of these desks have seen.
     pub(crate) fn new<J: Journal>(room: Room, posts: &mut [Post<J>]) -> Operator
-        requires room { IsRoomFor (vcids_of (settings_of posts.old)) room }
-        ensures issued { posts.new ≡ map issued_one posts.old }
-        ensures operator { result ≡ newcomer (vcids_of (settings_of posts.old)) posts.old }
+        requires room { IsRoomFor (vcids_of (settings_of_desks posts.old)) room }
+        ensures issued { posts.new ≡ map with_one_issued posts.old }
+        ensures operator { result ≡ newcomer_at_desks (vcids_of (settings_of_desks posts.old)) posts.old }
     {
         let Room { vcids, desks } = room;
         let desks = desk_operators(desks, posts);

@@ -4,12 +4,12 @@ ghost use Rattle.std.specs.Prelude.{◌≡◌, ◌≤◌, ◌<◌, ◌+◌, ◌�
 ghost use Rattle.tc_channel.specs.Settings.{IsAllowed};
 ghost use Rattle.tc_channel.specs.Run.{IsLawful};
 ghost use Rattle.tc_channel.specs.Reply.{BeginsWithBypassData, clcw};
-ghost use Rattle.tc_status.specs.Board.{IsBeginning};
+ghost use Rattle.tc_status.specs.Board.{IsEarlier};
 ghost use Rattle.tc_desk.specs.Call as at_desk;
-ghost use Rattle.tc_desk.specs.Together.{settings_of};
+ghost use Rattle.tc_desk.specs.Together.{settings_of_desks};
 ghost use Rattle.tc_station.specs.Roster.{IsDeskOf, IsPlace, settings_in};
 ghost use Rattle.tc_station.specs.Room.{IsRoomFor};
-ghost use Rattle.tc_station.specs.Tally.{HasMadeNothing, KnowsDesks, IsOurs, counted, fresh, issued_more, newcomer, tally};
+ghost use Rattle.tc_station.specs.Tally.{HasMadeNothing, KnowsDesks, IsOurs, tallied, fresh, issued_more, newcomer_at_desks, tally};
 ghost use Rattle.tc_station.specs.Call.{IsBringCall, IsCallAt, IsCallOn, IsMetAt, IsMetCallAt, IsNotBrought, IsNotBroughtWatched, IsNotReleased, IsNotTaken, IsReplied, IsRepliedWatched, IsUnitNotTaken};
 ghost use Rattle.tc_station.specs.Balance.{AreInBalance};
 ghost use Rattle.tc_channel.specs.Journal.{IsNumberTold};
@@ -81,7 +81,7 @@ pub struct StillOpen<J: Journal> {
 
 impl<J: Journal> Model for StationOf<J> {
     ghost use Rattle.std.specs.Prelude.{◌≡◌, vec_len};
-    ghost use Rattle.tc_desk.specs.Together.{locks_of, heads_of, settings_of};
+    ghost use Rattle.tc_desk.specs.Together.{locks_of, heads_of, settings_of_desks};
     ghost use Rattle.tc_station.specs.Roster.{Roster, HaveIssued};
     ghost use Rattle.tc_station.specs.StationSettings.{vcids_of};
 
@@ -89,15 +89,15 @@ impl<J: Journal> Model for StationOf<J> {
 
     ghost view = { λ s. record { scid = s.scid; vcids = s.vcids.items; issued = s.issued; locks = locks_of s.desks.items; heads = heads_of s.desks.items } };
 
-    ghost invariant = { λ s. (vec_len s.desks ≡ vec_len s.vcids) × (vcids_of (settings_of s.desks.items) ≡ s.vcids.items) × HaveIssued s.issued s.desks.items };
+    ghost invariant = { λ s. (vec_len s.desks ≡ vec_len s.vcids) × (vcids_of (settings_of_desks s.desks.items) ≡ s.vcids.items) × HaveIssued s.issued s.desks.items };
 }
 
 impl<J: Journal> StationOf<J> {
     ghost use Rattle.tc_station.specs.Location.{IsLocated, IsPlaced, IsLocateFault, IsBringFault};
-    ghost use Rattle.tc_station.specs.Moments.{AtSomeMomentOf, IsBrought, IsBroughtWatched, IsReleased, IsTaken, IsUnitTaken, IsWatched, IsWatcherOf};
+    ghost use Rattle.tc_station.specs.Moments.{AtSomeMomentOf, IsBrought, IsBroughtWatched, IsReleasedAtStation, IsTakenAtStation, IsUnitTakenAtStation, IsWatched, IsWatcherOf};
     ghost use Rattle.tc_station.specs.Faults.{IsReleaseRefused, IsTakeRefused, IsTakeUnitRefused, IsWatcherFault};
     ghost use Rattle.tc_station.specs.Holding.{IsHolding, IsHoldingOf, IsHoldingFault};
-    ghost use Rattle.tc_station.specs.Together.{AreClosedTogether, IsNotClosedTogether, IsCause};
+    ghost use Rattle.tc_station.specs.Together.{AreClosedTogether, IsNotClosedTogether, IsCauseAtStation};
     ghost use Rattle.tc_desk.specs.Log.{Moment};
     ghost use Rattle.tc_desk.specs.Call.{IsMoment};
 
@@ -172,7 +172,7 @@ impl<J: Journal> StationOf<J> {
         requires ours { IsOurs self.now operator.old }
         ensures answer { MatchResult result (λ brought. IsBrought self.now octets.now brought.vcid brought.reply) (IsBringFault self.now octets.now) }
         ensures call { IsBringCall self.now octets.now IsReplied (IsNotBrought J.grows) operator.old result operator.new }
-        ensures counted { IfOk result (λ brought. tally operator.new ≡ counted brought.vcid (tally operator.old)) }
+        ensures counted { IfOk result (λ brought. tally operator.new ≡ tallied brought.vcid (tally operator.old)) }
         ensures refused { OnErr result (tally operator.new ≡ tally operator.old) }
         ensures ours { IsOurs self.now operator.new }
         ensures answered { J.grows ≡ false → IsErrOf result BringFault.NoMemory → BeginsWithBypassData octets.now }
@@ -195,9 +195,9 @@ impl<J: Journal> StationOf<J> {
         vcid: u8,
     ) -> Result<Delivery, ReleaseRefused>
         requires ours { IsOurs self.now operator.old }
-        ensures answer { MatchResult result (IsReleased self.now vcid) (IsReleaseRefused self.now vcid) }
+        ensures answer { MatchResult result (IsReleasedAtStation self.now vcid) (IsReleaseRefused self.now vcid) }
         ensures call { IsCallOn self.now vcid Event.Release at_desk.IsReleased IsNotReleased ReleaseRefused.UnknownChannel operator.old result operator.new }
-        ensures counted { OnOk result (tally operator.new ≡ counted vcid (tally operator.old)) }
+        ensures counted { OnOk result (tally operator.new ≡ tallied vcid (tally operator.old)) }
         ensures refused { OnErr result (tally operator.new ≡ tally operator.old) }
         ensures ours { IsOurs self.now operator.new }
     {
@@ -217,9 +217,9 @@ impl<J: Journal> StationOf<J> {
         apid: u16,
     ) -> Result<Vec<u8>, TakeRefused>
         requires ours { IsOurs self.now operator.old }
-        ensures answer { MatchResult result (λ packet. IsTaken self.now vcid apid packet.items) (IsTakeRefused self.now vcid apid) }
-        ensures call { IsCallOn self.now vcid (Event.Take apid) (λ m packet. at_desk.IsTaken apid m packet.items) (IsNotTaken J.grows apid) TakeRefused.UnknownChannel operator.old result operator.new }
-        ensures counted { OnOk result (tally operator.new ≡ counted vcid (tally operator.old)) }
+        ensures answer { MatchResult result (λ packet. IsTakenAtStation self.now vcid apid packet.items) (IsTakeRefused self.now vcid apid) }
+        ensures call { IsCallOn self.now vcid (Event.Take apid) (λ m packet. at_desk.IsOldestPacket apid m packet.items) (IsNotTaken J.grows apid) TakeRefused.UnknownChannel operator.old result operator.new }
+        ensures counted { OnOk result (tally operator.new ≡ tallied vcid (tally operator.old)) }
         ensures refused { OnErr result (tally operator.new ≡ tally operator.old) }
         ensures ours { IsOurs self.now operator.new }
         ensures answered { J.grows ≡ false → IsErrOf result TakeRefused.NoMemory → ⊥ }
@@ -240,9 +240,9 @@ impl<J: Journal> StationOf<J> {
         map: u8,
     ) -> Result<Vec<u8>, TakeUnitRefused>
         requires ours { IsOurs self.now operator.old }
-        ensures answer { MatchResult result (λ unit. IsUnitTaken self.now vcid map unit.items) (IsTakeUnitRefused self.now vcid map) }
-        ensures call { IsCallOn self.now vcid (Event.TakeUnit map) (λ m unit. at_desk.IsUnitTaken map m unit.items) (IsUnitNotTaken J.grows map) TakeUnitRefused.UnknownChannel operator.old result operator.new }
-        ensures counted { OnOk result (tally operator.new ≡ counted vcid (tally operator.old)) }
+        ensures answer { MatchResult result (λ unit. IsUnitTakenAtStation self.now vcid map unit.items) (IsTakeUnitRefused self.now vcid map) }
+        ensures call { IsCallOn self.now vcid (Event.TakeUnit map) (λ m unit. at_desk.IsOldestUnit map m unit.items) (IsUnitNotTaken J.grows map) TakeUnitRefused.UnknownChannel operator.old result operator.new }
+        ensures counted { OnOk result (tally operator.new ≡ tallied vcid (tally operator.old)) }
         ensures refused { OnErr result (tally operator.new ≡ tally operator.old) }
         ensures ours { IsOurs self.now operator.new }
         ensures answered { J.grows ≡ false → IsErrOf result TakeUnitRefused.NoMemory → ⊥ }
@@ -273,7 +273,7 @@ impl<J: Journal> StationOf<J> {
     /// The moment is no earlier than that of the read before.
     pub fn watch(&self, watcher: &mut Watcher, link: Link) -> u32
         ensures board { watcher.new.board ≡ watcher.old.board }
-        ensures later { IsBeginning watcher.old.seen watcher.new.seen }
+        ensures later { IsEarlier watcher.old.seen watcher.new.seen }
         ensures word { result ≡ clcw watcher.new.seen.settings watcher.new.seen.journal link }
         ensures allowed { IsAllowed watcher.new.seen.settings }
         ensures lawful { IsLawful watcher.new.seen.settings watcher.new.seen.journal }
@@ -309,7 +309,7 @@ impl<J: Journal> StationOf<J> {
         requires ours { IsOurs self.now operator.old }
         ensures answer { MatchResult result (λ answer. IsBroughtWatched self.now octets.now answer.0.vcid answer.0.reply answer.1.seen) (IsBringFault self.now octets.now) }
         ensures call { IsBringCall self.now octets.now IsRepliedWatched IsNotBroughtWatched operator.old result operator.new }
-        ensures counted { IfOk result (λ answer. tally operator.new ≡ counted answer.0.vcid (tally operator.old)) }
+        ensures counted { IfOk result (λ answer. tally operator.new ≡ tallied answer.0.vcid (tally operator.old)) }
         ensures refused { OnErr result (tally operator.new ≡ tally operator.old) }
         ensures ours { IsOurs self.now operator.new }
     {
@@ -337,7 +337,7 @@ impl<J: Journal> StationOf<J> {
         requires knows { KnowsDesks self.now operator.old }
         requires watcher { IsWatcherOf self.now vcid watcher.old }
         ensures call { (place : ℕ) × IsPlace self.now vcid place × IsMetCallAt place vcid (O.event operation.now) (O.answers operation.now) (O.refuses operation.now) watcher.old operator.old result watcher.new operator.new }
-        ensures counted { OnOk result (tally operator.new ≡ counted vcid (tally operator.old)) }
+        ensures counted { OnOk result (tally operator.new ≡ tallied vcid (tally operator.old)) }
         ensures refused { OnErr result (tally operator.new ≡ tally operator.old) }
         ensures ours { IsOurs self.now operator.new }
         ensures knows { KnowsDesks self.now operator.new }
@@ -381,7 +381,7 @@ impl<J: Journal> StationOf<J> {
         requires ours { IsOurs self.now operator.old }
         requires place { IsPlace self.now vcid place }
         ensures call { IsCallAt place vcid (O.event operation.now) (O.answers operation.now) (O.refuses operation.now) operator.old result operator.new }
-        ensures counted { OnOk result (tally operator.new ≡ counted vcid (tally operator.old)) }
+        ensures counted { OnOk result (tally operator.new ≡ tallied vcid (tally operator.old)) }
         ensures refused { OnErr result (tally operator.new ≡ tally operator.old) }
         ensures ours { IsOurs self.now operator.new }
     {
@@ -451,7 +451,7 @@ impl<J: Journal> StationOf<J> {
         ensures channels { IfOk result (λ channels. map (λ c. c.settings) channels.items ≡ settings_in self) }
         ensures kept { IfErr result (λ left. (left.station ≡ self) × (left.operators.items ≡ operators.items)) }
         ensures refusal { IfErr result (λ left. IsNotClosedTogether self operators.items left.refusal) }
-        ensures cause { IfErr result (λ left. left.refusal ≡ Refusal.Unbalanced → IsCause self operators.items) }
+        ensures cause { IfErr result (λ left. left.refusal ≡ Refusal.Unbalanced → IsCauseAtStation self operators.items) }
     {
         let StationOf {
             alloc,
@@ -637,10 +637,10 @@ fn issue<J: Journal>(
     posts: &mut [Post<J>],
     n: u16,
 ) -> Result<Vec<Operator>, AllocError>
-    requires ids { vcids_of (settings_of posts.old) ≡ vcids.now }
+    requires ids { vcids_of (settings_of_desks posts.old) ≡ vcids.now }
     ensures issued { IfOk result (λ _. posts.new ≡ issued_more n posts.old) }
     ensures refused { IfErr result (λ _. posts.new ≡ posts.old) }
-    ensures operators { IfOk result (λ operators. operators.items ≡ replicate n (newcomer vcids.now posts.old)) }
+    ensures operators { IfOk result (λ operators. operators.items ≡ replicate n (newcomer_at_desks vcids.now posts.old)) }
 {
     let mut rooms = rooms(alloc, vcids, n)?;
     let mut operators = Vec::with_capacity(alloc, usize::from(n))?;

@@ -22,7 +22,7 @@ ghost use Rattle.tc_link.specs.declared.Link.{Link};
 ghost use Rattle.tc_station.specs.Call.{IsCallAt, IsMetAt, IsReplied, IsNotBrought, IsNotReleased, IsNotTaken, IsUnitNotTaken};
 ghost use Rattle.tc_station.specs.Roster.{Roster};
 ghost use Rattle.tc_station.specs.Tally.{AtStation};
-ghost use Rattle.tc_station.specs.Through.{IsAnsweredIn, IsClosedSince, IsRead, IsShownIn};
+ghost use Rattle.tc_station.specs.Through.{IsAnsweredIn, IsClosedSince, IsWordRead, IsShownIn};
 ghost use Rattle.tc_station.specs.Together.{AreClosedTogether, crews_of};
 
 use tc_channel::{what_was_passed_on_is_admitted_in_order, what_was_sent_is_given_in_order};
@@ -56,15 +56,15 @@ pub fn from_a_sender_to_packets()
         → IsClosedSince station place after channel
         → IsAnsweredIn channel Event.Release (λ journal. (buffered_fields channel.settings journal ≢ []) × (delivery ≡ release_reply channel.settings journal)) }
     ensures takes { (station : Roster) (place vcid apid : ℕ) (grows : Bool) (before after : AtStation) (packet : Vec ℕ) (channel : History)
-        → IsCallAt place vcid (Event.Take apid) (λ m p. at_desk.IsTaken apid m p.items) (IsNotTaken grows apid) before (Ok packet) after
+        → IsCallAt place vcid (Event.Take apid) (λ m p. at_desk.IsOldestPacket apid m p.items) (IsNotTaken grows apid) before (Ok packet) after
         → IsClosedSince station place after channel
         → IsAnsweredIn channel (Event.Take apid) (λ journal. take_reply channel.settings journal apid ≡ Some packet.items) }
     ensures units { (station : Roster) (place vcid map_id : ℕ) (grows : Bool) (before after : AtStation) (unit : Vec ℕ) (channel : History)
-        → IsCallAt place vcid (Event.TakeUnit map_id) (λ m u. at_desk.IsUnitTaken map_id m u.items) (IsUnitNotTaken grows map_id) before (Ok unit) after
+        → IsCallAt place vcid (Event.TakeUnit map_id) (λ m u. at_desk.IsOldestUnit map_id m u.items) (IsUnitNotTaken grows map_id) before (Ok unit) after
         → IsClosedSince station place after channel
         → IsAnsweredIn channel (Event.TakeUnit map_id) (λ journal. unit_reply channel.settings journal map_id ≡ Some unit.items) }
     ensures words { (station : Roster) (place vcid : ℕ) (link : Link) (early late met : Watching) (word : ℕ) (before after : AtStation) (channel : History)
-        → IsRead link early word late → IsMetAt place vcid late before met after → IsClosedSince station place after channel
+        → IsWordRead link early word late → IsMetAt place vcid late before met after → IsClosedSince station place after channel
         → IsShownIn channel early link word }
     ensures sent { (channel : History) (before later : List Event) (x : ℕ) (sent : ℕ → List ℕ) (apid : ℕ) (q : Queue) → IsLawful channel.settings channel.journal
         → IsEra channel.settings channel.journal before later x → ComesFromWithin no_limits channel.settings before later x sent

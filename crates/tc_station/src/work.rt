@@ -59,7 +59,7 @@ where
     J::Entry: Send,
 {
     ghost use Rattle.tc_station.specs.Tried.{IsListMade, IsJobMade, HasMadeTheSame};
-    ghost use Rattle.tc_station.specs.Work.{IsDone, MayWantMemory, IsWorked, AreManned, AreWorked, IsTallyOf, NoCountFalls, IsRaised, line_of};
+    ghost use Rattle.tc_station.specs.Work.{IsDone, MayWantMemory, IsWorked, AreManned, AreWorked, IsTallyOf, NoCountFalls, IsRaised, line_of_fault};
 
     /// Does each list of jobs in a thread of its own, with the operator of its place. A refusal other than for memory is
     /// passed over. A list whose job is refused for memory is given up there; the others are done in full, and the lowest such
@@ -75,7 +75,7 @@ where
         requires as_many { length operators.old.items ≡ length lists.now }
         requires ours { All (IsOurs self.now) operators.old.items }
         ensures worked { (line : Option ℕ) × AreWorked self.now lists.now line operators.old.items operators.new.items
-            × MatchResult result (λ _. line ≡ None) (λ fault. line ≡ Some (line_of fault)) }
+            × MatchResult result (λ _. line ≡ None) (λ fault. line ≡ Some (line_of_fault fault)) }
         ensures kept { map (λ o. o.vcids) operators.new.items ≡ map (λ o. o.vcids) operators.old.items }
         ensures ours { All (IsOurs self.now) operators.new.items }
         ensures risen { (k : ℕ) (o : AtStation) → k < length lists.now → NoCountFalls (tally (slice_index_or operators.old.items k o)) (tally (slice_index_or operators.new.items k o)) }

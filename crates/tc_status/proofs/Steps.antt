@@ -9,7 +9,7 @@ use Rattle.tc_channel.specs.Settings.{IsAllowed}
 use Rattle.tc_channel.specs.Journal.{History}
 use Rattle.tc_channel.specs.Run.{IsLawful}
 use Rattle.tc_status.specs.declared.board.View.{View}
-use Rattle.tc_status.specs.Board.{IsBeginning, status_word, view, spent, told, IsBehind, IsBoard, IsRead, IsCompared}
+use Rattle.tc_status.specs.Board.{IsEarlier, status_word, view, spent, with_told, IsBehind, IsBoard, IsRead, IsCompared}
 use Rattle.tc_status.proofs.Beginnings.{beginning-self, beginning-trans}
 
 abbrev pub Kept : State (Unit {0}) View → Type 0
@@ -26,7 +26,7 @@ first-stays [] id p w at live live' same = absurd (some-ne-none p (sym at))
 first-stays (x ∷ xs) zero p w at live live' same = (w, refl, live', same)
 first-stays (x ∷ xs) (suc id) p w at live live' same = (p, at, live, refl)
 
-behind-later : (p h : History) (v : View) → IsBeginning p h → IsBehind p v → IsBehind h v
+behind-later : (p h : History) (v : View) → IsEarlier p h → IsBehind p v → IsBehind h v
 behind-later p h v later behind = λ live. let b = behind live in (beginning-trans v.seen p h b.0 later, beginning-trans v.told p h b.1 later)
 
 behind-self : (h : History) → IsBehind h (view h)
@@ -57,14 +57,14 @@ opens word h is allowed law = record {
     one zero v e = subst (IsBehind h) (some-injective (view h) v e) (behind-self h)
     one (suc id) v e = absurd (some-ne-none v (sym e))
 
-pub publishes : (slots id : ℕ) (me : Me (Unit {0}) View) (h : History) (new : ℕ) → id ≡ 0 → new ≡ status_word h → IsLawful h.settings h.journal → IsBeginning me.0.seen h
+pub publishes : (slots id : ℕ) (me : Me (Unit {0}) View) (h : History) (new : ℕ) → id ≡ 0 → new ≡ status_word h → IsLawful h.settings h.journal → IsEarlier me.0.seen h
     → Allows Kept slots id me 0 (λ _. new) (λ _ w. w ≡ (view h, me.1))
 publishes slots id me h new is_first is law later = subst (λ (i : ℕ). Allows Kept slots i me 0 (λ _. new) (λ _ w. w ≡ (view h, me.1))) (sym is_first) at_zero
   where
     at_zero : Allows Kept slots 0 me 0 (λ _. new) (λ _ w. w ≡ (view h, me.1))
     at_zero s b len at small =
         let same : b.publisher ≡ me.0 = some-injective b.publisher me.0 (sym b.first ∙ at) in
-        let later' : IsBeginning b.publisher.seen h = subst (λ (v : View). IsBeginning v.seen h) (sym same) later in (
+        let later' : IsEarlier b.publisher.seen h = subst (λ (v : View). IsEarlier v.seen h) (sym same) later in (
           view h,
           keeps,
           tt,
@@ -127,12 +127,12 @@ reads slots id me live s b len at small =
       },
     )
 
-pub joins : (id : ℕ) (v : View) (other : ℕ) (w : View) → id ≡ 0 → v.live ≡ true → w.live ≡ true → Joins Kept id v other w (told v w) spent
-joins id v other w is_first live live' = subst (λ (i : ℕ). Joins Kept i v other w (told v w) spent) (sym is_first) at_zero
+pub joins : (id : ℕ) (v : View) (other : ℕ) (w : View) → id ≡ 0 → v.live ≡ true → w.live ≡ true → Joins Kept id v other w (with_told v w) spent
+joins id v other w is_first live live' = subst (λ (i : ℕ). Joins Kept i v other w (with_told v w) spent) (sym is_first) at_zero
   where
-    at_zero : Joins Kept 0 v other w (told v w) spent
+    at_zero : Joins Kept 0 v other w (with_told v w) spent
     at_zero s b at apart there =
-        let both = told v w in
+        let both = with_told v w in
         let same : b.publisher ≡ v = some-injective b.publisher v (sym b.first ∙ at) in
         let seen : b.publisher.seen ≡ v.seen = ap (λ (x : View). x.seen) same in
         let mine = b.behind 0 v at live in
@@ -160,6 +160,6 @@ compares slots id me is_first live = subst (λ (i : ℕ). Allows Kept slots i me
           loads s 0 b,
           record {
             seat = ap (λ h. (view h, me.1)) same;
-            later = subst (λ (h : History). IsBeginning me.0.told h) same (b.behind 0 me.0 at live).1;
+            later = subst (λ (h : History). IsEarlier me.0.told h) same (b.behind 0 me.0 at live).1;
           },
         )

@@ -23,8 +23,8 @@ pub record Watching : Type 0 where
   pub seen : History
 
 -- the settings are the same, and the old journal is a beginning of the new one
-abbrev pub IsBeginning : History → History → Type 0
-IsBeginning old new = (new.settings ≡ old.settings) × IsPrefix old.journal new.journal
+abbrev pub IsEarlier : History → History → Type 0
+IsEarlier old new = (new.settings ≡ old.settings) × IsPrefix old.journal new.journal
 
 -- who reads the word knows the two flags of the link, and the channel doesn't
 abbrev pub no_flag : Link
@@ -39,20 +39,20 @@ abbrev pub view : History → View
 view h = record { live = true; seen = h; told = h }
 
 -- a history that stands where none is meant
-abbrev pub nothing : History
-nothing = record { settings = record { vcid = 0; width = 0; buffer = 0; first = 0; segmented = true; queues = []; maps = [] }; journal = [] }
+abbrev pub no_history : History
+no_history = record { settings = record { vcid = 0; width = 0; buffer = 0; first = 0; segmented = true; queues = []; maps = [] }; journal = [] }
 
 -- what a seat leaves that was joined to another
 abbrev pub spent : View
-spent = record { live = false; seen = nothing; told = nothing }
+spent = record { live = false; seen = no_history; told = no_history }
 
 -- the first seat is told what the second has seen
-abbrev pub told : View → View → View
-told v w = record v { told = w.seen }
+abbrev pub with_told : View → View → View
+with_told v w = record v { told = w.seen }
 
 -- what a live seat has seen, and what it was told, are beginnings of what was published
 abbrev pub IsBehind : History → View → Type 0
-IsBehind published v = v.live ≡ true → IsBeginning v.seen published × IsBeginning v.told published
+IsBehind published v = v.live ≡ true → IsEarlier v.seen published × IsEarlier v.told published
 
 -- what holds of a board at every moment: the first seat is the publisher's, whose publication the word is of, and no live seat is ahead of it
 pub record IsBoard (words : List ℕ) (views : List View) : Type 0 where
@@ -70,12 +70,12 @@ pub record IsRead (before : Me Unit View) (found : ℕ) (after : Me Unit View) :
   pub allowed : IsAllowed after.0.seen.settings
   pub lawful : IsLawful after.0.seen.settings after.0.seen.journal
   pub word : found ≡ status_word after.0.seen
-  pub later : IsBeginning before.0.seen after.0.seen
+  pub later : IsEarlier before.0.seen after.0.seen
 
 -- what was seen begins with what was told, which needs to be known no longer
 pub record IsCompared (before after : Me Unit View) : Type 0 where
   pub seat : after ≡ (view before.0.seen, before.1)
-  pub later : IsBeginning before.0.told before.0.seen
+  pub later : IsEarlier before.0.told before.0.seen
 
 -- a live seat at this board, with no slot
 pub record IsSeated (board seat : TableId) (me : Me Unit View) : Type 0 where

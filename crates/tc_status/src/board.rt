@@ -34,9 +34,9 @@ pub trait Publication {
 }
 
 impl Publication for Brand {
-    ghost use Rattle.tc_status.specs.Board.{nothing};
+    ghost use Rattle.tc_status.specs.Board.{no_history};
 
-    ghost next = { nothing };
+    ghost next = { no_history };
 }
 
 /// A store by the publisher, which publishes.
@@ -82,9 +82,9 @@ impl Split<View> for Doubles {
 pub struct Tells;
 
 impl Join<View> for Tells {
-    ghost use Rattle.tc_status.specs.Board.{told, spent};
+    ghost use Rattle.tc_status.specs.Board.{with_told, spent};
 
-    ghost both = { told };
+    ghost both = { with_told };
 
     ghost spent = { spent };
 }

@@ -5,7 +5,7 @@ ghost use Rattle.tc_channel.specs.Settings.{IsAllowed, IsRefusal};
 ghost use Rattle.tc_channel.specs.Journal.{with_event};
 ghost use Rattle.tc_channel.specs.Run.{IsLawful};
 ghost use Rattle.tc_channel.specs.Reply.{IsBypassData, frame_reply, release_reply, take_reply, unit_reply, waiting_packets, waiting_units, buffered_fields};
-ghost use Rattle.tc_status.specs.Board.{IsBeginning};
+ghost use Rattle.tc_status.specs.Board.{IsEarlier};
 
 use crate::publisher::Publisher;
 use crate::watcher::{Watcher, meet};
@@ -154,7 +154,7 @@ impl<J: Journal> DeskOf<J> {
         ensures desk { self.new ≡ self.old }
         ensures board { watcher.new.board ≡ watcher.old.board }
         ensures seen { watcher.new.seen ≡ self.old.channel }
-        ensures later { IsBeginning watcher.old.seen self.old.channel }
+        ensures later { IsEarlier watcher.old.seen self.old.channel }
     {
         meet(&mut self.publisher, watcher);
     }

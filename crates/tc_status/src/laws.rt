@@ -4,7 +4,7 @@ ghost use Rattle.std.specs.Prelude.{List, ℕ, ◌≡◌, ◌+◌, ◌*◌, ◌^
 ghost use mathlib.Core.Option.{some};
 ghost use lib.ListN.{get_elem?};
 ghost use Rattle.tc_status.specs.declared.board.View.{View};
-ghost use Rattle.tc_status.specs.Board.{IsBoard, IsBeginning, status_word};
+ghost use Rattle.tc_status.specs.Board.{IsBoard, IsEarlier, status_word};
 ghost use Rattle.tc_link.specs.Bits.{bit};
 ghost use Rattle.tc_link.specs.declared.Link.{Link};
 ghost use Rattle.tc_channel.specs.Journal.{History};
@@ -15,7 +15,7 @@ ghost use Rattle.tc_channel.specs.Reply.{clcw};
 /// joined to another is excepted.
 pub fn each_seat_is_behind_the_publisher()
     ensures word { (words : List ℕ) (views : List View) (p : View) → IsBoard words views → get_elem? views 0 ≡ some p → words ≡ status_word p.seen ∷ [] }
-    ensures behind { (words : List ℕ) (views : List View) (p : View) (id : ℕ) (v : View) → IsBoard words views → get_elem? views 0 ≡ some p → get_elem? views id ≡ some v → v.live ≡ true → IsBeginning v.seen p.seen }
+    ensures behind { (words : List ℕ) (views : List View) (p : View) (id : ℕ) (v : View) → IsBoard words views → get_elem? views 0 ≡ some p → get_elem? views id ≡ some v → v.live ≡ true → IsEarlier v.seen p.seen }
 {}
 
 /// The two flags of the link have bits of their own in the CLCW of a channel, so that they can be set in a word that was read.

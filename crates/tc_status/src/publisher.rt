@@ -2,7 +2,7 @@
 
 ghost use Rattle.std.specs.Prelude.{◌≡◌, [], IfOk};
 ghost use Rattle.std.specs.Arc.{arc_value};
-ghost use Rattle.tc_status.specs.Board.{IsBeginning, IsSeated, view};
+ghost use Rattle.tc_status.specs.Board.{IsEarlier, IsSeated, view};
 
 use crate::board::{Board, BoardSeat, Doubles, Publication, Publishes, WordTable};
 use crate::watcher::Watcher;
@@ -59,7 +59,7 @@ impl Publisher {
 
     /// Publishes the channel's journal: one store.
     pub fn publish<J: Journal>(&mut self, channel: &ChannelWith<J>)
-        requires { IsBeginning self.old.published channel.now }
+        requires { IsEarlier self.old.published channel.now }
         ensures board { self.new.board ≡ self.old.board }
         ensures published { self.new.published ≡ channel.now }
     {
@@ -89,7 +89,7 @@ fn store<P: Publication, J: Journal>(
     requires publication { P.next ≡ channel.now }
     requires seated { IsSeated (arc_value board.now).table.shared.table_id seat.old.table_id seat.old.me }
     requires first { seat.old.id ≡ 0 }
-    requires later { IsBeginning seat.old.me.0.seen channel.now }
+    requires later { IsEarlier seat.old.me.0.seen channel.now }
     ensures same { (seat.new.table_id ≡ seat.old.table_id) × (seat.new.id ≡ seat.old.id) }
     ensures published { seat.new.me ≡ (view channel.now, []) }
 {

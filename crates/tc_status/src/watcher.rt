@@ -3,7 +3,7 @@
 ghost use Rattle.std.specs.Prelude.{◌≡◌};
 ghost use Rattle.tc_channel.specs.Settings.{IsAllowed};
 ghost use Rattle.tc_channel.specs.Run.{IsLawful};
-ghost use Rattle.tc_status.specs.Board.{IsBeginning, status_word};
+ghost use Rattle.tc_status.specs.Board.{IsEarlier, status_word};
 
 use crate::board::{Board, BoardSeat, Compares, Doubles, Reads, Tells};
 use crate::publisher::Publisher;
@@ -36,7 +36,7 @@ impl Watcher {
     /// The moment is no earlier than that of the read before. It is the one that was last published, but no clause says so.
     pub fn read(&mut self) -> u32
         ensures board { self.new.board ≡ self.old.board }
-        ensures later { IsBeginning self.old.seen self.new.seen }
+        ensures later { IsEarlier self.old.seen self.new.seen }
         ensures word { result ≡ status_word self.new.seen }
         ensures allowed { IsAllowed self.new.seen.settings }
         ensures lawful { IsLawful self.new.seen.settings self.new.seen.journal }
@@ -52,7 +52,7 @@ pub fn meet(publisher: &mut Publisher, watcher: &mut Watcher)
     ensures publisher { publisher.new ≡ publisher.old }
     ensures board { watcher.new.board ≡ watcher.old.board }
     ensures seen { watcher.new.seen ≡ publisher.old.published }
-    ensures later { IsBeginning watcher.old.seen publisher.old.published }
+    ensures later { IsEarlier watcher.old.seen publisher.old.published }
 {
     let shared = &publisher.board.table.shared;
     let fresh = shared.split_seat::<Doubles>(&mut publisher.seat);

@@ -1,9 +1,9 @@
 -- What a line says, by its words.
-use Rattle.std.specs.Prelude.{ℕ, Bool, true, false, Option, ◌==◌, List, [], ◌∷◌, slice_index, nat_eq, codes, Some, None, Result, Ok, Err, if◌then◌else◌}
-use Rattle.std.specs.Cmp.Lexicographic.{pointwise}
+use Rattle.std.specs.Prelude.{ℕ, Bool, true, false, Option, ◌==◌, List, [], ◌∷◌, codes, Some, None, Result, Ok, Err, if◌then◌else◌}
 use Rattle.hex.specs.Hex.{decode_of}
 use Rattle.hex.specs.declared.FromHexError.{FromHexError}
-use Rattle.tc_lines.specs.Number.{number_of}
+use Rattle.tc_lines.specs.Number.{word_number}
+use Rattle.tc_lines.specs.Word.{is, is_comment, after_ok}
 use Rattle.tc_text.specs.declared.fault.Reason.{Reason}
 use Rattle.tc_text.specs.declared.fault.Reason.TheVariants.{UnknownCommand, WordCount, BadNumber, BadHex, BadOption}
 use Rattle.tc_text.specs.declared.line.Line.{Line}
@@ -30,89 +30,78 @@ three_of (first ∷ second ∷ []) = Err WordCount
 three_of (first ∷ second ∷ third ∷ []) = Ok (first, second, third)
 three_of (first ∷ second ∷ third ∷ more ∷ rest) = Err WordCount
 
--- what follows where something could be read
-abbrev pub with_ok : {A : Type 0} → Result A Reason → (A → Result Line Reason) → Result Line Reason
-with_ok (Ok x) next = next x
-with_ok (Err reason) next = Err reason
-
 -- what follows where a word is a number within its bound
 abbrev pub with_number : ℕ → List ℕ → (ℕ → Result Line Reason) → Result Line Reason
-with_number most word next = elim (number_of most word) [ None ↦ Err BadNumber | Some number ↦ next number ]
-
-abbrev pub is : List ℕ → List ℕ → Bool
-is word text = pointwise nat_eq word text
+with_number most word next = elim (word_number most word) [ None ↦ Err BadNumber | Some number ↦ next number ]
 
 -- whether data fields begin with a segment header: they do where the line has no option, and `plain` says that they don't
 abbrev pub segmented_of : Option (List ℕ) → Result Bool Reason
 segmented_of None = Ok true
 segmented_of (Some option) = if is option (codes "plain") then Ok false else Err BadOption
 
-abbrev pub channel_of : List (List ℕ) → Result Line Reason
-channel_of [] = Err WordCount
-channel_of (v ∷ []) = Err WordCount
-channel_of (v ∷ w ∷ []) = Err WordCount
-channel_of (v ∷ w ∷ b ∷ []) = Err WordCount
-channel_of (v ∷ w ∷ b ∷ f ∷ rest) =
-    with_ok (last_of rest) (λ option.
+abbrev pub channel_command : List (List ℕ) → Result Line Reason
+channel_command [] = Err WordCount
+channel_command (v ∷ []) = Err WordCount
+channel_command (v ∷ w ∷ []) = Err WordCount
+channel_command (v ∷ w ∷ b ∷ []) = Err WordCount
+channel_command (v ∷ w ∷ b ∷ f ∷ rest) =
+    after_ok (last_of rest) (λ option.
     with_number 255 v (λ vcid. with_number 255 w (λ width. with_number 255 b (λ buffer. with_number 255 f (λ first.
-    with_ok (segmented_of option) (λ segmented.
+    after_ok (segmented_of option) (λ segmented.
     Ok (Channel vcid width buffer first segmented)))))))
 
-abbrev pub queue_of : List (List ℕ) → Result Line Reason
-queue_of arguments =
-    with_ok (three_of arguments) (λ words.
+abbrev pub queue_command : List (List ℕ) → Result Line Reason
+queue_command arguments =
+    after_ok (three_of arguments) (λ words.
     with_number 255 words.0 (λ vcid. with_number 65535 words.1 (λ apid. with_number 65535 words.2 (λ capacity.
     Ok (Queue vcid apid capacity)))))
 
-abbrev pub map_of : List (List ℕ) → Result Line Reason
-map_of arguments =
-    with_ok (three_of arguments) (λ words.
+abbrev pub map_command : List (List ℕ) → Result Line Reason
+map_command arguments =
+    after_ok (three_of arguments) (λ words.
     with_number 255 words.0 (λ vcid. with_number 255 words.1 (λ map_id. with_number 65535 words.2 (λ capacity.
     Ok (Map vcid map_id capacity)))))
 
-abbrev pub decoded : Result (List ℕ) FromHexError → Result Line Reason
-decoded (Ok octets) = Ok (Frame octets)
-decoded (Err fault) = Err BadHex
+abbrev pub frame_if_decoded : Result (List ℕ) FromHexError → Result Line Reason
+frame_if_decoded (Ok octets) = Ok (Frame octets)
+frame_if_decoded (Err fault) = Err BadHex
 
-abbrev pub frame_of : List (List ℕ) → Result Line Reason
-frame_of [] = Err WordCount
-frame_of (digits ∷ []) = decoded (decode_of digits)
-frame_of (digits ∷ more ∷ rest) = Err WordCount
+abbrev pub frame_command : List (List ℕ) → Result Line Reason
+frame_command [] = Err WordCount
+frame_command (digits ∷ []) = frame_if_decoded (decode_of digits)
+frame_command (digits ∷ more ∷ rest) = Err WordCount
 
-abbrev pub release_of : List (List ℕ) → Result Line Reason
-release_of [] = Err WordCount
-release_of (v ∷ []) = with_number 255 v (λ vcid. Ok (Release vcid))
-release_of (v ∷ more ∷ rest) = Err WordCount
+abbrev pub release_command : List (List ℕ) → Result Line Reason
+release_command [] = Err WordCount
+release_command (v ∷ []) = with_number 255 v (λ vcid. Ok (Release vcid))
+release_command (v ∷ more ∷ rest) = Err WordCount
 
-abbrev pub take_of : List (List ℕ) → Result Line Reason
-take_of arguments =
-    with_ok (two_of arguments) (λ words.
+abbrev pub take_command : List (List ℕ) → Result Line Reason
+take_command arguments =
+    after_ok (two_of arguments) (λ words.
     with_number 255 words.0 (λ vcid. with_number 65535 words.1 (λ apid. Ok (Take vcid apid))))
 
-abbrev pub unit_of : List (List ℕ) → Result Line Reason
-unit_of arguments =
-    with_ok (two_of arguments) (λ words.
+abbrev pub unit_command : List (List ℕ) → Result Line Reason
+unit_command arguments =
+    after_ok (two_of arguments) (λ words.
     with_number 255 words.0 (λ vcid. with_number 255 words.1 (λ map_id. Ok (TakeUnit vcid map_id))))
 
-abbrev pub clcw_of : List (List ℕ) → Result Line Reason
-clcw_of [] = Err WordCount
-clcw_of (v ∷ []) = with_number 255 v (λ vcid. Ok (Clcw vcid))
-clcw_of (v ∷ more ∷ rest) = Err WordCount
-
-abbrev pub is_comment : List ℕ → Bool
-is_comment word = slice_index word 0 == 35
+abbrev pub clcw_command : List (List ℕ) → Result Line Reason
+clcw_command [] = Err WordCount
+clcw_command (v ∷ []) = with_number 255 v (λ vcid. Ok (Clcw vcid))
+clcw_command (v ∷ more ∷ rest) = Err WordCount
 
 -- what the words of a line say, or the first of the reasons why they say nothing
 unfoldable pub line_of : List (List ℕ) → Result Line Reason
 line_of [] = Ok Blank
 line_of (command ∷ arguments) =
     if is_comment command then Ok Blank
-    else if is command (codes "channel") then channel_of arguments
-    else if is command (codes "queue") then queue_of arguments
-    else if is command (codes "map") then map_of arguments
-    else if is command (codes "frame") then frame_of arguments
-    else if is command (codes "release") then release_of arguments
-    else if is command (codes "take") then take_of arguments
-    else if is command (codes "unit") then unit_of arguments
-    else if is command (codes "clcw") then clcw_of arguments
+    else if is command (codes "channel") then channel_command arguments
+    else if is command (codes "queue") then queue_command arguments
+    else if is command (codes "map") then map_command arguments
+    else if is command (codes "frame") then frame_command arguments
+    else if is command (codes "release") then release_command arguments
+    else if is command (codes "take") then take_command arguments
+    else if is command (codes "unit") then unit_command arguments
+    else if is command (codes "clcw") then clcw_command arguments
     else Err UnknownCommand

@@ -11,13 +11,13 @@ pub record IsFirstLine (octets line after : List ℕ) : Type 0 where
   pub shorter : length after < length octets
 
 -- how many octets a script may have
-abbrev pub limit : ℕ
-limit = 1048576
+abbrev pub script_limit : ℕ
+script_limit = 1048576
 
 -- why a script isn't read; that it is too long says something of a reader whose octets are known
 abbrev pub IsReadFault : Option (List ℕ) → ScriptFault → Type 0
 IsReadFault known Read = Unit {0}
-IsReadFault known TooLong = IfSome known (λ octets. limit < length octets)
+IsReadFault known TooLong = IfSome known (λ octets. script_limit < length octets)
 IsReadFault known (Line number reason) = (number ≡ 0) × (reason ≡ NoMemory)
 IsReadFault known Write = ⊥
 IsReadFault known Unbalanced = ⊥

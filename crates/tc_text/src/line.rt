@@ -2,7 +2,7 @@
 
 ghost use Rattle.std.specs.Prelude.{◌≡◌, ◌⊎◌, option_map, IfOk, IfErr, MatchResult};
 ghost use Rattle.tc_lines.specs.Word.{words};
-ghost use Rattle.tc_text.specs.Line.{line_of, channel_of, segmented_of, queue_of, map_of, frame_of, release_of, take_of, unit_of, clcw_of};
+ghost use Rattle.tc_text.specs.Line.{line_of, channel_command, segmented_of, queue_command, map_command, frame_command, release_command, take_command, unit_command, clcw_command};
 
 use crate::fault::Reason;
 use crate::word::{last_argument, next_argument, no_more, three_arguments, two_arguments};
@@ -82,8 +82,8 @@ pub fn parse_line(alloc: Global, octets: &[u8]) -> Result<Line, Reason>
 }
 
 fn channel(arguments: &[u8]) -> Result<Line, Reason>
-    ensures line { IfOk result (λ line. channel_of (words arguments.now) ≡ Ok line) }
-    ensures reason { IfErr result (λ reason. channel_of (words arguments.now) ≡ Err reason) }
+    ensures line { IfOk result (λ line. channel_command (words arguments.now) ≡ Ok line) }
+    ensures reason { IfErr result (λ reason. channel_command (words arguments.now) ≡ Err reason) }
 {
     let (vcid, rest) = next_argument(arguments)?;
     let (width, rest) = next_argument(rest)?;
@@ -113,8 +113,8 @@ fn is_segmented(option: Option<&[u8]>) -> Result<bool, Reason>
 }
 
 fn queue(arguments: &[u8]) -> Result<Line, Reason>
-    ensures line { IfOk result (λ line. queue_of (words arguments.now) ≡ Ok line) }
-    ensures reason { IfErr result (λ reason. queue_of (words arguments.now) ≡ Err reason) }
+    ensures line { IfOk result (λ line. queue_command (words arguments.now) ≡ Ok line) }
+    ensures reason { IfErr result (λ reason. queue_command (words arguments.now) ≡ Err reason) }
 {
     let (vcid, apid, capacity) = three_arguments(arguments)?;
     Ok(Line::Queue {
@@ -125,8 +125,8 @@ fn queue(arguments: &[u8]) -> Result<Line, Reason>
 }
 
 fn map(arguments: &[u8]) -> Result<Line, Reason>
-    ensures line { IfOk result (λ line. map_of (words arguments.now) ≡ Ok line) }
-    ensures reason { IfErr result (λ reason. map_of (words arguments.now) ≡ Err reason) }
+    ensures line { IfOk result (λ line. map_command (words arguments.now) ≡ Ok line) }
+    ensures reason { IfErr result (λ reason. map_command (words arguments.now) ≡ Err reason) }
 {
     let (vcid, map, capacity) = three_arguments(arguments)?;
     Ok(Line::Map {
@@ -137,8 +137,8 @@ fn map(arguments: &[u8]) -> Result<Line, Reason>
 }
 
 fn frame(alloc: Global, arguments: &[u8]) -> Result<Line, Reason>
-    ensures line { IfOk result (λ line. frame_of (words arguments.now) ≡ Ok line) }
-    ensures reason { IfErr result (λ reason. (reason ≡ Reason.NoMemory) ⊎ (frame_of (words arguments.now) ≡ Err reason)) }
+    ensures line { IfOk result (λ line. frame_command (words arguments.now) ≡ Ok line) }
+    ensures reason { IfErr result (λ reason. (reason ≡ Reason.NoMemory) ⊎ (frame_command (words arguments.now) ≡ Err reason)) }
 {
     let (digits, rest) = next_argument(arguments)?;
     no_more(rest)?;
@@ -150,8 +150,8 @@ fn frame(alloc: Global, arguments: &[u8]) -> Result<Line, Reason>
 }
 
 fn release(arguments: &[u8]) -> Result<Line, Reason>
-    ensures line { IfOk result (λ line. release_of (words arguments.now) ≡ Ok line) }
-    ensures reason { IfErr result (λ reason. release_of (words arguments.now) ≡ Err reason) }
+    ensures line { IfOk result (λ line. release_command (words arguments.now) ≡ Ok line) }
+    ensures reason { IfErr result (λ reason. release_command (words arguments.now) ≡ Err reason) }
 {
     let (vcid, rest) = next_argument(arguments)?;
     no_more(rest)?;
@@ -159,24 +159,24 @@ fn release(arguments: &[u8]) -> Result<Line, Reason>
 }
 
 fn take(arguments: &[u8]) -> Result<Line, Reason>
-    ensures line { IfOk result (λ line. take_of (words arguments.now) ≡ Ok line) }
-    ensures reason { IfErr result (λ reason. take_of (words arguments.now) ≡ Err reason) }
+    ensures line { IfOk result (λ line. take_command (words arguments.now) ≡ Ok line) }
+    ensures reason { IfErr result (λ reason. take_command (words arguments.now) ≡ Err reason) }
 {
     let (vcid, apid) = two_arguments(arguments)?;
     Ok(Line::Take(small_number(vcid)?, large_number(apid)?))
 }
 
 fn unit(arguments: &[u8]) -> Result<Line, Reason>
-    ensures line { IfOk result (λ line. unit_of (words arguments.now) ≡ Ok line) }
-    ensures reason { IfErr result (λ reason. unit_of (words arguments.now) ≡ Err reason) }
+    ensures line { IfOk result (λ line. unit_command (words arguments.now) ≡ Ok line) }
+    ensures reason { IfErr result (λ reason. unit_command (words arguments.now) ≡ Err reason) }
 {
     let (vcid, map) = two_arguments(arguments)?;
     Ok(Line::Unit(small_number(vcid)?, small_number(map)?))
 }
 
 fn clcw(arguments: &[u8]) -> Result<Line, Reason>
-    ensures line { IfOk result (λ line. clcw_of (words arguments.now) ≡ Ok line) }
-    ensures reason { IfErr result (λ reason. clcw_of (words arguments.now) ≡ Err reason) }
+    ensures line { IfOk result (λ line. clcw_command (words arguments.now) ≡ Ok line) }
+    ensures reason { IfErr result (λ reason. clcw_command (words arguments.now) ≡ Err reason) }
 {
     let (vcid, rest) = next_argument(arguments)?;
     no_more(rest)?;

@@ -2,7 +2,7 @@
 
 ghost use Rattle.std.specs.Prelude.{◌≡◌, ◌⊎◌, IfOk, IfErr, MatchResult};
 ghost use Rattle.tc_lines.specs.Word.{words};
-ghost use Rattle.tc_text.specs.LiveLine.{live_line_of, link_of, report_of, deliver_of, flag_of};
+ghost use Rattle.tc_text.specs.LiveLine.{live_line_of, link_command, report_command, deliver_command, flag_word};
 
 use crate::fault::Reason;
 use crate::line::{Line, parse_line};
@@ -45,8 +45,8 @@ pub fn parse_live_line(alloc: Global, octets: &[u8]) -> Result<LiveLine, Reason>
 }
 
 fn link(arguments: &[u8]) -> Result<LiveLine, Reason>
-    ensures line { IfOk result (λ line. link_of (words arguments.now) ≡ Ok line) }
-    ensures reason { IfErr result (λ reason. link_of (words arguments.now) ≡ Err reason) }
+    ensures line { IfOk result (λ line. link_command (words arguments.now) ≡ Ok line) }
+    ensures reason { IfErr result (λ reason. link_command (words arguments.now) ≡ Err reason) }
 {
     let (vcid, no_rf, no_bit_lock) = three_arguments(arguments)?;
     Ok(LiveLine::Link {
@@ -59,8 +59,8 @@ fn link(arguments: &[u8]) -> Result<LiveLine, Reason>
 }
 
 fn report(arguments: &[u8]) -> Result<LiveLine, Reason>
-    ensures line { IfOk result (λ line. report_of (words arguments.now) ≡ Ok line) }
-    ensures reason { IfErr result (λ reason. report_of (words arguments.now) ≡ Err reason) }
+    ensures line { IfOk result (λ line. report_command (words arguments.now) ≡ Ok line) }
+    ensures reason { IfErr result (λ reason. report_command (words arguments.now) ≡ Err reason) }
 {
     let (vcid, rest) = next_argument(arguments)?;
     no_more(rest)?;
@@ -68,8 +68,8 @@ fn report(arguments: &[u8]) -> Result<LiveLine, Reason>
 }
 
 fn deliver(arguments: &[u8]) -> Result<LiveLine, Reason>
-    ensures line { IfOk result (λ line. deliver_of (words arguments.now) ≡ Ok line) }
-    ensures reason { IfErr result (λ reason. deliver_of (words arguments.now) ≡ Err reason) }
+    ensures line { IfOk result (λ line. deliver_command (words arguments.now) ≡ Ok line) }
+    ensures reason { IfErr result (λ reason. deliver_command (words arguments.now) ≡ Err reason) }
 {
     let (vcid, rest) = next_argument(arguments)?;
     no_more(rest)?;
@@ -78,7 +78,7 @@ fn deliver(arguments: &[u8]) -> Result<LiveLine, Reason>
 
 // The flag that a word is: 0 or 1.
 fn flag(word: &[u8]) -> Result<bool, Reason>
-    ensures { MatchResult result (λ flag. flag_of word.now ≡ Ok flag) (λ reason. flag_of word.now ≡ Err reason) }
+    ensures { MatchResult result (λ flag. flag_word word.now ≡ Ok flag) (λ reason. flag_word word.now ≡ Err reason) }
 {
     let number = small_number(word)?;
     if number == 0 {

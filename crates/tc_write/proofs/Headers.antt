@@ -2,9 +2,9 @@
 use Rattle.std.proofs.Common.{◌≡◌, ℕ, ◌+◌, ◌≤◌, List, [], ◌∷◌, ◌++◌, length, refl, arith}
 use Rattle.tc_packet.specs.SpacePacket.{version_of, named_length}
 use Rattle.tc_write.specs.declared.packets.PacketHeader.{PacketHeader}
-use Rattle.tc_write.specs.Packets.{IsPacketOf, header_of}
+use Rattle.tc_write.specs.Packets.{IsPacketOf, packet_header_of}
 
-pub packeted : (six field : List ℕ) (header : PacketHeader) → length six ≡ 6 → header_of six ≡ header → version_of six ≡ 0
+pub packeted : (six field : List ℕ) (header : PacketHeader) → length six ≡ 6 → packet_header_of six ≡ header → version_of six ≡ 0
     → named_length six ≡ length field + 6 → 1 ≤ length field → length field ≤ 65536 → IsPacketOf (six ++ field) header field
 packeted (a ∷ b ∷ c ∷ d ∷ e ∷ f ∷ []) field header six says version named least most = record {
   whole = record { least = omega arith; most = omega arith; version = version; named = omega arith };

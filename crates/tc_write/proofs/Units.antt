@@ -10,7 +10,7 @@ use Rattle.tc_packet.specs.declared.segment.Part.TheVariants.{First, Continuing,
 use Rattle.tc_packet.specs.Segment.{header_of, body_of}
 use Rattle.tc_packet.specs.Reassembly.{IsPart, joined_bodies}
 use Rattle.tc_packet.specs.declared.segment.Segment.{Segment}
-use Rattle.tc_write.specs.Parts.{count_of, part_at}
+use Rattle.tc_write.specs.Parts.{segments_needed, part_at}
 use Rattle.tc_write.specs.Segments.{AreSegments, MakeUnit}
 
 -- a list without its first place, and its places
@@ -71,22 +71,22 @@ closed count place (f ∷ g ∷ rest) some more whole parts =
     }
 
 -- so many segments have room for the unit, and one at least is needed
-count-least : (size n : ℕ) → 1 ≤ size → 1 ≤ n → 1 ≤ count_of size n
+count-least : (size n : ℕ) → 1 ≤ size → 1 ≤ n → 1 ≤ segments_needed size n
 count-least size n some more =
     let room = lt-div-mul-add {a = n + size - 1} {b = size} (omega arith) in
     let one : (n + size - 1) / size ≢ 0 = λ none. (let e : (n + size - 1) / size * size ≡ 0 = ap (λ (x : ℕ). x * size) none ∙ (let z : 0 * size ≡ 0 = omega arith in z) in omega arith) in
     grind (arith, one)
 
-count-room : (size n : ℕ) → 1 ≤ size → n ≤ count_of size n * size
+count-room : (size n : ℕ) → 1 ≤ size → n ≤ segments_needed size n * size
 count-room size n some = let room = lt-div-mul-add {a = n + size - 1} {b = size} (omega arith) in omega arith
 
 pub segments-make : (map size : ℕ) (unit : List ℕ) (fields : List (List ℕ)) → 1 ≤ size → 1 ≤ length unit → length unit ≤ 65542
     → AreSegments map size unit fields → MakeUnit fields unit
 segments-make map size unit [] some more most s = let least = count-least size (length unit) some more in let e = s.count in absurd (omega arith)
 segments-make map size unit (f ∷ []) some more most s =
-    let count : 1 ≡ count_of size (length unit) = s.count in
+    let count : 1 ≡ segments_needed size (length unit) = s.count in
     let room = count-room size (length unit) some in
-    let one : count_of size (length unit) * size ≡ 1 * size = ap (λ (x : ℕ). x * size) (sym count) in
+    let one : segments_needed size (length unit) * size ≡ 1 * size = ap (λ (x : ℕ). x * size) (sym count) in
     let short : length unit ≤ size = omega arith in
     let none : 0 * size ≡ 0 = omega arith in
     let first = s.each 0 (omega arith) in
@@ -94,7 +94,7 @@ segments-make map size unit (f ∷ []) some more most s =
     let body : body_of f ≡ unit = first.1 ∙ ap (λ (n : ℕ). take size (drop n unit)) none ∙ take_all size unit short in
     record { before = []; last = f; parts = refl; unit_ends = inl (record { whole = part; joins = sym body; limit = most }) }
 segments-make map size unit (f ∷ g ∷ rest) some more most s =
-    let count = count_of size (length unit) in
+    let count = segments_needed size (length unit) in
     let whole : length (f ∷ g ∷ rest) ≡ count = s.count in
     let room = count-room size (length unit) some in
     let all : joined_bodies (f ∷ g ∷ rest) ≡ unit =

@@ -5,8 +5,8 @@ use Rattle.tc_packet.specs.SpacePacket.{IsPacket, apid_of, is_telecommand}
 use Rattle.tc_write.specs.declared.packets.PacketHeader.{PacketHeader}
 
 -- what stands in the bits of a packet's primary header, apart from its version and its length
-abbrev pub header_of : List ℕ → PacketHeader
-header_of packet = record {
+abbrev pub packet_header_of : List ℕ → PacketHeader
+packet_header_of packet = record {
   telecommand = is_telecommand packet;
   secondary = bits (word_at packet 0) 11 1 == 1;
   apid = apid_of packet;
@@ -17,5 +17,5 @@ header_of packet = record {
 -- the octets are a packet with this header and this packet data field
 pub record IsPacketOf (packet : List ℕ) (header : PacketHeader) (field : List ℕ) : Type 0 where
   pub whole : IsPacket packet
-  pub header_bits : header_of packet ≡ header
+  pub header_bits : packet_header_of packet ≡ header
   pub rest : drop 6 packet ≡ field

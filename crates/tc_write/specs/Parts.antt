@@ -1,11 +1,12 @@
 -- The segments of a unit (CCSDS 232.0-B, 4.1.3.2.2).
-use Rattle.std.specs.Prelude.{ℕ, ◌+◌, ◌-◌, ◌*◌, ◌/◌, ◌==◌, List, drop, take, if◌then◌else◌}
+use Rattle.std.specs.Prelude.{ℕ, ◌+◌, ◌-◌, ◌*◌, ◌/◌, ◌==◌, List, drop, length, take, if◌then◌else◌}
 use Rattle.tc_packet.specs.declared.segment.Part.{Part}
 use Rattle.tc_packet.specs.declared.segment.Part.TheVariants.{First, Continuing, Last, Unsegmented}
+use Rattle.tc_packet.specs.declared.segment.Segment.{Segment}
 
 -- how many segments of so many octets, the last of them perhaps shorter, carry n
-abbrev pub count_of : ℕ → ℕ → ℕ
-count_of size n = (n + size - 1) / size
+abbrev pub segments_needed : ℕ → ℕ → ℕ
+segments_needed size n = (n + size - 1) / size
 
 -- which part of the unit the segment at a place carries
 abbrev pub part_at : ℕ → ℕ → Part
@@ -14,6 +15,10 @@ part_at place count =
     else if place == 0 then First
     else if place + 1 == count then Last
     else Continuing
+
+-- the segment of a unit at a place
+abbrev pub segment_at : ℕ → ℕ → ℕ → List ℕ → Segment
+segment_at map size place unit = record { part = part_at place (segments_needed size (length unit)); map = map }
 
 -- what it carries
 abbrev pub piece_at : ℕ → List ℕ → ℕ → List ℕ

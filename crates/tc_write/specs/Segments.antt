@@ -2,13 +2,13 @@
 use Rattle.std.specs.Prelude.{◌≡◌, ℕ, ◌<◌, List, [], ◌∷◌, ◌++◌, length, slice_index_or, Some}
 use Rattle.tc_packet.specs.Reassembly.{IsUnit}
 use Rattle.tc_write.specs.Frames.{Carries}
-use Rattle.tc_write.specs.Parts.{count_of, part_at, piece_at}
+use Rattle.tc_write.specs.Parts.{segments_needed, part_at, piece_at}
 
 -- the data fields carry the pieces of a unit of so many octets each, on this MAP, one after the other
 pub record AreSegments (map size : ℕ) (unit : List ℕ) (fields : List (List ℕ)) : Type 0 where
-  pub count : length fields ≡ count_of size (length unit)
+  pub count : length fields ≡ segments_needed size (length unit)
   pub each : (k : ℕ) → k < length fields
-      → Carries (Some (record { part = part_at k (count_of size (length unit)); map = map })) (slice_index_or fields k []) (piece_at size unit k)
+      → Carries (Some (record { part = part_at k (segments_needed size (length unit)); map = map })) (slice_index_or fields k []) (piece_at size unit k)
 
 -- the last of the data fields ends this unit, after those before it
 pub record MakeUnit (fields : List (List ℕ)) (unit : List ℕ) : Type 0 where

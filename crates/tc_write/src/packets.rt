@@ -2,7 +2,7 @@
 
 ghost use Rattle.std.specs.Prelude.{◌≡◌, ◌<◌, ◌≤◌, ◌+◌, ◌++◌, length};
 ghost use Rattle.tc_packet.specs.SpacePacket.{version_of, named_length};
-ghost use Rattle.tc_write.specs.Packets.{IsPacketOf, header_of};
+ghost use Rattle.tc_write.specs.Packets.{IsPacketOf, packet_header_of};
 
 /// What the primary header of a packet says, apart from the version and the length (CCSDS 133.0-B, 4.1.3).
 #[derive(Clone, Copy, Debug, PartialEq, Eq)]
@@ -39,7 +39,7 @@ fn primary_header(header: &PacketHeader, others: u16) -> [u8; 6]
     requires flags { header.now.flags < 4 }
     requires count { header.now.count < 16384 }
     ensures six { length result ≡ 6 }
-    ensures header { header_of result ≡ header.now }
+    ensures header { packet_header_of result ≡ header.now }
     ensures version { version_of result ≡ 0 }
     ensures named { named_length result ≡ others + 7 }
 {

@@ -2,7 +2,7 @@
 
 ghost use Rattle.std.specs.Prelude.{◌≡◌, ◌<◌, ◌≤◌, length};
 ghost use Rattle.tc_write.specs.Frames.{header_later};
-ghost use Rattle.tc_write.specs.Parts.{count_of, part_at, piece_at};
+ghost use Rattle.tc_write.specs.Parts.{segments_needed, part_at, piece_at};
 
 use tc_link::Header;
 use tc_packet::{Part, Segment};
@@ -12,7 +12,7 @@ pub fn segment_count(size: usize, octets: usize) -> usize
     requires some { 1 ≤ size }
     requires few { size ≤ 1018 }
     requires most { octets ≤ 65542 }
-    ensures { result ≡ count_of size octets }
+    ensures { result ≡ segments_needed size octets }
 {
     (octets + size - 1) / size
 }
@@ -38,7 +38,7 @@ pub fn segment_header(map: u8, place: usize, count: usize) -> Segment
 pub fn piece(unit: &[u8], size: usize, place: usize) -> &[u8]
     requires some { 1 ≤ size }
     requires most { length unit.now ≤ 65542 }
-    requires there { place < count_of size (length unit.now) }
+    requires there { place < segments_needed size (length unit.now) }
     ensures { result.now ≡ piece_at size unit.now place }
 {
     let (_, rest) = unit.split_at(place * size);

@@ -1,11 +1,11 @@
 use Rattle.std.proofs.Common.{◌≡◌, ◌≤◌, ℕ}
 use Rattle.tc_fixed.specs.History.{LimitedHistory}
-use Rattle.tc_c.specs.Rack.{channels_in, IsAt}
+use Rattle.tc_c.specs.Rack.{channels_in, IsHeldAt}
 use Rattle.tc_c.proofs.rack.place_of.Given as goal
 
 -- no channel before this place has the id, and each is as it was
 abbrev pub invariant-loop-place : goal.invariant-loop-place
 invariant-loop-place l = record {
   same : channels_in l.seats ≡ channels_in l.fn.seats;
-  before : (at : ℕ) (other : LimitedHistory) → IsAt (channels_in l.fn.seats) l.vcid at other → l.place ≤ at;
+  before : (at : ℕ) (other : LimitedHistory) → IsHeldAt (channels_in l.fn.seats) l.vcid at other → l.place ≤ at;
 }

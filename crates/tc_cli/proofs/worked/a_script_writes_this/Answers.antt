@@ -31,7 +31,7 @@ use Rattle.tc_rack.specs.declared.answer.Refusal.TheVariants.{NoQueue, NoMap, Em
 use Rattle.tc_rack.specs.declared.stage.Stage.TheVariants.{SettingUp, Operating}
 use Rattle.tc_cli.specs.Examples as example
 use Rattle.tc_cli.specs.Progress.{Progress, IsPerformed}
-use Rattle.tc_cli.specs.Written.{AreAnswers, at_first, one_more, IsLineAnswered, IsReport}
+use Rattle.tc_cli.specs.Written.{AreAnswers, at_first, one_more, IsLineAnswered, IsScriptReport}
 use Rattle.tc_cli.proofs.worked.a_script_writes_this.Goals as goal
 
 -- the channel as it is set up, and after events
@@ -247,7 +247,7 @@ lawful : IsLawful all last
 unfolding IsLawfulWithin no_limits passed_on some_of_first
 lawful = ((whole-first, refl), (lit< tt, ((0, waiting, lit< tt, refl, (refl, lit< tt)), ((whole-bypassing, refl), ((whole-second, refl), tt)))))
 
-reported : IsReport 42 (at last) (codes "final 1 01040202 events 5 buffered 1\nqueue 1 5 0\nmap 1 3 1\n")
+reported : IsScriptReport 42 (at last) (codes "final 1 01040202 events 5 buffered 1\nqueue 1 5 0\nmap 1 3 1\n")
 unfolding run_within no_limits passed_on waiting_packets_within waiting_units_within buffered_fields_within clcw_within digits encode_with
 reported =
     let own : History = record { settings = all; journal = last } in

@@ -20,14 +20,14 @@ use Rattle.tc_rack.specs.Linked.{Linked, no_flag}
 use Rattle.tc_rack.specs.Rack.{Racked}
 use Rattle.tc_rack.specs.declared.answer.Answer.TheVariants as answers
 use Rattle.tc_rack.specs.declared.stage.Stage.TheVariants.{SettingUp}
-use Rattle.tc_live.specs.Examples.{plain, receiver_with}
+use Rattle.tc_live.specs.Examples.{plain_channel, receiver_with}
 use Rattle.tc_live.specs.Receiver.{Receiving, new_receiver}
 use Rattle.tc_live.specs.Serving.{IsLineSaid}
 use Rattle.tc_live.specs.declared.answer.LiveAnswer.TheVariants as told
 use Rattle.tc_live.specs.declared.check.FrameCheck.TheVariants.{Nothing}
 use Rattle.tc_live.proofs.laws.lines_are_answered_so.Goals as goal
 
-allowed : IsAllowed plain
+allowed : IsAllowed plain_channel
 allowed = record {
   vcid = lit≤ tt;
   width = record { least = lit≤ tt; most = lit≤ tt; even = refl };
@@ -44,13 +44,13 @@ allowed = record {
 
 -- the channel is set up
 abbrev set_up : Receiving
-set_up = record { check = Nothing; scid = 42; stage = SettingUp (plain ∷ []) }
+set_up = record { check = Nothing; scid = 42; stage = SettingUp (plain_channel ∷ []) }
 
 abbrev no_signal : Link
 no_signal = record { no_rf = true; no_bit_lock = false }
 
 abbrev channel : Link → Linked
-channel link = record { history = record { settings = plain; journal = [] }; link = link }
+channel link = record { history = record { settings = plain_channel; journal = [] }; link = link }
 
 abbrev rack : Link → Racked
 rack link = record { scid = 42; channels = channel link ∷ [] }
@@ -63,7 +63,7 @@ channel-line = inl (
   (
     Script (said.Channel 1 10 1 0 false),
     refl,
-    inl (said.Channel 1 10 1 0 false, refl, ((refl, refl), ([], plain ∷ [], refl, ((λ there. (let inside : there.0 < 0 = there.2 in omega arith)), allowed, refl), refl))),
+    inl (said.Channel 1 10 1 0 false, refl, ((refl, refl), ([], plain_channel ∷ [], refl, ((λ there. (let inside : there.0 < 0 = there.2 in omega arith)), allowed, refl), refl))),
   ),
   ([], (refl, refl), refl),
 )

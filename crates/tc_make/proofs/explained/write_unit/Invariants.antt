@@ -1,12 +1,12 @@
 use Rattle.std.proofs.Common.{◌≡◌, ℕ, List, ◌++◌, length}
 use Rattle.std.specs.Io.KnownBytes.{Appends}
-use Rattle.tc_make.specs.Printed.{unit_text}
+use Rattle.tc_make.specs.Printed.{unit_packets_text}
 use Rattle.tc_make.proofs.explained.write_unit.Given as goal
 
 -- what was written so far, and then what is left
 abbrev pub invariant-loop-packet : goal.invariant-loop-packet
 invariant-loop-packet g l =
-    (done : List ℕ) × Appends (g.W.Write.contents l.initial.writer) (g.W.Write.contents l.writer) done × (done ++ unit_text l.rest ≡ unit_text l.fn.unit)
+    (done : List ℕ) × Appends (g.W.Write.contents l.initial.writer) (g.W.Write.contents l.writer) done × (done ++ unit_packets_text l.rest ≡ unit_packets_text l.fn.unit)
 
 abbrev pub decreases-loop-packet : goal.decreases-loop-packet
 decreases-loop-packet g l = length l.rest

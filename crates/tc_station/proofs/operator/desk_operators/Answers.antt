@@ -1,5 +1,5 @@
 use Rattle.std.proofs.Common.{◌<◌, ◌≤◌, ◌∙◌, ap, get_or, length, sym, rules}
-use Rattle.tc_desk.specs.Log.{issued_one}
+use Rattle.tc_desk.specs.Log.{with_one_issued}
 use Rattle.tc_station.specs.Tally.{arrival}
 use Rattle.tc_station.proofs.Posts.{arrival-step, arrives, below-all, below-none, station-step}
 use Rattle.tc_station.proofs.operator.desk_operators.Goals as goal
@@ -16,7 +16,7 @@ loop-place-preserved g c =
     let is = c.index-posts-place.is in
     let read = get_or c.loop-place.posts c.loop-place.place here in
     let one = arrives read c.operator.result c.operator.ensures.lock c.operator.ensures.seen c.operator.ensures.new c.operator.ensures.none in (
-      station-step old c.loop-place.posts c.loop-place.place here c.operator.new.self i.0 lt is (c.operator.ensures.issued ∙ ap issued_one (sym is)),
+      station-step old c.loop-place.posts c.loop-place.place here c.operator.new.self i.0 lt is (c.operator.ensures.issued ∙ ap with_one_issued (sym is)),
       arrival-step old c.loop-place.posts c.loop-place.operators.items c.push_reserved.new.self.items c.loop-place.place here c.operator.result i.0 lt is (one ∙ ap arrival (sym is)) i.1 c.push_reserved.ensures.items,
       search rules,
     )

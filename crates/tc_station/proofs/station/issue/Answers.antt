@@ -1,6 +1,6 @@
 use Rattle.std.proofs.Common.{◌≡◌, ◌∙◌, ℕ, List, Some, vec_len, ap, subst, sym, rules, arith}
 use Rattle.std.proofs.lemmas.List.Elements.{All-pop}
-use Rattle.tc_desk.specs.Together.{settings_of}
+use Rattle.tc_desk.specs.Together.{settings_of_desks}
 use Rattle.tc_station.specs.Room.{IsRoomFor}
 use Rattle.tc_station.specs.StationSettings.{vcids_of}
 use Rattle.tc_station.proofs.Posts.{issue-first, issue-step, settings-more}
@@ -16,7 +16,7 @@ loop-room-init g c =
 pub new-requires : goal.new-requires
 new-requires g c =
     let i = c.loop-room.invariant in
-    let ids : vcids_of (settings_of c.loop-room.posts) ≡ c.args.vcids.now = ap (λ l. vcids_of (settings_of l)) i.0 ∙ (ap vcids_of (settings-more (vec_len c.loop-room.operators) c.args.posts.now) ∙ c.requires.ids) in
+    let ids : vcids_of (settings_of_desks c.loop-room.posts) ≡ c.args.vcids.now = ap (λ l. vcids_of (settings_of_desks l)) i.0 ∙ (ap vcids_of (settings-more (vec_len c.loop-room.operators) c.args.posts.now) ∙ c.requires.ids) in
     let popped = All-pop (IsRoomFor c.args.vcids.now) _ _ (Some c.in-Some.room) c.in-Some.ensures.items i.2 in
     record { room = subst (λ (v : List ℕ). IsRoomFor v c.in-Some.room) (sym ids) popped.1 }
 
@@ -24,7 +24,7 @@ pub loop-room-preserved : goal.loop-room-preserved
 loop-room-preserved g c =
     let i = c.loop-room.invariant in
     let count = vec_len c.loop-room.operators in
-    let ids : vcids_of (settings_of c.loop-room.posts) ≡ c.args.vcids.now = ap (λ l. vcids_of (settings_of l)) i.0 ∙ (ap vcids_of (settings-more count c.args.posts.now) ∙ c.requires.ids) in
+    let ids : vcids_of (settings_of_desks c.loop-room.posts) ≡ c.args.vcids.now = ap (λ l. vcids_of (settings_of_desks l)) i.0 ∙ (ap vcids_of (settings-more count c.args.posts.now) ∙ c.requires.ids) in
     let popped = All-pop (IsRoomFor c.args.vcids.now) _ _ (Some c.in-Some.room) c.in-Some.ensures.items i.2 in
     let longer = c.push_reserved.ensures.len in let shorter = c.in-Some.ensures.cases in let all = i.3 in
     let step = issue-step c.args.vcids.now c.args.posts.now c.loop-room.posts c.new.new.posts count (vec_len c.push_reserved.new.self) c.loop-room.operators.items c.push_reserved.new.self.items c.new.result

@@ -1,11 +1,11 @@
 use Rattle.std.proofs.Common.{◌≡◌, ◌≤◌, ◌+◌, All, replicate, vec_len, vec_capacity}
 use Rattle.tc_station.specs.Room.{IsRoomFor}
-use Rattle.tc_station.specs.Tally.{issued_more, newcomer}
+use Rattle.tc_station.specs.Tally.{issued_more, newcomer_at_desks}
 use Rattle.tc_station.proofs.station.issue.Given as goal
 
 abbrev pub invariant-loop-room : goal.invariant-loop-room
 invariant-loop-room g l =
-    (l.posts ≡ issued_more (vec_len l.operators) l.fn.posts) × (l.operators.items ≡ replicate (vec_len l.operators) (newcomer l.vcids l.fn.posts))
+    (l.posts ≡ issued_more (vec_len l.operators) l.fn.posts) × (l.operators.items ≡ replicate (vec_len l.operators) (newcomer_at_desks l.vcids l.fn.posts))
     × All (IsRoomFor l.vcids) l.rooms.items × (vec_len l.operators + vec_len l.rooms ≡ l.n) × (l.n ≤ vec_capacity l.operators)
 
 abbrev pub decreases-loop-room : goal.decreases-loop-room

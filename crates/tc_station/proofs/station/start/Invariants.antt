@@ -1,6 +1,6 @@
 use Rattle.std.proofs.Common.{◌≡◌, ◌≤◌, ◌+◌, map, vec_len, vec_capacity}
 use Rattle.tc_desk.specs.Log.{Identity}
-use Rattle.tc_desk.specs.Together.{heads_of, settings_of}
+use Rattle.tc_desk.specs.Together.{heads_of, settings_of_desks}
 use Rattle.tc_station.specs.Roster.{HaveIssued}
 use Rattle.tc_station.specs.StationSettings.{vcids_of}
 use Rattle.tc_station.proofs.station.start.Given as goal
@@ -8,7 +8,7 @@ use Rattle.tc_station.proofs.station.start.Given as goal
 abbrev pub invariant-loop-settings : goal.invariant-loop-settings
 invariant-loop-settings g l =
     (l.vcids.items ≡ vcids_of l.yielded)
-    × (settings_of l.desks.items ≡ l.yielded)
+    × (settings_of_desks l.desks.items ≡ l.yielded)
     × HaveIssued 0 l.desks.items
     × (map (λ (h : Identity). h.settings) (heads_of l.desks.items) ≡ l.yielded)
     × (vec_len l.vcids + l.settings-iterator.rest.len ≡ vec_len l.fn.list)

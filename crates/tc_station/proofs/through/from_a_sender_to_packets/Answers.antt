@@ -6,7 +6,7 @@ use Rattle.tc_channel.specs.declared.event.Event.TheVariants.{Frame, Release, Ta
 use Rattle.tc_channel.specs.declared.settings.Settings.{Settings}
 use Rattle.tc_channel.specs.ChannelState.{no_limits}
 use Rattle.tc_channel.specs.Reply.{buffered_fields, frame_reply, release_reply, take_reply, unit_reply}
-use Rattle.tc_desk.specs.Call.{IsReleased, IsTaken, IsUnitTaken}
+use Rattle.tc_desk.specs.Call.{IsReleased, IsOldestPacket, IsOldestUnit}
 use Rattle.tc_desk.specs.Log.{Moment}
 use Rattle.tc_station.specs.Call.{IsReplied, IsNotBrought, IsNotReleased, IsNotTaken, IsUnitNotTaken}
 use Rattle.tc_station.proofs.ClosedSince.{answered, post-there, shown}
@@ -33,12 +33,12 @@ returns-clause-releases c = λ station place vcid before after delivery channel 
 
 pub returns-clause-takes : goal.returns-clause-takes
 returns-clause-takes c = λ station place vcid apid grows before after packet channel call since.
-    let is = answered c.each_event_stands_at_its_place.ensures station place vcid (Take apid) (λ (m : Moment) (p : Vec ℕ). IsTaken apid m p.items) (IsNotTaken grows apid) before after packet channel call since in
+    let is = answered c.each_event_stands_at_its_place.ensures station place vcid (Take apid) (λ (m : Moment) (p : Vec ℕ). IsOldestPacket apid m p.items) (IsNotTaken grows apid) before after packet channel call since in
     (is.1, is.3, subst (λ (s : Settings). take_reply s (take is.1 channel.journal) apid ≡ Some packet.items) is.2 is.4)
 
 pub returns-clause-units : goal.returns-clause-units
 returns-clause-units c = λ station place vcid map_id grows before after unit channel call since.
-    let is = answered c.each_event_stands_at_its_place.ensures station place vcid (TakeUnit map_id) (λ (m : Moment) (u : Vec ℕ). IsUnitTaken map_id m u.items) (IsUnitNotTaken grows map_id) before after unit channel call since in
+    let is = answered c.each_event_stands_at_its_place.ensures station place vcid (TakeUnit map_id) (λ (m : Moment) (u : Vec ℕ). IsOldestUnit map_id m u.items) (IsUnitNotTaken grows map_id) before after unit channel call since in
     (is.1, is.3, subst (λ (s : Settings). unit_reply s (take is.1 channel.journal) map_id ≡ Some unit.items) is.2 is.4)
 
 pub returns-clause-words : goal.returns-clause-words

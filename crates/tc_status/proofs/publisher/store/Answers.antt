@@ -1,7 +1,7 @@
 use Rattle.std.proofs.Common.{◌≡◌, ◌∙◌, sym, ap, subst, rules}
 use Rattle.tc_channel.specs.Journal.{History}
 use Rattle.tc_channel.specs.Run.{IsLawful}
-use Rattle.tc_status.specs.Board.{IsBeginning, status_word}
+use Rattle.tc_status.specs.Board.{IsEarlier, status_word}
 use Rattle.tc_status.proofs.Steps.{publishes}
 use Rattle.tc_status.proofs.publisher.store.Goals as goal
 
@@ -15,5 +15,5 @@ store-requires g c =
       publishes _ _ _ _ _ q.first
           (word ∙ ap status_word published)
           (subst (λ (h : History). IsLawful h.settings h.journal) published c.clcw.ensures.lawful)
-          (subst (λ (h : History). IsBeginning c.args.seat.now.me.0.seen h) published q.later),
+          (subst (λ (h : History). IsEarlier c.args.seat.now.me.0.seen h) published q.later),
     )

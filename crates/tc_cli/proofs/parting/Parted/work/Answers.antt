@@ -4,7 +4,7 @@ use Rattle.std.proofs.lemmas.Result.{IfOk-weaker}
 use Rattle.tc_channel.specs.Journal.{History}
 use Rattle.tc_station.specs.Roster.{Roster}
 use Rattle.tc_station.specs.Tally.{AtStation, HasMadeNothing, KnowsDesks}
-use Rattle.tc_station.specs.Work.{AreWorked, line_of}
+use Rattle.tc_station.specs.Work.{AreWorked, line_of_fault}
 use Rattle.tc_station.specs.declared.faults.WorkFault.{WorkFault}
 use Rattle.tc_station.specs.declared.work.WorkList.{WorkList}
 use Rattle.tc_cli.specs.Parting.{IsJobLine, IsWorkedOut}
@@ -43,6 +43,6 @@ pub returns-in-Err-clause-fault : goal.returns-in-Err-clause-fault
 returns-in-Err-clause-fault g c =
     let w = c.work.ensures.worked in
     let list = subst (λ (ls : List WorkList). AreWorked c.operators.new.self ls w.0 c.in-Ok.operators.items c.work.new.operators.items) c.deref.ensures.value w.1 in
-    let line = subst (λ (r : Result (Unit {0}) WorkFault). MatchResult r (λ _. w.0 ≡ None) (λ fault. w.0 ≡ Some (line_of fault))) c.in-Err.is w.2 in
-    let job : IsJobLine c.args.self.lists (line_of c.in-Err.fault) = rw (← c.self.view_is) (refused-line c.operators.new.self c.self.inside.lists.items w.0 (line_of c.in-Err.fault) c.in-Ok.operators.items c.work.new.operators.items list line) in
-    inr (line_of c.in-Err.fault, job, c.refused.ensures)
+    let line = subst (λ (r : Result (Unit {0}) WorkFault). MatchResult r (λ _. w.0 ≡ None) (λ fault. w.0 ≡ Some (line_of_fault fault))) c.in-Err.is w.2 in
+    let job : IsJobLine c.args.self.lists (line_of_fault c.in-Err.fault) = rw (← c.self.view_is) (refused-line c.operators.new.self c.self.inside.lists.items w.0 (line_of_fault c.in-Err.fault) c.in-Ok.operators.items c.work.new.operators.items list line) in
+    inr (line_of_fault c.in-Err.fault, job, c.refused.ensures)

@@ -1,9 +1,9 @@
 use Rattle.std.proofs.Common.{◌∙◌, sym, ap}
-use Rattle.tc_desk.specs.Together.{settings_of}
+use Rattle.tc_desk.specs.Together.{settings_of_desks}
 use Rattle.tc_station.specs.StationSettings.{vcids_of}
 use Rattle.tc_station.proofs.Posts.{arrival-settings}
 use Rattle.tc_station.proofs.operator.Operator.new.Goals as goal
 
 pub invariant_of-result : goal.invariant_of-result
 invariant_of-result g c =
-    ap (λ l. vcids_of (settings_of l)) c.desk_operators-desks.ensures.operators ∙ (ap vcids_of (arrival-settings c.args.posts.now) ∙ sym c.requires.room.0)
+    ap (λ l. vcids_of (settings_of_desks l)) c.desk_operators-desks.ensures.operators ∙ (ap vcids_of (arrival-settings c.args.posts.now) ∙ sym c.requires.room.0)

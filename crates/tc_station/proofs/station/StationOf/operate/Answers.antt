@@ -2,7 +2,7 @@ use Rattle.std.proofs.Common.{◌≡◌, ◌∙◌, Some, set, sym, ap, subst}
 use Rattle.std.specs.Prelude.{◌==◌, position, OnOk, OnErr}
 use Rattle.tc_desk.specs.Together.{locks_of}
 use Rattle.tc_station.specs.StationSettings.{vcids_of}
-use Rattle.tc_station.specs.Tally.{AtStation, at_station, counted, tally}
+use Rattle.tc_station.specs.Tally.{AtStation, at_station, tallied, tally}
 use Rattle.tc_station.specs.Call.{IsCallAt}
 use Rattle.tc_station.specs.Roster.{Roster}
 use Rattle.tc_station.proofs.Called.{call-at, counted-by, refused-by, locks-kept, settings-kept, id-of}
@@ -53,7 +53,7 @@ returns-clause-counted g c =
     let q = c.args.operation.now in
     let at = subst (λ vs. position (λ v. v == c.args.vcid) vs ≡ Some c.args.place) (sym (ap (λ (o : AtStation). o.vcids) c.operator.view_is ∙ c.requires.ours.0)) c.requires.place in
     let inside = (id-of c.operator.inside.vcids.items c.operator.inside.desks.items c.args.place c.args.vcid c.index_mut.result.now c.operator.invariant c.index_mut.ensures.value at).0 in
-    subst (λ (o : AtStation). OnOk c.operate.result (tally (at_station c.operator.inside.vcids.items (set c.operator.inside.desks.items c.args.place c.operate.new.self)) ≡ counted c.args.vcid (tally o))) c.operator.view_is
+    subst (λ (o : AtStation). OnOk c.operate.result (tally (at_station c.operator.inside.vcids.items (set c.operator.inside.desks.items c.args.place c.operate.new.self)) ≡ tallied c.args.vcid (tally o))) c.operator.view_is
     (counted-by {R = g.row.O-Answer.Denot} {F = g.row.O-Fault.Denot} (g.O.Operation.event q) (g.O.Operation.answers q) (g.O.Operation.refuses q) c.operator.inside.vcids.items c.operator.inside.desks.items c.args.place c.args.vcid c.index_mut.result.now
     c.operate.new.self c.operate.result c.index_mut.ensures.value inside at c.operate.ensures.call)
 

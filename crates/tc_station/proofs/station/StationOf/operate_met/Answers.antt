@@ -2,7 +2,7 @@ use Rattle.std.proofs.Common.{◌≡◌, ◌<◌, ◌∙◌, Some, length, set, 
 use Rattle.std.specs.Prelude.{◌==◌, position, OnErr, OnOk}
 use Rattle.tc_desk.specs.Together.{heads_of, locks_of}
 use Rattle.tc_station.specs.StationSettings.{vcids_of}
-use Rattle.tc_station.specs.Tally.{AtStation, at_station, counted, tally}
+use Rattle.tc_station.specs.Tally.{AtStation, at_station, tallied, tally}
 use Rattle.tc_station.specs.Call.{IsMetCallAt}
 use Rattle.tc_station.specs.Roster.{Roster, IsPlace}
 use Rattle.tc_station.proofs.Called.{id-of}
@@ -60,7 +60,7 @@ returns-clause-counted g c =
     let at : position (λ v. v == c.args.vcid) c.operator.inside.vcids.items ≡ Some c.in-Some.place =
     subst (λ vs. position (λ v. v == c.args.vcid) vs ≡ Some c.in-Some.place) (sym (ap (λ (o : AtStation). o.vcids) c.operator.view_is ∙ c.requires.ours.0)) at_roster in
     let inside = (id-of c.operator.inside.vcids.items c.operator.inside.desks.items c.in-Some.place c.args.vcid c.index_mut.result.now c.operator.invariant c.index_mut.ensures.value at).0 in
-    subst (λ (o : AtStation). OnOk c.operate_met.result (tally (at_station c.operator.inside.vcids.items (set c.operator.inside.desks.items c.in-Some.place c.operate_met.new.self)) ≡ counted c.args.vcid (tally o))) c.operator.view_is
+    subst (λ (o : AtStation). OnOk c.operate_met.result (tally (at_station c.operator.inside.vcids.items (set c.operator.inside.desks.items c.in-Some.place c.operate_met.new.self)) ≡ tallied c.args.vcid (tally o))) c.operator.view_is
     (met-counted {R = g.row.O-Answer.Denot} {F = g.row.O-Fault.Denot} (g.O.Operation.event q) (g.O.Operation.answers q) (g.O.Operation.refuses q) c.args.watcher.now c.operate_met.new.watcher c.operator.inside.desks.items c.in-Some.place c.index_mut.result.now c.operate_met.new.self c.operate_met.result
     c.index_mut.ensures.value c.operate_met.ensures.call c.operator.inside.vcids.items c.args.vcid inside at)
 

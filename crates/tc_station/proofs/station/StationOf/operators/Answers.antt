@@ -1,5 +1,5 @@
 use Rattle.std.proofs.Common.{◌≡◌, ◌++◌, ◌+◌, ◌∙◌, ℕ, subst, take, drop, length, replicate, sym, ap, rules, arith}
-use Rattle.tc_desk.specs.Together.{heads_of, locks_of, settings_of}
+use Rattle.tc_desk.specs.Together.{heads_of, locks_of, settings_of_desks}
 use Rattle.tc_station.specs.Roster.{Roster, HaveIssued}
 use Rattle.tc_station.specs.StationSettings.{vcids_of}
 use Rattle.tc_station.specs.Tally.{fresh, issued_more}
@@ -19,7 +19,7 @@ returns-clause-issued g c =
 
 pub returns-clause-fresh : goal.returns-clause-fresh
 returns-clause-fresh g c =
-    let ids = ap (λ l. vcids_of (settings_of l)) c.deref_mut.ensures.value ∙ (c.self.invariant.1 ∙ sym c.deref.ensures.value) in
+    let ids = ap (λ l. vcids_of (settings_of_desks l)) c.deref_mut.ensures.value ∙ (c.self.invariant.1 ∙ sym c.deref.ensures.value) in
     issued-fresh c.args.n c.deref.result.now c.deref_mut.result.now c.in-Ok.operators.items (as-many c.deref.result.now c.deref_mut.result.now ids) c.in-Ok.ensures.operators
     ∙ ap (λ l. replicate c.args.n (fresh l)) (c.deref.ensures.value ∙ ap (λ (r : Roster). r.vcids) c.self.view_is)
 
@@ -58,4 +58,4 @@ invariant_of-self-2 g c =
     let now : posts ≡ next = written-posts old.len old.items c.issue.new.posts next is (length-more c.args.n old.items) (omega (arith, one)) in
     let sum : c.in-Some.issued ≡ c.self.inside.issued + c.args.n = search rules in
     let have : HaveIssued c.in-Some.issued next = subst (λ (k : ℕ). HaveIssued k next) (sym sum) (have-more c.args.n c.self.inside.issued old.items c.self.invariant.2) in
-    (c.self.invariant.0, ap (λ l. vcids_of (settings_of l)) now ∙ (ap vcids_of (settings-more c.args.n old.items) ∙ c.self.invariant.1), subst (HaveIssued c.in-Some.issued) (sym now) have)
+    (c.self.invariant.0, ap (λ l. vcids_of (settings_of_desks l)) now ∙ (ap vcids_of (settings-more c.args.n old.items) ∙ c.self.invariant.1), subst (HaveIssued c.in-Some.issued) (sym now) have)
