@@ -26,12 +26,13 @@ use Rattle.tc_text.specs.Reading.{IsFirstLine}
 use Rattle.tc_text.specs.declared.line.Line.{Line as Said}
 use Rattle.tc_cli.proofs.Framed.{IsOneAtMost, no-fault}
 use Rattle.tc_cli.proofs.Reported.{one-order}
+use Rattle.tc_rack.proofs.Performed.{performed-at}
 use Rattle.tc_rack.specs.Linked.{Linked, vcid_of, new_linked, later, IsFrameAnswered, IsReleaseAnswered, IsTakeAnswered, IsUnitAnswered, told_word}
 use Rattle.tc_rack.specs.Operation.{IsAnswerOf, IsChannelAnswer, IsClcwAnswer, IsFrameAnswer}
-use Rattle.tc_cli.specs.Progress.{Progress, rack_for, IsPerformed}
+use Rattle.tc_rack.specs.Progress.{Progress, rack_for, IsPerformed}
 use Rattle.tc_rack.specs.Rack.{Racked, Changes, IsRackLocateFault, HasChannel, histories}
 use Rattle.tc_rack.specs.Report.{IsReportOf, report_text}
-use Rattle.tc_cli.specs.Session.{IsInstructionAnswered, IsDoneSo}
+use Rattle.tc_rack.specs.Performing.{IsInstructionAnswered, IsDoneSo}
 use Rattle.tc_rack.specs.Stage.{phase_of}
 use Rattle.tc_cli.specs.Written.{AreAnswers, at_first, one_more, IsLineAnswered, IsScriptReport}
 use Rattle.tc_rack.specs.declared.answer.Answer.{Answer}
@@ -350,8 +351,9 @@ addition-determined list new other vcid addition apart (place, s, at, allowed, i
 
 module _ (only : IsOneAtMost) (scid : ℕ) where
   done-apart : (operation : Operation) (old new : Progress) (answer : Option Answer) → AreApart (ids_of old) → IsDoneSo (IsPerformed scid) operation old answer new → AreApart (ids_of new)
-  done-apart operation old new answer apart (a, (rack, performed, is), told) =
-      let same : ids_of new ≡ ids_of old = ap ids_of is ∙ (operation-ids operation (rack_for scid old) rack a performed ∙ rack-ids scid old) in
+  done-apart operation old new answer apart (a, performed, told) =
+      let at = performed-at scid operation old new a performed in
+      let same : ids_of new ≡ ids_of old = ap ids_of at.2 ∙ (operation-ids operation (rack_for scid old) at.0 a at.1 ∙ rack-ids scid old) in
       subst AreApart (sym same) apart
 
   line-apart : (instruction : Instruction) (old new : Progress) (answer : Option Answer) → AreApart (ids_of old) → Does (phase_of old) instruction (phase_of new)
@@ -382,10 +384,12 @@ module _ (only : IsOneAtMost) (scid : ℕ) where
 
   done-determined : (operation : Operation) (old new other : Progress) (answer another : Option Answer) → AreApart (ids_of old) → IsDoneSo (IsPerformed scid) operation old answer new
       → IsDoneSo (IsPerformed scid) operation old another other → (new ≡ other) × (answer ≡ another)
-  done-determined operation old new other answer another apart (a, (rack, performed, is), told) (b, (second, done, too), said) =
+  done-determined operation old new other answer another apart (a, performed, told) (b, done, said) =
+      let at = performed-at scid operation old new a performed in
+      let to = performed-at scid operation old other b done in
       let ids : AreApart (map vcid_of (rack_for scid old).channels) = subst AreApart (sym (rack-ids scid old)) apart in
-      let one = operation-determined only operation (rack_for scid old) rack second a b ids performed done in (
-        is ∙ (ap (λ (r : Racked). Operating r) one.1 ∙ sym too),
+      let one = operation-determined only operation (rack_for scid old) at.0 to.0 a b ids at.1 to.1 in (
+        at.2 ∙ (ap (λ (r : Racked). Operating r) one.1 ∙ sym to.2),
         told ∙ (ap (λ (x : Answer). Some x) one.0 ∙ sym said),
       )
 

@@ -26,7 +26,7 @@ use Rattle.tc_station.specs.declared.work.WorkList.{WorkList}
 use Rattle.tc_rack.specs.Linked.{Linked, vcid_of}
 use Rattle.tc_cli.specs.Parallel.{AreWorkedChannels}
 use Rattle.tc_cli.specs.Parting.{Parted, IsWorkedOut}
-use Rattle.tc_cli.specs.Progress.{Progress, rack_for, IsPerformed}
+use Rattle.tc_rack.specs.Progress.{Progress, rack_for, IsPerformed}
 use Rattle.tc_rack.specs.Rack.{Racked, histories}
 use Rattle.tc_rack.specs.Report.{IsReportOf, report_text}
 use Rattle.tc_cli.specs.Written.{AreAnswers, IsScriptReport}

@@ -23,13 +23,14 @@ use Rattle.tc_station.specs.declared.work.Job.{Job}
 use Rattle.tc_station.specs.declared.work.Order.{Order}
 use Rattle.tc_station.specs.declared.work.Order.TheVariants as orders
 use Rattle.tc_station.specs.declared.work.WorkList.{WorkList}
+use Rattle.tc_rack.proofs.Performed.{rack-found}
 use Rattle.tc_rack.specs.Linked.{Linked, vcid_of, new_linked, later, IsFrameAnswered, IsReleaseAnswered, IsTakeAnswered, IsUnitAnswered, told_word}
 use Rattle.tc_rack.specs.Operation.{IsAnswerOf, IsChannelAnswer, IsClcwAnswer, IsFrameAnswer}
 use Rattle.tc_cli.specs.Parallel.{Plan, AreParted, none_parted, one_parted, ArePartedFor, IsParted, GivesToFound}
 use Rattle.tc_cli.specs.Parting.{Parted, IsNewlyParted, IsGiven, IsFrameGiven, HasWorkList, empty_list, with_job}
-use Rattle.tc_cli.specs.Progress.{Progress, rack_for, IsPerformed}
+use Rattle.tc_rack.specs.Progress.{Progress, rack_for, IsPerformed}
 use Rattle.tc_rack.specs.Rack.{Racked, IsChannelAt, IsRackLocateFault, HasChannel, new_rack}
-use Rattle.tc_cli.specs.Session.{IsInstructionAnswered, IsDoneSo}
+use Rattle.tc_rack.specs.Performing.{IsInstructionAnswered, IsDoneSo}
 use Rattle.tc_rack.specs.Stage.{phase_of}
 use Rattle.tc_cli.specs.Written.{AreAnswers, at_first, one_more}
 use Rattle.tc_rack.specs.declared.answer.Answer.{Answer}
@@ -336,7 +337,7 @@ parts-planned scid operation Gives plan new progress matched (found, parted, for
     let one = can found parted (rack_for scid progress) (found-planned scid plan progress found matched for) gives in (
       Some one.0,
       Operating one.1,
-      (one.0, (one.1, one.2, refl), refl),
+      (one.0, (rack_for scid progress, one.1, rack-found scid progress, one.2, refl), refl),
       subst (λ (p : Plan). AreMatched p (Operating one.1)) (sym is) (one.1, refl, one.3),
     )
 

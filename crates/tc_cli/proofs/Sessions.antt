@@ -14,10 +14,12 @@ use Rattle.tc_station.specs.Roster.{Roster}
 use Rattle.tc_station.specs.Tally.{AtStation}
 use Rattle.tc_station.specs.Together.{AreClosedTogether, crews_of}
 use Rattle.tc_cli.specs.Manned.{Manned}
-use Rattle.tc_cli.specs.Progress.{Progress, rack_for, IsPerformed}
+use Rattle.tc_rack.specs.Progress.{Progress, rack_for, IsPerformed}
 use Rattle.tc_rack.specs.Operation.{IsAnswerOf}
 use Rattle.tc_rack.specs.Rack.{Racked, histories}
-use Rattle.tc_cli.specs.Session.{Session, IsInstructionAnswered, IsDoneSo, IsFound, IsOperated}
+use Rattle.tc_rack.proofs.Performed.{rack-found}
+use Rattle.tc_cli.specs.Session.{Session, IsMannedFound, IsMannedOperated}
+use Rattle.tc_rack.specs.Performing.{IsInstructionAnswered, IsDoneSo}
 use Rattle.tc_rack.specs.Stage.{phase_of}
 use Rattle.tc_cli.specs.Written.{AreAnswers, at_first, one_more, IsScriptReport, IsSessionReport}
 use Rattle.tc_rack.specs.declared.answer.Answer.{Answer}
@@ -55,39 +57,45 @@ setup-alone : (s : Session) (list : List Settings) → phase_of s ≡ Setup list
 setup-alone (SettingUp set) list is = tt
 setup-alone (Operating m) list is = absurd (no-setup list is)
 
-found-sound : (scid : ℕ) (s : Session) (m : Manned) → IsFound scid s m → IsSoundSession s → IsSound m
+found-sound : (scid : ℕ) (s : Session) (m : Manned) → IsMannedFound scid s m → IsSoundSession s → IsSound m
 found-sound scid (SettingUp list) m found sound = new-sound scid list m found
 found-sound scid (Operating manned) m found sound = subst IsSound (sym found) sound
 
-found-alone : (scid : ℕ) (s : Session) (m : Manned) → IsFound scid s m → IsAlone m → IsAloneSession s
+found-alone : (scid : ℕ) (s : Session) (m : Manned) → IsMannedFound scid s m → IsAlone m → IsAloneSession s
 found-alone scid (SettingUp list) m found alone = tt
 found-alone scid (Operating manned) m found alone = subst IsAlone found alone
 
-found-rack : (scid : ℕ) (s : Session) (m : Manned) → IsFound scid s m → IsAlone m → rack_of m ≡ rack_for scid (progress_of s)
+found-rack : (scid : ℕ) (s : Session) (m : Manned) → IsMannedFound scid s m → IsAlone m → rack_of m ≡ rack_for scid (progress_of s)
 found-rack scid (SettingUp list) m found alone = new-rack scid list m found alone.0
 found-rack scid (Operating manned) m found alone = ap rack_of found
 
 module _ (laws : AloneLaws) (scid : ℕ) where
-  operated-sound : (operation : Operation) (s new : Session) (answer : Answer) → IsSoundSession s → IsOperated scid operation s answer new → IsSoundSession new
+  operated-sound : (operation : Operation) (s new : Session) (answer : Answer) → IsSoundSession s → IsMannedOperated scid operation s answer new → IsSoundSession new
   operated-sound operation s new answer sound (m, after, found, answered, is) =
       subst IsSoundSession (sym is) (sound-after laws operation m after answer (found-sound scid s m found sound) answered)
 
-  operated-alone : (operation : Operation) (s new : Session) (answer : Answer) → IsSoundSession s → IsOperated scid operation s answer new → IsAloneSession new
+  operated-alone : (operation : Operation) (s new : Session) (answer : Answer) → IsSoundSession s → IsMannedOperated scid operation s answer new → IsAloneSession new
       → IsAloneSession s × IsPerformed scid operation (progress_of s) answer (progress_of new)
   operated-alone operation s new answer sound (m, after, found, answered, is) alone =
       let one = answered-alone laws operation m after answer (found-sound scid s m found sound) answered (subst IsAloneSession is alone) in (
         found-alone scid s m found one.0,
-        (rack_of after, subst (λ (r : Racked). IsAnswerOf operation r answer (rack_of after)) (found-rack scid s m found one.0) one.1, ap progress_of is),
+        (
+          rack_for scid (progress_of s),
+          rack_of after,
+          rack-found scid (progress_of s),
+          subst (λ (r : Racked). IsAnswerOf operation r answer (rack_of after)) (found-rack scid s m found one.0) one.1,
+          ap progress_of is,
+        ),
       )
 
-  done-sound : (operation : Operation) (s new : Session) (answer : Option Answer) → IsSoundSession s → IsDoneSo (IsOperated scid) operation s answer new → IsSoundSession new
+  done-sound : (operation : Operation) (s new : Session) (answer : Option Answer) → IsSoundSession s → IsDoneSo (IsMannedOperated scid) operation s answer new → IsSoundSession new
   done-sound operation s new answer sound (a, operated, is) = operated-sound operation s new a sound operated
 
-  done-alone : (operation : Operation) (s new : Session) (answer : Option Answer) → IsSoundSession s → IsDoneSo (IsOperated scid) operation s answer new → IsAloneSession new
+  done-alone : (operation : Operation) (s new : Session) (answer : Option Answer) → IsSoundSession s → IsDoneSo (IsMannedOperated scid) operation s answer new → IsAloneSession new
       → IsAloneSession s × IsDoneSo (IsPerformed scid) operation (progress_of s) answer (progress_of new)
   done-alone operation s new answer sound (a, operated, is) alone = let one = operated-alone operation s new a sound operated alone in (one.0, (a, one.1, is))
 
-  line-sound : (instruction : Instruction) (s new : Session) (answer : Option Answer) → IsSoundSession s → Does (phase_of s) instruction (phase_of new) → IsInstructionAnswered (IsOperated scid) s instruction new answer → IsSoundSession new
+  line-sound : (instruction : Instruction) (s new : Session) (answer : Option Answer) → IsSoundSession s → Does (phase_of s) instruction (phase_of new) → IsInstructionAnswered (IsMannedOperated scid) s instruction new answer → IsSoundSession new
   line-sound Nothing s new answer sound does a = subst IsSoundSession (sym a.1) sound
   line-sound (Channel settings) s new answer sound (old, list, was, adds, is) a = setup-sound new list is
   line-sound (Add vcid addition) s new answer sound (old, list, was, adds, is) a = setup-sound new list is
@@ -97,7 +105,7 @@ module _ (laws : AloneLaws) (scid : ℕ) where
   line-sound (TakeUnit vcid map_id) s new answer sound does a = done-sound (operations.Unit vcid map_id) s new answer sound a
   line-sound (Clcw vcid) s new answer sound does a = done-sound (operations.Clcw vcid) s new answer sound a
 
-  line-alone : (instruction : Instruction) (s new : Session) (answer : Option Answer) → IsSoundSession s → Does (phase_of s) instruction (phase_of new) → IsInstructionAnswered (IsOperated scid) s instruction new answer → IsAloneSession new
+  line-alone : (instruction : Instruction) (s new : Session) (answer : Option Answer) → IsSoundSession s → Does (phase_of s) instruction (phase_of new) → IsInstructionAnswered (IsMannedOperated scid) s instruction new answer → IsAloneSession new
       → IsAloneSession s × IsInstructionAnswered (IsPerformed scid) (progress_of s) instruction (progress_of new) answer
   line-alone Nothing s new answer sound does a alone = (subst IsAloneSession a.1 alone, (a.0, ap progress_of a.1))
   line-alone (Channel settings) s new answer sound (old, list, was, adds, is) a alone = (setup-alone s old was, a)
@@ -108,12 +116,12 @@ module _ (laws : AloneLaws) (scid : ℕ) where
   line-alone (TakeUnit vcid map_id) s new answer sound does a alone = done-alone (operations.Unit vcid map_id) s new answer sound a alone
   line-alone (Clcw vcid) s new answer sound does a alone = done-alone (operations.Clcw vcid) s new answer sound a alone
 
-  all-sound : (script : List ℕ) (answers : List (Option Answer)) (s : Session) (rest : List ℕ) → AreAnswers (IsOperated scid) script answers s rest → IsSoundSession s
+  all-sound : (script : List ℕ) (answers : List (Option Answer)) (s : Session) (rest : List ℕ) → AreAnswers (IsMannedOperated scid) script answers s rest → IsSoundSession s
   all-sound script answers s rest at_first = tt
   all-sound script answers s rest (one_more {answers = before} {stage = old} {answer = answer} leads next answered) =
       line-sound _ old s answer (all-sound script before old _ leads) answered.2 answered.3
 
-  pub all-alone : (script : List ℕ) (answers : List (Option Answer)) (s : Session) (rest : List ℕ) → AreAnswers (IsOperated scid) script answers s rest → IsAloneSession s
+  pub all-alone : (script : List ℕ) (answers : List (Option Answer)) (s : Session) (rest : List ℕ) → AreAnswers (IsMannedOperated scid) script answers s rest → IsAloneSession s
       → AreAnswers (IsPerformed scid) script answers (progress_of s) rest
   all-alone script answers s rest at_first alone = at_first
   all-alone script answers s rest (one_more {answers = before} {stage = old} {answer = answer} leads next answered) alone =
@@ -122,7 +130,7 @@ module _ (laws : AloneLaws) (scid : ℕ) where
       (answered.0, answered.1, subst (λ (x : Phase × Phase). Does x.0 (instruction_of answered.0) x.1) (λ i. (phase-of old i, phase-of s i)) answered.2, one.1)
 
   -- the report at the end of a session is that of the script
-  pub reported-alone : (script : List ℕ) (answers : List (Option Answer)) (s : Session) (text : List ℕ) → AreAnswers (IsOperated scid) script answers s [] → IsSessionReport scid s text
+  pub reported-alone : (script : List ℕ) (answers : List (Option Answer)) (s : Session) (text : List ℕ) → AreAnswers (IsMannedOperated scid) script answers s [] → IsSessionReport scid s text
       → AreAnswers (IsPerformed scid) script answers (progress_of s) [] × IsScriptReport scid (progress_of s) text
   reported-alone script answers s text leads (inl (none, empty)) =
       (all-alone script answers s [] leads (setup-alone s [] none), inl (sym (phase-of s) ∙ none, empty))

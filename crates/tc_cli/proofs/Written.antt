@@ -17,11 +17,11 @@ use Rattle.tc_text.specs.declared.fault.ScriptFault.TheVariants.{Line, Read, Too
 use Rattle.tc_cli.specs.Manned.{Manned, AllHaveMet}
 use Rattle.tc_cli.specs.Parallel.{AreWorkedChannels}
 use Rattle.tc_rack.specs.Printed.{answer_line}
-use Rattle.tc_cli.specs.Progress.{Progress, IsPerformed}
+use Rattle.tc_rack.specs.Progress.{Progress, IsPerformed}
 use Rattle.tc_cli.specs.Report.{IsClosedReport}
 use Rattle.tc_rack.specs.Report.{AreRising, IsLawfulHistory, IsReportOf, report_text}
 use Rattle.tc_cli.specs.Script.{Leads, starts, goes_on, IsBadLine, IsReportFault}
-use Rattle.tc_cli.specs.Session.{Session, IsFound, IsOperated}
+use Rattle.tc_cli.specs.Session.{Session, IsMannedFound, IsMannedOperated}
 use Rattle.tc_rack.specs.Stage.{phase_of}
 use Rattle.tc_cli.specs.Written.{AreAnswers, at_first, one_more, IsLineAnswered, IsScriptReport, IsSessionReportWritten, IsScriptUnreported, IsScriptWritten, IsWrittenInParallel, IsScriptCutShort, answers_text}
 use Rattle.tc_rack.specs.declared.answer.Answer.{Answer}
@@ -44,7 +44,7 @@ length-one-more : {X : Type 0} (xs : List X) (x : X) → length xs + 1 ≡ lengt
 length-one-more xs x = grind (arith, common_steps)
 
 -- lines that are answered are good
-pub answered-leads : (scid : ℕ) (script : List ℕ) (answers : List (Option Answer)) (session : Session) (rest : List ℕ) → AreAnswers (IsOperated scid) script answers session rest
+pub answered-leads : (scid : ℕ) (script : List ℕ) (answers : List (Option Answer)) (session : Session) (rest : List ℕ) → AreAnswers (IsMannedOperated scid) script answers session rest
     → Leads script (length answers) (phase_of session) rest
 answered-leads scid script answers session rest at_first = starts
 answered-leads scid script answers session rest (one_more {answers = before} {stage = old} {answer = answer} leads next answered) =
@@ -54,9 +54,9 @@ answered-leads scid script answers session rest (one_more {answers = before} {st
 -- so many first lines were answered, and their answers written
 abbrev pub IsSoFar : ℕ → List ℕ → ℕ → Session → List ℕ → Option (List ℕ) → Option (List ℕ) → Type 0
 IsSoFar scid script count session rest old new =
-    (answers : List (Option Answer)) × AreAnswers (IsOperated scid) script answers session rest × (count ≡ length answers) × Appends old new (answers_text answers)
+    (answers : List (Option Answer)) × AreAnswers (IsMannedOperated scid) script answers session rest × (count ≡ length answers) × Appends old new (answers_text answers)
 
-pub none-so-far : (scid : ℕ) (script : List ℕ) (session : Session) (a : Option (List ℕ)) → AreAnswers (IsOperated scid) script [] session script
+pub none-so-far : (scid : ℕ) (script : List ℕ) (session : Session) (a : Option (List ℕ)) → AreAnswers (IsMannedOperated scid) script [] session script
     → IsSoFar scid script 0 session script a a
 none-so-far scid script session a leads = ([], leads, refl, Appends-nil a)
 
@@ -67,7 +67,7 @@ so-far-good scid script count session rest a b (answers, leads, is, text) =
 
 -- one line more
 pub one-more-so-far : (scid : ℕ) (script : List ℕ) (count : ℕ) (session new : Session) (rest line after : List ℕ) (answer : Option Answer) (a b c : Option (List ℕ))
-    → IsSoFar scid script count session rest a b → IsFirstLine rest line after → IsLineAnswered (IsOperated scid) session line new answer → Appends b c (answer_line answer)
+    → IsSoFar scid script count session rest a b → IsFirstLine rest line after → IsLineAnswered (IsMannedOperated scid) session line new answer → Appends b c (answer_line answer)
     → IsSoFar scid script (count + 1) new after a c
 one-more-so-far scid script count session new rest line after answer a b c (answers, leads, is, text) next answered more = (
   answers ++ answer ∷ [],
@@ -111,7 +111,7 @@ end-cut-short (Err fault) scid script count session rest a b c so-far end (inr (
 
 -- the report of the station of a session
 pub reported : (scid : ℕ) (session : Session) (manned met : Manned) (station : Roster) (operator : AtStation) (operators : List AtStation) (channels shown : List History) (a b : Option (List ℕ))
-    → shown ≡ channels → IsFound scid session manned → AllHaveMet manned met → station ≡ met.station → operator ≡ met.operator → IsOurs station operator → operators ≡ operator ∷ []
+    → shown ≡ channels → IsMannedFound scid session manned → AllHaveMet manned met → station ≡ met.station → operator ≡ met.operator → IsOurs station operator → operators ≡ operator ∷ []
     → IsClosedReport station operators channels → All IsNumberTold channels → All IsLawfulHistory shown → Appends a b (report_text shown)
     → IsSessionReportWritten scid session a b
 reported scid session manned met station operator operators channels shown a b lent found have place hand ours all closed told lawful text =

@@ -5,7 +5,6 @@ pub mod Script
 pub mod Manned
 pub mod Watched
 pub mod Session
-pub mod Progress
 pub mod Report
 pub mod Parting
 pub mod Parallel

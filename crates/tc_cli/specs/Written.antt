@@ -15,12 +15,13 @@ use Rattle.tc_setup.specs.Instruction.{instruction_of}
 use Rattle.tc_setup.specs.Phase.{Setup, Does}
 use Rattle.tc_cli.specs.Manned.{Manned, AllHaveMet}
 use Rattle.tc_rack.specs.Printed.{answer_line}
-use Rattle.tc_cli.specs.Progress.{Progress, rack_for, IsPerformed}
+use Rattle.tc_rack.specs.Progress.{Progress, rack_for, IsPerformed}
 use Rattle.tc_rack.specs.Rack.{histories}
 use Rattle.tc_cli.specs.Report.{IsClosedReport}
 use Rattle.tc_rack.specs.Report.{IsReportOf}
 use Rattle.tc_cli.specs.Script.{IsBadLine}
-use Rattle.tc_cli.specs.Session.{Session, IsInstructionAnswered, IsFound, IsOperated}
+use Rattle.tc_cli.specs.Session.{Session, IsMannedFound, IsMannedOperated}
+use Rattle.tc_rack.specs.Performing.{IsInstructionAnswered}
 use Rattle.tc_rack.specs.Stage.{phase_of}
 use Rattle.tc_rack.specs.declared.answer.Answer.{Answer}
 use Rattle.tc_rack.specs.declared.operation.Operation.{Operation}
@@ -55,7 +56,7 @@ IsScriptReport scid progress text =
 abbrev pub IsSessionReport : ℕ → Session → List ℕ → Type 0
 IsSessionReport scid session text =
     ((phase_of session ≡ Setup []) × (text ≡ []))
-    ⊎ ((found met : Manned) × (channels : List History) × IsFound scid session found × AllHaveMet found met × IsOurs met.station met.operator
+    ⊎ ((found met : Manned) × (channels : List History) × IsMannedFound scid session found × AllHaveMet found met × IsOurs met.station met.operator
     × IsClosedReport met.station (met.operator ∷ []) channels × IsReportOf channels text)
 
 -- known octets grow by the report
@@ -74,13 +75,13 @@ IsScriptWritten scid script old new =
 abbrev pub IsWrittenBefore : ℕ → List ℕ → ℕ → (Session → List ℕ → Type 0) → Option (List ℕ) → Option (List ℕ) → Type 0
 IsWrittenBefore scid script number IsSo old new =
     (answers : List (Option Answer)) × (session : Session) × (rest : List ℕ) × (line : List ℕ) × (after : List ℕ)
-    × AreAnswers (IsOperated scid) script answers session rest × IsFirstLine rest line after × IsSo session line
+    × AreAnswers (IsMannedOperated scid) script answers session rest × IsFirstLine rest line after × IsSo session line
     × (number ≡ length answers + 1) × Appends old new (answers_text answers)
 
 -- known octets grow by the answers of all lines, of which there are so many, and by no report
 abbrev pub IsScriptUnreported : ℕ → List ℕ → ℕ → Option (List ℕ) → Option (List ℕ) → Type 0
 IsScriptUnreported scid script count old new =
-    (answers : List (Option Answer)) × (session : Session) × AreAnswers (IsOperated scid) script answers session [] × (count ≡ length answers)
+    (answers : List (Option Answer)) × (session : Session) × AreAnswers (IsMannedOperated scid) script answers session [] × (count ≡ length answers)
     × Appends old new (answers_text answers)
 
 -- memory ran out before the first line, which is told as line 0; at the line with this number; or for the report, after the last line

@@ -3,7 +3,7 @@
 ghost use Rattle.std.specs.Prelude.{◌≡◌, ◌<◌, ℕ, [], List, Option};
 ghost use Rattle.tc_channel.specs.Journal.{History};
 ghost use Rattle.tc_cli.specs.Parallel.{AreWorkedChannels};
-ghost use Rattle.tc_cli.specs.Progress.{Progress, IsPerformed};
+ghost use Rattle.tc_rack.specs.Progress.{Progress, IsPerformed};
 ghost use Rattle.tc_rack.specs.Report.{IsReportOf};
 ghost use Rattle.tc_cli.specs.Script.{AreFirstGood, IsScriptFault};
 ghost use Rattle.tc_cli.specs.Written.{AreAnswers, IsScriptReport};

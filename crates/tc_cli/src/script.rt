@@ -3,21 +3,21 @@
 ghost use Rattle.std.specs.Prelude.{◌≡◌, ◌⊎◌, ◌≤◌, length, IfOk, IfErr, OnOk, IfSome};
 ghost use Rattle.tc_cli.specs.Script.{IsScriptFault, IsGood, IsGoodLine, IsBadLine, IsReportFault};
 ghost use Rattle.tc_text.specs.Reading.{script_limit};
-ghost use Rattle.tc_cli.specs.Session.{IsLeft, IsOperated};
+ghost use Rattle.tc_cli.specs.Session.{IsSessionLeft, IsMannedOperated};
 ghost use Rattle.tc_rack.specs.Stage.{phase_of};
 ghost use Rattle.std.specs.Io.KnownBytes.{Appends, Keeps};
 ghost use Rattle.tc_rack.specs.Printed.{answer_line};
 ghost use Rattle.tc_cli.specs.Written.{IsScriptCutShort, IsLineAnswered, IsSessionReportWritten, IsScriptWritten};
 
 use crate::closing::close;
-use crate::session::{Session, perform, start};
+use crate::session::{Session, StationFounder};
 use std::alloc::Global;
 use std::io::{Read, Write};
 use std::sync::Wait;
 use tc_desk::{
     one_alone_is_answered_after_its_own_events, the_only_operator_made_the_whole_journal,
 };
-use tc_rack::{Answer, Stage, write_report};
+use tc_rack::{Answer, Stage, perform, start, write_report};
 use tc_setup::{Configuration, Instruction};
 use tc_text::{Reason, ScriptFault, next_line, parse_line, read_whole};
 
@@ -89,12 +89,13 @@ fn perform_line(
 ) -> Result<Option<Answer>, Reason>
     requires { scid ≤ 1023 }
     ensures done { OnOk result (IsGoodLine (phase_of session.old) octets.now (phase_of session.new)) }
-    ensures answer { IfOk result (IsLineAnswered (IsOperated scid) session.old octets.now session.new) }
+    ensures answer { IfOk result (IsLineAnswered (IsMannedOperated scid) session.old octets.now session.new) }
     ensures reason { IfErr result (λ reason. (reason ≡ Reason.NoMemory) ⊎ IsBadLine (phase_of session.old) octets.now reason) }
-    ensures refused { IfErr result (λ reason. IsLeft scid reason session.old session.new) }
+    ensures refused { IfErr result (λ reason. IsSessionLeft scid reason session.old session.new) }
 {
     let said = parse_line(alloc, octets)?;
-    perform(session, rt, alloc, scid, Instruction::of(alloc, said))
+    let founder = StationFounder { rt, scid };
+    perform(&founder, alloc, session, Instruction::of(alloc, said))
 }
 
 fn write_answer<W: Write>(answer: Option<Answer>, writer: &mut W) -> Result<(), ScriptFault>
@@ -121,7 +122,8 @@ fn report<W: Write>(
     ensures fault { IfErr result (IsReportFault lines) }
     ensures kept { IfErr result (λ fault. (fault ≡ ScriptFault.Write) ⊎ Keeps (W.contents writer.old) (W.contents writer.new)) }
 {
-    let mut manned = match start(session, rt, alloc, scid) {
+    let founder = StationFounder { rt, scid };
+    let mut manned = match start(&founder, alloc, session) {
         Ok(manned) => manned,
         Err(Reason::NoChannel) => return Ok(()),
         Err(reason) => {

@@ -7,7 +7,8 @@ use Rattle.tc_rack.specs.declared.stage.Stage.TheVariants.{Operating}
 use Rattle.tc_rack.specs.Delivery.{AreAnswersWritten, IsDeliveryEnded}
 use Rattle.tc_rack.specs.Operation.{IsAnswerOf}
 use Rattle.tc_rack.specs.Rack.{Racked}
-use Rattle.tc_live.specs.Receiver.{Receiving, IsDeliveryBegun, IsDeliveryDone, begun, rack_for}
+use Rattle.tc_live.specs.Receiver.{Receiving, IsDeliveryBegun, IsDeliveryDone, begun}
+use Rattle.tc_rack.specs.Progress.{rack_for}
 use Rattle.tc_live.specs.declared.answer.LiveAnswer.TheVariants as told
 use Rattle.tc_live.specs.declared.check.FrameCheck.{FrameCheck}
 

@@ -7,12 +7,11 @@ use Rattle.tc_rack.specs.declared.answer.Answer.{Answer}
 use Rattle.tc_rack.specs.Delivery.{AreAnswersWritten, told_lines}
 use Rattle.tc_setup.specs.Instruction.{instruction_of}
 use Rattle.tc_setup.specs.declared.instruction.Instruction.{Instruction}
-use Rattle.tc_setup.specs.declared.instruction.Instruction.TheVariants as instructions
 use Rattle.tc_text.specs.declared.line.Line.{Line}
 use Rattle.tc_text.specs.declared.live.LiveLine.{LiveLine}
 use Rattle.tc_text.specs.declared.live.LiveLine.TheVariants.{Script, Link as LinkOf, Report, Deliver}
 use Rattle.tc_live.specs.Printed.{live_text}
-use Rattle.tc_live.specs.Receiver.{Receiving, IsInstructed, IsLiveLineAnswered, IsLineDone, IsReady, IsScriptDone, link_told, report_told}
+use Rattle.tc_live.specs.Receiver.{Receiving, IsInstructed, IsLiveLineAnswered, IsLineDone, IsReady, IsScriptDone, link_told, report_told, script_told}
 use Rattle.tc_live.specs.Serving.{IsAnswerSaid, IsFollowedBy, IsLineSaid, IsTold}
 use Rattle.tc_live.specs.declared.answer.LiveAnswer.{LiveAnswer}
 use Rattle.tc_live.specs.declared.answer.LiveAnswer.TheVariants as told
@@ -25,15 +24,12 @@ use Rattle.tc_channel.specs.declared.holding.Holding.{Holding}
 abbrev IsNoDelivery : LiveAnswer → Type 0
 IsNoDelivery answer = (vcid : ℕ) (a : Answer) → answer ≡ told.Delivery vcid a → ⊥
 
+told-no-delivery : (a : Option Answer) → IsNoDelivery (script_told a)
+told-no-delivery None = λ vcid a e. cc
+told-no-delivery (Some answer) = λ vcid a e. cc
+
 instructed-no-delivery : (old new : Receiving) (instruction : Instruction) (answer : LiveAnswer) → IsInstructed old instruction new answer → IsNoDelivery answer
-instructed-no-delivery old new instructions.Nothing answer (is, same) = λ vcid a e. cc
-instructed-no-delivery old new (instructions.Channel settings) answer (is, same) = λ vcid a e. cc
-instructed-no-delivery old new (instructions.Add at addition) answer (is, same) = λ vcid a e. cc
-instructed-no-delivery old new (instructions.Frame octets) answer (other, rack, answered, is, same) = λ vcid a e. cc
-instructed-no-delivery old new (instructions.Release at) answer (other, rack, answered, is, same) = λ vcid a e. cc
-instructed-no-delivery old new (instructions.Take at apid) answer (other, rack, answered, is, same) = λ vcid a e. cc
-instructed-no-delivery old new (instructions.Unit at map_id) answer (other, rack, answered, is, same) = λ vcid a e. cc
-instructed-no-delivery old new (instructions.Clcw at) answer (other, rack, answered, is, same) = λ vcid a e. cc
+instructed-no-delivery old new instruction answer (a, answered, is, same) = subst IsNoDelivery (sym is) (told-no-delivery a)
 
 script-no-delivery : (old new : Receiving) (line : Line) (answer : LiveAnswer) → IsScriptDone old line new answer → IsNoDelivery answer
 script-no-delivery old new line answer (inl (passed, passes, (instructed, done))) = instructed-no-delivery old new (instruction_of passed) answer instructed

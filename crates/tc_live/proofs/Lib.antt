@@ -1,3 +1,4 @@
 mod Deliveries
 mod Ending
 mod Following
+mod Instructed

@@ -12,15 +12,15 @@ use Rattle.tc_channel.specs.declared.holding.Holding.{Holding}
 use Rattle.tc_setup.specs.Instruction.{instruction_of}
 use Rattle.tc_setup.specs.Phase.{Does, IsBad, IsBadOperation, Operates, Operation as InOperation}
 use Rattle.tc_setup.specs.declared.instruction.Instruction.{Instruction}
-use Rattle.tc_setup.specs.declared.instruction.Instruction.TheVariants as instructions
 use Rattle.tc_rack.specs.Stage.{phase_of}
 use Rattle.tc_rack.specs.declared.answer.Answer.{Answer}
 use Rattle.tc_rack.specs.declared.stage.Stage.{Stage}
 use Rattle.tc_rack.specs.declared.stage.Stage.TheVariants.{SettingUp, Operating}
-use Rattle.tc_rack.specs.Rack.{Racked, new_rack, IsLinkSet, IsReported}
+use Rattle.tc_rack.specs.Performing.{IsInstructionAnswered}
+use Rattle.tc_rack.specs.Progress.{IsPerformed, rack_for}
+use Rattle.tc_rack.specs.Rack.{Racked, IsLinkSet, IsReported}
 use Rattle.tc_rack.specs.Operation.{IsAnswerOf}
 use Rattle.tc_rack.specs.Delivery.{IsDeliveryEnded}
-use Rattle.tc_rack.specs.declared.operation.Operation.{Operation}
 use Rattle.tc_rack.specs.declared.operation.Operation.TheVariants as operations
 use Rattle.tc_live.specs.Check.{IsPassed, FailsCheck}
 use Rattle.tc_live.specs.declared.answer.LiveAnswer.{LiveAnswer}
@@ -37,11 +37,7 @@ pub record Receiving : Type 0 where
 abbrev pub new_receiver : FrameCheck → ℕ → Receiving
 new_receiver check scid = record { check = check; scid = scid; stage = SettingUp [] }
 
--- the channels that operations find: new ones where no operation came before
-abbrev pub rack_for : ℕ → Stage Racked → Racked
-rack_for scid (SettingUp list) = new_rack scid list
-rack_for scid (Operating rack) = rack
-
+-- the channels that operations find
 abbrev pub rack_at : Receiving → Racked
 rack_at receiver = rack_for receiver.scid receiver.stage
 
@@ -53,35 +49,26 @@ with_rack rack receiver = record receiver { stage = Operating rack }
 abbrev pub begun : Receiving → Receiving
 begun receiver = with_rack (rack_at receiver) receiver
 
--- an operation is answered, and its answer is told
-abbrev pub IsOperated : Operation → Receiving → Receiving → LiveAnswer → Type 0
-IsOperated operation old new answer =
-    (a : Answer) × (rack : Racked) × IsAnswerOf operation (rack_at old) a rack × (answer ≡ told.Operation a) × (new ≡ with_rack rack old)
+-- an operation's answer is told, and nothing where there is none
+abbrev pub script_told : Option Answer → LiveAnswer
+script_told None = told.Nothing
+script_told (Some answer) = told.Operation answer
 
--- a line that sets up has no answer; what it sets up is told by its phase, and all else is as before
-abbrev pub IsSetUp : Receiving → Receiving → LiveAnswer → Type 0
-IsSetUp old new answer = (answer ≡ told.Nothing) × (new ≡ record old { stage = new.stage })
-
--- what a line of a script is answered, by what it asks for
+-- what a line of a script is answered, by what it asks for, and that is told. All but the channels is as before
 abbrev pub IsInstructed : Receiving → Instruction → Receiving → LiveAnswer → Type 0
-IsInstructed old instructions.Nothing new answer = (answer ≡ told.Nothing) × (new ≡ old)
-IsInstructed old (instructions.Channel settings) new answer = IsSetUp old new answer
-IsInstructed old (instructions.Add vcid addition) new answer = IsSetUp old new answer
-IsInstructed old (instructions.Frame octets) new answer = IsOperated (operations.Frame octets) old new answer
-IsInstructed old (instructions.Release vcid) new answer = IsOperated (operations.Release vcid) old new answer
-IsInstructed old (instructions.Take vcid apid) new answer = IsOperated (operations.Take vcid apid) old new answer
-IsInstructed old (instructions.Unit vcid map_id) new answer = IsOperated (operations.Unit vcid map_id) old new answer
-IsInstructed old (instructions.Clcw vcid) new answer = IsOperated (operations.Clcw vcid) old new answer
+IsInstructed old instruction new answer =
+    (a : Option Answer) × IsInstructionAnswered (IsPerformed old.scid) old.stage instruction new.stage a
+    × (answer ≡ script_told a) × (new ≡ record old { stage = new.stage })
 
 -- the receiver does what a line of a script says that passed
-abbrev pub IsPerformed : Receiving → Line → Receiving → LiveAnswer → Type 0
-IsPerformed old passed new answer =
+abbrev pub IsPassedDone : Receiving → Line → Receiving → LiveAnswer → Type 0
+IsPassedDone old passed new answer =
     IsInstructed old (instruction_of passed) new answer × Does (phase_of old.stage) (instruction_of passed) (phase_of new.stage)
 
 -- a line that passes is done; one that doesn't changes nothing
 abbrev pub IsScriptDone : Receiving → Line → Receiving → LiveAnswer → Type 0
 IsScriptDone old line new answer =
-    ((passed : Line) × IsPassed old.check line passed × IsPerformed old passed new answer)
+    ((passed : Line) × IsPassed old.check line passed × IsPassedDone old passed new answer)
     ⊎ (FailsCheck old.check line × (answer ≡ told.Unchecked) × (new ≡ old))
 
 -- what a refused line leaves: all as it was, or where memory was wanting the channels made for it

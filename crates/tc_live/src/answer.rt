@@ -3,7 +3,7 @@
 ghost use Rattle.std.specs.Prelude.{◌≡◌, Some};
 ghost use Rattle.std.specs.Fmt.{WritesOnOk};
 ghost use Rattle.tc_live.specs.Printed.{live_text, link_text, holding_text, farm_text, rest_text, queues_text, queue_text, maps_text, map_text, state_text};
-ghost use Rattle.tc_live.specs.Receiver.{link_told, report_told};
+ghost use Rattle.tc_live.specs.Receiver.{link_told, report_told, script_told};
 
 use std::fmt;
 use tc_channel::{Holding, MapHolding, QueueHolding};
@@ -30,6 +30,16 @@ pub enum LiveAnswer {
 }
 
 impl LiveAnswer {
+    /// What a line of a script is answered, if it is an operation.
+    pub(crate) fn of_script(answer: Option<Answer>) -> LiveAnswer
+        ensures { result ≡ script_told answer }
+    {
+        match answer {
+            Some(answer) => LiveAnswer::Operation(answer),
+            None => LiveAnswer::Nothing,
+        }
+    }
+
     /// The flags of the link of a channel, which is known or not.
     pub(crate) fn of_link(known: bool, vcid: u8, link: Link) -> LiveAnswer
         ensures { result ≡ link_told known vcid link }

@@ -5,9 +5,9 @@ ghost use Rattle.std.specs.Io.KnownBytes.{Keeps};
 ghost use Rattle.tc_rack.specs.Delivery.{AreAnswersWritten};
 ghost use Rattle.tc_rack.specs.Report.{AreRising};
 ghost use Rattle.tc_rack.specs.Stage.{phase_of};
-ghost use Rattle.tc_live.specs.Receiver.{new_receiver, begun, rack_at, IsInstructed, IsOperated, IsScriptDone, IsPerformed, IsLinked, IsReportDone, IsDeliveryBegun, IsDeliveryDone, IsLiveLineAnswered, IsBadLiveLine, IsBadScript, IsReceiverLeft};
+ghost use Rattle.tc_live.specs.Receiver.{new_receiver, begun, rack_at, IsInstructed, IsScriptDone, IsPassedDone, IsLinked, IsReportDone, IsDeliveryBegun, IsDeliveryDone, IsLiveLineAnswered, IsBadLiveLine, IsBadScript, IsReceiverLeft};
 ghost use Rattle.tc_live.specs.Serving.{IsClosingFault, IsReportWritten};
-ghost use Rattle.tc_rack.specs.Rack.{histories, new_rack};
+ghost use Rattle.tc_rack.specs.Rack.{histories};
 ghost use Rattle.tc_setup.specs.Instruction.{instruction_of};
 ghost use Rattle.tc_setup.specs.Phase.{Does, IsBad, IsBadOperation, Operates, Setup, Operation as InOperation};
 ghost use Rattle.tc_channel.specs.Journal.{IsNumberTold};
@@ -21,7 +21,7 @@ use std::io::Write;
 use std::marker::Model;
 use tc_channel::FlightChannel;
 use tc_link::Link;
-use tc_rack::{Operation, Rack, Stage, write_report};
+use tc_rack::{Operation, Rack, RackFounder, Stage, begin, perform, write_report};
 use tc_setup::{Configuration, Instruction};
 use tc_text::{Line, LiveLine, Reason, SpacecraftId, parse_live_line};
 
@@ -84,7 +84,7 @@ impl Receiver {
 
     // Does a line that passed the check.
     fn perform_passed(&mut self, alloc: Global, passed: Line) -> Result<LiveAnswer, Reason>
-        ensures answer { IfOk result (IsPerformed self.old passed self.new) }
+        ensures answer { IfOk result (IsPassedDone self.old passed self.new) }
         ensures reason { IfErr result (λ reason. (reason ≡ Reason.NoMemory) ⊎ IsBad (phase_of self.old.stage) (instruction_of passed) reason) }
         ensures refused { IfErr result (λ reason. IsReceiverLeft reason self.old self.new) }
     {
@@ -98,39 +98,9 @@ impl Receiver {
         ensures reason { IfErr result (λ reason. (reason ≡ Reason.NoMemory) ⊎ IsBad (phase_of self.old.stage) instruction reason) }
         ensures refused { IfErr result (λ reason. IsReceiverLeft reason self.old self.new) }
     {
-        match instruction {
-            Instruction::Nothing => Ok(LiveAnswer::Nothing),
-            Instruction::Channel(settings) => {
-                self.stage.add_channel(settings)?;
-                Ok(LiveAnswer::Nothing)
-            }
-            Instruction::Add(vcid, addition) => {
-                self.stage.add_to_channel(alloc, vcid, addition)?;
-                Ok(LiveAnswer::Nothing)
-            }
-            Instruction::Frame(octets) => self.operate(alloc, Operation::Frame(octets)),
-            Instruction::Release(vcid) => self.operate(alloc, Operation::Release(vcid)),
-            Instruction::Take(vcid, apid) => self.operate(alloc, Operation::Take(vcid, apid)),
-            Instruction::Unit(vcid, map) => self.operate(alloc, Operation::Unit(vcid, map)),
-            Instruction::Clcw(vcid) => self.operate(alloc, Operation::Clcw(vcid)),
-        }
-    }
-
-    // Does an operation on the channels, which are made where none came before.
-    fn operate(&mut self, alloc: Global, operation: Operation) -> Result<LiveAnswer, Reason>
-        ensures done { OnOk result (Operates (phase_of self.old.stage) (phase_of self.new.stage)) }
-        ensures answer { IfOk result (IsOperated operation self.old self.new) }
-        ensures reason { IfErr result (λ reason. (reason ≡ Reason.NoMemory) ⊎ IsBadOperation (phase_of self.old.stage) reason) }
-        ensures refused { IfErr result (λ reason. IsReceiverLeft reason self.old self.new) }
-    {
-        self.begin(alloc)?;
-        match &mut self.stage {
-            Stage::Operating(rack) => match rack.operate(operation) {
-                Ok(answer) => Ok(LiveAnswer::Operation(answer)),
-                Err(_) => Err(Reason::NoMemory),
-            },
-            Stage::SettingUp(_) => unreachable!(),
-        }
+        let founder = self.founder();
+        let answer = perform(&founder, alloc, &mut self.stage, instruction)?;
+        Ok(LiveAnswer::of_script(answer))
     }
 
     fn link(&mut self, alloc: Global, vcid: u8, link: Link) -> Result<LiveAnswer, Reason>
@@ -201,14 +171,15 @@ impl Receiver {
         ensures reason { IfErr result (λ reason. (reason ≡ Reason.NoMemory) ⊎ IsBadOperation (phase_of self.old.stage) reason) }
         ensures refused { OnErr result (self.new ≡ self.old) }
     {
-        match &self.stage {
-            Stage::Operating(_) => Ok(()),
-            Stage::SettingUp(list) => {
-                let rack = begin_with(alloc, self.scid, list)?;
-                self.stage = Stage::Operating(rack);
-                Ok(())
-            }
-        }
+        let founder = self.founder();
+        begin(&founder, alloc, &mut self.stage)
+    }
+
+    // Who makes its channels.
+    fn founder(&self) -> RackFounder
+        ensures { result.scid ≡ self.now.scid }
+    {
+        RackFounder { scid: self.scid }
     }
 
     /// Ends the reception, and writes the final report of the channels, with both link flags 0. Where no
@@ -260,21 +231,6 @@ impl Receiver {
                 Err(_) => Err(ServingFault::NoMemory),
             },
         }
-    }
-}
-
-// New channels by a copy of what was set up.
-fn begin_with(alloc: Global, scid: u16, list: &Configuration) -> Result<Rack, Reason>
-    ensures rack { IfOk result (λ rack. rack ≡ new_rack scid list.now) }
-    ensures some { OnOk result (list.now ≢ []) }
-    ensures reason { IfErr result (λ reason. (reason ≡ Reason.NoMemory) ⊎ ((reason ≡ Reason.NoChannel) × (list.now ≡ []))) }
-{
-    if list.channels().is_empty() {
-        return Err(Reason::NoChannel);
-    }
-    match Rack::new(alloc, scid, list.copy(alloc)?) {
-        Ok(rack) => Ok(rack),
-        Err(_) => Err(Reason::NoMemory),
     }
 }
 

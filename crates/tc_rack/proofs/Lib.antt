@@ -2,3 +2,4 @@ mod Places
 mod Written
 mod Waiting
 mod Delivered
+pub mod Performed

@@ -5,3 +5,5 @@ pub mod Delivery
 pub mod Printed
 pub mod Stage
 pub mod Report
+pub mod Performing
+pub mod Progress

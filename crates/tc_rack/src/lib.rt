@@ -9,6 +9,7 @@ mod answer;
 mod delivery;
 mod linked;
 mod operation;
+mod performing;
 mod queue;
 mod rack;
 mod report;
@@ -16,6 +17,7 @@ mod stage;
 
 pub use answer::{Answer, Refusal};
 pub use operation::Operation;
+pub use performing::{Founder, RackFounder, begin, perform, start};
 pub use rack::Rack;
 pub use report::write_report;
 pub use stage::Stage;

@@ -30,7 +30,7 @@ use Rattle.tc_rack.specs.declared.answer.Answer.TheVariants as answers
 use Rattle.tc_rack.specs.declared.answer.Refusal.TheVariants.{NoQueue, NoMap, Empty}
 use Rattle.tc_rack.specs.declared.stage.Stage.TheVariants.{SettingUp, Operating}
 use Rattle.tc_cli.specs.Examples as example
-use Rattle.tc_cli.specs.Progress.{Progress, IsPerformed}
+use Rattle.tc_rack.specs.Progress.{Progress, IsPerformed}
 use Rattle.tc_cli.specs.Written.{AreAnswers, at_first, one_more, IsLineAnswered, IsScriptReport}
 use Rattle.tc_cli.proofs.worked.a_script_writes_this.Goals as goal
 
@@ -207,35 +207,35 @@ map-line = (said.Map 1 3 1, refl, (settings (queue ∷ []) [] ∷ [], all ∷ []
 
 empty-line : IsDone (SettingUp (all ∷ [])) (codes "release 1") (at []) (Some (answers.Refused Empty))
 unfolding line_of words run_within no_limits buffered_fields_within
-empty-line = (said.Release 1, refl, ((λ e. cc), refl), (answers.Refused Empty, (rack [], inl (0, channel [], channel [], (refl, refl), inr (refl, refl, refl), refl), refl), refl))
+empty-line = (said.Release 1, refl, ((λ e. cc), refl), (answers.Refused Empty, (rack [], rack [], refl, inl (0, channel [], channel [], (refl, refl), inr (refl, refl, refl), refl), refl), refl))
 
 first-line : IsDone (at []) (codes "frame 002a040c00c01005c0000000aa") (at first) (Some (framed 1 0))
 unfolding line_of words hex_on_literals run_within no_limits passed_on frame_reply_within
-first-line = (said.Frame (expected 0), refl, ((λ e. cc), refl), (framed 1 0, (rack first, inl (expected 0, (whole-first, refl), refl, (0, channel [], channel first, (refl, refl), (refl, refl), refl)), refl), refl))
+first-line = (said.Frame (expected 0), refl, ((λ e. cc), refl), (framed 1 0, (rack [], rack first, refl, inl (expected 0, (whole-first, refl), refl, (0, channel [], channel first, (refl, refl), (refl, refl), refl)), refl), refl))
 
 release-line : IsDone (at first) (codes "release 1") (at released) (Some release)
 unfolding line_of words run_within no_limits passed_on release_reply_within buffered_fields_within
-release-line = (said.Release 1, refl, ((λ e. cc), refl), (release, (rack released, inl (0, channel first, channel released, (refl, refl), inl ((λ e. (let one : (0xc0 ∷ packet) ∷ [] ≡ [] = e in cc)), refl, refl), refl), refl), refl))
+release-line = (said.Release 1, refl, ((λ e. cc), refl), (release, (rack first, rack released, refl, inl (0, channel first, channel released, (refl, refl), inl ((λ e. (let one : (0xc0 ∷ packet) ∷ [] ≡ [] = e in cc)), refl, refl), refl), refl), refl))
 
 take-line : IsDone (at released) (codes "take 1 5") (at taken) (Some (answers.Take 1 5 packet))
 unfolding line_of words run_within no_limits passed_on waiting_packets_within
-take-line = (said.Take 1 5, refl, ((λ e. cc), refl), (answers.Take 1 5 packet, (rack taken, inl (0, channel released, channel taken, (refl, refl), inl (packet, refl, refl, refl), refl), refl), refl))
+take-line = (said.Take 1 5, refl, ((λ e. cc), refl), (answers.Take 1 5 packet, (rack released, rack taken, refl, inl (0, channel released, channel taken, (refl, refl), inl (packet, refl, refl, refl), refl), refl), refl))
 
 no-queue-line : IsDone (at taken) (codes "take 1 6") (at taken) (Some (answers.Refused NoQueue))
 unfolding line_of words run_within no_limits passed_on waiting_packets_within
-no-queue-line = (said.Take 1 6, refl, ((λ e. cc), refl), (answers.Refused NoQueue, (rack taken, inl (0, channel taken, channel taken, (refl, refl), inr (inl (refl, refl), refl), refl), refl), refl))
+no-queue-line = (said.Take 1 6, refl, ((λ e. cc), refl), (answers.Refused NoQueue, (rack taken, rack taken, refl, inl (0, channel taken, channel taken, (refl, refl), inr (inl (refl, refl), refl), refl), refl), refl))
 
 no-map-line : IsDone (at taken) (codes "unit 1 4") (at taken) (Some (answers.Refused NoMap))
 unfolding line_of words run_within no_limits passed_on waiting_units_within
-no-map-line = (said.Unit 1 4, refl, ((λ e. cc), refl), (answers.Refused NoMap, (rack taken, inl (0, channel taken, channel taken, (refl, refl), inr (inl (refl, refl), refl), refl), refl), refl))
+no-map-line = (said.Unit 1 4, refl, ((λ e. cc), refl), (answers.Refused NoMap, (rack taken, rack taken, refl, inl (0, channel taken, channel taken, (refl, refl), inr (inl (refl, refl), refl), refl), refl), refl))
 
 bypass-line : IsDone (at taken) (codes "frame 202a040700c3aabb") (at bypassed) (Some (framed 6 1))
 unfolding line_of words hex_on_literals run_within no_limits passed_on frame_reply_within
-bypass-line = (said.Frame bypassing, refl, ((λ e. cc), refl), (framed 6 1, (rack bypassed, inl (bypassing, (whole-bypassing, refl), refl, (0, channel taken, channel bypassed, (refl, refl), (refl, refl), refl)), refl), refl))
+bypass-line = (said.Frame bypassing, refl, ((λ e. cc), refl), (framed 6 1, (rack taken, rack bypassed, refl, inl (bypassing, (whole-bypassing, refl), refl, (0, channel taken, channel bypassed, (refl, refl), (refl, refl), refl)), refl), refl))
 
 second-line : IsDone (at bypassed) (codes "frame 002a040c01c01005c0000000aa") (at last) (Some (framed 1 0))
 unfolding line_of words hex_on_literals run_within no_limits passed_on frame_reply_within
-second-line = (said.Frame (expected 1), refl, ((λ e. cc), refl), (framed 1 0, (rack last, inl (expected 1, (whole-second, refl), refl, (0, channel bypassed, channel last, (refl, refl), (refl, refl), refl)), refl), refl))
+second-line = (said.Frame (expected 1), refl, ((λ e. cc), refl), (framed 1 0, (rack bypassed, rack last, refl, inl (expected 1, (whole-second, refl), refl, (0, channel bypassed, channel last, (refl, refl), (refl, refl), refl)), refl), refl))
 
 -- the report
 

@@ -1,5 +1,5 @@
 use Rattle.std.proofs.Common.{◌<◌, ◌≤◌, ℕ, true, false, List, [], ◌∷◌, ◌++◌, refl, sym, inl, inr, lit<, lit≤, arith}
-use Rattle.std.specs.Prelude.{codes}
+use Rattle.std.specs.Prelude.{codes, Some, None}
 use Rattle.std.specs.Fmt.{digits}
 use Rattle.std.proofs.lemmas.List.{append-nil}
 use Rattle.std.proofs.lemmas.List.Elements.{All-nil}
@@ -63,7 +63,7 @@ channel-line = inl (
   (
     Script (said.Channel 1 10 1 0 false),
     refl,
-    inl (said.Channel 1 10 1 0 false, refl, ((refl, refl), ([], plain_channel ∷ [], refl, ((λ there. (let inside : there.0 < 0 = there.2 in omega arith)), allowed, refl), refl))),
+    inl (said.Channel 1 10 1 0 false, refl, ((None, refl, refl, refl), ([], plain_channel ∷ [], refl, ((λ there. (let inside : there.0 < 0 = there.2 in omega arith)), allowed, refl), refl))),
   ),
   ([], (refl, refl), refl),
 )
@@ -84,7 +84,19 @@ clcw-line = inl (
   (
     Script (said.Clcw 1),
     refl,
-    inl (said.Clcw 1, refl, ((answers.Clcw 1 0x01048000, rack no_signal, (inl (0, channel no_signal, (refl, refl), refl), refl), refl, refl), ((λ e. cc), refl))),
+    inl (
+      said.Clcw 1,
+      refl,
+      (
+        (
+          Some (answers.Clcw 1 0x01048000),
+          (answers.Clcw 1 0x01048000, (rack no_signal, rack no_signal, refl, (inl (0, channel no_signal, (refl, refl), refl), refl), refl), refl),
+          refl,
+          refl,
+        ),
+        ((λ e. cc), refl),
+      ),
+    ),
   ),
   ([], (refl, refl), sym (append-nil clcw_text)),
 )

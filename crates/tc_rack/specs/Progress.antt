@@ -1,7 +1,9 @@
 -- How far a script has come, by its lines alone: its channels are set up first, and then each of them has the journal of the
 -- operations so far.
-use Rattle.std.specs.Prelude.{◌≡◌, ℕ}
+use Rattle.std.specs.Prelude.{◌≡◌, ℕ, List}
+use Rattle.tc_channel.specs.declared.settings.Settings.{Settings}
 use Rattle.tc_rack.specs.Operation.{IsAnswerOf}
+use Rattle.tc_rack.specs.Performing.{IsOperated}
 use Rattle.tc_rack.specs.Rack.{Racked, new_rack}
 use Rattle.tc_rack.specs.declared.answer.Answer.{Answer}
 use Rattle.tc_rack.specs.declared.operation.Operation.{Operation}
@@ -16,7 +18,11 @@ abbrev pub rack_for : ℕ → Progress → Racked
 rack_for scid (SettingUp list) = new_rack scid list
 rack_for scid (Operating rack) = rack
 
+-- new channels with these settings
+abbrev pub IsNewRack : ℕ → List Settings → Racked → Type 0
+IsNewRack scid list rack = rack ≡ new_rack scid list
+
 -- an operation of a script is answered by the channels that it finds: each answer is the reply of the channel that it names, at the
 -- journal that the operations before it made
 abbrev pub IsPerformed : ℕ → Operation → Progress → Answer → Progress → Type 0
-IsPerformed scid operation old answer new = (rack : Racked) × IsAnswerOf operation (rack_for scid old) answer rack × (new ≡ Operating rack)
+IsPerformed scid operation old answer new = IsOperated (IsNewRack scid) IsAnswerOf operation old answer new

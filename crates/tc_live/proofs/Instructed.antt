@@ -1,0 +1,20 @@
+-- What a line of a script is answered on the channels of a receiver, and what is told of it.
+use Rattle.std.proofs.Common.{◌≡◌, ℕ, Option, ap, subst}
+use Rattle.tc_setup.specs.declared.instruction.Instruction.{Instruction}
+use Rattle.tc_rack.specs.Performing.{IsInstructionAnswered}
+use Rattle.tc_rack.specs.Progress.{Progress, IsPerformed}
+use Rattle.tc_rack.specs.declared.answer.Answer.{Answer}
+use Rattle.tc_live.specs.Receiver.{Receiving, IsInstructed, script_told}
+use Rattle.tc_live.specs.declared.answer.LiveAnswer.{LiveAnswer}
+use Rattle.tc_live.specs.declared.check.FrameCheck.{FrameCheck}
+
+pub instructed : (old : Receiving) (check : FrameCheck) (scid from : ℕ) (stage new : Progress) (instruction : Instruction) (a : Option Answer) (answer : LiveAnswer)
+    → ◌≡◌ {A = Receiving} (record { check = check; scid = scid; stage = stage }) old → from ≡ old.scid
+    → IsInstructionAnswered (IsPerformed from) stage instruction new a → answer ≡ script_told a
+    → IsInstructed old instruction (record { check = check; scid = scid; stage = new }) answer
+instructed old check scid from stage new instruction a answer view same answered told = (
+  a,
+  subst (λ (x : ℕ × Progress). IsInstructionAnswered (IsPerformed x.0) x.1 instruction new a) (λ i. (same i, (view i).stage)) answered,
+  told,
+  ap (λ (r : Receiving). record r { stage = new }) view,
+)

@@ -1,0 +1,43 @@
+-- What the lines of a script do in order. What its operations find is made of what is set up, at the first of them: who makes it says
+-- what a new one is (`IsNew`), what operations are answered (`Answers`), and what is left where memory is wanting (`Spares`).
+use Rattle.std.specs.Prelude.{◌≡◌, ◌⊎◌, List, Option, Some, None}
+use Rattle.tc_channel.specs.declared.settings.Settings.{Settings}
+use Rattle.tc_setup.specs.declared.instruction.Instruction.{Instruction}
+use Rattle.tc_setup.specs.declared.instruction.Instruction.TheVariants.{Nothing, Channel, Add, Frame, Release, Take, Unit as TakeUnit, Clcw}
+use Rattle.tc_text.specs.declared.fault.Reason.{Reason}
+use Rattle.tc_text.specs.declared.fault.Reason.TheVariants.{NoMemory}
+use Rattle.tc_rack.specs.declared.answer.Answer.{Answer}
+use Rattle.tc_rack.specs.declared.operation.Operation.{Operation}
+use Rattle.tc_rack.specs.declared.operation.Operation.TheVariants as operations
+use Rattle.tc_rack.specs.declared.stage.Stage.{Stage}
+use Rattle.tc_rack.specs.declared.stage.Stage.TheVariants.{SettingUp, Operating}
+
+-- what operations find: what is there, or a new one where no operation came before
+abbrev pub IsFound : {O : Type 0} → (List Settings → O → Type 0) → Stage O → O → Type 0
+IsFound IsNew (SettingUp list) found = IsNew list found
+IsFound IsNew (Operating there) found = found ≡ there
+
+-- what a refused line leaves: all as it was, or where memory is wanting what the operation found, spared
+abbrev pub IsLeft : {O : Type 0} → (List Settings → O → Type 0) → (O → O → Type 0) → Reason → Stage O → Stage O → Type 0
+IsLeft {O} IsNew Spares reason old new =
+    (new ≡ old) ⊎ ((reason ≡ NoMemory) × (found after : O) × IsFound IsNew old found × Spares found after × (new ≡ Operating after))
+
+-- an operation is answered by what it finds
+abbrev pub IsOperated : {O : Type 0} → (List Settings → O → Type 0) → (Operation → O → Answer → O → Type 0) → Operation → Stage O → Answer → Stage O → Type 0
+IsOperated {O} IsNew Answers operation old answer new =
+    (found after : O) × IsFound IsNew old found × Answers operation found answer after × (new ≡ Operating after)
+
+-- an operation is answered so, where this relates what was, the answer and what is then
+abbrev pub IsDoneSo : {O : Type 0} → (Operation → Stage O → Answer → Stage O → Type 0) → Operation → Stage O → Option Answer → Stage O → Type 0
+IsDoneSo Operates operation old answer new = (a : Answer) × Operates operation old a new × (answer ≡ Some a)
+
+-- what a line is answered: an operation its answer, and any other line nothing; a blank line leaves all as it is
+abbrev pub IsInstructionAnswered : {O : Type 0} → (Operation → Stage O → Answer → Stage O → Type 0) → Stage O → Instruction → Stage O → Option Answer → Type 0
+IsInstructionAnswered Operates old Nothing new answer = (answer ≡ None) × (new ≡ old)
+IsInstructionAnswered Operates old (Channel settings) new answer = answer ≡ None
+IsInstructionAnswered Operates old (Add vcid addition) new answer = answer ≡ None
+IsInstructionAnswered Operates old (Frame octets) new answer = IsDoneSo Operates (operations.Frame octets) old answer new
+IsInstructionAnswered Operates old (Release vcid) new answer = IsDoneSo Operates (operations.Release vcid) old answer new
+IsInstructionAnswered Operates old (Take vcid apid) new answer = IsDoneSo Operates (operations.Take vcid apid) old answer new
+IsInstructionAnswered Operates old (TakeUnit vcid map_id) new answer = IsDoneSo Operates (operations.Unit vcid map_id) old answer new
+IsInstructionAnswered Operates old (Clcw vcid) new answer = IsDoneSo Operates (operations.Clcw vcid) old answer new

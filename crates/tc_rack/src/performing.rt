@@ -1,0 +1,176 @@
+//! What the lines of a script do in order: set up, and then operate on what is made of that at the first operation.
+
+ghost use Rattle.std.specs.Prelude.{◌≡◌, ◌≢◌, ◌⊎◌, [], IfOk, IfErr, OnErr, OnOk};
+ghost use Rattle.tc_setup.specs.Phase.{Does, IsBad, IsBadOperation, Operates, Setup};
+ghost use Rattle.tc_rack.specs.Performing.{IsDoneSo, IsFound, IsInstructionAnswered, IsLeft, IsOperated};
+ghost use Rattle.tc_rack.specs.Stage.{phase_of};
+
+use crate::answer::Answer;
+use crate::operation::Operation;
+use crate::rack::Rack;
+use crate::stage::Stage;
+use std::alloc::Global;
+use tc_setup::{Configuration, Instruction};
+use tc_text::Reason;
+
+/// Who makes what operates of what is set up, and does operations on it.
+pub trait Founder {
+    ghost use Rattle.std.specs.Prelude.{List};
+    ghost use Rattle.tc_channel.specs.declared.settings.Settings.{Settings};
+    ghost use Rattle.tc_rack.specs.declared.answer.Answer.{Answer};
+    ghost use Rattle.tc_rack.specs.declared.operation.Operation.{Operation};
+
+    /// What operates.
+    type Founded: Drop;
+
+    // it is a new one for channels with these settings
+    ghost is_new: { Self → List Settings → Self.Founded → Type 0 };
+
+    // what it answers an operation, and what that leaves
+    ghost answers: { Operation → Self.Founded → Answer → Self.Founded → Type 0 };
+
+    // what an operation leaves for which memory is wanting
+    ghost spares: { Self.Founded → Self.Founded → Type 0 };
+
+    /// Makes it.
+    fn found(&self, alloc: Global, list: Configuration) -> Result<Self::Founded, Reason>
+        ensures new { IfOk result (is_new self.now list) }
+        ensures some { OnOk result (list ≢ []) }
+        ensures reason { IfErr result (λ reason. (reason ≡ Reason.NoMemory) ⊎ ((reason ≡ Reason.NoChannel) × (list ≡ []))) };
+
+    /// Does an operation on it.
+    fn operate(&self, founded: &mut Self::Founded, operation: Operation) -> Result<Answer, Reason>
+        ensures answer { IfOk result (λ answer. answers operation founded.old answer founded.new) }
+        ensures reason { IfErr result (λ reason. reason ≡ Reason.NoMemory) }
+        ensures refused { OnErr result (spares founded.old founded.new) };
+}
+
+/// Who makes the channels of the spacecraft with this id, for one thread.
+#[derive(Clone, Copy, Debug)]
+pub struct RackFounder {
+    pub scid: u16,
+}
+
+impl Founder for RackFounder {
+    ghost use Rattle.std.specs.Prelude.{◌≡◌};
+    ghost use Rattle.tc_rack.specs.Operation.{IsAnswerOf};
+    ghost use Rattle.tc_rack.specs.Progress.{IsNewRack};
+
+    type Founded = Rack;
+
+    ghost is_new = { λ f. IsNewRack f.scid };
+
+    ghost answers = { IsAnswerOf };
+
+    ghost spares = { λ old new. new ≡ old };
+
+    fn found(&self, alloc: Global, list: Configuration) -> Result<Rack, Reason> {
+        if list.channels().is_empty() {
+            return Err(Reason::NoChannel);
+        }
+        match Rack::new(alloc, self.scid, list) {
+            Ok(rack) => Ok(rack),
+            Err(_) => Err(Reason::NoMemory),
+        }
+    }
+
+    fn operate(&self, rack: &mut Rack, operation: Operation) -> Result<Answer, Reason> {
+        match rack.operate(operation) {
+            Ok(answer) => Ok(answer),
+            Err(_) => Err(Reason::NoMemory),
+        }
+    }
+}
+
+/// Does what a line asks for; an operation has an answer. A line that is refused leaves all as it is, and where memory is wanting for an
+/// operation what its founder says; for the first operation, what operates may have been made.
+pub fn perform<F: Founder>(
+    founder: &F,
+    alloc: Global,
+    stage: &mut Stage<F::Founded>,
+    instruction: Instruction,
+) -> Result<Option<Answer>, Reason>
+    ensures done { OnOk result (Does (phase_of stage.old) instruction (phase_of stage.new)) }
+    ensures answer { IfOk result (IsInstructionAnswered (IsOperated (F.is_new founder.now) F.answers) stage.old instruction stage.new) }
+    ensures reason { IfErr result (λ reason. (reason ≡ Reason.NoMemory) ⊎ IsBad (phase_of stage.old) instruction reason) }
+    ensures refused { IfErr result (λ reason. IsLeft (F.is_new founder.now) F.spares reason stage.old stage.new) }
+{
+    match instruction {
+        Instruction::Nothing => Ok(None),
+        Instruction::Channel(settings) => {
+            stage.add_channel(settings)?;
+            Ok(None)
+        }
+        Instruction::Add(vcid, addition) => {
+            stage.add_to_channel(alloc, vcid, addition)?;
+            Ok(None)
+        }
+        Instruction::Frame(octets) => operate(founder, alloc, stage, Operation::Frame(octets)),
+        Instruction::Release(vcid) => operate(founder, alloc, stage, Operation::Release(vcid)),
+        Instruction::Take(vcid, apid) => operate(
+            founder,
+            alloc,
+            stage,
+            Operation::Take(vcid, apid),
+        ),
+        Instruction::Unit(vcid, map) => operate(founder, alloc, stage, Operation::Unit(vcid, map)),
+        Instruction::Clcw(vcid) => operate(founder, alloc, stage, Operation::Clcw(vcid)),
+    }
+}
+
+// Does an operation on what operates, which is made where no operation came before.
+fn operate<F: Founder>(
+    founder: &F,
+    alloc: Global,
+    stage: &mut Stage<F::Founded>,
+    operation: Operation,
+) -> Result<Option<Answer>, Reason>
+    ensures done { OnOk result (Operates (phase_of stage.old) (phase_of stage.new)) }
+    ensures answer { IfOk result (λ answer. IsDoneSo (IsOperated (F.is_new founder.now) F.answers) operation stage.old answer stage.new) }
+    ensures reason { IfErr result (λ reason. (reason ≡ Reason.NoMemory) ⊎ IsBadOperation (phase_of stage.old) reason) }
+    ensures refused { IfErr result (λ reason. IsLeft (F.is_new founder.now) F.spares reason stage.old stage.new) }
+{
+    begin(founder, alloc, stage)?;
+    match stage {
+        Stage::Operating(founded) => Ok(Some(founder.operate(founded, operation)?)),
+        Stage::SettingUp(_) => unreachable!(),
+    }
+}
+
+/// Makes what operates, where no operation came before: by a copy of what was set up, which stays where memory is wanting.
+pub fn begin<F: Founder>(
+    founder: &F,
+    alloc: Global,
+    stage: &mut Stage<F::Founded>,
+) -> Result<(), Reason>
+    ensures found { OnOk result ((found : F.Founded) × IsFound (F.is_new founder.now) stage.old found × (stage.new ≡ Stage.Operating found)) }
+    ensures some { OnOk result (phase_of stage.old ≢ Setup []) }
+    ensures reason { IfErr result (λ reason. (reason ≡ Reason.NoMemory) ⊎ IsBadOperation (phase_of stage.old) reason) }
+    ensures refused { OnErr result (stage.new ≡ stage.old) }
+{
+    match stage {
+        Stage::Operating(_) => Ok(()),
+        Stage::SettingUp(list) => {
+            let copy = list.copy(alloc)?;
+            let founded = founder.found(alloc, copy)?;
+            *stage = Stage::Operating(founded);
+            Ok(())
+        }
+    }
+}
+
+/// What operates, made of what was set up where no operation came before.
+pub fn start<F: Founder>(
+    founder: &F,
+    alloc: Global,
+    stage: Stage<F::Founded>,
+) -> Result<F::Founded, Reason>
+    ensures found { IfOk result (IsFound (F.is_new founder.now) stage) }
+    ensures some { OnOk result (phase_of stage ≢ Setup []) }
+    ensures reason { IfErr result (λ reason. (reason ≡ Reason.NoMemory) ⊎ IsBadOperation (phase_of stage) reason) }
+{
+    match stage {
+        Stage::Operating(founded) => Ok(founded),
+        Stage::SettingUp(list) => founder.found(alloc, list),
+    }
+}
