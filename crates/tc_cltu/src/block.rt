@@ -70,21 +70,13 @@ pub fn decode_block(block: [u8; 8], mode: Mode) -> Option<[u8; 7]>
     ensures refused { (information : List ℕ) → IsInformation information → most_errors mode < errors block information
         → errors block information + most_errors mode ≤ 3 → result ≡ None }
 {
-    read_block(block, mode).information
+    judge(block, mode).information
 }
 
-/// What becomes of a code block, and the seven octets that it carries where it is taken.
+/// What becomes of a code block, which is seven octets and one more, and the seven octets that it carries where it is taken.
 pub fn judge(block: [u8; 8], mode: Mode) -> Judged
     ensures fate { result.fate ≡ fate_in mode block }
     ensures information { result.information ≡ decoded mode block }
-{
-    read_block(block, mode)
-}
-
-// The same, and that the block is seven octets and one more.
-fn read_block(block: [u8; 8], mode: Mode) -> Judged
-    ensures fate { result.fate ≡ fate_in mode block }
-    ensures decoded { result.information ≡ decoded mode block }
     ensures parts { (own : List ℕ) × (last : ℕ) × IsInformation own × (block ≡ own ++ last ∷ []) }
 {
     let [a, b, c, d, e, f, g, last] = block;

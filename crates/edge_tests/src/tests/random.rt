@@ -1,5 +1,6 @@
 //! The randomiser.
 
+use super::*;
 use tc_cltu::randomise;
 
 // The first 40 bits of the sequence are 11111111 00111001 10011110 01011010 01101000, as the standard prints them.
@@ -15,10 +16,9 @@ const SEQUENCE: &str = "ff399e5a68e906f56c892fa1315e08c0";
 
 #[test]
 fn the_sequence_is_added(rt: HostRuntime) {
-    let mut octets = hex::decode(rt.alloc(), SEQUENCE).expect(&rt, "octets");
+    let mut octets = octets_of(&rt, rt.alloc(), SEQUENCE);
     randomise(&mut octets);
     assert!(rt; octets.as_slice() == [0; 16].as_slice());
     randomise(&mut octets);
-    let digits = hex::encode(rt.alloc(), &octets).expect(&rt, "digits");
-    assert_eq!(rt; digits.as_str(), SEQUENCE);
+    assert_eq!(rt; digits_of(&rt, rt.alloc(), &octets).as_str(), SEQUENCE);
 }

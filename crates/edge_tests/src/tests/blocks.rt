@@ -1,6 +1,6 @@
 //! Code blocks.
 
-use std::process::Abort;
+use super::*;
 use tc_cltu::{Fate, Mode, TAIL, decode_block, encode_block, judge};
 
 // Seven octets and the last octet of their code block. G is x^7 + x^6 + x^2 + 1, and the octets are a polynomial M, which is divided

@@ -2,8 +2,7 @@
 
 ghost use Rattle.std.specs.Prelude.{◌<◌};
 
-use std::alloc::Global;
-use std::process::Abort;
+use super::*;
 use tc_cltu::{Decoder, Mode};
 
 // The candidate frames of a stream that comes in pieces of so many octets, each with a space behind it.
@@ -17,8 +16,8 @@ fn frames_of(rt: &impl Abort, alloc: Global, mode: Mode, stream: &[u8], size: us
     }
     let mut text = String::new(alloc);
     for frame in &frames {
-        let digits = hex::encode(alloc, frame).expect(rt, "digits");
-        text.push_str(&digits).expect(rt, "memory");
+        text.push_str(&digits_of(rt, alloc, frame))
+            .expect(rt, "memory");
         text.push_str(" ").expect(rt, "memory");
     }
     text
@@ -26,7 +25,7 @@ fn frames_of(rt: &impl Abort, alloc: Global, mode: Mode, stream: &[u8], size: us
 
 // In pieces of 1 to 19 octets.
 fn check_stream(rt: &impl Abort, alloc: Global, mode: Mode, stream: &str, expected: &str) {
-    let octets = hex::decode(alloc, stream).expect(rt, "octets");
+    let octets = octets_of(rt, alloc, stream);
     for size in 1..20usize {
         let frames = frames_of(rt, alloc, mode, &octets, size);
         assert_eq!(rt;

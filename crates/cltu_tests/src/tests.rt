@@ -1,5 +1,0 @@
-mod blocks;
-mod cltus;
-mod growths;
-mod random;
-mod streams;

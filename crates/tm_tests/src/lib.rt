@@ -1,5 +1,0 @@
-//! Tests of telemetry frames, by public names. The library itself is empty.
-#![tactic(auto)]
-
-#[cfg(test)]
-mod tests;
