@@ -103,8 +103,12 @@ fn the_tail_sequence_is_rejected_in_each_mode(rt: HostRuntime) {
     }
 }
 
+fn fate_of(block: [u8; 8], mode: Mode) -> Fate {
+    judge(block, mode).fate
+}
+
 fn check_fate(rt: &impl Abort, block: [u8; 8], mode: Mode, expected: Fate) {
-    assert_eq!(rt; judge(block, mode).fate, expected, "{mode:?}");
+    assert_eq!(rt; fate_of(block, mode), expected, "{mode:?}");
 }
 
 #[test]

@@ -15,7 +15,7 @@ const CLTUS: [(&str, &str); 4] = [
     ),
 ];
 
-fn cltu_of(rt: &impl Abort, alloc: Global, octets: &[u8]) -> Vec<u8> {
+pub(super) fn cltu_of(rt: &impl Abort, alloc: Global, octets: &[u8]) -> Vec<u8> {
     write_cltu(alloc, octets).expect(rt, "a CLTU")
 }
 

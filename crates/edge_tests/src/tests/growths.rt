@@ -1,5 +1,6 @@
 //! Each call is made; where it answers that memory ran out, it is made again, or the next one is, or what it left is looked at.
 
+use super::cltus::cltu_of;
 use super::*;
 use std::test::Fail;
 use tc_cltu::{CltuFault, Decoder, Mode, write_cltu};
@@ -20,7 +21,7 @@ fn growth_of_a_cltu(rt: HostRuntime) {
         Err(fault) => {
             let _ = println!(rt; "refused: write_cltu");
             assert_eq!(rt; fault, CltuFault::NoMemory);
-            write_cltu(rt.alloc(), &FRAME).expect(&rt, "a CLTU")
+            cltu_of(&rt, rt.alloc(), &FRAME)
         }
     };
     assert!(rt; made.as_slice() == CLTU.as_slice());

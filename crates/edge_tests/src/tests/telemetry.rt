@@ -41,31 +41,36 @@ fn a_frame_is_written_and_read_back(rt: HostRuntime) {
     check_frame(&rt, rt.alloc(), ErrorControl::Present, &WHOLE);
 }
 
-// Both counts of the next frame of a virtual channel, or why it isn't made.
+// Frames, one after the other: the spacecraft, the virtual channel and the length, and both counts, or why the frame isn't made.
+const COUNTED: [(u16, u8, usize, Result<[u8; 2], TmFault>); 6] = [
+    (42, 1, 11, Ok([0, 0])),
+    (42, 2, 11, Ok([1, 0])),
+    (42, 1, 11, Ok([2, 1])),
+    (43, 1, 11, Ok([0, 0])),
+    (42, 1, 10, Err(TmFault::BadLength)),
+    (42, 1, 11, Ok([3, 2])),
+];
+
 fn next_counts(
     counts: &mut Counts,
     alloc: Global,
     scid: u16,
     vcid: u8,
     length: usize,
-) -> Result<(Option<u8>, Option<u8>), TmFault> {
+) -> Result<[u8; 2], TmFault> {
     let frame = counts.next_frame(alloc, ErrorControl::Absent, scid, vcid, CLCW, length)?;
-    Ok((frame.get(2).copied(), frame.get(3).copied()))
+    Ok(match frame.as_slice() {
+        [_, _, master, channel, ..] => [*master, *channel],
+        _ => [255, 255],
+    })
 }
 
 #[test]
 fn counts_go_on_for_each_channel(rt: HostRuntime) {
     let mut counts = Counts::new(rt.alloc()).expect(&rt, "counts");
-    for (scid, vcid, length, expected) in [
-        (42, 1, 11, Ok((Some(0), Some(0)))),
-        (42, 2, 11, Ok((Some(1), Some(0)))),
-        (42, 1, 11, Ok((Some(2), Some(1)))),
-        (43, 1, 11, Ok((Some(0), Some(0)))),
-        (42, 1, 10, Err(TmFault::BadLength)),
-        (42, 1, 11, Ok((Some(3), Some(2)))),
-    ] {
-        let made = next_counts(&mut counts, rt.alloc(), scid, vcid, length);
-        assert_eq!(rt; made, expected);
+    for (scid, vcid, length, expected) in &COUNTED {
+        let made = next_counts(&mut counts, rt.alloc(), *scid, *vcid, *length);
+        assert!(rt; made == *expected);
     }
 }
 
@@ -83,25 +88,27 @@ fn refusal_to_read(octets: &[u8]) -> Option<TmReadFault> {
     read_tm(ErrorControl::Present, octets).err()
 }
 
+const REFUSED: [(u16, u8, usize, TmFault); 4] = [
+    (1024, 8, 10, TmFault::BadScid),
+    (42, 8, 10, TmFault::BadVcid),
+    (42, 7, 12, TmFault::BadLength),
+    (42, 7, 2049, TmFault::BadLength),
+];
+
+const UNREAD: [(&str, TmReadFault); 4] = [
+    ("42a2ff071ffe550104000173", TmReadFault::Short),
+    ("42a2ff071ffe550104000173d2", TmReadFault::Version),
+    ("02a2ff071ffe550104000173d2", TmReadFault::NoControl),
+    ("02a3ff071ffe550104000173d3", TmReadFault::WrongSum),
+];
+
 #[test]
 fn each_refusal_of_telemetry(rt: HostRuntime) {
-    for (scid, vcid, length, fault) in [
-        (1024, 8, 10, TmFault::BadScid),
-        (42, 8, 10, TmFault::BadVcid),
-        (42, 7, 12, TmFault::BadLength),
-        (42, 7, 2049, TmFault::BadLength),
-    ] {
-        assert_eq!(rt;
-            refusal_to_write(rt.alloc(), scid, vcid, length),
-            Some(fault)
-        );
+    for (scid, vcid, length, fault) in REFUSED {
+        let refusal = refusal_to_write(rt.alloc(), scid, vcid, length);
+        assert_eq!(rt; refusal, Some(fault));
     }
-    for (digits, fault) in [
-        ("42a2ff071ffe550104000173", TmReadFault::Short),
-        ("42a2ff071ffe550104000173d2", TmReadFault::Version),
-        ("02a2ff071ffe550104000173d2", TmReadFault::NoControl),
-        ("02a3ff071ffe550104000173d3", TmReadFault::WrongSum),
-    ] {
+    for (digits, fault) in UNREAD {
         let octets = octets_of(&rt, rt.alloc(), digits);
         assert_eq!(rt; refusal_to_read(&octets), Some(fault), "{digits}");
     }
