@@ -1,5 +1,6 @@
 mod growth;
 mod manned;
+mod meetings;
 mod threads;
 mod together;
 

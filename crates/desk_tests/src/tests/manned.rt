@@ -93,6 +93,22 @@ impl Manned {
     }
 }
 
+// An operator brings this frame. Says whether it was answered.
+pub(super) fn bring<R: Abort + Wait>(
+    rt: &R,
+    desk: &Locked,
+    operator: &mut DeskOperator,
+    octets: &[u8],
+) -> bool
+    requires { operator.old.lock ≡ desk.now.id }
+    ensures { operator.new.lock ≡ desk.now.id }
+{
+    let frame = read_frame(octets).expect(rt, "a frame");
+    operator
+        .operate(desk, rt, &Framing { frame: &frame })
+        .is_ok()
+}
+
 // Closes the desk with its one operator.
 pub(super) fn close(rt: &impl Abort, alloc: Global, manned: Manned) -> Channel {
     let Manned {

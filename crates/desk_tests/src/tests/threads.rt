@@ -3,13 +3,12 @@
 ghost use Rattle.std.specs.Prelude.{◌≡◌};
 ghost use Rattle.std.specs.Thread.{IsSync};
 
-use super::manned::{Locked, Manned, closed};
+use super::manned::{Locked, Manned, bring, closed};
 use super::*;
 use std::sync::Wait;
 use std::thread::{Threads, join_mut};
 use tc_channel::Channel;
-use tc_desk::{DeskOperator, Framing};
-use tc_link::read_frame;
+use tc_desk::DeskOperator;
 
 // How many frames each of them brings.
 const TURNS: u8 = 250;
@@ -17,17 +16,6 @@ const TURNS: u8 = 250;
 // The BD frame of this thread's turn. Its unit has two octets: who brought it, and in which turn.
 fn turn_frame(who: u8, turn: u8) -> [u8; 8] {
     [0x20, 0x2a, 0x04, 0x07, 0x00, 0xc3, who, turn]
-}
-
-// Brings this frame. Says whether it was answered.
-fn bring<R: Abort + Wait>(rt: &R, desk: &Locked, operator: &mut DeskOperator, octets: &[u8]) -> bool
-    requires { operator.old.lock ≡ desk.now.id }
-    ensures { operator.new.lock ≡ desk.now.id }
-{
-    let frame = read_frame(octets).expect(rt, "a frame");
-    operator
-        .operate(desk, rt, &Framing { frame: &frame })
-        .is_ok()
 }
 
 // Brings the frames of all turns, one after the other. Says whether each was answered.

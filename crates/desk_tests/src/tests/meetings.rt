@@ -1,0 +1,49 @@
+//! A watcher meets the desk, by one operator, after what another one did.
+
+ghost use Rattle.std.specs.Prelude.{◌≡◌};
+
+use super::manned::{Locked, Manned, bring};
+use super::*;
+use std::sync::Wait;
+use tc_channel::ReleaseFault;
+use tc_desk::{DeskOperator, Release, Watching};
+
+// CLCWs from the standard's fields: COP-1 in effect (01) and virtual channel 1 (04), no flag, and then two bits of FARM-B's count of
+// Type-BD frames before its last bit, and V(R). A Type-AD frame makes V(R) 1, each Type-BD frame counts; a release changes neither.
+fn check_meetings<R: Abort + Wait>(
+    rt: &R,
+    desk: &Locked,
+    operator: &mut DeskOperator,
+    other: &mut DeskOperator,
+)
+    requires one { operator.old.lock ≡ desk.now.id }
+    requires other { other.old.lock ≡ desk.now.id }
+    ensures { operator.new.lock ≡ desk.now.id }
+{
+    let mut watcher = operator.ask(desk, rt, &Watching).expect(rt, "a watcher");
+    assert_eq!(rt; watcher.read(), 0x01040000);
+    assert!(rt; bring(rt, desk, other, &FRAME));
+    operator.meet(desk, rt, &mut watcher);
+    assert_eq!(rt; watcher.read(), 0x01040001);
+    assert!(rt; bring(rt, desk, other, &BD_UNIT));
+    let released = operator.operate_met(desk, rt, &mut watcher, &Release);
+    assert!(rt; released == Ok(ONE));
+    assert_eq!(rt; watcher.read(), 0x01040201);
+    assert!(rt; bring(rt, desk, other, &BD_UNIT));
+    let refused = operator.operate_met(desk, rt, &mut watcher, &Release);
+    assert!(rt; refused == Err(ReleaseFault::Empty));
+    assert_eq!(rt; watcher.read(), 0x01040401);
+}
+
+fn check(rt: &(impl Abort + Wait), manned: &mut Manned, other: &mut DeskOperator)
+    requires { other.old.lock ≡ manned.old.desk.id }
+{
+    check_meetings(rt, &manned.desk, &mut manned.operator, other)
+}
+
+#[test]
+fn a_watcher_meets_what_another_operator_did(rt: HostRuntime) {
+    let mut manned = Manned::new(&rt, rt.alloc());
+    let mut other = manned.other();
+    check(&rt, &mut manned, &mut other);
+}
