@@ -26,7 +26,7 @@ const BLOCKS: [([u8; 7], u8); 8] = [
 
 // A block gives these octets in a mode, or none.
 fn check(rt: &impl Abort, block: [u8; 8], mode: Mode, expected: Option<[u8; 7]>) {
-    assert_eq!(rt; decode_block(block, mode), expected, "{mode:?}");
+    assert!(rt; decode_block(block, mode) == expected, "{mode:?}");
 }
 
 #[test]
@@ -34,7 +34,7 @@ fn a_block_is_encoded_and_decoded(rt: HostRuntime) {
     for (information, last) in BLOCKS {
         let [a, b, c, d, e, f, g] = information;
         let block = [a, b, c, d, e, f, g, last];
-        assert_eq!(rt; encode_block(information), block);
+        assert!(rt; encode_block(information) == block);
         check(&rt, block, Mode::Detect, Some(information));
         check(&rt, block, Mode::Correct, Some(information));
     }
@@ -108,7 +108,7 @@ fn fate_of(block: [u8; 8], mode: Mode) -> Fate {
 }
 
 fn check_fate(rt: &impl Abort, block: [u8; 8], mode: Mode, expected: Fate) {
-    assert_eq!(rt; fate_of(block, mode), expected, "{mode:?}");
+    assert!(rt; fate_of(block, mode) == expected, "{mode:?}");
 }
 
 #[test]
