@@ -8,8 +8,8 @@ use std::sync::Wait;
 use tc_channel::ReleaseFault;
 use tc_desk::{DeskOperator, Release, Watching};
 
-// CLCWs from the standard's fields: COP-1 in effect (01) and virtual channel 1 (04), no flag, and then two bits of FARM-B's count of
-// Type-BD frames before its last bit, and V(R). A Type-AD frame makes V(R) 1, each Type-BD frame counts; a release changes neither.
+// CLCWs from the standard's fields: COP-1 in effect (01); virtual channel 1 (04); no flag, FARM-B's count of Type-BD frames in two bits
+// and a spare bit; V(R). A Type-AD frame makes V(R) 1, each Type-BD frame counts, and a release changes neither.
 fn check_meetings<R: Abort + Wait>(
     rt: &R,
     desk: &Locked,
