@@ -1062,11 +1062,14 @@ static inline tcrx_place tcrx_rack_find(tcrx_channel *channels, size_t channel_c
 /** Chosen MAPs with room for so many units each; `largest` is that of the queues. */
 #define TCRX_STORAGE_MAPS(count, capacity, largest) TCRX_STORAGE_QUEUES(count, capacity, largest)
 
+/** A table by which queues are found: add it where there are 64 packet queues or more, and once more where all 64 MAPs are chosen. */
+#define TCRX_STORAGE_TABLE 4096u
+
 /** So many limits of listed MAPs. */
 #define TCRX_STORAGE_LIMITS(count) ((size_t)(count) * 8u)
 
 /** What each channel takes for itself. */
-#define TCRX_OWN_STORAGE 320u
+#define TCRX_OWN_STORAGE 368u
 
 /** Defines the array, in one file of the program: `TCRX_STATIC_STORAGE(TCRX_STORAGE_OF(..));` */
 #define TCRX_STATIC_STORAGE(octets) \

@@ -334,9 +334,9 @@ def check_refused() -> None:
         why = [str(raises(BadSettings, partial(call, 1, **changed(change)), f"{change}")) for call in (Channel, storage)]
         tell(why[0] == why[1] and "limit" in why[0], f"why limits are refused: {why}")
     same(storage(1, width=10, buffer=8, first=0, queues=dict.fromkeys((5, 6, 7, 8), 8), limits={0: 1024}), 49624, "the storage within limits")
-    # 1,051 for the buffer, 5,120 and 2 * 64 * 65,542 for open runs, 64 for each queue, and 65,574 for each packet.
+    # 1,051 for the buffer, 5,120 and 2 * 64 * 65,542 for open runs, 64 for each queue, 65,574 for each packet, and 4,096 for the table.
     many: Dict[str, Any] = {"width": 10, "buffer": 1, "first": 0, "queues": dict.fromkeys(range(256), 256)}
-    same((storage(1, **many), storage(1, **many, limits={}, others=65542)), (4305869595,) * 2, "a storage of more octets than 32 bits count")
+    same((storage(1, **many), storage(1, **many, limits={}, others=65542)), (4305873691,) * 2, "a storage of more octets than 32 bits count")
     raises(ValueError, lambda: Channel(1, **changed({"limits": {2: 2**32}})), "a limit that C's type doesn't have")
     raises(ValueError, lambda: Channel(256, **SETTINGS), "a number that C's type doesn't have")
     raises(ValueError, lambda: Channel(1, **changed({"queues": {70000: 1}})), "an APID that C's type doesn't have")

@@ -412,13 +412,13 @@ void check_settings() {
     const tcrx::Queue four[] = {{5, 8}, {6, 8}, {7, 8}, {8, 8}};
     const tcrx::Limit one[] = {{0, 1024}};
     tell(tcrx::storage(eight, four, {}, {0, one}).value() == 49624, "the storage of four queues of 8 with units of 1,024 octets");
-    // 1,051 for the buffer, 5,120 and 2 * 64 * 65,542 for open runs, 64 for each queue, and 65,574 for each packet.
+    // 1,051 for the buffer, 5,120 and 2 * 64 * 65,542 for open runs, 64 for each queue, 65,574 for each packet, and 4,096 for the table.
     std::vector<tcrx::Queue> many;
     for (std::uint16_t apid = 0; apid < 256; apid++) {
         many.push_back({apid, 256});
     }
-    tell(tcrx::storage({1, 10, 1, 0}, many).value() == 4305869595, "a storage of more octets than 32 bits count");
-    tell(tcrx::storage({1, 10, 1, 0}, many, {}, {65542, {}}).value() == 4305869595, "the same storage by its limits");
+    tell(tcrx::storage({1, 10, 1, 0}, many).value() == 4305873691, "a storage of more octets than 32 bits count");
+    tell(tcrx::storage({1, 10, 1, 0}, many, {}, {65542, {}}).value() == 4305873691, "the same storage by its limits");
     tell(std::string(tcrx::text(Status::empty).c_str()) == "nothing waits there", "a text");
     tell(tcrx::text(static_cast<Status>(99)).c_str()[0] == '\0', "the text of no status");
     const tcrx::Result<tcrx::Farm> farm = tcrx::start_farm(10, 7);

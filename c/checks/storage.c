@@ -10,7 +10,7 @@
 #include "../tcrx.h"
 #include "expecting.h"
 
-enum { MOST_QUEUES = 2047, MOST_MAPS = 64, LARGEST = 65542, OWN = 248, MADE = 2000000 };
+enum { MOST_QUEUES = 2047, MOST_MAPS = 64, LARGEST = 65542, OWN = 296, MADE = 2000000 };
 
 /* The portable C asks for the memory of a whole instance, and makes few of the channels, since it is tried on machines that are slow. */
 #ifdef PORTABLE
@@ -88,6 +88,8 @@ static uint64_t static_storage(const plan *p) {
     if (p->settings.segmented == 1) parts += TCRX_STORAGE_SEGMENTED(all_limits(p));
     for (size_t i = 0; i < p->queue_count; i++) parts += TCRX_STORAGE_QUEUES(1, p->queues[i].capacity, largest_of(p));
     for (size_t i = 0; i < p->map_count; i++) parts += TCRX_STORAGE_MAPS(1, p->maps[i].capacity, largest_of(p));
+    if (p->queue_count >= 64) parts += TCRX_STORAGE_TABLE;
+    if (p->map_count >= 64) parts += TCRX_STORAGE_TABLE;
     return TCRX_STORAGE_OF(parts);
 }
 
@@ -95,7 +97,8 @@ static uint64_t static_storage(const plan *p) {
 static uint64_t sum(const plan *p) {
     const uint64_t buffer = p->settings.buffer * (UINT64_C(32) + 1019);
     const uint64_t runs = p->settings.segmented == 1 ? 128 * 40 + 2 * all_limits(p) : 0;
-    return buffer + runs + 64 * (p->queue_count + p->map_count) + items_of(p) * (32 + (uint64_t)largest_of(p));
+    const uint64_t tables = (p->queue_count < 64 ? 0 : 2048 * 2) + (p->map_count < 64 ? 0 : 2048 * 2);
+    return buffer + runs + 64 * (p->queue_count + p->map_count) + items_of(p) * (32 + (uint64_t)largest_of(p)) + tables;
 }
 
 static tcrx_count ask(const plan *p) {
@@ -178,7 +181,7 @@ static void check_named(void) {
     expect(ask(plan_of(two, 2, 4, 0, 0)).count == 8923420, "two queues of 4, without limits", 0);
     expect(ask(plan_of(eight, 4, 8, 0, 0)).count == 10501528, "four queues of 8, without limits", 0);
     expect(ask(plan_of(one, 1, 1, 0, 0)).count == 8461185, "the channel `fixed_one`", 0);
-    expect(ask(plan_of(many, 70, 2, 3, 3)).count == 18236958, "the channel `fixed_many`", 0);
+    expect(ask(plan_of(many, 70, 2, 3, 3)).count == 18241054, "the channel `fixed_many`", 0);
     expect(ask(plan_of(many, MOST_QUEUES, 256, MOST_MAPS, 256)).count == sum(plan_of(many, MOST_QUEUES, 256, MOST_MAPS, 256)),
            "the largest channel", 0);
 }

@@ -78,12 +78,12 @@ static FIRST_CALLS: [Call; 30] = [
     Bypassing(ONE_PACKET, ONE, ", one packet queued"),
     Bypassing(ONE_PACKET, DROPPED, ", one packet dropped"),
     Take(4),
-    // Segments, the last of which ends a unit that is one packet: a run is doubled as it grows from 6 to 20 and 22 octets, and has
-    // room then.
+    // Segments, the last of which ends a unit that is one packet. The block of a run that grew the first time is there the second
+    // time.
     Bypassing(BEGUN, NOTHING, ", first segment"),
-    Bypassing(FOURTEEN, NOTHING, ", next segment, run grows"),
-    Bypassing(TWO, NOTHING, ", next segment, run grows"),
-    Bypassing(TWO, NOTHING, ", next segment, run has room"),
+    Bypassing(FOURTEEN, NOTHING, ", next segment"),
+    Bypassing(TWO, NOTHING, ", next segment"),
+    Bypassing(TWO, NOTHING, ", next segment"),
     Bypassing(LAST_TWO, ONE, ", last segment, one packet queued"),
     Take(1),
     // The same by the buffer.
@@ -91,7 +91,7 @@ static FIRST_CALLS: [Call; 30] = [
     Next(FOURTEEN),
     Next(LAST_SIX),
     Release(NOTHING, ", first segment"),
-    Release(NOTHING, ", next segment, run grows"),
+    Release(NOTHING, ", next segment"),
     Release(ONE, ", last segment, one packet queued"),
     Take(1),
     // Units of the chosen MAP.

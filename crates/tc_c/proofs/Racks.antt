@@ -9,7 +9,7 @@ use Rattle.std.proofs.lemmas.Option.{slice_get_within, slice_get-get_or}
 use Rattle.std.specs.Prelude.{option_map, slice_get}
 use Rattle.tc_fixed.specs.History.{LimitedHistory}
 use Rattle.tc_c.specs.declared.seat.Seat.{Seat}
-use Rattle.tc_c.specs.Rack.{channels_in, IsHeldAt, IsFirst, IsHeld}
+use Rattle.tc_c.specs.Rack.{channels_in, IsHeldAt, IsFirstWithVcid, IsHeld}
 
 abbrev channel_of : Seat → Option LimitedHistory
 channel_of seat = seat.place.channel
@@ -54,7 +54,7 @@ AreLater channels vcid place = (at : ℕ) (other : LimitedHistory) → IsHeldAt 
 -- the channel in a seat has the id, and none before it
 pub first : (seats : List Seat) (i : ℕ) (d : Seat) (old : List (Option LimitedHistory)) (vcid : ℕ) → i < length seats
     → channels_in seats ≡ old → option_map (λ (h : LimitedHistory). h.settings.vcid) (get_or seats i d).place.channel ≡ Some vcid → AreLater old vcid i
-    → (h : LimitedHistory) × IsFirst old vcid i h
+    → (h : LimitedHistory) × IsFirstWithVcid old vcid i h
 first seats i d old vcid inside same is later =
     let named = with_id (get_or seats i d).place.channel vcid is in
     let here : slice_get old i ≡ Some (Some named.0) = sym (ap (λ (cs : List (Option LimitedHistory)). slice_get cs i) same) ∙ (there seats i d inside ∙ ap Some named.1) in

@@ -12,7 +12,7 @@ use Rattle.tc_channel.specs.Settings.{IsAllowed, IsFault}
 use Rattle.tc_fixed.specs.declared.limits.Limits.{Limits}
 use Rattle.tc_fixed.specs.declared.limits.LimitsFault.{LimitsFault}
 use Rattle.tc_fixed.specs.declared.limits.MapLimit.{MapLimit}
-use Rattle.tc_fixed.specs.Limits.{AreLimits, IsFault as IsFaultWithin}
+use Rattle.tc_fixed.specs.Limits.{AreLimits, IsFaultWithLimits}
 use Rattle.tc_c.specs.declared.status.Status.{Status}
 use Rattle.tc_c.specs.declared.status.Status.TheVariants.{Done, NoMemory, NoRoom}
 use Rattle.tc_c.specs.declared.settings.SettingsRecord.{SettingsRecord}
@@ -83,7 +83,7 @@ limits_given others maps = record { others = others; maps = maps }
 -- that of the limits
 abbrev pub IsUnfitWithin : Result Settings Status → Limits → Status → Type 0
 IsUnfitWithin (Err flag) limits fault = fault ≡ flag
-IsUnfitWithin (Ok s) limits fault = (f : LimitsFault) × IsFaultWithin s limits f × (fault ≡ limits_status f)
+IsUnfitWithin (Ok s) limits fault = (f : LimitsFault) × IsFaultWithLimits s limits f × (fault ≡ limits_status f)
 
 -- why none is made: that, or out of memory where one can be made
 abbrev pub IsRefusedWithin : Result Settings Status → Limits → Status → Type 0

@@ -7,7 +7,7 @@ use Rattle.tc_link.specs.declared.location.LocateFault.TheVariants.{Frame, Other
 use Rattle.tc_channel.specs.declared.event.Event.TheVariants as events
 use Rattle.tc_channel.specs.declared.reply.FrameReply.{FrameReply}
 use Rattle.tc_channel.specs.Reply.{frame_reply_within}
-use Rattle.tc_fixed.specs.History.{LimitedHistory, with_event}
+use Rattle.tc_fixed.specs.History.{LimitedHistory, with_limited_event}
 use Rattle.tc_fixed.specs.Limits.{limit_of}
 use Rattle.tc_c.specs.declared.seat.Seat.{Seat}
 use Rattle.tc_c.specs.declared.status.Status.{Status}
@@ -25,8 +25,8 @@ abbrev pub IsHeldAt : List (Option LimitedHistory) → ℕ → ℕ → LimitedHi
 IsHeldAt channels vcid place h = (slice_get channels place ≡ Some (Some h)) × (h.settings.vcid ≡ vcid)
 
 -- it is the first one that has it
-abbrev pub IsFirst : List (Option LimitedHistory) → ℕ → ℕ → LimitedHistory → Type 0
-IsFirst channels vcid place h =
+abbrev pub IsFirstWithVcid : List (Option LimitedHistory) → ℕ → ℕ → LimitedHistory → Type 0
+IsFirstWithVcid channels vcid place h =
     IsHeldAt channels vcid place h × ((at : ℕ) (other : LimitedHistory) → IsHeldAt channels vcid at other → place ≤ at)
 
 -- one has it
@@ -36,7 +36,7 @@ IsHeld channels vcid = (place : ℕ) × (h : LimitedHistory) × IsHeldAt channel
 -- the octets begin with this frame of the spacecraft, which is for this channel
 abbrev pub IsLocatedAmong : List (Option LimitedHistory) → ℕ → List ℕ → ℕ → List ℕ → LimitedHistory → Type 0
 IsLocatedAmong channels scid octets place frame h =
-    BeginsWith octets frame × ((header_of frame).scid ≡ scid) × IsFirst channels (header_of frame).vcid place h
+    BeginsWith octets frame × ((header_of frame).scid ≡ scid) × IsFirstWithVcid channels (header_of frame).vcid place h
 
 -- why octets are for none of the channels: the first of these that applies
 abbrev pub IsLocateFaultAmong : List (Option LimitedHistory) → ℕ → List ℕ → LocateFault → Type 0
@@ -70,7 +70,7 @@ replied h frame = rack_reply h.settings.vcid (frame_reply_within (limit_of h.lim
 abbrev pub IsTakenIn : List (Option LimitedHistory) → ℕ → List ℕ → RackReplyRecord → List (Option LimitedHistory) → Type 0
 IsTakenIn old scid octets reply new =
     (place : ℕ) × (frame : List ℕ) × (h : LimitedHistory) × IsLocatedAmong old scid octets place frame h
-    × (reply ≡ replied h frame) × (new ≡ slice_set old place (Some (with_event h (events.Frame frame))))
+    × (reply ≡ replied h frame) × (new ≡ slice_set old place (Some (with_limited_event h (events.Frame frame))))
 
 -- the octets are for none of them, and all are as they were
 abbrev pub IsUnlocated : List (Option LimitedHistory) → ℕ → List ℕ → RackReplyRecord → List (Option LimitedHistory) → Type 0

@@ -4,7 +4,7 @@ ghost use Rattle.std.specs.Prelude.{◌≡◌, ◌≢◌, ◌<◌, ℕ, List, []
 ghost use Rattle.tc_link.specs.Frame.{BeginsWith, fault_of};
 ghost use Rattle.tc_channel.specs.declared.event.Event.TheVariants as Event;
 ghost use Rattle.tc_channel.specs.Reply.{frame_reply_within, release_reply_within, buffered_fields_within};
-ghost use Rattle.tc_fixed.specs.History.{with_event};
+ghost use Rattle.tc_fixed.specs.History.{with_limited_event};
 ghost use Rattle.tc_fixed.specs.Limits.{limit_of};
 ghost use Rattle.tc_c.specs.Status.{code_of, frame_status};
 ghost use Rattle.tc_c.specs.Channel.{reply_record, no_reply, delivery_record, no_delivery};
@@ -95,7 +95,7 @@ fn delivery_refused(fault: Status) -> DeliveryRecord
 
 // Gives the channel the frame at the front of the octets.
 fn bring(channel: &mut FixedChannel, octets: &[u8]) -> ReplyRecord
-    ensures done { IfNone (fault_of octets.now) ((frame : List ℕ) × BeginsWith octets.now frame × (result ≡ reply_record (frame_reply_within (limit_of channel.old.limits) channel.old.settings channel.old.journal frame)) × (channel.new ≡ with_event channel.old (Event.Frame frame))) }
+    ensures done { IfNone (fault_of octets.now) ((frame : List ℕ) × BeginsWith octets.now frame × (result ≡ reply_record (frame_reply_within (limit_of channel.old.limits) channel.old.settings channel.old.journal frame)) × (channel.new ≡ with_limited_event channel.old (Event.Frame frame))) }
     ensures fault { IfSome (fault_of octets.now) (λ fault. (result ≡ no_reply (frame_status fault)) × (channel.new ≡ channel.old)) }
     ensures refused { 0 < result.status → channel.new ≡ channel.old }
 {
@@ -112,7 +112,7 @@ fn bring(channel: &mut FixedChannel, octets: &[u8]) -> ReplyRecord
 /// answered: no call but the one that makes the channel asks for memory.
 #[unsafe(no_mangle)]
 pub extern "C" fn tcrx_channel_frame_at(seat: &mut Seat, octets: &[u8]) -> ReplyRecord
-    ensures done { IfSome seat.old.place.channel (λ h. IfNone (fault_of octets.now) ((frame : List ℕ) × BeginsWith octets.now frame × (result ≡ reply_record (frame_reply_within (limit_of h.limits) h.settings h.journal frame)) × (seat.new.place.channel ≡ Some (with_event h (Event.Frame frame))))) }
+    ensures done { IfSome seat.old.place.channel (λ h. IfNone (fault_of octets.now) ((frame : List ℕ) × BeginsWith octets.now frame × (result ≡ reply_record (frame_reply_within (limit_of h.limits) h.settings h.journal frame)) × (seat.new.place.channel ≡ Some (with_limited_event h (Event.Frame frame))))) }
     ensures fault { IfSome seat.old.place.channel (λ h. IfSome (fault_of octets.now) (λ fault. result ≡ no_reply (frame_status fault))) }
     ensures refused { 0 < result.status → seat.new.place.channel ≡ seat.old.place.channel }
     ensures no_channel { IfNone seat.old.place.channel (result ≡ no_reply Status.NoChannel) }
@@ -128,7 +128,7 @@ pub extern "C" fn tcrx_channel_frame_at(seat: &mut Seat, octets: &[u8]) -> Reply
 }
 
 fn let_out(channel: &mut FixedChannel) -> DeliveryRecord
-    ensures done { buffered_fields_within (limit_of channel.old.limits) channel.old.settings channel.old.journal ≢ [] → (result ≡ delivery_record (release_reply_within (limit_of channel.old.limits) channel.old.settings channel.old.journal)) × (channel.new ≡ with_event channel.old Event.Release) }
+    ensures done { buffered_fields_within (limit_of channel.old.limits) channel.old.settings channel.old.journal ≢ [] → (result ≡ delivery_record (release_reply_within (limit_of channel.old.limits) channel.old.settings channel.old.journal)) × (channel.new ≡ with_limited_event channel.old Event.Release) }
     ensures empty { buffered_fields_within (limit_of channel.old.limits) channel.old.settings channel.old.journal ≡ [] → result ≡ no_delivery Status.Empty }
     ensures refused { 0 < result.status → channel.new ≡ channel.old }
 {
@@ -144,7 +144,7 @@ fn let_out(channel: &mut FixedChannel) -> DeliveryRecord
 /// Refused are a seat with no channel by NoChannel, and an empty buffer by Empty, with the channel as it was.
 #[unsafe(no_mangle)]
 pub extern "C" fn tcrx_channel_release_at(seat: &mut Seat) -> DeliveryRecord
-    ensures done { IfSome seat.old.place.channel (λ h. buffered_fields_within (limit_of h.limits) h.settings h.journal ≢ [] → (result ≡ delivery_record (release_reply_within (limit_of h.limits) h.settings h.journal)) × (seat.new.place.channel ≡ Some (with_event h Event.Release))) }
+    ensures done { IfSome seat.old.place.channel (λ h. buffered_fields_within (limit_of h.limits) h.settings h.journal ≢ [] → (result ≡ delivery_record (release_reply_within (limit_of h.limits) h.settings h.journal)) × (seat.new.place.channel ≡ Some (with_limited_event h Event.Release))) }
     ensures empty { IfSome seat.old.place.channel (λ h. buffered_fields_within (limit_of h.limits) h.settings h.journal ≡ [] → result ≡ no_delivery Status.Empty) }
     ensures refused { 0 < result.status → seat.new.place.channel ≡ seat.old.place.channel }
     ensures no_channel { IfNone seat.old.place.channel (result ≡ no_delivery Status.NoChannel) }

@@ -5,10 +5,10 @@ ghost use Rattle.tc_link.specs.Frame.{IsWhole, BeginsWith, header_of, fault_of};
 ghost use Rattle.tc_channel.specs.Reply.{frame_reply_within};
 ghost use Rattle.tc_channel.specs.declared.event.Event.TheVariants as Event;
 ghost use Rattle.tc_fecf.specs.FrameWithField.{frame_with_field, taking_fault_of};
-ghost use Rattle.tc_fixed.specs.History.{LimitedHistory, with_event};
+ghost use Rattle.tc_fixed.specs.History.{LimitedHistory, with_limited_event};
 ghost use Rattle.tc_fixed.specs.Limits.{limit_of};
 ghost use Rattle.tc_c.specs.Status.{code_of, field_status};
-ghost use Rattle.tc_c.specs.Rack.{channels_in, IsFirst, IsHeld, IsLocatedAmong, IsLocateFaultAmong, rack_reply, no_rack_reply, no_place, IsRackReplied};
+ghost use Rattle.tc_c.specs.Rack.{channels_in, IsFirstWithVcid, IsHeld, IsLocatedAmong, IsLocateFaultAmong, rack_reply, no_rack_reply, no_place, IsRackReplied};
 
 use crate::channel::tcrx_channel_frame_at;
 use crate::farm::flag;
@@ -76,7 +76,7 @@ fn vcid_in(seat: &mut Seat) -> Option<u8>
 
 // The place of the first channel with this id.
 fn place_of(seats: &mut [Seat], vcid: u8) -> Option<usize>
-    ensures place { MatchOption result (¬ IsHeld (channels_in seats.old) vcid) (λ place. (h : LimitedHistory) × IsFirst (channels_in seats.old) vcid place h) }
+    ensures place { MatchOption result (¬ IsHeld (channels_in seats.old) vcid) (λ place. (h : LimitedHistory) × IsFirstWithVcid (channels_in seats.old) vcid place h) }
     ensures bound { IfSome result (λ place. place < length seats.new) }
     ensures unchanged { channels_in seats.new ≡ channels_in seats.old }
 {
@@ -109,7 +109,7 @@ fn located(seats: &mut [Seat], scid: u16, octets: &[u8]) -> Result<(usize, u8), 
 // Gives the channel in a seat, which has this id, the frame at the front of the octets: by the call for one channel, so that what a frame
 // does to a channel stands once in the library.
 fn answer(seat: &mut Seat, vcid: u8, octets: &[u8]) -> RackReplyRecord
-    ensures answer { IfSome seat.old.place.channel (λ h. IfNone (fault_of octets.now) ((frame : List ℕ) × BeginsWith octets.now frame × (result ≡ rack_reply vcid (frame_reply_within (limit_of h.limits) h.settings h.journal frame)) × (seat.new.place.channel ≡ Some (with_event h (Event.Frame frame))))) }
+    ensures answer { IfSome seat.old.place.channel (λ h. IfNone (fault_of octets.now) ((frame : List ℕ) × BeginsWith octets.now frame × (result ≡ rack_reply vcid (frame_reply_within (limit_of h.limits) h.settings h.journal frame)) × (seat.new.place.channel ≡ Some (with_limited_event h (Event.Frame frame))))) }
 {
     let reply = tcrx_channel_frame_at(seat, octets);
     RackReplyRecord {
@@ -181,7 +181,7 @@ pub extern "C" fn tcrx_rack_frame_at(
 /// UnknownChannel. Each channel stays as it was.
 #[unsafe(no_mangle)]
 pub extern "C" fn tcrx_rack_find_at(seats: &mut [Seat], vcid: u8) -> PlaceRecord
-    ensures found { result.status ≡ 0 → (h : LimitedHistory) × IsFirst (channels_in seats.old) vcid result.place h }
+    ensures found { result.status ≡ 0 → (h : LimitedHistory) × IsFirstWithVcid (channels_in seats.old) vcid result.place h }
     ensures none { 0 < result.status → (result ≡ no_place Status.UnknownChannel) × ¬ IsHeld (channels_in seats.old) vcid }
     ensures unchanged { channels_in seats.new ≡ channels_in seats.old }
 {

@@ -3,7 +3,7 @@
 ghost use Rattle.std.specs.Prelude.{◌≡◌, ◌<◌, ◌≤◌, [], length, Some, None, IfSome, IfNone, option_map};
 ghost use Rattle.tc_channel.specs.declared.event.Event.TheVariants as Event;
 ghost use Rattle.tc_channel.specs.Reply.{take_reply_within, unit_reply_within, waiting_packets_within, waiting_units_within};
-ghost use Rattle.tc_fixed.specs.History.{with_event};
+ghost use Rattle.tc_fixed.specs.History.{with_limited_event};
 ghost use Rattle.tc_fixed.specs.Limits.{limit_of};
 ghost use Rattle.tc_c.specs.Channel.{no_octets, too_short, taken, IsCopied};
 
@@ -34,7 +34,7 @@ fn packet_length(channel: &FixedChannel, apid: u16) -> Option<usize>
 }
 
 fn take_packet(channel: &mut FixedChannel, apid: u16, to: &mut [u8]) -> WrittenRecord
-    ensures taken { IfSome (take_reply_within (limit_of channel.old.limits) channel.old.settings channel.old.journal apid) (λ packet. length packet ≤ length to.old → (result ≡ taken (length packet)) × IsCopied packet to.old to.new × (channel.new ≡ with_event channel.old (Event.Take apid))) }
+    ensures taken { IfSome (take_reply_within (limit_of channel.old.limits) channel.old.settings channel.old.journal apid) (λ packet. length packet ≤ length to.old → (result ≡ taken (length packet)) × IsCopied packet to.old to.new × (channel.new ≡ with_limited_event channel.old (Event.Take apid))) }
     ensures no_room { IfSome (take_reply_within (limit_of channel.old.limits) channel.old.settings channel.old.journal apid) (λ packet. length to.old < length packet → result ≡ too_short (length packet)) }
     ensures no_queue { waiting_packets_within (limit_of channel.old.limits) channel.old.settings channel.old.journal apid ≡ None → result ≡ no_octets Status.NoQueue }
     ensures empty { waiting_packets_within (limit_of channel.old.limits) channel.old.settings channel.old.journal apid ≡ Some [] → result ≡ no_octets Status.Empty }
@@ -58,7 +58,7 @@ pub extern "C" fn tcrx_channel_take_at(
     apid: u16,
     buffer: &mut [u8],
 ) -> WrittenRecord
-    ensures taken { IfSome seat.old.place.channel (λ h. IfSome (take_reply_within (limit_of h.limits) h.settings h.journal apid) (λ packet. length packet ≤ length buffer.old → (result ≡ taken (length packet)) × IsCopied packet buffer.old buffer.new × (seat.new.place.channel ≡ Some (with_event h (Event.Take apid))))) }
+    ensures taken { IfSome seat.old.place.channel (λ h. IfSome (take_reply_within (limit_of h.limits) h.settings h.journal apid) (λ packet. length packet ≤ length buffer.old → (result ≡ taken (length packet)) × IsCopied packet buffer.old buffer.new × (seat.new.place.channel ≡ Some (with_limited_event h (Event.Take apid))))) }
     ensures no_room { IfSome seat.old.place.channel (λ h. IfSome (take_reply_within (limit_of h.limits) h.settings h.journal apid) (λ packet. length buffer.old < length packet → result ≡ too_short (length packet))) }
     ensures no_queue { IfSome seat.old.place.channel (λ h. waiting_packets_within (limit_of h.limits) h.settings h.journal apid ≡ None → result ≡ no_octets Status.NoQueue) }
     ensures empty { IfSome seat.old.place.channel (λ h. waiting_packets_within (limit_of h.limits) h.settings h.journal apid ≡ Some [] → result ≡ no_octets Status.Empty) }
@@ -86,7 +86,7 @@ fn unit_length(channel: &FixedChannel, map: u8) -> Option<usize>
 }
 
 fn take_unit(channel: &mut FixedChannel, map: u8, to: &mut [u8]) -> WrittenRecord
-    ensures taken { IfSome (unit_reply_within (limit_of channel.old.limits) channel.old.settings channel.old.journal map) (λ unit. length unit ≤ length to.old → (result ≡ taken (length unit)) × IsCopied unit to.old to.new × (channel.new ≡ with_event channel.old (Event.TakeUnit map))) }
+    ensures taken { IfSome (unit_reply_within (limit_of channel.old.limits) channel.old.settings channel.old.journal map) (λ unit. length unit ≤ length to.old → (result ≡ taken (length unit)) × IsCopied unit to.old to.new × (channel.new ≡ with_limited_event channel.old (Event.TakeUnit map))) }
     ensures no_room { IfSome (unit_reply_within (limit_of channel.old.limits) channel.old.settings channel.old.journal map) (λ unit. length to.old < length unit → result ≡ too_short (length unit)) }
     ensures no_map { waiting_units_within (limit_of channel.old.limits) channel.old.settings channel.old.journal map ≡ None → result ≡ no_octets Status.NoMap }
     ensures empty { waiting_units_within (limit_of channel.old.limits) channel.old.settings channel.old.journal map ≡ Some [] → result ≡ no_octets Status.Empty }
@@ -110,7 +110,7 @@ pub extern "C" fn tcrx_channel_take_unit_at(
     map: u8,
     buffer: &mut [u8],
 ) -> WrittenRecord
-    ensures taken { IfSome seat.old.place.channel (λ h. IfSome (unit_reply_within (limit_of h.limits) h.settings h.journal map) (λ unit. length unit ≤ length buffer.old → (result ≡ taken (length unit)) × IsCopied unit buffer.old buffer.new × (seat.new.place.channel ≡ Some (with_event h (Event.TakeUnit map))))) }
+    ensures taken { IfSome seat.old.place.channel (λ h. IfSome (unit_reply_within (limit_of h.limits) h.settings h.journal map) (λ unit. length unit ≤ length buffer.old → (result ≡ taken (length unit)) × IsCopied unit buffer.old buffer.new × (seat.new.place.channel ≡ Some (with_limited_event h (Event.TakeUnit map))))) }
     ensures no_room { IfSome seat.old.place.channel (λ h. IfSome (unit_reply_within (limit_of h.limits) h.settings h.journal map) (λ unit. length buffer.old < length unit → result ≡ too_short (length unit))) }
     ensures no_map { IfSome seat.old.place.channel (λ h. waiting_units_within (limit_of h.limits) h.settings h.journal map ≡ None → result ≡ no_octets Status.NoMap) }
     ensures empty { IfSome seat.old.place.channel (λ h. waiting_units_within (limit_of h.limits) h.settings h.journal map ≡ Some [] → result ≡ no_octets Status.Empty) }

@@ -5,9 +5,7 @@ use Rattle.std.proofs.Math.ListN.{set}
 use Rattle.std.proofs.lemmas.List.{append-nil, length-append, length-map, length-take}
 use Rattle.std.proofs.lemmas.List.Sums.{sum_by-cons}
 use Rattle.circular_buffer.specs.Buffer.{buffer as ring_of}
-use Rattle.tc_channel.specs.HeldQueues.{share, with_items, copied_to, copies_from, longer, put, put_all, HavePlaces}
-use Rattle.tc_channel.specs.declared.queues.HeldQueue.{HeldQueue}
-use Rattle.tc_channel.specs.declared.queues.Placed.{Placed}
+use Rattle.tc_channel.specs.HeldQueues.{share, with_items, copied_to, copies_from, longer, put, put_all, HavePlaces, HeldQueue, Placed}
 
 pub put-set : (ws : List HeldQueue) (i : ℕ) (w : HeldQueue) (p : List ℕ) → w ≡ get_or ws i w → i < length ws → set ws i (longer w p) ≡ put ws i p
 put-set [] i w p is lt = absurd (omega arith)

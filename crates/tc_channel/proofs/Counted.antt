@@ -5,9 +5,8 @@ use Rattle.std.proofs.lemmas.List.{length-take}
 use Rattle.std.proofs.lemmas.List.Sums.{sum_by-cons}
 use Rattle.std.proofs.lemmas.Bool.Decides.{eqb_tells}
 use Rattle.tc_packet.specs.SpacePacket.{apid_of, is_telecommand, named_length, begins, packets_within, packets_of}
-use Rattle.tc_channel.specs.declared.queues.HeldQueue.{HeldQueue}
+use Rattle.tc_channel.specs.HeldQueues.{HeldQueue, share, shares_in, keys_of, AreDistinct}
 use Rattle.tc_channel.specs.Admission.{is_for}
-use Rattle.tc_channel.specs.HeldQueues.{share, shares_in, keys_of, AreDistinct}
 
 abbrev meant : (ℕ → List ℕ → Bool) → List (List ℕ) → ℕ → ℕ
 meant wanted ps key = length (filter (wanted key) ps)

@@ -13,17 +13,12 @@ use Rattle.tc_channel.specs.declared.event.Event.TheVariants.{Frame, Release, Ta
 use Rattle.tc_channel.specs.ChannelState.{ChannelState, Accepted, first_state_within, buffer}
 use Rattle.tc_channel.specs.Run.{HasStep, step, row_of, kept, passed_on, first_of, run_from, AreSteps, run_within, IsLawfulWithin}
 use Rattle.tc_packet.specs.declared.Service.TheVariants.{Ad}
-use Rattle.tc_channel.specs.Journal.{History}
-use Rattle.tc_channel.specs.Reply.{buffered_fields_within}
 use Rattle.tc_channel.specs.Admission.{map_of}
 use Rattle.tc_channel.specs.Channel.{Inside, HoldsWithin, FollowsWithin, FollowsKindWithin, EndsWithin, EndsAtOnceWithin, buffered_of, with_field}
 use Rattle.tc_link.specs.declared.Act.{Act}
-use Rattle.tc_channel.specs.declared.queues.Planned.{Planned}
-use Rattle.tc_channel.specs.declared.queues.HeldQueue.{HeldQueue}
-use Rattle.tc_channel.specs.declared.queues.Placed.{Placed}
-use Rattle.tc_channel.specs.HeldQueues.{copies_from, put_all, placed, HavePlaces, IsPlanned}
-use Rattle.tc_channel.proofs.Copies.{copies-places}
-use Rattle.tc_channel.proofs.Shares.{planned-held, frame-queues, release-queues}
+use Rattle.tc_channel.specs.declared.reply.Delivery.{Delivery}
+use Rattle.tc_channel.specs.Delivering.{IsDelivered}
+use Rattle.tc_channel.proofs.Shares.{delivered-held, frame-queues, release-queues}
 use Rattle.tc_channel.proofs.Streams.{frame-runs, release-runs}
 use Rattle.tc_channel.proofs.StateQueues.{kept-either, queues-kept, units-kept}
 use Rattle.tc_channel.proofs.Filled.{filled-drop, first-filled, state-filled}
@@ -93,21 +88,21 @@ pub can-enter : {limits : ℕ → ℕ} {c : Settings} {j : List Event} {i : Insi
     → HaveEntries → HoldsWithin limits c j i → row ≡ row_of c (run_within limits c j) octets → IsSome (entry row i.farm.report)
 can-enter {limits} {c} {j} octets row entries k row_is = rw (row_is, k.report) (frame-enters entries c (run_within limits c j) (state-sound limits c j) octets)
 
-pub frame-keeps : {limits : ℕ → ℕ} {c : Settings} {j : List Event} {i : Inside} (later : Inside) (made : List Placed) (p : Planned) (unit : Option (List ℕ)) (kind : Kind) (octets : List ℕ) (row : Row) (act : Act)
+pub frame-keeps : {limits : ℕ → ℕ} {c : Settings} {j : List Event} {i : Inside} (later : Inside) (d : Delivery) (unit : Option (List ℕ)) (kind : Kind) (octets : List ℕ) (row : Row) (act : Act)
     → HaveEntries → HoldsWithin limits c j i → kind ≡ kind_of (header_of octets) (drop 5 octets) → FollowsKindWithin (limits (map_of (drop 5 octets))) kind i.open_runs later.open_runs (drop 5 octets) → EndsAtOnceWithin (limits (map_of (drop 5 octets))) kind i.open_runs (drop 5 octets) unit
-    → IsPlanned (map_of (drop 5 octets)) unit i.rings i.unit_rings made p → later.rings ≡ put_all i.rings made → later.unit_rings ≡ put_all i.unit_rings (placed p.unit)
+    → IsDelivered (map_of (drop 5 octets)) unit i.rings later.rings i.unit_rings later.unit_rings d
     → IsWhole octets → row ≡ row_of c (run_within limits c j) octets → act.event ≡ number_of row → act.accepted ≡ accepts row i.farm.report
     → later.farm.width ≡ i.farm.width → later.farm.report ≡ after row i.farm.report
     → later.ring.items ≡ with_field i.ring.items (buffered_of act (drop 5 octets)) → later.ring.capacity ≡ i.ring.capacity
     → HoldsWithin limits c (j ++ Frame octets ∷ []) later
-frame-keeps {limits} {c} {j} {i} later made p unit kind octets row act entries k kind_is follows ends planned rings_are units_are whole row_is event_is accepted_is width report items capacity =
+frame-keeps {limits} {c} {j} {i} later d unit kind octets row act entries k kind_is follows ends is whole row_is event_is accepted_is width report items capacity =
     let b = run_within limits c j in
     let pushed = run-push limits c j (Frame octets) in
     let accepts_is : act.accepted ≡ accepts (row_of c b octets) b.report = rw (accepted_is, row_is, k.report) refl in
     let number_is : act.event ≡ number_of (row_of c b octets) = rw (event_is, row_is) refl in
     let fields : later.ring.items ≡ buffer (step c b (Frame octets)) =
     items ∙ rw (k.fields, number_is, accepts_is) (sym (buffer-kept (row_of c b octets) (accepts (row_of c b octets) b.report) octets b (state-counted limits c j k.lawful))) in
-    let offered = planned-held (drop 5 octets) unit i.rings later.rings i.unit_rings later.unit_rings made p b (queues-kept limits c j) (units-kept limits c j) (k.queues, k.units) planned rings_are units_are in
+    let offered = delivered-held (drop 5 octets) unit i.rings later.rings i.unit_rings later.unit_rings d b (queues-kept limits c j) (units-kept limits c j) (k.queues, k.units) is in
     let queues = frame-queues limits c b octets i.open_runs unit later.rings later.unit_rings (run-limit limits c j) k.runs (rw (← kind_is) ends) offered in
     record {
       allowed = k.allowed;
@@ -133,21 +128,21 @@ released-report c b = refl
 has-release : (b : ChannelState) → 0 < length (buffer b) → b.released < length b.accepted
 has-release b h = omega (arith, length-map (drop b.released b.accepted) (λ (a : Accepted). a.field), length-drop b.released b.accepted)
 
-pub release-keeps : {limits : ℕ → ℕ} {c : Settings} {j : List Event} {i : Inside} (later : Inside) (made : List Placed) (p : Planned) (unit : Option (List ℕ))
+pub release-keeps : {limits : ℕ → ℕ} {c : Settings} {j : List Event} {i : Inside} (later : Inside) (d : Delivery) (unit : Option (List ℕ))
     → HoldsWithin limits c j i → FollowsWithin (limits (map_of (first_of i.ring.items))) i.open_runs later.open_runs Ad (first_of i.ring.items) → EndsWithin (limits (map_of (first_of i.ring.items))) i.open_runs Ad (first_of i.ring.items) unit
-    → IsPlanned (map_of (first_of i.ring.items)) unit i.rings i.unit_rings made p → later.rings ≡ put_all i.rings made → later.unit_rings ≡ put_all i.unit_rings (placed p.unit) → 0 < length i.ring.items
+    → IsDelivered (map_of (first_of i.ring.items)) unit i.rings later.rings i.unit_rings later.unit_rings d → 0 < length i.ring.items
     → later.farm.width ≡ i.farm.width → later.farm.report ≡ after E10 i.farm.report
     → later.ring ≡ record { items = drop 1 i.ring.items; capacity = i.ring.capacity }
     → HoldsWithin limits c (j ++ Release ∷ []) later
-release-keeps {limits} {c} {j} {i} later made p unit k follows ends planned rings_are units_are some width report is =
+release-keeps {limits} {c} {j} {i} later d unit k follows ends delivery some width report is =
     let b = run_within limits c j in
     let pushed = run-push limits c j Release in
     let len : length i.ring.items ≡ length (buffer b) = ap length k.fields in
     let fields : later.ring.items ≡ buffer (step c b Release) =
     ap (λ (x : Buffer (List ℕ)). x.items) is ∙ ap (drop 1) k.fields ∙ sym (buffer-released c b) in
-    let planned_is : IsPlanned (map_of (first_of (buffer b))) unit i.rings i.unit_rings made p = rw k.fields at planned in
+    let delivered_is : IsDelivered (map_of (first_of (buffer b))) unit i.rings later.rings i.unit_rings later.unit_rings d = rw k.fields at delivery in
     let ends_is : EndsWithin (limits (map_of (first_of (buffer b)))) i.open_runs Ad (first_of (buffer b)) unit = rw k.fields at ends in
-    let offered = planned-held (first_of (buffer b)) unit i.rings later.rings i.unit_rings later.unit_rings made p b (queues-kept limits c j) (units-kept limits c j) (k.queues, k.units) planned_is rings_are units_are in
+    let offered = delivered-held (first_of (buffer b)) unit i.rings later.rings i.unit_rings later.unit_rings d b (queues-kept limits c j) (units-kept limits c j) (k.queues, k.units) delivered_is in
     let queues = release-queues limits c b i.open_runs unit later.rings later.unit_rings (run-limit limits c j) k.runs ends_is offered in
     record {
       allowed = k.allowed;
@@ -160,15 +155,3 @@ release-keeps {limits} {c} {j} {i} later made p unit k follows ends planned ring
       queues = rw pushed queues.0;
       units = rw pushed queues.1;
     }
-
-pub have-places : (wanted : ℕ → List ℕ → Bool) (items : List (List ℕ)) (rings : List HeldQueue) → HavePlaces (length rings) (copies_from wanted 0 items rings)
-have-places wanted items rings = copies-places wanted (length rings) 0 items rings (omega arith)
-
--- a channel whose buffer isn't empty holds a field
-pub some-field : {h : History} {limits : ℕ → ℕ} {c : Settings} {j : List Event} {i : Inside} → record { settings = c; journal = j } ≡ h
-    → HoldsWithin limits c j i → (buffered_fields_within limits h.settings h.journal ≡ [] → ⊥) → 0 < length i.ring.items
-unfolding buffered_fields_within
-some-field {h} {limits} {c} {j} {i} view k none = by i.ring.items refl where
-  by : (items : List (List ℕ)) → i.ring.items ≡ items → 0 < length i.ring.items
-  by [] e = absurd (none (rw (← view) (sym k.fields ∙ e)))
-  by (x ∷ xs) e = rw e (omega arith)

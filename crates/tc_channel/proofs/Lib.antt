@@ -9,7 +9,6 @@ pub mod Shares
 pub mod Counted
 pub mod Copies
 pub mod Passes
-pub mod Places
 pub mod Wholes
 pub mod Chosen
 pub mod Takes
@@ -30,3 +29,12 @@ pub mod Apart
 pub mod Words
 pub mod Examples
 pub mod Bound
+pub mod InRooms
+pub mod Ways
+pub mod Sizes
+pub mod Within
+pub mod AtWork
+pub mod Found
+pub mod Tables
+pub mod Laid
+pub mod Counts

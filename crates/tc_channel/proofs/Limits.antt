@@ -1,20 +1,15 @@
 -- A limit for each MAP, and that the largest unit is one that says nothing.
-use Rattle.std.proofs.Common.{◌≡◌, ℕ, ◌≤◌, Bool, true, false, cond, List, [], ◌∷◌, ◌++◌, length, Option, Some, None, refl, sym, ap, ◌∙◌, arith}
+use Rattle.std.proofs.Common.{◌≡◌, ℕ, ◌≤◌, Bool, true, false, cond, List, ◌++◌, length, Option, Some, None, refl, ap, ◌∙◌, arith}
 use Rattle.std.specs.Prelude.{nat_le, ◌↔◌}
-use Rattle.std.specs.Option.{option_and_then}
 use Rattle.std.proofs.lemmas.Bool.Decides.{nat_tests}
-use Rattle.tc_link.specs.declared.Kind.{Kind}
-use Rattle.tc_link.specs.declared.Kind.TheVariants as kinds
 use Rattle.tc_packet.specs.declared.segment.Part.{Part}
 use Rattle.tc_packet.specs.declared.segment.Part.TheVariants.{First, Continuing, Last, Unsegmented}
 use Rattle.tc_packet.specs.declared.Service.{Service}
-use Rattle.tc_packet.specs.declared.Service.TheVariants.{Bd}
-use Rattle.tc_packet.specs.Reassembly.{IsWithinLimit, Leave, OpenRuns, all_continue, at_most, bounded, ended_by, from_last_first, joined_bodies, largest_unit, open_run, run_left, run_of, stream, stream_place, unit_ended}
+use Rattle.tc_packet.specs.Reassembly.{IsWithinLimit, at_most, bounded, ended_by, largest_unit, open_run, stream, unit_ended}
 use Rattle.tc_packet.specs.Segment.{header_of, body_of}
 use Rattle.tc_channel.specs.ChannelState.{ChannelState, no_limits}
 use Rattle.tc_channel.specs.Admission.{map_of}
 use Rattle.tc_channel.specs.Run.{unit_of}
-use Rattle.tc_channel.specs.Channel.{LeaveAtMost, Follows, FollowsWithin, FollowsKind, FollowsKindWithin, Ends, EndsWithin, EndsAtOnce, EndsAtOnceWithin}
 
 -- a unit is within the limit
 
@@ -35,22 +30,6 @@ pub within-unit : (segmented : Bool) (fields : List (List ℕ)) (field : List �
 within-unit true fields field = within-ended (header_of field).part (open_run fields) (body_of field)
 within-unit false fields field = bounded-within field
 
--- nor is a run that is left open
-
-within-run : (fields : List (List ℕ)) → IsWithinLimit (open_run fields)
-within-run fields = by (from_last_first fields) where
-  at : (first : List ℕ) (after : List (List ℕ)) (t : Bool) → IsWithinLimit (cond t (bounded (joined_bodies (first ∷ after))) None)
-  at first after true = bounded-within (joined_bodies (first ∷ after))
-  at first after false = tt
-
-  by : (o : Option (List ℕ × List (List ℕ))) → IsWithinLimit (option_and_then run_of o)
-  by None = tt
-  by (Some p) = at p.0 p.1 (all_continue p.1)
-
-within-left : (segmented : Bool) (fields : List (List ℕ)) → IsWithinLimit (run_left segmented fields)
-within-left true fields = within-run fields
-within-left false fields = tt
-
 -- what is within the largest unit stays so within a limit
 
 pub within-both : (limit : ℕ) (o : Option (List ℕ)) → IsWithinLimit o → IsWithinLimit (at_most limit o)
@@ -69,34 +48,6 @@ all-within map_id (Some octets) within = let fits : nat_le (length octets) large
 
 pub unit-all : (map_id : ℕ) (segmented : Bool) (fields : List (List ℕ)) (field : List ℕ) → at_most (no_limits map_id) (unit_ended segmented fields field) ≡ unit_ended segmented fields field
 unit-all map_id segmented fields field = all-within map_id (unit_ended segmented fields field) (within-unit segmented fields field)
-
-left-all : (map_id : ℕ) (segmented : Bool) (fields : List (List ℕ)) → at_most (no_limits map_id) (run_left segmented fields) ≡ run_left segmented fields
-left-all map_id segmented fields = all-within map_id (run_left segmented fields) (within-left segmented fields)
-
-leave-all : (map_id : ℕ) (fields : List (List ℕ)) (open_runs : OpenRuns) (place : ℕ) → LeaveAtMost (no_limits map_id) fields open_runs place → Leave fields open_runs place
-leave-all map_id fields open_runs place leave = sym (left-all map_id open_runs.segmented fields) ∙ leave
-
-pub follows-all : (map_id : ℕ) (old new : OpenRuns) (service : Service) (field : List ℕ) → Follows old new service field → FollowsWithin (no_limits map_id) old new service field
-follows-all map_id old new service field follows = record {
-  run = λ fields leave. left-all map_id new.segmented (fields ++ field ∷ []) ∙ follows.run fields (leave-all map_id fields old (stream_place service field) leave);
-  others = follows.others;
-  segmented = follows.segmented;
-}
-
-pub ends-all : (map_id : ℕ) (open_runs : OpenRuns) (service : Service) (field : List ℕ) (unit : Option (List ℕ)) → Ends open_runs service field unit → EndsWithin (no_limits map_id) open_runs service field unit
-ends-all map_id open_runs service field unit ends = λ fields leave. ends fields (leave-all map_id fields open_runs (stream_place service field) leave) ∙ sym (unit-all map_id open_runs.segmented fields field)
-
-pub follows-kind-all : (map_id : ℕ) (kind : Kind) (old new : OpenRuns) (field : List ℕ) → FollowsKind kind old new field → FollowsKindWithin (no_limits map_id) kind old new field
-follows-kind-all map_id kinds.Bd old new field follows = follows-all map_id old new Bd field follows
-follows-kind-all map_id (kinds.Ad ns) old new field same = same
-follows-kind-all map_id (kinds.Bc command) old new field same = same
-follows-kind-all map_id kinds.Invalid old new field same = same
-
-pub ends-at-once-all : (map_id : ℕ) (kind : Kind) (open_runs : OpenRuns) (field : List ℕ) (unit : Option (List ℕ)) → EndsAtOnce kind open_runs field unit → EndsAtOnceWithin (no_limits map_id) kind open_runs field unit
-ends-at-once-all map_id kinds.Bd open_runs field unit ends = ends-all map_id open_runs Bd field unit ends
-ends-at-once-all map_id (kinds.Ad ns) open_runs field unit none = none
-ends-at-once-all map_id (kinds.Bc command) open_runs field unit none = none
-ends-at-once-all map_id kinds.Invalid open_runs field unit none = none
 
 -- a unit and the limit of its MAP
 

@@ -11,9 +11,7 @@ use Rattle.std.proofs.lemmas.List.{append-nil, length-append, length-map}
 use Rattle.std.proofs.lemmas.List.Sums.{sum_by-cons}
 use Rattle.circular_buffer.specs.Buffer.{buffer as ring_of}
 use Rattle.tc_channel.specs.Admission.{is_for}
-use Rattle.tc_channel.specs.HeldQueues.{keys_of, AreDistinct, room_in, share, with_items, shared, shares_in, copied_to, longer, put, put_all, IsUnderWay, AreShares}
-use Rattle.tc_channel.specs.declared.queues.HeldQueue.{HeldQueue}
-use Rattle.tc_channel.specs.declared.queues.Placed.{Placed}
+use Rattle.tc_channel.specs.HeldQueues.{keys_of, AreDistinct, room_in, share, with_items, shared, shares_in, copied_to, longer, put, put_all, IsUnderWay, AreShares, HeldQueue, Placed}
 use Rattle.tc_channel.proofs.Copies.{length-put_all, put_all-push, places-append, longer-fits}
 use Rattle.tc_channel.proofs.Counted.{for-one}
 

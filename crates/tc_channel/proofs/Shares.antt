@@ -3,12 +3,12 @@ use Rattle.std.proofs.Common.{◌≡◌, ◌≢◌, ℕ, zero, suc, ◌+◌, ◌
 use Rattle.std.specs.Prelude.{is_some}
 use Rattle.std.specs.List.{sum_by}
 use Rattle.std.proofs.lemmas.List.Sums.{sum_by-cons}
-use Rattle.tc_channel.specs.declared.queues.Planned.{Planned}
-use Rattle.tc_channel.specs.declared.queues.Placed.{Placed}
+use Rattle.tc_channel.specs.declared.reply.Delivery.{Delivery}
+use Rattle.tc_channel.specs.Delivering.{IsDelivered}
+use Rattle.tc_channel.specs.HeldQueues.{Placed, HeldQueue, held, share, with_items, shared, shares_in, queue_for, copies_from, put_all, placed, AreShares}
 use Rattle.tc_channel.specs.Reply.{nothing, delivery_of, frame_delivery, release_reply_at}
 use Rattle.std.proofs.lemmas.List.{drop-append-le, length-drop, append-nil}
 use Rattle.tc_link.specs.Farm.{Row, E1, E2, E3, E4, E5, E6, E7, E8, E9, E10, row_at, frame_row, accepts}
-use Rattle.tc_channel.specs.declared.queues.HeldQueue.{HeldQueue}
 use Rattle.tc_channel.specs.declared.settings.Settings.{Settings}
 use Rattle.tc_channel.specs.declared.event.Event.TheVariants.{Frame, Release}
 use Rattle.tc_channel.specs.ChannelState.{ChannelState, Queue, queue_of, has_room, buffer}
@@ -29,7 +29,6 @@ use Rattle.tc_channel.specs.Channel.{AreRuns, EndsWithin, EndsAtOnceWithin}
 use Rattle.tc_channel.specs.Run.{step, row_of, kept, passed_on, unit_of, first_of}
 use Rattle.tc_channel.proofs.StateQueues.{AreKept}
 use Rattle.tc_channel.proofs.Copies.{Fit, shares-put, copies-places, length-copies}
-use Rattle.tc_channel.specs.HeldQueues.{held, share, with_items, shared, shares_in, queue_for, copies_from, put_all, placed, AreShares, IsPlanned}
 
 fit-held : (qs : List Queue) → AreKept qs → Fit (map held qs)
 fit-held [] h = tt
@@ -115,18 +114,18 @@ same-chosen map_id unit_rings qs are = ap (λ (x : List HeldQueue). is_some (que
     at true h = refl
     at false h = h
 
--- what was planned leaves the queues of the state to which the unit was offered
-pub planned-held : (field : List ℕ) (unit : Option (List ℕ)) (rings later unit_rings later_units : List HeldQueue) (made : List Placed) (p : Planned) (b : ChannelState) → AreKept b.queues → AreKept b.units → AreHeld rings unit_rings b
-    → IsPlanned (map_of field) unit rings unit_rings made p → later ≡ put_all rings made → later_units ≡ put_all unit_rings (placed p.unit) → AreHeld later later_units (offered field unit b)
-planned-held field unit rings later unit_rings later_units made p b kept kept_units are planned later_is units_is =
+-- what is delivered leaves the queues of the state to which the unit was offered
+pub delivered-held : (field : List ℕ) (unit : Option (List ℕ)) (rings later unit_rings later_units : List HeldQueue) (d : Delivery) (b : ChannelState) → AreKept b.queues → AreKept b.units → AreHeld rings unit_rings b
+    → IsDelivered (map_of field) unit rings later unit_rings later_units d → AreHeld later later_units (offered field unit b)
+delivered-held field unit rings later unit_rings later_units d b kept kept_units are is =
     let chosen = same-chosen (map_of field) unit_rings b.units are.1 in
-    let whole : placed p.unit ≡ copies_from (is_of_map (map_of field)) 0 (units_offered unit (is_chosen b field)) unit_rings =
-    planned.whole ∙ ap (λ (t : Bool). copies_from (is_of_map (map_of field)) 0 (units_offered unit t) unit_rings) chosen in
+    let whole : placed is.whole ≡ copies_from (is_of_map (map_of field)) 0 (units_offered unit (is_chosen b field)) unit_rings =
+    is.whole_is ∙ ap (λ (t : Bool). copies_from (is_of_map (map_of field)) 0 (units_offered unit t) unit_rings) chosen in
     let fit : Fit unit_rings = rw are.1 (fit-held b.units kept_units) in (
-      queues-follow is_for rings later made (packets_offered unit (is_chosen b field)) b.queues kept are.0
-          (subst (λ (t : Bool). AreShares is_for (packets_offered unit t) rings made) chosen planned.copies) later_is,
-      queues-follow (is_of_map (map_of field)) unit_rings later_units (placed p.unit) (units_offered unit (is_chosen b field)) b.units kept_units are.1
-          (from-copies (is_of_map (map_of field)) (units_offered unit (is_chosen b field)) unit_rings (placed p.unit) fit whole) units_is,
+      queues-follow is_for rings later is.made (packets_offered unit (is_chosen b field)) b.queues kept are.0
+          (subst (λ (t : Bool). AreShares is_for (packets_offered unit t) rings is.made) chosen is.shares) is.queues_are,
+      queues-follow (is_of_map (map_of field)) unit_rings later_units (placed is.whole) (units_offered unit (is_chosen b field)) b.units kept_units are.1
+          (from-copies (is_of_map (map_of field)) (units_offered unit (is_chosen b field)) unit_rings (placed is.whole) fit whole) is.units_are,
     )
 
 -- where no unit is offered, the queues stay
@@ -178,13 +177,13 @@ other-nothing E10 octets b h = refl
 count-is : (wanted : ℕ → List ℕ → Bool) (items : List (List ℕ)) (rings : List HeldQueue) (copies : List Placed) (qs : List Queue) → rings ≡ map held qs → copies ≡ copies_from wanted 0 items rings → length copies ≡ queued_of wanted items qs
 count-is wanted items rings copies qs are is = ap length is ∙ length-copies wanted 0 items rings ∙ ap (λ (x : List HeldQueue). sum_by length (map (share wanted items) x)) are ∙ queued-is wanted items qs
 
-planned-is : (field : List ℕ) (unit : Option (List ℕ)) (rings unit_rings : List HeldQueue) (made : List Placed) (p : Planned) (b : ChannelState) → AreHeld rings unit_rings b → IsPlanned (map_of field) unit rings unit_rings made p → p.delivery ≡ delivery_of field unit b
-planned-is field unit rings unit_rings made p b are is =
+delivery-is : (field : List ℕ) (unit : Option (List ℕ)) (rings later unit_rings later_units : List HeldQueue) (d : Delivery) (b : ChannelState) → AreHeld rings unit_rings b → IsDelivered (map_of field) unit rings later unit_rings later_units d → d ≡ delivery_of field unit b
+delivery-is field unit rings later unit_rings later_units d b are is =
     let chosen = same-chosen (map_of field) unit_rings b.units are.1 in
     let items = packets_offered unit (is_some (queue_for (map_of field) unit_rings)) in
-    let packets : length made ≡ queued_of is_for items b.queues = is.copies.count ∙ ap (shares_in is_for items) are.0 ∙ queued-is is_for items b.queues in
-    let units = count-is (is_of_map (map_of field)) (units_offered unit (is_some (queue_for (map_of field) unit_rings))) unit_rings (placed p.unit) b.units are.1 is.whole in
-    is.delivery ∙ rw (packets, units, chosen) refl
+    let packets : length is.made ≡ queued_of is_for items b.queues = is.shares.count ∙ ap (shares_in is_for items) are.0 ∙ queued-is is_for items b.queues in
+    let units = count-is (is_of_map (map_of field)) (units_offered unit (is_some (queue_for (map_of field) unit_rings))) unit_rings (placed is.whole) b.units are.1 is.whole_is in
+    is.delivery_is ∙ rw (packets, units, chosen) refl
 
 kind-delivery : (limits : ℕ → ℕ) (width vr : ℕ) (kind : Kind) (room : Bool) (octets : List ℕ) (b : ChannelState) (open_runs : OpenRuns) (unit : Option (List ℕ)) → b.limit ≡ limits → AreRuns limits open_runs b.segmented b.passed → EndsAtOnceWithin (limits (map_of (drop 5 octets))) kind open_runs (drop 5 octets) unit
     → delivery_of (drop 5 octets) unit b ≡ frame_delivery (frame_row width vr kind room) octets b
@@ -194,10 +193,10 @@ kind-delivery limits width vr (kinds.Bc Unlock) room octets b open_runs unit lim
 kind-delivery limits width vr (kinds.Bc (SetVr x)) room octets b open_runs unit limit are ends = rw ends refl
 kind-delivery limits width vr kinds.Invalid room octets b open_runs unit limit are ends = rw ends refl
 
-pub frame-delivery : (limits : ℕ → ℕ) (c : Settings) (b : ChannelState) (octets : List ℕ) (open_runs : OpenRuns) (unit : Option (List ℕ)) (rings unit_rings : List HeldQueue) (made : List Placed) (p : Planned) → b.limit ≡ limits → AreRuns limits open_runs b.segmented b.passed → AreHeld rings unit_rings b
-    → EndsAtOnceWithin (limits (map_of (drop 5 octets))) (kind_of (header_of octets) (drop 5 octets)) open_runs (drop 5 octets) unit → IsPlanned (map_of (drop 5 octets)) unit rings unit_rings made p → p.delivery ≡ frame_delivery (row_of c b octets) octets b
-frame-delivery limits c b octets open_runs unit rings unit_rings made p limit are held_are ends is = planned-is (drop 5 octets) unit rings unit_rings made p b held_are is ∙ kind-delivery limits c.width b.report.vr (kind_of (header_of octets) (drop 5 octets)) (has_room c b) octets b open_runs unit limit are ends
+pub frame-delivery : (limits : ℕ → ℕ) (c : Settings) (b : ChannelState) (octets : List ℕ) (open_runs : OpenRuns) (unit : Option (List ℕ)) (rings later unit_rings later_units : List HeldQueue) (d : Delivery) → b.limit ≡ limits → AreRuns limits open_runs b.segmented b.passed → AreHeld rings unit_rings b
+    → EndsAtOnceWithin (limits (map_of (drop 5 octets))) (kind_of (header_of octets) (drop 5 octets)) open_runs (drop 5 octets) unit → IsDelivered (map_of (drop 5 octets)) unit rings later unit_rings later_units d → d ≡ frame_delivery (row_of c b octets) octets b
+frame-delivery limits c b octets open_runs unit rings later unit_rings later_units d limit are held_are ends is = delivery-is (drop 5 octets) unit rings later unit_rings later_units d b held_are is ∙ kind-delivery limits c.width b.report.vr (kind_of (header_of octets) (drop 5 octets)) (has_room c b) octets b open_runs unit limit are ends
 
-pub release-delivery : (limits : ℕ → ℕ) (b : ChannelState) (open_runs : OpenRuns) (unit : Option (List ℕ)) (rings unit_rings : List HeldQueue) (made : List Placed) (p : Planned) → b.limit ≡ limits → AreRuns limits open_runs b.segmented b.passed → AreHeld rings unit_rings b
-    → EndsWithin (limits (map_of (first_of (buffer b)))) open_runs Ad (first_of (buffer b)) unit → IsPlanned (map_of (first_of (buffer b))) unit rings unit_rings made p → p.delivery ≡ release_reply_at b
-release-delivery limits b open_runs unit rings unit_rings made p limit are held_are ends is = planned-is (first_of (buffer b)) unit rings unit_rings made p b held_are is ∙ ap (λ (x : Option (List ℕ)). delivery_of (first_of (buffer b)) x b) (ends-unit limits Ad (first_of (buffer b)) b open_runs unit limit are ends)
+pub release-delivery : (limits : ℕ → ℕ) (b : ChannelState) (open_runs : OpenRuns) (unit : Option (List ℕ)) (rings later unit_rings later_units : List HeldQueue) (d : Delivery) → b.limit ≡ limits → AreRuns limits open_runs b.segmented b.passed → AreHeld rings unit_rings b
+    → EndsWithin (limits (map_of (first_of (buffer b)))) open_runs Ad (first_of (buffer b)) unit → IsDelivered (map_of (first_of (buffer b))) unit rings later unit_rings later_units d → d ≡ release_reply_at b
+release-delivery limits b open_runs unit rings later unit_rings later_units d limit are held_are ends is = delivery-is (first_of (buffer b)) unit rings later unit_rings later_units d b held_are is ∙ ap (λ (x : Option (List ℕ)). delivery_of (first_of (buffer b)) x b) (ends-unit limits Ad (first_of (buffer b)) b open_runs unit limit are ends)

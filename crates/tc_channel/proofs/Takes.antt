@@ -12,11 +12,10 @@ use Rattle.tc_channel.specs.declared.event.Event.TheVariants.{Take, TakeUnit}
 use Rattle.tc_channel.specs.Channel.{Inside, HoldsWithin}
 use Rattle.tc_channel.proofs.Runs.{run-push, lawful-push}
 use Rattle.std.proofs.lemmas.Bool.Decides.{nat_tests, eqb_tells}
-use Rattle.tc_channel.specs.declared.queues.HeldQueue.{HeldQueue}
+use Rattle.tc_channel.specs.HeldQueues.{HeldQueue, AreDistinct, keys_of, held, queue_for, items_for, popped, shorter}
 use Rattle.tc_channel.specs.ChannelState.{Queue, waiting, queue_of}
 use Rattle.tc_channel.specs.Run.{taken_from, HasItem, run_within}
 use Rattle.tc_channel.specs.Reply.{waiting_packets_within, waiting_units_within}
-use Rattle.tc_channel.specs.HeldQueues.{AreDistinct, keys_of, held, queue_for, items_for, popped, shorter}
 use Rattle.tc_channel.proofs.StateQueues.{keys, queues-apart, units-apart}
 
 pub held-queue : (key : ℕ) (qs : List Queue) → queue_for key (map held qs) ≡ option_map held (queue_of key qs)

@@ -7,13 +7,12 @@ use Rattle.tc_link.specs.declared.Kind.{Kind}
 use Rattle.tc_link.specs.declared.Kind.TheVariants as kinds
 use Rattle.tc_packet.specs.declared.Service.{Service}
 use Rattle.tc_packet.specs.declared.Service.TheVariants.{Bd}
-use Rattle.tc_packet.specs.Reassembly.{OpenRuns, Passed, Leave, at_most, stream, run_at, run_left, place_of, stream_place, unit_ended}
+use Rattle.tc_packet.specs.Reassembly.{OpenRuns, Passed, at_most, stream, run_at, run_left, place_of, stream_place, unit_ended}
 use Rattle.tc_channel.specs.declared.settings.Settings.{Settings}
 use Rattle.tc_channel.specs.Settings.{IsAllowed}
 use Rattle.tc_channel.specs.declared.event.Event.{Event}
-use Rattle.tc_channel.specs.ChannelState.{buffer, no_limits}
-use Rattle.tc_channel.specs.HeldQueues.{held}
-use Rattle.tc_channel.specs.declared.queues.HeldQueue.{HeldQueue}
+use Rattle.tc_channel.specs.ChannelState.{buffer}
+use Rattle.tc_channel.specs.HeldQueues.{held, HeldQueue}
 use Rattle.tc_channel.specs.Run.{run_within, IsLawfulWithin}
 
 -- the fields leave the run at this place, if it is no longer than the limit
@@ -25,46 +24,24 @@ pub record AreRuns (limits : ℕ → ℕ) (open_runs : OpenRuns) (headed : Bool)
   pub segmented : open_runs.segmented ≡ headed
   pub runs : (service : Service) (map_id : ℕ) → map_id < 64 → LeaveAtMost (limits map_id) (stream service map_id passed) open_runs (place_of service map_id)
 
--- the runs after one more data field
-pub record Follows (old new : OpenRuns) (service : Service) (field : List ℕ) : Type 0 where
-  pub run : (fields : List (List ℕ)) → Leave fields old (stream_place service field) → Leave (fields ++ field ∷ []) new (stream_place service field)
-  pub others : (other : ℕ) → other ≢ stream_place service field → run_at new.runs other ≡ run_at old.runs other
-  pub segmented : new.segmented ≡ old.segmented
-
--- the same with a limit
+-- the runs after one more data field, each run within the limit of its stream
 pub record FollowsWithin (limit : ℕ) (old new : OpenRuns) (service : Service) (field : List ℕ) : Type 0 where
   pub run : (fields : List (List ℕ)) → LeaveAtMost limit fields old (stream_place service field) → LeaveAtMost limit (fields ++ field ∷ []) new (stream_place service field)
   pub others : (other : ℕ) → other ≢ stream_place service field → run_at new.runs other ≡ run_at old.runs other
   pub segmented : new.segmented ≡ old.segmented
 
 -- the data field of a BD frame is passed on at once, and no other
-abbrev pub FollowsKind : Kind → OpenRuns → OpenRuns → List ℕ → Type 0
-FollowsKind kinds.Bd old new field = Follows old new Bd field
-FollowsKind (kinds.Ad ns) old new field = new ≡ old
-FollowsKind (kinds.Bc command) old new field = new ≡ old
-FollowsKind kinds.Invalid old new field = new ≡ old
-
 abbrev pub FollowsKindWithin : ℕ → Kind → OpenRuns → OpenRuns → List ℕ → Type 0
 FollowsKindWithin limit kinds.Bd old new field = FollowsWithin limit old new Bd field
 FollowsKindWithin limit (kinds.Ad ns) old new field = new ≡ old
 FollowsKindWithin limit (kinds.Bc command) old new field = new ≡ old
 FollowsKindWithin limit kinds.Invalid old new field = new ≡ old
 
--- the unit that a data field would end
-abbrev pub Ends : OpenRuns → Service → List ℕ → Option (List ℕ) → Type 0
-Ends open_runs service field unit = (fields : List (List ℕ)) → Leave fields open_runs (stream_place service field) → unit ≡ unit_ended open_runs.segmented fields field
-
--- the same with a limit: a longer unit is none
+-- the unit that a data field ends, where it is within the limit
 abbrev pub EndsWithin : ℕ → OpenRuns → Service → List ℕ → Option (List ℕ) → Type 0
 EndsWithin limit open_runs service field unit = (fields : List (List ℕ)) → LeaveAtMost limit fields open_runs (stream_place service field) → unit ≡ at_most limit (unit_ended open_runs.segmented fields field)
 
--- the unit that a frame would end at once
-abbrev pub EndsAtOnce : Kind → OpenRuns → List ℕ → Option (List ℕ) → Type 0
-EndsAtOnce kinds.Bd open_runs field unit = Ends open_runs Bd field unit
-EndsAtOnce (kinds.Ad ns) open_runs field unit = unit ≡ None
-EndsAtOnce (kinds.Bc command) open_runs field unit = unit ≡ None
-EndsAtOnce kinds.Invalid open_runs field unit = unit ≡ None
-
+-- the unit that a frame ends at once
 abbrev pub EndsAtOnceWithin : ℕ → Kind → OpenRuns → List ℕ → Option (List ℕ) → Type 0
 EndsAtOnceWithin limit kinds.Bd open_runs field unit = EndsWithin limit open_runs Bd field unit
 EndsAtOnceWithin limit (kinds.Ad ns) open_runs field unit = unit ≡ None
@@ -98,7 +75,3 @@ pub record HoldsWithin (limits : ℕ → ℕ) (s : Settings) (journal : List Eve
   pub runs : AreRuns limits inside.open_runs (run_within limits s journal).segmented (run_within limits s journal).passed
   pub queues : inside.rings ≡ map held (run_within limits s journal).queues
   pub units : inside.unit_rings ≡ map held (run_within limits s journal).units
-
--- the same of a channel that has no limit by MAP
-abbrev pub Holds : Settings → List Event → Inside → Type 0
-Holds s journal inside = HoldsWithin no_limits s journal inside

@@ -1,13 +1,20 @@
--- What the code holds of the queues, and what a call is going to put into them.
-use Rattle.std.specs.Prelude.{◌≡◌, ◌≢◌, ℕ, zero, suc, ◌-◌, ◌+◌, ◌<◌, Bool, true, false, List, [], ◌∷◌, ◌++◌, length, map, filter, take, drop, get_or, ◌⊎◌, Option, Some, None, is_some, option_map, ◌==◌, if◌then◌else◌}
+-- What the code holds of the queues, and what a call puts into them.
+use Rattle.std.specs.Prelude.{◌≡◌, ◌≢◌, ℕ, zero, suc, ◌-◌, ◌+◌, ◌<◌, Bool, List, [], ◌∷◌, ◌++◌, length, map, filter, take, drop, Option, Some, None, option_map, slice_get, ◌==◌, if◌then◌else◌}
 use Rattle.std.specs.List.{AllByRecursion, sum_by}
-use Rattle.circular_buffer.specs.Buffer.{buffer as ring_of, keep_last}
+use Rattle.std.specs.Option.{option_and_then}
+use Rattle.circular_buffer.specs.Buffer.{Buffer, buffer as ring_of, keep_last}
 use Rattle.tc_channel.specs.ChannelState.{Queue, waiting}
-use Rattle.tc_channel.specs.Admission.{is_for, is_of_map, packets_offered, units_offered}
-use Rattle.tc_channel.specs.Reply.{nothing, delivered}
-use Rattle.tc_channel.specs.declared.queues.HeldQueue.{HeldQueue}
-use Rattle.tc_channel.specs.declared.queues.Placed.{Placed}
-use Rattle.tc_channel.specs.declared.queues.Planned.{Planned}
+use Rattle.tc_channel.specs.Admission.{is_for}
+
+-- a queue: its key, which is the APID of an application or a MAP, and the ring of the items that wait
+pub record HeldQueue : Type 0 where
+  pub key : ℕ
+  pub ring : Buffer (List ℕ)
+
+-- an item, and the place of the queue that it is put into
+pub record Placed : Type 0 where
+  pub place : ℕ
+  pub item : List ℕ
 
 -- what a queue of the state is held as
 abbrev pub held : Queue → HeldQueue
@@ -79,6 +86,10 @@ queue_for key (q ∷ qs) = if q.key == key then Some q else queue_for key qs
 abbrev pub items_for : ℕ → List HeldQueue → Option (List (List ℕ))
 items_for key queues = option_map (λ (q : HeldQueue). q.ring.items) (queue_for key queues)
 
+-- the oldest item of the queue with a key
+abbrev pub oldest_for : ℕ → List HeldQueue → Option (List ℕ)
+oldest_for key queues = option_and_then (λ items. slice_get items 0) (items_for key queues)
+
 -- a queue without its oldest item
 abbrev pub shorter : HeldQueue → HeldQueue
 shorter q = record q { ring = ring_of (drop 1 q.ring.items) q.ring.capacity }
@@ -102,15 +113,6 @@ placed_at (Some place) unit = copied_to place unit ∷ []
 abbrev pub apid_count : ℕ
 apid_count = 2048
 
--- a number tells the place of an APID among those of the queues, or that none of them has it
-abbrev pub Tells : List ℕ → ℕ → ℕ → ℕ → Type 0
-Tells apids none apid n = ((n < length apids) × (apid ≡ get_or apids n apid)) ⊎ ((n ≡ none) × AllByRecursion (λ other. apid ≢ other) apids)
-
--- a table of the places of all APIDs
-pub record IsTable (apids : List ℕ) (none : ℕ) (table : List ℕ) : Type 0 where
-  pub size : length table ≡ apid_count
-  pub tells : (apid : ℕ) → apid < apid_count → Tells apids none apid (get_or table apid none)
-
 -- once put, the copies give each queue its share of the items
 pub record AreShares (wanted : ℕ → List ℕ → Bool) (items : List (List ℕ)) (queues : List HeldQueue) (made : List Placed) : Type 0 where
   pub places : HavePlaces (length queues) made
@@ -125,27 +127,3 @@ pub record IsUnderWay (queues : List HeldQueue) (left all : List (List ℕ)) (ma
   pub rooms : free ≡ map room_in (put_all queues made)
   pub put : shared is_for left (put_all queues made) ≡ shared is_for all queues
   pub count : length made + shares_in is_for left (put_all queues made) ≡ shares_in is_for all queues
-
--- what the queues take of a unit of this MAP, and what to answer
-pub record IsPlanned (map_id : ℕ) (unit : Option (List ℕ)) (queues unit_queues : List HeldQueue) (made : List Placed) (p : Planned) : Type 0 where
-  pub copies : AreShares is_for (packets_offered unit (is_some (queue_for map_id unit_queues))) queues made
-  pub whole : placed p.unit ≡ copies_from (is_of_map map_id) 0 (units_offered unit (is_some (queue_for map_id unit_queues))) unit_queues
-  pub delivery : p.delivery ≡ delivered unit (is_some (queue_for map_id unit_queues)) (length made + length (placed p.unit))
-
--- no unit was ended
-pub record IsNothing (made : List Placed) (p : Planned) : Type 0 where
-  pub copies : made ≡ []
-  pub whole : p.unit ≡ None
-  pub delivery : p.delivery ≡ nothing
-
--- what is planned where the MAP isn't chosen
-pub record IsPlannedByPackets (unit : Option (List ℕ)) (queues : List HeldQueue) (made : List Placed) (p : Planned) : Type 0 where
-  pub copies : AreShares is_for (packets_offered unit false) queues made
-  pub whole : p.unit ≡ None
-  pub delivery : p.delivery ≡ delivered unit false (length made)
-
--- what is planned of a unit of a chosen MAP
-pub record IsPlannedWhole (map_id : ℕ) (unit : List ℕ) (unit_queues : List HeldQueue) (made : List Placed) (p : Planned) : Type 0 where
-  pub copies : made ≡ []
-  pub whole : placed p.unit ≡ copies_from (is_of_map map_id) 0 (unit ∷ []) unit_queues
-  pub delivery : p.delivery ≡ delivered (Some unit) true (length (placed p.unit))

@@ -13,4 +13,9 @@ pub mod Holding
 pub mod Laws
 pub mod HeldQueues
 pub mod Channel
+pub mod Keyed
+pub mod Places
+pub mod Delivering
+pub mod Steps
+pub mod Workings
 pub mod Examples

@@ -12,10 +12,6 @@ use Rattle.tc_packet.specs.declared.Service.TheVariants.{Ad, Bd}
 use Rattle.tc_packet.specs.SpacePacket.{packets_of, rest_of}
 use Rattle.tc_channel.specs.declared.reply.Delivery.{Delivery}
 use Rattle.tc_channel.specs.declared.reply.FrameReply.{FrameReply}
-use Rattle.tc_channel.specs.declared.reply.TakeFault.{TakeFault}
-use Rattle.tc_channel.specs.declared.reply.TakeFault.TheVariants as take_faults
-use Rattle.tc_channel.specs.declared.reply.TakeUnitFault.{TakeUnitFault}
-use Rattle.tc_channel.specs.declared.reply.TakeUnitFault.TheVariants as unit_faults
 use Rattle.tc_channel.specs.declared.settings.Settings.{Settings}
 use Rattle.tc_channel.specs.declared.event.Event.{Event}
 use Rattle.tc_channel.specs.ChannelState.{ChannelState, no_limits, buffer, queue_of, waiting}
@@ -90,12 +86,6 @@ buffered_fields_within limits s journal = buffer (run_within limits s journal)
 -- the CLCW (CCSDS 232.0-B, 4.2)
 unfoldable pub clcw_within : (ℕ → ℕ) → Settings → List Event → Link → ℕ
 clcw_within limits s journal link = word_of (run_within limits s journal).report s.vcid link
-
--- the fault of a unit queue that the fault of a packet queue is, where both are taken from alike
-abbrev pub unit_fault_of : TakeFault → TakeUnitFault
-unit_fault_of take_faults.NoQueue = unit_faults.NoMap
-unit_fault_of take_faults.Empty = unit_faults.Empty
-unit_fault_of take_faults.NoMemory = unit_faults.NoMemory
 
 -- what a channel that has no limit by MAP answers
 

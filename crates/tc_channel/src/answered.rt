@@ -82,9 +82,9 @@ pub fn journals_within_limits_are_answered_so()
 
 /// The memory that is worked out by hand for three settings.
 pub fn memory_is_counted_so()
-    ensures plain { memory_bound (example.two_queues false) ≡ 17396 }
-    ensures segmented { memory_bound (example.two_queues true) ≡ 17376338 }
-    ensures many { memory_bound example.many_queues ≡ 1192606931 }
+    ensures plain { memory_bound (example.two_queues false) ≡ 12740 }
+    ensures segmented { memory_bound (example.two_queues true) ≡ 17312279 }
+    ensures many { memory_bound example.many_queues ≡ 1192075848 }
 {}
 
 /// What a channel has come to, worked out by hand: a packet of application 5 and a unit of MAP 3 came by Type-BD, and wait, and the

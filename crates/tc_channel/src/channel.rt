@@ -1,39 +1,27 @@
 //! A channel and its journal.
 
-ghost use Rattle.std.specs.Prelude.{List, ℕ, ◌≡◌, false, [], ◌<◌, ◌≤◌, ◌↔◌, ◌∷◌, ◌++◌, length, min, ◌^◌, ◌-◌, slice_get, IfOk, OnOk, OnErr, IsErrOf, MatchResult, IsSome, IsTrue, Some, None, Option, option_map};
-ghost use Rattle.std.specs.Option.{option_and_then};
+ghost use Rattle.std.specs.Prelude.{◌≡◌, false, [], ◌<◌, ◌↔◌, length, min, ◌^◌, ◌-◌, IfOk, OnOk, OnErr, IsErrOf, MatchResult, Some, None, option_map};
 ghost use Rattle.tc_channel.specs.Settings.{IsAllowed, IsRefusal};
-ghost use Rattle.tc_channel.specs.Journal.{with_event, event_of};
+ghost use Rattle.tc_channel.specs.Journal.{with_event};
 ghost use Rattle.tc_channel.specs.Run.{run, IsLawful};
 ghost use Rattle.tc_channel.specs.Reply.{IsBypassData, frame_reply, release_reply, take_reply, unit_reply, waiting_packets, waiting_units, buffered_fields, clcw as clcw_of};
 ghost use Rattle.tc_channel.specs.Era.{CountsUpInItsEra};
-ghost use Rattle.tc_channel.specs.Channel.{Ends, Follows, FollowsKind, EndsAtOnce, buffered_of, with_field};
-ghost use Rattle.tc_channel.specs.Admission.{map_of};
-ghost use Rattle.tc_channel.specs.HeldQueues.{AreDistinct, keys_of, IsPlanned, items_for, popped};
 
-use crate::copying::{Worksheet, put_copies};
 use crate::event::Event;
-use crate::fields::{FieldBuffer, LARGEST_FIELD};
-use crate::items::Octets;
 use crate::journal::Journal;
 use crate::kept::Kept;
 use crate::lent::LentEvent;
 use crate::past::Past;
-use crate::queues::{
-    HeldQueue, Planned, empty_queues, empty_unit_queues, find, oldest_with, plan, plan_nothing,
-    pop, put_unit,
-};
 use crate::reply::{Delivery, FrameReply, NoMemory, ReleaseFault, TakeFault, TakeUnitFault};
 use crate::settings::{Settings, SettingsFault};
 use crate::unkept::Unkept;
+use crate::workings::Workings;
 use std::alloc::Global;
 use std::marker::Model;
 use std::snapshot::Snapshot;
-use tc_link::{
-    Act, Arrival, Farm, Frame, Kind, Link, Report, Window, clcw_word, each_arrival_has_an_entry,
-    kind,
-};
-use tc_packet::{Reassembler, Service};
+use tc_link::{Frame, Link, Report, clcw_word};
+use tc_packet::LARGEST_UNIT;
+use tc_rooms::{GrowingRoom, Runs};
 
 /// One virtual channel: FARM-1, the buffer of accepted data fields, reassembly, the packet queues, the unit queues of chosen
 /// MAPs, and the journal of all that it answered. A call that is refused leaves it as it was.
@@ -41,13 +29,7 @@ use tc_packet::{Reassembler, Service};
 pub struct ChannelWith<J: Journal> {
     alloc: Global,
     settings: Settings,
-    farm: Farm,
-    fields: FieldBuffer,
-    reassembler: Reassembler,
-    queues: Vec<HeldQueue>,
-    units: Vec<HeldQueue>,
-    // nothing that is told of a channel: the invariant leaves it out
-    sheet: Worksheet,
+    workings: Workings<GrowingRoom>,
     journal: J,
 }
 
@@ -63,16 +45,17 @@ impl<J: Journal> Model for ChannelWith<J> {
 
     ghost Value = { History };
 
-    ghost use Rattle.tc_channel.specs.Channel.{Holds};
+    ghost use Rattle.tc_channel.specs.ChannelState.{no_limits};
+    ghost use Rattle.tc_channel.specs.Workings.{HoldsInRooms};
 
     ghost view = { λ c. record { settings = c.settings; journal = J.events c.journal } };
 
-    ghost invariant = { λ c. Holds c.settings (J.events c.journal) (record { farm = c.farm; ring = c.fields; open_runs = c.reassembler; rings = c.queues.items; unit_rings = c.units.items }) };
+    ghost invariant = { λ c. HoldsInRooms no_limits c.settings (J.events c.journal) c.workings };
 }
 
 impl<J: Journal> ChannelWith<J> {
     /// A channel that starts: in S1, with nothing in it and an empty journal.
-    /// Its buffer and its queues get room for all that they may hold.
+    /// Its buffer gets room for all that it may hold, its queues a place for each packet and unit.
     pub fn new(alloc: Global, settings: Settings) -> Result<ChannelWith<J>, SettingsFault>
         ensures settings { IfOk result (λ channel. channel.settings ≡ settings) }
         ensures journal { IfOk result (λ channel. channel.journal ≡ []) }
@@ -87,7 +70,7 @@ impl<J: Journal> ChannelWith<J> {
 
     /// Takes a frame in, of whatever virtual channel. An accepted AD data field is buffered; of an accepted BD data field
     /// the unit that it ends is queued at once: whole where its MAP is chosen, else its packets. It copies the octets for a
-    /// journal that is kept, an accepted AD data field for the buffer, and each packet that is queued; a whole unit is moved.
+    /// journal that is kept, an accepted AD data field for the buffer, and the unit or each packet that is queued.
     /// With a journal that isn't kept, only a frame of Type-BD may be refused.
     pub fn frame(&mut self, frame: &Frame) -> Result<FrameReply, NoMemory>
         ensures allowed { IsAllowed self.old.settings }
@@ -97,37 +80,15 @@ impl<J: Journal> ChannelWith<J> {
         ensures refused { OnErr result (self.new ≡ self.old) }
         ensures answered { J.grows ≡ false → OnErr result (IsBypassData frame.now) }
     {
-        each_arrival_has_an_entry();
-        let kind = kind(frame);
-        let room = self.fields.len() < self.fields.capacity();
-        let mut farm = self.farm;
-        let act = farm.step(Arrival::Frame { kind, room });
-        let field = frame.field();
         let event = LentEvent::Frame(frame.octets());
         let entry = self.journal.prepare(self.alloc, &event)?;
-        let planned = deliver_bypass(
-            self.alloc,
-            &mut self.reassembler,
-            &self.queues,
-            &self.units,
-            kind,
-            field,
-            &mut self.sheet,
-        )?;
-        self.farm = farm;
-        put_field(&mut self.fields, &act, field);
-        put_copies(self.alloc, &mut self.queues, &mut self.sheet.copies);
-        put_unit(&mut self.units, planned.unit);
+        let reply = self.workings.frame(frame)?;
         self.journal.append(&event, entry);
-        Ok(FrameReply {
-            act,
-            delivery: planned.delivery,
-        })
+        Ok(reply)
     }
 
     /// Lets the oldest data field out of the buffer, and queues the unit that it ends: whole where its MAP is chosen, else its
-    /// packets. It makes that unit where it is of several segments or queued whole; where it isn't queued whole, a copy of each
-    /// packet that is queued. The list of these copies is kept from call to call, unless it was long.
+    /// packets. It copies the unit, or each packet that is queued.
     pub fn release(&mut self) -> Result<Delivery, ReleaseFault>
         ensures allowed { IsAllowed self.old.settings }
         ensures lawful { IsLawful self.old.settings self.old.journal }
@@ -136,26 +97,13 @@ impl<J: Journal> ChannelWith<J> {
         ensures done { OnOk result (self.new ≡ with_event self.old Event.Release) }
         ensures refused { OnErr result (self.new ≡ self.old) }
     {
-        if self.has_empty_buffer() {
+        if self.workings.buffered() == 0 {
             return Err(ReleaseFault::Empty);
         }
         let entry = self.journal.prepare(self.alloc, &LentEvent::Release)?;
-        let field = self.fields.front();
-        let planned = deliver(
-            self.alloc,
-            &mut self.reassembler,
-            &self.queues,
-            &self.units,
-            Service::Ad,
-            field,
-            &mut self.sheet,
-        )?;
-        self.fields.pop_front();
-        put_copies(self.alloc, &mut self.queues, &mut self.sheet.copies);
-        put_unit(&mut self.units, planned.unit);
-        self.farm.step(Arrival::Release);
+        let delivery = self.workings.release()?;
         self.journal.append(&LentEvent::Release, entry);
-        Ok(planned.delivery)
+        Ok(delivery)
     }
 
     /// Takes the oldest packet out of the queue with this APID. The packet is moved, not copied; a journal that is kept may grow,
@@ -170,15 +118,16 @@ impl<J: Journal> ChannelWith<J> {
         ensures refused { OnErr result (self.new ≡ self.old) }
         ensures answered { J.grows ≡ false → IsErrOf result TakeFault.NoMemory → ⊥ }
     {
-        let event = LentEvent::Take(apid);
-        let packet = take_oldest(
-            self.alloc,
-            &mut self.queues,
-            &mut self.journal,
-            apid,
-            &event,
-        )?;
-        Ok(packet.into_vec())
+        match self.workings.queued(apid) {
+            None => return Err(TakeFault::NoQueue),
+            Some(0) => return Err(TakeFault::Empty),
+            Some(_) => {}
+        }
+        let taken = LentEvent::Take(apid);
+        let entry = self.journal.prepare(self.alloc, &taken)?;
+        let packet = self.workings.take(apid).unwrap();
+        self.journal.append(&taken, entry);
+        Ok(packet)
     }
 
     /// Takes the oldest unit out of the queue of this chosen MAP. The unit is moved, not copied; a journal that is kept may grow,
@@ -193,9 +142,16 @@ impl<J: Journal> ChannelWith<J> {
         ensures refused { OnErr result (self.new ≡ self.old) }
         ensures answered { J.grows ≡ false → IsErrOf result TakeUnitFault.NoMemory → ⊥ }
     {
-        let (key, event) = (map as u16, LentEvent::TakeUnit(map));
-        let unit = take_oldest(self.alloc, &mut self.units, &mut self.journal, key, &event)?;
-        Ok(unit.into_vec())
+        match self.workings.units(map) {
+            None => return Err(TakeUnitFault::NoMap),
+            Some(0) => return Err(TakeUnitFault::Empty),
+            Some(_) => {}
+        }
+        let taken = LentEvent::TakeUnit(map);
+        let entry = self.journal.prepare(self.alloc, &taken)?;
+        let unit = self.workings.take_unit(map).unwrap();
+        self.journal.append(&taken, entry);
+        Ok(unit)
     }
 
     /// The octets of the packet that [`take`](ChannelWith::take) with this APID gives next, lent. None where there is no such
@@ -205,7 +161,7 @@ impl<J: Journal> ChannelWith<J> {
         ensures allowed { IsAllowed self.now.settings }
         ensures lawful { IsLawful self.now.settings self.now.journal }
     {
-        oldest_with(&self.queues, apid)
+        self.workings.oldest(apid)
     }
 
     /// The octets of the unit that [`take_unit`](ChannelWith::take_unit) with this MAP gives next, lent. None where the MAP isn't
@@ -215,7 +171,7 @@ impl<J: Journal> ChannelWith<J> {
         ensures allowed { IsAllowed self.now.settings }
         ensures lawful { IsLawful self.now.settings self.now.journal }
     {
-        oldest_with(&self.units, map as u16)
+        self.workings.oldest_unit(map)
     }
 
     /// FARM-1's components.
@@ -226,7 +182,7 @@ impl<J: Journal> ChannelWith<J> {
         ensures lawful { IsLawful self.now.settings self.now.journal }
         ensures era { CountsUpInItsEra self.now.settings self.now.journal }
     {
-        self.farm.report()
+        self.workings.report()
     }
 
     /// The communications link control word.
@@ -235,7 +191,7 @@ impl<J: Journal> ChannelWith<J> {
         ensures allowed { IsAllowed self.now.settings }
         ensures lawful { IsLawful self.now.settings self.now.journal }
     {
-        clcw_word(&self.farm.report(), self.settings.vcid, link)
+        clcw_word(&self.workings.report(), self.settings.vcid, link)
     }
 
     /// How many data fields wait in the buffer.
@@ -244,14 +200,7 @@ impl<J: Journal> ChannelWith<J> {
         ensures allowed { IsAllowed self.now.settings }
         ensures lawful { IsLawful self.now.settings self.now.journal }
     {
-        self.fields.len()
-    }
-
-    // Whether no data field waits in the buffer.
-    fn has_empty_buffer(&self) -> bool
-        ensures { IsTrue result ↔ (buffered_fields self.now.settings self.now.journal ≡ []) }
-    {
-        self.fields.is_empty()
+        self.workings.buffered()
     }
 
     /// How many packets wait in the queue with this APID, if there is one.
@@ -260,7 +209,7 @@ impl<J: Journal> ChannelWith<J> {
         ensures allowed { IsAllowed self.now.settings }
         ensures lawful { IsLawful self.now.settings self.now.journal }
     {
-        Some(find(&self.queues, apid)?.ring.len())
+        self.workings.queued(apid)
     }
 
     /// How many units wait in the queue of this MAP, if it is chosen.
@@ -269,7 +218,7 @@ impl<J: Journal> ChannelWith<J> {
         ensures allowed { IsAllowed self.now.settings }
         ensures lawful { IsLawful self.now.settings self.now.journal }
     {
-        Some(find(&self.units, map as u16)?.ring.len())
+        self.workings.units(map)
     }
 
     /// How many events there are in the journal; where they are more than 2^64 - 1, that number.
@@ -320,108 +269,12 @@ fn start<J: Journal>(alloc: Global, settings: Settings) -> Result<ChannelWith<J>
     ensures settings { IfOk result (λ channel. channel.settings ≡ settings) }
     ensures journal { IfOk result (λ channel. channel.journal ≡ []) }
 {
-    let window = Window::new(settings.width).unwrap();
-    let fields = FieldBuffer::with_capacity(alloc, settings.buffer as usize)?;
-    let reassembler = Reassembler::new(alloc, settings.segmented)?;
-    let queues = empty_queues(alloc, settings.queues.as_slice())?;
-    let units = empty_unit_queues(alloc, settings.maps.as_slice())?;
+    let runs = Runs::new(alloc, settings.segmented, LARGEST_UNIT)?;
+    let workings = Workings::new(alloc, &settings, runs, LARGEST_UNIT)?;
     Ok(ChannelWith {
         alloc,
-        farm: Farm::new(window, settings.first),
         settings,
-        fields,
-        reassembler,
-        queues,
-        units,
-        sheet: Worksheet::new(alloc),
+        workings,
         journal: J::start(alloc),
     })
-}
-
-// Takes the oldest item out of the queue with this key, and journals that as this event.
-fn take_oldest<J: Journal>(
-    alloc: Global,
-    queues: &mut Vec<HeldQueue>,
-    journal: &mut J,
-    key: u16,
-    event: &LentEvent<'_>,
-) -> Result<Octets, TakeFault>
-    ensures no_queue { IsErrOf result TakeFault.NoQueue ↔ (items_for key queues.old.items ≡ None) }
-    ensures empty { IsErrOf result TakeFault.Empty ↔ (items_for key queues.old.items ≡ Some []) }
-    ensures item { IfOk result (λ item. option_and_then (λ items. slice_get items 0) (items_for key queues.old.items) ≡ Some item) }
-    ensures queues { OnOk result (queues.new.items ≡ popped key queues.old.items) }
-    ensures journal { OnOk result (J.events journal.new ≡ J.events journal.old ++ event_of event.now ∷ []) }
-    ensures refused { OnErr result ((queues.new ≡ queues.old) × (J.events journal.new ≡ J.events journal.old)) }
-    ensures answered { J.grows ≡ false → IsErrOf result TakeFault.NoMemory → ⊥ }
-{
-    let waiting = find(queues, key).ok_or(TakeFault::NoQueue)?;
-    if waiting.ring.is_empty() {
-        return Err(TakeFault::Empty);
-    }
-    let entry = journal.prepare(alloc, event)?;
-    let item = pop(queues, key).unwrap();
-    journal.append(event, entry);
-    Ok(item)
-}
-
-// Copies the data field of an accepted AD frame, for which there is room, to the buffer's end.
-fn put_field(fields: &mut FieldBuffer, act: &Act, field: &[u8])
-    requires field { length field.now ≤ LARGEST_FIELD }
-    requires room { IsSome (buffered_of act.now field.now) → length fields.old.items < fields.old.capacity }
-    ensures items { fields.new.items ≡ with_field fields.old.items (buffered_of act.now field.now) }
-    ensures capacity { fields.new.capacity ≡ fields.old.capacity }
-{
-    if act.event == 1 && act.accepted {
-        fields.push_back(field);
-    }
-}
-
-// Plans what becomes of the unit that a data field ends, and passes the field to reassembly. Nothing grows after it in a call, and
-// where it is refused nothing has changed.
-#[inline(always)]
-fn deliver(
-    alloc: Global,
-    reassembler: &mut Reassembler,
-    queues: &[HeldQueue],
-    units: &[HeldQueue],
-    service: Service,
-    field: &[u8],
-    sheet: &mut Worksheet,
-) -> Result<Planned, NoMemory>
-    requires field { 0 < length field.now }
-    requires distinct { AreDistinct (keys_of queues.now) }
-    requires units_distinct { AreDistinct (keys_of units.now) }
-    ensures planned { IfOk result (λ p. (unit : Option (List ℕ)) × Ends reassembler.old service field.now unit × IsPlanned (map_of field.now) unit queues.now units.now sheet.new.copies.items p) }
-    ensures passed { OnOk result (Follows reassembler.old reassembler.new service field.now) }
-    ensures refused { OnErr result (reassembler.new ≡ reassembler.old) }
-{
-    let planned = plan(alloc, reassembler, queues, units, service, field, sheet)?;
-    reassembler.advance(service, field)?;
-    Ok(planned)
-}
-
-// The same of the field of a BD frame, and of no other: only that is passed on at once.
-fn deliver_bypass(
-    alloc: Global,
-    reassembler: &mut Reassembler,
-    queues: &[HeldQueue],
-    units: &[HeldQueue],
-    kind: Kind,
-    field: &[u8],
-    sheet: &mut Worksheet,
-) -> Result<Planned, NoMemory>
-    requires field { 0 < length field.now }
-    requires distinct { AreDistinct (keys_of queues.now) }
-    requires units_distinct { AreDistinct (keys_of units.now) }
-    ensures planned { IfOk result (λ p. (unit : Option (List ℕ)) × EndsAtOnce kind reassembler.old field.now unit × IsPlanned (map_of field.now) unit queues.now units.now sheet.new.copies.items p) }
-    ensures passed { OnOk result (FollowsKind kind reassembler.old reassembler.new field.now) }
-    ensures refused { OnErr result (reassembler.new ≡ reassembler.old) }
-    ensures answered { OnErr result (kind ≡ Kind.Bd) }
-{
-    match kind {
-        Kind::Bd => deliver(alloc, reassembler, queues, units, Service::Bd, field, sheet),
-        Kind::Ad(_) => Ok(plan_nothing(sheet)),
-        Kind::Bc(_) => Ok(plan_nothing(sheet)),
-        Kind::Invalid => Ok(plan_nothing(sheet)),
-    }
 }

@@ -1,6 +1,6 @@
 //! What a channel does with the events that it answers.
 
-ghost use Rattle.std.specs.Prelude.{◌≡◌, Bool, false, List, ◌∷◌, [], ◌++◌, ℕ, length, min, ◌^◌, ◌-◌, IfOk, IsOk};
+ghost use Rattle.std.specs.Prelude.{◌≡◌, Bool, false, List, ◌∷◌, [], ◌++◌, length, min, ◌^◌, ◌-◌, IfOk, IsOk};
 ghost use Rattle.tc_channel.specs.declared.event.Event.{Event};
 ghost use Rattle.tc_channel.specs.declared.lent.LentEvent.{LentEvent};
 ghost use Rattle.tc_channel.specs.Journal.{event_of};

@@ -1,6 +1,6 @@
 //! The journal that is kept in memory.
 
-ghost use Rattle.std.specs.Prelude.{◌≡◌, List, ◌<◌, vec_len, vec_capacity};
+ghost use Rattle.std.specs.Prelude.{◌≡◌, ◌<◌, vec_len, vec_capacity};
 
 use crate::event::Event;
 use crate::items::Octets;

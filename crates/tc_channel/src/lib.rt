@@ -16,22 +16,29 @@
 
 mod answered;
 mod channel;
-mod copying;
+mod delivering;
+mod empty_queues;
 mod event;
-mod fields;
 mod flow;
 mod holding;
 mod items;
 mod journal;
 mod kept;
 mod laws;
+mod laying;
 mod lent;
 mod memory;
 mod past;
+mod places;
+mod queue;
 mod queues;
 mod reply;
 mod settings;
+mod settling;
+mod steps;
+mod taking;
 mod unkept;
+mod workings;
 
 pub use answered::{
     a_journal_comes_to_this, further_journals_are_answered_so,
@@ -59,8 +66,13 @@ pub use laws::{
     queues_keep_to_their_capacity, wait_means_no_room, what_was_sent_is_accepted_once_and_in_order,
 };
 pub use lent::LentEvent;
-pub use memory::{no_more_items_wait_than_memory_counts, what_waits_is_within_the_bound_of_memory};
+pub use memory::{
+    QUEUE_WORDS, ROOM_WORDS, RUN_WORDS, no_more_items_wait_than_memory_counts,
+    what_waits_is_within_the_bound_of_memory,
+};
 pub use past::Past;
 pub use reply::{Delivery, FrameReply, NoMemory, ReleaseFault, TakeFault, TakeUnitFault};
 pub use settings::{LentSettings, MapSetting, QueueSetting, Settings, SettingsFault};
+pub use steps::Steps;
 pub use unkept::{EventsSeen, Unkept};
+pub use workings::{LARGEST_FIELD, Workings};

@@ -9,28 +9,24 @@ ghost use Rattle.tc_packet.specs.Reassembly.{largest_unit};
 ghost use Rattle.tc_channel.specs.ChannelState.{buffer};
 ghost use Rattle.tc_channel.specs.Run.{IsLawfulWithin, run_within};
 ghost use Rattle.tc_channel.specs.Settings.{settings_of};
-ghost use Rattle.tc_channel.specs.Memory.{buffer_memory, doubled, largest_field, largest_item, memory_bound, memory_waiting, octets_in, octets_waiting, packets_held, queues_memory, runs_memory, units_held, waiting_in_all, work_memory};
+ghost use Rattle.tc_channel.specs.Memory.{buffer_memory, largest_field, largest_item, memory_bound, memory_waiting, octets_in, octets_waiting, packets_held, queues_memory, runs_memory, segment_memory, table_memory, tables_memory, units_held, waiting_in_all};
 
-use crate::copying::{APIDS, QUEUES_FOR_A_TABLE};
-use crate::fields::LARGEST_FIELD;
+use crate::places::{KEYS, QUEUES_FOR_A_TABLE};
 use crate::settings::{LentSettings, MapSetting, QueueSetting, Settings};
+use crate::workings::LARGEST_FIELD;
 use tc_packet::LARGEST_UNIT;
 
-// The octets of the own words of a list, of a run and of a queue.
-const LIST_WORDS: u128 = 24;
+/// The octets of a room's own words: those of its block, and how many octets lie in it or may lie in it.
+pub const ROOM_WORDS: u128 = 32;
 
-const RUN_WORDS: u128 = 32;
+/// The octets of a run's own words: those of its room, whether it is open, and how many octets it has.
+pub const RUN_WORDS: u128 = 40;
 
-const QUEUE_WORDS: u128 = 40;
+/// The octets of a queue's own words: its key, the ring of its rooms, which of them are taken, and their size.
+pub const QUEUE_WORDS: u128 = 64;
 
-// The octets of a place of the buffer's own words, where it is free and where it is taken.
-const PLACE_WORDS: u128 = 64;
-
-// The octets of a number.
-const NUMBER: u128 = 8;
-
-// The least octets of a packet.
-const SMALLEST_PACKET: u128 = 7;
+// The octets of a place in a table.
+const PLACE_WORDS: u128 = 2;
 
 // The room of a run that was doubled until it holds the largest unit.
 const RUN_ROOM: u128 = 131_072;
@@ -56,11 +52,59 @@ impl LentSettings<'_> {
     pub fn memory_bound(self) -> u64
         ensures { result ≡ min (memory_bound (settings_of self.entry)) (2 ^ 64 - 1) }
     {
-        let all = buffer_octets(self) + run_octets(self) + queue_octets(self) + work_octets(self);
+        let all = self.buffer_octets()
+            + run_octets(self)
+            + queue_octets(self)
+            + self.table_octets()
+            + segment_octets(self);
         match u64::try_from(all) {
             Ok(all) => all,
             Err(_) => u64::MAX,
         }
+    }
+
+    /// How many packets the packet queues hold at most, all together.
+    pub fn packets_held(self) -> u128
+        ensures value { result ≡ packets_held (settings_of self.entry) }
+        ensures within { result < 2 ^ 80 }
+    {
+        held_packets(self.queues)
+    }
+
+    /// How many units the unit queues hold at most, all together.
+    pub fn units_held(self) -> u128
+        ensures value { result ≡ units_held (settings_of self.entry) }
+        ensures within { result < 2 ^ 80 }
+    {
+        held_units(self.maps)
+    }
+
+    /// The octets of the largest packet: on a plain channel those of a data field, else those of the largest unit.
+    pub fn largest_item(self) -> u128
+        ensures value { result ≡ largest_item self.entry.segmented }
+        ensures within { result < 2 ^ 20 }
+    {
+        if self.segmented {
+            LARGEST_UNIT as u128
+        } else {
+            LARGEST_FIELD as u128
+        }
+    }
+
+    /// The octets of the rooms of the buffer.
+    pub fn buffer_octets(self) -> u128
+        ensures value { result ≡ buffer_memory (settings_of self.entry) }
+        ensures within { result < 2 ^ 100 }
+    {
+        u128::from(self.buffer) * (ROOM_WORDS + LARGEST_FIELD as u128)
+    }
+
+    /// The octets of the tables by which queues are found: one for the packet queues and one for the unit queues, where there are many.
+    pub fn table_octets(self) -> u128
+        ensures value { result ≡ tables_memory (settings_of self.entry) }
+        ensures within { result < 2 ^ 20 }
+    {
+        table_of(self.queues.len()) + table_of(self.maps.len())
     }
 }
 
@@ -88,32 +132,16 @@ fn held_units(maps: &[MapSetting]) -> u128
     held
 }
 
-// The largest unit of a channel.
-fn unit_octets(segmented: bool) -> u128
-    ensures { result ≡ largest_item segmented }
-{
-    if segmented {
-        LARGEST_UNIT as u128
-    } else {
-        LARGEST_FIELD as u128
-    }
-}
-
-// The places of the buffer.
-fn buffer_octets(settings: LentSettings<'_>) -> u128
-    ensures value { result ≡ buffer_memory (settings_of settings.entry) }
-    ensures within { result < 2 ^ 100 }
-{
-    u128::from(settings.buffer) * (PLACE_WORDS + LARGEST_FIELD as u128)
-}
-
 // The open runs, each of the largest unit.
 fn run_octets(settings: LentSettings<'_>) -> u128
     ensures value { result ≡ runs_memory (settings_of settings.entry) }
     ensures within { result < 2 ^ 100 }
 {
-    let room = if settings.segmented { RUN_ROOM } else { 0 };
-    STREAMS * (RUN_WORDS + room)
+    if settings.segmented {
+        STREAMS * (RUN_WORDS + RUN_ROOM)
+    } else {
+        0
+    }
 }
 
 // The queues, full of the largest packets and units.
@@ -122,42 +150,32 @@ fn queue_octets(settings: LentSettings<'_>) -> u128
     ensures within { result < 2 ^ 110 }
 {
     let queues = settings.queues.len() as u128 + settings.maps.len() as u128;
-    let packets = held_packets(settings.queues);
-    let units = held_units(settings.maps);
     queues * QUEUE_WORDS
-        + packets * (LIST_WORDS + unit_octets(settings.segmented))
-        + units * (LIST_WORDS + LARGEST_UNIT as u128)
+        + settings.packets_held() * (ROOM_WORDS + settings.largest_item())
+        + settings.units_held() * (ROOM_WORDS + LARGEST_UNIT as u128)
 }
 
-// The most items that a list which is doubled as it grows has room for, where it comes to hold so many.
-fn doubled_room(count: u128) -> u128
-    requires { count < 2 ^ 100 }
-    ensures { result ≡ doubled count }
+// The table of places of so many queues.
+fn table_of(queues: usize) -> u128
+    ensures { result ≡ table_memory queues }
 {
-    (2 * count).max(4)
+    if queues < QUEUES_FOR_A_TABLE {
+        0
+    } else {
+        KEYS as u128 * PLACE_WORDS
+    }
 }
 
-// What a call works with: its unit, its list of packets, the room in each queue, and the table of places.
-fn work_octets(settings: LentSettings<'_>) -> u128
-    ensures value { result ≡ work_memory (settings_of settings.entry) }
-    ensures within { result < 2 ^ 100 }
+// A first segment for which the block of its run is too small.
+fn segment_octets(settings: LentSettings<'_>) -> u128
+    ensures value { result ≡ segment_memory (settings_of settings.entry) }
+    ensures within { result < 2 ^ 20 }
 {
-    let queues = settings.queues.len();
-    let unit = if settings.segmented {
-        LARGEST_UNIT as u128
+    if settings.segmented {
+        LARGEST_FIELD as u128
     } else {
         0
-    };
-    let cut = unit_octets(settings.segmented) / SMALLEST_PACKET;
-    let copies = held_packets(settings.queues).min(cut);
-    let table = if queues < QUEUES_FOR_A_TABLE {
-        0
-    } else {
-        APIDS as u128
-    };
-    unit + doubled_room(copies) * (NUMBER + LIST_WORDS)
-        + doubled_room(queues as u128) * NUMBER
-        + table * NUMBER
+    }
 }
 
 /// Whatever journal a channel has, its queues hold no more packets and units than the bound of its memory counts, and of each no

@@ -1,285 +1,186 @@
-//! The queues of a channel.
+//! The queues of a channel, and what they take of a unit.
 
-ghost use Rattle.std.specs.Prelude.{ℕ, List, [], ◌∷◌, ◌<◌, ◌≤◌, ◌≡◌, length, map, IfOk, slice_get, is_some, Some, None, Option, option_map};
-ghost use Rattle.std.specs.Option.{option_and_then, option_copied};
-ghost use Rattle.tc_packet.specs.Reassembly.{bounded};
-ghost use Rattle.tc_channel.specs.ChannelState.{queue_with, empty_queue, empty_unit_queue};
-ghost use Rattle.tc_channel.specs.Admission.{is_of_map, map_of};
-ghost use Rattle.tc_channel.specs.Channel.{Ends};
-ghost use Rattle.tc_channel.specs.HeldQueues.{held, keys_of, AreDistinct, copies_from, put_all, HavePlaces, queue_for, items_for, popped, placed, placed_at, IsNothing, IsPlannedByPackets, IsPlannedWhole, IsPlanned};
+ghost use Rattle.std.specs.Prelude.{ℕ, List, ◌≡◌, ◌≤◌, ◌↔◌, ◌+◌, length, false, IfOk, IsOk, IsTrue, IsSome, OnErr, Some, None, option_map};
+ghost use Rattle.std.specs.Option.{option_copied};
+ghost use Rattle.tc_packet.specs.SpacePacket.{packets_of};
+ghost use Rattle.tc_channel.specs.HeldQueues.{keys_of, AreDistinct, queue_for, popped, HeldQueue, oldest_for};
+ghost use Rattle.tc_rooms.specs.declared.runs.Ended.TheVariants as Ended;
+ghost use Rattle.tc_rooms.specs.Runs.{unit_in, IsThere, IsAtMost};
+ghost use Rattle.tc_channel.specs.Keyed.{ring_in, rings_in, room_sizes, Fit, FitsIn, AreSettled};
+ghost use Rattle.tc_channel.specs.Delivering.{IsDelivered};
+ghost use Rattle.tc_channel.specs.Steps.{most_looks, packet_count, unit_steps};
 
-use crate::copying::{Worksheet, copy_shares};
-use crate::items::Octets;
-use crate::reply::{Delivery, NoMemory};
-use crate::settings::{MapSetting, QueueSetting};
-use circular_buffer::HeapCircularBuffer;
+use crate::delivering::deliver;
+use crate::places::{find_in, see_places};
+use crate::queue::Queue;
+use crate::reply::Delivery;
+use crate::steps::Steps;
+use crate::taking::{pop_from, take_from};
 use std::alloc::{AllocError, Global};
-use tc_packet::{
-    LARGEST_UNIT, Part, Reassembler, Service, each_run_within_the_limit_is_left_by_fields,
-    read_segment,
-};
+use std::boxed::BoxedSlice;
+use std::marker::Model;
+use std::sync::ledger::Ledger;
+use tc_packet::LARGEST_UNIT;
+use tc_rooms::{Ended, GrowingRoom, Room, Runs};
 
-/// The items that wait in one queue. The key of a packet queue is the APID of its application, that of a unit queue its MAP.
+/// The queues of one kind, packet queues or unit queues, each with its key.
 #[derive(Drop)]
-pub(crate) struct HeldQueue {
-    pub(crate) key: u16,
-    pub(crate) ring: HeapCircularBuffer<Octets>,
+pub struct Queues<R: Room> {
+    queues: BoxedSlice<Queue<R>>,
+    // the place of the queue with each key that an APID can be, where there are many
+    table: BoxedSlice<u16>,
 }
 
-/// An item that is going to be queued, and the place of its queue.
-#[derive(Debug, Drop)]
-pub(crate) struct Placed {
-    pub(crate) place: usize,
-    pub(crate) item: Octets,
+impl<R: Room> Model for Queues<R> {
+    ghost use Rattle.std.specs.Prelude.{List};
+    ghost use Rattle.std.specs.Box.{boxed_slice_items};
+    ghost use Rattle.tc_channel.specs.HeldQueues.{keys_of};
+    ghost use Rattle.tc_channel.specs.Keyed.{Keyed, rings_in};
+    ghost use Rattle.tc_channel.specs.Places.{IsTabled};
+
+    ghost Value = { List Keyed };
+
+    ghost view = { λ q. boxed_slice_items q.queues };
+
+    ghost invariant = { λ q. IsTabled (keys_of (rings_in (boxed_slice_items q.queues))) (boxed_slice_items q.table) };
 }
 
-/// The whole unit that a call is going to queue, and what it answers. The copies of packets stand on a worksheet.
-#[derive(Debug, Drop)]
-pub(crate) struct Planned {
-    pub(crate) unit: Option<Placed>,
-    pub(crate) delivery: Delivery,
-}
-
-// A queue with nothing in it, and with room for all that it may hold.
-fn empty_with(alloc: Global, key: u16, capacity: u16) -> Result<HeldQueue, AllocError>
-    ensures { IfOk result (λ q. q ≡ held (queue_with key capacity)) }
-{
-    let ring = HeapCircularBuffer::with_capacity(alloc, capacity as usize)?;
-    Ok(HeldQueue { key, ring })
-}
-
-/// A packet queue for each setting.
-pub(crate) fn empty_queues(
-    alloc: Global,
-    settings: &[QueueSetting],
-) -> Result<Vec<HeldQueue>, AllocError>
-    ensures { IfOk result (λ v. v.items ≡ map held (map empty_queue settings.now)) }
-{
-    let mut queues = Vec::with_capacity(alloc, settings.len())?;
-    for setting in settings {
-        let queue = empty_with(alloc, setting.apid, setting.capacity)?;
-        queues.push_reserved(queue);
+impl<R: Room> Queues<R> {
+    /// These queues, whose keys stay. Where they are 64 or more, a table of the place of each APID's queue is made with them.
+    pub fn new(alloc: Global, queues: Vec<Queue<R>>) -> Result<Queues<R>, AllocError>
+        ensures { IfOk result (λ q. q ≡ queues.items) }
+    {
+        let table = see_places(alloc, &queues)?;
+        Ok(Queues {
+            queues: queues.into_boxed_slice(),
+            table,
+        })
     }
-    Ok(queues)
-}
 
-/// A unit queue for each chosen MAP.
-pub(crate) fn empty_unit_queues(
-    alloc: Global,
-    maps: &[MapSetting],
-) -> Result<Vec<HeldQueue>, AllocError>
-    ensures { IfOk result (λ v. v.items ≡ map held (map empty_unit_queue maps.now)) }
-{
-    let mut units = Vec::with_capacity(alloc, maps.len())?;
-    for chosen in maps {
-        let queue = empty_with(alloc, chosen.map as u16, chosen.capacity)?;
-        units.push_reserved(queue);
+    /// The queue with this key.
+    pub fn find(&self, key: u16) -> Option<&Queue<R>>
+        ensures { option_map ring_in (option_copied result) ≡ queue_for key (rings_in self.now) }
+    {
+        find_in(&self.queues, &self.table, key)
     }
-    Ok(units)
-}
 
-/// The queue with this key.
-pub(crate) fn find(queues: &[HeldQueue], key: u16) -> Option<&HeldQueue>
-    ensures { option_copied result ≡ queue_for key queues.now }
-{
-    for queue in queues {
-        if queue.key == key {
-            return Some(queue);
-        }
+    /// The octets of the oldest item of the queue with this key.
+    pub fn oldest(&self, key: u16) -> Option<&[u8]>
+        ensures { option_map (λ octets. octets.now) result ≡ oldest_for key (rings_in self.now) }
+    {
+        self.find(key)?.front()
     }
-    None
-}
 
-// Whether there is a queue with this key.
-fn is_there(queues: &[HeldQueue], key: u16) -> bool
-    ensures { result ≡ is_some (queue_for key queues.now) }
-{
-    find(queues, key).is_some()
-}
-
-/// The octets of the oldest item of the queue with this key.
-pub(crate) fn oldest_with(queues: &[HeldQueue], key: u16) -> Option<&[u8]>
-    ensures { option_map (λ octets. octets.now) result ≡ option_and_then (λ items. slice_get items 0) (items_for key queues.now) }
-{
-    Some(find(queues, key)?.ring.front()?.as_slice())
-}
-
-/// Takes the oldest item out of the queue with this key.
-pub(crate) fn pop(queues: &mut Vec<HeldQueue>, key: u16) -> Option<Octets>
-    ensures item { result ≡ option_and_then (λ q. slice_get q.ring.items 0) (queue_for key queues.old.items) }
-    ensures queues { queues.new.items ≡ popped key queues.old.items }
-{
-    for i in 0..queues.len() {
-        if queues[i].key == key {
-            return queues[i].ring.pop_front();
-        }
-    }
-    None
-}
-
-/// Puts a whole unit into its queue.
-pub(crate) fn put_unit(units: &mut Vec<HeldQueue>, unit: Option<Placed>)
-    requires { HavePlaces (length units.old.items) (placed unit) }
-    ensures { units.new.items ≡ put_all units.old.items (placed unit) }
-{
-    match unit {
-        Some(unit) => {
-            units[unit.place].ring.push_back(unit.item);
-        }
-        None => {}
+    /// Drops the oldest item of the queue with this key, where one waits, and says whether it did.
+    pub fn pop(&mut self, key: u16) -> bool
+        ensures waits { IsTrue result ↔ IsSome (oldest_for key (rings_in self.old)) }
+        ensures rings { rings_in self.new ≡ popped key (rings_in self.old) }
+        ensures sizes { room_sizes self.new ≡ room_sizes self.old }
+        ensures settled { AreSettled self.old → AreSettled self.new }
+        ensures refused { result ≡ false → self.new ≡ self.old }
+    {
+        pop_from(&mut self.queues, &self.table, key)
     }
 }
 
-/// No unit is ended.
+impl Queues<GrowingRoom> {
+    /// Takes the oldest item out of the queue with this key, where one waits, in its own block: none of its octets is copied, and no
+    /// memory is asked for.
+    pub fn take(&mut self, key: u16) -> Option<Vec<u8>>
+        ensures item { option_map (λ block. block.items) result ≡ oldest_for key (rings_in self.old) }
+        ensures rings { rings_in self.new ≡ popped key (rings_in self.old) }
+        ensures sizes { room_sizes self.new ≡ room_sizes self.old }
+        ensures settled { AreSettled self.old → AreSettled self.new }
+    {
+        take_from(&mut self.queues, &self.table, key)
+    }
+}
+
+// Delivers a unit: whole where its MAP is chosen, else by its packets. Where memory runs out all queues are as they were.
 #[inline(always)]
-pub(crate) fn plan_nothing(sheet: &mut Worksheet) -> Planned
-    ensures { IsNothing sheet.new.copies.items result }
-{
-    sheet.copies.clear();
-    Planned {
-        unit: None,
-        delivery: Delivery {
-            queued: 0,
-            dropped: 0,
-            rest: false,
-        },
-    }
-}
-
-// What becomes of the packets of a unit.
-#[inline(always)]
-fn plan_packets(
-    alloc: Global,
+fn deliver_unit<R: Room, L: Ledger>(
+    queues: &mut Queues<R>,
+    units: &mut Queues<R>,
+    map: u8,
     unit: &[u8],
-    queues: &[HeldQueue],
-    sheet: &mut Worksheet,
-) -> Result<Planned, NoMemory>
+    steps: &mut Steps<L>,
+) -> Result<Delivery, AllocError>
     requires within { length unit.now ≤ LARGEST_UNIT }
-    requires distinct { AreDistinct (keys_of queues.now) }
-    ensures { IfOk result (IsPlannedByPackets (Some unit.now) queues.now sheet.new.copies.items) }
+    requires distinct { AreDistinct (keys_of (rings_in queues.old)) }
+    requires units_distinct { AreDistinct (keys_of (rings_in units.old)) }
+    requires fits { Fit unit.now (room_sizes queues.old) }
+    requires units_fit { Fit unit.now (room_sizes units.old) }
+    requires settled { AreSettled queues.old }
+    requires units_settled { AreSettled units.old }
+    ensures delivered { IfOk result (IsDelivered map (Some unit.now) (rings_in queues.old) (rings_in queues.new) (rings_in units.old) (rings_in units.new)) }
+    ensures refused { OnErr result ((rings_in queues.new ≡ rings_in queues.old) × (rings_in units.new ≡ rings_in units.old)) }
+    ensures settled { AreSettled queues.new }
+    ensures units_settled { AreSettled units.new }
+    ensures sizes { room_sizes queues.new ≡ room_sizes queues.old }
+    ensures unit_sizes { room_sizes units.new ≡ room_sizes units.old }
+    ensures answered { R.grows ≡ false → IsOk result }
+    ensures cost { IfOk result (λ _. steps.new ≤ steps.old + unit_steps (length (packets_of unit.now)) (most_looks (length queues.old)) (most_looks (length units.old))) }
+    ensures refused_cost { OnErr result (steps.new ≤ steps.old + (unit_steps (length (packets_of unit.now)) (most_looks (length queues.old)) (most_looks (length units.old)) + length queues.old)) }
 {
-    let (packets, rest) = copy_shares(alloc, unit, queues, sheet)?;
-    let queued = sheet.copies.len();
-    let delivery = Delivery {
-        queued: queued as u32,
-        dropped: (packets - queued) as u32,
-        rest,
-    };
-    Ok(Planned {
-        unit: None,
-        delivery,
-    })
-}
-
-// What becomes of the packets of octets that are a unit by themselves, within the limit. They are cut where they lie.
-#[inline(always)]
-fn plan_lying(
-    alloc: Global,
-    octets: &[u8],
-    queues: &[HeldQueue],
-    sheet: &mut Worksheet,
-) -> Result<Planned, NoMemory>
-    requires distinct { AreDistinct (keys_of queues.now) }
-    ensures { IfOk result (IsPlannedByPackets (bounded octets.now) queues.now sheet.new.copies.items) }
-{
-    if octets.len() > LARGEST_UNIT {
-        return Ok(plan_nothing(sheet));
-    }
-    plan_packets(alloc, octets, queues, sheet)
-}
-
-// What becomes of the packets of the unit that a data field would end. A unit of several segments is made for it; a plain
-// field and the body of an unsegmented one are units as they stand.
-#[inline(always)]
-fn plan_cut(
-    alloc: Global,
-    reassembler: &Reassembler,
-    queues: &[HeldQueue],
-    service: Service,
-    field: &[u8],
-    sheet: &mut Worksheet,
-) -> Result<Planned, NoMemory>
-    requires field { 0 < length field.now }
-    requires distinct { AreDistinct (keys_of queues.now) }
-    ensures { IfOk result (λ p. (unit : Option (List ℕ)) × Ends reassembler.now service field.now unit × IsPlannedByPackets unit queues.now sheet.new.copies.items p) }
-{
-    if !reassembler.segmented() {
-        return plan_lying(alloc, field, queues, sheet);
-    }
-    if read_segment(field[0]).part == Part::Unsegmented {
-        return plan_lying(alloc, &field[1..], queues, sheet);
-    }
-    each_run_within_the_limit_is_left_by_fields();
-    match reassembler.unit_after(service, field)? {
-        None => Ok(plan_nothing(sheet)),
-        Some(unit) => plan_packets(alloc, &unit, queues, sheet),
-    }
-}
-
-// The place of the unit queue of this MAP, where it has room.
-fn place_with_room(units: &[HeldQueue], map: u8) -> Option<usize>
-    requires { AreDistinct (keys_of units.now) }
-    ensures { (unit : List ℕ) → copies_from (is_of_map map) 0 (unit ∷ []) units.now ≡ placed_at result unit }
-{
-    for (place, queue) in units.iter().enumerate() {
-        if queue.key == map as u16 {
-            return if queue.ring.len() < queue.ring.capacity() {
-                Some(place)
-            } else {
-                None
-            };
-        }
-    }
-    None
-}
-
-// What becomes of a unit of a chosen MAP. It is moved, not copied, and dropped where its queue has no room.
-fn plan_whole(unit: Vec<u8>, units: &[HeldQueue], map: u8, sheet: &mut Worksheet) -> Planned
-    requires { AreDistinct (keys_of units.now) }
-    ensures { IsPlannedWhole map unit.items units.now sheet.new.copies.items result }
-{
-    sheet.copies.clear();
-    let unit = match place_with_room(units, map) {
-        Some(place) => Some(Placed {
-            place,
-            item: Octets::from(unit),
-        }),
-        None => None,
-    };
-    let (queued, dropped) = if unit.is_some() { (1, 0) } else { (0, 1) };
-    Planned {
+    deliver(
+        &mut queues.queues,
+        &queues.table,
+        &mut units.queues,
+        &units.table,
+        map,
         unit,
-        delivery: Delivery {
-            queued,
-            dropped,
-            rest: false,
-        },
+        steps,
+    )
+}
+
+/// Delivers the unit that a data field ended, if it ended one, from where it lies. Where memory runs out all queues are as they were.
+/// A step is counted for each packet that is cut from the unit, and for each queue that is looked at while one is found, settled or let
+/// go. So the steps grow as the unit's packets times the queues that are looked at where one is found: one where there are 64 queues or
+/// more, else each at most.
+#[inline(always)]
+pub(crate) fn deliver_ended<R: Room, L: Ledger>(
+    runs: &Runs<R>,
+    queues: &mut Queues<R>,
+    units: &mut Queues<R>,
+    map: u8,
+    field: &[u8],
+    ended: Ended,
+    steps: &mut Steps<L>,
+) -> Result<Delivery, AllocError>
+    requires there { IsThere ended runs.now field.now }
+    requires within { IsAtMost LARGEST_UNIT (unit_in ended runs.now field.now) }
+    requires distinct { AreDistinct (keys_of (rings_in queues.old)) }
+    requires units_distinct { AreDistinct (keys_of (rings_in units.old)) }
+    requires fits { FitsIn (room_sizes queues.old) (unit_in ended runs.now field.now) }
+    requires units_fit { FitsIn (room_sizes units.old) (unit_in ended runs.now field.now) }
+    requires settled { AreSettled queues.old }
+    requires units_settled { AreSettled units.old }
+    ensures delivered { IfOk result (IsDelivered map (unit_in ended runs.now field.now) (rings_in queues.old) (rings_in queues.new)
+        (rings_in units.old) (rings_in units.new)) }
+    ensures refused { OnErr result ((rings_in queues.new ≡ rings_in queues.old) × (rings_in units.new ≡ rings_in units.old)) }
+    ensures ended { OnErr result (ended ≡ Ended.Nothing → ⊥) }
+    ensures settled { AreSettled queues.new }
+    ensures units_settled { AreSettled units.new }
+    ensures sizes { room_sizes queues.new ≡ room_sizes queues.old }
+    ensures unit_sizes { room_sizes units.new ≡ room_sizes units.old }
+    ensures answered { R.grows ≡ false → IsOk result }
+    ensures cost { IfOk result (λ _. steps.new ≤ steps.old + unit_steps (packet_count (unit_in ended runs.now field.now)) (most_looks (length queues.old)) (most_looks (length units.old))) }
+    ensures refused_cost { OnErr result (steps.new ≤ steps.old + (unit_steps (packet_count (unit_in ended runs.now field.now)) (most_looks (length queues.old)) (most_looks (length units.old)) + length queues.old)) }
+{
+    match ended {
+        Ended::Nothing => Ok(deliver_nothing()),
+        Ended::Lying(from) => deliver_unit(queues, units, map, &field[from..], steps),
+        Ended::Joined(place) => deliver_unit(queues, units, map, runs.joined(place), steps),
     }
 }
 
-/// What becomes of the unit that a data field would end: its answer, and what is going to be queued of it, the copies of
-/// packets in place of those of the plan before.
-#[inline(always)]
-pub(crate) fn plan(
-    alloc: Global,
-    reassembler: &Reassembler,
-    queues: &[HeldQueue],
-    units: &[HeldQueue],
-    service: Service,
-    field: &[u8],
-    sheet: &mut Worksheet,
-) -> Result<Planned, NoMemory>
-    requires field { 0 < length field.now }
-    requires distinct { AreDistinct (keys_of queues.now) }
-    requires units_distinct { AreDistinct (keys_of units.now) }
-    ensures { IfOk result (λ p. (unit : Option (List ℕ)) × Ends reassembler.now service field.now unit × IsPlanned (map_of field.now) unit queues.now units.now sheet.new.copies.items p) }
+/// Delivers no unit.
+pub(crate) fn deliver_nothing() -> Delivery
+    ensures { (map_id : ℕ) (queues units : List HeldQueue) → IsDelivered map_id None queues queues units units result }
 {
-    let map = read_segment(field[0]).map;
-    if !is_there(units, map as u16) {
-        return plan_cut(alloc, reassembler, queues, service, field, sheet);
-    }
-    match reassembler.unit_after(service, field)? {
-        None => Ok(plan_nothing(sheet)),
-        Some(unit) => Ok(plan_whole(unit, units, map, sheet)),
+    Delivery {
+        queued: 0,
+        dropped: 0,
+        rest: false,
     }
 }

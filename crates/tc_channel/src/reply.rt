@@ -3,6 +3,7 @@
 ghost use Rattle.std.specs.Prelude.{◌≡◌};
 ghost use Rattle.tc_channel.specs.declared.reply.ReleaseFault.TheVariants as release_faults;
 ghost use Rattle.tc_channel.specs.declared.reply.TakeFault.TheVariants as take_faults;
+ghost use Rattle.tc_channel.specs.declared.reply.TakeUnitFault.TheVariants as take_unit_faults;
 
 use std::alloc::AllocError;
 use tc_link::Act;
@@ -102,17 +103,10 @@ impl From<AllocError> for TakeFault {
     }
 }
 
-/// The same fault, of the unit queue of a MAP.
-impl From<TakeFault> for TakeUnitFault {
-    ghost use Rattle.tc_channel.specs.Reply.{unit_fault_of};
+impl From<AllocError> for TakeUnitFault {
+    ghost from_gives = { λ _ e. e ≡ take_unit_faults.NoMemory };
 
-    ghost from_gives = { λ fault e. e ≡ unit_fault_of fault };
-
-    fn from(fault: TakeFault) -> TakeUnitFault {
-        match fault {
-            TakeFault::NoQueue => TakeUnitFault::NoMap,
-            TakeFault::Empty => TakeUnitFault::Empty,
-            TakeFault::NoMemory => TakeUnitFault::NoMemory,
-        }
+    fn from(_error: AllocError) -> TakeUnitFault {
+        TakeUnitFault::NoMemory
     }
 }

@@ -12,8 +12,8 @@ use Rattle.tc_packet.specs.Reassembly.{place_of}
 use Rattle.tc_channel.specs.declared.settings.Settings.{Settings}
 use Rattle.tc_channel.specs.Memory.{largest_item}
 use Rattle.tc_rooms.specs.Runs.{Store, limit_at}
-use Rattle.tc_fixed.specs.Channel.{AreSmall, HaveLimits}
-use Rattle.tc_fixed.specs.Limits.{AreLimits, AreMapsApart, HaveOctets, item_size, largest_in, largest_limit, limit_in, limit_of}
+use Rattle.tc_channel.specs.Workings.{AreSmall, HaveLimits}
+use Rattle.tc_fixed.specs.Limits.{AreLimits, AreLimitedMapsApart, HaveOctets, item_size, largest_in, largest_limit, limit_in, limit_of}
 use Rattle.tc_fixed.specs.declared.limits.Limits.{Limits}
 use Rattle.tc_fixed.specs.declared.limits.MapLimit.{MapLimit}
 
@@ -80,7 +80,7 @@ pub others-limit : (ms : List MapLimit) (others map_id : ℕ) → AllByRecursion
 others-limit [] others map_id none = refl
 others-limit (m ∷ ms) others map_id none = rw (ne_eqb m.map map_id none.0) (others-limit ms others map_id none.1)
 
-own-limit : (ms : List MapLimit) (others : ℕ) (i : ℕ) (m : MapLimit) → AreMapsApart ms → i < length ms → get_or ms i m ≡ m → limit_in ms others m.map ≡ m.octets
+own-limit : (ms : List MapLimit) (others : ℕ) (i : ℕ) (m : MapLimit) → AreLimitedMapsApart ms → i < length ms → get_or ms i m ≡ m → limit_in ms others m.map ≡ m.octets
 own-limit [] others i m apart lt at = absurd (omega arith)
 own-limit (n ∷ ms) others zero m apart lt at = let same : eqb n.map m.map ≡ true = eq-eqb n.map m.map (ap (λ (x : MapLimit). x.map) at) in rw same (ap (λ (x : MapLimit). x.octets) at)
 own-limit (n ∷ ms) others (suc i) m apart lt at =
@@ -88,7 +88,7 @@ own-limit (n ∷ ms) others (suc i) m apart lt at =
     let other : n.map ≢ m.map = λ e. apart 0 (suc i) m (omega arith) lt (e ∙ ap (λ (x : MapLimit). x.map) (sym later)) in
     rw (ne_eqb n.map m.map other) (own-limit ms others i m (λ j k d jk kl. apart (suc j) (suc k) d (omega arith) (omega arith)) (omega arith) later)
 
-pub listed-limit : (limits : Limits) (m : MapLimit) → AreMapsApart limits.maps → Contains limits.maps m → limit_of limits m.map ≡ m.octets
+pub listed-limit : (limits : Limits) (m : MapLimit) → AreLimitedMapsApart limits.maps → Contains limits.maps m → limit_of limits m.map ≡ m.octets
 listed-limit limits m apart has = own-limit limits.maps limits.others has.0 m apart has.1 has.2
 
 -- the table of all limits

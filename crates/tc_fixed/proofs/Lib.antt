@@ -1,5 +1,2 @@
-pub mod Sizes
-pub mod Inside
-pub mod Oldest
-pub mod Within
 pub mod ByMap
+pub mod Taken

@@ -10,5 +10,5 @@ pub record LimitedHistory : Type 0 where
   pub journal : List Event
 
 -- the same channel, one event later
-abbrev pub with_event : LimitedHistory → Event → LimitedHistory
-with_event history event = record history { journal = history.journal ++ event ∷ [] }
+abbrev pub with_limited_event : LimitedHistory → Event → LimitedHistory
+with_limited_event history event = record history { journal = history.journal ++ event ∷ [] }

@@ -46,19 +46,19 @@ none = record { others = largest_unit; maps = [] }
 abbrev pub IsOthers : ℕ → Bool → Type 0
 IsOthers others segmented = (others ≤ largest_unit) × (segmented ≡ false → 1 ≤ others)
 
-abbrev pub AreMaps : List MapLimit → Type 0
-AreMaps maps = All (λ m. m.map ≤ 63) maps
+abbrev pub AreLimitedMaps : List MapLimit → Type 0
+AreLimitedMaps maps = All (λ m. m.map ≤ 63) maps
 
 -- no MAP is listed twice
-abbrev pub AreMapsApart : List MapLimit → Type 0
-AreMapsApart maps = AllPairs (λ (m n : MapLimit). m.map ≢ n.map) maps
+abbrev pub AreLimitedMapsApart : List MapLimit → Type 0
+AreLimitedMapsApart maps = AllPairs (λ (m n : MapLimit). m.map ≢ n.map) maps
 
 abbrev pub HaveOctets : List MapLimit → Type 0
 HaveOctets maps = All (λ m. (1 ≤ m.octets) × (m.octets ≤ largest_unit)) maps
 
 -- a plain channel, which has no segment headers, has no MAPs
-abbrev pub HasMapsByHeaders : List MapLimit → Bool → Type 0
-HasMapsByHeaders maps segmented = segmented ≡ false → maps ≡ []
+abbrev pub LimitsMapsByHeaders : List MapLimit → Bool → Type 0
+LimitsMapsByHeaders maps segmented = segmented ≡ false → maps ≡ []
 
 abbrev pub IsListed : List MapLimit → ℕ → Type 0
 IsListed maps map_id = Any (λ (m : MapLimit). m.map ≡ map_id) maps
@@ -70,43 +70,43 @@ AreListed limits chosen = limits.others ≡ 0 → AllByRecursion (λ (m : MapSet
 -- a channel of these settings can have these limits
 pub record AreLimits (s : Settings) (limits : Limits) : Type 0 where
   pub others : IsOthers limits.others s.segmented
-  pub maps : AreMaps limits.maps
-  pub maps_apart : AreMapsApart limits.maps
+  pub maps : AreLimitedMaps limits.maps
+  pub maps_apart : AreLimitedMapsApart limits.maps
   pub octets : HaveOctets limits.maps
-  pub by_headers : HasMapsByHeaders limits.maps s.segmented
+  pub by_headers : LimitsMapsByHeaders limits.maps s.segmented
   pub listed : AreListed limits s.maps
 
 -- what limits keep that are free of this fault; the settings have faults of their own
-abbrev pub IsFreeOf : Settings → Limits → LimitsFault → Type 0
-IsFreeOf s limits (faults.Settings fault) = Unit {0}
-IsFreeOf s limits faults.BadOthers = IsOthers limits.others s.segmented
-IsFreeOf s limits faults.BadMap = AreMaps limits.maps
-IsFreeOf s limits faults.DoubleMap = AreMapsApart limits.maps
-IsFreeOf s limits faults.BadLimit = HaveOctets limits.maps
-IsFreeOf s limits faults.PlainMap = HasMapsByHeaders limits.maps s.segmented
-IsFreeOf s limits faults.UnlistedMap = AreListed limits s.maps
+abbrev pub IsFreeOfLimitsFault : Settings → Limits → LimitsFault → Type 0
+IsFreeOfLimitsFault s limits (faults.Settings fault) = Unit {0}
+IsFreeOfLimitsFault s limits faults.BadOthers = IsOthers limits.others s.segmented
+IsFreeOfLimitsFault s limits faults.BadMap = AreLimitedMaps limits.maps
+IsFreeOfLimitsFault s limits faults.DoubleMap = AreLimitedMapsApart limits.maps
+IsFreeOfLimitsFault s limits faults.BadLimit = HaveOctets limits.maps
+IsFreeOfLimitsFault s limits faults.PlainMap = LimitsMapsByHeaders limits.maps s.segmented
+IsFreeOfLimitsFault s limits faults.UnlistedMap = AreListed limits s.maps
 
 -- the faults that limits may have, in the order in which they are looked for
-abbrev pub faults_in_order : List LimitsFault
-faults_in_order = faults.BadOthers ∷ faults.BadMap ∷ faults.DoubleMap ∷ faults.BadLimit ∷ faults.PlainMap ∷ faults.UnlistedMap ∷ []
+abbrev pub limits_faults_in_order : List LimitsFault
+limits_faults_in_order = faults.BadOthers ∷ faults.BadMap ∷ faults.DoubleMap ∷ faults.BadLimit ∷ faults.PlainMap ∷ faults.UnlistedMap ∷ []
 
 -- of the listed faults the limits have this one, and none before it
-abbrev pub IsFirstFault : Settings → Limits → List LimitsFault → LimitsFault → Type 0
-IsFirstFault s limits [] fault = ⊥
-IsFirstFault s limits (next ∷ later) fault = ((fault ≡ next) × ¬ IsFreeOf s limits next) ⊎ (IsFreeOf s limits next × IsFirstFault s limits later fault)
+abbrev pub IsFirstLimitsFault : Settings → Limits → List LimitsFault → LimitsFault → Type 0
+IsFirstLimitsFault s limits [] fault = ⊥
+IsFirstLimitsFault s limits (next ∷ later) fault = ((fault ≡ next) × ¬ IsFreeOfLimitsFault s limits next) ⊎ (IsFreeOfLimitsFault s limits next × IsFirstLimitsFault s limits later fault)
 
 -- the first fault of the limits is this one
 unfoldable pub IsLimitsFault : Settings → Limits → LimitsFault → Type 0
-IsLimitsFault s limits fault = IsFirstFault s limits faults_in_order fault
+IsLimitsFault s limits fault = IsFirstLimitsFault s limits limits_faults_in_order fault
 
 -- a fault of the settings
 abbrev pub of_settings : SettingsFault → LimitsFault
 of_settings fault = faults.Settings fault
 
 -- the first fault is this one, where those of the settings come before those of the limits
-abbrev pub IsFault : Settings → Limits → LimitsFault → Type 0
-IsFault s limits fault = ((its : SettingsFault) × (fault ≡ of_settings its) × IsFaultOfSettings s its) ⊎ (IsAllowed s × IsLimitsFault s limits fault)
+abbrev pub IsFaultWithLimits : Settings → Limits → LimitsFault → Type 0
+IsFaultWithLimits s limits fault = ((its : SettingsFault) × (fault ≡ of_settings its) × IsFaultOfSettings s its) ⊎ (IsAllowed s × IsLimitsFault s limits fault)
 
 -- why no channel was made: out of memory only where there is no fault
-abbrev pub IsRefusal : Settings → Limits → LimitsFault → Type 0
-IsRefusal s limits fault = IsFault s limits fault ⊎ ((fault ≡ of_settings settings_faults.NoMemory) × IsAllowed s × AreLimits s limits)
+abbrev pub IsRefusalWithLimits : Settings → Limits → LimitsFault → Type 0
+IsRefusalWithLimits s limits fault = IsFaultWithLimits s limits fault ⊎ ((fault ≡ of_settings settings_faults.NoMemory) × IsAllowed s × AreLimits s limits)

@@ -1,16 +1,14 @@
 -- What is taken from the queues.
-use Rattle.std.specs.Prelude.{◌≡◌, ℕ, ◌<◌, List, ◌++◌, length, drop, Option, Some, None, slice_get}
-use Rattle.std.specs.Option.{option_and_then}
-use Rattle.tc_channel.specs.HeldQueues.{items_for}
-use Rattle.tc_channel.specs.declared.queues.HeldQueue.{HeldQueue}
+use Rattle.std.specs.Prelude.{◌≡◌, ℕ, ◌<◌, List, ◌++◌, length, drop, Option, Some, None}
 use Rattle.tc_fixed.specs.declared.faults.NothingTaken.{NothingTaken}
 use Rattle.tc_fixed.specs.declared.faults.NothingTaken.TheVariants as taking
 use Rattle.tc_fixed.specs.declared.faults.NoUnitTaken.{NoUnitTaken}
 use Rattle.tc_fixed.specs.declared.faults.NoUnitTaken.TheVariants as unit_taking
 
--- the oldest item of the queue with a key
-abbrev pub oldest_for : ℕ → List HeldQueue → Option (List ℕ)
-oldest_for key queues = option_and_then (λ items. slice_get items 0) (items_for key queues)
+-- why nothing is taken of a queue where no item waits, by how many wait in it, if there is such a queue
+abbrev pub nothing_in : Option ℕ → NothingTaken
+nothing_in None = taking.NoQueue
+nothing_in (Some waiting) = taking.Empty
 
 -- an item has more octets than there is room for
 abbrev pub IsOver : ℕ → Option (List ℕ) → Type 0

@@ -9,12 +9,12 @@ ghost use Rattle.tc_fixed.specs.declared.limits.Limits.{Limits};
 ghost use Rattle.tc_fixed.specs.declared.limits.MapLimit.{MapLimit};
 ghost use Rattle.tc_fixed.specs.declared.limits.LimitsFault.TheVariants as faults;
 ghost use Rattle.tc_fixed.specs.Examples.{limits_on};
-ghost use Rattle.tc_fixed.specs.Limits.{AreLimits, AreMapsApart, IsFault, largest_limit, limit_of, none};
+ghost use Rattle.tc_fixed.specs.Limits.{AreLimits, AreLimitedMapsApart, IsFaultWithLimits, largest_limit, limit_of, none};
 ghost use Rattle.tc_fixed.specs.Storage.{storage_of, storage_within};
 
 /// A MAP that is listed has the limit that is listed for it, and each other MAP that of the others. No limit is over the largest.
 pub fn a_listed_map_has_its_own_limit()
-    ensures listed { (limits : Limits) (m : MapLimit) → AreMapsApart limits.maps → Contains limits.maps m → limit_of limits m.map ≡ m.octets }
+    ensures listed { (limits : Limits) (m : MapLimit) → AreLimitedMapsApart limits.maps → Contains limits.maps m → limit_of limits m.map ≡ m.octets }
     ensures others { (limits : Limits) (map_id : ℕ) → AllByRecursion (λ (m : MapLimit). m.map ≢ map_id) limits.maps → limit_of limits map_id ≡ limits.others }
     ensures largest { (limits : Limits) (map_id : ℕ) → limit_of limits map_id ≤ largest_limit limits }
 {}
@@ -27,16 +27,16 @@ pub fn without_limits_each_unit_is_left()
 /// The fault that limits have, worked out by hand. Those of the first row have each fault that goes with the others; each row after it
 /// mends the one before, to the last value that is allowed. A fault of the settings comes before all of them.
 pub fn limits_are_refused_so()
-    ensures settings { IsFault (example.channel_of false 64 2 1 [] []) (limits_on 0 64 64 0) (faults.Settings settings_faults.BadVcid) }
-    ensures others { IsFault (example.channel_of false 63 2 1 [] []) (limits_on 0 64 64 0) faults.BadOthers }
-    ensures map { IsFault (example.channel_of false 63 2 1 [] []) (limits_on 1 64 64 0) faults.BadMap }
-    ensures double_map { IsFault (example.channel_of false 63 2 1 [] []) (limits_on 1 63 63 0) faults.DoubleMap }
-    ensures limit { IsFault (example.channel_of false 63 2 1 [] []) (limits_on 1 63 0 0) faults.BadLimit }
-    ensures plain_map { IsFault (example.channel_of false 63 2 1 [] []) (limits_on 1 63 0 65542) faults.PlainMap }
-    ensures unlisted { IsFault (example.channel_of true 63 2 1 [] (example.two_maps 62 3 1)) (limits_on 0 63 3 1) faults.UnlistedMap }
+    ensures settings { IsFaultWithLimits (example.channel_of false 64 2 1 [] []) (limits_on 0 64 64 0) (faults.Settings settings_faults.BadVcid) }
+    ensures others { IsFaultWithLimits (example.channel_of false 63 2 1 [] []) (limits_on 0 64 64 0) faults.BadOthers }
+    ensures map { IsFaultWithLimits (example.channel_of false 63 2 1 [] []) (limits_on 1 64 64 0) faults.BadMap }
+    ensures double_map { IsFaultWithLimits (example.channel_of false 63 2 1 [] []) (limits_on 1 63 63 0) faults.DoubleMap }
+    ensures limit { IsFaultWithLimits (example.channel_of false 63 2 1 [] []) (limits_on 1 63 0 0) faults.BadLimit }
+    ensures plain_map { IsFaultWithLimits (example.channel_of false 63 2 1 [] []) (limits_on 1 63 0 65542) faults.PlainMap }
+    ensures unlisted { IsFaultWithLimits (example.channel_of true 63 2 1 [] (example.two_maps 62 3 1)) (limits_on 0 63 3 1) faults.UnlistedMap }
     ensures listed { AreLimits (example.channel_of true 63 2 1 [] (example.two_maps 3 63 1)) (limits_on 0 63 3 65542) }
-    ensures large_others { IsFault (example.channel_of true 63 2 1 [] []) (limits_on 65543 63 3 1) faults.BadOthers }
-    ensures large_limit { IsFault (example.channel_of true 63 2 1 [] []) (limits_on 65542 63 3 65543) faults.BadLimit }
+    ensures large_others { IsFaultWithLimits (example.channel_of true 63 2 1 [] []) (limits_on 65543 63 3 1) faults.BadOthers }
+    ensures large_limit { IsFaultWithLimits (example.channel_of true 63 2 1 [] []) (limits_on 65542 63 3 65543) faults.BadLimit }
 {}
 
 /// The storage that is worked out by hand: of a plain channel for one data field and one packet; of one with segment headers for a unit of

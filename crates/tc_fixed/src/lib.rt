@@ -16,7 +16,6 @@ mod limits;
 mod memory;
 mod noted;
 mod past;
-mod taking;
 
 pub use channel::{FixedChannel, FixedChannelWith};
 pub use faults::{NoUnitTaken, NothingReleased, NothingTaken};

@@ -6,11 +6,10 @@ ghost use Rattle.tc_channel.specs.Settings.{IsAllowed};
 ghost use Rattle.std.specs.List.{AllByRecursion};
 ghost use Rattle.tc_packet.specs.Reassembly.{largest_unit};
 ghost use Rattle.tc_channel.specs.Settings.{settings_of};
-ghost use Rattle.tc_fixed.specs.Limits.{IsOthers, AreMaps, AreMapsApart, HaveOctets, HasMapsByHeaders, AreListed, IsListed, AreLimits, IsFault, IsLimitsFault, item_size, largest_limit, limit_of, limits_of, none};
+ghost use Rattle.tc_fixed.specs.Limits.{IsOthers, AreLimitedMaps, AreLimitedMapsApart, HaveOctets, LimitsMapsByHeaders, AreListed, IsListed, AreLimits, IsFaultWithLimits, IsLimitsFault, item_size, largest_limit, limit_of, limits_of, none};
 
-use crate::channel::LARGEST_FIELD;
 use std::alloc::{AllocError, Global};
-use tc_channel::{Items, LentSettings, MapSetting, Settings, SettingsFault};
+use tc_channel::{Items, LARGEST_FIELD, LentSettings, MapSetting, Settings, SettingsFault};
 use tc_packet::LARGEST_UNIT;
 use thiserror::Error;
 
@@ -105,7 +104,7 @@ impl Limits {
 
     /// Whether a channel can be made by these settings and limits. It never answers that there is no memory, and takes none.
     pub fn check(&self, settings: &Settings) -> Result<(), LimitsFault>
-        ensures { MatchResult result (λ _. IsAllowed settings.now × AreLimits settings.now self.now) (IsFault settings.now self.now) }
+        ensures { MatchResult result (λ _. IsAllowed settings.now × AreLimits settings.now self.now) (IsFaultWithLimits settings.now self.now) }
     {
         self.lent().check(settings.lent())
     }
@@ -159,7 +158,7 @@ impl LentLimits<'_> {
 
     /// Whether a channel can be made by these settings and limits. It never answers that there is no memory, and takes none.
     pub fn check(self, settings: LentSettings<'_>) -> Result<(), LimitsFault>
-        ensures { MatchResult result (λ _. IsAllowed (settings_of settings.entry) × AreLimits (settings_of settings.entry) (limits_of self.entry)) (IsFault (settings_of settings.entry) (limits_of self.entry)) }
+        ensures { MatchResult result (λ _. IsAllowed (settings_of settings.entry) × AreLimits (settings_of settings.entry) (limits_of self.entry)) (IsFaultWithLimits (settings_of settings.entry) (limits_of self.entry)) }
     {
         settings.check()?;
         self.check_alone(settings)
@@ -223,7 +222,7 @@ fn is_others(others: u32, segmented: bool) -> bool
 }
 
 fn are_maps(maps: &[MapLimit]) -> bool
-    ensures { IsTrue result ↔ AreMaps maps.now }
+    ensures { IsTrue result ↔ AreLimitedMaps maps.now }
 {
     maps.iter().all(|limit| limit.map <= 63)
 }
@@ -236,7 +235,7 @@ fn have_octets(maps: &[MapLimit]) -> bool
 
 // Whether no MAP is listed where there are no segment headers.
 fn has_maps_by_headers(maps: &[MapLimit], segmented: bool) -> bool
-    ensures { IsTrue result ↔ HasMapsByHeaders maps.now segmented }
+    ensures { IsTrue result ↔ LimitsMapsByHeaders maps.now segmented }
 {
     segmented || maps.is_empty()
 }
@@ -250,7 +249,7 @@ fn has_map(maps: &[MapLimit], map: u8) -> bool
 
 // Whether no MAP is listed twice.
 fn are_maps_apart(maps: &[MapLimit]) -> bool
-    ensures { IsTrue result ↔ AreMapsApart maps.now }
+    ensures { IsTrue result ↔ AreLimitedMapsApart maps.now }
 {
     for (i, limit) in maps.iter().enumerate() {
         if has_map(&maps[..i], limit.map) {

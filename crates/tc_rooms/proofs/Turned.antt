@@ -159,3 +159,12 @@ cleared-slots places first waiting count size at rooms later long k some at_is l
 pub first-item : {A : Type 0} (f : A → Laid) (first waiting : ℕ) (xs : List A) (x : A) → first < length xs → x ≡ get_or xs first x → 0 < waiting → Some (f x).octets ≡ slice_get (map octets_of (take waiting (turned first (map f xs)))) 0
 first-item f first waiting xs x inside is some =
     first-seen first waiting (map f xs) (f x) (omega (arith, length-map xs f)) (ap f is ∙ sym (get_or-map f xs first x (f x) inside)) some
+
+-- the same by the place, for rooms that are what lies in them
+at-place : {A : Type 0} (xs : List A) (i : ℕ) (d : A) → i < length xs → get_or xs i d ≡ get_or xs i (get_or xs i d)
+at-place [] i d inside = absurd (omega arith)
+at-place (x ∷ xs) zero d inside = refl
+at-place (x ∷ xs) (suc i) d inside = at-place xs i d (omega arith)
+
+pub first-at : (f : Laid → Laid) (first waiting : ℕ) (xs : List Laid) (d : Laid) → first < length xs → 0 < waiting → Some (f (get_or xs first d)).octets ≡ slice_get (map octets_of (take waiting (turned first (map f xs)))) 0
+first-at f first waiting xs d inside some = first-item f first waiting xs (get_or xs first d) inside (at-place xs first d inside) some

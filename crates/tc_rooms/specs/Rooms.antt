@@ -14,6 +14,10 @@ laid octets size = record { octets = octets; size = size }
 abbrev pub octets_of : Laid → List ℕ
 octets_of room = room.octets
 
+-- what lies in a room that grows, as its trait has it
+abbrev pub held_room : Laid → Laid
+held_room room = room
+
 -- items that wait in rooms of one size, and items that are laid behind them and don't count yet
 pub record Slotted : Type 0 where
   pub ring : Buffer (List ℕ)

@@ -6,6 +6,7 @@ ghost use Rattle.tc_rooms.specs.Rooms.{Laid, laid};
 use std::alloc::{AllocError, Global};
 use std::boxed::BoxedSlice;
 use std::marker::Model;
+use std::mem::replace;
 
 /// A place for the octets of one item or of one run, and how many they may be. Queues and reassembly are generic over it, so that
 /// they are one code for rooms that are made at the start ([`FixedRoom`]) and for rooms that grow ([`GrowingRoom`]).
@@ -185,5 +186,15 @@ impl Room for GrowingRoom {
 
     fn as_slice(&self) -> &[u8] {
         &self.block
+    }
+}
+
+impl GrowingRoom {
+    /// Takes the octets in use out, in the block that has them: none is copied, and no memory is asked for. No octets are in use then.
+    pub fn take_block(&mut self) -> Vec<u8>
+        ensures octets { result.items ≡ self.old.octets }
+        ensures cleared { self.new ≡ laid [] self.old.size }
+    {
+        replace(&mut self.block, Vec::new(self.alloc))
     }
 }

@@ -1,10 +1,10 @@
 //! Items that wait, in rooms of one size, and items that are laid behind them and don't count yet.
 
-ghost use Rattle.std.specs.Prelude.{◌≡◌, ◌≤◌, ◌<◌, ◌==◌, ◌+◌, ◌-◌, ◌++◌, [], length, map, drop, set, nat_lt, false, IfOk, IsOk, OnOk, OnErr, IfSome, slice_get, option_map, if◌then◌else◌};
+ghost use Rattle.std.specs.Prelude.{◌≡◌, ◌≤◌, ◌<◌, ◌==◌, ◌+◌, ◌-◌, ◌++◌, [], length, map, get_or, drop, set, nat_lt, false, IfOk, IsOk, OnOk, OnErr, IfSome, slice_get, option_map, if◌then◌else◌};
 ghost use Rattle.std.specs.Box.{boxed_slice_items};
-ghost use Rattle.tc_rooms.specs.Rooms.{laid, slotted, HaveSize, IsLaidBehind};
+ghost use Rattle.tc_rooms.specs.Rooms.{held_room, laid, octets_of, slotted, HaveSize, IsLaidBehind};
 
-use crate::room::Room;
+use crate::room::{GrowingRoom, Room};
 use std::alloc::{AllocError, Global};
 use std::boxed::BoxedSlice;
 use std::marker::Model;
@@ -96,6 +96,17 @@ fn clear_at<R: Room>(rooms: &mut BoxedSlice<R>, place: usize, size: usize)
     ensures places { length (boxed_slice_items rooms.new) ≡ length (boxed_slice_items rooms.old) }
 {
     rooms[place].clear();
+}
+
+// Takes the octets out of the room at this place, in their block.
+fn take_block_at(rooms: &mut BoxedSlice<GrowingRoom>, place: usize, size: usize) -> Vec<u8>
+    requires place { place < length (boxed_slice_items rooms.old) }
+    requires sizes { HaveSize size (map held_room (boxed_slice_items rooms.old)) }
+    ensures octets { result.items ≡ octets_of (get_or (boxed_slice_items rooms.old) place (laid [] size)) }
+    ensures cleared { map held_room (boxed_slice_items rooms.new) ≡ set (map held_room (boxed_slice_items rooms.old)) place (laid [] size) }
+    ensures places { length (boxed_slice_items rooms.new) ≡ length (boxed_slice_items rooms.old) }
+{
+    rooms[place].take_block()
 }
 
 impl<R: Room> Slots<R> {
@@ -211,5 +222,22 @@ impl<R: Room> Slots<R> {
         clear_at(&mut self.rooms, self.first, self.size);
         self.first = next_place(self.first, self.rooms.as_slice().len());
         self.waiting -= 1;
+    }
+}
+
+impl Slots<GrowingRoom> {
+    /// Takes the oldest item out, if there is one, in its own block: none of its octets is copied, and no memory is asked for.
+    pub fn take_front(&mut self) -> Option<Vec<u8>>
+        ensures item { option_map (λ block. block.items) result ≡ slice_get self.old.ring.items 0 }
+        ensures taken { self.new ≡ slotted (drop 1 self.old.ring.items) self.old.ring.capacity self.old.laid self.old.size }
+    {
+        if self.waiting == 0 {
+            return None;
+        }
+        let places = self.rooms.as_slice().len();
+        let block = take_block_at(&mut self.rooms, self.first, self.size);
+        self.first = next_place(self.first, places);
+        self.waiting -= 1;
+        Some(block)
     }
 }

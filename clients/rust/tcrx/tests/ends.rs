@@ -117,13 +117,13 @@ fn refused_limits_say_why() {
     assert!(Channel::with_limits(&eight, &limits).is_ok());
 }
 
-/// 1,051 octets for the buffer, 5,120 and 2 * 64 * 65,542 for open runs, 64 for each queue, and 65,574 for each packet.
+/// 1,051 octets for the buffer, 5,120 and 2 * 64 * 65,542 for open runs, 64 for each queue, 65,574 for each packet, and 4,096 for the table.
 #[test]
 fn a_storage_of_more_octets_than_32_bits_count() {
     let queues: Vec<Queue> = (0..256).map(|apid| Queue { apid, capacity: 256 }).collect();
     let large = Settings { buffer: 1, queues: &queues, maps: &[], ..SETTINGS };
-    assert_eq!(large.storage(), Ok(4_305_869_595));
-    assert_eq!(large.storage_with_limits(&Limits { others: 65_542, maps: &[] }), Ok(4_305_869_595));
+    assert_eq!(large.storage(), Ok(4_305_873_691));
+    assert_eq!(large.storage_with_limits(&Limits { others: 65_542, maps: &[] }), Ok(4_305_873_691));
 }
 
 #[test]

@@ -1,7 +1,7 @@
 use Rattle.std.proofs.Common.{◌≡◌, ◌∙◌, Some, ap, sym, inl}
 use Rattle.tc_channel.specs.declared.event.Event.TheVariants as Event
 use Rattle.tc_channel.specs.Reply.{frame_reply_within}
-use Rattle.tc_fixed.specs.History.{with_event}
+use Rattle.tc_fixed.specs.History.{with_limited_event}
 use Rattle.tc_fixed.specs.Limits.{limit_of}
 use Rattle.tc_c.specs.Rack.{channels_in, rack_reply, replied}
 use Rattle.tc_c.proofs.Racks.{held, changed}
@@ -18,5 +18,5 @@ returns-in-Ok c =
     let one : done.0 ≡ frame = c.each_input_begins_with_one_frame_at_most.ensures octets done.0 frame done.1 is.0 in
     let id : c.in-Ok.vcid ≡ h.settings.vcid = sym (is.2.0.1 ∙ c.in-Ok.ensures.located.3) in
     let reply : c.answer.result ≡ replied h frame = done.2 ∙ (ap (λ f. rack_reply c.in-Ok.vcid (frame_reply_within (limit_of h.limits) h.settings h.journal f)) one ∙ ap (λ v. rack_reply v (frame_reply_within (limit_of h.limits) h.settings h.journal frame)) id) in
-    let new = done.3 ∙ ap (λ f. Some (with_event h (Event.Frame f))) one in
+    let new = done.3 ∙ ap (λ f. Some (with_limited_event h (Event.Frame f))) one in
     record { answer = inl (place, frame, h, is, reply, changed seats place c.answer.new.seat old _ same new) }

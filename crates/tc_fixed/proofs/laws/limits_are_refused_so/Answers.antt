@@ -13,11 +13,11 @@ use Rattle.tc_fixed.specs.declared.limits.LimitsFault.{LimitsFault}
 use Rattle.tc_fixed.specs.declared.limits.LimitsFault.TheVariants as faults
 use Rattle.tc_fixed.specs.declared.limits.MapLimit.{MapLimit}
 use Rattle.tc_fixed.specs.Examples.{limits_on}
-use Rattle.tc_fixed.specs.Limits.{AreMaps, AreMapsApart, HaveOctets, IsFreeOf, IsFirstFault, IsLimitsFault, IsListed, faults_in_order}
+use Rattle.tc_fixed.specs.Limits.{AreLimitedMaps, AreLimitedMapsApart, HaveOctets, IsFreeOfLimitsFault, IsFirstLimitsFault, IsLimitsFault, IsListed, limits_faults_in_order}
 use Rattle.tc_fixed.proofs.laws.limits_are_refused_so.Goals as goal
 
 -- the fault is the first one, where the limits are free of those before it
-first-of : (s : Settings) (limits : Limits) (before later : List LimitsFault) (fault : LimitsFault) → AllByRecursion (IsFreeOf s limits) before → ¬ IsFreeOf s limits fault → IsFirstFault s limits (before ++ fault ∷ later) fault
+first-of : (s : Settings) (limits : Limits) (before later : List LimitsFault) (fault : LimitsFault) → AllByRecursion (IsFreeOfLimitsFault s limits) before → ¬ IsFreeOfLimitsFault s limits fault → IsFirstLimitsFault s limits (before ++ fault ∷ later) fault
 first-of s limits [] later fault free has = inl (refl, has)
 first-of s limits (b ∷ before) later fault free has = inr (free.0, first-of s limits before later fault free.1 has)
 
@@ -58,10 +58,10 @@ maps-chosen one other p q ne = record {
   by_headers = λ plain. absurd cc;
 }
 
-are-maps : (one other n : ℕ) → one ≤ 63 → other ≤ 63 → AreMaps (limit one n ∷ limit other n ∷ [])
+are-maps : (one other n : ℕ) → one ≤ 63 → other ≤ 63 → AreLimitedMaps (limit one n ∷ limit other n ∷ [])
 are-maps one other n = both (λ (m : MapLimit). m.map ≤ 63) (limit one n) (limit other n)
 
-apart : (one other n : ℕ) → one ≢ other → AreMapsApart (limit one n ∷ limit other n ∷ [])
+apart : (one other n : ℕ) → one ≢ other → AreLimitedMapsApart (limit one n ∷ limit other n ∷ [])
 apart one other n = two-apart (λ (m : MapLimit). m.map) (limit one n) (limit other n)
 
 octets : (one other n : ℕ) → 1 ≤ n → n ≤ 65542 → HaveOctets (limit one n ∷ limit other n ∷ [])
@@ -81,13 +81,13 @@ returns-clause-settings c = inl (settings_faults.BadVcid, refl, first-of-setting
 
 pub returns-clause-others : goal.returns-clause-others
 unfolding IsLimitsFault
-returns-clause-others c = inr (no-maps false, first-of (channel_of false 63 2 1 [] []) (limits_on 0 64 64 0) [] (drop 1 faults_in_order) faults.BadOthers tt (λ h. let least : 1 ≤ 0 = h.1 refl in omega arith))
+returns-clause-others c = inr (no-maps false, first-of (channel_of false 63 2 1 [] []) (limits_on 0 64 64 0) [] (drop 1 limits_faults_in_order) faults.BadOthers tt (λ h. let least : 1 ≤ 0 = h.1 refl in omega arith))
 
 pub returns-clause-map : goal.returns-clause-map
 unfolding IsLimitsFault
 returns-clause-map c = inr (
   no-maps false,
-  first-of (channel_of false 63 2 1 [] []) (limits_on 1 64 64 0) (take 1 faults_in_order) (drop 2 faults_in_order) faults.BadMap
+  first-of (channel_of false 63 2 1 [] []) (limits_on 1 64 64 0) (take 1 limits_faults_in_order) (drop 2 limits_faults_in_order) faults.BadMap
       ((lit≤ tt, λ plain. lit≤ tt), tt) (first-not (λ (m : MapLimit). m.map ≤ 63) (limit 64 0) (limit 64 0 ∷ []) (λ h. omega arith)),
 )
 
@@ -95,7 +95,7 @@ pub returns-clause-double_map : goal.returns-clause-double_map
 unfolding IsLimitsFault
 returns-clause-double_map c = inr (
   no-maps false,
-  first-of (channel_of false 63 2 1 [] []) (limits_on 1 63 63 0) (take 2 faults_in_order) (drop 3 faults_in_order) faults.DoubleMap
+  first-of (channel_of false 63 2 1 [] []) (limits_on 1 63 63 0) (take 2 limits_faults_in_order) (drop 3 limits_faults_in_order) faults.DoubleMap
       ((lit≤ tt, λ plain. lit≤ tt), (are-maps 63 63 0 (lit≤ tt) (lit≤ tt), tt)) (not-two-apart (λ (m : MapLimit). m.map) (limit 63 0) (limit 63 0) refl),
 )
 
@@ -103,7 +103,7 @@ pub returns-clause-limit : goal.returns-clause-limit
 unfolding IsLimitsFault
 returns-clause-limit c = inr (
   no-maps false,
-  first-of (channel_of false 63 2 1 [] []) (limits_on 1 63 0 0) (take 3 faults_in_order) (drop 4 faults_in_order) faults.BadLimit
+  first-of (channel_of false 63 2 1 [] []) (limits_on 1 63 0 0) (take 3 limits_faults_in_order) (drop 4 limits_faults_in_order) faults.BadLimit
       ((lit≤ tt, λ plain. lit≤ tt), (are-maps 63 0 0 (lit≤ tt) (lit≤ tt), (apart 63 0 0 (λ e. omega arith), tt))) (octets-not 63 0 0 (λ h. let least = h.0 in omega arith)),
 )
 
@@ -111,7 +111,7 @@ pub returns-clause-plain_map : goal.returns-clause-plain_map
 unfolding IsLimitsFault
 returns-clause-plain_map c = inr (
   no-maps false,
-  first-of (channel_of false 63 2 1 [] []) (limits_on 1 63 0 65542) (take 4 faults_in_order) (drop 5 faults_in_order) faults.PlainMap
+  first-of (channel_of false 63 2 1 [] []) (limits_on 1 63 0 65542) (take 4 limits_faults_in_order) (drop 5 limits_faults_in_order) faults.PlainMap
       ((lit≤ tt, λ plain. lit≤ tt), (are-maps 63 0 65542 (lit≤ tt) (lit≤ tt), (apart 63 0 65542 (λ e. omega arith), (octets 63 0 65542 (lit≤ tt) (lit≤ tt), tt))))
       (λ none. let there : limit 63 65542 ∷ limit 0 65542 ∷ [] ≡ [] = none refl in cc),
 )
@@ -120,7 +120,7 @@ pub returns-clause-unlisted : goal.returns-clause-unlisted
 unfolding IsLimitsFault
 returns-clause-unlisted c = inr (
   maps-chosen 62 3 (lit≤ tt) (lit≤ tt) (λ e. omega arith),
-  first-of (channel_of true 63 2 1 [] (two_maps 62 3 1)) (limits_on 0 63 3 1) (take 5 faults_in_order) (drop 6 faults_in_order) faults.UnlistedMap
+  first-of (channel_of true 63 2 1 [] (two_maps 62 3 1)) (limits_on 0 63 3 1) (take 5 limits_faults_in_order) (drop 6 limits_faults_in_order) faults.UnlistedMap
       ((lit≤ tt, λ plain. absurd cc), (are-maps 63 3 1 (lit≤ tt) (lit≤ tt), (apart 63 3 1 (λ e. omega arith), (octets 63 3 1 (lit≤ tt) (lit≤ tt), ((λ plain. absurd cc), tt)))))
       (λ listed. let its = listed refl in not-listed (limit 63 1) (limit 3 1) 62 its.0 (λ e. omega arith) (λ e. omega arith)),
 )
@@ -137,12 +137,12 @@ returns-clause-listed c = record {
 
 pub returns-clause-large_others : goal.returns-clause-large_others
 unfolding IsLimitsFault
-returns-clause-large_others c = inr (no-maps true, first-of (channel_of true 63 2 1 [] []) (limits_on 65543 63 3 1) [] (drop 1 faults_in_order) faults.BadOthers tt (λ h. let most = h.0 in omega arith))
+returns-clause-large_others c = inr (no-maps true, first-of (channel_of true 63 2 1 [] []) (limits_on 65543 63 3 1) [] (drop 1 limits_faults_in_order) faults.BadOthers tt (λ h. let most = h.0 in omega arith))
 
 pub returns-clause-large_limit : goal.returns-clause-large_limit
 unfolding IsLimitsFault
 returns-clause-large_limit c = inr (
   no-maps true,
-  first-of (channel_of true 63 2 1 [] []) (limits_on 65542 63 3 65543) (take 3 faults_in_order) (drop 4 faults_in_order) faults.BadLimit
+  first-of (channel_of true 63 2 1 [] []) (limits_on 65542 63 3 65543) (take 3 limits_faults_in_order) (drop 4 limits_faults_in_order) faults.BadLimit
       ((lit≤ tt, λ plain. absurd cc), (are-maps 63 3 65543 (lit≤ tt) (lit≤ tt), (apart 63 3 65543 (λ e. omega arith), tt))) (octets-not 63 3 65543 (λ h. let most = h.1 in omega arith)),
 )

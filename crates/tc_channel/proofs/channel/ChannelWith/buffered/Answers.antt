@@ -1,7 +1,5 @@
-use Rattle.std.proofs.Common.{length, ap, ◌∙◌}
-use Rattle.tc_channel.specs.Reply.{buffered_fields_within}
+use Rattle.tc_channel.specs.ChannelState.{no_limits}
 use Rattle.tc_channel.proofs.channel.ChannelWith.buffered.Goals as goal
 
 pub returns-clause-count : goal.returns-clause-count
-unfolding buffered_fields_within
-returns-clause-count g c = rw (← c.self.view_is) (c.len.ensures.len ∙ ap length c.self.invariant.fields)
+returns-clause-count g c = rw (← c.self.view_is) (c.buffered.ensures.count no_limits c.self.inside.settings (g.J.Journal.events c.self.inside.journal) c.self.invariant)

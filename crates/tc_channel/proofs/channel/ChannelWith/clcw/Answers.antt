@@ -1,6 +1,7 @@
 use Rattle.tc_channel.specs.Reply.{clcw_within}
+use Rattle.tc_channel.specs.ChannelState.{no_limits}
 use Rattle.tc_channel.proofs.channel.ChannelWith.clcw.Goals as goal
 
 pub returns-clause-word : goal.returns-clause-word
 unfolding clcw_within
-returns-clause-word g c = rw (← c.self.view_is, ← c.self.invariant.report, ← c.report.ensures.report) c.clcw_word.ensures
+returns-clause-word g c = rw (← c.self.view_is, ← c.report.ensures.report no_limits c.self.inside.settings (g.J.Journal.events c.self.inside.journal) c.self.invariant) c.clcw_word.ensures

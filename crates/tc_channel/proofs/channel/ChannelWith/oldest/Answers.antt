@@ -1,10 +1,5 @@
-use Rattle.std.proofs.Common.{◌≡◌}
-use Rattle.tc_channel.specs.Reply.{waiting_packets}
-use Rattle.tc_channel.specs.HeldQueues.{items_for}
-use Rattle.tc_channel.proofs.Takes.{packets-wait}
+use Rattle.tc_channel.specs.ChannelState.{no_limits}
 use Rattle.tc_channel.proofs.channel.ChannelWith.oldest.Goals as goal
 
 pub returns-clause-packet : goal.returns-clause-packet
-returns-clause-packet g c =
-    let w : waiting_packets c.args.self.now.settings c.args.self.now.journal c.args.apid ≡ items_for c.args.apid c.self.inside.queues.items = rw (← c.self.view_is) (packets-wait c.args.apid c.self.invariant) in
-    rw (w, ← c.deref.ensures.value) c.oldest_with.ensures
+returns-clause-packet g c = rw (← c.self.view_is) (c.oldest.ensures.packet no_limits c.self.inside.settings (g.J.Journal.events c.self.inside.journal) c.self.invariant)

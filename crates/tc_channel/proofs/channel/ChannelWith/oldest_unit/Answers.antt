@@ -1,10 +1,5 @@
-use Rattle.std.proofs.Common.{◌≡◌}
-use Rattle.tc_channel.specs.Reply.{waiting_units}
-use Rattle.tc_channel.specs.HeldQueues.{items_for}
-use Rattle.tc_channel.proofs.Takes.{units-wait}
+use Rattle.tc_channel.specs.ChannelState.{no_limits}
 use Rattle.tc_channel.proofs.channel.ChannelWith.oldest_unit.Goals as goal
 
 pub returns-clause-unit : goal.returns-clause-unit
-returns-clause-unit g c =
-    let w : waiting_units c.args.self.now.settings c.args.self.now.journal c.args.map ≡ items_for c.args.map c.self.inside.units.items = rw (← c.self.view_is) (units-wait c.args.map c.self.invariant) in
-    rw (w, ← c.deref.ensures.value) c.oldest_with.ensures
+returns-clause-unit g c = rw (← c.self.view_is) (c.oldest_unit.ensures.unit no_limits c.self.inside.settings (g.J.Journal.events c.self.inside.journal) c.self.invariant)

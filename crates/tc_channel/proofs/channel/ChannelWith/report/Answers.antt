@@ -1,4 +1,4 @@
-use Rattle.std.proofs.Common.{rules, subst}
+use Rattle.std.proofs.Common.{subst}
 use Rattle.tc_channel.specs.Journal.{History}
 use Rattle.tc_channel.specs.ChannelState.{no_limits}
 use Rattle.tc_channel.specs.Era.{CountsUpInItsEra}
@@ -7,7 +7,7 @@ use Rattle.tc_channel.proofs.channel.ChannelWith.report.Goals as goal
 
 pub returns-clause-era : goal.returns-clause-era
 returns-clause-era g c =
-    subst (λ (h : History). CountsUpInItsEra h.settings h.journal) c.self.view_is (era-law no_limits c.self.inside.settings (g.J.Journal.events c.self.inside.journal) c.self.invariant.allowed c.self.invariant.lawful)
+    subst (λ (h : History). CountsUpInItsEra h.settings h.journal) c.self.view_is (era-law no_limits c.self.inside.settings (g.J.Journal.events c.self.inside.journal) c.self.invariant.holds.allowed c.self.invariant.holds.lawful)
 
 pub returns-clause-report : goal.returns-clause-report
-returns-clause-report g c = search rules
+returns-clause-report g c = rw (← c.self.view_is) (c.report.ensures.report no_limits c.self.inside.settings (g.J.Journal.events c.self.inside.journal) c.self.invariant)

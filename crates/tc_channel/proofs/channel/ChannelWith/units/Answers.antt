@@ -1,16 +1,5 @@
-use Rattle.std.proofs.Common.{◌≡◌, arith}
-use Rattle.std.proofs.lemmas.Grind.{common_steps}
-use Rattle.tc_channel.specs.Reply.{waiting_units}
-use Rattle.tc_channel.specs.HeldQueues.{items_for}
-use Rattle.tc_channel.proofs.Takes.{units-wait}
+use Rattle.tc_channel.specs.ChannelState.{no_limits}
 use Rattle.tc_channel.proofs.channel.ChannelWith.units.Goals as goal
 
-pub returns-in_err-find-clause-count : goal.returns-in_err-find-clause-count
-returns-in_err-find-clause-count g c =
-    let w : waiting_units c.args.self.now.settings c.args.self.now.journal c.args.map ≡ items_for c.args.map c.self.inside.units.items = rw (← c.self.view_is) (units-wait c.args.map c.self.invariant) in
-    rw w (grind (arith, common_steps))
-
 pub returns-clause-count : goal.returns-clause-count
-returns-clause-count g c =
-    let w : waiting_units c.args.self.now.settings c.args.self.now.journal c.args.map ≡ items_for c.args.map c.self.inside.units.items = rw (← c.self.view_is) (units-wait c.args.map c.self.invariant) in
-    rw w (grind (arith, common_steps))
+returns-clause-count g c = rw (← c.self.view_is) (c.units.ensures.count no_limits c.self.inside.settings (g.J.Journal.events c.self.inside.journal) c.self.invariant)

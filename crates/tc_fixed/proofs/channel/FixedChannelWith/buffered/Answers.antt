@@ -1,7 +1,5 @@
-use Rattle.std.proofs.Common.{length, ap, ◌∙◌}
-use Rattle.tc_channel.specs.Reply.{buffered_fields_within}
+use Rattle.tc_fixed.specs.Limits.{limit_of}
 use Rattle.tc_fixed.proofs.channel.FixedChannelWith.buffered.Goals as goal
 
 pub returns-clause-count : goal.returns-clause-count
-unfolding buffered_fields_within
-returns-clause-count g c = rw (← c.self.view_is) (c.len.ensures.len ∙ ap length c.self.invariant.holds.fields)
+returns-clause-count g c = rw (← c.self.view_is) (c.buffered.ensures.count (limit_of c.self.inside.limits) c.self.inside.settings (g.N.Noted.noted c.self.inside.journal) c.self.invariant.rooms)

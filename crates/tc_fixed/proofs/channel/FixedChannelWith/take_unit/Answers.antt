@@ -1,53 +1,32 @@
-use Rattle.std.proofs.Common.{◌≡◌, ◌∷◌, [], ◌++◌, arith}
-use Rattle.std.specs.Box.{boxed_slice_items}
-use Rattle.std.proofs.lemmas.Grind.{common_steps}
-use Rattle.tc_channel.specs.declared.event.Event.TheVariants.{TakeUnit}
+use Rattle.std.proofs.Common.{length, refl}
 use Rattle.tc_channel.specs.Reply.{waiting_units_within}
-use Rattle.tc_channel.specs.HeldQueues.{items_for}
-use Rattle.tc_channel.proofs.Takes.{units-wait}
 use Rattle.tc_fixed.specs.Limits.{limit_of}
-use Rattle.tc_queues.specs.Keyed.{rings_in}
-use Rattle.tc_fixed.specs.Taking.{oldest_for}
-use Rattle.tc_fixed.proofs.Inside.{laid-item, unit-taken}
+use Rattle.tc_fixed.proofs.Taken.{says-nothing, says-over, says-taken, of-unit, unit-taken}
 use Rattle.tc_fixed.proofs.channel.FixedChannelWith.take_unit.Goals as goal
 
-pub returns-in_err-count-clause-no_map : goal.returns-in_err-count-clause-no_map
-returns-in_err-count-clause-no_map g c =
-    let w : waiting_units_within (limit_of c.args.self.now.limits) c.args.self.now.settings c.args.self.now.journal c.args.map ≡ items_for c.args.map (rings_in (boxed_slice_items c.self.inside.units)) = rw (← c.self.view_is) (units-wait c.args.map c.self.invariant.holds) in
-    rw w (grind (arith, common_steps))
+pub returns-in_default-clause-no_map : goal.returns-in_default-clause-no_map
+returns-in_default-clause-no_map g c = rw (← c.self.view_is) (of-unit (length c.args.into.now) _ _ _ c.into.ensures (says-nothing (length c.args.into.now) (waiting_units_within (limit_of c.self.inside.limits) c.self.inside.settings (g.N.Noted.noted c.self.inside.journal) c.args.map) c.units.result c.nothing_taken.result (rw c.in_default.is at c.oldest_unit.ensures.unit (limit_of c.self.inside.limits) c.self.inside.settings (g.N.Noted.noted c.self.inside.journal) c.self.invariant.rooms) (c.units.ensures.count (limit_of c.self.inside.limits) c.self.inside.settings (g.N.Noted.noted c.self.inside.journal) c.self.invariant.rooms) c.nothing_taken.ensures)).no_map
 
-pub returns-in_err-count-clause-empty : goal.returns-in_err-count-clause-empty
-returns-in_err-count-clause-empty g c =
-    let w : waiting_units_within (limit_of c.args.self.now.limits) c.args.self.now.settings c.args.self.now.journal c.args.map ≡ items_for c.args.map (rings_in (boxed_slice_items c.self.inside.units)) = rw (← c.self.view_is) (units-wait c.args.map c.self.invariant.holds) in
-    rw w (grind (arith, common_steps))
-
-pub returns-in_err-count-clause-no_room : goal.returns-in_err-count-clause-no_room
-returns-in_err-count-clause-no_room g c =
-    let w : waiting_units_within (limit_of c.args.self.now.limits) c.args.self.now.settings c.args.self.now.journal c.args.map ≡ items_for c.args.map (rings_in (boxed_slice_items c.self.inside.units)) = rw (← c.self.view_is) (units-wait c.args.map c.self.invariant.holds) in
-    rw w (grind (arith, common_steps))
-
-pub invariant_of-self-2 : goal.invariant_of-self-2
-invariant_of-self-2 g c =
-    let item = laid-item (oldest_for c.args.map (rings_in (boxed_slice_items c.self.inside.units))) c.in_ok-count.count _ _ c.in_ok-count.ensures.item in
-    let e : g.N.Noted.noted c.note.new.self ≡ (g.N.Noted.noted c.self.inside.journal) ++ TakeUnit c.args.map ∷ [] = grind (arith, common_steps) steps 500000 in
-    rw e (unit-taken (boxed_slice_items c.take_from.new.queues) c.args.map item.0 c.self.invariant item.1 c.in_ok-count.ensures.queues c.take_from.ensures.sizes c.take_from.ensures.settled)
+pub returns-in_default-copy_to_front-clause-no_map : goal.returns-in_default-copy_to_front-clause-no_map
+returns-in_default-copy_to_front-clause-no_map g c = rw (← c.self.view_is) (of-unit (length c.args.into.now) _ _ _ refl (says-over (length c.args.into.now) (waiting_units_within (limit_of c.self.inside.limits) c.self.inside.settings (g.N.Noted.noted c.self.inside.journal) c.args.map) c.in-Some.unit.now (rw c.in-Some.is at c.oldest_unit.ensures.unit (limit_of c.self.inside.limits) c.self.inside.settings (g.N.Noted.noted c.self.inside.journal) c.self.invariant.rooms) c.in_default-copy_to_front.ensures.over)).no_map
 
 pub returns-clause-no_map : goal.returns-clause-no_map
-returns-clause-no_map g c =
-    let w : waiting_units_within (limit_of c.args.self.now.limits) c.args.self.now.settings c.args.self.now.journal c.args.map ≡ items_for c.args.map (rings_in (boxed_slice_items c.self.inside.units)) = rw (← c.self.view_is) (units-wait c.args.map c.self.invariant.holds) in
-    rw w (grind (arith, common_steps))
+returns-clause-no_map g c = rw (← c.self.view_is) (unit-taken (length c.args.into.now) _ _ (says-taken (length c.args.into.now) (waiting_units_within (limit_of c.self.inside.limits) c.self.inside.settings (g.N.Noted.noted c.self.inside.journal) c.args.map) c.in-Some.unit.now c.in-Some-copy_to_front.count (rw c.in-Some.is at c.oldest_unit.ensures.unit (limit_of c.self.inside.limits) c.self.inside.settings (g.N.Noted.noted c.self.inside.journal) c.self.invariant.rooms) c.in-Some-copy_to_front.ensures.fits)).no_map
+
+pub returns-in_default-clause-empty : goal.returns-in_default-clause-empty
+returns-in_default-clause-empty g c = rw (← c.self.view_is) (of-unit (length c.args.into.now) _ _ _ c.into.ensures (says-nothing (length c.args.into.now) (waiting_units_within (limit_of c.self.inside.limits) c.self.inside.settings (g.N.Noted.noted c.self.inside.journal) c.args.map) c.units.result c.nothing_taken.result (rw c.in_default.is at c.oldest_unit.ensures.unit (limit_of c.self.inside.limits) c.self.inside.settings (g.N.Noted.noted c.self.inside.journal) c.self.invariant.rooms) (c.units.ensures.count (limit_of c.self.inside.limits) c.self.inside.settings (g.N.Noted.noted c.self.inside.journal) c.self.invariant.rooms) c.nothing_taken.ensures)).empty
+
+pub returns-in_default-copy_to_front-clause-empty : goal.returns-in_default-copy_to_front-clause-empty
+returns-in_default-copy_to_front-clause-empty g c = rw (← c.self.view_is) (of-unit (length c.args.into.now) _ _ _ refl (says-over (length c.args.into.now) (waiting_units_within (limit_of c.self.inside.limits) c.self.inside.settings (g.N.Noted.noted c.self.inside.journal) c.args.map) c.in-Some.unit.now (rw c.in-Some.is at c.oldest_unit.ensures.unit (limit_of c.self.inside.limits) c.self.inside.settings (g.N.Noted.noted c.self.inside.journal) c.self.invariant.rooms) c.in_default-copy_to_front.ensures.over)).empty
 
 pub returns-clause-empty : goal.returns-clause-empty
-returns-clause-empty g c =
-    let w : waiting_units_within (limit_of c.args.self.now.limits) c.args.self.now.settings c.args.self.now.journal c.args.map ≡ items_for c.args.map (rings_in (boxed_slice_items c.self.inside.units)) = rw (← c.self.view_is) (units-wait c.args.map c.self.invariant.holds) in
-    rw w (grind (arith, common_steps))
+returns-clause-empty g c = rw (← c.self.view_is) (unit-taken (length c.args.into.now) _ _ (says-taken (length c.args.into.now) (waiting_units_within (limit_of c.self.inside.limits) c.self.inside.settings (g.N.Noted.noted c.self.inside.journal) c.args.map) c.in-Some.unit.now c.in-Some-copy_to_front.count (rw c.in-Some.is at c.oldest_unit.ensures.unit (limit_of c.self.inside.limits) c.self.inside.settings (g.N.Noted.noted c.self.inside.journal) c.self.invariant.rooms) c.in-Some-copy_to_front.ensures.fits)).empty
+
+pub returns-in_default-clause-no_room : goal.returns-in_default-clause-no_room
+returns-in_default-clause-no_room g c = rw (← c.self.view_is) (of-unit (length c.args.into.now) _ _ _ c.into.ensures (says-nothing (length c.args.into.now) (waiting_units_within (limit_of c.self.inside.limits) c.self.inside.settings (g.N.Noted.noted c.self.inside.journal) c.args.map) c.units.result c.nothing_taken.result (rw c.in_default.is at c.oldest_unit.ensures.unit (limit_of c.self.inside.limits) c.self.inside.settings (g.N.Noted.noted c.self.inside.journal) c.self.invariant.rooms) (c.units.ensures.count (limit_of c.self.inside.limits) c.self.inside.settings (g.N.Noted.noted c.self.inside.journal) c.self.invariant.rooms) c.nothing_taken.ensures)).no_room
+
+pub returns-in_default-copy_to_front-clause-no_room : goal.returns-in_default-copy_to_front-clause-no_room
+returns-in_default-copy_to_front-clause-no_room g c = rw (← c.self.view_is) (of-unit (length c.args.into.now) _ _ _ refl (says-over (length c.args.into.now) (waiting_units_within (limit_of c.self.inside.limits) c.self.inside.settings (g.N.Noted.noted c.self.inside.journal) c.args.map) c.in-Some.unit.now (rw c.in-Some.is at c.oldest_unit.ensures.unit (limit_of c.self.inside.limits) c.self.inside.settings (g.N.Noted.noted c.self.inside.journal) c.self.invariant.rooms) c.in_default-copy_to_front.ensures.over)).no_room
 
 pub returns-clause-no_room : goal.returns-clause-no_room
-returns-clause-no_room g c =
-    let w : waiting_units_within (limit_of c.args.self.now.limits) c.args.self.now.settings c.args.self.now.journal c.args.map ≡ items_for c.args.map (rings_in (boxed_slice_items c.self.inside.units)) = rw (← c.self.view_is) (units-wait c.args.map c.self.invariant.holds) in
-    rw w (grind (arith, common_steps))
-
-pub returns-clause-reply : goal.returns-clause-reply
-returns-clause-reply g c =
-    let w : waiting_units_within (limit_of c.args.self.now.limits) c.args.self.now.settings c.args.self.now.journal c.args.map ≡ items_for c.args.map (rings_in (boxed_slice_items c.self.inside.units)) = rw (← c.self.view_is) (units-wait c.args.map c.self.invariant.holds) in
-    rw w (grind (arith, common_steps))
+returns-clause-no_room g c = rw (← c.self.view_is) (unit-taken (length c.args.into.now) _ _ (says-taken (length c.args.into.now) (waiting_units_within (limit_of c.self.inside.limits) c.self.inside.settings (g.N.Noted.noted c.self.inside.journal) c.args.map) c.in-Some.unit.now c.in-Some-copy_to_front.count (rw c.in-Some.is at c.oldest_unit.ensures.unit (limit_of c.self.inside.limits) c.self.inside.settings (g.N.Noted.noted c.self.inside.journal) c.self.invariant.rooms) c.in-Some-copy_to_front.ensures.fits)).no_room

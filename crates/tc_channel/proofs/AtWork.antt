@@ -1,0 +1,171 @@
+-- What a channel works with, over what rooms add to it.
+use Rattle.std.proofs.Common.{◌≡◌, ℕ, ◌<◌, Bool, true, false, cond, eqb, List, [], ◌∷◌, ◌++◌, length, drop, Option, Some, None, refl, sym, ap, subst, ◌∙◌, arith}
+use Rattle.std.specs.Prelude.{slice_get, IsSome, OnErr, option_map, Result, Ok, Err}
+use Rattle.tc_packet.specs.Reassembly.{at_most, run_left, run_at, place_of}
+use Rattle.circular_buffer.specs.Buffer.{buffer}
+use Rattle.tc_rooms.specs.Runs.{Store, open_runs, limit_at}
+use Rattle.tc_channel.specs.declared.settings.Settings.{Settings}
+use Rattle.tc_channel.specs.declared.event.Event.{Event}
+use Rattle.tc_channel.specs.declared.event.Event.TheVariants.{Take, TakeUnit}
+use Rattle.tc_channel.specs.Channel.{AreRuns}
+use Rattle.tc_channel.specs.HeldQueues.{HeldQueue, queue_for, oldest_for, popped, shorter}
+use Rattle.tc_channel.specs.Keyed.{Keyed, rings_in, room_sizes, AreSettled}
+use Rattle.tc_channel.specs.Reply.{take_reply_within, unit_reply_within}
+use Rattle.tc_channel.specs.Run.{first_of}
+use Rattle.tc_packet.specs.declared.Service.{Service}
+use Rattle.tc_packet.specs.declared.Service.TheVariants.{Ad, Bd}
+use Rattle.tc_channel.specs.ChannelState.{no_limits}
+use Rattle.tc_channel.specs.Workings.{AreEnough, HaveLimits, Parts, HoldsInRooms, AreWorkings}
+use Rattle.tc_channel.proofs.Sizes.{enough-after, limits-after, small-after}
+use Rattle.tc_channel.proofs.Takes.{oldest, packets-wait, units-wait, take-keeps, take-unit-keeps}
+
+nothing-left : (segmented : Bool) → run_left segmented [] ≡ None
+nothing-left true = refl
+nothing-left false = refl
+
+-- no run is open at first
+pub none-open : (limits : ℕ → ℕ) (store : Store) (segmented : Bool) → store.segmented ≡ segmented → ((place : ℕ) → run_at (open_runs store).runs place ≡ None) → AreRuns limits (open_runs store) segmented []
+none-open limits store segmented is none = record { segmented = is; runs = λ service map_id small. ap (at_most (limits map_id)) (nothing-left store.segmented) ∙ sym (none (place_of service map_id)) }
+
+-- without limits by MAP each stream has the largest
+pub without-limits : (store : Store) → ((place : ℕ) → place < 128 → limit_at store place ≡ 65542) → HaveLimits no_limits store
+unfolding no_limits
+without-limits store are = λ service map_id inside. are (place_of service map_id) (below service map_id inside) where
+  below : (service : Service) (map_id : ℕ) → map_id < 64 → place_of service map_id < 128
+  below Ad map_id inside = omega arith
+  below Bd map_id inside = omega arith
+
+-- the oldest field, where there is one
+pub first-is : (xs : List (List ℕ)) (x : List ℕ) → Some x ≡ slice_get xs 0 → (x ≡ first_of xs) × (0 < length xs)
+first-is [] x is = absurd cc
+first-is (y ∷ ys) x is = (let e : x ≡ y = cc in e, omega arith)
+
+some-item : (o : Option (List ℕ)) → IsSome o → (item : List ℕ) × (o ≡ Some item)
+some-item None some = absurd cc
+some-item (Some item) some = (item, refl)
+
+pub some-mapped : {A B : Type 0} (f : A → B) (o : Option A) (p : Option B) → option_map f o ≡ p → IsSome o → IsSome p
+some-mapped f None p is some = absurd cc
+some-mapped f (Some x) p is some = subst IsSome is refl
+
+pub on-err : {T E : Type 0} (r : Result T E) (P : Type 0) → P → OnErr r P
+on-err (Ok x) P p = tt
+on-err (Err e) P p = p
+
+-- the reply to a take, by the queues
+pub packet-is : {limits : ℕ → ℕ} {s : Settings} {journal : List Event} {parts : Parts} (apid : ℕ) → HoldsInRooms limits s journal parts → take_reply_within limits s journal apid ≡ oldest_for apid (rings_in parts.queues)
+packet-is apid k = ap oldest (packets-wait apid k.holds)
+
+pub unit-is : {limits : ℕ → ℕ} {s : Settings} {journal : List Event} {parts : Parts} (map_id : ℕ) → HoldsInRooms limits s journal parts → unit_reply_within limits s journal map_id ≡ oldest_for map_id (rings_in parts.units)
+unit-is map_id k = ap oldest (units-wait map_id k.holds)
+
+-- the oldest packet was taken, and its room is free
+pub packet-taken : {limits : ℕ → ℕ} {s : Settings} {journal : List Event} {parts : Parts} (later : List Keyed) (apid : ℕ)
+    → HoldsInRooms limits s journal parts → IsSome (oldest_for apid (rings_in parts.queues)) → rings_in later ≡ popped apid (rings_in parts.queues)
+    → room_sizes later ≡ room_sizes parts.queues → (AreSettled parts.queues → AreSettled later) → HoldsInRooms limits s (journal ++ Take apid ∷ []) (record parts { queues = later })
+packet-taken {limits} {s} {journal} {parts} later apid k has is same still =
+    let item = some-item (oldest_for apid (rings_in parts.queues)) has in
+    record {
+      holds = take-keeps (rings_in later) apid item.0 k.holds item.1 is;
+      field_size = k.field_size;
+      fields_settled = k.fields_settled;
+      settled = still k.settled;
+      units_settled = k.units_settled;
+      limits_are = k.limits_are;
+      small = k.small;
+      sizes = subst (AreEnough parts.store) (sym same) k.sizes;
+      unit_sizes = k.unit_sizes;
+    }
+
+-- the oldest unit was taken
+pub unit-taken : {limits : ℕ → ℕ} {s : Settings} {journal : List Event} {parts : Parts} (later : List Keyed) (map_id : ℕ)
+    → HoldsInRooms limits s journal parts → IsSome (oldest_for map_id (rings_in parts.units)) → rings_in later ≡ popped map_id (rings_in parts.units)
+    → room_sizes later ≡ room_sizes parts.units → (AreSettled parts.units → AreSettled later) → HoldsInRooms limits s (journal ++ TakeUnit map_id ∷ []) (record parts { units = later })
+unit-taken {limits} {s} {journal} {parts} later map_id k has is same still =
+    let item = some-item (oldest_for map_id (rings_in parts.units)) has in
+    record {
+      holds = take-unit-keeps (rings_in later) map_id item.0 k.holds item.1 is;
+      field_size = k.field_size;
+      fields_settled = k.fields_settled;
+      settled = k.settled;
+      units_settled = still k.units_settled;
+      limits_are = k.limits_are;
+      small = k.small;
+      sizes = k.sizes;
+      unit_sizes = subst (AreEnough parts.store) (sym same) k.unit_sizes;
+    }
+
+-- where no item waits, none is dropped
+nothing-shorter : (w : HeldQueue) → slice_get w.ring.items 0 ≡ None → shorter w ≡ w
+nothing-shorter w none = by w.ring.items refl none where
+  by : (items : List (List ℕ)) → w.ring.items ≡ items → slice_get items 0 ≡ None → shorter w ≡ w
+  by [] is none = (let e : drop 1 w.ring.items ≡ w.ring.items = rw is refl in ap (λ (x : List (List ℕ)). record w { ring = buffer x w.ring.capacity }) e)
+  by (x ∷ xs) is none = absurd cc
+
+popped-none : (key : ℕ) (ws : List HeldQueue) → oldest_for key ws ≡ None → popped key ws ≡ ws
+popped-none key [] none = refl
+popped-none key (w ∷ ws) none = by (eqb w.key key) (λ e. popped-none key ws e) none where
+  by : (t : Bool) → (oldest_for key ws ≡ None → popped key ws ≡ ws) → oldest (option_map (λ (q : HeldQueue). q.ring.items) (cond t (Some w) (queue_for key ws))) ≡ None → cond t (shorter w ∷ ws) (w ∷ popped key ws) ≡ w ∷ ws
+  by true rest e = ap (λ (x : HeldQueue). x ∷ ws) (nothing-shorter w e)
+  by false rest e = ap (λ (x : List HeldQueue). w ∷ x) (rest e)
+
+same-queues : {limits : ℕ → ℕ} {s : Settings} {journal : List Event} {parts : Parts} (later : List Keyed)
+    → HoldsInRooms limits s journal parts → rings_in later ≡ rings_in parts.queues → room_sizes later ≡ room_sizes parts.queues → (AreSettled parts.queues → AreSettled later) → HoldsInRooms limits s journal (record parts { queues = later })
+same-queues {limits} {s} {journal} {parts} later k is same still = record {
+  holds = rw is k.holds;
+  field_size = k.field_size;
+  fields_settled = k.fields_settled;
+  settled = still k.settled;
+  units_settled = k.units_settled;
+  limits_are = k.limits_are;
+  small = k.small;
+  sizes = subst (AreEnough parts.store) (sym same) k.sizes;
+  unit_sizes = k.unit_sizes;
+}
+
+same-units : {limits : ℕ → ℕ} {s : Settings} {journal : List Event} {parts : Parts} (later : List Keyed)
+    → HoldsInRooms limits s journal parts → rings_in later ≡ rings_in parts.units → room_sizes later ≡ room_sizes parts.units → (AreSettled parts.units → AreSettled later) → HoldsInRooms limits s journal (record parts { units = later })
+same-units {limits} {s} {journal} {parts} later k is same still = record {
+  holds = rw is k.holds;
+  field_size = k.field_size;
+  fields_settled = k.fields_settled;
+  settled = k.settled;
+  units_settled = still k.units_settled;
+  limits_are = k.limits_are;
+  small = k.small;
+  sizes = k.sizes;
+  unit_sizes = subst (AreEnough parts.store) (sym same) k.unit_sizes;
+}
+
+-- with the oldest packet taken, if one waited, they are the workings of some channel
+pub queues-work : (parts : Parts) (later : List Keyed) (apid : ℕ) → AreWorkings parts → rings_in later ≡ popped apid (rings_in parts.queues)
+    → room_sizes later ≡ room_sizes parts.queues → (AreSettled parts.queues → AreSettled later) → AreWorkings (record parts { queues = later })
+queues-work parts later apid w is same still = by (oldest_for apid (rings_in parts.queues)) refl where
+  by : (o : Option (List ℕ)) → oldest_for apid (rings_in parts.queues) ≡ o → AreWorkings (record parts { queues = later })
+  by None none = (w.0, w.1, w.2, same-queues later w.3 (is ∙ popped-none apid (rings_in parts.queues) none) same still)
+  by (Some item) some = (w.0, w.1, w.2 ++ Take apid ∷ [], packet-taken later apid w.3 (rw some refl) is same still)
+
+-- the same of the oldest unit
+pub units-work : (parts : Parts) (later : List Keyed) (map_id : ℕ) → AreWorkings parts → rings_in later ≡ popped map_id (rings_in parts.units)
+    → room_sizes later ≡ room_sizes parts.units → (AreSettled parts.units → AreSettled later) → AreWorkings (record parts { units = later })
+units-work parts later map_id w is same still = by (oldest_for map_id (rings_in parts.units)) refl where
+  by : (o : Option (List ℕ)) → oldest_for map_id (rings_in parts.units) ≡ o → AreWorkings (record parts { units = later })
+  by None none = (w.0, w.1, w.2, same-units later w.3 (is ∙ popped-none map_id (rings_in parts.units) none) same still)
+  by (Some item) some = (w.0, w.1, w.2 ++ TakeUnit map_id ∷ [], unit-taken later map_id w.3 (rw some refl) is same still)
+
+-- a call that was refused leaves them as they were but for what doesn't count
+pub still-holds : {limits : ℕ → ℕ} {s : Settings} {journal : List Event} {parts : Parts} (store : Store) (queues units : List Keyed)
+    → HoldsInRooms limits s journal parts → open_runs store ≡ open_runs parts.store → rings_in queues ≡ rings_in parts.queues → rings_in units ≡ rings_in parts.units
+    → ((place : ℕ) → limit_at store place ≡ limit_at parts.store place) → store.segmented ≡ parts.store.segmented → room_sizes queues ≡ room_sizes parts.queues → room_sizes units ≡ room_sizes parts.units
+    → AreSettled queues → AreSettled units → HoldsInRooms limits s journal (record parts { store = store; queues = queues; units = units })
+still-holds {limits} {s} {journal} {parts} store queues units k runs_are queues_are units_are limits_are segmented sizes unit_sizes settled units_settled = record {
+  holds = rw (runs_are, queues_are, units_are) k.holds;
+  field_size = k.field_size;
+  fields_settled = k.fields_settled;
+  settled = settled;
+  units_settled = units_settled;
+  limits_are = limits-after limits parts.store store limits_are k.limits_are;
+  small = small-after parts.store store limits_are k.small;
+  sizes = enough-after parts.store store (room_sizes parts.queues) (room_sizes queues) segmented limits_are sizes k.sizes;
+  unit_sizes = enough-after parts.store store (room_sizes parts.units) (room_sizes units) segmented limits_are unit_sizes k.unit_sizes;
+}

@@ -1,0 +1,135 @@
+-- Steps that are taken.
+use Rattle.std.proofs.Common.{◌≡◌, ℕ, zero, suc, ◌+◌, ◌*◌, ◌≤◌, List, [], ◌∷◌, ◌++◌, length, Option, Some, None, Bool, true, false, cond, refl, sym, ap, ◌∙◌, arith}
+use Rattle.std.specs.Prelude.{nat_lt}
+use Rattle.std.proofs.Math.Nat.{suc-mul}
+use Rattle.std.proofs.lemmas.Bool.Decides.{nat_tests}
+use Rattle.std.specs.List.{AllByRecursion}
+use Rattle.std.proofs.lemmas.List.{length-append, length-map}
+use Rattle.tc_packet.specs.SpacePacket.{IsPacket, joined, packets_of, rest_of}
+use Rattle.tc_packet.proofs.Cuts.{is-cut}
+use Rattle.tc_rooms.specs.Runs.{IsAtMost}
+use Rattle.tc_channel.specs.HeldQueues.{keys_of}
+use Rattle.tc_channel.specs.Keyed.{Keyed, ring_in, rings_in}
+use Rattle.tc_channel.specs.Places.{IsTabled}
+use Rattle.tc_channel.specs.Steps.{looks, most_looks, most_steps, packet_count, pass_steps, unit_steps}
+use Rattle.tc_channel.proofs.Tables.{keys-length}
+
+-- as many queues, as many looks
+pub looks-same : (a b : List Keyed) (table : List ℕ) → length a ≡ length b → looks a table ≡ looks b table
+looks-same a b [] same = same
+looks-same a b (t ∷ table) same = refl
+
+pub same-count : (a b : List Keyed) → keys_of (rings_in a) ≡ keys_of (rings_in b) → length a ≡ length b
+same-count a b same = sym (keys-length a) ∙ ap length same ∙ keys-length b
+
+pub rings-count : (a b : List Keyed) → rings_in a ≡ rings_in b → length a ≡ length b
+rings-count a b same = sym (length-map a ring_in) ∙ ap length same ∙ length-map b ring_in
+
+-- one more packet
+pub pass-step : (n k : ℕ) → pass_steps (suc n) k ≡ pass_steps n k + (k + 1)
+pass-step n k = suc-mul n (k + 1)
+
+pub cut-one : (before total s rest more one tick here after : ℕ) → rest ≡ more + (one + 1) → s + rest ≤ before + total → tick ≡ s + 1 → after ≤ tick + here → here ≡ one → after + more ≤ before + total
+cut-one before total s rest more one tick here after rest_is so_far tick_is cost same = omega arith
+
+pub cut-last : (before total s rest more one tick here after : ℕ) → rest ≡ more + (one + 1) → s + rest ≤ before + total → tick ≡ s + 1 → after ≤ tick + here → here ≡ one → after ≤ before + total
+cut-last before total s rest more one tick here after rest_is so_far tick_is cost same = omega arith
+
+-- more looks, more steps
+pass-more : (n a b : ℕ) → a ≤ b → pass_steps n a ≤ pass_steps n b
+pass-more zero a b le = omega arith
+pass-more (suc n) a b le =
+    let l = pass-step n a in
+    let r = pass-step n b in
+    let rest = pass-more n a b le in
+    rw (l, r) (sum-more (pass_steps n a) (pass_steps n b) a b rest le)
+  where
+    sum-more : (x y a b : ℕ) → x ≤ y → a ≤ b → x + (a + 1) ≤ y + (b + 1)
+    sum-more x y a b le le' = omega arith
+
+pub unit-more : (n a b m o : ℕ) → a ≤ b → m ≤ o → unit_steps n a m ≤ unit_steps n b o
+unit-more n a b m o le le' = sum-more (pass_steps n a) (pass_steps n b) a b m o (pass-more n a b le) le le' where
+  sum-more : (x y a b m o : ℕ) → x ≤ y → a ≤ b → m ≤ o → m + (x + (x + a)) ≤ o + (y + (y + b))
+  sum-more x y a b m o h i j = omega arith
+
+-- with a table where it pays one queue is looked at
+pub looks-most : (qs : List Keyed) (table : List ℕ) → IsTabled (keys_of (rings_in qs)) table → looks qs table ≤ most_looks (length qs)
+looks-most qs [] k = by (nat_lt (length qs) 64) (nat_lt 65535 (length qs)) refl refl where
+  by : (s t : Bool) → nat_lt (length qs) 64 ≡ s → nat_lt 65535 (length qs) ≡ t → length qs ≤ cond s (length qs) (cond t (length qs) 1)
+  by true t e f = omega arith
+  by false true e f = omega arith
+  by false false e f =
+      let count = keys-length qs in
+      let least : 64 ≤ length qs = grind (arith, nat_tests) in
+      let most : length qs ≤ 65535 = grind (arith, nat_tests) in
+      absurd (k.many (omega arith) (omega arith) refl)
+looks-most qs (t ∷ table) k =
+    let count = keys-length qs in
+    let least = k.few (λ e. absurd (omega arith)) in
+    by (nat_lt (length qs) 64) (nat_lt 65535 (length qs)) (omega arith)
+  where
+    by : (s t : Bool) → 64 ≤ length qs → 1 ≤ cond s (length qs) (cond t (length qs) 1)
+    by true t le = omega arith
+    by false true le = omega arith
+    by false false le = omega arith
+
+pub cost-more : (before after a b : ℕ) → a ≤ b → after ≤ before + a → after ≤ before + b
+cost-more before after a b le cost = omega arith
+
+pub cost-more-err : (before after a b n : ℕ) → a ≤ b → after ≤ before + (a + n) → after ≤ before + (b + n)
+cost-more-err before after a b n le cost = omega arith
+
+-- a packet has seven octets at least
+few-joined : (ps : List (List ℕ)) → AllByRecursion IsPacket ps → length ps * 7 ≤ length (joined ps)
+few-joined [] all = omega arith
+few-joined (p ∷ ps) all =
+    let least = all.0.least in
+    let rest = few-joined ps all.1 in
+    let more = suc-mul (length ps) 7 in
+    omega (arith, length-append p (joined ps))
+
+few-packets : (unit : List ℕ) → length unit ≤ 65542 → length (packets_of unit) ≤ 9363
+few-packets unit within =
+    let cut = is-cut (length unit) unit (omega arith) in
+    let few = few-joined (packets_of unit) cut.each in
+    let long : length unit ≡ length (joined (packets_of unit) ++ rest_of unit) = ap length cut.parts in
+    omega (arith, length-append (joined (packets_of unit)) (rest_of unit))
+
+-- more packets, more steps
+packets-more : (n m k : ℕ) → n ≤ m → pass_steps n k ≤ pass_steps m k
+packets-more zero m k le = omega arith
+packets-more (suc n) zero k le = absurd (omega arith)
+packets-more (suc n) (suc m) k le =
+    let l = pass-step n k in
+    let r = pass-step m k in
+    let rest = packets-more n m k (omega arith) in
+    rw (l, r) (sum (pass_steps n k) (pass_steps m k) rest)
+  where
+    sum : (x y : ℕ) → x ≤ y → x + (k + 1) ≤ y + (k + 1)
+    sum x y le = omega arith
+
+-- no unit takes more than the one with the most packets
+few-steps : (n q u : ℕ) → n ≤ 9363 → unit_steps n q u ≤ unit_steps 9363 q u
+few-steps n q u le = sum (pass_steps n q) (pass_steps 9363 q) (packets-more n 9363 q le) where
+  sum : (x y : ℕ) → x ≤ y → u + (x + (x + q)) ≤ u + (y + (y + q))
+  sum x y h = omega arith
+
+few-of : (o : Option (List ℕ)) → IsAtMost 65542 o → packet_count o ≤ 9363
+few-of None within = omega arith
+few-of (Some unit) within = few-packets unit within
+
+pub at-most : (o : Option (List ℕ)) (queues units before after : ℕ) → IsAtMost 65542 o → after ≤ before + unit_steps (packet_count o) (most_looks queues) (most_looks units) → after ≤ before + most_steps queues units
+at-most o queues units before after within cost =
+    let few = few-steps (packet_count o) (most_looks queues) (most_looks units) (few-of o within) in
+    sum (unit_steps (packet_count o) (most_looks queues) (most_looks units)) (unit_steps 9363 (most_looks queues) (most_looks units)) few cost
+  where
+    sum : (x y : ℕ) → x ≤ y → after ≤ before + x → after ≤ before + (y + queues)
+    sum x y h c = omega arith
+
+pub at-most-err : (o : Option (List ℕ)) (queues units before after : ℕ) → IsAtMost 65542 o → after ≤ before + (unit_steps (packet_count o) (most_looks queues) (most_looks units) + queues) → after ≤ before + most_steps queues units
+at-most-err o queues units before after within cost =
+    let few = few-steps (packet_count o) (most_looks queues) (most_looks units) (few-of o within) in
+    sum (unit_steps (packet_count o) (most_looks queues) (most_looks units)) (unit_steps 9363 (most_looks queues) (most_looks units)) few cost
+  where
+    sum : (x y : ℕ) → x ≤ y → after ≤ before + (x + queues) → after ≤ before + (y + queues)
+    sum x y h c = omega arith

@@ -1,0 +1,55 @@
+-- Octets that fit rooms.
+use Rattle.std.proofs.Common.{◌≡◌, ℕ, zero, suc, ◌≤◌, ◌<◌, Bool, true, false, Option, Some, None, List, [], ◌∷◌, length, replicate, refl, sym, subst, ◌∙◌, arith}
+use Rattle.std.specs.Prelude.{min}
+use Rattle.std.specs.List.{AllByRecursion}
+use Rattle.tc_packet.specs.declared.Service.{Service}
+use Rattle.tc_packet.specs.declared.Service.TheVariants.{Ad, Bd}
+use Rattle.tc_packet.specs.Reassembly.{stream_place}
+use Rattle.tc_rooms.specs.Runs.{IsAtMost, Store, limit_at}
+use Rattle.tc_channel.specs.Memory.{largest_item}
+use Rattle.tc_channel.specs.Keyed.{Fit, FitsIn}
+use Rattle.tc_channel.specs.Workings.{AreEnough, AreSmall, HaveLimits}
+
+-- octets that are no more than the least room
+pub fit-enough : (octets : List ℕ) (least : ℕ) (sizes : List ℕ) → AllByRecursion (λ (n : ℕ). least ≤ n) sizes → length octets ≤ least → Fit octets sizes
+fit-enough octets least [] all le = tt
+fit-enough octets least (m ∷ sizes) all le = (let e = all.0 in omega arith, fit-enough octets least sizes all.1 le)
+
+all-least : (least size count : ℕ) → least ≤ size → AllByRecursion (λ (n : ℕ). least ≤ n) (replicate count size)
+all-least least size zero le = tt
+all-least least size (suc count) le = (le, all-least least size count le)
+
+-- a stream has its place
+pub place-below : (service : Service) (field : List ℕ) → stream_place service field < 128
+place-below Ad field = omega arith
+place-below Bd field = omega arith
+
+-- a unit within the limit of its stream, and on a plain channel no longer than its field, fits rooms that are enough
+pub fits-unit : (store : Store) (place : ℕ) (field : List ℕ) (o : Option (List ℕ)) (sizes : List ℕ) → place < 128 → AreSmall store → AreEnough store sizes → length field ≤ 1019
+    → IsAtMost (limit_at store place) o → (store.segmented ≡ false → IsAtMost (length field) o) → FitsIn sizes o
+fits-unit store place field None sizes inside small enough short within shorter = tt
+fits-unit store place field (Some octets) sizes inside small enough short within shorter =
+    fit-enough octets (min (limit_at store place) (largest_item store.segmented)) sizes (enough place inside) (let i = item store.segmented refl in omega arith)
+  where
+    item : (segmented : Bool) → store.segmented ≡ segmented → length octets ≤ largest_item store.segmented
+    item true on = rw on (let s = small place inside in omega (arith, within))
+    item false off = rw off (let s = shorter off in omega (arith, short))
+
+-- a unit within the limit of its stream is within the largest unit
+pub within-all : (store : Store) (place : ℕ) (o : Option (List ℕ)) → place < 128 → AreSmall store → IsAtMost (limit_at store place) o → IsAtMost 65542 o
+within-all store place None inside small within = tt
+within-all store place (Some octets) inside small within = let s = small place inside in omega (arith, within)
+
+-- rooms of one size are enough where no limit is more
+pub enough-at-start : (store : Store) (size count : ℕ) (sizes : List ℕ) → sizes ≡ replicate count size → ((place : ℕ) → place < 128 → min (limit_at store place) (largest_item store.segmented) ≤ size) → AreEnough store sizes
+enough-at-start store size count sizes are fits = λ place inside. subst (λ (x : List ℕ). AllByRecursion (λ (n : ℕ). min (limit_at store place) (largest_item store.segmented) ≤ n) x) (sym are) (all-least (min (limit_at store place) (largest_item store.segmented)) size count (fits place inside))
+
+-- what is said of rooms goes on where neither they nor the limits change
+pub enough-after : (old new : Store) (sizes later : List ℕ) → new.segmented ≡ old.segmented → ((place : ℕ) → limit_at new place ≡ limit_at old place) → later ≡ sizes → AreEnough old sizes → AreEnough new later
+enough-after old new sizes later segmented limits same enough = λ place inside. rw (same, limits place, segmented) (enough place inside)
+
+pub small-after : (old new : Store) → ((place : ℕ) → limit_at new place ≡ limit_at old place) → AreSmall old → AreSmall new
+small-after old new limits small = λ place inside. let e = limits place in let s = small place inside in omega arith
+
+pub limits-after : (limits : ℕ → ℕ) (old new : Store) → ((place : ℕ) → limit_at new place ≡ limit_at old place) → HaveLimits limits old → HaveLimits limits new
+limits-after limits old new same have = λ service map_id inside. same _ ∙ have service map_id inside

@@ -1,0 +1,185 @@
+-- Packets that go into their queues one after the other.
+use Rattle.std.proofs.Common.{◌≡◌, ◌≢◌, ℕ, zero, suc, ◌+◌, ◌-◌, ◌<◌, ◌≤◌, Bool, true, false, cond, eqb, List, [], ◌∷◌, ◌++◌, length, map, drop, get_or, Some, None, refl, sym, ap, subst, ◌∙◌, arith}
+use Rattle.std.specs.Prelude.{is_some}
+use Rattle.std.specs.List.{AllByRecursion}
+use Rattle.std.proofs.Math.ListN.{set}
+use Rattle.std.proofs.lemmas.Bool.{eq-eqb, ne_eqb}
+use Rattle.std.proofs.lemmas.List.{length-append, length-map, get_or-map, get_or_default}
+use Rattle.tc_packet.specs.SpacePacket.{packets_of, joined}
+use Rattle.tc_channel.specs.Admission.{is_for, is_of_map}
+use Rattle.tc_channel.specs.Reply.{delivered}
+use Rattle.tc_channel.specs.HeldQueues.{keys_of, AreDistinct, room_in, share, put, copied_to, copies_from, queue_for, placed, HeldQueue}
+use Rattle.tc_channel.specs.declared.reply.Delivery.{Delivery}
+use Rattle.tc_channel.proofs.Copies.{copies-none, put_all-push, length-put_all}
+use Rattle.tc_channel.proofs.Passes.{NoneFor, under-way, none-on, full-on, copy-on, as-many, all-shared, none-shares}
+use Rattle.tc_channel.proofs.Wholes.{take-nil, takes-one, takes-none}
+use Rattle.tc_channel.specs.Delivering.{room_at, IsOnItsWay, ArePut, IsPutWhole, IsDelivered}
+
+pub keys-put : (ws : List HeldQueue) (i : ℕ) (p : List ℕ) → keys_of (put ws i p) ≡ keys_of ws
+keys-put [] i p = refl
+keys-put (w ∷ ws) zero p = refl
+keys-put (w ∷ ws) (suc i) p = ap (λ (x : List ℕ). w.key ∷ x) (keys-put ws i p)
+
+-- before the first packet
+pub at-start : (base now : List HeldQueue) (all : List (List ℕ)) → now ≡ base → IsOnItsWay base all all 0 now
+at-start base now all is = record { made = []; free = map room_in base; way = under-way base all [] (map room_in base) refl refl; now_is = is; count = refl }
+
+-- no queue takes the packet
+pub way-none : (base now : List HeldQueue) (p : List ℕ) (left all : List (List ℕ)) (n : ℕ) → NoneFor p (keys_of now) → IsOnItsWay base (p ∷ left) all n now → IsOnItsWay base left all (n + 0) now
+way-none base now p left all n none k =
+    let keys : keys_of now ≡ keys_of base = ap keys_of k.now_is ∙ k.way.keys in
+    let count = k.count in
+    record { made = k.made; free = k.free; way = none-on base p left all k.made k.free (subst (λ (x : List ℕ). NoneFor p x) keys none) k.way; now_is = k.now_is; count = omega arith }
+
+-- the packet's queue is full
+pub way-full : (base now : List HeldQueue) (p : List ℕ) (left all : List (List ℕ)) (n i a : ℕ) → AreDistinct (keys_of now) → i < length now → a ≡ get_or (keys_of now) i a → is_for a p ≡ true → room_at i now ≡ 0
+    → IsOnItsWay base (p ∷ left) all n now → IsOnItsWay base left all (n + 0) now
+way-full base now p left all n i a distinct inside is for_it none k =
+    let keys : keys_of now ≡ keys_of base = ap keys_of k.now_is ∙ k.way.keys in
+    let long : length now ≡ length base = ap length k.now_is ∙ length-put_all base k.made in
+    let rooms : map room_in now ≡ k.free = ap (map room_in) k.now_is ∙ sym k.way.rooms in
+    let count = k.count in
+    let is_base : a ≡ get_or (keys_of base) i a = subst (λ (x : List ℕ). a ≡ get_or x i a) keys is in
+    let free_is : 0 ≡ get_or k.free i 0 = sym none ∙ ap (λ (x : List ℕ). get_or x i 0) rooms in
+    record { made = k.made; free = k.free; way = full-on base p left all k.made k.free i a 0 (subst AreDistinct keys distinct) (omega arith) is_base for_it free_is refl k.way; now_is = k.now_is; count = omega arith }
+
+-- the packet goes in
+pub way-put : (base now later : List HeldQueue) (p : List ℕ) (left all : List (List ℕ)) (n i a : ℕ) → AreDistinct (keys_of now) → i < length now → a ≡ get_or (keys_of now) i a → is_for a p ≡ true → 0 < room_at i now
+    → later ≡ put now i p → IsOnItsWay base (p ∷ left) all n now → IsOnItsWay base left all (n + 1) later
+way-put base now later p left all n i a distinct inside is for_it some put_is k =
+    let keys : keys_of now ≡ keys_of base = ap keys_of k.now_is ∙ k.way.keys in
+    let long : length now ≡ length base = ap length k.now_is ∙ length-put_all base k.made in
+    let rooms : map room_in now ≡ k.free = ap (map room_in) k.now_is ∙ sym k.way.rooms in
+    let count = k.count in
+    let is_base : a ≡ get_or (keys_of base) i a = subst (λ (x : List ℕ). a ≡ get_or x i a) keys is in
+    let many : length k.free ≡ length base = as-many base (p ∷ left) all k.made k.free k.way in
+    let r : ℕ = room_at i now in
+    let free_is : r ≡ get_or k.free i r = ap (λ (x : List ℕ). get_or x i 0) rooms ∙ get_or_default k.free i 0 r (omega arith) in
+    let more = length-append k.made (copied_to i p ∷ []) in
+    record {
+      made = k.made ++ copied_to i p ∷ [];
+      free = set k.free i (r - 1);
+      way = copy-on base p left all k.made k.free i a r (subst AreDistinct keys distinct) (omega arith) is_base for_it free_is some k.way;
+      now_is = put_is ∙ ap (λ (x : List HeldQueue). put x i p) k.now_is ∙ sym (put_all-push base k.made (copied_to i p));
+      count = omega arith;
+    }
+
+-- a key is told by its place
+key-at : (ws : List HeldQueue) (i : ℕ) (m : ℕ) (q : HeldQueue) → i < length ws → m ≡ get_or (keys_of ws) i m → q ≡ get_or ws i q → q.key ≡ m
+key-at ws i m q inside is q_is = ap (λ (x : HeldQueue). x.key) q_is ∙ sym (get_or-map (λ (x : HeldQueue). x.key) ws i q m inside) ∙ sym is
+
+pub apart-at : (b : ℕ) (xs : List ℕ) (i m : ℕ) → AllByRecursion (λ (x : ℕ). b ≢ x) xs → i < length xs → m ≡ get_or xs i m → b ≢ m
+apart-at b [] i m h inside is = absurd (omega arith)
+apart-at b (x ∷ xs) zero m h inside is = λ e. h.0 (e ∙ is)
+apart-at b (x ∷ xs) (suc i) m h inside is = apart-at b xs i m h.1 (omega arith) is
+
+-- only the queue of its MAP takes a unit
+skip : (m p i : ℕ) (u : List ℕ) (ws : List HeldQueue) → AreDistinct (keys_of ws) → i < length ws → m ≡ get_or (keys_of ws) i m
+    → copies_from (is_of_map m) p (u ∷ []) ws ≡ copies_from (is_of_map m) (p + i) (u ∷ []) (drop i ws)
+skip m p i u [] distinct inside is = absurd (omega arith)
+skip m p zero u (w ∷ ws) distinct inside is = ap (λ (n : ℕ). copies_from (is_of_map m) n (u ∷ []) (w ∷ ws)) (let e : p ≡ p + 0 = omega arith in e)
+skip m p (suc i) u (w ∷ ws) distinct inside is =
+    let other : w.key ≢ m = apart-at w.key (keys_of ws) i m distinct.0 (omega (arith, length-map ws (λ (q : HeldQueue). q.key))) is in
+    let none : share (is_of_map m) (u ∷ []) w ≡ [] = rw (ne_eqb w.key m other) (take-nil (w.ring.capacity - length w.ring.items)) in
+    rw none (skip m (p + 1) i u ws distinct.1 (omega arith) is ∙ ap (λ (n : ℕ). copies_from (is_of_map m) n (u ∷ []) (drop i ws)) (let e : p + 1 + i ≡ p + suc i = omega arith in e))
+
+-- the queue at a place
+at : (ws : List HeldQueue) (i : ℕ) → i < length ws → (q : HeldQueue) × (q ≡ get_or ws i q)
+at [] i inside = absurd (omega arith)
+at (w ∷ ws) zero inside = (w, refl)
+at (w ∷ ws) (suc i) inside = at ws i (omega arith)
+
+pub put-whole : (m i : ℕ) (u : List ℕ) (ws new : List HeldQueue) (d : Delivery) → AreDistinct (keys_of ws) → i < length ws → m ≡ get_or (keys_of ws) i m
+    → new ≡ put ws i u → 0 < room_at i ws → d ≡ delivered (Some u) true 1 → IsPutWhole m u ws new d
+put-whole m i u ws new d distinct inside is new_is room d_is =
+    let q : HeldQueue = (at ws i inside).0 in
+    let q_is : q ≡ get_or ws i q = (at ws i inside).1 in
+    let r : room_at i ws ≡ room_in q = get_or-map room_in ws i q 0 inside ∙ ap room_in (sym q_is) in
+    let some : 0 < q.ring.capacity - length q.ring.items = omega arith in
+    record {
+      made = Some (copied_to i u);
+      whole = sym (skip m 0 i u ws distinct inside is ∙ takes-one m (0 + i) i u ws q distinct inside q_is (key-at ws i m q inside is q_is) (omega arith) ∙ ap (λ (n : ℕ). copied_to n u ∷ []) (let e : 0 + i ≡ i = omega arith in e));
+      new_is = new_is;
+      delivery_is = d_is;
+    }
+
+pub put-none : (m i : ℕ) (u : List ℕ) (ws new : List HeldQueue) (d : Delivery) → AreDistinct (keys_of ws) → i < length ws → m ≡ get_or (keys_of ws) i m
+    → new ≡ ws → room_at i ws ≡ 0 → d ≡ delivered (Some u) true 0 → IsPutWhole m u ws new d
+put-none m i u ws new d distinct inside is new_is room d_is =
+    let q : HeldQueue = (at ws i inside).0 in
+    let q_is : q ≡ get_or ws i q = (at ws i inside).1 in
+    let r : room_at i ws ≡ room_in q = get_or-map room_in ws i q 0 inside ∙ ap room_in (sym q_is) in
+    let none : q.ring.capacity - length q.ring.items ≡ 0 = sym r ∙ room in
+    record {
+      made = None;
+      whole = sym (skip m 0 i u ws distinct inside is ∙ takes-none m (0 + i) i u ws q distinct inside q_is (key-at ws i m q inside is q_is) (omega arith));
+      new_is = new_is;
+      delivery_is = d_is;
+    }
+
+-- whether the MAP is chosen
+not-there : (m : ℕ) (ws : List HeldQueue) → AllByRecursion (λ (other : ℕ). m ≢ other) (keys_of ws) → is_some (queue_for m ws) ≡ false
+not-there m [] h = refl
+not-there m (w ∷ ws) h = rw (ne_eqb w.key m (λ e. h.0 (sym e))) (not-there m ws h.1)
+
+there : (m i : ℕ) (ws : List HeldQueue) → i < length ws → m ≡ get_or (keys_of ws) i m → is_some (queue_for m ws) ≡ true
+there m i [] inside is = absurd (omega arith)
+there m zero (w ∷ ws) inside is = rw (eq-eqb w.key m (sym is)) refl
+there m (suc i) (w ∷ ws) inside is = by (eqb w.key m) (there m i ws (omega arith) is) where
+  by : (t : Bool) → is_some (queue_for m ws) ≡ true → is_some (cond t (Some w) (queue_for m ws)) ≡ true
+  by true h = refl
+  by false h = h
+
+pub by-packets : (m : ℕ) (u : List ℕ) (queues later units : List HeldQueue) (d : Delivery) → AllByRecursion (λ (other : ℕ). m ≢ other) (keys_of units) → ArePut u queues later d → IsDelivered m (Some u) queues later units units d
+by-packets m u queues later units d none put =
+    let other = not-there m units none in
+    let e : length put.made + 0 ≡ length put.made = omega arith in
+    record {
+      made = put.made;
+      whole = None;
+      shares = rw other put.shares;
+      whole_is = rw other (sym (copies-none (is_of_map m) 0 units));
+      delivery_is = rw (other, e) put.delivery_is;
+      queues_are = put.new_is;
+      units_are = refl;
+    }
+
+pub by-unit : (m i : ℕ) (u : List ℕ) (queues units later : List HeldQueue) (d : Delivery) → i < length units → m ≡ get_or (keys_of units) i m → IsPutWhole m u units later d → IsDelivered m (Some u) queues queues units later d
+by-unit m i u queues units later d inside is put =
+    let chosen = there m i units inside is in
+    let e : 0 + length (placed put.made) ≡ length (placed put.made) = omega arith in
+    record {
+      made = [];
+      whole = put.made;
+      shares = rw chosen (none-shares queues [] refl);
+      whole_is = rw chosen put.whole;
+      delivery_is = rw (chosen, e) put.delivery_is;
+      queues_are = refl;
+      units_are = put.new_is;
+    }
+
+pub by-nothing : (m : ℕ) (queues units : List HeldQueue) → IsDelivered m None queues queues units units (record { queued = 0; dropped = 0; rest = false })
+by-nothing m queues units = record {
+  made = [];
+  whole = None;
+  shares = none-shares queues [] refl;
+  whole_is = sym (copies-none (is_of_map m) 0 units);
+  delivery_is = refl;
+  queues_are = refl;
+  units_are = refl;
+}
+
+-- after the last packet
+pub at-end : (unit : List ℕ) (base now : List HeldQueue) (left : List (List ℕ)) (n : ℕ) (d : Delivery) → left ≡ [] → IsOnItsWay base left (packets_of unit) n now → d ≡ delivered (Some unit) false n → ArePut unit base now d
+at-end unit base now left n d none k d_is = record {
+  made = k.made;
+  shares = all-shared base left (packets_of unit) k.made k.free none k.way;
+  new_is = k.now_is;
+  delivery_is = d_is ∙ ap (λ (m : ℕ). delivered (Some unit) false m) k.count;
+}
+
+-- a packet is no longer than its unit
+pub first-short : (unit p rest : List ℕ) (ps : List (List ℕ)) → unit ≡ joined (p ∷ ps) ++ rest → length p ≤ length unit
+first-short unit p rest ps is =
+    let l : length unit ≡ length ((p ++ joined ps) ++ rest) = ap length is in
+    omega (arith, length-append (p ++ joined ps) rest, length-append p (joined ps))

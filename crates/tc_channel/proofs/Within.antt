@@ -1,0 +1,46 @@
+-- What is said of a stream by the limit of its room, said by the limit of its MAP.
+use Rattle.std.proofs.Common.{◌≡◌, ℕ, List, [], ◌∷◌, ◌++◌, Option, subst, ◌∙◌, arith}
+use Rattle.tc_link.specs.declared.Kind.{Kind}
+use Rattle.tc_packet.specs.declared.Service.{Service}
+use Rattle.tc_packet.specs.declared.Service.TheVariants.{Bd}
+use Rattle.tc_packet.specs.Reassembly.{OpenRuns, at_most, run_at, run_left, stream_place}
+use Rattle.tc_channel.specs.Admission.{map_of}
+use Rattle.tc_channel.specs.Channel.{FollowsWithin, FollowsKindWithin, EndsWithin, EndsAtOnceWithin}
+use Rattle.tc_rooms.specs.declared.runs.Ended.{Ended}
+use Rattle.tc_rooms.specs.Runs.{Store, limit_at, open_runs, settled, LeaveWithin}
+use Rattle.tc_rooms.proofs.Rooms.{settled-limits, settled-others, settled-segmented}
+use Rattle.tc_channel.specs.Workings.{HaveLimits}
+
+limit-is : (limits : ℕ → ℕ) (store : Store) (service : Service) (field : List ℕ) → HaveLimits limits store → limit_at store (stream_place service field) ≡ limits (map_of field)
+limit-is limits store service field have = have service (map_of field) (omega arith)
+
+pub follows-is : (limits : ℕ → ℕ) (store : Store) (new : OpenRuns) (service : Service) (field : List ℕ) → HaveLimits limits store
+    → FollowsWithin (limit_at store (stream_place service field)) (open_runs store) new service field → FollowsWithin (limits (map_of field)) (open_runs store) new service field
+follows-is limits store new service field have follows = subst (λ (n : ℕ). FollowsWithin n (open_runs store) new service field) (limit-is limits store service field have) follows
+
+pub ends-is : (limits : ℕ → ℕ) (store : Store) (service : Service) (field : List ℕ) (unit : Option (List ℕ)) → HaveLimits limits store
+    → EndsWithin (limit_at store (stream_place service field)) (open_runs store) service field unit → EndsWithin (limits (map_of field)) (open_runs store) service field unit
+ends-is limits store service field unit have ends = subst (λ (n : ℕ). EndsWithin n (open_runs store) service field unit) (limit-is limits store service field have) ends
+
+pub follows-kind-is : (limits : ℕ → ℕ) (store : Store) (kind : Kind) (new : OpenRuns) (field : List ℕ) → HaveLimits limits store
+    → FollowsKindWithin (limit_at store (stream_place Bd field)) kind (open_runs store) new field → FollowsKindWithin (limits (map_of field)) kind (open_runs store) new field
+follows-kind-is limits store kind new field have follows = subst (λ (n : ℕ). FollowsKindWithin n kind (open_runs store) new field) (limit-is limits store Bd field have) follows
+
+pub ends-at-once-is : (limits : ℕ → ℕ) (store : Store) (kind : Kind) (field : List ℕ) (unit : Option (List ℕ)) → HaveLimits limits store
+    → EndsAtOnceWithin (limit_at store (stream_place Bd field)) kind (open_runs store) field unit → EndsAtOnceWithin (limits (map_of field)) kind (open_runs store) field unit
+ends-at-once-is limits store kind field unit have ends = subst (λ (n : ℕ). EndsAtOnceWithin n kind (open_runs store) field unit) (limit-is limits store Bd field have) ends
+
+-- a field that was laid, and whose unit is delivered, has moved its stream on
+pub settled-follows : (old mid new : Store) (ended : Ended) (service : Service) (field : List ℕ) (at : ℕ) → at ≡ stream_place service field → new ≡ settled ended at mid
+    → mid.segmented ≡ old.segmented → ((place : ℕ) → limit_at mid place ≡ limit_at old place)
+    → ((fields : List (List ℕ)) → LeaveWithin fields old (stream_place service field) → LeaveWithin (fields ++ field ∷ []) (settled ended (stream_place service field) mid) (stream_place service field))
+    → ((other : ℕ) → (other ≡ stream_place service field → ⊥) → run_at (open_runs mid).runs other ≡ run_at (open_runs old).runs other)
+    → FollowsWithin (limit_at old (stream_place service field)) (open_runs old) (open_runs new) service field
+settled-follows old mid new ended service field at at_is new_is segmented limits run others =
+    let place = stream_place service field in
+    rw (new_is, at_is) (record {
+      run = λ fields left. subst (λ (n : ℕ). at_most n (run_left (settled ended place mid).segmented (fields ++ field ∷ [])) ≡ run_at (open_runs (settled ended place mid)).runs place)
+          (settled-limits mid ended place place ∙ limits place) (run fields left);
+      others = λ other apart. settled-others mid ended place other apart ∙ others other apart;
+      segmented = settled-segmented mid ended place ∙ segmented;
+    })

@@ -1,0 +1,14 @@
+use Rattle.std.proofs.Common.{◌≡◌, ◌≤◌, length, take, map, replicate}
+use Rattle.tc_channel.specs.ChannelState.{empty_queue}
+use Rattle.tc_channel.specs.HeldQueues.{held}
+use Rattle.tc_channel.specs.Keyed.{rings_in, room_sizes, AreSettled}
+use Rattle.tc_channel.proofs.empty_queues.empty_queues.Given as goal
+
+abbrev pub invariant-loop-setting : goal.invariant-loop-setting
+invariant-loop-setting g l = record {
+  count : length l.queues.items ≡ l.setting-index;
+  room : length l.settings ≤ l.queues.cap;
+  rings : rings_in l.queues.items ≡ map held (map empty_queue (take l.setting-index l.settings));
+  sizes : room_sizes l.queues.items ≡ replicate l.setting-index l.size;
+  settled : AreSettled l.queues.items;
+}

@@ -1,0 +1,14 @@
+use Rattle.std.proofs.Common.{◌≡◌, ◌≤◌, length, take, map, replicate}
+use Rattle.tc_channel.specs.ChannelState.{empty_unit_queue}
+use Rattle.tc_channel.specs.HeldQueues.{held}
+use Rattle.tc_channel.specs.Keyed.{rings_in, room_sizes, AreSettled}
+use Rattle.tc_channel.proofs.empty_queues.empty_unit_queues.Given as goal
+
+abbrev pub invariant-loop-chosen : goal.invariant-loop-chosen
+invariant-loop-chosen g l = record {
+  count : length l.units.items ≡ l.chosen-index;
+  room : length l.maps ≤ l.units.cap;
+  rings : rings_in l.units.items ≡ map held (map empty_unit_queue (take l.chosen-index l.maps));
+  sizes : room_sizes l.units.items ≡ replicate l.chosen-index l.size;
+  settled : AreSettled l.units.items;
+}

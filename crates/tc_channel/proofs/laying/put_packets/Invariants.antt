@@ -1,0 +1,25 @@
+use Rattle.std.proofs.Common.{◌≡◌, ◌+◌, ◌≤◌, ℕ, length}
+use Rattle.std.specs.Box.{boxed_slice_items}
+use Rattle.tc_packet.specs.SpacePacket.{packets_of, rest_of}
+use Rattle.tc_channel.specs.Delivering.{IsOnItsWay, IsAmong, AreLaidOf}
+use Rattle.tc_channel.specs.Keyed.{rings_in, all_laid_in, room_sizes}
+use Rattle.tc_channel.specs.Steps.{looks, pass_steps}
+use Rattle.tc_channel.proofs.laying.put_packets.Given as goal
+
+-- the packets so far and those that are left are all of them
+abbrev pub invariant-loop-packet : goal.invariant-loop-packet
+invariant-loop-packet g l = record {
+  way : IsOnItsWay (rings_in (boxed_slice_items l.fn.queues)) (packets_of l.rest) (packets_of l.unit) l.queued (all_laid_in (boxed_slice_items l.queues));
+  packets : l.packets + length (packets_of l.rest) ≡ length (packets_of l.unit);
+  within : l.packets + length l.rest ≤ length l.unit;
+  few : l.queued ≤ l.packets;
+  rest : rest_of l.rest ≡ rest_of l.unit;
+  among : AreLaidOf (packets_of l.unit) (boxed_slice_items l.queues);
+  more : (key : ℕ) → IsAmong key (packets_of l.rest) → IsAmong key (packets_of l.unit);
+  cost : l.steps + pass_steps (length (packets_of l.rest)) (looks (boxed_slice_items l.fn.queues) l.table) ≤ l.fn.steps + pass_steps (length (packets_of l.unit)) (looks (boxed_slice_items l.fn.queues) l.table);
+  sizes : room_sizes (boxed_slice_items l.queues) ≡ room_sizes (boxed_slice_items l.fn.queues);
+  rings : rings_in (boxed_slice_items l.queues) ≡ rings_in (boxed_slice_items l.fn.queues);
+}
+
+abbrev pub decreases-loop-packet : goal.decreases-loop-packet
+decreases-loop-packet g l = length l.rest

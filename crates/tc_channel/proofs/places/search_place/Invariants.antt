@@ -1,0 +1,10 @@
+use Rattle.std.proofs.Common.{◌≡◌, ◌+◌, take}
+use Rattle.tc_channel.proofs.Found.{NoneHas}
+use Rattle.tc_channel.proofs.places.search_place.Given as goal
+
+-- no queue so far has the key, and each took a step
+abbrev pub invariant-loop-place : goal.invariant-loop-place
+invariant-loop-place g l = record {
+  none : NoneHas l.key (take l.place l.queues);
+  cost : l.steps ≡ l.fn.steps + l.place;
+}

@@ -1,0 +1,9 @@
+use Rattle.std.proofs.Common.{length, take}
+use Rattle.tc_channel.specs.HeldQueues.{keys_of}
+use Rattle.tc_channel.specs.Keyed.{rings_in}
+use Rattle.tc_channel.specs.Places.{AreFirst}
+use Rattle.tc_channel.proofs.places.see_places.Given as goal
+
+-- the table of the queues so far
+abbrev pub invariant-loop-place : goal.invariant-loop-place
+invariant-loop-place g l = AreFirst (keys_of (rings_in (take l.place l.queues))) (length l.queues) l.table.items

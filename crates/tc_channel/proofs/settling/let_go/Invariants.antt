@@ -1,0 +1,10 @@
+use Rattle.std.proofs.Common.{◌≡◌, ◌++◌, ◌+◌, map, take, drop}
+use Rattle.std.specs.Box.{boxed_slice_items}
+use Rattle.tc_channel.specs.Keyed.{let_go}
+use Rattle.tc_channel.proofs.settling.let_go.Given as goal
+
+abbrev pub invariant-loop-i : goal.invariant-loop-i
+invariant-loop-i g l = record {
+  queues : (boxed_slice_items l.queues) ≡ map let_go (take l.i (boxed_slice_items l.fn.queues)) ++ drop l.i (boxed_slice_items l.fn.queues);
+  cost : l.steps ≡ l.fn.steps + l.i;
+}

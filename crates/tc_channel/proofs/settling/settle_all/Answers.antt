@@ -1,0 +1,16 @@
+use Rattle.std.proofs.Common.{◌<◌, length, arith}
+use Rattle.std.specs.Box.{boxed_slice_items}
+use Rattle.std.proofs.lemmas.Grind.{common_steps}
+use Rattle.std.proofs.lemmas.List.Edits.{map_over_more}
+use Rattle.tc_channel.specs.Keyed.{settled}
+use Rattle.tc_channel.proofs.settling.settle_all.Goals as goal
+
+pub loop-i-preserved : goal.loop-i-preserved
+loop-i-preserved g c =
+    let inside : c.loop-i.i < length (boxed_slice_items c.args.queues.now) = grind (arith, common_steps) in
+    let cost = c.loop-i.invariant.cost in
+    let tick = c.tick.ensures in
+    record {
+      queues = rw c.settle.ensures (map_over_more settled (boxed_slice_items c.args.queues.now) (boxed_slice_items c.loop-i.queues) c.loop-i.i c.index_mut.result.now inside c.loop-i.invariant.queues c.index_mut.ensures.value);
+      cost = omega arith;
+    }

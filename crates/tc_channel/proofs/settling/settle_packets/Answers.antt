@@ -1,0 +1,24 @@
+use Rattle.std.proofs.Common.{ℕ, length, sym, subst, ap, ◌∙◌}
+use Rattle.std.specs.Box.{boxed_slice_items}
+use Rattle.tc_packet.specs.SpacePacket.{packets_of}
+use Rattle.tc_channel.specs.Delivering.{AreLaidOf}
+use Rattle.tc_channel.specs.Steps.{looks, pass_steps}
+use Rattle.tc_channel.proofs.Counts.{pass-step, cut-one, looks-same, same-count}
+use Rattle.tc_channel.proofs.Laid.{settled-same, all-settled-of}
+use Rattle.tc_channel.proofs.settling.settle_packets.Goals as goal
+
+pub returns-clause-settled : goal.returns-clause-settled
+returns-clause-settled g c = sym (settled-same (boxed_slice_items c.loop-packet.queues) (all-settled-of (boxed_slice_items c.loop-packet.queues) (subst (λ ps. AreLaidOf ps (boxed_slice_items c.loop-packet.queues)) c.in_default.ensures.no_packets c.loop-packet.invariant.among))) ∙ c.loop-packet.invariant.settled
+
+pub loop-packet-preserved : goal.loop-packet-preserved
+loop-packet-preserved g c =
+    let i = c.loop-packet.invariant in
+    let one : ℕ = looks (boxed_slice_items c.args.queues.now) c.args.table.now in
+    record {
+      among = c.settle_packet.ensures.among (packets_of c.in-Some.after.now) (rw c.in-Some.ensures.packets at i.among);
+      settled = c.settle_packet.ensures.settled ∙ i.settled;
+      cost = cut-one c.args.steps.now (pass_steps (length (packets_of c.args.unit.now)) one) c.loop-packet.steps (pass_steps (length (packets_of c.loop-packet.rest.now)) one) (pass_steps (length (packets_of c.in-Some.after.now)) one) one c.tick.new.self
+          (looks (boxed_slice_items c.loop-packet.queues) c.args.table.now) c.settle_packet.new.steps (ap (λ n. pass_steps n one) (ap length c.in-Some.ensures.packets) ∙ pass-step (length (packets_of c.in-Some.after.now)) one) c.loop-packet.invariant.cost c.tick.ensures c.settle_packet.ensures.cost
+          (looks-same (boxed_slice_items c.loop-packet.queues) (boxed_slice_items c.args.queues.now) c.args.table.now (same-count (boxed_slice_items c.loop-packet.queues) (boxed_slice_items c.args.queues.now) c.loop-packet.invariant.keys));
+      keys = c.settle_packet.ensures.keys ∙ i.keys;
+    }

@@ -1,0 +1,20 @@
+use Rattle.std.proofs.Common.{◌≡◌, ◌+◌, ◌≤◌, length, map}
+use Rattle.std.specs.Box.{boxed_slice_items}
+use Rattle.tc_packet.specs.SpacePacket.{packets_of}
+use Rattle.tc_channel.specs.HeldQueues.{keys_of}
+use Rattle.tc_channel.specs.Delivering.{AreLaidOf}
+use Rattle.tc_channel.specs.Keyed.{rings_in, settled}
+use Rattle.tc_channel.specs.Steps.{looks, pass_steps}
+use Rattle.tc_channel.proofs.settling.settle_packets.Given as goal
+
+-- what is laid still is of the packets that are left
+abbrev pub invariant-loop-packet : goal.invariant-loop-packet
+invariant-loop-packet g l = record {
+  among : AreLaidOf (packets_of l.rest) (boxed_slice_items l.queues);
+  settled : map settled (boxed_slice_items l.queues) ≡ map settled (boxed_slice_items l.fn.queues);
+  cost : l.steps + pass_steps (length (packets_of l.rest)) (looks (boxed_slice_items l.fn.queues) l.table) ≤ l.fn.steps + pass_steps (length (packets_of l.unit)) (looks (boxed_slice_items l.fn.queues) l.table);
+  keys : keys_of (rings_in (boxed_slice_items l.queues)) ≡ keys_of (rings_in (boxed_slice_items l.fn.queues));
+}
+
+abbrev pub decreases-loop-packet : goal.decreases-loop-packet
+decreases-loop-packet g l = length l.rest

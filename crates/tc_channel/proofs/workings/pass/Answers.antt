@@ -1,0 +1,47 @@
+use Rattle.std.proofs.Common.{◌≡◌, ◌∙◌, length, arith}
+use Rattle.std.proofs.lemmas.Grind.{common_steps}
+use Rattle.tc_packet.specs.Reassembly.{place_of, stream_place}
+use Rattle.tc_rooms.specs.Runs.{unit_in}
+use Rattle.tc_rooms.proofs.Rooms.{settled-limits, settled-segmented}
+use Rattle.tc_channel.specs.Admission.{map_of}
+use Rattle.tc_channel.proofs.Counts.{at-most, at-most-err}
+use Rattle.tc_channel.proofs.Sizes.{fits-unit, within-all, place-below}
+use Rattle.tc_channel.proofs.Within.{settled-follows}
+use Rattle.tc_channel.proofs.workings.pass.Goals as goal
+
+pub deliver_ended-requires-clause-within : goal.deliver_ended-requires-clause-within
+deliver_ended-requires-clause-within g c =
+    within-all c.args.runs.now (stream_place c.args.service c.args.field.now) (unit_in c.in_ok-ended.ended c.lay.new.self c.args.field.now) (place-below c.args.service c.args.field.now) c.requires.small c.in_ok-ended.ensures.within
+
+pub deliver_ended-requires-clause-fits : goal.deliver_ended-requires-clause-fits
+deliver_ended-requires-clause-fits g c =
+    fits-unit c.args.runs.now (stream_place c.args.service c.args.field.now) c.args.field.now (unit_in c.in_ok-ended.ended c.lay.new.self c.args.field.now) _ (place-below c.args.service c.args.field.now) c.requires.small c.requires.sizes c.requires.within
+    c.in_ok-ended.ensures.within c.in_ok-ended.ensures.shorter
+
+pub deliver_ended-requires-clause-units_fit : goal.deliver_ended-requires-clause-units_fit
+deliver_ended-requires-clause-units_fit g c =
+    fits-unit c.args.runs.now (stream_place c.args.service c.args.field.now) c.args.field.now (unit_in c.in_ok-ended.ended c.lay.new.self c.args.field.now) _ (place-below c.args.service c.args.field.now) c.requires.small c.requires.unit_sizes c.requires.within
+    c.in_ok-ended.ensures.within c.in_ok-ended.ensures.shorter
+
+pub returns-clause-follows : goal.returns-clause-follows
+returns-clause-follows g c =
+    let at : place_of c.args.service c.read_segment-map.result.map ≡ stream_place c.args.service c.args.field.now = grind (arith, common_steps) in
+    settled-follows c.args.runs.now c.lay.new.self c.settle.new.self c.in_ok-ended.ended c.args.service c.args.field.now (place_of c.args.service c.read_segment-map.result.map) at c.settle.ensures
+    c.lay.ensures.segmented c.lay.ensures.limits c.in_ok-ended.ensures.run c.lay.ensures.others
+
+pub returns-clause-limits : goal.returns-clause-limits
+returns-clause-limits g c = λ place. rw c.settle.ensures (settled-limits c.lay.new.self c.in_ok-ended.ended (place_of c.args.service c.read_segment-map.result.map) place ∙ c.lay.ensures.limits place)
+
+pub returns-clause-segmented : goal.returns-clause-segmented
+returns-clause-segmented g c = rw c.settle.ensures (settled-segmented c.lay.new.self c.in_ok-ended.ended (place_of c.args.service c.read_segment-map.result.map) ∙ c.lay.ensures.segmented)
+
+pub returns-clause-delivered : goal.returns-clause-delivered
+returns-clause-delivered g c =
+    let map : c.read_segment-map.result.map ≡ map_of c.args.field.now = grind (arith, common_steps) in
+    (unit_in c.in_ok-ended.ended c.lay.new.self c.args.field.now, c.in_ok-ended.ensures.unit, rw (← map) c.in_ok-delivery.ensures.delivered)
+
+pub returns-clause-cost : goal.returns-clause-cost
+returns-clause-cost g c = at-most (unit_in c.in_ok-ended.ended c.lay.new.self c.args.field.now) (length c.args.queues.now) (length c.args.units.now) c.args.steps.now c.deliver_ended.new.steps (within-all c.args.runs.now (stream_place c.args.service c.args.field.now) (unit_in c.in_ok-ended.ended c.lay.new.self c.args.field.now) (place-below c.args.service c.args.field.now) c.requires.small c.in_ok-ended.ensures.within) c.in_ok-delivery.ensures.cost
+
+pub returns-in_err-delivery-clause-cost : goal.returns-in_err-delivery-clause-cost
+returns-in_err-delivery-clause-cost g c = at-most-err (unit_in c.in_ok-ended.ended c.lay.new.self c.args.field.now) (length c.args.queues.now) (length c.args.units.now) c.args.steps.now c.deliver_ended.new.steps (within-all c.args.runs.now (stream_place c.args.service c.args.field.now) (unit_in c.in_ok-ended.ended c.lay.new.self c.args.field.now) (place-below c.args.service c.args.field.now) c.requires.small c.in_ok-ended.ensures.within) c.in_err-delivery.ensures.refused_cost

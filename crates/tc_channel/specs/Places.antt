@@ -1,0 +1,29 @@
+-- Where a key stands among those of the queues, and a table of it.
+use Rattle.std.specs.Prelude.{◌≡◌, ◌≢◌, ◌<◌, ◌≤◌, ℕ, zero, suc, List, [], ◌∷◌, length, get_or, ◌⊎◌}
+use Rattle.std.specs.List.{AllByRecursion}
+use Rattle.tc_channel.specs.HeldQueues.{apid_count}
+
+-- the first of the numbers that is the key stands at this place
+abbrev pub IsFirst : ℕ → ℕ → List ℕ → Type 0
+IsFirst key place [] = ⊥
+IsFirst key zero (a ∷ rest) = key ≡ a
+IsFirst key (suc place) (a ∷ rest) = (key ≢ a) × IsFirst key place rest
+
+-- a number tells the place of a key, or that none of the keys is it
+abbrev pub TellsFirst : List ℕ → ℕ → ℕ → ℕ → Type 0
+TellsFirst keys none key n = IsFirst key n keys ⊎ ((n ≡ none) × AllByRecursion (λ other. key ≢ other) keys)
+
+-- a table of the places of all keys that an APID can be
+pub record AreFirst (keys : List ℕ) (none : ℕ) (table : List ℕ) : Type 0 where
+  pub size : length table ≡ apid_count
+  pub tells : (key : ℕ) → key < apid_count → TellsFirst keys none key (get_or table key 0)
+
+-- there is a table, or none
+abbrev pub IsTableOf : List ℕ → List ℕ → Type 0
+IsTableOf keys table = length table ≢ 0 → AreFirst keys (length keys) table
+
+-- as above, and there is a table where it pays and can tell the places
+pub record IsTabled (keys table : List ℕ) : Type 0 where
+  pub told : IsTableOf keys table
+  pub few : length table ≢ 0 → 64 ≤ length keys
+  pub many : 64 ≤ length keys → length keys ≤ 65535 → length table ≢ 0

@@ -1,0 +1,52 @@
+//! The queues that a channel starts with.
+
+ghost use Rattle.std.specs.Prelude.{◌≡◌, length, map, replicate, IfOk};
+ghost use Rattle.tc_channel.specs.ChannelState.{empty_queue, empty_unit_queue};
+ghost use Rattle.tc_channel.specs.HeldQueues.{held};
+ghost use Rattle.tc_channel.specs.Keyed.{rings_in, room_sizes, AreSettled};
+
+use crate::queue::Queue;
+use crate::settings::{MapSetting, QueueSetting};
+use std::alloc::{AllocError, Global};
+use tc_rooms::Room;
+
+/// A packet queue for each setting, whose packets have at most so many octets.
+pub(crate) fn empty_queues<R: Room>(
+    alloc: Global,
+    settings: &[QueueSetting],
+    size: usize,
+) -> Result<Vec<Queue<R>>, AllocError>
+    ensures rings { IfOk result (λ v. rings_in v.items ≡ map held (map empty_queue settings.now)) }
+    ensures sizes { IfOk result (λ v. room_sizes v.items ≡ replicate (length settings.now) size) }
+    ensures settled { IfOk result (λ v. AreSettled v.items) }
+{
+    let mut queues = Vec::with_capacity(alloc, settings.len())?;
+    for setting in settings {
+        let queue: Queue<R> = Queue::with_capacity(alloc, setting.apid, setting.capacity, size)?;
+        queues.push_reserved(queue);
+    }
+    Ok(queues)
+}
+
+/// A unit queue for each chosen MAP, whose units have at most so many octets.
+pub(crate) fn empty_unit_queues<R: Room>(
+    alloc: Global,
+    maps: &[MapSetting],
+    size: usize,
+) -> Result<Vec<Queue<R>>, AllocError>
+    ensures rings { IfOk result (λ v. rings_in v.items ≡ map held (map empty_unit_queue maps.now)) }
+    ensures sizes { IfOk result (λ v. room_sizes v.items ≡ replicate (length maps.now) size) }
+    ensures settled { IfOk result (λ v. AreSettled v.items) }
+{
+    let mut units = Vec::with_capacity(alloc, maps.len())?;
+    for chosen in maps {
+        let queue: Queue<R> = Queue::with_capacity(
+            alloc,
+            chosen.map as u16,
+            chosen.capacity,
+            size,
+        )?;
+        units.push_reserved(queue);
+    }
+    Ok(units)
+}

@@ -1,0 +1,125 @@
+//! One queue in rooms.
+
+ghost use Rattle.std.specs.Prelude.{◌≡◌, ◌≤◌, [], length, drop, false, IfOk, IsOk, OnErr, slice_get, option_map};
+ghost use Rattle.tc_rooms.specs.Rooms.{slotted, IsLaidBehind};
+ghost use Rattle.tc_channel.specs.Keyed.{ring_in, settled, let_go as let_go_of, IsPutBehind};
+
+use std::alloc::{AllocError, Global};
+use std::marker::Model;
+use tc_rooms::{GrowingRoom, Room, Slots};
+
+/// The items that wait in one queue. The key of a packet queue is the APID of its application, that of a unit queue its MAP.
+#[derive(Drop)]
+pub struct Queue<R: Room> {
+    key: u16,
+    slots: Slots<R>,
+}
+
+impl<R: Room> Model for Queue<R> {
+    ghost use Rattle.tc_channel.specs.Keyed.{Keyed};
+
+    ghost Value = { Keyed };
+
+    ghost view = { λ q. record { key = q.key; slots = q.slots } };
+}
+
+impl<R: Room> Queue<R> {
+    /// A queue of so many items of at most `size` octets each, with no item in it.
+    pub fn with_capacity(
+        alloc: Global,
+        key: u16,
+        capacity: u16,
+        size: usize,
+    ) -> Result<Queue<R>, AllocError>
+        ensures { IfOk result (λ q. q ≡ record { key = key; slots = slotted [] capacity [] size }) }
+    {
+        let slots = Slots::with_capacity(alloc, capacity as usize, size)?;
+        Ok(Queue { key, slots })
+    }
+
+    /// Its key.
+    pub fn key(&self) -> u16
+        ensures { result ≡ self.now.key }
+    {
+        self.key
+    }
+
+    /// How many items wait.
+    pub fn len(&self) -> usize
+        ensures { result ≡ length self.now.slots.ring.items }
+    {
+        self.slots.len()
+    }
+
+    /// The oldest item, lent.
+    pub fn front(&self) -> Option<&[u8]>
+        ensures { option_map (λ octets. octets.now) result ≡ slice_get self.now.slots.ring.items 0 }
+    {
+        self.slots.front()
+    }
+
+    // Lays an item behind the others, where there is a place, and says whether there was.
+    #[inline(always)]
+    pub(crate) fn lay(&mut self, octets: &[u8]) -> Result<bool, AllocError>
+        requires { length octets.now ≤ self.old.slots.size }
+        ensures laid { IfOk result (IsLaidBehind octets.now self.old.slots self.new.slots) }
+        ensures refused { OnErr result (self.new ≡ self.old) }
+        ensures key { self.new.key ≡ self.old.key }
+        ensures ring { self.new.slots.ring ≡ self.old.slots.ring }
+        ensures size { self.new.slots.size ≡ self.old.slots.size }
+        ensures answered { R.grows ≡ false → IsOk result }
+    {
+        self.slots.lay(octets)
+    }
+
+    // Puts an item behind the others, where there is a place, and says whether there was.
+    pub(crate) fn put(&mut self, octets: &[u8]) -> Result<bool, AllocError>
+        requires fits { length octets.now ≤ self.old.slots.size }
+        requires settled { self.old.slots.laid ≡ [] }
+        ensures put { IfOk result (IsPutBehind octets.now (ring_in self.old) (ring_in self.new)) }
+        ensures refused { OnErr result (self.new ≡ self.old) }
+        ensures settled { self.new.slots.laid ≡ [] }
+        ensures key { self.new.key ≡ self.old.key }
+        ensures size { self.new.slots.size ≡ self.old.slots.size }
+        ensures answered { R.grows ≡ false → IsOk result }
+    {
+        let put = self.lay(octets)?;
+        self.settle();
+        Ok(put)
+    }
+
+    // What was laid counts.
+    #[inline(always)]
+    pub(crate) fn settle(&mut self)
+        ensures { self.new ≡ settled self.old }
+    {
+        self.slots.settle();
+    }
+
+    // What was laid is let go.
+    pub(crate) fn let_go(&mut self)
+        ensures { self.new ≡ let_go_of self.old }
+    {
+        self.slots.let_go();
+    }
+
+    // Drops the oldest item, if there is one.
+    #[inline(always)]
+    pub(crate) fn pop_front(&mut self)
+        ensures key { self.new.key ≡ self.old.key }
+        ensures slots { self.new.slots ≡ slotted (drop 1 self.old.slots.ring.items) self.old.slots.ring.capacity self.old.slots.laid self.old.slots.size }
+    {
+        self.slots.pop_front();
+    }
+}
+
+impl Queue<GrowingRoom> {
+    // Takes the oldest item out, if there is one, in its own block.
+    pub(crate) fn take_front(&mut self) -> Option<Vec<u8>>
+        ensures key { self.new.key ≡ self.old.key }
+        ensures item { option_map (λ block. block.items) result ≡ slice_get self.old.slots.ring.items 0 }
+        ensures slots { self.new.slots ≡ slotted (drop 1 self.old.slots.ring.items) self.old.slots.ring.capacity self.old.slots.laid self.old.slots.size }
+    {
+        self.slots.take_front()
+    }
+}

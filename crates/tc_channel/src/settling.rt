@@ -1,0 +1,92 @@
+//! What was laid in the queues counts, or is let go.
+
+ghost use Rattle.std.specs.Prelude.{ℕ, List, ◌∷◌, ◌≡◌, ◌≤◌, ◌+◌, length, map};
+ghost use Rattle.std.specs.Box.{boxed_slice_items};
+ghost use Rattle.tc_packet.specs.PacketFields.{HasFields};
+ghost use Rattle.tc_packet.specs.SpacePacket.{packets_of};
+ghost use Rattle.tc_channel.specs.HeldQueues.{keys_of, AreDistinct};
+ghost use Rattle.tc_channel.specs.Keyed.{rings_in, settled, let_go as let_go_of};
+ghost use Rattle.tc_channel.specs.Places.{IsTableOf};
+ghost use Rattle.tc_channel.specs.Delivering.{AreLaidOf};
+ghost use Rattle.tc_channel.specs.Steps.{looks, pass_steps};
+
+use crate::places::place_counted;
+use crate::queue::Queue;
+use crate::steps::Steps;
+use std::boxed::BoxedSlice;
+use std::sync::ledger::Ledger;
+use tc_packet::{Packet, each_unit_has_one_cut, next_packet};
+use tc_rooms::Room;
+
+// All that was laid counts.
+fn settle_all<R: Room, L: Ledger>(queues: &mut BoxedSlice<Queue<R>>, steps: &mut Steps<L>)
+    ensures settled { boxed_slice_items queues.new ≡ map settled (boxed_slice_items queues.old) }
+    ensures cost { steps.new ≤ steps.old + length (boxed_slice_items queues.old) }
+{
+    for i in 0..queues.as_slice().len() {
+        steps.tick();
+        queues[i].settle();
+    }
+}
+
+// What was laid in the queue of this packet counts.
+#[inline(always)]
+fn settle_packet<R: Room, L: Ledger>(
+    queues: &mut BoxedSlice<Queue<R>>,
+    table: &[u16],
+    packet: &Packet,
+    steps: &mut Steps<L>,
+)
+    requires table { IsTableOf (keys_of (rings_in (boxed_slice_items queues.old))) table.now }
+    requires fields { HasFields packet.now }
+    requires distinct { AreDistinct (keys_of (rings_in (boxed_slice_items queues.old))) }
+    ensures among { (left : List (List ℕ)) → AreLaidOf (packet.now.octets.now ∷ left) (boxed_slice_items queues.old) → AreLaidOf left (boxed_slice_items queues.new) }
+    ensures settled { map settled (boxed_slice_items queues.new) ≡ map settled (boxed_slice_items queues.old) }
+    ensures keys { keys_of (rings_in (boxed_slice_items queues.new)) ≡ keys_of (rings_in (boxed_slice_items queues.old)) }
+    ensures cost { steps.new ≤ steps.old + looks (boxed_slice_items queues.old) table.now }
+{
+    if !packet.telecommand {
+        return;
+    }
+    let Some(place) = place_counted(queues, table, packet.apid, steps) else {
+        return;
+    };
+    queues[place].settle();
+}
+
+/// What was laid of the packets of this unit counts. Where a table tells the places, only their queues are looked at.
+pub(crate) fn settle_packets<R: Room, L: Ledger>(
+    queues: &mut BoxedSlice<Queue<R>>,
+    table: &[u16],
+    unit: &[u8],
+    steps: &mut Steps<L>,
+)
+    requires table { IsTableOf (keys_of (rings_in (boxed_slice_items queues.old))) table.now }
+    requires distinct { AreDistinct (keys_of (rings_in (boxed_slice_items queues.old))) }
+    requires among { AreLaidOf (packets_of unit.now) (boxed_slice_items queues.old) }
+    ensures settled { boxed_slice_items queues.new ≡ map settled (boxed_slice_items queues.old) }
+    ensures cost { steps.new ≤ steps.old + (pass_steps (length (packets_of unit.now)) (looks (boxed_slice_items queues.old) table.now) + looks (boxed_slice_items queues.old) table.now) }
+{
+    if table.is_empty() {
+        settle_all(queues, steps);
+        return;
+    }
+    each_unit_has_one_cut();
+    let mut rest = unit;
+    while let Some((packet, after)) = next_packet(rest) {
+        steps.tick();
+        settle_packet(queues, table, &packet, steps);
+        rest = after;
+    }
+}
+
+/// All that was laid is let go.
+pub(crate) fn let_go<R: Room, L: Ledger>(queues: &mut BoxedSlice<Queue<R>>, steps: &mut Steps<L>)
+    ensures let_go { boxed_slice_items queues.new ≡ map let_go_of (boxed_slice_items queues.old) }
+    ensures cost { steps.new ≤ steps.old + length (boxed_slice_items queues.old) }
+{
+    for i in 0..queues.as_slice().len() {
+        steps.tick();
+        queues[i].let_go();
+    }
+}

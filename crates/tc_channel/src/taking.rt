@@ -1,0 +1,76 @@
+//! What is taken from the queue with a key.
+
+ghost use Rattle.std.specs.Prelude.{ℕ, ◌<◌, ◌≡◌, ◌↔◌, length, false, IsTrue, IsSome, option_map};
+ghost use Rattle.std.specs.Box.{boxed_slice_items};
+ghost use Rattle.tc_channel.specs.HeldQueues.{keys_of, popped, oldest_for};
+ghost use Rattle.tc_channel.specs.Keyed.{rings_in, room_sizes, AreSettled};
+ghost use Rattle.tc_channel.specs.Places.{IsFirst, IsTableOf};
+
+use crate::places::place_of;
+use crate::queue::Queue;
+use std::boxed::BoxedSlice;
+use tc_rooms::{GrowingRoom, Room};
+
+// Drops the oldest item of the queue at this place, and says whether there was one.
+fn pop_at<R: Room>(queues: &mut BoxedSlice<Queue<R>>, place: usize) -> bool
+    requires { place < length (boxed_slice_items queues.old) }
+    ensures waits { (key : ℕ) → IsFirst key place (keys_of (rings_in (boxed_slice_items queues.old))) → IsTrue result ↔ IsSome (oldest_for key (rings_in (boxed_slice_items queues.old))) }
+    ensures rings { (key : ℕ) → IsFirst key place (keys_of (rings_in (boxed_slice_items queues.old))) → rings_in (boxed_slice_items queues.new) ≡ popped key (rings_in (boxed_slice_items queues.old)) }
+    ensures keys { keys_of (rings_in (boxed_slice_items queues.new)) ≡ keys_of (rings_in (boxed_slice_items queues.old)) }
+    ensures sizes { room_sizes (boxed_slice_items queues.new) ≡ room_sizes (boxed_slice_items queues.old) }
+    ensures settled { AreSettled (boxed_slice_items queues.old) → AreSettled (boxed_slice_items queues.new) }
+    ensures refused { result ≡ false → boxed_slice_items queues.new ≡ boxed_slice_items queues.old }
+{
+    if queues[place].len() == 0 {
+        return false;
+    }
+    queues[place].pop_front();
+    true
+}
+
+// Takes the oldest item out of the queue at this place, in its own block.
+fn take_at(queues: &mut BoxedSlice<Queue<GrowingRoom>>, place: usize) -> Option<Vec<u8>>
+    requires { place < length (boxed_slice_items queues.old) }
+    ensures item { (key : ℕ) → IsFirst key place (keys_of (rings_in (boxed_slice_items queues.old))) → option_map (λ block. block.items) result ≡ oldest_for key (rings_in (boxed_slice_items queues.old)) }
+    ensures rings { (key : ℕ) → IsFirst key place (keys_of (rings_in (boxed_slice_items queues.old))) → rings_in (boxed_slice_items queues.new) ≡ popped key (rings_in (boxed_slice_items queues.old)) }
+    ensures keys { keys_of (rings_in (boxed_slice_items queues.new)) ≡ keys_of (rings_in (boxed_slice_items queues.old)) }
+    ensures sizes { room_sizes (boxed_slice_items queues.new) ≡ room_sizes (boxed_slice_items queues.old) }
+    ensures settled { AreSettled (boxed_slice_items queues.old) → AreSettled (boxed_slice_items queues.new) }
+{
+    queues[place].take_front()
+}
+
+/// Drops the oldest item of the queue with this key, where one waits, and says whether it did.
+pub(crate) fn pop_from<R: Room>(queues: &mut BoxedSlice<Queue<R>>, table: &[u16], key: u16) -> bool
+    requires { IsTableOf (keys_of (rings_in (boxed_slice_items queues.old))) table.now }
+    ensures waits { IsTrue result ↔ IsSome (oldest_for key (rings_in (boxed_slice_items queues.old))) }
+    ensures rings { rings_in (boxed_slice_items queues.new) ≡ popped key (rings_in (boxed_slice_items queues.old)) }
+    ensures keys { keys_of (rings_in (boxed_slice_items queues.new)) ≡ keys_of (rings_in (boxed_slice_items queues.old)) }
+    ensures sizes { room_sizes (boxed_slice_items queues.new) ≡ room_sizes (boxed_slice_items queues.old) }
+    ensures settled { AreSettled (boxed_slice_items queues.old) → AreSettled (boxed_slice_items queues.new) }
+    ensures refused { result ≡ false → boxed_slice_items queues.new ≡ boxed_slice_items queues.old }
+{
+    match place_of(queues, table, key) {
+        Some(place) => pop_at(queues, place),
+        None => false,
+    }
+}
+
+/// Takes the oldest item out of the queue with this key, in its own block.
+pub(crate) fn take_from(
+    queues: &mut BoxedSlice<Queue<GrowingRoom>>,
+    table: &[u16],
+    key: u16,
+) -> Option<Vec<u8>>
+    requires { IsTableOf (keys_of (rings_in (boxed_slice_items queues.old))) table.now }
+    ensures item { option_map (λ block. block.items) result ≡ oldest_for key (rings_in (boxed_slice_items queues.old)) }
+    ensures rings { rings_in (boxed_slice_items queues.new) ≡ popped key (rings_in (boxed_slice_items queues.old)) }
+    ensures keys { keys_of (rings_in (boxed_slice_items queues.new)) ≡ keys_of (rings_in (boxed_slice_items queues.old)) }
+    ensures sizes { room_sizes (boxed_slice_items queues.new) ≡ room_sizes (boxed_slice_items queues.old) }
+    ensures settled { AreSettled (boxed_slice_items queues.old) → AreSettled (boxed_slice_items queues.new) }
+{
+    match place_of(queues, table, key) {
+        Some(place) => take_at(queues, place),
+        None => None,
+    }
+}

@@ -1,8 +1,0 @@
-use Rattle.std.proofs.Common.{◌≡◌, ◌≤◌, ◌*◌, take}
-use Rattle.std.specs.Prelude.{sum_by}
-use Rattle.tc_channel.specs.declared.settings.MapSetting.{MapSetting}
-use Rattle.tc_fixed.proofs.memory.held_units.Given as goal
-
-abbrev pub invariant-loop-chosen : goal.invariant-loop-chosen
-invariant-loop-chosen l =
-    (l.held ≡ sum_by (λ (m : MapSetting). m.capacity) (take l.chosen-index l.maps)) × (l.held ≤ l.chosen-index * 65536)

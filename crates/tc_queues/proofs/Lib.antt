@@ -1,2 +1,0 @@
-pub mod InRooms
-pub mod Ways
