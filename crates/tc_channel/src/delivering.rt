@@ -99,7 +99,7 @@ fn deliver_packets<R: Room, L: Ledger>(
 {
     match put_packets(queues, table, unit, steps) {
         Ok(delivery) => {
-            settle_packets(queues, table, unit, steps);
+            settle_packets(queues, table, unit, delivery.queued as usize, steps);
             Ok(delivery)
         }
         Err(error) => {

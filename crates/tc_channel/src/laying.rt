@@ -92,6 +92,7 @@ pub(crate) fn put_packets<R: Room, L: Ledger>(
     requires settled { AreSettled (boxed_slice_items queues.old) }
     ensures among { AreLaidOf (packets_of unit.now) (boxed_slice_items queues.new) }
     ensures put { IfOk result (ArePut unit.now (rings_in (boxed_slice_items queues.old)) (all_laid_in (boxed_slice_items queues.new))) }
+    ensures few { IfOk result (λ delivery. delivery.queued ≤ length (packets_of unit.now)) }
     ensures rings { rings_in (boxed_slice_items queues.new) ≡ rings_in (boxed_slice_items queues.old) }
     ensures sizes { room_sizes (boxed_slice_items queues.new) ≡ room_sizes (boxed_slice_items queues.old) }
     ensures answered { R.grows ≡ false → IsOk result }

@@ -1,6 +1,6 @@
 //! One queue in rooms.
 
-ghost use Rattle.std.specs.Prelude.{◌≡◌, ◌≤◌, [], length, drop, false, IfOk, IsOk, OnErr, slice_get, option_map};
+ghost use Rattle.std.specs.Prelude.{◌≡◌, ◌≤◌, [], length, drop, false, IfOk, IsOk, OnErr, None, slice_get, option_map};
 ghost use Rattle.tc_rooms.specs.Rooms.{slotted, IsLaidBehind};
 ghost use Rattle.tc_channel.specs.Keyed.{ring_in, settled, let_go as let_go_of, IsPutBehind};
 
@@ -119,6 +119,7 @@ impl Queue<GrowingRoom> {
         ensures key { self.new.key ≡ self.old.key }
         ensures item { option_map (λ block. block.items) result ≡ slice_get self.old.slots.ring.items 0 }
         ensures slots { self.new.slots ≡ slotted (drop 1 self.old.slots.ring.items) self.old.slots.ring.capacity self.old.slots.laid self.old.slots.size }
+        ensures refused { result ≡ None → self.new ≡ self.old }
     {
         self.slots.take_front()
     }

@@ -91,6 +91,7 @@ impl Queues<GrowingRoom> {
         ensures rings { rings_in self.new ≡ popped key (rings_in self.old) }
         ensures sizes { room_sizes self.new ≡ room_sizes self.old }
         ensures settled { AreSettled self.old → AreSettled self.new }
+        ensures refused { result ≡ None → self.new ≡ self.old }
     {
         take_from(&mut self.queues, &self.table, key)
     }

@@ -54,20 +54,23 @@ fn settle_packet<R: Room, L: Ledger>(
     queues[place].settle();
 }
 
-/// What was laid of the packets of this unit counts. Where a table tells the places, only their queues are looked at.
+/// What was laid of the packets of this unit counts, of which `laid` packets were laid. Where a table tells the places, and the queues
+/// are at least as many as these packets, only the queues of the unit's packets are looked at.
 pub(crate) fn settle_packets<R: Room, L: Ledger>(
     queues: &mut BoxedSlice<Queue<R>>,
     table: &[u16],
     unit: &[u8],
+    laid: usize,
     steps: &mut Steps<L>,
 )
     requires table { IsTableOf (keys_of (rings_in (boxed_slice_items queues.old))) table.now }
     requires distinct { AreDistinct (keys_of (rings_in (boxed_slice_items queues.old))) }
+    requires few { laid ≤ length (packets_of unit.now) }
     requires among { AreLaidOf (packets_of unit.now) (boxed_slice_items queues.old) }
     ensures settled { boxed_slice_items queues.new ≡ map settled (boxed_slice_items queues.old) }
     ensures cost { steps.new ≤ steps.old + (pass_steps (length (packets_of unit.now)) (looks (boxed_slice_items queues.old) table.now) + looks (boxed_slice_items queues.old) table.now) }
 {
-    if table.is_empty() {
+    if table.is_empty() || queues.as_slice().len() < laid {
         settle_all(queues, steps);
         return;
     }

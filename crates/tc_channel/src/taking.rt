@@ -1,6 +1,6 @@
 //! What is taken from the queue with a key.
 
-ghost use Rattle.std.specs.Prelude.{ℕ, ◌<◌, ◌≡◌, ◌↔◌, length, false, IsTrue, IsSome, option_map};
+ghost use Rattle.std.specs.Prelude.{ℕ, ◌<◌, ◌≡◌, ◌↔◌, length, false, IsTrue, IsSome, None, option_map};
 ghost use Rattle.std.specs.Box.{boxed_slice_items};
 ghost use Rattle.tc_channel.specs.HeldQueues.{keys_of, popped, oldest_for};
 ghost use Rattle.tc_channel.specs.Keyed.{rings_in, room_sizes, AreSettled};
@@ -36,6 +36,7 @@ fn take_at(queues: &mut BoxedSlice<Queue<GrowingRoom>>, place: usize) -> Option<
     ensures keys { keys_of (rings_in (boxed_slice_items queues.new)) ≡ keys_of (rings_in (boxed_slice_items queues.old)) }
     ensures sizes { room_sizes (boxed_slice_items queues.new) ≡ room_sizes (boxed_slice_items queues.old) }
     ensures settled { AreSettled (boxed_slice_items queues.old) → AreSettled (boxed_slice_items queues.new) }
+    ensures refused { result ≡ None → boxed_slice_items queues.new ≡ boxed_slice_items queues.old }
 {
     queues[place].take_front()
 }
@@ -68,6 +69,7 @@ pub(crate) fn take_from(
     ensures keys { keys_of (rings_in (boxed_slice_items queues.new)) ≡ keys_of (rings_in (boxed_slice_items queues.old)) }
     ensures sizes { room_sizes (boxed_slice_items queues.new) ≡ room_sizes (boxed_slice_items queues.old) }
     ensures settled { AreSettled (boxed_slice_items queues.old) → AreSettled (boxed_slice_items queues.new) }
+    ensures refused { result ≡ None → boxed_slice_items queues.new ≡ boxed_slice_items queues.old }
 {
     match place_of(queues, table, key) {
         Some(place) => take_at(queues, place),

@@ -1,6 +1,6 @@
 //! What a channel works with, in rooms that are made at the start or that grow.
 
-ghost use Rattle.std.specs.Prelude.{List, ℕ, ◌≡◌, false, [], ◌<◌, ◌≤◌, ◌+◌, length, option_map, IfOk, IsOk, OnOk, OnErr, IsSome, IsTrue, ◌↔◌, Option};
+ghost use Rattle.std.specs.Prelude.{List, ℕ, ◌≡◌, false, [], ◌<◌, ◌≤◌, ◌+◌, length, option_map, IfOk, IsOk, OnOk, OnErr, IsSome, IsTrue, ◌↔◌, None, Option};
 ghost use Rattle.tc_packet.specs.declared.Service.{Service};
 ghost use Rattle.tc_packet.specs.declared.Service.TheVariants.{Bd};
 ghost use Rattle.tc_packet.specs.Reassembly.{run_at, stream_place};
@@ -295,6 +295,7 @@ impl Workings<GrowingRoom> {
         ensures packet { (limits : ℕ → ℕ) (s : Settings) (journal : List Event) → HoldsInRooms limits s journal self.old
             → option_map (λ packet. packet.items) result ≡ take_reply_within limits s journal apid }
         ensures done { IsSome result → GoOn (Event.Take apid) self.old self.new }
+        ensures refused { result ≡ None → self.new ≡ self.old }
     {
         self.queues.take(apid)
     }
@@ -304,6 +305,7 @@ impl Workings<GrowingRoom> {
         ensures unit { (limits : ℕ → ℕ) (s : Settings) (journal : List Event) → HoldsInRooms limits s journal self.old
             → option_map (λ unit. unit.items) result ≡ unit_reply_within limits s journal map }
         ensures done { IsSome result → GoOn (Event.TakeUnit map) self.old self.new }
+        ensures refused { result ≡ None → self.new ≡ self.old }
     {
         self.units.take(map as u16)
     }

@@ -1,6 +1,6 @@
 //! Items that wait, in rooms of one size, and items that are laid behind them and don't count yet.
 
-ghost use Rattle.std.specs.Prelude.{◌≡◌, ◌≤◌, ◌<◌, ◌==◌, ◌+◌, ◌-◌, ◌++◌, [], length, map, get_or, drop, set, nat_lt, false, IfOk, IsOk, OnOk, OnErr, IfSome, slice_get, option_map, if◌then◌else◌};
+ghost use Rattle.std.specs.Prelude.{◌≡◌, ◌≤◌, ◌<◌, ◌==◌, ◌+◌, ◌-◌, ◌++◌, [], length, map, get_or, drop, set, nat_lt, false, IfOk, IsOk, OnOk, OnErr, IfSome, None, slice_get, option_map, if◌then◌else◌};
 ghost use Rattle.std.specs.Box.{boxed_slice_items};
 ghost use Rattle.tc_rooms.specs.Rooms.{held_room, laid, octets_of, slotted, HaveSize, IsLaidBehind};
 
@@ -230,6 +230,7 @@ impl Slots<GrowingRoom> {
     pub fn take_front(&mut self) -> Option<Vec<u8>>
         ensures item { option_map (λ block. block.items) result ≡ slice_get self.old.ring.items 0 }
         ensures taken { self.new ≡ slotted (drop 1 self.old.ring.items) self.old.ring.capacity self.old.laid self.old.size }
+        ensures refused { result ≡ None → self.new ≡ self.old }
     {
         if self.waiting == 0 {
             return None;

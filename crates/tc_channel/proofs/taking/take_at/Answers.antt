@@ -1,5 +1,7 @@
 use Rattle.std.proofs.Common.{ap, sym, ◌∙◌}
+use Rattle.std.specs.Prelude.{set}
 use Rattle.std.specs.Box.{boxed_slice_items}
+use Rattle.std.proofs.lemmas.List.{set-get_or}
 use Rattle.tc_rooms.specs.Rooms.{Slotted}
 use Rattle.tc_channel.proofs.InRooms.{same-sizes, settled-set}
 use Rattle.tc_channel.proofs.Found.{popped-in, keys-set, oldest-in}
@@ -19,3 +21,6 @@ returns-clause-settled c = λ all. settled-set (boxed_slice_items c.args.queues.
 
 pub returns-clause-keys : goal.returns-clause-keys
 returns-clause-keys c = keys-set (boxed_slice_items c.args.queues.now) c.args.place c.index_mut.result.now _ c.index_mut.ensures.value c.take_front.ensures.key
+
+pub returns-clause-refused : goal.returns-clause-refused
+returns-clause-refused c = λ none. ap (set (boxed_slice_items c.args.queues.now) c.args.place) (c.take_front.ensures.refused none ∙ c.index_mut.ensures.value) ∙ set-get_or (boxed_slice_items c.args.queues.now) c.args.place c.index_mut.result.now
