@@ -1,11 +1,7 @@
 -- What waits in a channel, and the bound of its memory.
 use Rattle.std.proofs.Common.{◌≡◌, ℕ, ◌+◌, ◌*◌, ◌≤◌, Bool, true, false, List, length, arith}
-use Rattle.tc_packet.specs.Reassembly.{largest_unit}
-use Rattle.tc_channel.specs.declared.settings.Settings.{Settings}
-use Rattle.tc_channel.specs.declared.event.Event.{Event}
-use Rattle.tc_channel.specs.ChannelState.{buffer}
-use Rattle.tc_channel.specs.Memory.{room_words, queue_words, largest_field, largest_item, packets_held, units_held, runs_memory, tables_memory, segment_memory, memory_bound, memory_waiting, waiting_in_all, octets_in, octets_waiting}
-use Rattle.tc_channel.specs.Run.{IsLawfulWithin, run_within}
+use Rattle.tc_channel.proofs.Names.{largest_unit, Settings, Event, buffer, IsLawfulWithin, run_within}
+use Rattle.tc_channel.specs.Memory.{room_words, queue_words, largest_field, largest_item, packets_held, units_held, runs_memory, tables_memory, segment_memory, memory_waiting, waiting_in_all, octets_in, octets_waiting, memory_bound}
 use Rattle.tc_channel.proofs.Octets.{fields-fit, packets-fit, units-fit}
 use Rattle.tc_channel.proofs.Room.{packets-within, units-within}
 

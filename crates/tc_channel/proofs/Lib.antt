@@ -1,3 +1,6 @@
+pub mod Lists
+pub mod Walking
+pub mod Names
 pub mod Runs
 pub mod Sound
 pub mod BufferSize

@@ -2,9 +2,8 @@
 use Rattle.std.proofs.Common.{◌≡◌, ◌≢◌, ℕ, zero, suc, List, [], ◌∷◌, ◌++◌, refl, inl, inr, arith}
 use Rattle.std.specs.Prelude.{All, AllPairs}
 use Rattle.std.specs.List.{AllByRecursion}
-use Rattle.tc_channel.specs.declared.settings.Settings.{Settings}
+use Rattle.tc_channel.proofs.Names.{Settings, IsFreeOf, IsFirstFault}
 use Rattle.tc_channel.specs.declared.settings.SettingsFault.{SettingsFault}
-use Rattle.tc_channel.specs.Settings.{IsFreeOf, IsFirstFault}
 
 pub both : {A : Type 0} (P : A → Type 0) (one other : A) → P one → P other → All P (one ∷ other ∷ [])
 both P one other p q zero d inside = p
@@ -15,11 +14,10 @@ pub first-not : {A : Type 0} (P : A → Type 0) (one : A) (others : List A) → 
 first-not P one others not_it all = not_it (all 0 one (omega arith))
 
 pub two-apart : {A : Type 0} (key : A → ℕ) (one other : A) → key one ≢ key other → AllPairs (λ p q. key p ≢ key q) (one ∷ other ∷ [])
-two-apart key one other ne zero zero d before inside = absurd (omega arith)
 two-apart key one other ne zero (suc zero) d before inside = ne
 two-apart key one other ne (suc i) zero d before inside = absurd (omega arith)
 two-apart key one other ne (suc i) (suc zero) d before inside = absurd (omega arith)
-two-apart key one other ne i (suc (suc j)) d before inside = absurd (omega arith)
+two-apart key one other ne _ _ d before inside = absurd (omega arith)
 
 pub not-two-apart : {A : Type 0} (key : A → ℕ) (one other : A) → key one ≡ key other → ¬ AllPairs (λ p q. key p ≢ key q) (one ∷ other ∷ [])
 not-two-apart key one other same apart = apart 0 1 one (omega arith) (omega arith) same

@@ -3,14 +3,8 @@ use Rattle.std.proofs.Common.{◌≡◌, ℕ, ◌+◌, ◌≤◌, Bool, true, fa
 use Rattle.std.specs.Prelude.{nat_lt, sum_by}
 use Rattle.std.proofs.lemmas.List.{length-drop}
 use Rattle.std.proofs.lemmas.List.Sums.{sum_by-cons}
-use Rattle.tc_channel.specs.declared.settings.QueueSetting.{QueueSetting}
-use Rattle.tc_channel.specs.declared.settings.MapSetting.{MapSetting}
-use Rattle.tc_channel.specs.declared.settings.Settings.{Settings}
-use Rattle.tc_channel.specs.declared.event.Event.{Event}
-use Rattle.tc_channel.specs.ChannelState.{Queue, empty_queue, empty_unit_queue, waiting}
-use Rattle.tc_channel.specs.Admission.{with_share, with_shares}
+use Rattle.tc_channel.proofs.Names.{QueueSetting, MapSetting, Settings, Event, Queue, empty_queue, empty_unit_queue, waiting, with_share, with_shares, taken_from, run_within}
 use Rattle.tc_channel.specs.Memory.{packets_held, units_held, waiting_in_all}
-use Rattle.tc_channel.specs.Run.{taken_from, run_within}
 use Rattle.tc_channel.proofs.StateQueues.{GoesOn, AreKept, run-both, queues-kept, units-kept}
 
 abbrev room : List Queue → ℕ

@@ -1,64 +1,27 @@
 -- The CLCW of a lawful journal fits 32 bits.
-use Rattle.std.proofs.Common.{ℕ, ◌<◌, ◌≤◌, ◌^◌, Bool, true, false, List, [], ◌∷◌, arith}
+use Rattle.std.proofs.Common.{ℕ, ◌<◌, ◌≤◌, ◌^◌, Bool, true, false, List, arith}
 use Rattle.std.specs.Prelude.{unwrap_or}
 use Rattle.tc_link.specs.Bits.{bit}
-use Rattle.tc_link.specs.declared.Report.{Report}
+use Rattle.tc_channel.proofs.Names.{Report, State, S1, Row, E1, E10, entry_at, Settings, Event, Frame, Release, IsAllowed, ChannelState, step, row_of, IsLawfulWithin}
 use Rattle.tc_link.specs.declared.Link.{Link}
-use Rattle.tc_link.specs.declared.State.{State}
-use Rattle.tc_link.specs.declared.State.TheVariants.{S1, S2, S3}
-use Rattle.tc_link.specs.Farm.{Row, E1, E2, E3, E4, E5, E6, E7, E8, E9, E10, entry_at}
-use Rattle.tc_channel.specs.declared.settings.Settings.{Settings}
-use Rattle.tc_channel.specs.declared.event.Event.{Event}
-use Rattle.tc_channel.specs.declared.event.Event.TheVariants.{Frame, Release, Take, TakeUnit}
-use Rattle.tc_channel.specs.Settings.{IsAllowed}
-use Rattle.tc_channel.specs.ChannelState.{ChannelState, first_state_within}
-use Rattle.tc_channel.specs.Run.{step, row_of, passed_on, run_from, run_within, IsLawfulWithin}
+use Rattle.tc_channel.specs.Run.{passed_on, run_within}
 use Rattle.tc_channel.specs.Reply.{clcw_within}
 use Rattle.tc_channel.proofs.Small.{vr-below}
+use Rattle.tc_channel.proofs.Runs.{always}
 
 counter-below : (row : Row) (st : State) (r : Report) → r.farm_b < 4 → (unwrap_or (entry_at row st r) r).farm_b < 4
 counter-below E1 S1 r h = h
-counter-below E1 S2 r h = h
-counter-below E1 S3 r h = h
-counter-below E2 S1 r h = h
-counter-below E2 S2 r h = h
-counter-below E2 S3 r h = h
-counter-below E3 S1 r h = h
-counter-below E3 S2 r h = h
-counter-below E3 S3 r h = h
-counter-below E4 S1 r h = h
-counter-below E4 S2 r h = h
-counter-below E4 S3 r h = h
-counter-below E5 S1 r h = h
-counter-below E5 S2 r h = h
-counter-below E5 S3 r h = h
-counter-below E6 S1 r h = omega arith
-counter-below E6 S2 r h = omega arith
-counter-below E6 S3 r h = omega arith
-counter-below E7 S1 r h = omega arith
-counter-below E7 S2 r h = omega arith
-counter-below E7 S3 r h = omega arith
-counter-below (E8 x) S1 r h = omega arith
-counter-below (E8 x) S2 r h = omega arith
-counter-below (E8 x) S3 r h = omega arith
-counter-below E9 S1 r h = h
-counter-below E9 S2 r h = h
-counter-below E9 S3 r h = h
-counter-below E10 S1 r h = h
-counter-below E10 S2 r h = h
-counter-below E10 S3 r h = h
+counter-below row S1 r h = omega arith
+counter-below _ _ r h = omega arith
 
-run_from-counter : (c : Settings) (b : ChannelState) (es : List Event) → b.report.farm_b < 4 → (run_from c b es).report.farm_b < 4
+step-counter : (c : Settings) (b : ChannelState) (e : Event) → b.report.farm_b < 4 → (step c b e).report.farm_b < 4
 unfolding passed_on
-run_from-counter c b [] h = h
-run_from-counter c b (Frame octets ∷ es) h = run_from-counter c (step c b (Frame octets)) es (counter-below (row_of c b octets) b.report.state b.report h)
-run_from-counter c b (Release ∷ es) h = run_from-counter c (step c b Release) es (counter-below E10 b.report.state b.report h)
-run_from-counter c b (Take apid ∷ es) h = run_from-counter c (step c b (Take apid)) es h
-run_from-counter c b (TakeUnit map_id ∷ es) h = run_from-counter c (step c b (TakeUnit map_id)) es h
+step-counter c b (Frame octets) h = counter-below (row_of c b octets) b.report.state b.report h
+step-counter c b Release h = counter-below E10 b.report.state b.report h
+step-counter c b _ h = h
 
 run-counter : (limits : ℕ → ℕ) (c : Settings) (journal : List Event) → (run_within limits c journal).report.farm_b < 4
-unfolding run_within
-run-counter limits c journal = run_from-counter c (first_state_within limits c) journal (omega arith)
+run-counter limits c journal = always (λ b. b.report.farm_b < 4) limits c journal (step-counter c) (omega arith)
 
 bit-most : (b : Bool) → bit b ≤ 1
 bit-most true = omega arith
