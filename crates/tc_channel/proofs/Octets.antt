@@ -1,11 +1,11 @@
--- How many octets wait in the queues and in the buffer.
-use Rattle.std.proofs.Common.{ℕ, zero, suc, ◌+◌, ◌*◌, ◌≤◌, Bool, true, false, cond, eqb, ◌&&◌, List, [], ◌∷◌, length, take, map, drop, filter, Option, Some, arith}
+-- How many octets wait in the queues and in the buffer, and the bound of memory.
+use Rattle.std.proofs.Common.{ℕ, zero, suc, ◌+◌, ◌*◌, ◌≤◌, Bool, true, false, cond, eqb, ◌&&◌, List, [], ◌∷◌, length, take, map, drop, filter, Option, Some, arith, ◌≡◌}
 use Rattle.std.specs.Prelude.{nat_lt}
 use Rattle.std.specs.List.{AllByRecursion}
 use Rattle.std.proofs.lemmas.List.{length-drop, length-map, length-take}
 use Rattle.std.proofs.lemmas.List.Sums.{sum_by-cons}
-use Rattle.tc_channel.proofs.Names.{HasStep, IsWhole, Row, accepts, Service, Bd, IsWithinLimit, unit_ended, largest_unit, stream, begins, named_length, packets_within, Settings, Event, Frame, Release, Take, TakeUnit, ChannelState, Accepted, Queue, empty_queue, empty_unit_queue, buffer, waiting, map_of, is_chosen, packets_offered, units_offered, share_of, with_shares, room_of, is_for, is_of_map, step, row_of, kept, taken_from, unit_of, first_of}
-use Rattle.tc_channel.specs.Memory.{largest_field, packets_held, units_held, waiting_in_all, octets_in, octets_waiting}
+use Rattle.tc_channel.proofs.Names.{HasStep, IsWhole, Row, accepts, Service, Bd, IsWithinLimit, unit_ended, largest_unit, stream, begins, named_length, packets_within, Settings, Event, Frame, Release, Take, TakeUnit, ChannelState, Accepted, Queue, empty_queue, empty_unit_queue, buffer, waiting, map_of, is_chosen, packets_offered, units_offered, share_of, with_shares, room_of, is_for, is_of_map, step, row_of, kept, taken_from, unit_of, first_of, IsLawfulWithin, run_within}
+use Rattle.tc_channel.specs.Memory.{largest_field, packets_held, units_held, waiting_in_all, octets_in, octets_waiting, room_words, queue_words, largest_item, runs_memory, tables_memory, segment_memory, memory_waiting, memory_bound}
 use Rattle.tc_link.specs.Frame.{header_of as frame_header}
 use Rattle.tc_packet.specs.declared.Service.TheVariants.{Ad}
 use Rattle.tc_channel.specs.Run.{passed_on, IsLawfulWithin, run_within}
@@ -141,3 +141,19 @@ fields-fit limits s journal lawful =
       length-map waiting (λ (a : Accepted). a.field),
       buffer-fits limits s journal,
     )
+
+-- ---- what waits in a channel, and the bound of its memory
+-- of plain numbers: so many queues and MAPs, the packets, units and data fields that they may hold, those that wait, with their octets
+fits : (segmented : Bool) (queues maps held held_units fields packets octets units unit_octets field_octets runs tables segment : ℕ) → segmented ≡ true
+    → packets ≤ held → octets ≤ held * largest_unit → units ≤ held_units → unit_octets ≤ held_units * largest_unit → field_octets ≤ fields * largest_field
+    → (queues + maps) * queue_words + (packets * room_words + octets) + (units * room_words + unit_octets) + field_octets
+    ≤ fields * (room_words + largest_field) + runs + ((queues + maps) * queue_words + held * (room_words + largest_item segmented) + held_units * (room_words + largest_unit)) + tables + segment
+fits true queues maps held held_units fields packets octets units unit_octets field_octets runs tables segment e a b c d f = omega arith
+fits false queues maps held held_units fields packets octets units unit_octets field_octets runs tables segment e a b c d f = absurd cc
+
+pub waits-within : (limits : ℕ → ℕ) (s : Settings) (journal : List Event) → s.segmented ≡ true → IsLawfulWithin limits s journal → memory_waiting s (run_within limits s journal) ≤ memory_bound s
+unfolding memory_bound
+waits-within limits s journal segmented lawful =
+    let state = run_within limits s journal in
+    fits s.segmented (length s.queues) (length s.maps) (packets_held s) (units_held s) s.buffer (waiting_in_all state.queues) (octets_waiting state.queues) (waiting_in_all state.units) (octets_waiting state.units) (octets_in (buffer state)) (runs_memory s) (tables_memory s) (segment_memory s)
+    segmented (packets-within limits s journal) (packets-fit limits s journal) (units-within limits s journal) (units-fit limits s journal) (fields-fit limits s journal lawful)

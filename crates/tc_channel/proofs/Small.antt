@@ -1,15 +1,18 @@
--- Numbers of octets are below 256: V(R), and the number of each accepted frame.
-use Rattle.std.proofs.Common.{◌≡◌, ◌≢◌, ℕ, ◌+◌, ◌<◌, Bool, true, false, cond, eqb, ◌&&◌, List, [], ◌∷◌, drop, Option, Some, None, refl, arith}
+-- Numbers are small: V(R), the number of each accepted frame, the counter, and so the CLCW.
+use Rattle.std.proofs.Common.{◌≡◌, ◌≢◌, ℕ, ◌+◌, ◌<◌, Bool, true, false, cond, eqb, ◌&&◌, List, [], ◌∷◌, drop, Option, Some, None, refl, arith, ◌≤◌, ◌^◌}
 use Rattle.std.specs.Prelude.{unwrap_or}
 use Rattle.std.proofs.lemmas.List.{get_or-drop}
-use Rattle.tc_channel.proofs.Names.{HasStep, Report, State, S1, S2, Kind, Unlock, SetVr, Expected, IsOctets, command_of, control_kind, kind_by, kind_of, Row, E1, E8, E10, row_at, frame_row, entry_at, Settings, Event, Frame, Release, ChannelState, has_room, step, row_of}
+use Rattle.tc_channel.proofs.Names.{HasStep, Report, State, S1, S2, Kind, Unlock, SetVr, Expected, IsOctets, command_of, control_kind, kind_by, kind_of, Row, E1, E8, E10, row_at, frame_row, entry_at, Settings, Event, Frame, Release, ChannelState, has_room, step, row_of, IsAllowed, IsLawfulWithin}
 use Rattle.tc_link.specs.declared.Place.{Place}
 use Rattle.tc_link.specs.declared.Kind.TheVariants.{Ad, Bc}
 use Rattle.tc_link.specs.declared.Command.{Command}
 use Rattle.tc_link.specs.Window.{place_of}
 use Rattle.tc_link.specs.Frame.{header_of}
 use Rattle.tc_channel.specs.Run.{passed_on, run_within, IsLawfulWithin}
-use Rattle.tc_channel.proofs.Runs.{keeps}
+use Rattle.tc_channel.proofs.Runs.{keeps, always}
+use Rattle.tc_link.specs.Bits.{bit}
+use Rattle.tc_link.specs.declared.Link.{Link}
+use Rattle.tc_channel.specs.Reply.{clcw_within}
 
 set-below : (field : List ℕ) (x : ℕ) → IsOctets field → command_of field ≡ Some (SetVr x) → x < 256
 set-below (a ∷ []) x h e = by (eqb a 0) e where
@@ -60,3 +63,36 @@ step-below c b _ has v = v
 
 pub vr-below : (limits : ℕ → ℕ) (c : Settings) (journal : List Event) → c.first < 256 → IsLawfulWithin limits c journal → (run_within limits c journal).report.vr < 256
 vr-below limits c journal first lawful = keeps (λ b. b.report.vr < 256) limits c journal lawful (step-below c) first
+
+-- ---- the CLCW of a lawful journal fits 32 bits
+counter-below : (row : Row) (st : State) (r : Report) → r.farm_b < 4 → (unwrap_or (entry_at row st r) r).farm_b < 4
+counter-below E1 S1 r h = h
+counter-below row S1 r h = omega arith
+counter-below _ _ r h = omega arith
+
+step-counter : (c : Settings) (b : ChannelState) (e : Event) → b.report.farm_b < 4 → (step c b e).report.farm_b < 4
+unfolding passed_on
+step-counter c b (Frame octets) h = counter-below (row_of c b octets) b.report.state b.report h
+step-counter c b Release h = counter-below E10 b.report.state b.report h
+step-counter c b _ h = h
+
+run-counter : (limits : ℕ → ℕ) (c : Settings) (journal : List Event) → (run_within limits c journal).report.farm_b < 4
+run-counter limits c journal = always (λ b. b.report.farm_b < 4) limits c journal (step-counter c) (omega arith)
+
+bit-most : (b : Bool) → bit b ≤ 1
+bit-most true = omega arith
+bit-most false = omega arith
+
+pub clcw-fits : (limits : ℕ → ℕ) (c : Settings) (journal : List Event) (link : Link) → IsAllowed c → IsLawfulWithin limits c journal → clcw_within limits c journal link < 2 ^ 32
+unfolding clcw_within
+clcw-fits limits c journal link allowed lawful =
+    let r = (run_within limits c journal).report in
+    let vcid = allowed.vcid in
+    let vr = vr-below limits c journal allowed.first lawful in
+    let farm_b = run-counter limits c journal in
+    let no_rf = bit-most link.no_rf in
+    let no_bit_lock = bit-most link.no_bit_lock in
+    let lockout = bit-most r.lockout in
+    let wait = bit-most r.wait in
+    let retransmit = bit-most r.retransmit in
+    omega arith

@@ -52,11 +52,15 @@ keys-with_shares : (wanted : ℕ → List ℕ → Bool) (items : List (List ℕ)
 keys-with_shares wanted items [] = refl
 keys-with_shares wanted items (q ∷ qs) = ap (λ (x : List ℕ). q.key ∷ x) (keys-with_shares wanted items qs)
 
-pub taken-key : (key : ℕ) (q : Queue) → (taken_from key q).key ≡ q.key
-taken-key key q = by (eqb q.key key && nat_lt q.taken (length q.admitted)) where
-  by : (t : Bool) → (cond t (record q { taken = q.taken + 1 }) q).key ≡ q.key
-  by true = refl
+-- a take changes only how many were taken
+pub taken-same : {A : Type 0} (f : Queue → A) → ((q : Queue) (n : ℕ) → f (record q { taken = n }) ≡ f q) → (key : ℕ) (q : Queue) → f (taken_from key q) ≡ f q
+taken-same f same key q = by (eqb q.key key && nat_lt q.taken (length q.admitted)) where
+  by : (t : Bool) → f (cond t (record q { taken = q.taken + 1 }) q) ≡ f q
+  by true = same q (q.taken + 1)
   by false = refl
+
+pub taken-key : (key : ℕ) (q : Queue) → (taken_from key q).key ≡ q.key
+taken-key = taken-same (λ q. q.key) (λ q n. refl)
 
 keys-taken : (key : ℕ) (qs : List Queue) → keys (map (taken_from key) qs) ≡ keys qs
 keys-taken key [] = refl

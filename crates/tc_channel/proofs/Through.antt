@@ -1,6 +1,6 @@
 -- What queues admit is what the passed data fields make, in order, of which some may be left out.
-use Rattle.std.proofs.Common.{◌≡◌, ℕ, zero, suc, ◌+◌, ◌-◌, ◌≤◌, Bool, true, false, cond, eqb, ◌&&◌, List, [], ◌∷◌, ◌++◌, length, map, filter, take, drop, Some, refl, sym, ap, subst, ◌∙◌, inl, inr, append_assoc, arith}
-use Rattle.std.specs.Prelude.{nat_lt, is_some, slice_get}
+use Rattle.std.proofs.Common.{◌≡◌, ℕ, zero, suc, ◌+◌, ◌-◌, ◌≤◌, Bool, true, false, cond, eqb, List, [], ◌∷◌, ◌++◌, length, map, filter, take, drop, Some, refl, sym, ap, subst, ◌∙◌, inl, inr, append_assoc, arith}
+use Rattle.std.specs.Prelude.{is_some, slice_get}
 use Rattle.std.proofs.lemmas.List.{append-nil, length-drop}
 use Rattle.tc_channel.proofs.Names.{accepts, Service, Bd, Passed, Settings, MapSetting, Event, Frame, Release, Take, TakeUnit, ChannelState, Accepted, Queue, first_state_within, empty_queue, empty_unit_queue, buffer, queue_of, is_for, is_of_map, map_of, is_chosen, packets_offered, units_offered, room_of, with_shares, step, row_of, unit_of, taken_from, first_of, IsLawfulWithin}
 use Rattle.tc_channel.specs.Given.{packets_given, units_given}
@@ -10,7 +10,7 @@ use Rattle.tc_channel.specs.Run.{passed_on, run_within}
 use Rattle.tc_channel.specs.Through.{IsPartOf, unit_made, is_chosen_by, packets_ended, units_ended, all_made, packets_made, units_made, passed_since, released_since, sent_from}
 use Rattle.tc_channel.proofs.Runs.{run-push, from-first}
 use Rattle.tc_channel.proofs.Plain.{run-segmented, run-limit}
-use Rattle.tc_channel.proofs.StateQueues.{keys, kept-either, unit-keys-stay}
+use Rattle.tc_channel.proofs.StateQueues.{keys, taken-same, kept-either, unit-keys-stay}
 use Rattle.tc_channel.proofs.Given.{found-key, set-up, found-shared, found-taken, packets-in-order, units-in-order, fields-in-order, released-within}
 use Rattle.tc_channel.proofs.Eras.{all-sent}
 
@@ -109,17 +109,11 @@ admits-shared key Ended wanted items qs passed p same h = record {
       rw (found.2, made-push Ended [] passed p) (part-append old.admitted (all_made Ended [] passed) (take (room_of old) (filter (wanted old.key) items)) (Ended passed p) was more);
 }
 
-taken-admitted : (key : ℕ) (q : Queue) → (taken_from key q).admitted ≡ q.admitted
-taken-admitted key q = by (eqb q.key key && nat_lt q.taken (length q.admitted)) where
-  by : (t : Bool) → (cond t (record q { taken = q.taken + 1 }) q).admitted ≡ q.admitted
-  by true = refl
-  by false = refl
-
 admits-taken : (key other : ℕ) (Ended : List Passed → Passed → List (List ℕ)) (qs : List Queue) (passed : List Passed) → Admits key Ended qs passed → Admits key Ended (map (taken_from other) qs) passed
 admits-taken key other Ended qs passed h = record {
   each = λ new e.
       let found = found-taken key other qs new e in
-      rw (found.2, taken-admitted other found.0) (h.each found.0 found.1);
+      rw (found.2, taken-same {A = List (List ℕ)} (λ q. q.admitted) (λ q n. refl) other found.0) (h.each found.0 found.1);
 }
 
 -- a state whose queue with this APID, and whose unit queue of this MAP, are so

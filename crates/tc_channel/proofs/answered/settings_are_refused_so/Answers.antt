@@ -4,7 +4,7 @@ use Rattle.tc_link.specs.Window.{IsWidth}
 use Rattle.tc_channel.specs.declared.settings.SettingsFault.TheVariants as faults
 use Rattle.tc_channel.specs.Settings.{IsFault}
 use Rattle.tc_channel.specs.Examples.{channel_of, two_apids, two_maps}
-use Rattle.tc_channel.proofs.Refused.{both, first-not, two-apart, not-two-apart, first-of}
+use Rattle.tc_channel.proofs.Faults.{both, first-not, two-apart, not-two-apart, first-of}
 use Rattle.tc_channel.proofs.answered.settings_are_refused_so.Goals as goal
 
 abbrev queue : ℕ → ℕ → QueueSetting
