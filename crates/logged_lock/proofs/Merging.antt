@@ -156,8 +156,6 @@ number-of-tag k = omega arith
 
 owned-numbered : {E : Type 0} (n k at : ℕ) (os : List ℕ) (es : List E) → all_tagged n os ≡ length os → owned k at (map number_of os) es ≡ owned (told_tag k) at os es
 unfolding all_tagged
-owned-numbered n k at [] es all = refl
-owned-numbered n k at (o ∷ os) [] all = refl
 owned-numbered n k at (o ∷ os) (e ∷ es) all =
     let one : tagged n o ≡ 1 = omega (arith, tagged-one n o, all-at-most n os, all) in
     let more = owned-numbered n k (suc at) os es (omega (arith, tagged-one n o, all-at-most n os, all)) in
@@ -167,6 +165,7 @@ owned-numbered n k at (o ∷ os) (e ∷ es) all =
     (λ same. owned-own k at (number_of o) (map number_of os) e es (number ∙ same) ∙ (ap (λ l. (at, e) ∷ l) more ∙ sym (owned-own (told_tag k) at o os e es (j.1 ∙ ap told_tag same))))
     (λ apart. owned-other k at (number_of o) (map number_of os) e es (λ h. apart (sym number ∙ h))
     ∙ (more ∙ sym (owned-other (told_tag k) at o os e es (λ h. apart (sym (number-of-tag j.0) ∙ (ap number_of (sym j.1 ∙ h) ∙ number-of-tag k))))))
+owned-numbered n k at _ _ all = refl
 
 pub merges : {D E : Type 0} (now : Log D E) (owners : List ℕ) (told : List (Account D E)) → length owners ≡ length now.entries → AreTold now owners told → total_made told ≡ length now.entries → IsMergeOf now.entries told
 merges now owners told long are all =

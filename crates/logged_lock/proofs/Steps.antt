@@ -253,12 +253,11 @@ module _ {S D E : Type 0} (log : S → Log D E) (fits : S → Type 0) (top : D) 
 
   -- the lock is taken where its word is this free one
   pub takes_lock : (slots id : ℕ) (me : Me S (View D E)) (current next : ℕ) → current < 2 → 2 ≤ next → IsIdle me → Allows Kept slots id me 16 (swapped current next) (Takes me current)
-  takes_lock slots id me current zero free some_mark idle s b len at small = absurd (omega arith)
-  takes_lock slots id me current (suc zero) free some_mark idle s b len at small = absurd (omega arith)
   takes_lock slots id me current (suc (suc mark)) free some_mark idle s b len at small = ⊎_elim
       (λ (f : IsFree log fits s.words s.homes b.now b.holder). dite (ℕ_discrete f.mark current) (takes-free s id me current mark idle b at f) (misses s id me f.mark current (suc (suc mark)) b at f.word))
       (λ (t : IsTakenOut s.words s.homes). misses s id me (suc (suc t.mark)) current (suc (suc mark)) b at t.word (not-current t.mark current free))
       b.lock
+  takes_lock slots id me current _ free some_mark idle s b len at small = absurd (omega arith)
 
   -- a taken lock's word becomes another of a taken lock
   marks-free : (s : State S (View D E)) (id : ℕ) (me : Me S (View D E)) (current next : ℕ) → 2 ≤ current → (b : Kept s) → get_elem? s.views id ≡ some me.0
@@ -289,9 +288,8 @@ module _ {S D E : Type 0} (log : S → Log D E) (fits : S → Type 0) (top : D) 
       )
 
   pub marks : (slots id : ℕ) (me : Me S (View D E)) (current next : ℕ) → 2 ≤ current → 2 ≤ next → Allows Kept slots id me 16 (swapped current next) (λ _ w. w ≡ me)
-  marks slots id me current zero taken some_mark s b len at small = absurd (omega arith)
-  marks slots id me current (suc zero) taken some_mark s b len at small = absurd (omega arith)
   marks slots id me current (suc (suc mark)) taken some_mark s b len at small = ⊎_elim (marks-free s id me current (suc (suc mark)) taken b at) (marks-away s id me current mark b at) b.lock
+  marks slots id me current _ taken some_mark s b len at small = absurd (omega arith)
 
   -- what is kept is put back, where the state but for the lock is right already
   puts-back : (s : State S (View D E)) (id : ℕ) (me : Me S (View D E)) (free : ℕ) (y : S) (w : View D E) (then : ℕ → Me S (View D E) → Type 0) → me.1 ≡ (0, y) ∷ [] → IsTakenOut s.words s.homes

@@ -6,14 +6,12 @@ use Rattle.std.proofs.lemmas.Grind.{flat_map-append}
 use Rattle.std.proofs.lemmas.List.{append-nil, length-append}
 use Rattle.tc_packet.specs.declared.segment.Part.{Part}
 use Rattle.tc_packet.specs.declared.segment.Part.TheVariants.{First, Continuing, Last, Unsegmented}
-use Rattle.tc_packet.specs.declared.Service.{Service}
-use Rattle.tc_packet.specs.declared.Service.TheVariants.{Ad, Bd}
-use Rattle.tc_packet.specs.Segment.{header_of, body_of}
-use Rattle.tc_packet.specs.Reassembly.{IsPart, Passed, at_most, bounded, ended_by, extended, is_of, joined_bodies, open_run, same_service, stream, unit_at}
+use Rattle.tc_channel.proofs.Names.{Service, Bd, IsPart, Passed, at_most, bounded, ended_by, extended, is_of, joined_bodies, open_run, same_service, stream, unit_at, Settings}
+use Rattle.tc_packet.specs.Segment.{body_of, header_of}
+use Rattle.tc_channel.specs.Given.{as_list}
+use Rattle.tc_packet.specs.declared.Service.TheVariants.{Ad}
 use Rattle.tc_packet.specs.Runs.{next_run}
 use Rattle.tc_packet.proofs.OpenRuns.{open_run-push}
-use Rattle.tc_channel.specs.declared.settings.Settings.{Settings}
-use Rattle.tc_channel.specs.Given.{as_list}
 use Rattle.tc_channel.specs.Through.{all_made, unit_made}
 use Rattle.tc_channel.specs.Account.{Share, AccountFor, AreAllSegments, AreShares, BeginUnit, IsRun, fields_in, open_in, unit_on, units_in}
 use Rattle.tc_channel.specs.Account.Share.{Ended, Open, OverLimit, Broken, WithoutRun}
@@ -163,10 +161,9 @@ parted limit (f ∷ fs) before so_far is run = by-part limit before fs f (header
 -- the units of a stream among all fields that were passed on
 
 same-service : (one other : Service) (t : Bool) → (same_service one other && t) ≡ true → other ≡ one
-same-service Ad Ad t h = refl
-same-service Bd Bd t h = refl
 same-service Ad Bd t h = absurd cc
 same-service Bd Ad t h = absurd cc
+same-service _ _ t h = refl
 
 units-along : (limits : ℕ → ℕ) (s : Settings) (service : Service) (map_id : ℕ) (ps before : List Passed) → s.segmented ≡ true
     → all_made (unit_on limits s service map_id) before ps ≡ units_over (limits map_id) (stream service map_id before) (stream service map_id ps)

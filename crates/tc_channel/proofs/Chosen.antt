@@ -1,30 +1,22 @@
 -- Which units are delivered whole.
-use Rattle.std.proofs.Common.{◌≡◌, ◌≢◌, ◌<◌, ℕ, cond, take, ◌++◌, zero, suc, Bool, true, false, List, [], ◌∷◌, length, map, get_or, Option, Some, None, refl, sym, ap, ◌∙◌, inl, inr, arith}
+use Rattle.std.proofs.Common.{◌≡◌, ◌≢◌, ◌<◌, ℕ, cond, take, ◌++◌, zero, suc, Bool, true, false, List, [], ◌∷◌, length, map, get_or, Option, Some, refl, sym, ap, ◌∙◌, inl, inr, arith}
 use Rattle.std.specs.Prelude.{is_some, Any, ◌↔◌, IsTrue}
 use Rattle.std.proofs.lemmas.Bool.Decides.{eqb_tells, nat_tests}
 use Rattle.std.proofs.lemmas.Bool.{eq-eqb, ne_eqb}
 use Rattle.std.proofs.lemmas.List.{append-nil}
-use Rattle.tc_packet.specs.declared.Service.{Service}
-use Rattle.tc_channel.specs.declared.settings.Settings.{Settings}
-use Rattle.tc_channel.specs.declared.settings.MapSetting.{MapSetting}
-use Rattle.tc_channel.specs.declared.event.Event.{Event}
-use Rattle.tc_channel.specs.ChannelState.{ChannelState, Queue, queue_of}
-use Rattle.tc_channel.specs.Admission.{map_of, is_for, is_of_map, is_chosen, packets_offered, units_offered, with_share, room_of}
-use Rattle.tc_channel.specs.Run.{run_within, unit_of, passed_on}
-use Rattle.tc_channel.specs.Laws.{IsOfChosenMap, has_room_for_one}
+use Rattle.tc_channel.proofs.Names.{Service, Settings, MapSetting, Event, ChannelState, Queue, queue_of, map_of, is_for, is_of_map, is_chosen, packets_offered, units_offered, with_share, room_of, run_within, unit_of, IsOfChosenMap, has_room_for_one}
+use Rattle.tc_channel.specs.Run.{passed_on}
 use Rattle.tc_channel.proofs.Wholes.{take-one, take-nil}
 use Rattle.tc_channel.proofs.StateQueues.{keys, unit-keys-stay}
 use Rattle.tc_channel.proofs.Shares.{shares-none}
 
 no-packets : (unit : Option (List ℕ)) (chosen : Bool) → chosen ≡ true → packets_offered unit chosen ≡ []
-no-packets None chosen is = refl
-no-packets (Some unit) true is = refl
 no-packets (Some unit) false is = absurd cc
+no-packets _ _ is = refl
 
 no-units : (unit : Option (List ℕ)) (chosen : Bool) → (chosen ≡ true → ⊥) → units_offered unit chosen ≡ []
-no-units None chosen is = refl
 no-units (Some unit) true is = absurd (is refl)
-no-units (Some unit) false is = refl
+no-units _ _ is = refl
 
 pub whole-only : (b : ChannelState) (service : Service) (field : List ℕ) → is_chosen b field ≡ true → (passed_on service field b).queues ≡ b.queues
 unfolding passed_on
@@ -37,8 +29,6 @@ packets-only b service field other = rw (no-units (unit_of b service field) (is_
 -- a queue with a key is there where a setting has it
 by-settings : (key : ℕ) (qs : List Queue) (ms : List MapSetting) → keys qs ≡ map (λ (m : MapSetting). m.map) ms → (is_some (queue_of key qs) ≡ true → Any (λ (m : MapSetting). m.map ≡ key) ms) × (Any (λ (m : MapSetting). m.map ≡ key) ms → is_some (queue_of key qs) ≡ true)
 by-settings key [] [] e = (λ is. absurd cc, λ any. absurd (let lt = any.2 in omega arith))
-by-settings key [] (m ∷ ms) e = absurd cc
-by-settings key (q ∷ qs) [] e = absurd cc
 by-settings key (q ∷ qs) (m ∷ ms) e =
     let head : q.key ≡ m.map = cc in
     let tail : keys qs ≡ map (λ (m : MapSetting). m.map) ms = cc in
@@ -54,6 +44,7 @@ by-settings key (q ∷ qs) (m ∷ ms) e =
     later : (m : MapSetting) (ms : List MapSetting) (i : ℕ) (x : MapSetting) → i < length (m ∷ ms) → get_or (m ∷ ms) i x ≡ x → x.map ≡ key → (m.map ≡ key → ⊥) → Any (λ (m : MapSetting). m.map ≡ key) ms
     later m ms zero x lt at is other = absurd (other (ap (λ (y : MapSetting). y.map) at ∙ is))
     later m ms (suc i) x lt at is other = (i, x, omega arith, at, is)
+by-settings key _ _ e = absurd cc
 
 pub chosen-by-settings : (limits : ℕ → ℕ) (c : Settings) (journal : List Event) (field : List ℕ) → IsTrue (is_chosen (run_within limits c journal) field) ↔ IsOfChosenMap c field
 chosen-by-settings limits c journal field = by-settings (map_of field) (run_within limits c journal).units c.maps (unit-keys-stay limits c journal)

@@ -13,9 +13,8 @@ put-set (v ∷ ws) zero w p is lt = ap (λ (x : HeldQueue). longer x p ∷ ws) i
 put-set (v ∷ ws) (suc i) w p is lt = ap (λ (x : List HeldQueue). v ∷ x) (put-set ws i w p is (omega arith))
 
 pub length-put : (ws : List HeldQueue) (i : ℕ) (p : List ℕ) → length (put ws i p) ≡ length ws
-length-put [] i p = refl
-length-put (w ∷ ws) zero p = refl
 length-put (w ∷ ws) (suc i) p = let l = length-put ws i p in omega arith
+length-put _ _ p = refl
 
 pub length-put_all : (ws : List HeldQueue) (cs : List Placed) → length (put_all ws cs) ≡ length ws
 length-put_all ws [] = refl
@@ -24,15 +23,6 @@ length-put_all ws (c ∷ cs) = length-put_all (put ws c.place c.item) cs ∙ len
 pub put_all-push : (ws : List HeldQueue) (cs : List Placed) (c : Placed) → put_all ws (cs ++ c ∷ []) ≡ put (put_all ws cs) c.place c.item
 put_all-push ws [] c = refl
 put_all-push ws (d ∷ cs) c = put_all-push (put ws d.place d.item) cs c
-
--- the next copy is put, and the others are left
-pub put-next : (ws whole : List HeldQueue) (left others : List Placed) (c : Placed) (w : HeldQueue) → left ≡ c ∷ others → w ≡ get_or ws c.place w
-    → HavePlaces (length ws) left → put_all ws left ≡ whole
-    → HavePlaces (length (set ws c.place (longer w c.item))) others × (put_all (set ws c.place (longer w c.item)) others ≡ whole)
-put-next ws whole left others c w next is places all =
-    let places' = rw next at places in
-    let all' = rw next at all in
-    rw (put-set ws c.place w c.item is places'.0, length-put ws c.place c.item) (places'.1, all')
 
 pub places-append : (n : ℕ) (cs ds : List Placed) → HavePlaces n cs → HavePlaces n ds → HavePlaces n (cs ++ ds)
 places-append n [] ds h k = k

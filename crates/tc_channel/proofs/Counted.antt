@@ -1,12 +1,11 @@
 -- Queues with distinct keys take no item twice, where one key alone wants it.
-use Rattle.std.proofs.Common.{◌≡◌, ◌≢◌, ℕ, zero, suc, ◌+◌, ◌-◌, ◌≤◌, Bool, true, false, cond, eqb, ◌&&◌, List, [], ◌∷◌, length, map, filter, take, drop, refl, inl, inr, arith}
+use Rattle.std.proofs.Common.{◌≡◌, ◌≢◌, ℕ, ◌+◌, ◌-◌, ◌≤◌, Bool, true, false, cond, eqb, ◌&&◌, List, [], ◌∷◌, length, map, filter, refl, inl, inr, arith}
 use Rattle.std.specs.List.{AllByRecursion, sum_by}
 use Rattle.std.proofs.lemmas.List.{length-take}
 use Rattle.std.proofs.lemmas.List.Sums.{sum_by-cons}
 use Rattle.std.proofs.lemmas.Bool.Decides.{eqb_tells}
-use Rattle.tc_packet.specs.SpacePacket.{apid_of, is_telecommand, named_length, begins, packets_within, packets_of}
-use Rattle.tc_channel.specs.HeldQueues.{HeldQueue, share, shares_in, keys_of, AreDistinct}
-use Rattle.tc_channel.specs.Admission.{is_for}
+use Rattle.tc_channel.proofs.Names.{apid_of, is_telecommand, is_for}
+use Rattle.tc_channel.specs.HeldQueues.{HeldQueue, share, keys_of, AreDistinct}
 
 abbrev meant : (ℕ → List ℕ → Bool) → List (List ℕ) → ℕ → ℕ
 meant wanted ps key = length (filter (wanted key) ps)
@@ -83,20 +82,3 @@ shares-meant wanted ps (w ∷ ws) =
 -- no more items are queued than there are
 pub queued-within : (wanted : ℕ → List ℕ → Bool) → IsForOneKey wanted → (ps : List (List ℕ)) (ws : List HeldQueue) → AreDistinct (keys_of ws) → sum_by length (map (share wanted ps) ws) ≤ length ps
 queued-within wanted alone ps ws apart = let a = shares-meant wanted ps ws in let b = all-meant wanted alone ps (keys_of ws) apart in omega arith
-
--- a unit has no more packets than octets
-packets-short : (n : ℕ) (unit : List ℕ) → length (packets_within n unit) ≤ n
-packets-short zero unit = omega arith
-packets-short (suc n) unit = by (begins unit) (packets-short n (drop (named_length unit) unit)) where
-  by : (t : Bool) → length (packets_within n (drop (named_length unit) unit)) ≤ n
-      → length (cond t (take (named_length unit) unit ∷ packets_within n (drop (named_length unit) unit)) []) ≤ suc n
-  by true h = omega arith
-  by false h = omega arith
-
--- how many packets a unit has, and how many of them are queued
-pub copies-within : (unit : List ℕ) (ws : List HeldQueue) (n : ℕ) → length unit ≤ 65542 → AreDistinct (keys_of ws) → n ≡ shares_in is_for (packets_of unit) ws
-    → (n ≤ length (packets_of unit)) × (length (packets_of unit) ≤ 65542)
-copies-within unit ws n short apart is =
-    let few = packets-short (length unit) unit in
-    let within = queued-within is_for for-one (packets_of unit) ws apart in
-    (omega arith, omega arith)

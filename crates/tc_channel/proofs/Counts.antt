@@ -5,12 +5,12 @@ use Rattle.std.proofs.Math.Nat.{suc-mul}
 use Rattle.std.proofs.lemmas.Bool.Decides.{nat_tests}
 use Rattle.std.specs.List.{AllByRecursion}
 use Rattle.std.proofs.lemmas.List.{length-append, length-map}
-use Rattle.tc_packet.specs.SpacePacket.{IsPacket, joined, packets_of, rest_of}
-use Rattle.tc_packet.proofs.Cuts.{is-cut}
+use Rattle.tc_channel.proofs.Names.{IsPacket, joined, packets_of, rest_of}
 use Rattle.tc_rooms.specs.Runs.{IsAtMost}
 use Rattle.tc_channel.specs.HeldQueues.{keys_of}
 use Rattle.tc_channel.specs.Keyed.{Keyed, ring_in, rings_in}
 use Rattle.tc_channel.specs.Places.{IsTabled}
+use Rattle.tc_packet.proofs.Cuts.{is-cut}
 use Rattle.tc_channel.specs.Steps.{looks, most_looks, most_steps, packet_count, pass_steps, unit_steps}
 use Rattle.tc_channel.proofs.Tables.{keys-length}
 

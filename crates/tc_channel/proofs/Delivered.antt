@@ -3,16 +3,8 @@ use Rattle.std.proofs.Common.{◌≡◌, ℕ, ◌+◌, ◌≤◌, Bool, true, fa
 use Rattle.std.specs.List.{All, Contains}
 use Rattle.std.proofs.lemmas.Bool.{and_parts, eqb-true, ne_eqb}
 use Rattle.std.proofs.lemmas.List.Elements.{All-take, filter_passes}
-use Rattle.tc_channel.specs.declared.settings.Settings.{Settings}
-use Rattle.tc_channel.specs.declared.event.Event.{Event}
-use Rattle.tc_channel.specs.declared.reply.Delivery.{Delivery}
-use Rattle.tc_channel.specs.ChannelState.{ChannelState, Queue}
-use Rattle.tc_channel.specs.Admission.{map_of, is_chosen, is_for, is_of_map, packets_offered, units_offered, queued_of, room_of, share_of}
-use Rattle.tc_packet.specs.SpacePacket.{apid_of, is_telecommand, packets_of}
+use Rattle.tc_channel.proofs.Names.{Settings, Event, Delivery, ChannelState, Queue, map_of, is_chosen, is_for, is_of_map, packets_offered, units_offered, queued_of, room_of, share_of, apid_of, is_telecommand, packets_of, delivered, delivery_of, run_within, IsAllowed}
 use Rattle.tc_channel.specs.HeldQueues.{keys_of, held, AreDistinct}
-use Rattle.tc_channel.specs.Reply.{delivered, delivery_of}
-use Rattle.tc_channel.specs.Run.{run_within}
-use Rattle.tc_channel.specs.Settings.{IsAllowed}
 use Rattle.tc_channel.proofs.Counted.{IsForOneKey, for-one, queued-within}
 use Rattle.tc_channel.proofs.Shares.{queued-is}
 use Rattle.tc_channel.proofs.StateQueues.{keys, queues-apart, units-apart}

@@ -4,31 +4,30 @@ use Rattle.std.specs.Prelude.{slice_get, unwrap_or}
 use Rattle.std.proofs.lemmas.List.{append-nil, length-append, length-drop}
 use Rattle.std.proofs.Math.Seq.{drop-append_seam}
 use Rattle.std.proofs.lemmas.Bool.Decides.{eqb_tells}
-use Rattle.tc_link.specs.declared.Report.{Report}
-use Rattle.tc_link.specs.declared.State.{State}
-use Rattle.tc_link.specs.declared.State.TheVariants.{S1, S2, S3}
-use Rattle.tc_link.specs.declared.Command.{Command}
-use Rattle.tc_link.specs.declared.Command.TheVariants.{Unlock, SetVr}
-use Rattle.tc_link.specs.declared.Place.TheVariants.{Ahead, Behind, Outside}
-use Rattle.tc_link.specs.Frame.{header_of}
+use Rattle.tc_channel.proofs.Names.{Report, State, S1, S2, S3, Unlock, SetVr, Ahead, Behind, Outside, command_of, control_kind, kind_by, Row, E1, E6, E8, E10, row_at, frame_row, entry_at, accepts, accepts_at, Settings, Event, Frame, Release, Take, TakeUnit, ChannelState, Accepted, has_room, step, row_of, kept, after_frame, run_from, IsLawfulWithin, IsAllowed}
 use Rattle.tc_link.specs.Window.{is_ahead, is_behind}
-use Rattle.tc_link.specs.Command.{command_of, control_kind, kind_by}
-use Rattle.tc_link.specs.Farm.{Row, E1, E2, E3, E4, E5, E6, E7, E8, E9, E10, row_at, frame_row, entry_at, accepts, accepts_at}
-use Rattle.tc_channel.specs.declared.settings.Settings.{Settings}
-use Rattle.tc_channel.specs.declared.event.Event.{Event}
-use Rattle.tc_channel.specs.declared.event.Event.TheVariants.{Frame, Release, Take, TakeUnit}
-use Rattle.tc_channel.specs.ChannelState.{ChannelState, Accepted, has_room}
-use Rattle.tc_channel.specs.Run.{step, row_of, kept, after_frame, passed_on, run_from, run_within, IsLawfulWithin}
 use Rattle.tc_channel.specs.Era.{set_at, set_by, StartsWithin, NoneSetsWithin, IsEraWithin, accepted_since_within, CountsUpWithin, CountsUpInItsEraWithin, IsOfSender, ComesFromWithin}
-use Rattle.tc_channel.specs.Settings.{IsAllowed}
-use Rattle.tc_channel.proofs.Filled.{AreFilled, filled-drop, state-filled}
+use Rattle.tc_link.specs.declared.Command.{Command}
+use Rattle.tc_link.specs.Frame.{header_of}
+use Rattle.tc_channel.specs.Run.{passed_on, run_within}
+use Rattle.tc_channel.proofs.Filled.{AreFilled, IsFilled, state-filled}
 use Rattle.tc_channel.proofs.Small.{vr-below}
-use Rattle.tc_channel.proofs.Runs.{run-append, run-push}
+use Rattle.tc_channel.proofs.Runs.{run-append, run-push, from-first}
+use Rattle.tc_channel.proofs.Lists.{all-drop}
 
--- the frames have consecutive numbers from x on, modulo 256
-abbrev AreConsecutive : ℕ → List Accepted → Type 0
-AreConsecutive x [] = Unit {0}
-AreConsecutive x (a ∷ accepted) = (a.ns % 256 ≡ x % 256) × AreConsecutive (x + 1) accepted
+-- the frames, counted from n on, are so
+abbrev AreSo : (ℕ → Accepted → Type 0) → ℕ → List Accepted → Type 0
+AreSo P n [] = Unit {0}
+AreSo P n (a ∷ accepted) = P n a × AreSo P (n + 1) accepted
+
+AreSo-append : (P : ℕ → Accepted → Type 0) (n : ℕ) (xs ys : List Accepted) → AreSo P n xs → AreSo P (n + length xs) ys → AreSo P n (xs ++ ys)
+AreSo-append P n [] ys h k = subst (λ m. AreSo P m ys) (omega arith) k
+AreSo-append P n (a ∷ xs) ys h k = (h.0, AreSo-append P (n + 1) xs ys h.1 (subst (λ m. AreSo P m ys) (omega arith) k))
+
+-- the frame with number n that is accepted by this event is so
+abbrev IsTakenSo : (ℕ → Accepted → Type 0) → ℕ → ℕ → Event → Type 0
+IsTakenSo P x n (Frame octets) = (header_of octets).bypass ≡ false → (header_of octets).control ≡ false → (header_of octets).ns % 256 ≡ (x + n) % 256 → P n (record { ns = (header_of octets).ns; field = drop 5 octets })
+IsTakenSo P x n _ = Unit {0}
 
 -- what is accepted in E1 has the number V(R)
 unexpected : (ahead behind room : Bool) → row_at (cond ahead Ahead (cond behind Behind Outside)) room ≢ E1
@@ -47,160 +46,43 @@ number-at_E1 width vr ns false false room field e =
       | inl same ↦ same.1
       | inr other ↦ absurd (unexpected (is_ahead width vr ns) (is_behind width vr ns) room (rw other.0 at e))
     ]
-number-at_E1 width vr ns true false room field e = absurd cc
 number-at_E1 width vr ns true true room field e = absurd (no_command (command_of field) width vr room e)
-number-at_E1 width vr ns false true room field e = absurd cc
+number-at_E1 width vr ns _ _ room field e = absurd cc
+
+flags-at_E1 : (width vr ns : ℕ) (bypass control room : Bool) (field : List ℕ) → frame_row width vr (kind_by bypass control ns field) room ≡ E1 → (bypass ≡ false) × (control ≡ false)
+flags-at_E1 width vr ns false false room field e = (refl, refl)
+flags-at_E1 width vr ns true true room field e = absurd (no_command (command_of field) width vr room e)
+flags-at_E1 width vr ns _ _ room field e = absurd cc
 
 abbrev Left : Row → State → Report → Report
 Left row st r = unwrap_or (entry_at row st r) r
 
 vr-kept : (row : Row) (st : State) (r : Report) → set_at row st ≡ None → (row ≡ E1 → st ≢ S1) → (Left row st r).vr ≡ r.vr
 vr-kept E1 S1 r none other = absurd (other refl refl)
-vr-kept E1 S2 r none other = refl
-vr-kept E1 S3 r none other = refl
-vr-kept E2 S1 r none other = refl
-vr-kept E2 S2 r none other = refl
-vr-kept E2 S3 r none other = refl
-vr-kept E3 S1 r none other = refl
-vr-kept E3 S2 r none other = refl
-vr-kept E3 S3 r none other = refl
-vr-kept E4 S1 r none other = refl
-vr-kept E4 S2 r none other = refl
-vr-kept E4 S3 r none other = refl
-vr-kept E5 S1 r none other = refl
-vr-kept E5 S2 r none other = refl
-vr-kept E5 S3 r none other = refl
-vr-kept E6 S1 r none other = refl
-vr-kept E6 S2 r none other = refl
-vr-kept E6 S3 r none other = refl
-vr-kept E7 S1 r none other = refl
-vr-kept E7 S2 r none other = refl
-vr-kept E7 S3 r none other = refl
 vr-kept (E8 x) S1 r none other = absurd cc
 vr-kept (E8 x) S2 r none other = absurd cc
-vr-kept (E8 x) S3 r none other = refl
-vr-kept E9 S1 r none other = refl
-vr-kept E9 S2 r none other = refl
-vr-kept E9 S3 r none other = refl
-vr-kept E10 S1 r none other = refl
-vr-kept E10 S2 r none other = refl
-vr-kept E10 S3 r none other = refl
+vr-kept row S1 r none other = refl
+vr-kept _ _ r none other = refl
 
 accepted-kept : (row : Row) (accepted : Bool) (octets : List ℕ) (b : ChannelState) → (row ≡ E1 → accepted ≢ true) → (kept row accepted octets b).accepted ≡ b.accepted
 unfolding passed_on
 accepted-kept E1 true octets b other = absurd (other refl refl)
-accepted-kept E1 false octets b other = refl
-accepted-kept E2 accepted octets b other = refl
-accepted-kept E3 accepted octets b other = refl
-accepted-kept E4 accepted octets b other = refl
-accepted-kept E5 accepted octets b other = refl
 accepted-kept E6 true octets b other = refl
-accepted-kept E6 false octets b other = refl
-accepted-kept E7 accepted octets b other = refl
-accepted-kept (E8 x) accepted octets b other = refl
-accepted-kept E9 accepted octets b other = refl
-accepted-kept E10 accepted octets b other = refl
-
--- later goes on from b
-record Advances (b later : ChannelState) : Type 0 where
-  more : List Accepted
-  grown : later.accepted ≡ b.accepted ++ more
-  numbers : AreConsecutive b.report.vr more
-  vr : later.report.vr % 256 ≡ (b.report.vr + length more) % 256
-
-stays : (b later : ChannelState) → later.accepted ≡ b.accepted → later.report.vr ≡ b.report.vr → Advances b later
-stays b later same vr = record { more = []; grown = same ∙ sym (append-nil b.accepted); numbers = tt; vr = rw vr (omega arith) }
+accepted-kept _ _ octets b other = refl
 
 only_S1 : (row : Row) (st : State) → (row ≡ E1 → st ≢ S1) → row ≡ E1 → accepts_at row st ≢ true
 only_S1 row S1 h e t = h e refl
 only_S1 row S2 h e t = let q : accepts_at E1 S2 ≡ true = rw e at t in cc
 only_S1 row S3 h e t = let q : accepts_at E1 S3 ≡ true = rw e at t in cc
 
-other-advances : (b : ChannelState) (octets : List ℕ) (row : Row) → (row ≡ E1 → b.report.state ≢ S1) → set_at row b.report.state ≡ None → Advances b (after_frame row octets b)
-other-advances b octets row other none =
-    stays b (after_frame row octets b)
-    (accepted-kept row (accepts row b.report) octets b (only_S1 row b.report.state other))
-    (vr-kept row b.report.state b.report none other)
-
-frame-advances : (c : Settings) (b : ChannelState) (octets : List ℕ) (row : Row) (st : State) → row_of c b octets ≡ row → b.report.state ≡ st → set_at row st ≡ None
-    → Advances b (after_frame row octets b)
-frame-advances c b octets E1 S1 e s none =
-    let h = header_of octets in
-    let ns : h.ns ≡ b.report.vr = number-at_E1 c.width b.report.vr h.ns h.bypass h.control (has_room c b) (drop 5 octets) e in
-    rw s (record {
-      more = record { ns = h.ns; field = drop 5 octets } ∷ [];
-      grown = refl;
-      numbers = (ap (λ n. n % 256) ns, tt);
-      vr = omega arith;
-    })
-frame-advances c b octets E1 S2 e s none = other-advances b octets E1 (λ _ q. cc (s, q)) (subst (λ (t : State). set_at E1 t ≡ None) (sym s) none)
-frame-advances c b octets E1 S3 e s none = other-advances b octets E1 (λ _ q. cc (s, q)) (subst (λ (t : State). set_at E1 t ≡ None) (sym s) none)
-frame-advances c b octets row st e s none = other-advances b octets row (λ q. absurd cc) (subst (λ (t : State). set_at row t ≡ None) (sym s) none)
-
-step-advances : (c : Settings) (b : ChannelState) (e : Event) → set_by c b e ≡ None → Advances b (step c b e)
-unfolding passed_on
-step-advances c b (Frame octets) none = frame-advances c b octets (row_of c b octets) b.report.state refl refl none
-step-advances c b Release none = stays b (step c b Release) refl (vr-kept E10 b.report.state b.report refl (λ q. absurd cc))
-step-advances c b (Take apid) none = stays b (step c b (Take apid)) refl refl
-step-advances c b (TakeUnit map_id) none = stays b (step c b (TakeUnit map_id)) refl refl
-
--- numbers that are alike modulo 256 count alike
-AreConsecutive-alike : (x y : ℕ) (xs : List Accepted) → x % 256 ≡ y % 256 → AreConsecutive x xs → AreConsecutive y xs
-AreConsecutive-alike x y [] e h = tt
-AreConsecutive-alike x y (a ∷ xs) e h = (h.0 ∙ e, AreConsecutive-alike (x + 1) (y + 1) xs (omega arith) h.1)
-
-AreConsecutive-append : (x y : ℕ) (xs ys : List Accepted) → AreConsecutive x xs → AreConsecutive y ys → y % 256 ≡ (x + length xs) % 256 → AreConsecutive x (xs ++ ys)
-AreConsecutive-append x y [] ys h k e = AreConsecutive-alike y x ys (omega arith) k
-AreConsecutive-append x y (a ∷ xs) ys h k e = (h.0, AreConsecutive-append (x + 1) y xs ys h.1 k (omega arith))
-
-Advances-then : (b mid later : ChannelState) → Advances b mid → Advances mid later → Advances b later
-Advances-then b mid later p q = record {
-  more = p.more ++ q.more;
-  grown = q.grown ∙ rw p.grown (append_assoc b.accepted p.more q.more);
-  numbers = AreConsecutive-append b.report.vr mid.report.vr p.more q.more p.numbers q.numbers p.vr;
-  vr = let l = length-append p.more q.more in let v = p.vr in let w = q.vr in omega arith;
-}
-
 -- no event of a run sets V(R)
 abbrev NoneSetsFrom : Settings → ChannelState → List Event → Type 0
 NoneSetsFrom c b es = (i : ℕ) (e : Event) → slice_get es i ≡ Some e → set_by c (run_from c b (take i es)) e ≡ None
 
-run_from-advances : (c : Settings) (b : ChannelState) (es : List Event) → NoneSetsFrom c b es → Advances b (run_from c b es)
-run_from-advances c b [] none = stays b b refl refl
-run_from-advances c b (e ∷ es) none =
-    Advances-then b (step c b e) (run_from c (step c b e) es) (step-advances c b e (none 0 e refl)) (run_from-advances c (step c b e) es (λ i later q. none (suc i) later q))
-
 set-sets : (row : Row) (st : State) (r : Report) (x : ℕ) → set_at row st ≡ Some x → (Left row st r).vr ≡ x
-set-sets E1 S1 r x e = absurd cc
-set-sets E1 S2 r x e = absurd cc
-set-sets E1 S3 r x e = absurd cc
-set-sets E2 S1 r x e = absurd cc
-set-sets E2 S2 r x e = absurd cc
-set-sets E2 S3 r x e = absurd cc
-set-sets E3 S1 r x e = absurd cc
-set-sets E3 S2 r x e = absurd cc
-set-sets E3 S3 r x e = absurd cc
-set-sets E4 S1 r x e = absurd cc
-set-sets E4 S2 r x e = absurd cc
-set-sets E4 S3 r x e = absurd cc
-set-sets E5 S1 r x e = absurd cc
-set-sets E5 S2 r x e = absurd cc
-set-sets E5 S3 r x e = absurd cc
-set-sets E6 S1 r x e = absurd cc
-set-sets E6 S2 r x e = absurd cc
-set-sets E6 S3 r x e = absurd cc
-set-sets E7 S1 r x e = absurd cc
-set-sets E7 S2 r x e = absurd cc
-set-sets E7 S3 r x e = absurd cc
 set-sets (E8 n) S1 r x e = cc
 set-sets (E8 n) S2 r x e = cc
-set-sets (E8 n) S3 r x e = absurd cc
-set-sets E9 S1 r x e = absurd cc
-set-sets E9 S2 r x e = absurd cc
-set-sets E9 S3 r x e = absurd cc
-set-sets E10 S1 r x e = absurd cc
-set-sets E10 S2 r x e = absurd cc
-set-sets E10 S3 r x e = absurd cc
+set-sets _ _ r x e = absurd cc
 
 starts-at : (limits : ℕ → ℕ) (c : Settings) (before : List Event) (x : ℕ) → StartsWithin limits c before x → (run_within limits c before).report.vr ≡ x
 unfolding run_within
@@ -212,11 +94,76 @@ starts-at limits c before x (inr set) = rw (set.2, run-push limits c set.0 set.1
   by (Take apid) h = absurd cc
   by (TakeUnit map_id) h = absurd cc
 
+-- the numbers count up from x on, modulo 256
+abbrev Counts : ℕ → ℕ → Accepted → Type 0
+Counts x n a = a.ns % 256 ≡ (x + n) % 256
+
+all-count : (x n : ℕ) (e : Event) → IsTakenSo (Counts x) x n e
+all-count x n (Frame octets) = λ _ _ is. is
+all-count x n _ = tt
+
 -- numbers below 256 are what they are modulo 256
-numbers-are : (x : ℕ) (xs : List Accepted) → AreConsecutive x xs → AreFilled xs → (i : ℕ) (a : Accepted) → slice_get xs i ≡ Some a → a.ns ≡ (x + i) % 256
-numbers-are x [] h filled i a e = absurd cc
-numbers-are x (b ∷ xs) h filled zero a e = let q : b ≡ a = cc in rw (← q) (let m = h.0 in let n = filled.0.1 in omega arith)
-numbers-are x (b ∷ xs) h filled (suc i) a e = numbers-are (x + 1) xs h.1 filled.1 i a e ∙ ap (λ n. n % 256) (omega arith)
+numbers-are : (x n : ℕ) (xs : List Accepted) → AreSo (Counts x) n xs → AreFilled xs → (i : ℕ) (a : Accepted) → slice_get xs i ≡ Some a → a.ns ≡ (x + (n + i)) % 256
+numbers-are x n [] h filled i a e = absurd cc
+numbers-are x n (b ∷ xs) h filled zero a e = let q : b ≡ a = cc in rw (← q) (let m = h.0 in let f = filled.0.1 in omega arith)
+numbers-are x n (b ∷ xs) h filled (suc i) a e = numbers-are x (n + 1) xs h.1 filled.1 i a e ∙ ap (λ m. (x + m) % 256) (omega arith)
+
+-- later goes on from b, where n frames were accepted, with the next ones
+record GoesOn (P : ℕ → Accepted → Type 0) (x n : ℕ) (b later : ChannelState) : Type 0 where
+  more : List Accepted
+  grown : later.accepted ≡ b.accepted ++ more
+  each : AreSo P n more
+  vr : later.report.vr % 256 ≡ (x + (n + length more)) % 256
+
+quiet : (P : ℕ → Accepted → Type 0) (x n : ℕ) (b later : ChannelState) → b.report.vr % 256 ≡ (x + n) % 256 → later.accepted ≡ b.accepted → later.report.vr ≡ b.report.vr → GoesOn P x n b later
+quiet P x n b later v same vr = record { more = []; grown = same ∙ sym (append-nil b.accepted); each = tt; vr = rw vr (omega arith) }
+
+other-goes-on : (P : ℕ → Accepted → Type 0) (x n : ℕ) (b : ChannelState) (octets : List ℕ) (row : Row) → b.report.vr % 256 ≡ (x + n) % 256 → (row ≡ E1 → b.report.state ≢ S1) → set_at row b.report.state ≡ None
+    → GoesOn P x n b (after_frame row octets b)
+other-goes-on P x n b octets row v other none =
+    quiet P x n b (after_frame row octets b) v
+    (accepted-kept row (accepts row b.report) octets b (only_S1 row b.report.state other))
+    (vr-kept row b.report.state b.report none other)
+
+frame-goes-on : (c : Settings) (P : ℕ → Accepted → Type 0) (x n : ℕ) (b : ChannelState) (octets : List ℕ) (row : Row) (st : State) → row_of c b octets ≡ row → b.report.state ≡ st → set_at row st ≡ None
+    → b.report.vr % 256 ≡ (x + n) % 256 → IsTakenSo P x n (Frame octets) → GoesOn P x n b (after_frame row octets b)
+frame-goes-on c P x n b octets E1 S1 e s none v from =
+    let h = header_of octets in
+    let flags = flags-at_E1 c.width b.report.vr h.ns h.bypass h.control (has_room c b) (drop 5 octets) e in
+    let ns : h.ns ≡ b.report.vr = number-at_E1 c.width b.report.vr h.ns h.bypass h.control (has_room c b) (drop 5 octets) e in
+    rw s (record {
+      more = record { ns = h.ns; field = drop 5 octets } ∷ [];
+      grown = refl;
+      each = (from flags.0 flags.1 (ap (λ m. m % 256) ns ∙ v), tt);
+      vr = omega arith;
+    })
+frame-goes-on c P x n b octets E1 st e s none v from = other-goes-on P x n b octets E1 v (λ _ q. cc (s, q)) (subst (λ (t : State). set_at E1 t ≡ None) (sym s) none)
+frame-goes-on c P x n b octets row st e s none v from = other-goes-on P x n b octets row v (λ q. absurd cc) (subst (λ (t : State). set_at row t ≡ None) (sym s) none)
+
+step-goes-on : (c : Settings) (P : ℕ → Accepted → Type 0) (x n : ℕ) (b : ChannelState) (e : Event) → set_by c b e ≡ None → b.report.vr % 256 ≡ (x + n) % 256 → IsTakenSo P x n e → GoesOn P x n b (step c b e)
+unfolding passed_on
+step-goes-on c P x n b (Frame octets) none v from = frame-goes-on c P x n b octets (row_of c b octets) b.report.state refl refl none v from
+step-goes-on c P x n b Release none v from = quiet P x n b (step c b Release) v refl (vr-kept E10 b.report.state b.report refl (λ q. absurd cc))
+step-goes-on c P x n b (Take apid) none v from = quiet P x n b (step c b (Take apid)) v refl refl
+step-goes-on c P x n b (TakeUnit map_id) none v from = quiet P x n b (step c b (TakeUnit map_id)) v refl refl
+
+GoesOn-then : (P : ℕ → Accepted → Type 0) (x n : ℕ) (b mid later : ChannelState) (p : GoesOn P x n b mid) → GoesOn P x (n + length p.more) mid later → GoesOn P x n b later
+GoesOn-then P x n b mid later p q = record {
+  more = p.more ++ q.more;
+  grown = q.grown ∙ rw p.grown (append_assoc b.accepted p.more q.more);
+  each = AreSo-append P n p.more q.more p.each q.each;
+  vr = let l = length-append p.more q.more in let v = q.vr in omega arith;
+}
+
+run_from-goes-on : (c : Settings) (P : ℕ → Accepted → Type 0) (x base n : ℕ) (b : ChannelState) (es : List Event) → NoneSetsFrom c b es → b.report.vr % 256 ≡ (x + n) % 256 → length b.accepted ≡ base + n
+    → ((place : ℕ) (e : Event) → slice_get es place ≡ Some e → IsTakenSo P x (length (run_from c b (take place es)).accepted - base) e) → GoesOn P x n b (run_from c b es)
+run_from-goes-on c P x base n b [] none v len from = quiet P x n b b v refl refl
+run_from-goes-on c P x base n b (e ∷ es) none v len from =
+    let first : IsTakenSo P x n e = subst (λ m. IsTakenSo P x m e) (omega arith) (from 0 e refl) in
+    let one = step-goes-on c P x n b e (none 0 e refl) v first in
+    let longer : length (step c b e).accepted ≡ base + (n + length one.more) = rw one.grown (let l = length-append b.accepted one.more in omega arith) in
+    GoesOn-then P x n b (step c b e) (run_from c (step c b e) es) one
+    (run_from-goes-on c P x base (n + length one.more) (step c b e) es (λ i later q. none (suc i) later q) one.vr longer (λ place later q. from (suc place) later q))
 
 none-from : (limits : ℕ → ℕ) (c : Settings) (before later : List Event) → NoneSetsWithin limits c before later → NoneSetsFrom c (run_within limits c before) later
 none-from limits c before later none = λ i e q. rw (sym (run-append limits c before (take i later))) (none i e q)
@@ -225,13 +172,14 @@ pub era-law : (limits : ℕ → ℕ) (c : Settings) (journal : List Event) → I
 era-law limits c journal allowed lawful = λ before later x era.
     let start = starts-at limits c before x era.starts in
     let whole : run_within limits c journal ≡ run_from c (run_within limits c before) later = ap (run_within limits c) era.parts ∙ run-append limits c before later in
-    let run-on = run_from-advances c (run_within limits c before) later (none-from limits c before later era.last) in
+    let base = length (run_within limits c before).accepted in
+    let run-on = run_from-goes-on c (Counts x) x base 0 (run_within limits c before) later (none-from limits c before later era.last) (rw start (omega arith)) (omega arith) (λ place e q. all-count x _ e) in
     let since : accepted_since_within limits c before journal ≡ run-on.more = rw (whole, run-on.grown) (drop-append_seam (run_within limits c before).accepted run-on.more) in
-    let numbers : AreConsecutive x (accepted_since_within limits c before journal) = rw (since, ← start) run-on.numbers in
-    let vr : (run_within limits c journal).report.vr % 256 ≡ (x + length (accepted_since_within limits c before journal)) % 256 = rw (since, whole, ← start) run-on.vr in
+    let numbers : AreSo (Counts x) 0 (accepted_since_within limits c before journal) = rw since run-on.each in
+    let vr : (run_within limits c journal).report.vr % 256 ≡ (x + length (accepted_since_within limits c before journal)) % 256 = rw (since, whole) (run-on.vr ∙ ap (λ m. (x + m) % 256) (omega arith)) in
     let small = vr-below limits c journal allowed.first lawful in
     let counts : CountsUpWithin limits c journal before x = record {
-      numbers = numbers-are x (accepted_since_within limits c before journal) numbers (filled-drop (length (run_within limits c before).accepted) (run_within limits c journal).accepted (state-filled limits c journal lawful));
+      numbers = λ i a is. numbers-are x 0 (accepted_since_within limits c before journal) numbers (all-drop IsFilled (length (run_within limits c before).accepted) (run_within limits c journal).accepted (state-filled limits c journal lawful)) i a is ∙ ap (λ m. (x + m) % 256) (omega arith);
       vr = omega arith;
     } in
     counts
@@ -266,94 +214,21 @@ era-push limits c journal e has = by (set_by c (run_within limits c journal) e) 
         },
       )
 
-era-on : (limits : ℕ → ℕ) (c : Settings) (past future : List Event) → HasEra limits c past → HasEra limits c (past ++ future)
-era-on limits c past [] has = subst (HasEra limits c) (sym (append-nil past)) has
-era-on limits c past (e ∷ future) has = subst (HasEra limits c) (append_assoc past (e ∷ []) future) (era-on limits c (past ++ e ∷ []) future (era-push limits c past e has))
-
 pub each-era : (limits : ℕ → ℕ) (c : Settings) (journal : List Event) → HasEra limits c journal
-each-era limits c journal = era-on limits c [] journal ([], [], c.first, record { parts = refl; starts = inl (refl, refl); last = λ i e q. absurd cc })
+each-era limits c journal = from-first (HasEra limits c) (era-push limits c) [] journal ([], [], c.first, record { parts = refl; starts = inl (refl, refl); last = λ i e q. absurd cc })
 
 -- what was sent is accepted once and in order
 
--- the fields are those that were sent from number n on
-abbrev AreSent : (ℕ → List ℕ) → ℕ → List Accepted → Type 0
-AreSent sent n [] = Unit {0}
-AreSent sent n (a ∷ accepted) = (a.field ≡ sent n) × AreSent sent (n + 1) accepted
-
-AreSent-append : (sent : ℕ → List ℕ) (n : ℕ) (xs ys : List Accepted) → AreSent sent n xs → AreSent sent (n + length xs) ys → AreSent sent n (xs ++ ys)
-AreSent-append sent n [] ys h k = subst (λ m. AreSent sent m ys) (omega arith) k
-AreSent-append sent n (a ∷ xs) ys h k = (h.0, AreSent-append sent (n + 1) xs ys h.1 (subst (λ m. AreSent sent m ys) (omega arith) k))
-
-sent-at : (sent : ℕ → List ℕ) (n : ℕ) (xs : List Accepted) → AreSent sent n xs → (i : ℕ) (a : Accepted) → slice_get xs i ≡ Some a → a.field ≡ sent (n + i)
+sent-at : (sent : ℕ → List ℕ) (n : ℕ) (xs : List Accepted) → AreSo (λ m b. b.field ≡ sent m) n xs → (i : ℕ) (a : Accepted) → slice_get xs i ≡ Some a → a.field ≡ sent (n + i)
 sent-at sent n [] h i a e = absurd cc
 sent-at sent n (b ∷ xs) h zero a e = let q : b ≡ a = cc in rw (← q) (h.0 ∙ ap sent (omega arith))
 sent-at sent n (b ∷ xs) h (suc i) a e = sent-at sent (n + 1) xs h.1 i a e ∙ ap sent (omega arith)
 
-flags-at_E1 : (width vr ns : ℕ) (bypass control room : Bool) (field : List ℕ) → frame_row width vr (kind_by bypass control ns field) room ≡ E1 → (bypass ≡ false) × (control ≡ false)
-flags-at_E1 width vr ns false false room field e = (refl, refl)
-flags-at_E1 width vr ns true false room field e = absurd cc
-flags-at_E1 width vr ns true true room field e = absurd (no_command (command_of field) width vr room e)
-flags-at_E1 width vr ns false true room field e = absurd cc
-
--- later goes on from b, where n frames of the sender were accepted, with the next of them
-record Serves (sent : ℕ → List ℕ) (x n : ℕ) (b later : ChannelState) : Type 0 where
-  more : List Accepted
-  grown : later.accepted ≡ b.accepted ++ more
-  fields : AreSent sent n more
-  vr : later.report.vr % 256 ≡ (x + (n + length more)) % 256
-
-quiet : (sent : ℕ → List ℕ) (x n : ℕ) (b later : ChannelState) → b.report.vr % 256 ≡ (x + n) % 256 → later.accepted ≡ b.accepted → later.report.vr ≡ b.report.vr → Serves sent x n b later
-quiet sent x n b later v same vr = record { more = []; grown = same ∙ sym (append-nil b.accepted); fields = tt; vr = rw vr (omega arith) }
-
-other-serves : (sent : ℕ → List ℕ) (x n : ℕ) (b : ChannelState) (octets : List ℕ) (row : Row) → b.report.vr % 256 ≡ (x + n) % 256 → (row ≡ E1 → b.report.state ≢ S1) → set_at row b.report.state ≡ None
-    → Serves sent x n b (after_frame row octets b)
-other-serves sent x n b octets row v other none =
-    quiet sent x n b (after_frame row octets b) v
-    (accepted-kept row (accepts row b.report) octets b (only_S1 row b.report.state other))
-    (vr-kept row b.report.state b.report none other)
-
-frame-serves : (c : Settings) (sent : ℕ → List ℕ) (x n : ℕ) (b : ChannelState) (octets : List ℕ) (row : Row) (st : State) → row_of c b octets ≡ row → b.report.state ≡ st → set_at row st ≡ None
-    → b.report.vr % 256 ≡ (x + n) % 256 → IsOfSender x sent n (Frame octets) → Serves sent x n b (after_frame row octets b)
-frame-serves c sent x n b octets E1 S1 e s none v from =
-    let h = header_of octets in
-    let flags = flags-at_E1 c.width b.report.vr h.ns h.bypass h.control (has_room c b) (drop 5 octets) e in
-    let ns : h.ns ≡ b.report.vr = number-at_E1 c.width b.report.vr h.ns h.bypass h.control (has_room c b) (drop 5 octets) e in
-    let is = from flags.0 flags.1 in
-    let same : is.number ≡ n = (let a = is.ns in let o = is.not_old in let w = is.not_new in omega arith) in
-    rw s (record {
-      more = record { ns = h.ns; field = drop 5 octets } ∷ [];
-      grown = refl;
-      fields = (is.field ∙ ap sent same, tt);
-      vr = omega arith;
-    })
-frame-serves c sent x n b octets E1 S2 e s none v from = other-serves sent x n b octets E1 v (λ _ q. cc (s, q)) (subst (λ (t : State). set_at E1 t ≡ None) (sym s) none)
-frame-serves c sent x n b octets E1 S3 e s none v from = other-serves sent x n b octets E1 v (λ _ q. cc (s, q)) (subst (λ (t : State). set_at E1 t ≡ None) (sym s) none)
-frame-serves c sent x n b octets row st e s none v from = other-serves sent x n b octets row v (λ q. absurd cc) (subst (λ (t : State). set_at row t ≡ None) (sym s) none)
-
-step-serves : (c : Settings) (sent : ℕ → List ℕ) (x n : ℕ) (b : ChannelState) (e : Event) → set_by c b e ≡ None → b.report.vr % 256 ≡ (x + n) % 256 → IsOfSender x sent n e → Serves sent x n b (step c b e)
-unfolding passed_on
-step-serves c sent x n b (Frame octets) none v from = frame-serves c sent x n b octets (row_of c b octets) b.report.state refl refl none v from
-step-serves c sent x n b Release none v from = quiet sent x n b (step c b Release) v refl (vr-kept E10 b.report.state b.report refl (λ q. absurd cc))
-step-serves c sent x n b (Take apid) none v from = quiet sent x n b (step c b (Take apid)) v refl refl
-step-serves c sent x n b (TakeUnit map_id) none v from = quiet sent x n b (step c b (TakeUnit map_id)) v refl refl
-
-Serves-then : (sent : ℕ → List ℕ) (x n : ℕ) (b mid later : ChannelState) (p : Serves sent x n b mid) → Serves sent x (n + length p.more) mid later → Serves sent x n b later
-Serves-then sent x n b mid later p q = record {
-  more = p.more ++ q.more;
-  grown = q.grown ∙ rw p.grown (append_assoc b.accepted p.more q.more);
-  fields = AreSent-append sent n p.more q.more p.fields q.fields;
-  vr = let l = length-append p.more q.more in let v = q.vr in omega arith;
-}
-
-run_from-serves : (c : Settings) (sent : ℕ → List ℕ) (x base n : ℕ) (b : ChannelState) (es : List Event) → NoneSetsFrom c b es → b.report.vr % 256 ≡ (x + n) % 256 → length b.accepted ≡ base + n
-    → ((place : ℕ) (e : Event) → slice_get es place ≡ Some e → IsOfSender x sent (length (run_from c b (take place es)).accepted - base) e) → Serves sent x n b (run_from c b es)
-run_from-serves c sent x base n b [] none v len from = quiet sent x n b b v refl refl
-run_from-serves c sent x base n b (e ∷ es) none v len from =
-    let first : IsOfSender x sent n e = subst (λ m. IsOfSender x sent m e) (omega arith) (from 0 e refl) in
-    let one = step-serves c sent x n b e (none 0 e refl) v first in
-    let longer : length (step c b e).accepted ≡ base + (n + length one.more) = rw one.grown (let l = length-append b.accepted one.more in omega arith) in
-    Serves-then sent x n b (step c b e) (run_from c (step c b e) es) one
-    (run_from-serves c sent x base (n + length one.more) (step c b e) es (λ i later q. none (suc i) later q) one.vr longer (λ place later q. from (suc place) later q))
+-- what the sender sent as number n is accepted as that
+sender-so : (sent : ℕ → List ℕ) (x n : ℕ) (e : Event) → IsOfSender x sent n e → IsTakenSo (λ m a. a.field ≡ sent m) x n e
+sender-so sent x n (Frame octets) from = λ bypass control v.
+    let is = from bypass control in is.field ∙ ap sent (let a = is.ns in let o = is.not_old in let w = is.not_new in omega arith)
+sender-so sent x n _ from = tt
 
 pub all-sent : (limits : ℕ → ℕ) (c : Settings) (journal before later : List Event) (x : ℕ) (sent : ℕ → List ℕ) → IsEraWithin limits c journal before later x → ComesFromWithin limits c before later x sent
     → (i : ℕ) (a : Accepted) → slice_get (accepted_since_within limits c before journal) i ≡ Some a → a.field ≡ sent i
@@ -363,6 +238,6 @@ all-sent limits c journal before later x sent era comes i a is =
     let base = length (run_within limits c before).accepted in
     let from : (place : ℕ) (e : Event) → slice_get later place ≡ Some e → IsOfSender x sent (length (run_from c (run_within limits c before) (take place later)).accepted - base) e =
     λ place e q. subst (λ m. IsOfSender x sent m e) (length-drop base (run_within limits c (before ++ take place later)).accepted ∙ ap (λ (b : ChannelState). length b.accepted - base) (run-append limits c before (take place later))) (comes place e q) in
-    let run-on = run_from-serves c sent x base 0 (run_within limits c before) later (none-from limits c before later era.last) (rw start (omega arith)) (omega arith) from in
+    let run-on = run_from-goes-on c (λ m a. a.field ≡ sent m) x base 0 (run_within limits c before) later (none-from limits c before later era.last) (rw start (omega arith)) (omega arith) (λ place e q. sender-so sent x _ e (from place e q)) in
     let since : accepted_since_within limits c before journal ≡ run-on.more = rw (whole, run-on.grown) (drop-append_seam (run_within limits c before).accepted run-on.more) in
-    sent-at sent 0 run-on.more run-on.fields i a (rw since at is) ∙ ap sent (omega arith)
+    sent-at sent 0 run-on.more run-on.each i a (rw since at is) ∙ ap sent (omega arith)

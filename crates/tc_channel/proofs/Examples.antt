@@ -2,12 +2,10 @@
 use Rattle.std.proofs.Common.{◌≡◌, ℕ, true, false, [], ◌∷◌, refl}
 use Rattle.tc_link.specs.declared.Link.{Link}
 use Rattle.tc_link.specs.Window.{some_of_first}
-use Rattle.tc_channel.specs.declared.settings.Settings.{Settings}
-use Rattle.tc_channel.specs.declared.event.Event.{Event}
-use Rattle.tc_channel.specs.declared.event.Event.TheVariants.{Frame, Release}
+use Rattle.tc_channel.proofs.Names.{Settings, Event, Frame, Release, clcw}
 use Rattle.tc_channel.specs.ChannelState.{no_limits}
 use Rattle.tc_channel.specs.Run.{run_within, passed_on}
-use Rattle.tc_channel.specs.Reply.{clcw, clcw_within}
+use Rattle.tc_channel.specs.Reply.{clcw_within}
 
 abbrev c : Settings
 c = record { vcid = 1; width = 10; buffer = 1; first = 0; segmented = true; queues = record { apid = 5; capacity = 1 } ∷ []; maps = [] }

@@ -6,19 +6,12 @@ use Rattle.std.proofs.lemmas.Bool.Decides.{eqb_tells, nat_tests}
 use Rattle.std.proofs.lemmas.List.{append-nil, map-append, length-append, take-append-le, take_more, drop_more, drop_all}
 use Rattle.std.proofs.lemmas.List.Elements.{filter-append}
 use Rattle.tc_link.specs.Frame.{header_of}
-use Rattle.tc_link.specs.Farm.{accepts}
-use Rattle.tc_packet.specs.declared.Service.TheVariants.{Ad, Bd}
-use Rattle.tc_packet.specs.Reassembly.{Passed, same_service}
-use Rattle.tc_channel.specs.declared.settings.QueueSetting.{QueueSetting}
-use Rattle.tc_channel.specs.declared.settings.MapSetting.{MapSetting}
-use Rattle.tc_channel.specs.declared.settings.Settings.{Settings}
-use Rattle.tc_channel.specs.declared.event.Event.{Event}
-use Rattle.tc_channel.specs.declared.event.Event.TheVariants.{Frame, Release, Take, TakeUnit}
-use Rattle.tc_channel.specs.ChannelState.{ChannelState, Accepted, Queue, first_state_within, empty_queue, empty_unit_queue, buffer, queue_of}
-use Rattle.tc_channel.specs.Admission.{is_for, is_of_map, map_of, is_chosen, packets_offered, units_offered, share_of, with_share, with_shares}
-use Rattle.tc_channel.specs.Run.{step, row_of, passed_on, unit_of, taken_from, first_of, HasStep, AreSteps, run_from, run_within, IsLawfulWithin}
+use Rattle.tc_channel.proofs.Names.{accepts, Bd, Passed, same_service, Settings, Event, Frame, Release, Take, TakeUnit, ChannelState, Accepted, Queue, first_state_within, empty_queue, empty_unit_queue, buffer, queue_of, is_for, is_of_map, map_of, is_chosen, packets_offered, units_offered, share_of, with_share, with_shares, step, row_of, unit_of, taken_from, first_of, HasStep, run_from}
 use Rattle.tc_channel.specs.Given.{oldest_in, packet_given, unit_given, as_list, packets_given, units_given, fields_passed}
+use Rattle.tc_packet.specs.declared.Service.TheVariants.{Ad}
+use Rattle.tc_channel.specs.Run.{passed_on, run_within, IsLawfulWithin}
 use Rattle.tc_channel.proofs.StateQueues.{kept-either, taken-key}
+use Rattle.tc_channel.proofs.Runs.{keeps}
 
 -- the queue that is found by a key
 
@@ -138,30 +131,24 @@ units-from c map_id gave b (e ∷ es) g =
     subst (λ (all : List (List ℕ)). Gave map_id all (run_from c (step c b e) es).units) (append_assoc gave (as_list (unit_given map_id b e)) (units_given c map_id (step c b e) es))
     (units-from c map_id (gave ++ as_list (unit_given map_id b e)) (step c b e) es (step-units c map_id gave b e g))
 
--- a queue that was set up gave nothing yet
-none-yet : (key : ℕ) (qs : List QueueSetting) → Gave key [] (map empty_queue qs)
-none-yet key [] = record { each = λ q e. absurd cc }
-none-yet key (p ∷ qs) = let later = none-yet key qs in record { each = λ q e. by (eqb p.apid key) q (later.each q) e } where
-  by : (t : Bool) (q : Queue) → (queue_of key (map empty_queue qs) ≡ Some q → ([] ≡ take q.taken q.admitted) × (q.taken ≤ length q.admitted))
-      → cond t (Some (empty_queue p)) (queue_of key (map empty_queue qs)) ≡ Some q → ([] ≡ take q.taken q.admitted) × (q.taken ≤ length q.admitted)
-  by true q later e = let is : empty_queue p ≡ q = cc in rw (← is) (refl, omega arith)
-  by false q later e = later e
+-- a queue that was set up admitted nothing yet, and gave nothing
+pub set-up : {A : Type 0} (f : A → Queue) (key : ℕ) (xs : List A) → ((x : A) → ((f x).taken ≡ 0) × ((f x).admitted ≡ [])) → (q : Queue) → queue_of key (map f xs) ≡ Some q → (q.taken ≡ 0) × (q.admitted ≡ [])
+set-up f key [] each q e = absurd cc
+set-up f key (x ∷ xs) each q e = by (eqb (f x).key key) (set-up f key xs each q) e where
+  by : (t : Bool) → (queue_of key (map f xs) ≡ Some q → (q.taken ≡ 0) × (q.admitted ≡ [])) → cond t (Some (f x)) (queue_of key (map f xs)) ≡ Some q → (q.taken ≡ 0) × (q.admitted ≡ [])
+  by true later e = let is : f x ≡ q = cc in rw (← is) (each x)
+  by false later e = later e
 
-no-unit-yet : (key : ℕ) (ms : List MapSetting) → Gave key [] (map empty_unit_queue ms)
-no-unit-yet key [] = record { each = λ q e. absurd cc }
-no-unit-yet key (m ∷ ms) = let later = no-unit-yet key ms in record { each = λ q e. by (eqb m.map key) q (later.each q) e } where
-  by : (t : Bool) (q : Queue) → (queue_of key (map empty_unit_queue ms) ≡ Some q → ([] ≡ take q.taken q.admitted) × (q.taken ≤ length q.admitted))
-      → cond t (Some (empty_unit_queue m)) (queue_of key (map empty_unit_queue ms)) ≡ Some q → ([] ≡ take q.taken q.admitted) × (q.taken ≤ length q.admitted)
-  by true q later e = let is : empty_unit_queue m ≡ q = cc in rw (← is) (refl, omega arith)
-  by false q later e = later e
+none-yet : {A : Type 0} (f : A → Queue) (key : ℕ) (xs : List A) → ((x : A) → ((f x).taken ≡ 0) × ((f x).admitted ≡ [])) → Gave key [] (map f xs)
+none-yet f key xs each = record { each = λ q e. let h = set-up f key xs each q e in rw (h.0, h.1) (refl, omega arith) }
 
 pub packets-in-order : (limits : ℕ → ℕ) (c : Settings) (journal : List Event) (apid : ℕ) (q : Queue) → queue_of apid (run_within limits c journal).queues ≡ Some q → packets_given c apid (first_state_within limits c) journal ≡ take q.taken q.admitted
 unfolding run_within
-packets-in-order limits c journal apid q e = let g = packets-from c apid [] (first_state_within limits c) journal (none-yet apid c.queues) in (g.each q e).0
+packets-in-order limits c journal apid q e = let g = packets-from c apid [] (first_state_within limits c) journal (none-yet empty_queue apid c.queues (λ s. (refl, refl))) in (g.each q e).0
 
 pub units-in-order : (limits : ℕ → ℕ) (c : Settings) (journal : List Event) (map_id : ℕ) (q : Queue) → queue_of map_id (run_within limits c journal).units ≡ Some q → units_given c map_id (first_state_within limits c) journal ≡ take q.taken q.admitted
 unfolding run_within
-units-in-order limits c journal map_id q e = let g = units-from c map_id [] (first_state_within limits c) journal (no-unit-yet map_id c.maps) in (g.each q e).0
+units-in-order limits c journal map_id q e = let g = units-from c map_id [] (first_state_within limits c) journal (none-yet empty_unit_queue map_id c.maps (λ m. (refl, refl))) in (g.each q e).0
 
 -- what was released of the accepted fields was passed on, and nothing else of Type-AD
 record ArePassed (b : ChannelState) : Type 0 where
@@ -203,14 +190,11 @@ step-passed c b Release has h = record {
 step-passed c b (Take apid) has h = record { fields = h.fields; released = h.released }
 step-passed c b (TakeUnit map_id) has h = record { fields = h.fields; released = h.released }
 
-run_from-passed : (c : Settings) (b : ChannelState) (es : List Event) → AreSteps c b es → ArePassed b → ArePassed (run_from c b es)
-run_from-passed c b [] steps h = h
-run_from-passed c b (e ∷ es) steps h = run_from-passed c (step c b e) es steps.1 (step-passed c b e steps.0 h)
+run-passed : (limits : ℕ → ℕ) (c : Settings) (journal : List Event) → IsLawfulWithin limits c journal → ArePassed (run_within limits c journal)
+run-passed limits c journal lawful = keeps ArePassed limits c journal lawful (step-passed c) (record { fields = refl; released = omega arith })
 
 pub fields-in-order : (limits : ℕ → ℕ) (c : Settings) (journal : List Event) → IsLawfulWithin limits c journal → fields_passed Ad (run_within limits c journal).passed ≡ map (λ (a : Accepted). a.field) (take (run_within limits c journal).released (run_within limits c journal).accepted)
-unfolding run_within IsLawfulWithin
-fields-in-order limits c journal lawful = let h = run_from-passed c (first_state_within limits c) journal lawful (record { fields = refl; released = omega arith }) in h.fields
+fields-in-order limits c journal lawful = (run-passed limits c journal lawful).fields
 
 pub released-within : (limits : ℕ → ℕ) (c : Settings) (journal : List Event) → IsLawfulWithin limits c journal → (run_within limits c journal).released ≤ length (run_within limits c journal).accepted
-unfolding run_within IsLawfulWithin
-released-within limits c journal lawful = let h = run_from-passed c (first_state_within limits c) journal lawful (record { fields = refl; released = omega arith }) in h.released
+released-within limits c journal lawful = (run-passed limits c journal lawful).released

@@ -2,20 +2,10 @@
 use Rattle.std.proofs.Common.{◌≡◌, ℕ, ◌+◌, Bool, true, false, cond, eqb, ◌&&◌, List, [], ◌∷◌, ◌++◌, length, map, drop, refl, sym, ◌∙◌, append_assoc, arith}
 use Rattle.std.specs.Prelude.{nat_lt}
 use Rattle.std.proofs.lemmas.List.{append-nil}
-use Rattle.tc_link.specs.declared.Report.{Report}
+use Rattle.tc_channel.proofs.Names.{Report, E10, accepts, after, Service, Bd, Settings, Event, Frame, Release, Take, TakeUnit, ChannelState, Accepted, Queue, buffer, first_state_within, empty_queue, empty_unit_queue, QueueSetting, MapSetting, is_for, is_of_map, map_of, is_chosen, packets_offered, units_offered, share_of, with_shares, QueueGrows, QueuesGrow, Grows, step, row_of, unit_of, taken_from, first_of, run_from}
 use Rattle.tc_link.specs.Frame.{header_of}
-use Rattle.tc_link.specs.Farm.{E10, accepts, after}
-use Rattle.tc_packet.specs.declared.Service.{Service}
-use Rattle.tc_packet.specs.declared.Service.TheVariants.{Ad, Bd}
-use Rattle.tc_channel.specs.declared.settings.Settings.{Settings}
-use Rattle.tc_channel.specs.declared.event.Event.{Event}
-use Rattle.tc_channel.specs.declared.event.Event.TheVariants.{Frame, Release, Take, TakeUnit}
-use Rattle.tc_channel.specs.ChannelState.{ChannelState, Accepted, Queue, buffer, first_state_within, empty_queue, empty_unit_queue}
-use Rattle.tc_channel.specs.declared.settings.QueueSetting.{QueueSetting}
-use Rattle.tc_channel.specs.declared.settings.MapSetting.{MapSetting}
-use Rattle.tc_channel.specs.Admission.{is_for, is_of_map, map_of, is_chosen, packets_offered, units_offered, share_of, with_shares}
-use Rattle.tc_channel.specs.Laws.{QueueGrows, QueuesGrow, Grows}
-use Rattle.tc_channel.specs.Run.{step, row_of, passed_on, unit_of, taken_from, first_of, run_from, run_within}
+use Rattle.tc_packet.specs.declared.Service.TheVariants.{Ad}
+use Rattle.tc_channel.specs.Run.{passed_on, run_within}
 use Rattle.tc_channel.proofs.Runs.{run-append}
 use Rattle.tc_channel.proofs.StateQueues.{kept-either}
 
@@ -37,10 +27,9 @@ same-queues (q ∷ qs) = (same-queue q, same-queues qs)
 queues-then : (xs ys zs : List Queue) → QueuesGrow xs ys → QueuesGrow ys zs → QueuesGrow xs zs
 queues-then [] [] [] g h = tt
 queues-then [] [] (c ∷ zs) g h = h
-queues-then [] (b ∷ ys) zs g h = absurd g
-queues-then (a ∷ xs) [] zs g h = absurd g
 queues-then (a ∷ xs) (b ∷ ys) [] g h = absurd h
 queues-then (a ∷ xs) (b ∷ ys) (c ∷ zs) g h = (queue-then a b c g.0 h.0, queues-then xs ys zs g.1 h.1)
+queues-then _ _ zs g h = absurd g
 
 shares-grow : (wanted : ℕ → List ℕ → Bool) (items : List (List ℕ)) (qs : List Queue) → QueuesGrow qs (with_shares wanted items qs)
 shares-grow wanted items [] = tt
@@ -110,9 +99,8 @@ key_and_capacity q = (q.key, q.capacity)
 
 keys-and-capacities-kept : (olds news : List Queue) → QueuesGrow olds news → map key_and_capacity news ≡ map key_and_capacity olds
 keys-and-capacities-kept [] [] g = refl
-keys-and-capacities-kept [] (new ∷ news) g = absurd g
-keys-and-capacities-kept (old ∷ olds) [] g = absurd g
 keys-and-capacities-kept (old ∷ olds) (new ∷ news) g = rw (g.0.key, g.0.capacity, keys-and-capacities-kept olds news g.1) refl
+keys-and-capacities-kept _ _ g = absurd g
 
 keys-and-capacities-empty : (qs : List QueueSetting) → map key_and_capacity (map empty_queue qs) ≡ map {B = ℕ × ℕ} (λ (q : QueueSetting). (q.apid, q.capacity)) qs
 keys-and-capacities-empty [] = refl

@@ -1,30 +1,22 @@
 -- What a channel's fields keep, over one event.
-use Rattle.std.proofs.Common.{◌≡◌, ℕ, ◌<◌, ◌≤◌, Bool, true, false, List, [], ◌∷◌, ◌++◌, length, map, drop, Option, refl, sym, ap, ◌∙◌, arith}
+use Rattle.std.proofs.Common.{◌≡◌, ℕ, ◌<◌, ◌≤◌, Bool, true, List, [], ◌∷◌, ◌++◌, length, map, drop, Option, refl, sym, ap, ◌∙◌, arith}
 use Rattle.std.specs.Prelude.{IsSome, nat_lt}
 use Rattle.std.proofs.lemmas.List.{drop-append-le, drop-drop, drop-map, map_push, length-map, length-append, length-drop}
 use Rattle.circular_buffer.specs.Buffer.{Buffer}
-use Rattle.tc_link.specs.declared.Kind.{Kind}
-use Rattle.tc_link.specs.Frame.{IsWhole, header_of}
-use Rattle.tc_link.specs.Command.{kind_of}
-use Rattle.tc_link.specs.Farm.{Row, E1, E2, E3, E4, E5, E6, E7, E8, E9, E10, number_of, frame_row, entry, accepts, after}
-use Rattle.tc_channel.specs.declared.settings.Settings.{Settings}
-use Rattle.tc_channel.specs.declared.event.Event.{Event}
-use Rattle.tc_channel.specs.declared.event.Event.TheVariants.{Frame, Release, Take, TakeUnit}
-use Rattle.tc_channel.specs.ChannelState.{ChannelState, Accepted, first_state_within, buffer}
-use Rattle.tc_channel.specs.Run.{HasStep, step, row_of, kept, passed_on, first_of, run_from, AreSteps, run_within, IsLawfulWithin}
-use Rattle.tc_packet.specs.declared.Service.TheVariants.{Ad}
-use Rattle.tc_channel.specs.Admission.{map_of}
-use Rattle.tc_channel.specs.Channel.{Inside, HoldsWithin, FollowsWithin, FollowsKindWithin, EndsWithin, EndsAtOnceWithin, buffered_of, with_field}
-use Rattle.tc_link.specs.declared.Act.{Act}
-use Rattle.tc_channel.specs.declared.reply.Delivery.{Delivery}
+use Rattle.tc_channel.proofs.Names.{Kind, IsWhole, kind_of, Row, E1, E6, E10, number_of, frame_row, entry, accepts, after, Settings, Event, Frame, Release, ChannelState, Accepted, buffer, HasStep, step, row_of, kept, first_of, map_of, Inside, HoldsWithin, FollowsWithin, FollowsKindWithin, EndsWithin, EndsAtOnceWithin, buffered_of, with_field, Delivery}
 use Rattle.tc_channel.specs.Delivering.{IsDelivered}
+use Rattle.tc_link.specs.Frame.{header_of}
+use Rattle.tc_channel.specs.Run.{passed_on, run_within, IsLawfulWithin}
+use Rattle.tc_packet.specs.declared.Service.TheVariants.{Ad}
+use Rattle.tc_link.specs.declared.Act.{Act}
 use Rattle.tc_channel.proofs.Shares.{delivered-held, frame-queues, release-queues}
 use Rattle.tc_channel.proofs.Streams.{frame-runs, release-runs}
 use Rattle.tc_channel.proofs.StateQueues.{kept-either, queues-kept, units-kept}
-use Rattle.tc_channel.proofs.Filled.{filled-drop, first-filled, state-filled}
-use Rattle.tc_channel.proofs.Runs.{run-push, lawful-push}
+use Rattle.tc_channel.proofs.Filled.{IsFilled, first-filled, state-filled}
+use Rattle.tc_channel.proofs.Runs.{run-push, lawful-push, keeps}
 use Rattle.tc_channel.proofs.Plain.{run-limit}
 use Rattle.tc_channel.proofs.Sound.{HaveEntries, state-sound, frame-enters}
+use Rattle.tc_channel.proofs.Lists.{all-drop}
 
 abbrev IsCounted : ChannelState → Type 0
 IsCounted b = b.released ≤ length b.accepted
@@ -33,27 +25,21 @@ kept-counted : (row : Row) (accepted : Bool) (octets : List ℕ) (b : ChannelSta
 unfolding passed_on
 kept-counted row accepted octets b h = kept-either IsCounted row accepted octets b h (omega (arith, length-append {A = Accepted})) h
 
-step-counted : (c : Settings) (b : ChannelState) (e : Event) → IsCounted b → HasStep c b e → IsCounted (step c b e)
+step-counted : (c : Settings) (b : ChannelState) (e : Event) → HasStep c b e → IsCounted b → IsCounted (step c b e)
 unfolding passed_on
-step-counted c b (Frame octets) h one = kept-counted (row_of c b octets) (accepts (row_of c b octets) b.report) octets b h
-step-counted c b Release h one = omega arith
-step-counted c b (Take apid) h one = h
-step-counted c b (TakeUnit map_id) h one = h
-
-run_from-counted : (c : Settings) (b : ChannelState) (es : List Event) → IsCounted b → AreSteps c b es → IsCounted (run_from c b es)
-run_from-counted c b [] h steps = h
-run_from-counted c b (e ∷ es) h steps = run_from-counted c (step c b e) es (step-counted c b e h steps.0) steps.1
+step-counted c b (Frame octets) one h = kept-counted (row_of c b octets) (accepts (row_of c b octets) b.report) octets b h
+step-counted c b Release one h = omega arith
+step-counted c b _ one h = h
 
 -- no more fields were released than accepted
 pub state-counted : (limits : ℕ → ℕ) (c : Settings) (journal : List Event) → IsLawfulWithin limits c journal → IsCounted (run_within limits c journal)
-unfolding run_within IsLawfulWithin
-state-counted limits c journal lawful = run_from-counted c (first_state_within limits c) journal (omega arith) lawful
+state-counted limits c journal lawful = keeps IsCounted limits c journal lawful (step-counted c) (omega arith)
 
 pub oldest-filled : {limits : ℕ → ℕ} {c : Settings} {j : List Event} {i : Inside} → HoldsWithin limits c j i → 0 < length i.ring.items → 0 < length (first_of i.ring.items)
 oldest-filled {limits} {c} {j} {i} k some =
     let b = run_within limits c j in
     let len : length i.ring.items ≡ length (buffer b) = ap length k.fields in
-    rw k.fields (first-filled (drop b.released b.accepted) (filled-drop b.released b.accepted (state-filled limits c j k.lawful)) (omega (arith, length-map (drop b.released b.accepted) (λ (a : Accepted). a.field))))
+    rw k.fields (first-filled (drop b.released b.accepted) (all-drop IsFilled b.released b.accepted (state-filled limits c j k.lawful)) (omega (arith, length-map (drop b.released b.accepted) (λ (a : Accepted). a.field))))
 
 -- what a row leaves in the buffer
 abbrev entered : ℕ → Bool → List (List ℕ) → List ℕ → List (List ℕ)
@@ -64,17 +50,8 @@ unfolding passed_on
 buffer-kept E1 true octets b h =
     let a : Accepted = record { ns = (header_of octets).ns; field = drop 5 octets } in
     ap (map (λ (x : Accepted). x.field)) (drop-append-le b.released b.accepted (a ∷ []) h) ∙ map_push (λ (x : Accepted). x.field) (drop b.released b.accepted) a
-buffer-kept E1 false octets b h = refl
-buffer-kept E2 accepted octets b h = refl
-buffer-kept E3 accepted octets b h = refl
-buffer-kept E4 accepted octets b h = refl
-buffer-kept E5 accepted octets b h = refl
 buffer-kept E6 true octets b h = refl
-buffer-kept E6 false octets b h = refl
-buffer-kept E7 accepted octets b h = refl
-buffer-kept (E8 x) accepted octets b h = refl
-buffer-kept E9 accepted octets b h = refl
-buffer-kept E10 accepted octets b h = refl
+buffer-kept _ _ octets b h = refl
 
 -- the row that FARM-1 is asked for is that of the book
 pub row-is : {limits : ℕ → ℕ} {c : Settings} {j : List Event} {i : Inside} (octets : List ℕ) (kind : Kind) (len capacity : ℕ)

@@ -5,10 +5,10 @@ use Rattle.std.proofs.Math.Seq.{map-set_same}
 use Rattle.std.proofs.lemmas.List.{append-nil, append_assoc, length-append, length-map, map-set, get_or-map}
 use Rattle.circular_buffer.specs.Buffer.{buffer}
 use Rattle.tc_channel.specs.HeldQueues.{keys_of, room_in, longer, shorter, put, HeldQueue}
-use Rattle.tc_channel.proofs.Copies.{put-set, longer-fits}
 use Rattle.tc_rooms.specs.Rooms.{slotted, IsLaidBehind}
-use Rattle.tc_channel.specs.Keyed.{Keyed, ring_in, rings_in, laid_in, all_laid_in, room_sizes, Fit, AreSettled, settled, let_go, IsPutBehind}
+use Rattle.tc_channel.specs.Keyed.{Keyed, ring_in, rings_in, laid_in, all_laid_in, room_sizes, Fit, AreSettled, let_go, IsPutBehind, settled}
 use Rattle.tc_channel.specs.Delivering.{room_at, IsPutAt}
+use Rattle.tc_channel.proofs.Copies.{put-set, longer-fits}
 
 -- an item is laid behind those of a queue
 laid-one : (q next : Keyed) (p : List ℕ) → next.key ≡ q.key → next.slots ≡ slotted q.slots.ring.items q.slots.ring.capacity (q.slots.laid ++ p ∷ []) q.slots.size

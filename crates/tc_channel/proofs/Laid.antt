@@ -3,13 +3,13 @@ use Rattle.std.proofs.Common.{◌≡◌, ◌≢◌, ℕ, zero, suc, ◌<◌, tru
 use Rattle.std.specs.Prelude.{set}
 use Rattle.std.specs.List.{AllByRecursion}
 use Rattle.std.proofs.lemmas.List.{append-nil}
-use Rattle.tc_channel.specs.Admission.{is_for}
+use Rattle.tc_channel.proofs.Names.{is_for}
 use Rattle.tc_channel.specs.HeldQueues.{keys_of, AreDistinct}
+use Rattle.tc_rooms.specs.Rooms.{slotted}
+use Rattle.tc_channel.specs.Keyed.{Keyed, rings_in, AreSettled, settled}
+use Rattle.tc_channel.specs.Delivering.{IsAmong, AreLaidOf}
 use Rattle.tc_channel.proofs.Counted.{for-one}
 use Rattle.tc_channel.proofs.Passes.{NoneFor}
-use Rattle.tc_rooms.specs.Rooms.{slotted}
-use Rattle.tc_channel.specs.Keyed.{Keyed, rings_in, settled, AreSettled}
-use Rattle.tc_channel.specs.Delivering.{IsAmong, AreLaidOf}
 use Rattle.tc_channel.proofs.Tables.{keys-length}
 use Rattle.tc_channel.proofs.Ways.{apart-at}
 

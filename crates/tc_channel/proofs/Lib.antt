@@ -1,3 +1,6 @@
+pub mod Lists
+pub mod Walking
+pub mod Names
 pub mod Runs
 pub mod Sound
 pub mod BufferSize
@@ -20,15 +23,12 @@ pub mod Held
 pub mod Small
 pub mod Eras
 pub mod Faults
-pub mod Refused
 pub mod Growth
 pub mod Given
 pub mod Through
 pub mod Account
 pub mod Apart
-pub mod Words
 pub mod Examples
-pub mod Bound
 pub mod InRooms
 pub mod Ways
 pub mod Sizes

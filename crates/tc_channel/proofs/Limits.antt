@@ -3,28 +3,18 @@ use Rattle.std.proofs.Common.{◌≡◌, ℕ, ◌≤◌, Bool, true, false, cond
 use Rattle.std.specs.Prelude.{nat_le, ◌↔◌}
 use Rattle.std.proofs.lemmas.Bool.Decides.{nat_tests}
 use Rattle.tc_packet.specs.declared.segment.Part.{Part}
-use Rattle.tc_packet.specs.declared.segment.Part.TheVariants.{First, Continuing, Last, Unsegmented}
-use Rattle.tc_packet.specs.declared.Service.{Service}
-use Rattle.tc_packet.specs.Reassembly.{IsWithinLimit, at_most, bounded, ended_by, largest_unit, open_run, stream, unit_ended}
-use Rattle.tc_packet.specs.Segment.{header_of, body_of}
-use Rattle.tc_channel.specs.ChannelState.{ChannelState, no_limits}
-use Rattle.tc_channel.specs.Admission.{map_of}
-use Rattle.tc_channel.specs.Run.{unit_of}
+use Rattle.tc_packet.specs.declared.segment.Part.TheVariants.{Last, Unsegmented}
+use Rattle.tc_channel.proofs.Names.{Service, IsWithinLimit, at_most, ended_by, largest_unit, open_run, stream, unit_ended, ChannelState, map_of, unit_of}
+use Rattle.tc_packet.specs.Segment.{body_of, header_of}
+use Rattle.tc_packet.proofs.KeptRuns.{bounded-within}
+use Rattle.tc_channel.specs.ChannelState.{no_limits}
 
 -- a unit is within the limit
 
-bounded-within : (octets : List ℕ) → IsWithinLimit (bounded octets)
-bounded-within octets = by (nat_le (length octets) largest_unit) refl where
-  by : (t : Bool) → nat_le (length octets) largest_unit ≡ t → IsWithinLimit (bounded octets)
-  by true fits = rw fits (grind (arith, nat_tests))
-  by false over = rw over tt
-
 within-ended : (part : Part) (run : Option (List ℕ)) (body : List ℕ) → IsWithinLimit (ended_by part run body)
 within-ended Unsegmented run body = bounded-within body
-within-ended Last None body = tt
 within-ended Last (Some octets) body = bounded-within (octets ++ body)
-within-ended First run body = tt
-within-ended Continuing run body = tt
+within-ended _ _ body = tt
 
 pub within-unit : (segmented : Bool) (fields : List (List ℕ)) (field : List ℕ) → IsWithinLimit (unit_ended segmented fields field)
 within-unit true fields field = within-ended (header_of field).part (open_run fields) (body_of field)

@@ -1,46 +1,27 @@
--- How many octets wait in the queues and in the buffer.
-use Rattle.std.proofs.Common.{ℕ, zero, suc, ◌+◌, ◌*◌, ◌≤◌, Bool, true, false, cond, eqb, ◌&&◌, List, [], ◌∷◌, ◌++◌, length, take, map, drop, filter, Option, Some, None, arith}
+-- How many octets wait in the queues and in the buffer, and the bound of memory.
+use Rattle.std.proofs.Common.{ℕ, zero, suc, ◌+◌, ◌*◌, ◌≤◌, Bool, true, false, cond, eqb, ◌&&◌, List, [], ◌∷◌, length, take, map, drop, filter, Option, Some, arith, ◌≡◌}
 use Rattle.std.specs.Prelude.{nat_lt}
 use Rattle.std.specs.List.{AllByRecursion}
 use Rattle.std.proofs.lemmas.List.{length-drop, length-map, length-take}
 use Rattle.std.proofs.lemmas.List.Sums.{sum_by-cons}
-use Rattle.tc_link.specs.Frame.{IsWhole, header_of as frame_header}
-use Rattle.tc_link.specs.Farm.{Row, accepts}
-use Rattle.tc_packet.specs.declared.Service.{Service}
-use Rattle.tc_packet.specs.declared.Service.TheVariants.{Ad, Bd}
-use Rattle.tc_packet.specs.Reassembly.{IsWithinLimit, unit_ended, largest_unit, stream}
-use Rattle.tc_packet.specs.SpacePacket.{begins, named_length, packets_within}
-use Rattle.tc_channel.specs.declared.settings.QueueSetting.{QueueSetting}
-use Rattle.tc_channel.specs.declared.settings.MapSetting.{MapSetting}
-use Rattle.tc_channel.specs.declared.settings.Settings.{Settings}
-use Rattle.tc_channel.specs.declared.event.Event.{Event}
-use Rattle.tc_channel.specs.declared.event.Event.TheVariants.{Frame, Release, Take, TakeUnit}
-use Rattle.tc_channel.specs.ChannelState.{ChannelState, Accepted, Queue, first_state_within, empty_queue, empty_unit_queue, buffer, waiting}
-use Rattle.tc_channel.specs.Admission.{map_of, is_chosen, packets_offered, units_offered, share_of, with_shares, room_of, is_for, is_of_map}
-use Rattle.tc_channel.specs.Memory.{largest_field, packets_held, units_held, waiting_in_all, octets_in, octets_waiting}
-use Rattle.tc_channel.specs.Run.{step, row_of, kept, passed_on, taken_from, unit_of, first_of, run_from, AreSteps, IsLawfulWithin, run_within}
+use Rattle.tc_channel.proofs.Names.{HasStep, IsWhole, Row, accepts, Service, Bd, IsWithinLimit, unit_ended, largest_unit, stream, begins, named_length, packets_within, Settings, Event, Frame, Release, Take, TakeUnit, ChannelState, Accepted, Queue, empty_queue, empty_unit_queue, buffer, waiting, map_of, is_chosen, packets_offered, units_offered, share_of, with_shares, room_of, is_for, is_of_map, step, row_of, kept, taken_from, unit_of, first_of, IsLawfulWithin, run_within}
+use Rattle.tc_channel.specs.Memory.{largest_field, packets_held, units_held, waiting_in_all, octets_in, octets_waiting, room_words, queue_words, largest_item, runs_memory, tables_memory, segment_memory, memory_waiting, memory_bound}
+use Rattle.tc_link.specs.Frame.{header_of as frame_header}
+use Rattle.tc_packet.specs.declared.Service.TheVariants.{Ad}
+use Rattle.tc_channel.specs.Run.{passed_on, IsLawfulWithin, run_within}
 use Rattle.tc_channel.proofs.BufferSize.{buffer-fits}
 use Rattle.tc_channel.proofs.Limits.{within-unit, within-both}
 use Rattle.tc_channel.proofs.StateQueues.{kept-either}
 use Rattle.tc_channel.proofs.Room.{packets-within, units-within}
+use Rattle.tc_channel.proofs.Runs.{keeps, always}
+use Rattle.tc_channel.proofs.Lists.{all-append, all-take, all-drop, all-map}
 
 -- none of the items is longer than the largest unit
+abbrev IsShort : List ℕ → Type 0
+IsShort item = length item ≤ largest_unit
+
 abbrev AreShort : List (List ℕ) → Type 0
-AreShort items = AllByRecursion (λ (i : List ℕ). length i ≤ largest_unit) items
-
-short-append : (xs ys : List (List ℕ)) → AreShort xs → AreShort ys → AreShort (xs ++ ys)
-short-append [] ys h i = i
-short-append (x ∷ xs) ys h i = (h.0, short-append xs ys h.1 i)
-
-short-take : (n : ℕ) (xs : List (List ℕ)) → AreShort xs → AreShort (take n xs)
-short-take zero xs h = tt
-short-take (suc n) [] h = tt
-short-take (suc n) (x ∷ xs) h = (h.0, short-take n xs h.1)
-
-short-drop : (n : ℕ) (xs : List (List ℕ)) → AreShort xs → AreShort (drop n xs)
-short-drop zero xs h = h
-short-drop (suc n) [] h = h
-short-drop (suc n) (x ∷ xs) h = short-drop n xs h.1
+AreShort items = AllByRecursion IsShort items
 
 short-filter : (p : List ℕ → Bool) (xs : List (List ℕ)) → AreShort xs → AreShort (filter p xs)
 short-filter p [] h = tt
@@ -59,14 +40,12 @@ short-cut (suc n) octets h =
       by false one rest = tt
 
 short-packets : (unit : Option (List ℕ)) (chosen : Bool) → IsWithinLimit unit → AreShort (packets_offered unit chosen)
-short-packets None chosen h = tt
-short-packets (Some unit) true h = tt
 short-packets (Some unit) false h = short-cut (length unit) unit h
+short-packets _ _ h = tt
 
 short-units : (unit : Option (List ℕ)) (chosen : Bool) → IsWithinLimit unit → AreShort (units_offered unit chosen)
-short-units None chosen h = tt
 short-units (Some unit) true h = (h, tt)
-short-units (Some unit) false h = tt
+short-units _ _ h = tt
 
 -- each queue has admitted such items alone
 abbrev HoldShort : List Queue → Type 0
@@ -74,7 +53,7 @@ HoldShort qs = AllByRecursion (λ (q : Queue). AreShort q.admitted) qs
 
 hold-offered : (wanted : ℕ → List ℕ → Bool) (items : List (List ℕ)) (qs : List Queue) → AreShort items → HoldShort qs → HoldShort (with_shares wanted items qs)
 hold-offered wanted items [] i h = tt
-hold-offered wanted items (q ∷ qs) i h = (short-append q.admitted (share_of wanted items q) h.0 (short-take (room_of q) (filter (wanted q.key) items) (short-filter (wanted q.key) items i)), hold-offered wanted items qs i h.1)
+hold-offered wanted items (q ∷ qs) i h = (all-append IsShort q.admitted (share_of wanted items q) h.0 (all-take IsShort (room_of q) (filter (wanted q.key) items) (short-filter (wanted q.key) items i)), hold-offered wanted items qs i h.1)
 
 hold-one : (key : ℕ) (q : Queue) → AreShort q.admitted → AreShort (taken_from key q).admitted
 hold-one key q h = by (eqb q.key key && nat_lt q.taken (length q.admitted)) where
@@ -86,14 +65,6 @@ hold-taken : (key : ℕ) (qs : List Queue) → HoldShort qs → HoldShort (map (
 hold-taken key [] h = tt
 hold-taken key (q ∷ qs) h = (hold-one key q h.0, hold-taken key qs h.1)
 
-hold-empty : (qs : List QueueSetting) → HoldShort (map empty_queue qs)
-hold-empty [] = tt
-hold-empty (q ∷ qs) = (tt, hold-empty qs)
-
-hold-empty-units : (ms : List MapSetting) → HoldShort (map empty_unit_queue ms)
-hold-empty-units [] = tt
-hold-empty-units (m ∷ ms) = (tt, hold-empty-units ms)
-
 abbrev Hold : ChannelState → Type 0
 Hold b = HoldShort b.queues × HoldShort b.units
 
@@ -103,16 +74,14 @@ hold-passed b service field h =
     let w = within-both (b.limit (map_of field)) (unit_ended b.segmented (stream service (map_of field) b.passed) field) (within-unit b.segmented (stream service (map_of field) b.passed) field) in
     (hold-offered is_for (packets_offered (unit_of b service field) (is_chosen b field)) b.queues (short-packets (unit_of b service field) (is_chosen b field) w) h.0, hold-offered (is_of_map (map_of field)) (units_offered (unit_of b service field) (is_chosen b field)) b.units (short-units (unit_of b service field) (is_chosen b field) w) h.1)
 
-run_from-hold : (c : Settings) (b : ChannelState) (es : List Event) → Hold b → Hold (run_from c b es)
-run_from-hold c b [] h = h
-run_from-hold c b (Frame octets ∷ es) h = run_from-hold c (step c b (Frame octets)) es (kept-either Hold (row_of c b octets) (accepts (row_of c b octets) b.report) octets b h h (hold-passed b Bd (drop 5 octets) h))
-run_from-hold c b (Release ∷ es) h = run_from-hold c (step c b Release) es (hold-passed b Ad (first_of (buffer b)) h)
-run_from-hold c b (Take apid ∷ es) h = run_from-hold c (step c b (Take apid)) es (hold-taken apid b.queues h.0, h.1)
-run_from-hold c b (TakeUnit map_id ∷ es) h = run_from-hold c (step c b (TakeUnit map_id)) es (h.0, hold-taken map_id b.units h.1)
+step-hold : (c : Settings) (b : ChannelState) (e : Event) → Hold b → Hold (step c b e)
+step-hold c b (Frame octets) h = kept-either Hold (row_of c b octets) (accepts (row_of c b octets) b.report) octets b h h (hold-passed b Bd (drop 5 octets) h)
+step-hold c b Release h = hold-passed b Ad (first_of (buffer b)) h
+step-hold c b (Take apid) h = (hold-taken apid b.queues h.0, h.1)
+step-hold c b (TakeUnit map_id) h = (h.0, hold-taken map_id b.units h.1)
 
 run-hold : (limits : ℕ → ℕ) (c : Settings) (journal : List Event) → Hold (run_within limits c journal)
-unfolding run_within
-run-hold limits c journal = run_from-hold c (first_state_within limits c) journal (hold-empty c.queues, hold-empty-units c.maps)
+run-hold limits c journal = always Hold limits c journal (step-hold c) (all-map (λ q. AreShort q.admitted) empty_queue c.queues (λ q. tt), all-map (λ q. AreShort q.admitted) empty_unit_queue c.maps (λ m. tt))
 
 octets-within : (items : List (List ℕ)) → AreShort items → octets_in items ≤ length items * 65542
 octets-within [] h = omega arith
@@ -127,7 +96,7 @@ all-within (q ∷ qs) h =
       arith,
       sum_by-cons (λ (x : Queue). octets_in (waiting x)) q qs,
       sum_by-cons (λ (x : Queue). length (waiting x)) q qs,
-      octets-within (drop q.taken q.admitted) (short-drop q.taken q.admitted h.0),
+      octets-within (drop q.taken q.admitted) (all-drop IsShort q.taken q.admitted h.0),
       all-within qs h.1,
     )
 
@@ -138,33 +107,23 @@ pub units-fit : (limits : ℕ → ℕ) (s : Settings) (journal : List Event) →
 units-fit limits s journal = omega (arith, all-within (run_within limits s journal).units (run-hold limits s journal).1, units-within limits s journal)
 
 -- each accepted frame has a data field that fits one
+abbrev HasField : Accepted → Type 0
+HasField a = length a.field ≤ 1019
+
 abbrev HaveFields : List Accepted → Type 0
-HaveFields xs = AllByRecursion (λ (a : Accepted). length a.field ≤ 1019) xs
-
-fields-push : (xs : List Accepted) (a : Accepted) → HaveFields xs → length a.field ≤ 1019 → HaveFields (xs ++ a ∷ [])
-fields-push [] a h one = (one, tt)
-fields-push (x ∷ xs) a h one = (h.0, fields-push xs a h.1 one)
-
-fields-drop : (n : ℕ) (xs : List Accepted) → HaveFields xs → HaveFields (drop n xs)
-fields-drop zero xs h = h
-fields-drop (suc n) [] h = h
-fields-drop (suc n) (x ∷ xs) h = fields-drop n xs h.1
+HaveFields xs = AllByRecursion HasField xs
 
 kept-fields : (row : Row) (accepted : Bool) (octets : List ℕ) (b : ChannelState) → IsWhole octets → HaveFields b.accepted → HaveFields (kept row accepted octets b).accepted
 unfolding passed_on
-kept-fields row accepted octets b whole h = kept-either (λ x. HaveFields x.accepted) row accepted octets b h (fields-push b.accepted (record { ns = (frame_header octets).ns; field = drop 5 octets }) h (let most = whole.most in omega (arith, length-drop 5 octets))) h
+kept-fields row accepted octets b whole h = kept-either (λ x. HaveFields x.accepted) row accepted octets b h (all-append HasField b.accepted (record { ns = (frame_header octets).ns; field = drop 5 octets } ∷ []) h (let most = whole.most in omega (arith, length-drop 5 octets), tt)) h
 
-run_from-fields : (c : Settings) (b : ChannelState) (es : List Event) → HaveFields b.accepted → AreSteps c b es → HaveFields (run_from c b es).accepted
+step-fields : (c : Settings) (b : ChannelState) (e : Event) → HasStep c b e → HaveFields b.accepted → HaveFields (step c b e).accepted
 unfolding passed_on
-run_from-fields c b [] h steps = h
-run_from-fields c b (Frame octets ∷ es) h steps = run_from-fields c (step c b (Frame octets)) es (kept-fields (row_of c b octets) (accepts (row_of c b octets) b.report) octets b steps.0.0 h) steps.1
-run_from-fields c b (Release ∷ es) h steps = run_from-fields c (step c b Release) es h steps.1
-run_from-fields c b (Take apid ∷ es) h steps = run_from-fields c (step c b (Take apid)) es h steps.1
-run_from-fields c b (TakeUnit map_id ∷ es) h steps = run_from-fields c (step c b (TakeUnit map_id)) es h steps.1
+step-fields c b (Frame octets) has h = kept-fields (row_of c b octets) (accepts (row_of c b octets) b.report) octets b has.0 h
+step-fields c b _ has h = h
 
 state-fields : (limits : ℕ → ℕ) (c : Settings) (journal : List Event) → IsLawfulWithin limits c journal → HaveFields (run_within limits c journal).accepted
-unfolding run_within IsLawfulWithin
-state-fields limits c journal lawful = run_from-fields c (first_state_within limits c) journal tt lawful
+state-fields limits c journal lawful = keeps (λ b. HaveFields b.accepted) limits c journal lawful (step-fields c) tt
 
 fields-within : (xs : List Accepted) → HaveFields xs → octets_in (map (λ (a : Accepted). a.field) xs) ≤ length xs * 1019
 fields-within [] h = omega arith
@@ -178,7 +137,23 @@ fields-fit limits s journal lawful =
     let waiting = drop b.released b.accepted in
     omega (
       arith,
-      fields-within waiting (fields-drop b.released b.accepted (state-fields limits s journal lawful)),
+      fields-within waiting (all-drop HasField b.released b.accepted (state-fields limits s journal lawful)),
       length-map waiting (λ (a : Accepted). a.field),
       buffer-fits limits s journal,
     )
+
+-- ---- what waits in a channel, and the bound of its memory
+-- of plain numbers: so many queues and MAPs, the packets, units and data fields that they may hold, those that wait, with their octets
+fits : (segmented : Bool) (queues maps held held_units fields packets octets units unit_octets field_octets runs tables segment : ℕ) → segmented ≡ true
+    → packets ≤ held → octets ≤ held * largest_unit → units ≤ held_units → unit_octets ≤ held_units * largest_unit → field_octets ≤ fields * largest_field
+    → (queues + maps) * queue_words + (packets * room_words + octets) + (units * room_words + unit_octets) + field_octets
+    ≤ fields * (room_words + largest_field) + runs + ((queues + maps) * queue_words + held * (room_words + largest_item segmented) + held_units * (room_words + largest_unit)) + tables + segment
+fits true queues maps held held_units fields packets octets units unit_octets field_octets runs tables segment e a b c d f = omega arith
+fits false queues maps held held_units fields packets octets units unit_octets field_octets runs tables segment e a b c d f = absurd cc
+
+pub waits-within : (limits : ℕ → ℕ) (s : Settings) (journal : List Event) → s.segmented ≡ true → IsLawfulWithin limits s journal → memory_waiting s (run_within limits s journal) ≤ memory_bound s
+unfolding memory_bound
+waits-within limits s journal segmented lawful =
+    let state = run_within limits s journal in
+    fits s.segmented (length s.queues) (length s.maps) (packets_held s) (units_held s) s.buffer (waiting_in_all state.queues) (octets_waiting state.queues) (waiting_in_all state.units) (octets_waiting state.units) (octets_in (buffer state)) (runs_memory s) (tables_memory s) (segment_memory s)
+    segmented (packets-within limits s journal) (packets-fit limits s journal) (units-within limits s journal) (units-fit limits s journal) (fields-fit limits s journal lawful)

@@ -4,14 +4,13 @@ use Rattle.std.proofs.lemmas.Bool.{eq-eqb, ne_eqb}
 use Rattle.std.proofs.Math.Bool.{and-false}
 use Rattle.std.specs.List.{AllByRecursion}
 use Rattle.tc_packet.specs.declared.Packet.{Packet}
-use Rattle.tc_packet.specs.SpacePacket.{apid_of, is_telecommand}
+use Rattle.tc_channel.proofs.Names.{apid_of, is_telecommand, is_for}
+use Rattle.tc_channel.specs.HeldQueues.{keys_of, AreDistinct, room_in, share, with_items, shared, shares_in, copied_to, longer, put, put_all, IsUnderWay, HeldQueue, Placed, AreShares}
 use Rattle.tc_packet.specs.PacketFields.{HasFields}
 use Rattle.std.proofs.Math.ListN.{set}
 use Rattle.std.proofs.lemmas.List.{append-nil, length-append, length-map}
 use Rattle.std.proofs.lemmas.List.Sums.{sum_by-cons}
 use Rattle.circular_buffer.specs.Buffer.{buffer as ring_of}
-use Rattle.tc_channel.specs.Admission.{is_for}
-use Rattle.tc_channel.specs.HeldQueues.{keys_of, AreDistinct, room_in, share, with_items, shared, shares_in, copied_to, longer, put, put_all, IsUnderWay, AreShares, HeldQueue, Placed}
 use Rattle.tc_channel.proofs.Copies.{length-put_all, put_all-push, places-append, longer-fits}
 use Rattle.tc_channel.proofs.Counted.{for-one}
 
@@ -23,9 +22,8 @@ is-not-for p apid fields (inl other) = rw (sym fields.telecommand ∙ other) ref
 is-not-for p apid fields (inr other) = rw (ne_eqb (apid_of p.octets.now) apid (λ e. other (fields.apid ∙ e))) (and-false (is_telecommand p.octets.now))
 
 keys-put : (ws : List HeldQueue) (i : ℕ) (p : List ℕ) → keys_of (put ws i p) ≡ keys_of ws
-keys-put [] i p = refl
-keys-put (w ∷ ws) zero p = refl
 keys-put (w ∷ ws) (suc i) p = ap (λ (x : List ℕ). w.key ∷ x) (keys-put ws i p)
+keys-put _ _ p = refl
 
 -- the packet is for none of these
 abbrev pub NoneFor : List ℕ → List ℕ → Type 0

@@ -1,17 +1,11 @@
 -- No more items wait in the queues than the bound of memory counts.
-use Rattle.std.proofs.Common.{◌≡◌, ℕ, ◌+◌, ◌≤◌, Bool, true, false, cond, eqb, ◌&&◌, List, [], ◌∷◌, length, map, refl, sym, ap, ◌∙◌, arith}
-use Rattle.std.specs.Prelude.{nat_lt, sum_by}
+use Rattle.std.proofs.Common.{◌≡◌, ℕ, ◌+◌, ◌≤◌, Bool, List, [], ◌∷◌, length, map, refl, sym, ap, ◌∙◌, arith}
+use Rattle.std.specs.Prelude.{sum_by}
 use Rattle.std.proofs.lemmas.List.{length-drop}
 use Rattle.std.proofs.lemmas.List.Sums.{sum_by-cons}
-use Rattle.tc_channel.specs.declared.settings.QueueSetting.{QueueSetting}
-use Rattle.tc_channel.specs.declared.settings.MapSetting.{MapSetting}
-use Rattle.tc_channel.specs.declared.settings.Settings.{Settings}
-use Rattle.tc_channel.specs.declared.event.Event.{Event}
-use Rattle.tc_channel.specs.ChannelState.{Queue, empty_queue, empty_unit_queue, waiting}
-use Rattle.tc_channel.specs.Admission.{with_share, with_shares}
+use Rattle.tc_channel.proofs.Names.{QueueSetting, MapSetting, Settings, Event, Queue, empty_queue, empty_unit_queue, waiting, with_share, with_shares, taken_from, run_within}
 use Rattle.tc_channel.specs.Memory.{packets_held, units_held, waiting_in_all}
-use Rattle.tc_channel.specs.Run.{taken_from, run_within}
-use Rattle.tc_channel.proofs.StateQueues.{GoesOn, AreKept, run-both, queues-kept, units-kept}
+use Rattle.tc_channel.proofs.StateQueues.{GoesOn, taken-same, AreKept, run-both, queues-kept, units-kept}
 
 abbrev room : List Queue → ℕ
 room qs = sum_by (λ (q : Queue). q.capacity) qs
@@ -23,15 +17,9 @@ room-with_shares : (wanted : ℕ → List ℕ → Bool) (items : List (List ℕ)
 room-with_shares wanted items [] = refl
 room-with_shares wanted items (q ∷ qs) = room-cons (with_share wanted items q) (with_shares wanted items qs) ∙ ap (λ x. q.capacity + x) (room-with_shares wanted items qs) ∙ sym (room-cons q qs)
 
-taken-capacity : (key : ℕ) (q : Queue) → (taken_from key q).capacity ≡ q.capacity
-taken-capacity key q = by (eqb q.key key && nat_lt q.taken (length q.admitted)) where
-  by : (t : Bool) → (cond t (record q { taken = q.taken + 1 }) q).capacity ≡ q.capacity
-  by true = refl
-  by false = refl
-
 room-taken : (key : ℕ) (qs : List Queue) → room (map (taken_from key) qs) ≡ room qs
 room-taken key [] = refl
-room-taken key (q ∷ qs) = omega (arith, room-cons (taken_from key q) (map (taken_from key) qs), taken-capacity key q, room-taken key qs, room-cons q qs)
+room-taken key (q ∷ qs) = omega (arith, room-cons (taken_from key q) (map (taken_from key) qs), taken-same {A = ℕ} (λ x. x.capacity) (λ x n. refl) key q, room-taken key qs, room-cons q qs)
 
 room-goes-on : (first : ℕ) → GoesOn (λ qs. room qs ≡ first)
 room-goes-on first = record {
@@ -39,16 +27,12 @@ room-goes-on first = record {
   taken = λ key qs h. room-taken key qs ∙ h;
 }
 
-room-empty : (qs : List QueueSetting) → room (map empty_queue qs) ≡ sum_by (λ (q : QueueSetting). q.capacity) qs
-room-empty [] = refl
-room-empty (q ∷ qs) = room-cons (empty_queue q) (map empty_queue qs) ∙ ap (λ x. q.capacity + x) (room-empty qs) ∙ sym (sum_by-cons (λ (x : QueueSetting). x.capacity) q qs)
-
-room-empty-units : (ms : List MapSetting) → room (map empty_unit_queue ms) ≡ sum_by (λ (m : MapSetting). m.capacity) ms
-room-empty-units [] = refl
-room-empty-units (m ∷ ms) = room-cons (empty_unit_queue m) (map empty_unit_queue ms) ∙ ap (λ x. m.capacity + x) (room-empty-units ms) ∙ sym (sum_by-cons (λ (x : MapSetting). x.capacity) m ms)
+room-new : {A : Type 0} (f : A → Queue) (capacity : A → ℕ) (xs : List A) → ((x : A) → (f x).capacity ≡ capacity x) → room (map f xs) ≡ sum_by capacity xs
+room-new f capacity [] same = refl
+room-new f capacity (x ∷ xs) same = omega (arith, room-cons (f x) (map f xs), same x, room-new f capacity xs same, sum_by-cons capacity x xs)
 
 room-stays : (limits : ℕ → ℕ) (s : Settings) (journal : List Event) → (room (run_within limits s journal).queues ≡ packets_held s) × (room (run_within limits s journal).units ≡ units_held s)
-room-stays limits s journal = run-both limits (λ qs. room qs ≡ packets_held s) (λ qs. room qs ≡ units_held s) (room-goes-on (packets_held s)) (room-goes-on (units_held s)) s journal (room-empty s.queues) (room-empty-units s.maps)
+room-stays limits s journal = run-both limits (λ qs. room qs ≡ packets_held s) (λ qs. room qs ≡ units_held s) (room-goes-on (packets_held s)) (room-goes-on (units_held s)) s journal (room-new empty_queue (λ (q : QueueSetting). q.capacity) s.queues (λ q. refl)) (room-new empty_unit_queue (λ (m : MapSetting). m.capacity) s.maps (λ m. refl))
 
 waiting-within : (qs : List Queue) → AreKept qs → waiting_in_all qs ≤ room qs
 waiting-within [] h = omega arith

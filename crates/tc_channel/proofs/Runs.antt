@@ -1,9 +1,8 @@
 -- A run goes on by one event, or by several.
-use Rattle.std.proofs.Common.{ℕ, ◌≡◌, List, [], ◌∷◌, ◌++◌, refl}
-use Rattle.tc_channel.specs.declared.settings.Settings.{Settings}
-use Rattle.tc_channel.specs.declared.event.Event.{Event}
-use Rattle.tc_channel.specs.ChannelState.{ChannelState, first_state_within}
-use Rattle.tc_channel.specs.Run.{HasStep, step, run_from, AreSteps, run_within, IsLawfulWithin}
+use Rattle.std.proofs.Common.{ℕ, ◌≡◌, List, [], ◌∷◌, ◌++◌, refl, subst, append_assoc}
+use Rattle.std.proofs.lemmas.List.{append-nil}
+use Rattle.tc_channel.proofs.Names.{Settings, Event, ChannelState, first_state_within, HasStep, step, run_from, AreSteps}
+use Rattle.tc_channel.specs.Run.{run_within, IsLawfulWithin}
 
 pub run_from-append : (c : Settings) (b : ChannelState) (es fs : List Event) → run_from c b (es ++ fs) ≡ run_from c (run_from c b es) fs
 run_from-append c b [] fs = refl
@@ -39,3 +38,26 @@ lawful-before limits c past future all = AreSteps-before c (first_state_within l
 pub lawful-after : (limits : ℕ → ℕ) (c : Settings) (past future : List Event) → IsLawfulWithin limits c (past ++ future) → AreSteps c (run_within limits c past) future
 unfolding run_within IsLawfulWithin
 lawful-after limits c past future all = AreSteps-later c (first_state_within limits c) past future all
+
+-- by events from the first on
+pub from-first : (P : List Event → Type 0) (push : (j : List Event) (e : Event) → P j → P (j ++ e ∷ [])) (done rest : List Event) → P done → P (done ++ rest)
+from-first P push done [] h = rw (append-nil done) h
+from-first P push done (e ∷ rest) h = subst P (append_assoc done (e ∷ []) rest) (from-first P push (done ++ e ∷ []) rest (push done e h))
+
+keeps-from : (P : ChannelState → Type 0) (c : Settings) (b : ChannelState) (es : List Event) → AreSteps c b es → ((a : ChannelState) (e : Event) → HasStep c a e → P a → P (step c a e)) → P b → P (run_from c b es)
+keeps-from P c b [] steps each h = h
+keeps-from P c b (e ∷ es) steps each h = keeps-from P c (step c b e) es steps.1 each (each b e steps.0 h)
+
+-- what holds at first, and goes on at each step that can happen, holds after each lawful journal
+pub keeps : (P : ChannelState → Type 0) (limits : ℕ → ℕ) (c : Settings) (journal : List Event) → IsLawfulWithin limits c journal → ((b : ChannelState) (e : Event) → HasStep c b e → P b → P (step c b e)) → P (first_state_within limits c) → P (run_within limits c journal)
+unfolding run_within IsLawfulWithin
+keeps P limits c journal lawful each h = keeps-from P c (first_state_within limits c) journal lawful each h
+
+always-from : (P : ChannelState → Type 0) (c : Settings) (b : ChannelState) (es : List Event) → ((a : ChannelState) (e : Event) → P a → P (step c a e)) → P b → P (run_from c b es)
+always-from P c b [] each h = h
+always-from P c b (e ∷ es) each h = always-from P c (step c b e) es each (each b e h)
+
+-- and what goes on at any step, after each journal
+pub always : (P : ChannelState → Type 0) (limits : ℕ → ℕ) (c : Settings) (journal : List Event) → ((b : ChannelState) (e : Event) → P b → P (step c b e)) → P (first_state_within limits c) → P (run_within limits c journal)
+unfolding run_within
+always P limits c journal each h = always-from P c (first_state_within limits c) journal each h

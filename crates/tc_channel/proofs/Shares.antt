@@ -3,31 +3,18 @@ use Rattle.std.proofs.Common.{◌≡◌, ◌≢◌, ℕ, zero, suc, ◌+◌, ◌
 use Rattle.std.specs.Prelude.{is_some}
 use Rattle.std.specs.List.{sum_by}
 use Rattle.std.proofs.lemmas.List.Sums.{sum_by-cons}
-use Rattle.tc_channel.specs.declared.reply.Delivery.{Delivery}
+use Rattle.tc_channel.proofs.Names.{Delivery, nothing, delivery_of, frame_delivery, release_reply_at, Row, E1, E6, row_at, frame_row, accepts, Settings, Frame, Release, ChannelState, Queue, queue_of, has_room, buffer, map_of, is_chosen, is_for, is_of_map, packets_offered, units_offered, offered, share_of, with_share, with_shares, queued_of, Kind, Unlock, SetVr, kind_of, Service, Bd, OpenRuns, at_most, stream, unit_ended, AreRuns, EndsWithin, EndsAtOnceWithin, step, row_of, kept, unit_of, first_of}
 use Rattle.tc_channel.specs.Delivering.{IsDelivered}
 use Rattle.tc_channel.specs.HeldQueues.{Placed, HeldQueue, held, share, with_items, shared, shares_in, queue_for, copies_from, put_all, placed, AreShares}
-use Rattle.tc_channel.specs.Reply.{nothing, delivery_of, frame_delivery, release_reply_at}
 use Rattle.std.proofs.lemmas.List.{drop-append-le, length-drop, append-nil}
-use Rattle.tc_link.specs.Farm.{Row, E1, E2, E3, E4, E5, E6, E7, E8, E9, E10, row_at, frame_row, accepts}
-use Rattle.tc_channel.specs.declared.settings.Settings.{Settings}
-use Rattle.tc_channel.specs.declared.event.Event.TheVariants.{Frame, Release}
-use Rattle.tc_channel.specs.ChannelState.{ChannelState, Queue, queue_of, has_room, buffer}
-use Rattle.tc_channel.specs.Admission.{map_of, is_chosen, is_for, is_of_map, packets_offered, units_offered, offered, share_of, with_share, with_shares, queued_of}
-use Rattle.tc_link.specs.declared.Kind.{Kind}
 use Rattle.tc_link.specs.declared.Kind.TheVariants as kinds
-use Rattle.tc_link.specs.declared.Command.TheVariants.{Unlock, SetVr}
-use Rattle.tc_link.specs.declared.Place.{Place}
-use Rattle.tc_link.specs.declared.Place.TheVariants.{Expected, Ahead, Behind, Outside}
 use Rattle.tc_link.specs.Frame.{header_of}
-use Rattle.tc_link.specs.Command.{kind_of}
 use Rattle.tc_link.specs.Window.{place_of}
-use Rattle.tc_packet.specs.declared.Service.{Service}
-use Rattle.tc_packet.specs.declared.Service.TheVariants.{Ad, Bd}
+use Rattle.tc_packet.specs.declared.Service.TheVariants.{Ad}
 use Rattle.tc_packet.specs.Segment as segment
-use Rattle.tc_packet.specs.Reassembly.{OpenRuns, at_most, stream, unit_ended}
-use Rattle.tc_channel.specs.Channel.{AreRuns, EndsWithin, EndsAtOnceWithin}
-use Rattle.tc_channel.specs.Run.{step, row_of, kept, passed_on, unit_of, first_of}
+use Rattle.tc_channel.specs.Run.{passed_on}
 use Rattle.tc_channel.proofs.StateQueues.{AreKept}
+use Rattle.tc_channel.proofs.Streams.{not-BD}
 use Rattle.tc_channel.proofs.Copies.{Fit, shares-put, copies-places, length-copies}
 
 fit-held : (qs : List Queue) → AreKept qs → Fit (map held qs)
@@ -67,23 +54,8 @@ AreHeld rings unit_rings b = (rings ≡ map held b.queues) × (unit_rings ≡ ma
 
 kept-held : (row : Row) (accepted : Bool) (octets : List ℕ) (b : ChannelState) (rings unit_rings : List HeldQueue) → row ≢ E6 → AreHeld rings unit_rings b → AreHeld rings unit_rings (kept row accepted octets b)
 kept-held E1 true octets b rings unit_rings other h = h
-kept-held E1 false octets b rings unit_rings other h = h
-kept-held E2 accepted octets b rings unit_rings other h = h
-kept-held E3 accepted octets b rings unit_rings other h = h
-kept-held E4 accepted octets b rings unit_rings other h = h
-kept-held E5 accepted octets b rings unit_rings other h = h
 kept-held E6 accepted octets b rings unit_rings other h = absurd (other refl)
-kept-held E7 accepted octets b rings unit_rings other h = h
-kept-held (E8 x) accepted octets b rings unit_rings other h = h
-kept-held E9 accepted octets b rings unit_rings other h = h
-kept-held E10 accepted octets b rings unit_rings other h = h
-
-not-BD : (place : Place) (room : Bool) → row_at place room ≢ E6
-not-BD Expected true e = cc
-not-BD Expected false e = cc
-not-BD Ahead room e = cc
-not-BD Behind room e = cc
-not-BD Outside room e = cc
+kept-held _ _ octets b rings unit_rings other h = h
 
 no-share : (n : ℕ) → take {A = List ℕ} n [] ≡ []
 no-share zero = refl
@@ -163,16 +135,8 @@ queued-is wanted ps (q ∷ qs) =
     ∙ ap (λ n. length (share_of wanted ps q) + n) (queued-is wanted ps qs) ∙ sym (sum_by-cons (λ (x : Queue). length (share_of wanted ps x)) q qs)
 
 other-nothing : (row : Row) (octets : List ℕ) (b : ChannelState) → row ≢ E6 → frame_delivery row octets b ≡ nothing
-other-nothing E1 octets b h = refl
-other-nothing E2 octets b h = refl
-other-nothing E3 octets b h = refl
-other-nothing E4 octets b h = refl
-other-nothing E5 octets b h = refl
 other-nothing E6 octets b h = absurd (h refl)
-other-nothing E7 octets b h = refl
-other-nothing (E8 x) octets b h = refl
-other-nothing E9 octets b h = refl
-other-nothing E10 octets b h = refl
+other-nothing _ octets b h = refl
 
 count-is : (wanted : ℕ → List ℕ → Bool) (items : List (List ℕ)) (rings : List HeldQueue) (copies : List Placed) (qs : List Queue) → rings ≡ map held qs → copies ≡ copies_from wanted 0 items rings → length copies ≡ queued_of wanted items qs
 count-is wanted items rings copies qs are is = ap length is ∙ length-copies wanted 0 items rings ∙ ap (λ (x : List HeldQueue). sum_by length (map (share wanted items) x)) are ∙ queued-is wanted items qs
@@ -190,8 +154,7 @@ kind-delivery : (limits : ℕ → ℕ) (width vr : ℕ) (kind : Kind) (room : Bo
 kind-delivery limits width vr (kinds.Ad ns) room octets b open_runs unit limit are ends = rw ends (sym (other-nothing (row_at (place_of width vr ns) room) octets b (not-BD (place_of width vr ns) room)))
 kind-delivery limits width vr kinds.Bd room octets b open_runs unit limit are ends = ap (λ (x : Option (List ℕ)). delivery_of (drop 5 octets) x b) (ends-unit limits Bd (drop 5 octets) b open_runs unit limit are ends)
 kind-delivery limits width vr (kinds.Bc Unlock) room octets b open_runs unit limit are ends = rw ends refl
-kind-delivery limits width vr (kinds.Bc (SetVr x)) room octets b open_runs unit limit are ends = rw ends refl
-kind-delivery limits width vr kinds.Invalid room octets b open_runs unit limit are ends = rw ends refl
+kind-delivery limits width vr _ room octets b open_runs unit limit are ends = rw ends refl
 
 pub frame-delivery : (limits : ℕ → ℕ) (c : Settings) (b : ChannelState) (octets : List ℕ) (open_runs : OpenRuns) (unit : Option (List ℕ)) (rings later unit_rings later_units : List HeldQueue) (d : Delivery) → b.limit ≡ limits → AreRuns limits open_runs b.segmented b.passed → AreHeld rings unit_rings b
     → EndsAtOnceWithin (limits (map_of (drop 5 octets))) (kind_of (header_of octets) (drop 5 octets)) open_runs (drop 5 octets) unit → IsDelivered (map_of (drop 5 octets)) unit rings later unit_rings later_units d → d ≡ frame_delivery (row_of c b octets) octets b

@@ -2,13 +2,12 @@
 use Rattle.std.proofs.Common.{◌≡◌, ℕ, zero, suc, ◌≤◌, ◌<◌, Bool, true, false, Option, Some, None, List, [], ◌∷◌, length, replicate, refl, sym, subst, ◌∙◌, arith}
 use Rattle.std.specs.Prelude.{min}
 use Rattle.std.specs.List.{AllByRecursion}
-use Rattle.tc_packet.specs.declared.Service.{Service}
-use Rattle.tc_packet.specs.declared.Service.TheVariants.{Ad, Bd}
-use Rattle.tc_packet.specs.Reassembly.{stream_place}
+use Rattle.tc_channel.proofs.Names.{Service, Bd, stream_place}
 use Rattle.tc_rooms.specs.Runs.{IsAtMost, Store, limit_at}
 use Rattle.tc_channel.specs.Memory.{largest_item}
 use Rattle.tc_channel.specs.Keyed.{Fit, FitsIn}
 use Rattle.tc_channel.specs.Workings.{AreEnough, AreSmall, HaveLimits}
+use Rattle.tc_packet.specs.declared.Service.TheVariants.{Ad}
 
 -- octets that are no more than the least room
 pub fit-enough : (octets : List ℕ) (least : ℕ) (sizes : List ℕ) → AllByRecursion (λ (n : ℕ). least ≤ n) sizes → length octets ≤ least → Fit octets sizes

@@ -1,63 +1,47 @@
--- Numbers of octets are below 256: V(R), and the number of each accepted frame.
-use Rattle.std.proofs.Common.{◌≡◌, ◌≢◌, ℕ, ◌+◌, ◌<◌, Bool, true, false, cond, eqb, ◌&&◌, List, [], ◌∷◌, drop, Option, Some, None, refl, arith}
+-- Numbers are small: V(R), the number of each accepted frame, the counter, and so the CLCW.
+use Rattle.std.proofs.Common.{◌≡◌, ◌≢◌, ℕ, ◌+◌, ◌<◌, Bool, true, false, cond, eqb, ◌&&◌, List, [], ◌∷◌, drop, Option, Some, None, refl, arith, ◌≤◌, ◌^◌}
 use Rattle.std.specs.Prelude.{unwrap_or}
 use Rattle.std.proofs.lemmas.List.{get_or-drop}
-use Rattle.tc_link.specs.declared.Report.{Report}
-use Rattle.tc_link.specs.declared.State.{State}
-use Rattle.tc_link.specs.declared.State.TheVariants.{S1, S2, S3}
-use Rattle.tc_link.specs.declared.Kind.{Kind}
-use Rattle.tc_link.specs.declared.Kind.TheVariants.{Ad, Bd, Bc, Invalid}
-use Rattle.tc_link.specs.declared.Command.{Command}
-use Rattle.tc_link.specs.declared.Command.TheVariants.{Unlock, SetVr}
+use Rattle.tc_channel.proofs.Names.{HasStep, Report, State, S1, S2, Kind, Unlock, SetVr, Expected, IsOctets, command_of, control_kind, kind_by, kind_of, Row, E1, E8, E10, row_at, frame_row, entry_at, Settings, Event, Frame, Release, ChannelState, has_room, step, row_of, IsAllowed, IsLawfulWithin}
 use Rattle.tc_link.specs.declared.Place.{Place}
-use Rattle.tc_link.specs.declared.Place.TheVariants.{Expected, Ahead, Behind, Outside}
+use Rattle.tc_link.specs.declared.Kind.TheVariants.{Ad, Bc}
+use Rattle.tc_link.specs.declared.Command.{Command}
 use Rattle.tc_link.specs.Window.{place_of}
-use Rattle.tc_link.specs.Frame.{IsOctets, header_of}
-use Rattle.tc_link.specs.Command.{command_of, control_kind, kind_by, kind_of}
-use Rattle.tc_link.specs.Farm.{Row, E1, E2, E3, E4, E5, E6, E7, E8, E9, E10, row_at, frame_row, entry_at}
-use Rattle.tc_channel.specs.declared.settings.Settings.{Settings}
-use Rattle.tc_channel.specs.declared.event.Event.{Event}
-use Rattle.tc_channel.specs.declared.event.Event.TheVariants.{Frame, Release, Take, TakeUnit}
-use Rattle.tc_channel.specs.ChannelState.{ChannelState, first_state_within, has_room}
-use Rattle.tc_channel.specs.Run.{step, row_of, passed_on, run_from, AreSteps, run_within, IsLawfulWithin}
+use Rattle.tc_link.specs.Frame.{header_of}
+use Rattle.tc_channel.specs.Run.{passed_on, run_within, IsLawfulWithin}
+use Rattle.tc_channel.proofs.Runs.{keeps, always}
+use Rattle.tc_link.specs.Bits.{bit}
+use Rattle.tc_link.specs.declared.Link.{Link}
+use Rattle.tc_channel.specs.Reply.{clcw_within}
 
 set-below : (field : List ℕ) (x : ℕ) → IsOctets field → command_of field ≡ Some (SetVr x) → x < 256
-set-below [] x h e = absurd cc
 set-below (a ∷ []) x h e = by (eqb a 0) e where
   by : (t : Bool) → cond t (Some Unlock) None ≡ Some (SetVr x) → x < 256
   by true e = absurd cc
   by false e = absurd cc
-set-below (a ∷ b ∷ []) x h e = absurd cc
 set-below (a ∷ b ∷ y ∷ []) x h e = by (eqb a 0x82 && eqb b 0) e (h 2) where
   by : (t : Bool) → cond t (Some (SetVr y)) None ≡ Some (SetVr x) → y < 256 → x < 256
   by true e small = let q : y ≡ x = cc in rw (← q) small
   by false e small = absurd cc
-set-below (a ∷ b ∷ y ∷ z ∷ rest) x h e = absurd cc
+set-below _ x h e = absurd cc
 
 command-below : (o : Option Command) (x : ℕ) → ((y : ℕ) → o ≡ Some (SetVr y) → y < 256) → control_kind o ≡ Bc (SetVr x) → x < 256
-command-below None x h e = absurd cc
-command-below (Some Unlock) x h e = absurd cc
 command-below (Some (SetVr y)) x h e = h x cc
+command-below _ x h e = absurd cc
 
 kind-below : (bypass control : Bool) (ns : ℕ) (field : List ℕ) (x : ℕ) → IsOctets field → kind_by bypass control ns field ≡ Bc (SetVr x) → x < 256
 kind-below false false ns field x h e = absurd cc
-kind-below true false ns field x h e = absurd cc
 kind-below true true ns field x h e = command-below (command_of field) x (λ y. set-below field y h) e
-kind-below false true ns field x h e = absurd cc
+kind-below _ _ ns field x h e = absurd cc
 
 not-set : (place : Place) (room : Bool) (x : ℕ) → row_at place room ≢ E8 x
 not-set Expected true x e = cc
-not-set Expected false x e = cc
-not-set Ahead room x e = cc
-not-set Behind room x e = cc
-not-set Outside room x e = cc
+not-set _ _ x e = cc
 
 kind-at_E8 : (width vr : ℕ) (kind : Kind) (room : Bool) (x : ℕ) → frame_row width vr kind room ≡ E8 x → kind ≡ Bc (SetVr x)
 kind-at_E8 width vr (Ad ns) room x e = absurd (not-set (place_of width vr ns) room x e)
-kind-at_E8 width vr Bd room x e = absurd cc
-kind-at_E8 width vr (Bc Unlock) room x e = absurd cc
 kind-at_E8 width vr (Bc (SetVr y)) room x e = cc
-kind-at_E8 width vr Invalid room x e = absurd cc
+kind-at_E8 width vr _ room x e = absurd cc
 
 row-below : (c : Settings) (b : ChannelState) (octets : List ℕ) (x : ℕ) → IsOctets octets → row_of c b octets ≡ E8 x → x < 256
 row-below c b octets x h e =
@@ -66,44 +50,49 @@ row-below c b octets x h e =
 
 left-below : (row : Row) (st : State) (r : Report) → ((x : ℕ) → row ≡ E8 x → x < 256) → r.vr < 256 → (unwrap_or (entry_at row st r) r).vr < 256
 left-below E1 S1 r h v = omega arith
-left-below E1 S2 r h v = v
-left-below E1 S3 r h v = v
-left-below E2 S1 r h v = v
-left-below E2 S2 r h v = v
-left-below E2 S3 r h v = v
-left-below E3 S1 r h v = v
-left-below E3 S2 r h v = v
-left-below E3 S3 r h v = v
-left-below E4 S1 r h v = v
-left-below E4 S2 r h v = v
-left-below E4 S3 r h v = v
-left-below E5 S1 r h v = v
-left-below E5 S2 r h v = v
-left-below E5 S3 r h v = v
-left-below E6 S1 r h v = v
-left-below E6 S2 r h v = v
-left-below E6 S3 r h v = v
-left-below E7 S1 r h v = v
-left-below E7 S2 r h v = v
-left-below E7 S3 r h v = v
 left-below (E8 n) S1 r h v = h n refl
 left-below (E8 n) S2 r h v = h n refl
-left-below (E8 n) S3 r h v = v
-left-below E9 S1 r h v = v
-left-below E9 S2 r h v = v
-left-below E9 S3 r h v = v
-left-below E10 S1 r h v = v
-left-below E10 S2 r h v = v
-left-below E10 S3 r h v = v
+left-below row S1 r h v = v
+left-below _ _ r h v = v
 
-run_from-below : (c : Settings) (b : ChannelState) (es : List Event) → b.report.vr < 256 → AreSteps c b es → (run_from c b es).report.vr < 256
+step-below : (c : Settings) (b : ChannelState) (e : Event) → HasStep c b e → b.report.vr < 256 → (step c b e).report.vr < 256
 unfolding passed_on
-run_from-below c b [] v steps = v
-run_from-below c b (Frame octets ∷ es) v steps = run_from-below c (step c b (Frame octets)) es (left-below (row_of c b octets) b.report.state b.report (λ x. row-below c b octets x steps.0.0.each) v) steps.1
-run_from-below c b (Release ∷ es) v steps = run_from-below c (step c b Release) es (left-below E10 b.report.state b.report (λ x e. absurd cc) v) steps.1
-run_from-below c b (Take apid ∷ es) v steps = run_from-below c (step c b (Take apid)) es v steps.1
-run_from-below c b (TakeUnit map_id ∷ es) v steps = run_from-below c (step c b (TakeUnit map_id)) es v steps.1
+step-below c b (Frame octets) has v = left-below (row_of c b octets) b.report.state b.report (λ x. row-below c b octets x has.0.each) v
+step-below c b Release has v = left-below E10 b.report.state b.report (λ x e. absurd cc) v
+step-below c b _ has v = v
 
 pub vr-below : (limits : ℕ → ℕ) (c : Settings) (journal : List Event) → c.first < 256 → IsLawfulWithin limits c journal → (run_within limits c journal).report.vr < 256
-unfolding run_within IsLawfulWithin
-vr-below limits c journal first lawful = run_from-below c (first_state_within limits c) journal first lawful
+vr-below limits c journal first lawful = keeps (λ b. b.report.vr < 256) limits c journal lawful (step-below c) first
+
+-- ---- the CLCW of a lawful journal fits 32 bits
+counter-below : (row : Row) (st : State) (r : Report) → r.farm_b < 4 → (unwrap_or (entry_at row st r) r).farm_b < 4
+counter-below E1 S1 r h = h
+counter-below row S1 r h = omega arith
+counter-below _ _ r h = omega arith
+
+step-counter : (c : Settings) (b : ChannelState) (e : Event) → b.report.farm_b < 4 → (step c b e).report.farm_b < 4
+unfolding passed_on
+step-counter c b (Frame octets) h = counter-below (row_of c b octets) b.report.state b.report h
+step-counter c b Release h = counter-below E10 b.report.state b.report h
+step-counter c b _ h = h
+
+run-counter : (limits : ℕ → ℕ) (c : Settings) (journal : List Event) → (run_within limits c journal).report.farm_b < 4
+run-counter limits c journal = always (λ b. b.report.farm_b < 4) limits c journal (step-counter c) (omega arith)
+
+bit-most : (b : Bool) → bit b ≤ 1
+bit-most true = omega arith
+bit-most false = omega arith
+
+pub clcw-fits : (limits : ℕ → ℕ) (c : Settings) (journal : List Event) (link : Link) → IsAllowed c → IsLawfulWithin limits c journal → clcw_within limits c journal link < 2 ^ 32
+unfolding clcw_within
+clcw-fits limits c journal link allowed lawful =
+    let r = (run_within limits c journal).report in
+    let vcid = allowed.vcid in
+    let vr = vr-below limits c journal allowed.first lawful in
+    let farm_b = run-counter limits c journal in
+    let no_rf = bit-most link.no_rf in
+    let no_bit_lock = bit-most link.no_bit_lock in
+    let lockout = bit-most r.lockout in
+    let wait = bit-most r.wait in
+    let retransmit = bit-most r.retransmit in
+    omega arith

@@ -1,24 +1,13 @@
 -- In S2 Wait is set, and then there is no room.
-use Rattle.std.proofs.Common.{◌≡◌, ◌≢◌, ℕ, Bool, true, false, List, [], ◌∷◌, drop, refl}
+use Rattle.std.proofs.Common.{◌≡◌, ◌≢◌, ℕ, Bool, true, false, List, drop, refl}
 use Rattle.std.specs.Prelude.{IsSome, unwrap_or}
-use Rattle.tc_link.specs.declared.Report.{Report}
-use Rattle.tc_link.specs.declared.State.{State}
-use Rattle.tc_link.specs.declared.State.TheVariants.{S1, S2, S3}
-use Rattle.tc_link.specs.declared.Kind.{Kind}
-use Rattle.tc_link.specs.declared.Kind.TheVariants.{Ad, Bd, Bc, Invalid}
-use Rattle.tc_link.specs.declared.Command.TheVariants.{Unlock, SetVr}
+use Rattle.tc_channel.proofs.Names.{Report, State, S1, S2, S3, Kind, Unlock, Expected, Ahead, Behind, Outside, kind_of, Row, E1, E2, E5, E7, E8, E10, row_at, frame_row, entry_at, entry, after, Settings, Event, Frame, Release, ChannelState, has_room, step, row_of, after_frame, after_release, IsSound}
 use Rattle.tc_link.specs.declared.Place.{Place}
-use Rattle.tc_link.specs.declared.Place.TheVariants.{Expected, Ahead, Behind, Outside}
+use Rattle.tc_link.specs.declared.Kind.TheVariants.{Ad, Bc}
 use Rattle.tc_link.specs.Window.{place_of}
 use Rattle.tc_link.specs.Frame.{header_of}
-use Rattle.tc_link.specs.Command.{kind_of}
-use Rattle.tc_link.specs.Farm.{Row, E1, E2, E3, E4, E5, E6, E7, E8, E9, E10, row_at, frame_row, entry_at, entry, after}
-use Rattle.tc_channel.specs.declared.settings.Settings.{Settings}
-use Rattle.tc_channel.specs.declared.event.Event.{Event}
-use Rattle.tc_channel.specs.declared.event.Event.TheVariants.{Frame, Release, Take, TakeUnit}
-use Rattle.tc_channel.specs.ChannelState.{ChannelState, first_state_within, has_room}
-use Rattle.tc_channel.specs.Run.{step, row_of, after_frame, after_release, passed_on, run_from, run_within}
-use Rattle.tc_channel.specs.Laws.{IsSound}
+use Rattle.tc_channel.specs.Run.{passed_on, run_within}
+use Rattle.tc_channel.proofs.Runs.{always}
 
 -- by state: Wait, Lockout, and whether there is room
 abbrev pub SoundAt : State → Bool → Bool → Bool → Type 0
@@ -38,10 +27,8 @@ room-of width vr (Ad ns) room = at (place_of width vr ns) room where
   at Ahead room = (λ e. absurd cc, λ e. absurd cc)
   at Behind room = (λ e. absurd cc, λ e. absurd cc)
   at Outside room = (λ e. absurd cc, λ e. absurd cc)
-room-of width vr Bd room = (λ e. absurd cc, λ e. absurd cc)
 room-of width vr (Bc Unlock) room = (λ e. absurd cc, λ e. absurd cc)
-room-of width vr (Bc (SetVr x)) room = (λ e. absurd cc, λ e. absurd cc)
-room-of width vr Invalid room = (λ e. absurd cc, λ e. absurd cc)
+room-of width vr _ room = (λ e. absurd cc, λ e. absurd cc)
 
 pub room-at_E1 : (c : Settings) (b : ChannelState) (octets : List ℕ) → row_of c b octets ≡ E1 → has_room c b ≡ true
 room-at_E1 c b octets e = (room-of c.width b.report.vr (kind_of (header_of octets) (drop 5 octets)) (has_room c b)).0 e
@@ -54,36 +41,16 @@ abbrev pub Left : Row → State → Report → Report
 Left row st r = unwrap_or (entry_at row st r) r
 
 entry-sound : (row : Row) (st : State) (r : Report) (room : Bool) → r.state ≡ st → (row ≡ E2 → room ≡ false) → SoundAt st r.wait r.lockout room → Sound room (Left row st r)
-entry-sound E1 S1 r room e full h = rw e h
-entry-sound E1 S2 r room e full h = rw e h
-entry-sound E1 S3 r room e full h = rw e h
 entry-sound E2 S1 r room e full h = (refl, h.1, full refl)
-entry-sound E2 S2 r room e full h = rw e h
-entry-sound E2 S3 r room e full h = rw e h
-entry-sound E3 S1 r room e full h = rw e h
-entry-sound E3 S2 r room e full h = rw e h
-entry-sound E3 S3 r room e full h = rw e h
-entry-sound E4 S1 r room e full h = rw e h
-entry-sound E4 S2 r room e full h = rw e h
-entry-sound E4 S3 r room e full h = rw e h
 entry-sound E5 S1 r room e full h = (refl, λ w. absurd (let f = h.0 in cc))
 entry-sound E5 S2 r room e full h = (refl, λ w. h.2)
-entry-sound E5 S3 r room e full h = rw e h
-entry-sound E6 S1 r room e full h = rw e h
-entry-sound E6 S2 r room e full h = rw e h
-entry-sound E6 S3 r room e full h = rw e h
-entry-sound E7 S1 r room e full h = rw e h
 entry-sound E7 S2 r room e full h = (refl, h.1)
 entry-sound E7 S3 r room e full h = (refl, refl)
-entry-sound (E8 x) S1 r room e full h = rw e h
 entry-sound (E8 x) S2 r room e full h = (refl, h.1)
-entry-sound (E8 x) S3 r room e full h = rw e h
-entry-sound E9 S1 r room e full h = rw e h
-entry-sound E9 S2 r room e full h = rw e h
-entry-sound E9 S3 r room e full h = rw e h
-entry-sound E10 S1 r room e full h = rw e h
 entry-sound E10 S2 r room e full h = (refl, h.1)
 entry-sound E10 S3 r room e full h = rw e (h.0, λ w. absurd cc)
+entry-sound row S1 r room e full h = rw e h
+entry-sound _ _ r room e full h = rw e h
 
 -- E10, whatever room there is then
 released-sound : (st : State) (r : Report) (room later : Bool) → r.state ≡ st → SoundAt st r.wait r.lockout room → Sound later (Left E10 st r)
@@ -100,28 +67,15 @@ frame-sound c b octets E1 e h = at b.report.state refl where
   at S2 s = absurd (let k : SoundAt S2 b.report.wait b.report.lockout (has_room c b) = rw s at h in let t = room-at_E1 c b octets e in cc (k.2, t))
   at S3 s = rw s (let k : SoundAt S3 b.report.wait b.report.lockout (has_room c b) = rw s at h in k)
 frame-sound c b octets E2 e h = entry-sound E2 b.report.state b.report (has_room c b) refl (λ q. full-at_E2 c b octets e) h
-frame-sound c b octets E3 e h = entry-sound E3 b.report.state b.report (has_room c b) refl (λ q. absurd cc) h
-frame-sound c b octets E4 e h = entry-sound E4 b.report.state b.report (has_room c b) refl (λ q. absurd cc) h
-frame-sound c b octets E5 e h = entry-sound E5 b.report.state b.report (has_room c b) refl (λ q. absurd cc) h
-frame-sound c b octets E6 e h = entry-sound E6 b.report.state b.report (has_room c b) refl (λ q. absurd cc) h
-frame-sound c b octets E7 e h = entry-sound E7 b.report.state b.report (has_room c b) refl (λ q. absurd cc) h
-frame-sound c b octets (E8 x) e h = entry-sound (E8 x) b.report.state b.report (has_room c b) refl (λ q. absurd cc) h
-frame-sound c b octets E9 e h = entry-sound E9 b.report.state b.report (has_room c b) refl (λ q. absurd cc) h
-frame-sound c b octets E10 e h = entry-sound E10 b.report.state b.report (has_room c b) refl (λ q. absurd cc) h
+frame-sound c b octets row e h = entry-sound row b.report.state b.report (has_room c b) refl (λ q. absurd cc) h
 
 step-sound : (c : Settings) (b : ChannelState) (e : Event) → Sound (has_room c b) b.report → Sound (has_room c (step c b e)) (step c b e).report
 step-sound c b (Frame octets) h = frame-sound c b octets (row_of c b octets) refl h
 step-sound c b Release h = released-sound b.report.state b.report (has_room c b) (has_room c (after_release b)) refl h
-step-sound c b (Take apid) h = h
-step-sound c b (TakeUnit map_id) h = h
-
-run_from-sound : (c : Settings) (b : ChannelState) (es : List Event) → Sound (has_room c b) b.report → Sound (has_room c (run_from c b es)) (run_from c b es).report
-run_from-sound c b [] h = h
-run_from-sound c b (e ∷ es) h = run_from-sound c (step c b e) es (step-sound c b e h)
+step-sound c b _ h = h
 
 pub run-sound : (limits : ℕ → ℕ) (c : Settings) (journal : List Event) → Sound (has_room c (run_within limits c journal)) (run_within limits c journal).report
-unfolding run_within
-run-sound limits c journal = run_from-sound c (first_state_within limits c) journal (refl, refl)
+run-sound limits c journal = always (λ b. Sound (has_room c b) b.report) limits c journal (step-sound c) (refl, refl)
 
 in-S2 : (room : Bool) (st : State) (r : Report) → SoundAt st r.wait r.lockout room → (st ≡ S2 → r.wait ≡ true) × (r.wait ≡ true → room ≡ false) × (r.wait ≡ true → st ≢ S1) × (r.lockout ≡ true → st ≡ S3) × (st ≡ S3 → r.lockout ≡ true)
 in-S2 room S1 r h = let w = h.0 in let l = h.1 in (λ s. absurd cc, λ t. absurd cc, λ t. absurd cc, λ t. absurd cc, λ s. absurd cc)

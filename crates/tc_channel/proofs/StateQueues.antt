@@ -5,63 +5,45 @@ use Rattle.std.specs.List.{AllByRecursion}
 use Rattle.std.proofs.lemmas.Bool.Decides.{nat_tests}
 use Rattle.std.proofs.lemmas.List.{length-append, length-take}
 use Rattle.tc_link.specs.Frame.{header_of}
-use Rattle.tc_link.specs.Farm.{Row, E1, E2, E3, E4, E5, E6, E7, E8, E9, E10, accepts}
-use Rattle.tc_packet.specs.declared.Service.TheVariants.{Ad, Bd}
-use Rattle.tc_channel.specs.declared.settings.QueueSetting.{QueueSetting}
-use Rattle.tc_channel.specs.declared.settings.MapSetting.{MapSetting}
-use Rattle.tc_channel.specs.declared.settings.Settings.{Settings}
-use Rattle.tc_channel.specs.declared.event.Event.{Event}
-use Rattle.tc_channel.specs.declared.event.Event.TheVariants.{Frame, Release, Take, TakeUnit}
-use Rattle.tc_channel.specs.Settings.{IsAllowed}
-use Rattle.tc_channel.specs.ChannelState.{ChannelState, Queue, first_state_within, empty_queue, empty_unit_queue, buffer}
+use Rattle.tc_channel.proofs.Names.{Row, E1, E6, accepts, Bd, QueueSetting, MapSetting, Settings, Event, Frame, Release, Take, TakeUnit, IsAllowed, ChannelState, Queue, empty_queue, empty_unit_queue, buffer, map_of, is_chosen, packets_offered, units_offered, share_of, with_share, with_shares, room_of, is_for, is_of_map, KeepsToItsCapacity, step, row_of, kept, taken_from, unit_of, first_of}
 use Rattle.tc_channel.specs.HeldQueues.{AreDistinct}
-use Rattle.tc_channel.specs.Admission.{map_of, is_chosen, packets_offered, units_offered, share_of, with_share, with_shares, room_of, is_for, is_of_map}
-use Rattle.tc_channel.specs.Laws.{KeepsToItsCapacity}
-use Rattle.tc_channel.specs.Run.{step, row_of, kept, passed_on, taken_from, unit_of, first_of, run_from, run_within}
+use Rattle.tc_packet.specs.declared.Service.TheVariants.{Ad}
+use Rattle.tc_channel.specs.Run.{passed_on, run_within}
+use Rattle.tc_channel.proofs.Runs.{always}
+use Rattle.tc_channel.proofs.Lists.{all-map}
 
 -- what holds of a state, of it with one more accepted frame and of it with one more field passed on, holds of what a frame leaves
 pub kept-either : (P : ChannelState → Type 0) (row : Row) (accepted : Bool) (octets : List ℕ) (b : ChannelState) → P b
     → P (record b { accepted = b.accepted ++ record { ns = (header_of octets).ns; field = drop 5 octets } ∷ [] }) → P (passed_on Bd (drop 5 octets) b) → P (kept row accepted octets b)
 kept-either P E1 true octets b same one passed = one
-kept-either P E1 false octets b same one passed = same
-kept-either P E2 accepted octets b same one passed = same
-kept-either P E3 accepted octets b same one passed = same
-kept-either P E4 accepted octets b same one passed = same
-kept-either P E5 accepted octets b same one passed = same
 kept-either P E6 true octets b same one passed = passed
-kept-either P E6 false octets b same one passed = same
-kept-either P E7 accepted octets b same one passed = same
-kept-either P (E8 x) accepted octets b same one passed = same
-kept-either P E9 accepted octets b same one passed = same
-kept-either P E10 accepted octets b same one passed = same
+kept-either P _ _ octets b same one passed = same
 
 -- it goes on where items are offered to the queues, and where one is taken
 pub record GoesOn (P : List Queue → Type 0) : Type 0 where
   pub offered : (wanted : ℕ → List ℕ → Bool) (items : List (List ℕ)) (qs : List Queue) → P qs → P (with_shares wanted items qs)
   pub taken : (key : ℕ) (qs : List Queue) → P qs → P (map (taken_from key) qs)
 
-run_from-both : (P Q : List Queue → Type 0) → GoesOn P → GoesOn Q → (c : Settings) (b : ChannelState) (es : List Event) → P b.queues → Q b.units → P (run_from c b es).queues × Q (run_from c b es).units
+step-both : (P Q : List Queue → Type 0) → GoesOn P → GoesOn Q → (c : Settings) (b : ChannelState) (e : Event) → P b.queues × Q b.units → P (step c b e).queues × Q (step c b e).units
 unfolding passed_on
-run_from-both P Q p q c b [] h u = (h, u)
-run_from-both P Q p q c b (Frame octets ∷ es) h u =
+step-both P Q p q c b (Frame octets) h =
     let f = drop 5 octets in
     let row = row_of c b octets in
-    let accepted = accepts row b.report in
-    run_from-both P Q p q c (step c b (Frame octets)) es
-    (kept-either (λ x. P x.queues) row accepted octets b h h (p.offered is_for (packets_offered (unit_of b Bd f) (is_chosen b f)) b.queues h))
-    (kept-either (λ x. Q x.units) row accepted octets b u u (q.offered (is_of_map (map_of f)) (units_offered (unit_of b Bd f) (is_chosen b f)) b.units u))
-run_from-both P Q p q c b (Release ∷ es) h u =
-    let f = first_of (buffer b) in
-    run_from-both P Q p q c (step c b Release) es
-    (p.offered is_for (packets_offered (unit_of b Ad f) (is_chosen b f)) b.queues h)
-    (q.offered (is_of_map (map_of f)) (units_offered (unit_of b Ad f) (is_chosen b f)) b.units u)
-run_from-both P Q p q c b (Take apid ∷ es) h u = run_from-both P Q p q c (step c b (Take apid)) es (p.taken apid b.queues h) u
-run_from-both P Q p q c b (TakeUnit map_id ∷ es) h u = run_from-both P Q p q c (step c b (TakeUnit map_id)) es h (q.taken map_id b.units u)
+    let accepted = accepts row b.report in (
+      kept-either (λ x. P x.queues) row accepted octets b h.0 h.0 (p.offered is_for (packets_offered (unit_of b Bd f) (is_chosen b f)) b.queues h.0),
+      kept-either (λ x. Q x.units) row accepted octets b h.1 h.1 (q.offered (is_of_map (map_of f)) (units_offered (unit_of b Bd f) (is_chosen b f)) b.units h.1),
+    )
+step-both P Q p q c b Release h =
+    let f = first_of (buffer b) in (
+      p.offered is_for (packets_offered (unit_of b Ad f) (is_chosen b f)) b.queues h.0,
+      q.offered (is_of_map (map_of f)) (units_offered (unit_of b Ad f) (is_chosen b f)) b.units h.1,
+    )
+step-both P Q p q c b (Take apid) h = (p.taken apid b.queues h.0, h.1)
+step-both P Q p q c b (TakeUnit map_id) h = (h.0, q.taken map_id b.units h.1)
 
 -- what holds of empty packet queues, and of empty unit queues, and goes on, holds of each state's
 pub run-both : (limits : ℕ → ℕ) (P Q : List Queue → Type 0) → GoesOn P → GoesOn Q → (c : Settings) (journal : List Event) → P (map empty_queue c.queues) → Q (map empty_unit_queue c.maps) → P (run_within limits c journal).queues × Q (run_within limits c journal).units
-unfolding run_within
-run-both limits P Q p q c journal h u = run_from-both P Q p q c (first_state_within limits c) journal h u
+run-both limits P Q p q c journal h u = always (λ b. P b.queues × Q b.units) limits c journal (step-both P Q p q c) (h, u)
 
 abbrev pub keys : List Queue → List ℕ
 keys qs = map (λ (q : Queue). q.key) qs
@@ -70,23 +52,23 @@ keys-with_shares : (wanted : ℕ → List ℕ → Bool) (items : List (List ℕ)
 keys-with_shares wanted items [] = refl
 keys-with_shares wanted items (q ∷ qs) = ap (λ (x : List ℕ). q.key ∷ x) (keys-with_shares wanted items qs)
 
-pub taken-key : (key : ℕ) (q : Queue) → (taken_from key q).key ≡ q.key
-taken-key key q = by (eqb q.key key && nat_lt q.taken (length q.admitted)) where
-  by : (t : Bool) → (cond t (record q { taken = q.taken + 1 }) q).key ≡ q.key
-  by true = refl
+-- a take changes only how many were taken
+pub taken-same : {A : Type 0} (f : Queue → A) → ((q : Queue) (n : ℕ) → f (record q { taken = n }) ≡ f q) → (key : ℕ) (q : Queue) → f (taken_from key q) ≡ f q
+taken-same f same key q = by (eqb q.key key && nat_lt q.taken (length q.admitted)) where
+  by : (t : Bool) → f (cond t (record q { taken = q.taken + 1 }) q) ≡ f q
+  by true = same q (q.taken + 1)
   by false = refl
+
+pub taken-key : (key : ℕ) (q : Queue) → (taken_from key q).key ≡ q.key
+taken-key = taken-same (λ q. q.key) (λ q n. refl)
 
 keys-taken : (key : ℕ) (qs : List Queue) → keys (map (taken_from key) qs) ≡ keys qs
 keys-taken key [] = refl
 keys-taken key (q ∷ qs) = rw (taken-key key q) (ap (λ (x : List ℕ). q.key ∷ x) (keys-taken key qs))
 
-keys-empty : (qs : List QueueSetting) → keys (map empty_queue qs) ≡ map (λ (q : QueueSetting). q.apid) qs
-keys-empty [] = refl
-keys-empty (q ∷ qs) = ap (λ (x : List ℕ). q.apid ∷ x) (keys-empty qs)
-
-keys-empty-units : (ms : List MapSetting) → keys (map empty_unit_queue ms) ≡ map (λ (m : MapSetting). m.map) ms
-keys-empty-units [] = refl
-keys-empty-units (m ∷ ms) = ap (λ (x : List ℕ). m.map ∷ x) (keys-empty-units ms)
+keys-new : {A : Type 0} (f : A → Queue) (key : A → ℕ) (xs : List A) → ((x : A) → (f x).key ≡ key x) → keys (map f xs) ≡ map key xs
+keys-new f key [] same = refl
+keys-new f key (x ∷ xs) same = rw (same x) (ap (λ (l : List ℕ). key x ∷ l) (keys-new f key xs same))
 
 keys-go-on : (first : List ℕ) → GoesOn (λ qs. keys qs ≡ first)
 keys-go-on first = record {
@@ -98,7 +80,7 @@ keys-stay-both : (limits : ℕ → ℕ) (c : Settings) (journal : List Event) �
 keys-stay-both limits c journal =
     let apids = map (λ (q : QueueSetting). q.apid) c.queues in
     let maps = map (λ (m : MapSetting). m.map) c.maps in
-    run-both limits (λ qs. keys qs ≡ apids) (λ qs. keys qs ≡ maps) (keys-go-on apids) (keys-go-on maps) c journal (keys-empty c.queues) (keys-empty-units c.maps)
+    run-both limits (λ qs. keys qs ≡ apids) (λ qs. keys qs ≡ maps) (keys-go-on apids) (keys-go-on maps) c journal (keys-new empty_queue _ c.queues (λ q. refl)) (keys-new empty_unit_queue _ c.maps (λ m. refl))
 
 pub keys-stay : (limits : ℕ → ℕ) (c : Settings) (journal : List Event) → keys (run_within limits c journal).queues ≡ map (λ (q : QueueSetting). q.apid) c.queues
 keys-stay limits c journal = (keys-stay-both limits c journal).0
@@ -146,19 +128,13 @@ kept-taken : (key : ℕ) (qs : List Queue) → AreKept qs → AreKept (map (take
 kept-taken key [] h = tt
 kept-taken key (q ∷ qs) h = (kept-one key q h.0, kept-taken key qs h.1)
 
-kept-empty : (qs : List QueueSetting) → AreKept (map empty_queue qs)
-kept-empty [] = tt
-kept-empty (q ∷ qs) = (record { taken = omega arith; capacity = omega arith }, kept-empty qs)
-
-kept-empty-units : (ms : List MapSetting) → AreKept (map empty_unit_queue ms)
-kept-empty-units [] = tt
-kept-empty-units (m ∷ ms) = (record { taken = omega arith; capacity = omega arith }, kept-empty-units ms)
-
 kept-go-on : GoesOn AreKept
 kept-go-on = record { offered = kept-shares; taken = kept-taken }
 
 kept-both : (limits : ℕ → ℕ) (c : Settings) (journal : List Event) → AreKept (run_within limits c journal).queues × AreKept (run_within limits c journal).units
-kept-both limits c journal = run-both limits AreKept AreKept kept-go-on kept-go-on c journal (kept-empty c.queues) (kept-empty-units c.maps)
+kept-both limits c journal =
+    run-both limits AreKept AreKept kept-go-on kept-go-on c journal
+    (all-map KeepsToItsCapacity empty_queue c.queues (λ q. record { taken = omega arith; capacity = omega arith })) (all-map KeepsToItsCapacity empty_unit_queue c.maps (λ m. record { taken = omega arith; capacity = omega arith }))
 
 -- no queue holds more than its capacity
 pub queues-kept : (limits : ℕ → ℕ) (c : Settings) (journal : List Event) → AreKept (run_within limits c journal).queues

@@ -1,29 +1,19 @@
 -- The open run of each stream, when a field is passed to reassembly.
-use Rattle.std.proofs.Common.{◌≡◌, ◌≢◌, ℕ, ◌+◌, ◌<◌, ◌≤◌, Bool, true, false, eqb, ◌&&◌, List, [], ◌∷◌, ◌++◌, map, filter, drop, refl, sym, ap, ◌∙◌, inl, inr, arith}
+use Rattle.std.proofs.Common.{◌≡◌, ◌≢◌, ℕ, ◌+◌, ◌<◌, Bool, true, false, eqb, ◌&&◌, List, [], ◌∷◌, ◌++◌, map, filter, drop, refl, sym, ap, ◌∙◌, inl, inr, arith}
 use Rattle.std.proofs.lemmas.Bool.Decides.{eqb_tells}
 use Rattle.std.proofs.lemmas.Bool.{eq-eqb}
-use Rattle.std.specs.Prelude.{replicate, Option, None}
-use Rattle.std.proofs.lemmas.List.{append-nil, map-append, get_or-replicate}
+use Rattle.std.proofs.lemmas.List.{append-nil, map-append}
 use Rattle.std.proofs.lemmas.List.Elements.{filter-append}
-use Rattle.tc_link.specs.declared.Kind.{Kind}
-use Rattle.tc_link.specs.declared.Kind.TheVariants as kinds
-use Rattle.tc_link.specs.declared.Command.TheVariants.{Unlock, SetVr}
+use Rattle.tc_channel.proofs.Names.{Kind, Unlock, Expected, kind_of, Row, E1, E6, row_at, frame_row, accepts, Service, Bd, OpenRuns, Passed, at_most, is_of, same_service, stream, run_left, run_at, stream_place, Settings, Frame, Release, ChannelState, has_room, buffer, step, kept, first_of, AreRuns, FollowsWithin, FollowsKindWithin, LeaveAtMost}
 use Rattle.tc_link.specs.declared.Place.{Place}
-use Rattle.tc_link.specs.declared.Place.TheVariants.{Expected, Ahead, Behind, Outside}
+use Rattle.tc_link.specs.declared.Kind.TheVariants as kinds
 use Rattle.tc_link.specs.Frame.{header_of}
-use Rattle.tc_link.specs.Command.{kind_of}
 use Rattle.tc_link.specs.Window.{place_of}
-use Rattle.tc_link.specs.Farm.{Row, E1, E2, E3, E4, E5, E6, E7, E8, E9, E10, row_at, frame_row, accepts}
-use Rattle.tc_packet.specs.declared.Service.{Service}
-use Rattle.tc_packet.specs.declared.Service.TheVariants.{Ad, Bd}
+use Rattle.tc_packet.specs.declared.Service.TheVariants.{Ad}
 use Rattle.tc_packet.specs.Segment as segment
-use Rattle.tc_packet.specs.Reassembly.{OpenRuns, Passed, at_most, is_of, same_service, stream, run_left, run_at, place_of as stream_at, stream_place}
-use Rattle.tc_channel.specs.declared.settings.Settings.{Settings}
-use Rattle.tc_channel.specs.declared.event.Event.TheVariants.{Frame, Release}
-use Rattle.tc_channel.specs.ChannelState.{ChannelState, has_room, buffer}
-use Rattle.tc_channel.specs.Run.{step, kept, passed_on, first_of}
+use Rattle.tc_packet.specs.Reassembly.{place_of as stream_at}
+use Rattle.tc_channel.specs.Run.{passed_on}
 use Rattle.tc_channel.proofs.StateQueues.{kept-either}
-use Rattle.tc_channel.specs.Channel.{AreRuns, FollowsWithin, FollowsKindWithin, LeaveAtMost}
 
 pub stream-same : (s : Service) (n : ℕ) (passed : List Passed) (p : Passed) → is_of s n p ≡ true → stream s n (passed ++ p ∷ []) ≡ stream s n passed ++ p.field ∷ []
 stream-same s n passed p h =
@@ -47,8 +37,7 @@ same_place Bd Ad m n m_in n_in = (λ h. absurd cc, λ h e. omega arith)
 pub same_map : (s t : Service) (m n : ℕ) → (same_service s t && eqb m n) ≡ true → m ≡ n
 same_map Ad Ad m n h = elim (eqb_tells m n) [ inl e ↦ e.1 | inr e ↦ let x = e.0 in absurd cc ]
 same_map Bd Bd m n h = elim (eqb_tells m n) [ inl e ↦ e.1 | inr e ↦ let x = e.0 in absurd cc ]
-same_map Ad Bd m n h = absurd cc
-same_map Bd Ad m n h = absurd cc
+same_map _ _ m n h = absurd cc
 
 pub runs-follow : (limits : ℕ → ℕ) (old new : OpenRuns) (service : Service) (field : List ℕ) (segmented : Bool) (passed : List Passed) → AreRuns limits old segmented passed → FollowsWithin (limits (segment.header_of field).map) old new service field
     → AreRuns limits new segmented (passed ++ record { service = service; field = field } ∷ [])
@@ -82,23 +71,12 @@ kept-segmented row accepted octets b = kept-either (λ x. x.segmented ≡ b.segm
 
 kept-passed : (row : Row) (accepted : Bool) (octets : List ℕ) (b : ChannelState) → row ≢ E6 → (kept row accepted octets b).passed ≡ b.passed
 kept-passed E1 true octets b h = refl
-kept-passed E1 false octets b h = refl
-kept-passed E2 accepted octets b h = refl
-kept-passed E3 accepted octets b h = refl
-kept-passed E4 accepted octets b h = refl
-kept-passed E5 accepted octets b h = refl
 kept-passed E6 accepted octets b h = absurd (h refl)
-kept-passed E7 accepted octets b h = refl
-kept-passed (E8 x) accepted octets b h = refl
-kept-passed E9 accepted octets b h = refl
-kept-passed E10 accepted octets b h = refl
+kept-passed _ _ octets b h = refl
 
-not-BD : (place : Place) (room : Bool) → row_at place room ≢ E6
+pub not-BD : (place : Place) (room : Bool) → row_at place room ≢ E6
 not-BD Expected true e = cc
-not-BD Expected false e = cc
-not-BD Ahead room e = cc
-not-BD Behind room e = cc
-not-BD Outside room e = cc
+not-BD _ _ e = cc
 
 kind-runs : (limits : ℕ → ℕ) (width vr : ℕ) (kind : Kind) (room : Bool) (octets : List ℕ) (b : ChannelState) (old new : OpenRuns) → AreRuns limits old b.segmented b.passed → FollowsKindWithin (limits (segment.header_of (drop 5 octets)).map) kind old new (drop 5 octets)
     → AreRuns limits new (kept (frame_row width vr kind room) (accepts (frame_row width vr kind room) b.report) octets b).segmented (kept (frame_row width vr kind room) (accepts (frame_row width vr kind room) b.report) octets b).passed
@@ -108,8 +86,7 @@ kind-runs limits width vr (kinds.Ad ns) room octets b old new are same =
     rw (kept-segmented row (accepts row b.report) octets b, kept-passed row (accepts row b.report) octets b (not-BD (place_of width vr ns) room), same) are
 kind-runs limits width vr kinds.Bd room octets b old new are follows = runs-follow limits old new Bd (drop 5 octets) b.segmented b.passed are follows
 kind-runs limits width vr (kinds.Bc Unlock) room octets b old new are same = rw same are
-kind-runs limits width vr (kinds.Bc (SetVr x)) room octets b old new are same = rw same are
-kind-runs limits width vr kinds.Invalid room octets b old new are same = rw same are
+kind-runs limits width vr _ room octets b old new are same = rw same are
 
 pub frame-runs : (limits : ℕ → ℕ) (c : Settings) (b : ChannelState) (octets : List ℕ) (old new : OpenRuns) → AreRuns limits old b.segmented b.passed → FollowsKindWithin (limits (segment.header_of (drop 5 octets)).map) (kind_of (header_of octets) (drop 5 octets)) old new (drop 5 octets)
     → AreRuns limits new (step c b (Frame octets)).segmented (step c b (Frame octets)).passed
@@ -118,14 +95,3 @@ frame-runs limits c b octets old new are follows = kind-runs limits c.width b.re
 pub release-runs : (limits : ℕ → ℕ) (c : Settings) (b : ChannelState) (old new : OpenRuns) → AreRuns limits old b.segmented b.passed → FollowsWithin (limits (segment.header_of (first_of (buffer b))).map) old new Ad (first_of (buffer b)) → AreRuns limits new (step c b Release).segmented (step c b Release).passed
 unfolding passed_on
 release-runs limits c b old new are follows = runs-follow limits old new Ad (first_of (buffer b)) b.segmented b.passed are follows
-
-nothing-left : (segmented : Bool) → run_left segmented [] ≡ None
-nothing-left true = refl
-nothing-left false = refl
-
--- no run is open at first
-pub none-open : (limits : ℕ → ℕ) (open_runs : OpenRuns) (segmented : Bool) (n : ℕ) → open_runs ≡ record { segmented = segmented; runs = replicate n None } → 128 ≤ n → AreRuns limits open_runs segmented []
-none-open limits open_runs segmented n e enough = record { segmented = ap (λ r. r.segmented) e; runs = by } where
-  by : (service : Service) (k : ℕ) → k < 64 → LeaveAtMost (limits k) (stream service k []) open_runs (stream_at service k)
-  by Ad k k_in = rw (e, nothing-left segmented, get_or-replicate {A = Option (List ℕ)} n k None None (omega arith)) refl
-  by Bd k k_in = rw (e, nothing-left segmented, get_or-replicate {A = Option (List ℕ)} n (64 + k) None None (omega arith)) refl

@@ -6,10 +6,7 @@ use Rattle.std.proofs.lemmas.List.{get_or-set_same, get_or-set_other, get_or-rep
 use Rattle.tc_channel.specs.HeldQueues.{keys_of, HeldQueue}
 use Rattle.tc_channel.specs.Keyed.{Keyed, ring_in, rings_in}
 use Rattle.tc_channel.specs.Places.{IsFirst, TellsFirst, AreFirst}
-
-all-push : (a b : ℕ) (xs : List ℕ) → AllByRecursion (λ x. a ≢ x) xs → a ≢ b → AllByRecursion (λ x. a ≢ x) (xs ++ b ∷ [])
-all-push a b [] h other = (other, tt)
-all-push a b (x ∷ xs) h other = (h.0, all-push a b xs h.1 other)
+use Rattle.tc_channel.proofs.Lists.{all-append}
 
 first-within : (a n : ℕ) (xs : List ℕ) → IsFirst a n xs → n < length xs
 first-within a n [] first = absurd first
@@ -33,7 +30,7 @@ first-last b (x ∷ xs) none = (none.0, first-last b xs none.1)
 -- one more queue, with another key
 tells-more : (keys : List ℕ) (none a b n : ℕ) → a ≢ b → TellsFirst keys none a n → TellsFirst (keys ++ b ∷ []) none a n
 tells-more keys none a b n other (inl at) = inl (first-push a b n keys at)
-tells-more keys none a b n other (inr away) = inr (away.0, all-push a b keys away.1 other)
+tells-more keys none a b n other (inr away) = inr (away.0, all-append (λ x. a ≢ x) keys (b ∷ []) away.1 (other, tt))
 
 -- an entry that tells none is of a key that none has
 none-told : (keys : List ℕ) (none a n : ℕ) → length keys ≤ none → n ≡ none → TellsFirst keys none a n → AllByRecursion (λ x. a ≢ x) keys

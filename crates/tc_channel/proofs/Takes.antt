@@ -1,20 +1,13 @@
 -- A packet or a unit is taken.
-use Rattle.std.proofs.Common.{◌≡◌, ◌≢◌, ℕ, zero, suc, ◌+◌, ◌<◌, Bool, true, false, cond, eqb, List, [], ◌∷◌, ◌++◌, length, map, take, drop, get_or, Option, Some, None, refl, sym, ap, ◌∙◌, inl, inr, arith}
+use Rattle.std.proofs.Common.{◌≡◌, ◌≢◌, ℕ, suc, ◌+◌, ◌<◌, Bool, true, false, cond, eqb, List, [], ◌∷◌, ◌++◌, length, map, Option, Some, None, refl, sym, ap, ◌∙◌, inl, inr, arith}
 use Rattle.std.specs.Prelude.{nat_lt, option_map, slice_get}
 use Rattle.std.specs.Option.{option_and_then}
 use Rattle.std.specs.List.{AllByRecursion}
 use Rattle.std.proofs.lemmas.List.{drop-drop, length-drop}
-use Rattle.std.proofs.lemmas.Bool.{eq-eqb}
-use Rattle.std.proofs.Math.ListN.{set}
-use Rattle.tc_channel.specs.declared.settings.Settings.{Settings}
-use Rattle.tc_channel.specs.declared.event.Event.{Event}
-use Rattle.tc_channel.specs.declared.event.Event.TheVariants.{Take, TakeUnit}
-use Rattle.tc_channel.specs.Channel.{Inside, HoldsWithin}
+use Rattle.tc_channel.proofs.Names.{Settings, Event, Take, TakeUnit, Inside, HoldsWithin, Queue, waiting, queue_of, taken_from, HasItem, run_within}
+use Rattle.tc_channel.specs.HeldQueues.{HeldQueue, AreDistinct, keys_of, held, queue_for, items_for, popped, shorter}
 use Rattle.tc_channel.proofs.Runs.{run-push, lawful-push}
 use Rattle.std.proofs.lemmas.Bool.Decides.{nat_tests, eqb_tells}
-use Rattle.tc_channel.specs.HeldQueues.{HeldQueue, AreDistinct, keys_of, held, queue_for, items_for, popped, shorter}
-use Rattle.tc_channel.specs.ChannelState.{Queue, waiting, queue_of}
-use Rattle.tc_channel.specs.Run.{taken_from, HasItem, run_within}
 use Rattle.tc_channel.specs.Reply.{waiting_packets_within, waiting_units_within}
 use Rattle.tc_channel.proofs.StateQueues.{keys, queues-apart, units-apart}
 
@@ -138,14 +131,6 @@ packets-wait {limits} {c} {j} {i} apid k = items-wait apid i.rings (run_within l
 pub units-wait : {limits : ℕ → ℕ} {c : Settings} {j : List Event} {i : Inside} (map_id : ℕ) → HoldsWithin limits c j i → waiting_units_within limits c j map_id ≡ items_for map_id i.unit_rings
 unfolding waiting_units_within
 units-wait {limits} {c} {j} {i} map_id k = items-wait map_id i.unit_rings (run_within limits c j).units k.units
-
--- the oldest item of ring i is taken
-pub popped-at : (key : ℕ) (ws : List HeldQueue) (i : ℕ) (w : HeldQueue) → w ≡ get_or ws i w → i < length ws → w.key ≡ key → set ws i (shorter w) ≡ take i ws ++ popped key (drop i ws)
-popped-at key [] i w is lt e = absurd (omega arith)
-popped-at key (v ∷ ws) zero w is lt e =
-    let same : eqb v.key key ≡ true = eq-eqb v.key key (ap (λ (x : HeldQueue). x.key) (sym is) ∙ e) in
-    rw same (ap (λ (x : HeldQueue). shorter x ∷ ws) is)
-popped-at key (v ∷ ws) (suc i) w is lt e = ap (λ (x : List HeldQueue). v ∷ x) (popped-at key ws i w is (omega arith) e)
 
 pub same-keys : (qs : List Queue) → keys_of (map held qs) ≡ keys qs
 same-keys [] = refl

@@ -1,26 +1,17 @@
 -- What queues admit is what the passed data fields make, in order, of which some may be left out.
-use Rattle.std.proofs.Common.{◌≡◌, ℕ, zero, suc, ◌+◌, ◌-◌, ◌≤◌, Bool, true, false, cond, eqb, ◌&&◌, List, [], ◌∷◌, ◌++◌, length, map, filter, take, drop, Some, refl, sym, ap, subst, ◌∙◌, inl, inr, append_assoc, arith}
-use Rattle.std.specs.Prelude.{nat_lt, is_some, slice_get}
+use Rattle.std.proofs.Common.{◌≡◌, ℕ, zero, suc, ◌+◌, ◌-◌, ◌≤◌, Bool, true, false, cond, eqb, List, [], ◌∷◌, ◌++◌, length, map, filter, take, drop, Some, refl, sym, ap, subst, ◌∙◌, inl, inr, append_assoc, arith}
+use Rattle.std.specs.Prelude.{is_some, slice_get}
 use Rattle.std.proofs.lemmas.List.{append-nil, length-drop}
-use Rattle.tc_link.specs.Farm.{accepts}
-use Rattle.tc_packet.specs.declared.Service.{Service}
-use Rattle.tc_packet.specs.declared.Service.TheVariants.{Ad, Bd}
-use Rattle.tc_packet.specs.Reassembly.{Passed}
-use Rattle.tc_channel.specs.declared.settings.Settings.{Settings}
-use Rattle.tc_channel.specs.declared.settings.MapSetting.{MapSetting}
-use Rattle.tc_channel.specs.declared.settings.QueueSetting.{QueueSetting}
-use Rattle.tc_channel.specs.declared.event.Event.{Event}
-use Rattle.tc_channel.specs.declared.event.Event.TheVariants.{Frame, Release, Take, TakeUnit}
-use Rattle.tc_channel.specs.ChannelState.{ChannelState, Accepted, Queue, first_state_within, empty_queue, empty_unit_queue, buffer, queue_of}
-use Rattle.tc_channel.specs.Admission.{is_for, is_of_map, map_of, is_chosen, packets_offered, units_offered, room_of, with_shares}
-use Rattle.tc_channel.specs.Run.{step, row_of, passed_on, unit_of, taken_from, first_of, run_within, IsLawfulWithin}
+use Rattle.tc_channel.proofs.Names.{accepts, Service, Bd, Passed, Settings, MapSetting, Event, Frame, Release, Take, TakeUnit, ChannelState, Accepted, Queue, first_state_within, empty_queue, empty_unit_queue, buffer, queue_of, is_for, is_of_map, map_of, is_chosen, packets_offered, units_offered, room_of, with_shares, step, row_of, unit_of, taken_from, first_of, IsLawfulWithin}
 use Rattle.tc_channel.specs.Given.{packets_given, units_given}
 use Rattle.tc_channel.specs.Era.{IsEraWithin, ComesFromWithin}
+use Rattle.tc_packet.specs.declared.Service.TheVariants.{Ad}
+use Rattle.tc_channel.specs.Run.{passed_on, run_within}
 use Rattle.tc_channel.specs.Through.{IsPartOf, unit_made, is_chosen_by, packets_ended, units_ended, all_made, packets_made, units_made, passed_since, released_since, sent_from}
-use Rattle.tc_channel.proofs.Runs.{run-push}
+use Rattle.tc_channel.proofs.Runs.{run-push, from-first}
 use Rattle.tc_channel.proofs.Plain.{run-segmented, run-limit}
-use Rattle.tc_channel.proofs.StateQueues.{keys, kept-either, unit-keys-stay}
-use Rattle.tc_channel.proofs.Given.{found-key, found-shared, found-taken, packets-in-order, units-in-order, fields-in-order, released-within}
+use Rattle.tc_channel.proofs.StateQueues.{keys, taken-same, kept-either, unit-keys-stay}
+use Rattle.tc_channel.proofs.Given.{found-key, set-up, found-shared, found-taken, packets-in-order, units-in-order, fields-in-order, released-within}
 use Rattle.tc_channel.proofs.Eras.{all-sent}
 
 -- parts of lists
@@ -37,16 +28,14 @@ part-append (x ∷ xs) (y ∷ ys) us vs (inl p) k = inl (p.0, part-append xs ys 
 part-append (x ∷ xs) (y ∷ ys) us vs (inr p) k = inr (part-append (x ∷ xs) ys us vs p k)
 
 part-first : (n : ℕ) (xs : List (List ℕ)) → IsPartOf (take n xs) xs
-part-first zero xs = tt
-part-first (suc n) [] = tt
 part-first (suc n) (x ∷ xs) = inl (refl, part-first n xs)
+part-first _ _ = tt
 
 part-take : (n : ℕ) (xs ys : List (List ℕ)) → IsPartOf xs ys → IsPartOf (take n xs) ys
-part-take zero xs ys h = tt
-part-take (suc n) [] ys h = tt
 part-take (suc n) (x ∷ xs) [] h = absurd h
 part-take (suc n) (x ∷ xs) (y ∷ ys) (inl p) = inl (p.0, part-take n xs ys p.1)
 part-take (suc n) (x ∷ xs) (y ∷ ys) (inr p) = inr (part-take (suc n) (x ∷ xs) ys p)
+part-take _ _ ys h = tt
 
 part-length : (xs ys : List (List ℕ)) → IsPartOf xs ys → length xs ≤ length ys
 part-length [] ys h = omega arith
@@ -74,8 +63,6 @@ made-push Ended before (r ∷ ps) p =
 
 some-by-keys : (key : ℕ) (ps qs : List Queue) → keys ps ≡ keys qs → is_some (queue_of key ps) ≡ is_some (queue_of key qs)
 some-by-keys key [] [] e = refl
-some-by-keys key [] (q ∷ qs) e = absurd cc
-some-by-keys key (p ∷ ps) [] e = absurd cc
 some-by-keys key (p ∷ ps) (q ∷ qs) e =
     let head : p.key ≡ q.key = cc in
     let tail : keys ps ≡ keys qs = cc in
@@ -84,6 +71,7 @@ some-by-keys key (p ∷ ps) (q ∷ qs) e =
     by : (t : Bool) → is_some (queue_of key ps) ≡ is_some (queue_of key qs) → is_some (cond t (Some p) (queue_of key ps)) ≡ is_some (cond t (Some q) (queue_of key qs))
     by true ih = refl
     by false ih = ih
+some-by-keys key _ _ e = absurd cc
 
 keys-at-first : (limits : ℕ → ℕ) (c : Settings) → keys (map empty_unit_queue c.maps) ≡ map (λ (m : MapSetting). m.map) c.maps
 unfolding run_within
@@ -121,17 +109,11 @@ admits-shared key Ended wanted items qs passed p same h = record {
       rw (found.2, made-push Ended [] passed p) (part-append old.admitted (all_made Ended [] passed) (take (room_of old) (filter (wanted old.key) items)) (Ended passed p) was more);
 }
 
-taken-admitted : (key : ℕ) (q : Queue) → (taken_from key q).admitted ≡ q.admitted
-taken-admitted key q = by (eqb q.key key && nat_lt q.taken (length q.admitted)) where
-  by : (t : Bool) → (cond t (record q { taken = q.taken + 1 }) q).admitted ≡ q.admitted
-  by true = refl
-  by false = refl
-
 admits-taken : (key other : ℕ) (Ended : List Passed → Passed → List (List ℕ)) (qs : List Queue) (passed : List Passed) → Admits key Ended qs passed → Admits key Ended (map (taken_from other) qs) passed
 admits-taken key other Ended qs passed h = record {
   each = λ new e.
       let found = found-taken key other qs new e in
-      rw (found.2, taken-admitted other found.0) (h.each found.0 found.1);
+      rw (found.2, taken-same {A = List (List ℕ)} (λ q. q.admitted) (λ q n. refl) other found.0) (h.each found.0 found.1);
 }
 
 -- a state whose queue with this APID, and whose unit queue of this MAP, are so
@@ -158,11 +140,6 @@ step-carries limits c apid map_id b Release is h = let left = passed-carries lim
 step-carries limits c apid map_id b (Take other) is h = record { packets = admits-taken apid other (packets_ended limits c apid) b.queues b.passed h.packets; units = h.units }
 step-carries limits c apid map_id b (TakeUnit other) is h = record { packets = h.packets; units = admits-taken map_id other (units_ended limits c map_id) b.units b.passed h.units }
 
--- by events from the first on
-from-first : (P : List Event → Type 0) (push : (j : List Event) (e : Event) → P j → P (j ++ e ∷ [])) (done rest : List Event) → P done → P (done ++ rest)
-from-first P push done [] h = rw (append-nil done) h
-from-first P push done (e ∷ rest) h = subst P (append_assoc done (e ∷ []) rest) (from-first P push (done ++ e ∷ []) rest (push done e h))
-
 none-admitted : (key : ℕ) (Ended : List Passed → Passed → List (List ℕ)) (qs : List Queue) → ((q : Queue) → queue_of key qs ≡ Some q → q.admitted ≡ []) → Admits key Ended qs []
 none-admitted key Ended qs none = record { each = λ q e. rw (none q e) tt }
 
@@ -170,22 +147,9 @@ none-admitted key Ended qs none = record { each = λ q e. rw (none q e) tt }
 first-carries : (limits : ℕ → ℕ) (c : Settings) (apid map_id : ℕ) → Carries limits c apid map_id (run_within limits c [])
 unfolding run_within
 first-carries limits c apid map_id = record {
-  packets = none-admitted apid (packets_ended limits c apid) (map empty_queue c.queues) (empties c.queues);
-  units = none-admitted map_id (units_ended limits c map_id) (map empty_unit_queue c.maps) (empty-units c.maps);
-} where
-  empties : (qs : List QueueSetting) (q : Queue) → queue_of apid (map empty_queue qs) ≡ Some q → q.admitted ≡ []
-  empties [] q e = absurd cc
-  empties (s ∷ qs) q e = by (eqb s.apid apid) (empties qs q) e where
-    by : (t : Bool) → (queue_of apid (map empty_queue qs) ≡ Some q → q.admitted ≡ []) → cond t (Some (empty_queue s)) (queue_of apid (map empty_queue qs)) ≡ Some q → q.admitted ≡ []
-    by true later e = let is : empty_queue s ≡ q = cc in rw (← is) refl
-    by false later e = later e
-
-  empty-units : (ms : List MapSetting) (q : Queue) → queue_of map_id (map empty_unit_queue ms) ≡ Some q → q.admitted ≡ []
-  empty-units [] q e = absurd cc
-  empty-units (m ∷ ms) q e = by (eqb m.map map_id) (empty-units ms q) e where
-    by : (t : Bool) → (queue_of map_id (map empty_unit_queue ms) ≡ Some q → q.admitted ≡ []) → cond t (Some (empty_unit_queue m)) (queue_of map_id (map empty_unit_queue ms)) ≡ Some q → q.admitted ≡ []
-    by true later e = let is : empty_unit_queue m ≡ q = cc in rw (← is) refl
-    by false later e = later e
+  packets = none-admitted apid (packets_ended limits c apid) (map empty_queue c.queues) (λ q e. (set-up empty_queue apid c.queues (λ s. (refl, refl)) q e).1);
+  units = none-admitted map_id (units_ended limits c map_id) (map empty_unit_queue c.maps) (λ q e. (set-up empty_unit_queue map_id c.maps (λ m. (refl, refl)) q e).1);
+}
 
 run-carries : (limits : ℕ → ℕ) (c : Settings) (apid map_id : ℕ) (journal : List Event) → Carries limits c apid map_id (run_within limits c journal)
 run-carries limits c apid map_id journal =
@@ -209,9 +173,8 @@ sent-fields sent k (suc n) (x ∷ xs) each le =
     rw (here, later) refl
 
 take-none : (k : ℕ) (xs : List Accepted) → xs ≡ [] → map (λ (a : Accepted). a.field) (take k xs) ≡ []
-take-none zero xs none = refl
-take-none (suc k) [] none = refl
 take-none (suc k) (x ∷ xs) none = absurd cc
+take-none _ _ none = refl
 
 -- what is released of a list behind its first n is released of the rest
 rest-released : (n r : ℕ) (xs : List Accepted) → drop n (map (λ (a : Accepted). a.field) (take r xs)) ≡ map (λ (a : Accepted). a.field) (take (r - n) (drop n xs))

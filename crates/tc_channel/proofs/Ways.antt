@@ -5,20 +5,12 @@ use Rattle.std.specs.List.{AllByRecursion}
 use Rattle.std.proofs.Math.ListN.{set}
 use Rattle.std.proofs.lemmas.Bool.{eq-eqb, ne_eqb}
 use Rattle.std.proofs.lemmas.List.{length-append, length-map, get_or-map, get_or_default}
-use Rattle.tc_packet.specs.SpacePacket.{packets_of, joined}
-use Rattle.tc_channel.specs.Admission.{is_for, is_of_map}
-use Rattle.tc_channel.specs.Reply.{delivered}
+use Rattle.tc_channel.proofs.Names.{packets_of, joined, is_for, is_of_map, delivered, Delivery}
 use Rattle.tc_channel.specs.HeldQueues.{keys_of, AreDistinct, room_in, share, put, copied_to, copies_from, queue_for, placed, HeldQueue}
-use Rattle.tc_channel.specs.declared.reply.Delivery.{Delivery}
+use Rattle.tc_channel.specs.Delivering.{room_at, IsOnItsWay, ArePut, IsPutWhole, IsDelivered}
 use Rattle.tc_channel.proofs.Copies.{copies-none, put_all-push, length-put_all}
 use Rattle.tc_channel.proofs.Passes.{NoneFor, under-way, none-on, full-on, copy-on, as-many, all-shared, none-shares}
 use Rattle.tc_channel.proofs.Wholes.{take-nil, takes-one, takes-none}
-use Rattle.tc_channel.specs.Delivering.{room_at, IsOnItsWay, ArePut, IsPutWhole, IsDelivered}
-
-pub keys-put : (ws : List HeldQueue) (i : ℕ) (p : List ℕ) → keys_of (put ws i p) ≡ keys_of ws
-keys-put [] i p = refl
-keys-put (w ∷ ws) zero p = refl
-keys-put (w ∷ ws) (suc i) p = ap (λ (x : List ℕ). w.key ∷ x) (keys-put ws i p)
 
 -- before the first packet
 pub at-start : (base now : List HeldQueue) (all : List (List ℕ)) → now ≡ base → IsOnItsWay base all all 0 now

@@ -3,7 +3,7 @@ use Rattle.std.proofs.Common.{◌≡◌, ◌≢◌, ℕ, zero, suc, ◌+◌, ◌
 use Rattle.std.specs.List.{AllByRecursion}
 use Rattle.std.proofs.lemmas.Bool.{eq-eqb, ne_eqb}
 use Rattle.std.proofs.lemmas.List.{append-nil}
-use Rattle.tc_channel.specs.Admission.{is_of_map}
+use Rattle.tc_channel.proofs.Names.{is_of_map}
 use Rattle.tc_channel.specs.HeldQueues.{keys_of, AreDistinct, share, copied_to, copies_from, HeldQueue}
 
 pub take-one : (n : ℕ) (u : List ℕ) → 0 < n → take n (u ∷ []) ≡ u ∷ []

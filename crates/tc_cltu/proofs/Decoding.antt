@@ -54,14 +54,8 @@ AreSevens (a ∷ b ∷ c ∷ d ∷ e ∷ f ∷ g ∷ rest) = AreSevens rest
 AreSevens _ = ⊥
 
 filled-sevens : (fs : List ℕ) → AreSevens (filled fs)
-filled-sevens [] = tt
-filled-sevens (a ∷ []) = tt
-filled-sevens (a ∷ b ∷ []) = tt
-filled-sevens (a ∷ b ∷ c ∷ []) = tt
-filled-sevens (a ∷ b ∷ c ∷ d ∷ []) = tt
-filled-sevens (a ∷ b ∷ c ∷ d ∷ e ∷ []) = tt
-filled-sevens (a ∷ b ∷ c ∷ d ∷ e ∷ f ∷ []) = tt
 filled-sevens (a ∷ b ∷ c ∷ d ∷ e ∷ f ∷ g ∷ rest) = filled-sevens rest
+filled-sevens _ = tt
 
 filled-octets : (fs : List ℕ) → AreOctets fs → AreOctets (filled fs)
 filled-octets [] p = tt
@@ -96,12 +90,7 @@ few-octets fs none = grind (arith, nat_tests)
 sevens-count : (fs : List ℕ) → AreSevens fs → (m : ℕ) × (length fs ≡ 7 * m)
 sevens-count [] p = (0, refl)
 sevens-count (a ∷ b ∷ c ∷ d ∷ e ∷ f ∷ g ∷ rest) p = let more = sevens-count rest p in let l = more.1 in (suc more.0, omega arith)
-sevens-count (a ∷ []) p = absurd p
-sevens-count (a ∷ b ∷ []) p = absurd p
-sevens-count (a ∷ b ∷ c ∷ []) p = absurd p
-sevens-count (a ∷ b ∷ c ∷ d ∷ []) p = absurd p
-sevens-count (a ∷ b ∷ c ∷ d ∷ e ∷ []) p = absurd p
-sevens-count (a ∷ b ∷ c ∷ d ∷ e ∷ f ∷ []) p = absurd p
+sevens-count _ p = absurd p
 
 pub filled-fits : (fs : List ℕ) → cltu_fault_of fs ≡ None → length (filled fs) ≤ 1029
 filled-fits fs none =
@@ -140,36 +129,28 @@ blocks-taken mode room (a ∷ b ∷ c ∷ d ∷ e ∷ f ∷ g ∷ fs) frame rest
     ∙ ap (λ (s : Step). s.1 ++ frames_of mode room s.0 more) (after-fits room frame information (omega arith))
     ∙ blocks-taken mode room fs (frame ++ information) rest p.1.1.1.1.1.1.1 q (omega arith)
     ∙ ap (λ (x : List ℕ). frames_of mode room (Decoding x []) rest) (append_assoc frame information fs)
-blocks-taken mode room (a ∷ []) frame rest p q fits = absurd q
-blocks-taken mode room (a ∷ b ∷ []) frame rest p q fits = absurd q
-blocks-taken mode room (a ∷ b ∷ c ∷ []) frame rest p q fits = absurd q
-blocks-taken mode room (a ∷ b ∷ c ∷ d ∷ []) frame rest p q fits = absurd q
-blocks-taken mode room (a ∷ b ∷ c ∷ d ∷ e ∷ []) frame rest p q fits = absurd q
-blocks-taken mode room (a ∷ b ∷ c ∷ d ∷ e ∷ f ∷ []) frame rest p q fits = absurd q
+blocks-taken mode room _ frame rest p q fits = absurd q
+
+abbrev alike : ℕ → List ℕ
+alike o = o ∷ o ∷ o ∷ o ∷ o ∷ o ∷ o ∷ []
+
+alike-good : (o : ℕ) → o < 256 → IsInformation (alike o)
+alike-good o fits = record { each = is-octets (alike o) (fits, (fits, (fits, (fits, (fits, (fits, (fits, tt))))))); seven = refl }
+
+-- seven octets that are alike, where nothing near them is a code block
+alike-rejected : (mode : Mode) (o last s : ℕ) → o < 256 → last < 256 → syndrome (alike o) last ≡ s → 0 < s → placed s ≡ 63 → decoded mode (alike o ++ last ∷ []) ≡ None
+alike-rejected Detect o last s fits small is some place = some-wrong (alike o) last (alike-good o fits) small (λ z. omega arith)
+alike-rejected Correct o last s fits small is some place =
+    let p : placed (syndrome (alike o) last) ≡ 63 = ap placed is ∙ place in
+    more-wrong (alike o) last (alike-good o fits) small (λ z. omega arith) (omega arith)
 
 -- the tail sequence is no code block
-abbrev tail_information : List ℕ
-tail_information = 0xC5 ∷ 0xC5 ∷ 0xC5 ∷ 0xC5 ∷ 0xC5 ∷ 0xC5 ∷ 0xC5 ∷ []
-
-tail-syndrome : syndrome tail_information 0x79 ≡ 67
+tail-syndrome : syndrome (alike 0xC5) 0x79 ≡ 67
 unfolding syndrome bits_of_octet block_times_x
 tail-syndrome = refl
 
-tail-place : placed 67 ≡ 63
-tail-place = refl
-
-tail-good : IsInformation tail_information
-tail-good = record {
-  each = is-octets tail_information (omega arith, (omega arith, (omega arith, (omega arith, (omega arith, (omega arith, (omega arith, tt)))))));
-  seven = refl;
-}
-
 tail-rejected : (mode : Mode) → decoded mode tail_sequence ≡ None
-tail-rejected Detect = let s = tail-syndrome in some-wrong tail_information 0x79 tail-good (omega arith) (λ z. omega arith)
-tail-rejected Correct =
-    let s = tail-syndrome in
-    let p : placed (syndrome tail_information 0x79) ≡ 63 = ap placed s ∙ tail-place in
-    more-wrong tail_information 0x79 tail-good (omega arith) (λ z. omega arith) (omega arith)
+tail-rejected mode = alike-rejected mode 0xC5 0x79 67 (omega arith) (omega arith) tail-syndrome (omega arith) refl
 
 tail-ends : (mode : Mode) (room f : ℕ) (fs rest : List ℕ) → frames_of mode room (Decoding (f ∷ fs) []) (tail_sequence ++ rest) ≡ (f ∷ fs) ∷ frames_of mode room (Searching 0) rest
 tail-ends mode room f fs rest =
@@ -244,28 +225,12 @@ found-after mode room last before frame rest quietly each some fits =
     q.1 ∙ cltu-given mode room q.0 frame rest each some fits
 
 -- ---- the idle sequence leads back to the search, from any state
-abbrev idle_information : List ℕ
-idle_information = 0x55 ∷ 0x55 ∷ 0x55 ∷ 0x55 ∷ 0x55 ∷ 0x55 ∷ 0x55 ∷ []
-
-idle-syndrome : syndrome idle_information 0x55 ≡ 65
+idle-syndrome : syndrome (alike 0x55) 0x55 ≡ 65
 unfolding syndrome bits_of_octet block_times_x
 idle-syndrome = refl
 
-idle-place : placed 65 ≡ 63
-idle-place = refl
-
-idle-good : IsInformation idle_information
-idle-good = record {
-  each = is-octets idle_information (omega arith, (omega arith, (omega arith, (omega arith, (omega arith, (omega arith, (omega arith, tt)))))));
-  seven = refl;
-}
-
-idle-rejected : (mode : Mode) → decoded mode (idle_information ++ 0x55 ∷ []) ≡ None
-idle-rejected Detect = let s = idle-syndrome in some-wrong idle_information 0x55 idle-good (omega arith) (λ z. omega arith)
-idle-rejected Correct =
-    let s = idle-syndrome in
-    let p : placed (syndrome idle_information 0x55) ≡ 63 = ap placed s ∙ idle-place in
-    more-wrong idle_information 0x55 idle-good (omega arith) (λ z. omega arith) (omega arith)
+idle-rejected : (mode : Mode) → decoded mode (alike 0x55 ++ 0x55 ∷ []) ≡ None
+idle-rejected mode = alike-rejected mode 0x55 0x55 65 (omega arith) (omega arith) idle-syndrome (omega arith) refl
 
 idle-searching : (mode : Mode) (room n l : ℕ) → IsSearching (state_after mode room (Searching l) (idle n))
 idle-searching mode room zero l = tt
@@ -301,7 +266,7 @@ idle-after mode room n (f ∷ fs) None = idle-searching mode room (8 + n) 0
 pub idle-ends : (mode : Mode) (room : ℕ) (state : Reception) → IsReception state → IsSearching (state_after mode room state (idle 15))
 idle-ends mode room (Searching l) short = idle-searching mode room 15 l
 idle-ends mode room (Decoding frame []) short = idle-decoding mode room 7 frame
-idle-ends mode room (Decoding frame (a ∷ [])) short = idle-after mode room 0 frame (decoded mode (a ∷ idle_information))
+idle-ends mode room (Decoding frame (a ∷ [])) short = idle-after mode room 0 frame (decoded mode (a ∷ idle 7))
 idle-ends mode room (Decoding frame (a ∷ b ∷ [])) short = idle-after mode room 1 frame (decoded mode (a ∷ b ∷ idle 6))
 idle-ends mode room (Decoding frame (a ∷ b ∷ c ∷ [])) short = idle-after mode room 2 frame (decoded mode (a ∷ b ∷ c ∷ idle 5))
 idle-ends mode room (Decoding frame (a ∷ b ∷ c ∷ d ∷ [])) short = idle-after mode room 3 frame (decoded mode (a ∷ b ∷ c ∷ d ∷ idle 4))
@@ -372,15 +337,7 @@ corrected-fate mode block information wrong taken =
 
 set-last : (block : List ℕ) (octet : ℕ) → length block ≡ 8 → (set block 7 octet ≡ take 7 block ++ octet ∷ []) × (length (take 7 block) ≡ 7)
 set-last (a ∷ b ∷ c ∷ d ∷ e ∷ f ∷ g ∷ h ∷ []) octet l = (refl, refl)
-set-last [] octet l = absurd (omega arith)
-set-last (a ∷ []) octet l = absurd (omega arith)
-set-last (a ∷ b ∷ []) octet l = absurd (omega arith)
-set-last (a ∷ b ∷ c ∷ []) octet l = absurd (omega arith)
-set-last (a ∷ b ∷ c ∷ d ∷ []) octet l = absurd (omega arith)
-set-last (a ∷ b ∷ c ∷ d ∷ e ∷ []) octet l = absurd (omega arith)
-set-last (a ∷ b ∷ c ∷ d ∷ e ∷ f ∷ []) octet l = absurd (omega arith)
-set-last (a ∷ b ∷ c ∷ d ∷ e ∷ f ∷ g ∷ []) octet l = absurd (omega arith)
-set-last (a ∷ b ∷ c ∷ d ∷ e ∷ f ∷ g ∷ h ∷ i ∷ more) octet l = absurd (omega arith)
+set-last _ octet l = absurd (omega arith)
 
 pub last-step : (mode : Mode) (room octet last count : ℕ) (frame block : List ℕ) (decoding : Bool) (value : Receiver) (o : Option (List ℕ))
     → decoding ≡ true → 7 ≤ count → count < 8 → length block ≡ 8

@@ -77,15 +77,7 @@ word-are a b c d e f g h =
 
 pub word-bits : (block : List ℕ) → length block ≡ 8 → (length (word block) ≡ 63) × AreBits (word block)
 word-bits (a ∷ b ∷ c ∷ d ∷ e ∷ f ∷ g ∷ h ∷ []) l = (word-length a b c d e f g h, word-are a b c d e f g h)
-word-bits [] l = absurd (omega arith)
-word-bits (a ∷ []) l = absurd (omega arith)
-word-bits (a ∷ b ∷ []) l = absurd (omega arith)
-word-bits (a ∷ b ∷ c ∷ []) l = absurd (omega arith)
-word-bits (a ∷ b ∷ c ∷ d ∷ []) l = absurd (omega arith)
-word-bits (a ∷ b ∷ c ∷ d ∷ e ∷ []) l = absurd (omega arith)
-word-bits (a ∷ b ∷ c ∷ d ∷ e ∷ f ∷ []) l = absurd (omega arith)
-word-bits (a ∷ b ∷ c ∷ d ∷ e ∷ f ∷ g ∷ []) l = absurd (omega arith)
-word-bits (a ∷ b ∷ c ∷ d ∷ e ∷ f ∷ g ∷ h ∷ i ∷ more) l = absurd (omega arith)
+word-bits _ l = absurd (omega arith)
 
 parity-none : parity 0 ≡ 0
 unfolding parity
@@ -145,8 +137,7 @@ octets-same (o ∷ os) (p' ∷ ps) bs cs l p q h =
     let rest : bits_of_octets os ++ bs ≡ bits_of_octets ps ++ cs = sym (after-is o (bits_of_octets os ++ bs)) ∙ ap after e ∙ after-is p' (bits_of_octets ps ++ cs) in
     let tail = octets-same os ps bs cs (omega arith) p.1 q.1 rest in
     cc
-octets-same [] (p' ∷ ps) bs cs l p q h = absurd (omega arith)
-octets-same (o ∷ os) [] bs cs l p q h = absurd (omega arith)
+octets-same _ _ bs cs l p q h = absurd (omega arith)
 
 -- blocks with one word carry the same
 words-same : (one other : List ℕ) (o p : ℕ) → IsInformation one → IsInformation other → word (one ++ o ∷ []) ≡ word (other ++ p ∷ []) → one ≡ other

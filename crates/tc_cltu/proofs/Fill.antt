@@ -5,21 +5,10 @@ use Rattle.tc_cltu.specs.Cltu.{filled, code_blocks}
 
 pub filled-few : (os : List ℕ) → 0 < length os → length os < 7 → os ++ drop (length os) (0x55 ∷ 0x55 ∷ 0x55 ∷ 0x55 ∷ 0x55 ∷ 0x55 ∷ 0x55 ∷ []) ≡ filled os
 filled-few [] some few = absurd (omega arith)
-filled-few (a ∷ []) some few = refl
-filled-few (a ∷ b ∷ []) some few = refl
-filled-few (a ∷ b ∷ c ∷ []) some few = refl
-filled-few (a ∷ b ∷ c ∷ d ∷ []) some few = refl
-filled-few (a ∷ b ∷ c ∷ d ∷ e ∷ []) some few = refl
-filled-few (a ∷ b ∷ c ∷ d ∷ e ∷ f ∷ []) some few = refl
 filled-few (a ∷ b ∷ c ∷ d ∷ e ∷ f ∷ g ∷ os) some few = absurd (omega arith)
+filled-few _ some few = refl
 
 -- the first of several
 pub first-block : (os : List ℕ) → 7 ≤ length os → code_blocks (filled os) ≡ code_block (take 7 os) ++ code_blocks (filled (drop 7 os))
 first-block (a ∷ b ∷ c ∷ d ∷ e ∷ f ∷ g ∷ os) some = refl
-first-block [] some = absurd (omega arith)
-first-block (a ∷ []) some = absurd (omega arith)
-first-block (a ∷ b ∷ []) some = absurd (omega arith)
-first-block (a ∷ b ∷ c ∷ []) some = absurd (omega arith)
-first-block (a ∷ b ∷ c ∷ d ∷ []) some = absurd (omega arith)
-first-block (a ∷ b ∷ c ∷ d ∷ e ∷ []) some = absurd (omega arith)
-first-block (a ∷ b ∷ c ∷ d ∷ e ∷ f ∷ []) some = absurd (omega arith)
+first-block _ some = absurd (omega arith)

@@ -20,8 +20,7 @@ remainder-linear (b ∷ bs) (c ∷ cs) r s l =
     let one : block_with_bit (bit_xor r s) (bit_xor b c) ≡ bit_xor (block_with_bit r b) (block_with_bit s c) =
     ap block_times_x (ap (bit_xor (bit_xor r s)) (scaled 6 b c) ∙ exchange r s (b * 2 ^ 6) (c * 2 ^ 6)) ∙ times_x-linear (bit_xor r (b * 2 ^ 6)) (bit_xor s (c * 2 ^ 6)) in
     ap (λ (x : ℕ). block_remainder x (xors bs cs)) one ∙ remainder-linear bs cs (block_with_bit r b) (block_with_bit s c) (omega arith)
-remainder-linear [] (c ∷ cs) r s l = absurd (omega arith)
-remainder-linear (b ∷ bs) [] r s l = absurd (omega arith)
+remainder-linear _ _ r s l = absurd (omega arith)
 
 rows : each (λ y. eqb (get_or REMAINDERS y 0) (block_remainder 0 (bits_of_octet y))) 256 ≡ true
 unfolding each both bits_of_octet block_times_x

@@ -37,9 +37,8 @@ xors-length (b ∷ bs) (c ∷ cs) e = let rest = xors-length bs cs (omega arith)
 
 pub xors-bits : (bs cs : List ℕ) → AreBits bs → AreBits cs → AreBits (xors bs cs)
 unfolding xors
-xors-bits [] cs p q = tt
-xors-bits (b ∷ bs) [] p q = tt
 xors-bits (b ∷ bs) (c ∷ cs) p q = (xor_lt 1 b c p.0 q.0, xors-bits bs cs p.1 q.1)
+xors-bits _ _ p q = tt
 
 pub zeros-length : (n : ℕ) → length (zeros n) ≡ n
 unfolding zeros
@@ -74,10 +73,9 @@ none-is (b ∷ bs) p h =
 
 pub one-is : (e : List ℕ) → AreBits e → weight e ≡ 1 → (k : ℕ) × (k < length e) × (e ≡ single k (length e))
 unfolding single weight
-one-is [] p h = absurd (omega arith)
 one-is (zero ∷ bs) p h = let rest = one-is bs p.1 (omega arith) in (suc rest.0, omega arith, ap (λ (x : List ℕ). 0 ∷ x) rest.2)
 one-is (suc zero ∷ bs) p h = let rest = none-is bs p.1 (omega arith) in (0, omega arith, ap (λ (x : List ℕ). 1 ∷ x) rest)
-one-is (suc (suc b) ∷ bs) p h = absurd (omega arith)
+one-is _ p h = absurd (omega arith)
 
 pub zeros-xors : (e : List ℕ) → xors (zeros (length e)) e ≡ e
 unfolding zeros xors
@@ -86,65 +84,49 @@ zeros-xors (b ∷ bs) = ap (λ (x : ℕ). x ∷ xors (zeros (length bs)) bs) (xo
 
 pub two-is : (e : List ℕ) → AreBits e → weight e ≡ 2 → (i : ℕ) × (j : ℕ) × (i < j) × (j < length e) × (e ≡ xors (single i (length e)) (single j (length e)))
 unfolding single weight xors
-two-is [] p h = absurd (omega arith)
 two-is (zero ∷ bs) p h =
     let rest = two-is bs p.1 (omega arith) in (suc rest.0, suc rest.1, omega arith, omega arith, ap (λ (x : List ℕ). 0 ∷ x) rest.4)
 two-is (suc zero ∷ bs) p h =
     let rest = one-is bs p.1 (omega arith) in
     let tail : bs ≡ xors (zeros (length bs)) (single rest.0 (length bs)) = sym (zeros-xors bs) ∙ ap (xors (zeros (length bs))) rest.2 in
     (0, suc rest.0, omega arith, omega arith, ap (λ (x : List ℕ). 1 ∷ x) tail)
-two-is (suc (suc b) ∷ bs) p h = absurd (omega arith)
+two-is _ p h = absurd (omega arith)
 
 -- differences are the ones of the sum
 place : (b c : ℕ) → b < 2 → c < 2 → (if b == c then 0 else 1) ≡ bit_xor b c
-place zero zero p q = refl
-place zero (suc zero) p q = refl
-place (suc zero) zero p q = refl
-place (suc zero) (suc zero) p q = refl
 place (suc (suc b)) c p q = absurd (omega arith)
 place b (suc (suc c)) p q = absurd (omega arith)
+place _ _ p q = refl
 
 pub differences-weight : (bs cs : List ℕ) → AreBits bs → AreBits cs → block_differences bs cs ≡ weight (xors bs cs)
 unfolding xors weight
-differences-weight [] cs p q = refl
-differences-weight (b ∷ bs) [] p q = refl
 differences-weight (b ∷ bs) (c ∷ cs) p q =
     let first = place b c p.0 q.0 in let rest = differences-weight bs cs p.1 q.1 in omega arith
+differences-weight _ _ p q = refl
 
 -- no difference: the same
 pub none-same : (bs cs : List ℕ) → length bs ≡ length cs → AreBits bs → AreBits cs → block_differences bs cs ≡ 0 → bs ≡ cs
 none-same [] [] l p q h = refl
-none-same [] (c ∷ cs) l p q h = absurd (omega arith)
-none-same (b ∷ bs) [] l p q h = absurd (omega arith)
 none-same (b ∷ bs) (c ∷ cs) l p q h =
     let first = place b c p.0 q.0 in
     let head : b ≡ c = same b c (omega arith) in
     let tail = none-same bs cs (omega arith) p.1 q.1 (omega arith) in
     cc
+none-same _ _ l p q h = absurd (omega arith)
 
 -- by way of a third
 triple : (b c d : ℕ) → b < 2 → c < 2 → d < 2 → (if b == d then 0 else 1) ≤ (if c == b then 0 else 1) + (if c == d then 0 else 1)
-triple zero zero zero p q r = omega arith
-triple zero zero (suc zero) p q r = omega arith
-triple zero (suc zero) zero p q r = omega arith
-triple zero (suc zero) (suc zero) p q r = omega arith
-triple (suc zero) zero zero p q r = omega arith
-triple (suc zero) zero (suc zero) p q r = omega arith
-triple (suc zero) (suc zero) zero p q r = omega arith
-triple (suc zero) (suc zero) (suc zero) p q r = omega arith
 triple (suc (suc b)) c d p q r = absurd (omega arith)
 triple b (suc (suc c)) d p q r = absurd (omega arith)
 triple b c (suc (suc d)) p q r = absurd (omega arith)
+triple _ _ _ p q r = omega arith
 
 pub by-way : (bs cs ds : List ℕ) → length bs ≡ length cs → length cs ≡ length ds → AreBits bs → AreBits cs → AreBits ds
     → block_differences bs ds ≤ block_differences cs bs + block_differences cs ds
 by-way [] [] [] l m p q r = omega arith
 by-way (b ∷ bs) (c ∷ cs) (d ∷ ds) l m p q r =
     let first = triple b c d p.0 q.0 r.0 in let rest = by-way bs cs ds (omega arith) (omega arith) p.1 q.1 r.1 in omega arith
-by-way [] (c ∷ cs) ds l m p q r = absurd (omega arith)
-by-way (b ∷ bs) [] ds l m p q r = absurd (omega arith)
-by-way bs [] (d ∷ ds) l m p q r = absurd (omega arith)
-by-way bs (c ∷ cs) [] l m p q r = absurd (omega arith)
+by-way _ _ _ l m p q r = absurd (omega arith)
 
 -- a sum with a third twice
 pub xors-back : (bs cs : List ℕ) → length bs ≡ length cs → xors bs (xors bs cs) ≡ cs
@@ -153,15 +135,13 @@ xors-back [] [] l = refl
 xors-back (b ∷ bs) (c ∷ cs) l =
     ap (λ (x : ℕ). x ∷ xors bs (xors bs cs)) (sym (xor_assoc b b c) ∙ ap (λ (x : ℕ). bit_xor x c) (xor_self b) ∙ xor_zero_l c)
     ∙ ap (λ (x : List ℕ). c ∷ x) (xors-back bs cs (omega arith))
-xors-back [] (c ∷ cs) l = absurd (omega arith)
-xors-back (b ∷ bs) [] l = absurd (omega arith)
+xors-back _ _ l = absurd (omega arith)
 
 pub xors-append : (bs cs ds es : List ℕ) → length bs ≡ length ds → xors (bs ++ cs) (ds ++ es) ≡ xors bs ds ++ xors cs es
 unfolding xors
 xors-append [] cs [] es l = refl
 xors-append (b ∷ bs) cs (d ∷ ds) es l = ap (λ (x : List ℕ). bit_xor b d ∷ x) (xors-append bs cs ds es (omega arith))
-xors-append [] cs (d ∷ ds) es l = absurd (omega arith)
-xors-append (b ∷ bs) cs [] es l = absurd (omega arith)
+xors-append _ cs _ es l = absurd (omega arith)
 
 pub xors-zeros : (e : List ℕ) → xors e (zeros (length e)) ≡ e
 unfolding zeros xors
@@ -170,10 +150,8 @@ xors-zeros (b ∷ bs) = ap (λ (x : ℕ). x ∷ xors bs (zeros (length bs))) (xo
 
 pub xors-take : (n : ℕ) (bs cs : List ℕ) → take n (xors bs cs) ≡ xors (take n bs) (take n cs)
 unfolding xors
-xors-take zero bs cs = refl
-xors-take (suc n) [] cs = refl
-xors-take (suc n) (b ∷ bs) [] = refl
 xors-take (suc n) (b ∷ bs) (c ∷ cs) = ap (λ (x : List ℕ). bit_xor b c ∷ x) (xors-take n bs cs)
+xors-take _ _ _ = refl
 
 zeros-take : (m n : ℕ) → m ≤ n → take m (zeros n) ≡ zeros m
 unfolding zeros

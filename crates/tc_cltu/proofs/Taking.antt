@@ -2,6 +2,7 @@
 use Rattle.std.proofs.Common.{◌≡◌, ◌≢◌, ◌⊎◌, ℕ, zero, suc, ◌+◌, ◌-◌, ◌*◌, ◌/◌, ◌%◌, ◌^◌, ◌<◌, ◌≤◌, Bool, List, [], ◌∷◌, ◌++◌, Option, Some, None, IfSome, bit_xor, length, length-append, get_or, take, set, if◌then◌else◌, subst, refl, ap, sym, ◌∙◌, arith, inl, inr}
 use Rattle.std.proofs.lemmas.Bool.{cases_lt, cases_eq, lt-ltb, le-ltb}
 use Rattle.std.proofs.lemmas.Nat.{xor_lt, pow_below, xor_comm}
+use Rattle.std.proofs.lemmas.List.{take-append-le, take_all}
 use lib.Bits.{xor_self, xor_assoc, xor_zero_l}
 use Rattle.tc_cltu.specs.Bits.{bits_of_octets, block_differences}
 use Rattle.tc_cltu.specs.CodeBlock.{IsInformation, parity_of, block_remainder, code_block, word, errors, most_errors, flipped, near, first_within, decoded}
@@ -116,16 +117,12 @@ first-turned limit block information (suc n) k less within =
 
 -- ---- what is decoded
 take-front : (os ps : List ℕ) (n : ℕ) → length os ≡ n → take n (os ++ ps) ≡ os
-take-front [] ps zero l = refl
-take-front [] ps (suc n) l = absurd (omega arith)
-take-front (o ∷ os) ps zero l = absurd (omega arith)
-take-front (o ∷ os) ps (suc n) l = ap (λ (x : List ℕ). o ∷ x) (take-front os ps n (omega arith))
+take-front os ps n l = take-append-le n os ps (omega arith) ∙ take_all n os (omega arith)
 
 differences-append : (xs bs cs ds : List ℕ) → length xs ≡ length cs → block_differences (xs ++ bs) (cs ++ ds) ≡ block_differences xs cs + block_differences bs ds
 differences-append [] bs [] ds l = omega arith
 differences-append (x ∷ xs) bs (c ∷ cs) ds l = let rest = differences-append xs bs cs ds (omega arith) in omega arith
-differences-append [] bs (c ∷ cs) ds l = absurd (omega arith)
-differences-append (x ∷ xs) bs [] ds l = absurd (omega arith)
+differences-append _ bs _ ds l = absurd (omega arith)
 
 few : (mode : Mode) → most_errors mode ≤ 1
 few Detect = omega arith
@@ -289,15 +286,8 @@ one-wrong own last good fits small less =
 
 -- at one index
 power : (m : ℕ) → m < 8 → 2 ^ (7 - m) ≡ 128 / 2 ^ m
-power zero less = refl
-power (suc zero) less = refl
-power (suc (suc zero)) less = refl
-power (suc (suc (suc zero))) less = refl
-power (suc (suc (suc (suc zero)))) less = refl
-power (suc (suc (suc (suc (suc zero))))) less = refl
-power (suc (suc (suc (suc (suc (suc zero)))))) less = refl
-power (suc (suc (suc (suc (suc (suc (suc zero))))))) less = refl
 power (suc (suc (suc (suc (suc (suc (suc (suc m)))))))) less = absurd (omega arith)
+power _ less = refl
 
 pub turned-set : (os : List ℕ) (k : ℕ) → k / 8 < length os → flipped os k ≡ set os (k / 8) (bit_xor (get_or os (k / 8) 0) (128 / 2 ^ (k % 8)))
 turned-set [] k less = absurd (omega arith)
@@ -386,14 +376,7 @@ refused-option mode block own last o good is h information i over under =
 pub seven-list : (xs : List ℕ) → length xs ≡ 7
     → xs ≡ get_or xs 0 0 ∷ get_or xs 1 0 ∷ get_or xs 2 0 ∷ get_or xs 3 0 ∷ get_or xs 4 0 ∷ get_or xs 5 0 ∷ get_or xs 6 0 ∷ []
 seven-list (a ∷ b ∷ c ∷ d ∷ e ∷ f ∷ g ∷ []) l = refl
-seven-list [] l = absurd (omega arith)
-seven-list (a ∷ []) l = absurd (omega arith)
-seven-list (a ∷ b ∷ []) l = absurd (omega arith)
-seven-list (a ∷ b ∷ c ∷ []) l = absurd (omega arith)
-seven-list (a ∷ b ∷ c ∷ d ∷ []) l = absurd (omega arith)
-seven-list (a ∷ b ∷ c ∷ d ∷ e ∷ []) l = absurd (omega arith)
-seven-list (a ∷ b ∷ c ∷ d ∷ e ∷ f ∷ []) l = absurd (omega arith)
-seven-list (a ∷ b ∷ c ∷ d ∷ e ∷ f ∷ g ∷ h ∷ more) l = absurd (omega arith)
+seven-list _ l = absurd (omega arith)
 
 pub eight-list : (xs : List ℕ) → length xs ≡ 8
     → xs ≡ get_or xs 0 0 ∷ get_or xs 1 0 ∷ get_or xs 2 0 ∷ get_or xs 3 0 ∷ get_or xs 4 0 ∷ get_or xs 5 0 ∷ get_or xs 6 0 ∷ get_or xs 7 0 ∷ []

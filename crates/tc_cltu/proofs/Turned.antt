@@ -10,28 +10,22 @@ use Rattle.tc_cltu.proofs.Taking.{turned-length}
 
 xors-assoc : (bs cs ds : List ℕ) → xors (xors bs cs) ds ≡ xors bs (xors cs ds)
 unfolding xors
-xors-assoc [] cs ds = refl
-xors-assoc (b ∷ bs) [] ds = refl
-xors-assoc (b ∷ bs) (c ∷ cs) [] = refl
 xors-assoc (b ∷ bs) (c ∷ cs) (d ∷ ds) =
     ap (λ (x : ℕ). x ∷ xors (xors bs cs) ds) (xor_assoc b c d) ∙ ap (λ (x : List ℕ). bit_xor b (bit_xor c d) ∷ x) (xors-assoc bs cs ds)
+xors-assoc _ _ _ = refl
 
 -- what is added makes as many differences as it has ones
 place-sum : (c e : ℕ) → c < 2 → e < 2 → (if bit_xor c e == c then 0 else 1) ≡ e
-place-sum zero zero p q = refl
-place-sum zero (suc zero) p q = refl
-place-sum (suc zero) zero p q = refl
-place-sum (suc zero) (suc zero) p q = refl
 place-sum (suc (suc c)) e p q = absurd (omega arith)
 place-sum c (suc (suc e)) p q = absurd (omega arith)
+place-sum _ _ p q = refl
 
 differences-sum : (cs es : List ℕ) → length cs ≡ length es → AreBits cs → AreBits es → block_differences (xors cs es) cs ≡ weight es
 unfolding xors weight
 differences-sum [] [] l p q = refl
-differences-sum [] (e ∷ es) l p q = absurd (omega arith)
-differences-sum (c ∷ cs) [] l p q = absurd (omega arith)
 differences-sum (c ∷ cs) (e ∷ es) l p q =
     let first = place-sum c e p.0 q.0 in let rest = differences-sum cs es (omega arith) p.1 q.1 in omega arith
+differences-sum _ _ l p q = absurd (omega arith)
 
 -- ---- one bit, two and three
 zeros-bits : (n : ℕ) → AreBits (zeros n)

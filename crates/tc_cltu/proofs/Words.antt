@@ -77,8 +77,7 @@ left-linear [] [] r s l = refl
 left-linear (b ∷ bs) (c ∷ cs) r s l =
     ap (λ (x : ℕ). left x (xors bs cs)) (ap (λ (x : ℕ). bit_xor x (bit_xor b c)) (times_x-linear r s) ∙ exchange (block_times_x r) (block_times_x s) b c)
     ∙ left-linear bs cs (bit_xor (block_times_x r) b) (bit_xor (block_times_x s) c) (omega arith)
-left-linear [] (c ∷ cs) r s l = absurd (omega arith)
-left-linear (b ∷ bs) [] r s l = absurd (omega arith)
+left-linear _ _ r s l = absurd (omega arith)
 
 left-onward : (cs bs : List ℕ) (r : ℕ) → left r (cs ++ bs) ≡ left (left r cs) bs
 unfolding left
@@ -102,9 +101,8 @@ left-zeros (suc n) r = ap (λ (x : ℕ). left x (zeros n)) (xor_zero_r (block_ti
 
 once : (b : ℕ) → b < 2 → block_times_x (b * 2 ^ 6) ≡ steps 7 b
 unfolding block_times_x steps
-once zero less = refl
-once (suc zero) less = refl
 once (suc (suc b)) less = absurd (omega arith)
+once _ less = refl
 
 -- seven places up
 up : (bs : List ℕ) (q : ℕ) → AreBits bs → block_remainder (steps 7 q) bs ≡ steps 7 (left q bs)
@@ -142,14 +140,7 @@ word-is a b c d e f g last = refl
 
 pub word-parts : (information : List ℕ) (last : ℕ) → length information ≡ 7 → word (information ++ last ∷ []) ≡ bits_of_octets information ++ seven last
 word-parts (a ∷ b ∷ c ∷ d ∷ e ∷ f ∷ g ∷ []) last l = word-is a b c d e f g last
-word-parts [] last l = absurd (omega arith)
-word-parts (a ∷ []) last l = absurd (omega arith)
-word-parts (a ∷ b ∷ []) last l = absurd (omega arith)
-word-parts (a ∷ b ∷ c ∷ []) last l = absurd (omega arith)
-word-parts (a ∷ b ∷ c ∷ d ∷ []) last l = absurd (omega arith)
-word-parts (a ∷ b ∷ c ∷ d ∷ e ∷ []) last l = absurd (omega arith)
-word-parts (a ∷ b ∷ c ∷ d ∷ e ∷ f ∷ []) last l = absurd (omega arith)
-word-parts (a ∷ b ∷ c ∷ d ∷ e ∷ f ∷ g ∷ h ∷ more) last l = absurd (omega arith)
+word-parts _ last l = absurd (omega arith)
 
 steps-none : steps 7 0 ≡ 0
 unfolding steps block_times_x
@@ -199,15 +190,8 @@ octet-sum a b =
 
 octet-one : (k : ℕ) → k < 8 → bits_of_octet (2 ^ (7 - k)) ≡ single k 8
 unfolding bits_of_octet single zeros
-octet-one zero less = refl
-octet-one (suc zero) less = refl
-octet-one (suc (suc zero)) less = refl
-octet-one (suc (suc (suc zero))) less = refl
-octet-one (suc (suc (suc (suc zero)))) less = refl
-octet-one (suc (suc (suc (suc (suc zero))))) less = refl
-octet-one (suc (suc (suc (suc (suc (suc zero)))))) less = refl
-octet-one (suc (suc (suc (suc (suc (suc (suc zero))))))) less = refl
 octet-one (suc (suc (suc (suc (suc (suc (suc (suc k)))))))) less = absurd (omega arith)
+octet-one _ less = refl
 
 zeros-front : (m n : ℕ) → zeros (m + n) ≡ zeros m ++ zeros n
 unfolding zeros

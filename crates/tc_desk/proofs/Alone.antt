@@ -32,9 +32,8 @@ own-step k at o os e es none rest = elim (eqb_tells o k) [
 -- where nobody but the k-th owns a place, the k-th owns all of them
 all-own : (k at : ℕ) (os : List ℕ) (es : List Event) → length os ≡ length es → ((j : ℕ) → j ≢ k → owned j at os es ≡ []) → owned k at os es ≡ with_places at es
 all-own k at [] [] len none = refl
-all-own k at [] (e ∷ es) len none = absurd (omega arith)
-all-own k at (o ∷ os) [] len none = absurd (omega arith)
 all-own k at (o ∷ os) (e ∷ es) len none = own-step k at o os e es none (all-own k (suc at) os es (omega arith))
+all-own k at _ _ len none = absurd (omega arith)
 
 length-placed : (at : ℕ) (es : List Event) → length (with_places at es) ≡ length es
 length-placed at [] = refl
@@ -48,13 +47,12 @@ placed-last at (x ∷ es) e = ap (λ l. (at, x) ∷ l) (placed-last (suc at) es 
 last-cancel : {A : Type 0} (xs ys : List A) (x y : A) → xs ++ x ∷ [] ≡ ys ++ y ∷ [] → xs ≡ ys
 last-cancel [] [] x y e = refl
 last-cancel [] (b ∷ []) x y e = absurd cc
-last-cancel [] (b ∷ c ∷ ys) x y e = absurd cc
 last-cancel (a ∷ []) [] x y e = absurd cc
-last-cancel (a ∷ c ∷ xs) [] x y e = absurd cc
 last-cancel (a ∷ xs) (b ∷ ys) x y e =
     let rest : xs ≡ ys = last-cancel xs ys x y cc in
     let first : a ≡ b = cc in
     λ i. first i ∷ rest i
+last-cancel _ _ x y e = absurd cc
 
 -- a beginning that is as long as the whole is the whole
 whole-prefix : {A : Type 0} (xs ys : List A) → IsPrefix xs ys → length ys ≤ length xs → xs ≡ ys

@@ -11,11 +11,11 @@ use Rattle.tc_channel.specs.declared.event.Event.{Event}
 use Rattle.tc_channel.specs.Journal.{History}
 use Rattle.tc_desk.specs.{TableId}
 use Rattle.tc_desk.specs.Log.{Own, Sight, Moment, AtLock, AtHand, accounts_of, told_at}
-use Rattle.tc_desk.specs.Closing.{CanClose, IsBalanced, IsCause, IsClosed}
+use Rattle.tc_desk.specs.Closing.{CanClose, IsBalanced, IsClosed}
 use Rattle.tc_desk.proofs.Counted.{as-balanced, cause-of, not-balanced}
 use Rattle.tc_desk.specs.declared.together.Refusal.{Refusal}
 use Rattle.tc_desk.specs.declared.together.Refusal.TheVariants.{Unbalanced}
-use Rattle.tc_desk.specs.Together.{IsClosingRefusal, AreOurs, AreClosed, AreBalanced, AreMoments, AreSame, CanCloseEach, CannotCloseOne, HasCause, IsFresh, IsOut, column, heads_of, issued_of, keepers_of, locks_of, nobody, settings_of_desks, told_one, told_row, told_rows}
+use Rattle.tc_desk.specs.Together.{IsClosingRefusal, AreOurs, AreClosed, AreMoments, AreSame, CanCloseEach, CannotCloseOne, HasCause, IsFresh, IsOut, column, heads_of, issued_of, keepers_of, locks_of, nobody, settings_of_desks, told_one, told_row, told_rows}
 
 -- ---- locks that are taken and given back
 
@@ -127,10 +127,10 @@ AreAt [] (o ∷ os) = ⊥
 AreAt (h ∷ hs) (o ∷ os) = (o.lock ≡ h.keeper.lock) × AreAt hs os
 
 pub are_at : (hs : List AtHand) (os : List AtLock) → locks_of os ≡ locks_of (keepers_of hs) → AreAt hs os
-are_at [] [] is = tt
-are_at (h ∷ hs) [] is = tt
 are_at [] (o ∷ os) is = let l = ap (λ (x : List TableId). length x) is in absurd (omega arith)
 are_at (h ∷ hs) (o ∷ os) is = (ap (λ (x : List TableId). get_or x 0 o.lock) is, are_at hs os (ap (λ (x : List TableId). drop 1 x) is))
+are_at [] [] is = tt
+are_at (h ∷ hs) [] is = tt
 
 told_none : (hs : List AtHand) → told_row hs [] ≡ hs
 told_none [] = refl
@@ -166,9 +166,8 @@ told_step hs first all os whole o n d next is long next_is at before =
     (ap (λ (l : List AtHand). told_row l os) (sym same) ∙ sym last.told ∙ before, subst (λ (l : List AtHand). AreAt l os) same last.rest)
 
 pub keepers-told : (hs : List AtHand) (os : List AtLock) → keepers_of (told_row hs os) ≡ keepers_of hs
-keepers-told [] os = refl
-keepers-told (h ∷ hs) [] = refl
 keepers-told (h ∷ hs) (o ∷ os) = ap (λ (l : List AtLock). h.keeper ∷ l) (keepers-told hs os)
+keepers-told _ _ = refl
 
 pub ours_after : (hs : List AtHand) (os : List AtLock) (rows : List (List AtLock)) → AreOurs (keepers_of hs) rows → AreOurs (keepers_of (told_row hs os)) rows
 ours_after hs os rows ours = subst (λ (l : List AtLock). AreOurs l rows) (sym (keepers-told hs os)) ours
@@ -215,9 +214,8 @@ keeper_there (g ∷ hs) (suc place) h at = keeper_there hs place h at
 
 pub one_out : (hs : List AtHand) (cs : List History) (h : AtHand) (c : History) → AllZip IsOut hs cs → IsOut h c → AllZip IsOut (hs ++ h ∷ []) (cs ++ c ∷ [])
 one_out [] [] h c all one = (one, tt)
-one_out [] (d ∷ cs) h c all one = absurd all
-one_out (g ∷ hs) [] h c all one = absurd all
 one_out (g ∷ hs) (d ∷ cs) h c all one = (all.0, one_out hs cs h c all.1 one)
+one_out _ _ h c all one = absurd all
 
 pub out_step : (hs : List AtHand) (cs next : List History) (h : AtHand) (c : History) → next ≡ cs ++ c ∷ [] → AllZip IsOut hs cs → IsOut h c → AllZip IsOut (hs ++ h ∷ []) next
 out_step hs cs next h c is all one = subst (λ (l : List History). AllZip IsOut (hs ++ h ∷ []) l) (sym is) (one_out hs cs h c all one)
@@ -234,9 +232,8 @@ out_at (g ∷ hs) (d ∷ cs) (suc place) h c all here there = out_at hs cs place
 
 as_many_out : (hs : List AtHand) (cs : List History) → AllZip IsOut hs cs → length cs ≡ length hs
 as_many_out [] [] all = refl
-as_many_out [] (d ∷ cs) all = absurd all
-as_many_out (g ∷ hs) [] all = absurd all
 as_many_out (g ∷ hs) (d ∷ cs) all = ap suc (as_many_out hs cs all.1)
+as_many_out _ _ all = absurd all
 
 keepers-rows : (hs : List AtHand) (rows : List (List AtLock)) → keepers_of (told_rows hs rows) ≡ keepers_of hs
 keepers-rows hs [] = refl
@@ -255,9 +252,8 @@ written_back v start next rows from is =
 
 pub settings_out : (hs : List AtHand) (cs : List History) → AllZip IsOut hs cs → map (λ (c : History). c.settings) cs ≡ settings_of_desks (keepers_of hs)
 settings_out [] [] all = refl
-settings_out [] (d ∷ cs) all = absurd all
-settings_out (g ∷ hs) [] all = absurd all
 settings_out (g ∷ hs) (d ∷ cs) all = λ i. all.0.settings i ∷ settings_out hs cs all.1 i
+settings_out _ _ all = absurd all
 
 pub closed_one : (h : AtHand) (operators : List AtLock) (c : History) → h.told ≡ [] → IsBeginning h.keeper.own.seen h.now → CanClose h.keeper.own.issued (accounts_of operators) h.now.entries
     → IsOut (told_at h (accounts_of operators)) c → IsClosed h.keeper operators c

@@ -1,5 +1,5 @@
 -- Which changes of bits the remainder tells.
-use Rattle.std.proofs.Common.{◌≡◌, ◌≢◌, ◌⊎◌, ℕ, zero, suc, ◌+◌, ◌-◌, ◌*◌, ◌%◌, ◌^◌, ◌<◌, ◌≤◌, Bool, true, false, eqb, not, List, [], ◌∷◌, bit_xor, length, get_or, drop, refl, ap, sym, ◌∙◌, arith, inl, inr}
+use Rattle.std.proofs.Common.{◌≡◌, ◌≢◌, ◌⊎◌, ℕ, zero, suc, ◌+◌, ◌-◌, ◌*◌, ◌%◌, ◌^◌, ◌<◌, ◌≤◌, Bool, true, eqb, not, List, [], ◌∷◌, bit_xor, length, get_or, drop, refl, ap, sym, ◌∙◌, arith, inl, inr}
 use Rattle.std.proofs.lemmas.Nat.{pow-add, xor_lt, xor_mod, xor_comm}
 use Rattle.std.proofs.Math.Nat.{pow-suc, add-mul, mul_assoc}
 use lib.Bits.{xor_assoc, xor_self, xor_zero_r, xor_zero_l, xor_shifted}
@@ -9,6 +9,7 @@ use Rattle.tc_fecf.specs.Changes.{SameOctets, SameBits, Passes}
 use Rattle.std.proofs.lemmas.Bool.{cases_eq, cases_order}
 use Rattle.tc_link.specs.Frame.{IsOctets}
 use Rattle.tc_fecf.proofs.Linear.{exchange, scaled, times_x-linear, times_x-fits}
+use Rattle.tc_fecf.proofs.Octets.{both, both-first, both-second}
 
 -- ---- sums that are 0
 pub same : (a b : ℕ) → bit_xor a b ≡ 0 → a ≡ b
@@ -76,8 +77,7 @@ back (b ∷ bs) (c ∷ cs) lengths bits_b bits_c r s r_fits s_fits alike e =
     let none : bit_xor b c ≡ 0 = ap (λ (x : ℕ). bit_xor x c) head ∙ xor_self c in
     let tails = rest.1 in
     (same r s (omega arith), cc)
-back [] (c ∷ cs) lengths bits_b bits_c r s r_fits s_fits alike e = absurd (omega arith)
-back (b ∷ bs) [] lengths bits_b bits_c r s r_fits s_fits alike e = absurd (omega arith)
+back _ _ lengths bits_b bits_c r s r_fits s_fits alike e = absurd (omega arith)
 
 -- n bits may differ, and the ends are alike: then the registers differ in their n high bits alone, and where they do not, no bit differs
 window : (n p : ℕ) → n + p ≡ 16 → (bs cs : List ℕ) → length bs ≡ length cs → AreBits bs → AreBits cs → (r s : ℕ) → r < 2 ^ 16 → s < 2 ^ 16
@@ -116,8 +116,7 @@ window (suc n) p sixteen (b ∷ bs) (c ∷ cs) lengths bits_b bits_c r s r_fits 
           let tails : bs ≡ cs = rest.1 (same (with_bit r b) (with_bit s c) (apart r s b c ∙ omega arith)) in
           cc,
     )
-window (suc n) p sixteen [] (c ∷ cs) lengths bits_b bits_c r s r_fits s_fits alike e = absurd (omega arith)
-window (suc n) p sixteen (b ∷ bs) [] lengths bits_b bits_c r s r_fits s_fits alike e = absurd (omega arith)
+window (suc n) p sixteen _ _ lengths bits_b bits_c r s r_fits s_fits alike e = absurd (omega arith)
 
 -- a burst: 16 bits from place i on may differ
 pub burst : (i : ℕ) (bs cs : List ℕ) → length bs ≡ length cs → AreBits bs → AreBits cs → (r : ℕ) → r < 2 ^ 16
@@ -131,24 +130,9 @@ burst (suc i) (b ∷ bs) (c ∷ cs) lengths bits_b bits_c r r_fits alike e =
     let tails : bs ≡ cs = burst i bs cs (omega arith) (λ k. bits_b (suc k)) (λ k. bits_c (suc k)) (with_bit r b) (times_x-fits _)
     (λ k where_k. alike (suc k) (elim where_k [ inl before ↦ inl (omega arith) | inr after ↦ inr (omega arith) ])) (e ∙ ap (λ (x : ℕ). remainder (with_bit r x) cs) (sym heads)) in
     cc
-burst (suc i) [] (c ∷ cs) lengths bits_b bits_c r r_fits alike e = absurd (omega arith)
-burst (suc i) (b ∷ bs) [] lengths bits_b bits_c r r_fits alike e = absurd (omega arith)
+burst (suc i) _ _ lengths bits_b bits_c r r_fits alike e = absurd (omega arith)
 
 -- ---- two bits
-both : Bool → Bool → Bool
-both true b = b
-both false b = false
-
-both-first : (a b : Bool) → both a b ≡ true → a ≡ true
-unfolding both
-both-first true b h = refl
-both-first false b h = h
-
-both-second : (a b : Bool) → both a b ≡ true → b ≡ true
-unfolding both
-both-second true b h = h
-both-second false b h = absurd (cc)
-
 -- a sum of registers that a second bit can't undo
 open_sum : ℕ → Bool
 open_sum d = both (not (eqb d 0)) (not (eqb d 32768))
@@ -195,8 +179,7 @@ later (suc n) (b ∷ bs) (c ∷ cs) lengths bits_b bits_c r s r_fits s_fits alik
     later n bs cs (omega arith) (λ k. bits_b (suc k)) (λ k. bits_c (suc k)) (with_bit r b) (with_bit s c) (times_x-fits _) (times_x-fits _)
     (λ k other. alike (suc k) (λ z. other (omega arith)))
     (ap (stays (suc n)) next ∙ both-second (open_sum (bit_xor r s)) (stays (suc n) (times_x (bit_xor r s))) h) e
-later n [] (c ∷ cs) lengths bits_b bits_c r s r_fits s_fits alike h e = omega arith
-later n (b ∷ bs) [] lengths bits_b bits_c r s r_fits s_fits alike h e = omega arith
+later n _ _ lengths bits_b bits_c r s r_fits s_fits alike h e = omega arith
 
 -- the same, after one bit that differs
 pub later-near : (n : ℕ) → n < 32766 → (bs cs : List ℕ) → length bs ≡ length cs → AreBits bs → AreBits cs → (r s : ℕ) → r < 2 ^ 16 → s < 2 ^ 16
@@ -205,12 +188,11 @@ later-near n near bs cs lengths bits_b bits_c r s r_fits s_fits alike one e =
     later n bs cs lengths bits_b bits_c r s r_fits s_fits alike (ap (stays (suc n)) one ∙ stays-less (suc n) 32766 (times_x 32768) (omega arith) long) e
 
 pub different : (b c : ℕ) → b < 2 → c < 2 → b ≢ c → bit_xor b c ≡ 1
-different zero zero b_fits c_fits ne = absurd (ne refl)
 different zero (suc zero) b_fits c_fits ne = refl
 different (suc zero) zero b_fits c_fits ne = refl
-different (suc zero) (suc zero) b_fits c_fits ne = absurd (ne refl)
 different (suc (suc b)) c b_fits c_fits ne = absurd (omega arith)
 different b (suc (suc c)) b_fits c_fits ne = absurd (omega arith)
+different _ _ b_fits c_fits ne = absurd (ne refl)
 
 -- two places, the second n + 1 bits after the first
 pub two : (i n : ℕ) → n < 32766 → (bs cs : List ℕ) → length bs ≡ length cs → AreBits bs → AreBits cs → (r : ℕ) → r < 2 ^ 16
@@ -235,31 +217,21 @@ two (suc i) n near (b ∷ bs) (c ∷ cs) lengths bits_b bits_c r r_fits alike e 
     let tails : bs ≡ cs = two i n near bs cs (omega arith) (λ k. bits_b (suc k)) (λ k. bits_c (suc k)) (with_bit r b) (times_x-fits _)
     (λ k first second. alike (suc k) (λ z. first (omega arith)) (λ z. second (omega arith))) (e ∙ ap (λ (x : ℕ). remainder (with_bit r x) cs) (sym heads)) in
     cc
-two i n near [] (c ∷ cs) lengths bits_b bits_c r r_fits alike e = absurd (omega arith)
-two i n near (b ∷ bs) [] lengths bits_b bits_c r r_fits alike e = absurd (omega arith)
+two i n near _ _ lengths bits_b bits_c r r_fits alike e = absurd (omega arith)
 
 -- ---- octets
 pub bits-bits : (os : List ℕ) → AreBits (bits_of os)
 unfolding AreBits octet_bits
 bits-bits [] zero = omega arith
-bits-bits [] (suc k) = omega arith
-bits-bits (o ∷ os) zero = omega arith
-bits-bits (o ∷ os) (suc zero) = omega arith
-bits-bits (o ∷ os) (suc (suc zero)) = omega arith
-bits-bits (o ∷ os) (suc (suc (suc zero))) = omega arith
-bits-bits (o ∷ os) (suc (suc (suc (suc zero)))) = omega arith
-bits-bits (o ∷ os) (suc (suc (suc (suc (suc zero))))) = omega arith
-bits-bits (o ∷ os) (suc (suc (suc (suc (suc (suc zero)))))) = omega arith
-bits-bits (o ∷ os) (suc (suc (suc (suc (suc (suc (suc zero))))))) = omega arith
 bits-bits (o ∷ os) (suc (suc (suc (suc (suc (suc (suc (suc k)))))))) = bits-bits os k
+bits-bits _ _ = omega arith
 
 pub bits-length : (one other : List ℕ) → length one ≡ length other → length (bits_of one) ≡ length (bits_of other)
 unfolding octet_bits
 bits-length [] [] e = refl
 bits-length (o ∷ os) (p ∷ ps) e =
     let f = bits-length os ps (omega arith) in ap (λ (x : ℕ). suc (suc (suc (suc (suc (suc (suc (suc x)))))))) f
-bits-length [] (p ∷ ps) e = absurd (omega arith)
-bits-length (o ∷ os) [] e = absurd (omega arith)
+bits-length _ _ e = absurd (omega arith)
 
 octet-alike : (o p : ℕ) → o < 256 → p < 256 → bits o 7 1 ≡ bits p 7 1 → bits o 6 1 ≡ bits p 6 1 → bits o 5 1 ≡ bits p 5 1 → bits o 4 1 ≡ bits p 4 1
     → bits o 3 1 ≡ bits p 3 1 → bits o 2 1 ≡ bits p 2 1 → bits o 1 1 ≡ bits p 1 1 → bits o 0 1 ≡ bits p 0 1 → o ≡ p
@@ -273,8 +245,7 @@ bits-same (o ∷ os) (p ∷ ps) each_one each_other lengths e =
     let head : o ≡ p = octet-alike o p (each_one 0) (each_other 0) (at 0) (at 1) (at 2) (at 3) (at 4) (at 5) (at 6) (at 7) in
     let tail : os ≡ ps = bits-same os ps (λ k. each_one (suc k)) (λ k. each_other (suc k)) (omega arith) (ap (λ (x : List ℕ). drop 8 x) e) in
     cc
-bits-same [] (p ∷ ps) each_one each_other lengths e = absurd (omega arith)
-bits-same (o ∷ os) [] each_one each_other lengths e = absurd (omega arith)
+bits-same _ _ each_one each_other lengths e = absurd (omega arith)
 
 -- ---- the laws
 pub burst-told : (one other : List ℕ) (i : ℕ) → SameOctets one other → SameBits one other (λ k. (k < i) ⊎ (i + 16 ≤ k)) → Passes one → Passes other → one ≡ other

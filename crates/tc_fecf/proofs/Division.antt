@@ -58,9 +58,8 @@ times_generator-scaled n q =
 
 g-once : (q : ℕ) → q < 2 → q * 69665 ≡ times_generator q
 unfolding times_generator
-g-once zero fits = refl
-g-once (suc zero) fits = refl
 g-once (suc (suc q)) fits = absurd (omega arith)
+g-once _ fits = refl
 
 -- one step of the division, and those after it
 quotient : ℕ → List ℕ → ℕ

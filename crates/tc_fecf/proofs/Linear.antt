@@ -1,5 +1,5 @@
 -- The remainder is linear: what it is of a sum is the sum of what it is of each.
-use Rattle.std.proofs.Common.{◌≡◌, ℕ, zero, suc, ◌+◌, ◌*◌, ◌/◌, ◌%◌, ◌^◌, ◌<◌, List, [], ◌∷◌, ◌++◌, bit_xor, refl, ap, sym, ◌∙◌, arith}
+use Rattle.std.proofs.Common.{◌≡◌, ℕ, suc, ◌+◌, ◌*◌, ◌/◌, ◌%◌, ◌^◌, ◌<◌, List, [], ◌∷◌, ◌++◌, bit_xor, refl, ap, sym, ◌∙◌, arith}
 use Rattle.std.proofs.lemmas.Nat.{pow_pos, xor_lt, xor_shr, xor_mod, xor_block, xor_comm}
 use lib.Bits.{xor_assoc, xor_zero_r}
 use Rattle.std.proofs.Math.Nat.{add-zero}
@@ -21,12 +21,9 @@ pub bit_of_sum : (a b low : ℕ) → bits (bit_xor a b) low 1 ≡ bit_xor (bits 
 bit_of_sum a b low = ap (λ (x : ℕ). x % 2) (xor_shr a b low) ∙ xor_mod (a / 2 ^ low) (b / 2 ^ low) 1
 
 bit_times : (s t : ℕ) → s < 2 → t < 2 → bit_xor s t * 4129 ≡ bit_xor (s * 4129) (t * 4129)
-bit_times zero zero p q = refl
-bit_times zero (suc zero) p q = refl
-bit_times (suc zero) zero p q = refl
-bit_times (suc zero) (suc zero) p q = refl
 bit_times (suc (suc s)) t p q = absurd (omega arith)
 bit_times s (suc (suc t)) p q = absurd (omega arith)
+bit_times _ _ p q = refl
 
 pub times_x-linear : (a b : ℕ) → times_x (bit_xor a b) ≡ bit_xor (times_x a) (times_x b)
 unfolding times_x

@@ -15,12 +15,12 @@ unfoldable pub each : (ℕ → Bool) → ℕ → Bool
 each f zero = true
 each f (suc n) = both (f n) (each f n)
 
-both-first : (a b : Bool) → both a b ≡ true → a ≡ true
+pub both-first : (a b : Bool) → both a b ≡ true → a ≡ true
 unfolding both
 both-first true b h = refl
 both-first false b h = h
 
-both-second : (a b : Bool) → both a b ≡ true → b ≡ true
+pub both-second : (a b : Bool) → both a b ≡ true → b ≡ true
 unfolding both
 both-second true b h = h
 both-second false b h = absurd (cc)

@@ -1,5 +1,5 @@
 -- Octets that pass have an even number of ones, so an odd number of changes is told.
-use Rattle.std.proofs.Common.{◌≡◌, ℕ, zero, suc, ◌+◌, ◌*◌, ◌/◌, ◌%◌, ◌^◌, ◌<◌, ◌==◌, if◌then◌else◌, true, eqb, List, [], ◌∷◌, bit_xor, length, sum, refl, ap, sym, ◌∙◌, arith}
+use Rattle.std.proofs.Common.{◌≡◌, ℕ, suc, ◌+◌, ◌*◌, ◌/◌, ◌%◌, ◌^◌, ◌<◌, ◌==◌, if◌then◌else◌, true, eqb, List, [], ◌∷◌, bit_xor, length, sum, refl, ap, sym, ◌∙◌, arith}
 use Rattle.std.proofs.lemmas.Bool.{eqb-true}
 use Rattle.std.proofs.lemmas.List.Sums.{sum_by-cons}
 use Rattle.std.proofs.lemmas.Nat.{xor_lt, xor_shr}
@@ -51,17 +51,13 @@ parity-kept y fits =
 
 bit-parity : (b : ℕ) → b < 2 → parity (b * 2 ^ 15) ≡ b
 unfolding parity half
-bit-parity zero fits = refl
-bit-parity (suc zero) fits = refl
 bit-parity (suc (suc b)) fits = absurd (omega arith)
+bit-parity _ fits = refl
 
 pub added : (p b : ℕ) → p < 2 → b < 2 → bit_xor p b ≡ (p + b) % 2
-added zero zero p_fits b_fits = refl
-added zero (suc zero) p_fits b_fits = refl
-added (suc zero) zero p_fits b_fits = refl
-added (suc zero) (suc zero) p_fits b_fits = refl
 added (suc (suc p)) b p_fits b_fits = absurd (omega arith)
 added p (suc (suc b)) p_fits b_fits = absurd (omega arith)
+added _ _ p_fits b_fits = refl
 
 pub parity-fits : (y : ℕ) → parity y < 2
 unfolding parity
@@ -99,12 +95,9 @@ total b bs = sum_by-cons (λ (x : ℕ). x) b bs
 
 -- a place where two bits differ has one 1, and any other place none or two
 one-place : (b c : ℕ) → b < 2 → c < 2 → (b + c + (if b == c then 0 else 1)) % 2 ≡ 0
-one-place zero zero b_fits c_fits = refl
-one-place zero (suc zero) b_fits c_fits = refl
-one-place (suc zero) zero b_fits c_fits = refl
-one-place (suc zero) (suc zero) b_fits c_fits = refl
 one-place (suc (suc b)) c b_fits c_fits = absurd (omega arith)
 one-place b (suc (suc c)) b_fits c_fits = absurd (omega arith)
+one-place _ _ b_fits c_fits = refl
 
 all-places : (bs cs : List ℕ) → length bs ≡ length cs → AreBits bs → AreBits cs → (sum bs + sum cs + differences bs cs) % 2 ≡ 0
 unfolding AreBits
@@ -113,8 +106,7 @@ all-places (b ∷ bs) (c ∷ cs) lengths bits_b bits_c =
     let rest = all-places bs cs (omega arith) (λ k. bits_b (suc k)) (λ k. bits_c (suc k)) in
     let first = one-place b c (bits_b 0) (bits_c 0) in
     let x = total b bs in let y = total c cs in omega arith
-all-places [] (c ∷ cs) lengths bits_b bits_c = absurd (omega arith)
-all-places (b ∷ bs) [] lengths bits_b bits_c = absurd (omega arith)
+all-places _ _ lengths bits_b bits_c = absurd (omega arith)
 
 pub odd-told : (one other : List ℕ) → SameOctets one other → differences (bits_of one) (bits_of other) % 2 ≡ 1 → Passes one → Passes other → ⊥
 odd-told one other is odd passes_one passes_other =

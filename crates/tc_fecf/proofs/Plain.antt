@@ -2,6 +2,7 @@
 use Rattle.std.proofs.Common.{◌≡◌, ℕ, zero, suc, ◌+◌, ◌-◌, ◌*◌, ◌/◌, ◌%◌, ◌^◌, ◌<◌, ◌≤◌, List, [], ◌∷◌, ◌++◌, length, get_or, drop, take, refl, ap, sym, ◌∙◌, subst, arith, length-append, length-take-le}
 use Rattle.std.proofs.lemmas.Grind.{common_steps}
 use Rattle.tc_link.specs.Frame.{IsOctets, IsWhole, IsFrame, header_of}
+use Rattle.tc_link.proofs.Frames.{octets-cons, octets-append}
 use Rattle.tc_fecf.specs.Checksum.{checksum_of}
 use Rattle.tc_fecf.specs.FrameWithField.{spelled, octets_before_field, frame_with_field}
 use Rattle.tc_fecf.proofs.Closing.{sum-fits, closing, closed}
@@ -39,9 +40,7 @@ last-two (x ∷ rest) (suc m) e =
     let tail = last-two rest m (omega arith) in
     let place : suc m + 1 ≡ suc (m + 1) = omega arith in
     ap (λ (xs : List ℕ). x ∷ xs) tail ∙ ap (λ (n : ℕ). x ∷ (take m rest ++ (get_or rest m 0 ∷ get_or (x ∷ rest) n 0 ∷ []))) (sym place)
-last-two [] m e = absurd (omega arith)
-last-two (h ∷ []) zero e = absurd (omega arith)
-last-two (h ∷ l ∷ x ∷ more) zero e = absurd (omega arith)
+last-two _ _ e = absurd (omega arith)
 
 plain : List ℕ → List ℕ
 plain f = head f (get_or f 2 0 * 256 + get_or f 3 0 - 2) ++ take (length f - 2 - 4) (drop 4 f)
@@ -69,18 +68,7 @@ plain-right (a ∷ b ∷ c ∷ d ∷ rest) p w least none is =
     let ends : h ∷ l ∷ [] ≡ spelled (checksum_of front) =
     closing front h l (w.each (suc (suc (suc (suc m))))) (w.each (suc (suc (suc (suc (m + 1)))))) (sym (ap checksum_of parts) ∙ none) in
     parts ∙ ap (λ (x : List ℕ). front ++ x) ends ∙ ap (λ (x : List ℕ). x ++ spelled (checksum_of x)) (sym r)
-plain-right [] p w least none is = absurd (omega arith)
-plain-right (a ∷ []) p w least none is = absurd (omega arith)
-plain-right (a ∷ b ∷ []) p w least none is = absurd (omega arith)
-plain-right (a ∷ b ∷ c ∷ []) p w least none is = absurd (omega arith)
-
-octets-cons : (x : ℕ) (xs : List ℕ) → x < 256 → IsOctets xs → IsOctets (x ∷ xs)
-octets-cons x xs fits each zero = fits
-octets-cons x xs fits each (suc i) = each i
-
-octets-append : (xs ys : List ℕ) → IsOctets xs → IsOctets ys → IsOctets (xs ++ ys)
-octets-append [] ys each more = more
-octets-append (x ∷ xs) ys each more = octets-cons x (xs ++ ys) (each 0) (octets-append xs ys (λ i. each (suc i)) more)
+plain-right _ p w least none is = absurd (omega arith)
 
 octets-take : (m : ℕ) (xs : List ℕ) → IsOctets xs → IsOctets (take m xs)
 octets-take zero xs each zero = omega arith
@@ -109,10 +97,7 @@ plain-whole (a ∷ b ∷ c ∷ d ∷ rest) p w least is =
       named = omega arith;
     } in
     subst IsWhole (sym is) whole
-plain-whole [] p w least is = absurd (omega arith)
-plain-whole (a ∷ []) p w least is = absurd (omega arith)
-plain-whole (a ∷ b ∷ []) p w least is = absurd (omega arith)
-plain-whole (a ∷ b ∷ c ∷ []) p w least is = absurd (omega arith)
+plain-whole _ p w least is = absurd (omega arith)
 
 pub rest-of : (f : List ℕ) → take (length f - 4) (drop 4 f) ≡ drop 4 f
 rest-of f = grind (arith, common_steps)
@@ -125,16 +110,7 @@ ends-alike (x ∷ xs) (y ∷ ys) us vs lengths e =
     let tails : xs ++ us ≡ ys ++ vs = cc in
     let rest : xs ≡ ys = ends-alike xs ys us vs (omega arith) tails in
     cc
-ends-alike [] (y ∷ ys) us vs lengths e = absurd (omega arith)
-ends-alike (x ∷ xs) [] us vs lengths e = absurd (omega arith)
-
-octets_before_field-length : (f : List ℕ) → length (octets_before_field f) ≡ length f
-unfolding octets_before_field
-octets_before_field-length (a ∷ b ∷ c ∷ d ∷ rest) = refl
-octets_before_field-length [] = refl
-octets_before_field-length (a ∷ []) = refl
-octets_before_field-length (a ∷ b ∷ []) = refl
-octets_before_field-length (a ∷ b ∷ c ∷ []) = refl
+ends-alike _ _ us vs lengths e = absurd (omega arith)
 
 octets_before_field-alike : (f g : List ℕ) → IsWhole f → IsWhole g → octets_before_field f ≡ octets_before_field g → f ≡ g
 unfolding octets_before_field

@@ -19,13 +19,10 @@ sums-alike (b ∷ bs) (c ∷ cs) lengths alike =
     let rest = sums-alike bs cs (omega arith) (λ k. alike (suc k)) in
     let head : b ≡ c = alike 0 in
     let x = total b bs in let y = total c cs in omega arith
-sums-alike [] (c ∷ cs) lengths alike = absurd (omega arith)
-sums-alike (b ∷ bs) [] lengths alike = absurd (omega arith)
+sums-alike _ _ lengths alike = absurd (omega arith)
 
 sums-one : (n : ℕ) (bs cs : List ℕ) → length bs ≡ length cs → AreBits bs → AreBits cs → ((k : ℕ) → k ≢ n → Alike bs cs k) → get_or bs n 0 ≢ get_or cs n 0 → (sum bs + sum cs) % 2 ≡ 1
 unfolding AreBits Alike
-sums-one zero [] [] lengths bits_b bits_c alike ne = absurd (ne refl)
-sums-one (suc n) [] [] lengths bits_b bits_c alike ne = absurd (ne refl)
 sums-one zero (b ∷ bs) (c ∷ cs) lengths bits_b bits_c alike ne =
     let rest = sums-alike bs cs (omega arith) (λ k. alike (suc k) (λ z. omega arith)) in
     let apart_here : b ≢ c = ne in
@@ -35,14 +32,12 @@ sums-one (suc n) (b ∷ bs) (c ∷ cs) lengths bits_b bits_c alike ne =
     let rest = sums-one n bs cs (omega arith) (λ k. bits_b (suc k)) (λ k. bits_c (suc k)) (λ k other. alike (suc k) (λ z. other (omega arith))) ne in
     let head : b ≡ c = alike 0 (λ z. omega arith) in
     let x = total b bs in let y = total c cs in omega arith
-sums-one n [] (c ∷ cs) lengths bits_b bits_c alike ne = absurd (omega arith)
-sums-one n (b ∷ bs) [] lengths bits_b bits_c alike ne = absurd (omega arith)
+sums-one n [] [] lengths bits_b bits_c alike ne = absurd (ne refl)
+sums-one n _ _ lengths bits_b bits_c alike ne = absurd (omega arith)
 
 sums-two : (m n : ℕ) (bs cs : List ℕ) → length bs ≡ length cs → AreBits bs → AreBits cs → ((k : ℕ) → k ≢ m → k ≢ m + suc n → Alike bs cs k)
     → get_or bs m 0 ≢ get_or cs m 0 → get_or bs (m + suc n) 0 ≢ get_or cs (m + suc n) 0 → (sum bs + sum cs) % 2 ≡ 0
 unfolding AreBits Alike
-sums-two zero n [] [] lengths bits_b bits_c alike ne ne_too = absurd (ne refl)
-sums-two (suc m) n [] [] lengths bits_b bits_c alike ne ne_too = absurd (ne refl)
 sums-two zero n (b ∷ bs) (c ∷ cs) lengths bits_b bits_c alike ne ne_too =
     let place : 0 + suc n ≡ suc n = omega arith in
     let rest = sums-one n bs cs (omega arith) (λ k. bits_b (suc k)) (λ k. bits_c (suc k)) (λ k other. alike (suc k) (λ z. omega arith) (λ z. other (omega arith)))
@@ -57,8 +52,8 @@ sums-two (suc m) n (b ∷ bs) (c ∷ cs) lengths bits_b bits_c alike ne ne_too =
     (λ e. ne_too (ap (λ (x : ℕ). get_or (b ∷ bs) x 0) place ∙ e ∙ sym (ap (λ (x : ℕ). get_or (c ∷ cs) x 0) place))) in
     let head : b ≡ c = alike 0 (λ z. omega arith) (λ z. omega arith) in
     let x = total b bs in let y = total c cs in omega arith
-sums-two m n [] (c ∷ cs) lengths bits_b bits_c alike ne ne_too = absurd (omega arith)
-sums-two m n (b ∷ bs) [] lengths bits_b bits_c alike ne ne_too = absurd (omega arith)
+sums-two m n [] [] lengths bits_b bits_c alike ne ne_too = absurd (ne refl)
+sums-two m n _ _ lengths bits_b bits_c alike ne ne_too = absurd (omega arith)
 
 odd-one : parity (times_x 32768) ≡ 1
 unfolding parity half times_x
@@ -105,8 +100,7 @@ three (suc i) m n near (b ∷ bs) (c ∷ cs) lengths bits_b bits_c r r_fits alik
     let tails : bs ≡ cs = three i m n near bs cs (omega arith) (λ k. bits_b (suc k)) (λ k. bits_c (suc k)) (with_bit r b) (times_x-fits _)
     (λ k first second third. alike (suc k) (λ z. first (omega arith)) (λ z. second (omega arith)) (λ z. third (omega arith))) (e ∙ ap (λ (x : ℕ). remainder (with_bit r x) cs) (sym heads)) in
     cc
-three i m n near [] (c ∷ cs) lengths bits_b bits_c r r_fits alike e = absurd (omega arith)
-three i m n near (b ∷ bs) [] lengths bits_b bits_c r r_fits alike e = absurd (omega arith)
+three i m n near _ _ lengths bits_b bits_c r r_fits alike e = absurd (omega arith)
 
 pub three-told : (one other : List ℕ) (i j k : ℕ) → i < j → j < k → k < i + 32767 → SameOctets one other → SameBits one other (λ p. (p ≢ i) × (p ≢ j) × (p ≢ k))
     → Passes one → Passes other → one ≡ other

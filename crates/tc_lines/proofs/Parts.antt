@@ -1,5 +1,5 @@
 -- A line as it is read, part by part.
-use Rattle.std.proofs.Common.{◌≡◌, ◌≢◌, ◌<◌, ◌≤◌, ◌+◌, ◌⊎◌, ℕ, Bool, true, false, List, [], ◌++◌, Option, None, Some, Result, Ok, Err, length, length-append, length-take-le, take, take_all, nat_lt, refl, sym, ap, subst, ◌∙◌, inl, inr, arith, append-nil, append_assoc, le_refl}
+use Rattle.std.proofs.Common.{◌≡◌, ◌≢◌, ◌<◌, ◌≤◌, ◌+◌, ◌⊎◌, ℕ, Bool, true, false, List, [], ◌++◌, Option, None, Some, Result, Ok, Err, length, length-append, length-take-le, take, take_all, nat_lt, refl, sym, ap, subst, ◌∙◌, inl, inr, arith, append-nil, append_assoc}
 use Rattle.std.proofs.lemmas.Bool.{cases_lt, lt-ltb, le-ltb, or_left}
 use Rattle.std.proofs.lemmas.Grind.{common_steps}
 use Rattle.std.proofs.lemmas.List.{take-append-le}
@@ -8,7 +8,6 @@ use Rattle.std.proofs.KnownBytes.{Consumes-nil, Consumes-trans, Consumes-kept}
 use Rattle.std.specs.Prelude.{◌||◌, IfOk, OnSome}
 use Rattle.std.specs.Io.KnownBytes.{Consumes, IsAtEnd, Keeps}
 use Rattle.tc_lines.specs.Reading.{IsOneLine, IsPartRead, IsLineRead, feed_of, nothing_yet}
-use Rattle.tc_lines.specs.declared.reading.LineRead.{LineRead}
 use Rattle.tc_lines.specs.declared.reading.Part.{Part}
 
 nothing-one : IsOneLine []
@@ -38,15 +37,6 @@ pub record IsLineSoFar (limit : ℕ) (old new : Option (List ℕ)) (kept : List 
   pub lost : Consumes old new line
   pub kept_is : kept ≡ take limit line
   pub over_is : over ≡ nat_lt limit (length line)
-
-pub none-so-far : (limit : ℕ) (a : Option (List ℕ)) (kept : List ℕ) → kept ≡ [] → IsLineSoFar limit a a kept false
-none-so-far limit a kept none = record {
-  line = [];
-  one = nothing-one;
-  lost = Consumes-nil a;
-  kept_is = none ∙ sym (take_all limit [] (omega arith));
-  over_is = sym (le-ltb limit 0 (omega arith));
-}
 
 kept-more : (limit : ℕ) (line kept octets : List ℕ) → kept ≡ take limit line → take limit (kept ++ octets) ≡ take limit (line ++ octets)
 kept-more limit line kept octets is = ap (λ l. take limit (l ++ octets)) is ∙ at (cases_lt limit (length line))

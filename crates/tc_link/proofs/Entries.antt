@@ -8,9 +8,9 @@ use Rattle.tc_link.specs.declared.window.Place.{Place}
 use Rattle.tc_link.specs.declared.window.Place.TheVariants.{Expected, Ahead, Behind, Outside}
 use Rattle.tc_link.specs.declared.farm.Report.{Report}
 use Rattle.tc_link.specs.declared.farm.State.{State}
-use Rattle.tc_link.specs.declared.farm.State.TheVariants.{S1, S2, S3}
+use Rattle.tc_link.specs.declared.farm.State.TheVariants.{S1, S2}
 use Rattle.tc_link.specs.Window.{place_of}
-use Rattle.tc_link.specs.Farm.{Row, E1, E2, E3, E4, E5, E6, E7, E8, E9, E10, row_at, frame_row, entry_at, entry}
+use Rattle.tc_link.specs.Farm.{Row, E1, E6, E7, E8, E9, E10, row_at, frame_row, entry_at, entry}
 
 -- E1 is met with room alone
 pub room-from_E1 : (width vr : ℕ) (kind : Kind) (room : Bool) → frame_row width vr kind room ≡ E1 → room ≡ true
@@ -21,43 +21,14 @@ room-from_E1 width vr (Ad ns) room e = at (place_of width vr ns) room e where
   at Ahead room e = absurd cc
   at Behind room e = absurd cc
   at Outside room e = absurd cc
-room-from_E1 width vr Bd room e = absurd cc
 room-from_E1 width vr (Bc Unlock) room e = absurd cc
-room-from_E1 width vr (Bc (SetVr x)) room e = absurd cc
-room-from_E1 width vr Invalid room e = absurd cc
+room-from_E1 width vr _ room e = absurd cc
 
 -- each row but E1 has an entry in S2
 pub enters : (row : Row) (st : State) (r : Report) → (st ≡ S2 → row ≢ E1) → IsSome (entry_at row st r)
 enters E1 S2 r h = absurd (h refl refl)
-enters E1 S1 r h = refl
-enters E1 S3 r h = refl
-enters E2 S1 r h = refl
-enters E2 S2 r h = refl
-enters E2 S3 r h = refl
-enters E3 S1 r h = refl
-enters E3 S2 r h = refl
-enters E3 S3 r h = refl
-enters E4 S1 r h = refl
-enters E4 S2 r h = refl
-enters E4 S3 r h = refl
-enters E5 S1 r h = refl
-enters E5 S2 r h = refl
-enters E5 S3 r h = refl
-enters E6 S1 r h = refl
-enters E6 S2 r h = refl
-enters E6 S3 r h = refl
-enters E7 S1 r h = refl
-enters E7 S2 r h = refl
-enters E7 S3 r h = refl
-enters (E8 x) S1 r h = refl
-enters (E8 x) S2 r h = refl
-enters (E8 x) S3 r h = refl
-enters E9 S1 r h = refl
-enters E9 S2 r h = refl
-enters E9 S3 r h = refl
-enters E10 S1 r h = refl
-enters E10 S2 r h = refl
-enters E10 S3 r h = refl
+enters row S1 r h = refl
+enters _ _ r h = refl
 
 pub frame-enters : (width : ℕ) (r : Report) (kind : Kind) (room : Bool) → ((ns : ℕ) → kind ≡ Ad ns → r.state ≡ S2 → room ≡ false)
     → IsSome (entry (frame_row width r.vr kind room) r)

@@ -14,14 +14,9 @@ framed (a ∷ b ∷ c ∷ d ∷ e ∷ []) field header five says version spare n
   header_bits = sym says;
   rest = refl;
 }
-framed [] field header five says version spare named least most each = absurd (omega arith)
-framed (a ∷ []) field header five says version spare named least most each = absurd (omega arith)
-framed (a ∷ b ∷ []) field header five says version spare named least most each = absurd (omega arith)
-framed (a ∷ b ∷ c ∷ []) field header five says version spare named least most each = absurd (omega arith)
-framed (a ∷ b ∷ c ∷ d ∷ []) field header five says version spare named least most each = absurd (omega arith)
-framed (a ∷ b ∷ c ∷ d ∷ e ∷ f ∷ more) field header five says version spare named least most each = absurd (omega arith)
+framed _ field header five says version spare named least most each = absurd (omega arith)
 
-octets-cons : (x : ℕ) (xs : List ℕ) → x < 256 → IsOctets xs → IsOctets (x ∷ xs)
+pub octets-cons : (x : ℕ) (xs : List ℕ) → x < 256 → IsOctets xs → IsOctets (x ∷ xs)
 octets-cons x xs fits each zero = fits
 octets-cons x xs fits each (suc i) = each i
 
@@ -46,16 +41,14 @@ first_of bypass control scid = bit bypass * 8192 + bit control * 4096 + scid
 first-fits : (bypass control : Bool) (scid : ℕ) → scid < 1024 → first_of bypass control scid < 16384
 unfolding first_of
 first-fits true true scid fits = omega arith
-first-fits true false scid fits = omega arith
 first-fits false true scid fits = omega arith
-first-fits false false scid fits = omega arith
+first-fits _ _ scid fits = omega arith
 
 spare-none : (bypass control : Bool) (scid : ℕ) → scid < 1024 → first_of bypass control scid / 1024 % 4 ≡ 0
 unfolding first_of
 spare-none true true scid fits = omega arith
-spare-none true false scid fits = omega arith
 spare-none false true scid fits = omega arith
-spare-none false false scid fits = omega arith
+spare-none _ _ scid fits = omega arith
 
 says : (bypass control : Bool) (scid vcid ns m : ℕ) → scid < 1024 → vcid < 64 → m < 1024
     → header_of (octets_of (first_of bypass control scid) (vcid * 1024 + m) ns) ≡ record { bypass = bypass; control = control; scid = scid; vcid = vcid; ns = ns }

@@ -5,7 +5,7 @@ use Rattle.std.proofs.Math.ListN.{set, get_or-map}
 use Rattle.std.proofs.lemmas.Bool.{cases_eq, cases_lt, leb-true}
 use Rattle.std.proofs.lemmas.List.{length-map, length-set, length-replicate, map-set, get_or-replicate, get_or-set_same, get_or-set_other, get_or_default, get_or_past, set-get_or}
 use Rattle.tc_packet.specs.declared.segment.Part.{Part}
-use Rattle.tc_packet.specs.declared.segment.Part.TheVariants.{First, Continuing, Last, Unsegmented}
+use Rattle.tc_packet.specs.declared.segment.Part.TheVariants.{First, Continuing}
 use Rattle.tc_packet.specs.Segment.{header_of, body_of}
 use Rattle.tc_packet.specs.Reassembly.{AreOpenRuns, IsWithinLimit, OpenRuns, bounded, extended, open_run, run_at, run_left}
 use Rattle.tc_packet.specs.Runs.{next_run, octets_in, runs_of}
@@ -34,8 +34,7 @@ extended-within (Some octets) body = bounded-within (octets ++ body)
 next_run-within : (part : Part) (run : Option (List ℕ)) (body : List ℕ) → IsWithinLimit (next_run part run body)
 next_run-within First run body = bounded-within body
 next_run-within Continuing run body = extended-within run body
-next_run-within Last run body = tt
-next_run-within Unsegmented run body = tt
+next_run-within _ run body = tt
 
 -- a run that went on, or stayed where memory was wanting, is within the limit
 pub went_on-within : {T E : Type 0} (result : Result T E) (part : Part) (body : List ℕ) (old new : Option (List ℕ))

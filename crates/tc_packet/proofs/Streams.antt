@@ -16,15 +16,11 @@ Split = List ℕ × List (List ℕ)
 
 first-part : (part : Part) → is_first part ≡ true → part ≡ First
 first-part First h = refl
-first-part Continuing h = cc
-first-part Last h = cc
-first-part Unsegmented h = cc
+first-part _ h = cc
 
 continuing-part : (part : Part) → is_continuing part ≡ true → part ≡ Continuing
-continuing-part First h = cc
 continuing-part Continuing h = refl
-continuing-part Last h = cc
-continuing-part Unsegmented h = cc
+continuing-part _ h = cc
 
 -- a test of each field, and the fact of each
 each-continues : (fs : List (List ℕ)) → all_continue fs ≡ true → AllByRecursion (IsPart Continuing) fs
@@ -101,10 +97,9 @@ unit-is fields field octets h = by (header_of field).part refl h where
       inr (record { run = run; opened = open-is fields run e; closes = part; joins = b.0; limit = b.1 })
 
   by : (part : Part) → (header_of field).part ≡ part → ended_by part (open_run fields) (body_of field) ≡ Some octets → IsUnit fields field octets
-  by First e h = cc
-  by Continuing e h = cc
   by Last e h = last (open_run fields) refl e h
   by Unsegmented e h = let b = some-bounded (body_of field) octets h in inl (record { whole = e; joins = b.0; limit = b.1 })
+  by _ e h = cc
 
 pub is-unit : (fields : List (List ℕ)) (field octets : List ℕ) → IsUnit fields field octets → unit_at fields field ≡ Some octets
 is-unit fields field octets (inl unit) = rw (unit.whole, ← unit.joins) (bounded-some octets unit.limit)

@@ -1,9 +1,9 @@
 -- Runs and units within a limit that is not over the largest unit.
-use Rattle.std.proofs.Common.{◌≡◌, ℕ, ◌<◌, ◌≤◌, Bool, true, false, leb, List, ◌++◌, ◌-◌, length, Option, Some, None, refl, sym, ◌∙◌, arith}
+use Rattle.std.proofs.Common.{◌≡◌, ℕ, ◌<◌, ◌≤◌, Bool, true, false, leb, List, ◌++◌, length, Option, Some, None, refl, sym, ◌∙◌, arith}
 use Rattle.std.proofs.lemmas.Bool.{le-leb, lt-leb, leb-true, leb-false}
 use Rattle.std.proofs.lemmas.List.{length-append}
 use Rattle.tc_packet.specs.declared.segment.Part.{Part}
-use Rattle.tc_packet.specs.declared.segment.Part.TheVariants.{First, Continuing, Last, Unsegmented}
+use Rattle.tc_packet.specs.declared.segment.Part.TheVariants.{Continuing, Last}
 use Rattle.tc_packet.specs.Reassembly.{at_most, bounded, extended, ended_by}
 use Rattle.tc_packet.specs.Runs.{next_run}
 use Rattle.tc_rooms.specs.Runs.{IsAtMost}
@@ -42,22 +42,12 @@ at_most-extended n (Some octets) body small = by (leb (length octets) n) refl wh
 
 -- a run that was left by its limit goes on as it would without
 pub next-at_most : (n : ℕ) (part : Part) (run : Option (List ℕ)) (body : List ℕ) → n ≤ 65542 → at_most n (next_run part (at_most n run) body) ≡ at_most n (next_run part run body)
-next-at_most n First run body small = refl
 next-at_most n Continuing run body small = at_most-extended n run body small
-next-at_most n Last run body small = refl
-next-at_most n Unsegmented run body small = refl
+next-at_most n _ run body small = refl
 
 pub ended-at_most : (n : ℕ) (part : Part) (run : Option (List ℕ)) (body : List ℕ) → n ≤ 65542 → at_most n (ended_by part (at_most n run) body) ≡ at_most n (ended_by part run body)
-ended-at_most n First run body small = refl
-ended-at_most n Continuing run body small = refl
 ended-at_most n Last run body small = at_most-extended n run body small
-ended-at_most n Unsegmented run body small = refl
-
--- one more body in a room
-pub grown : (n : ℕ) (octets body : List ℕ) → n ≤ 65542 → length octets ≤ n → length body ≤ n - length octets → at_most n (extended (Some octets) body) ≡ Some (octets ++ body)
-grown n octets body small within fits =
-    let l = length-append octets body in
-    at_most-bounded n (octets ++ body) small ∙ at_most-some n (octets ++ body) (omega arith)
+ended-at_most n _ run body small = refl
 
 pub opened : (n : ℕ) (body : List ℕ) → n ≤ 65542 → length body ≤ n → at_most n (bounded body) ≡ Some body
 opened n body small fits = at_most-bounded n body small ∙ at_most-some n body fits

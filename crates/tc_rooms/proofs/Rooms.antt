@@ -1,10 +1,10 @@
 -- The rooms of runs, read and written at one place.
-use Rattle.std.proofs.Common.{◌≡◌, ◌≢◌, ℕ, zero, suc, ◌<◌, ◌≤◌, true, false, get_or, drop, subst, List, [], ◌∷◌, ◌++◌, length, map, Option, Some, None, refl, sym, ap, ◌∙◌, arith}
+use Rattle.std.proofs.Common.{◌≡◌, ◌≢◌, ℕ, zero, suc, ◌<◌, ◌≤◌, true, get_or, drop, subst, List, [], ◌∷◌, ◌++◌, length, map, Option, Some, None, refl, sym, ap, ◌∙◌, arith}
 use Rattle.std.specs.Prelude.{set, slice_get, option_map, if◌then◌else◌}
 use Rattle.std.proofs.lemmas.List.{length-map, map-set, get_or-map, get_or-set_same, get_or-set_other, set-get_or}
 use Rattle.tc_packet.specs.declared.segment.Part.{Part}
 use Rattle.tc_packet.specs.Segment.{header_of, body_of}
-use Rattle.tc_packet.specs.Reassembly.{at_most, bounded, run_at, run_left, open_run, unit_at, unit_ended, ended_by}
+use Rattle.tc_packet.specs.Reassembly.{at_most, run_at, run_left, open_run, unit_at, unit_ended, ended_by}
 use Rattle.tc_packet.specs.Runs.{next_run}
 use Rattle.tc_rooms.specs.Rooms.{Laid}
 use Rattle.tc_rooms.specs.OpenRun.{OpenRun, open_in, closed}
@@ -39,11 +39,9 @@ here (r ∷ runs) zero next inside = refl
 here (r ∷ runs) (suc i) next inside = here runs i next (omega arith)
 
 pub elsewhere : (runs : List OpenRun) (i other : ℕ) (next : OpenRun) → other ≢ i → slice_get (set runs i next) other ≡ slice_get runs other
-elsewhere [] i other next apart = refl
 elsewhere (r ∷ runs) zero zero next apart = absurd (apart refl)
-elsewhere (r ∷ runs) zero (suc other) next apart = refl
-elsewhere (r ∷ runs) (suc i) zero next apart = refl
 elsewhere (r ∷ runs) (suc i) (suc other) next apart = elsewhere runs i other next (λ e. apart (ap suc e))
+elsewhere _ _ _ next apart = refl
 
 -- what one more field leaves of a stream, as the law of tc_packet says it
 abbrev pub MovesOn : Type 0
@@ -69,20 +67,17 @@ with_run store i next = record store { runs = set store.runs i next }
 
 -- what is told of the unit is what lies there
 told-there : (store : Store) (i : ℕ) (next : OpenRun) (t : Told) (field : List ℕ) → i < length store.runs → unit_in (ended_by_stream t i) (with_run store i next) field ≡ told t next (drop 1 field)
-told-there store i next tolds.Nothing field inside = refl
-told-there store i next tolds.Body field inside = refl
 told-there store i next tolds.Whole field inside = ap (option_map (λ (r : OpenRun). r.room.octets)) (here store.runs i next inside)
+told-there store i next _ field inside = refl
 
 -- a run that is behind its segment has the same room
 behind-room : (t : Told) (next : OpenRun) → (behind t next).room ≡ next.room
 behind-room tolds.Nothing next = refl
-behind-room tolds.Body next = refl
-behind-room tolds.Whole next = refl
+behind-room _ next = refl
 
 over-written : (runs : List OpenRun) (i : ℕ) (next : OpenRun) → i < length runs → over_at i (set runs i next) ≡ set runs i (closed next)
-over-written [] i next inside = refl
-over-written (r ∷ runs) zero next inside = refl
 over-written (r ∷ runs) (suc i) next inside = ap (λ (xs : List OpenRun). r ∷ xs) (over-written runs i next (omega arith))
+over-written _ _ next inside = refl
 
 -- a run that is over
 pub closed-set : (runs : List OpenRun) (i : ℕ) (run : OpenRun) → i < length runs → run ≡ get_or runs i run → set runs i (closed run) ≡ over_at i runs
@@ -103,16 +98,13 @@ settled-is store i next tolds.Whole inside = ap (λ (xs : List OpenRun). record 
 
 -- a run that is over has the room of before
 over-sizes : (runs : List OpenRun) (i : ℕ) → sizes_of (over_at i runs) ≡ sizes_of runs
-over-sizes [] i = refl
-over-sizes (r ∷ runs) zero = refl
 over-sizes (r ∷ runs) (suc i) = ap (λ (xs : List ℕ). r.room.size ∷ xs) (over-sizes runs i)
+over-sizes _ _ = refl
 
 over-others : (runs : List OpenRun) (i other : ℕ) → other ≢ i → run_at (map open_in (over_at i runs)) other ≡ run_at (map open_in runs) other
-over-others [] i other apart = refl
 over-others (r ∷ runs) zero zero apart = absurd (apart refl)
-over-others (r ∷ runs) zero (suc other) apart = refl
-over-others (r ∷ runs) (suc i) zero apart = refl
 over-others (r ∷ runs) (suc i) (suc other) apart = over-others runs i other (λ e. apart (ap suc e))
+over-others _ _ _ apart = refl
 
 pub settled-limits : (store : Store) (e : Ended) (i place : ℕ) → limit_at (settled e i store) place ≡ limit_at store place
 settled-limits store ends.Nothing i place = refl
@@ -126,8 +118,7 @@ settled-others store (ends.Joined at) i other apart = over-others store.runs i o
 
 pub settled-segmented : (store : Store) (e : Ended) (i : ℕ) → (settled e i store).segmented ≡ store.segmented
 settled-segmented store ends.Nothing i = refl
-settled-segmented store (ends.Lying from) i = refl
-settled-segmented store (ends.Joined at) i = refl
+settled-segmented store _ i = refl
 
 -- the place of a segment with this header, and what it did to the run there
 pub record IsPassed (store : Store) (i place : ℕ) (part : Part) (field body : List ℕ) : Type 0 where
@@ -198,11 +189,3 @@ written-others store i place other later w at apart = ap (λ (xs : List OpenRun)
 
 pub written-rooms : (store : Store) (i place other : ℕ) (later : List OpenRun) → IsWritten i store.runs later → i ≡ place → (other ≡ place → ⊥) → slice_get later other ≡ slice_get store.runs other
 written-rooms store i place other later w at apart = ap (λ (xs : List OpenRun). slice_get xs other) w.is ∙ elsewhere store.runs i other w.next (λ e. apart (e ∙ at))
-
-pub written-limits : (store : Store) (i : ℕ) (later : List OpenRun) (q : ℕ) → IsWritten i store.runs later → limit_at (record store { runs = later }) q ≡ limit_at store q
-written-limits store i later q w = ap (λ (x : List ℕ). if store.segmented then get_or x q 0 else store.plain_limit) w.sizes
-
--- where fields have no segment header
-pub plain-unit : (store : Store) (e : Ended) (limit place : ℕ) (fields : List (List ℕ)) (field : List ℕ) → store.segmented ≡ false → limit ≡ store.plain_limit → unit_in e store field ≡ at_most limit (bounded field)
-    → unit_in e store field ≡ at_most (limit_at store place) (unit_ended store.segmented fields field)
-plain-unit store e limit place fields field off is unit = unit ∙ rw (off, is) refl

@@ -17,20 +17,15 @@ size-set n i [] x all one = tt
 size-set n zero (r ∷ rooms) x all one = (one, all.1)
 size-set n (suc i) (r ∷ rooms) x all one = (all.0, size-set n i rooms x all.1 one)
 
-pub size-push : (n : ℕ) (rooms : List Laid) (x : Laid) → HaveSize n rooms → x.size ≡ n → HaveSize n (rooms ++ x ∷ [])
-size-push n [] x all one = (one, tt)
-size-push n (r ∷ rooms) x all one = (all.0, size-push n rooms x all.1 one)
-
 -- the ring
 
 pub length-turned : (first : ℕ) (rooms : List Laid) → length (turned first rooms) ≡ length rooms
 length-turned first rooms = omega (arith, length-append (drop first rooms) (take first rooms), length-drop first rooms, length-take first rooms)
 
 take-of-set : (n i : ℕ) (xs : List Laid) (x : Laid) → take n (set xs i x) ≡ set (take n xs) i x
-take-of-set zero i xs x = refl
 take-of-set (suc n) i [] x = refl
-take-of-set (suc n) zero (y ∷ xs) x = refl
 take-of-set (suc n) (suc i) (y ∷ xs) x = ap (λ (ys : List Laid). y ∷ ys) (take-of-set n i xs x)
+take-of-set _ _ _ x = refl
 
 -- a room that is written so many places behind the first one
 pub turned-set : (first count places : ℕ) (rooms : List Laid) (x : Laid) → length rooms ≡ places → first < places → count < places

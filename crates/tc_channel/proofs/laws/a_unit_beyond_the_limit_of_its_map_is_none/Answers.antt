@@ -1,5 +1,4 @@
-use Rattle.tc_channel.specs.ChannelState.{no_limits}
-use Rattle.tc_channel.specs.Run.{run, run_within}
+use Rattle.tc_channel.proofs.Names.{no_limits, run, run_within}
 use Rattle.tc_channel.proofs.Plain.{run-limit}
 use Rattle.tc_channel.proofs.Limits.{limited-unit, unlimited-unit}
 use Rattle.tc_channel.proofs.laws.a_unit_beyond_the_limit_of_its_map_is_none.Goals as goal

@@ -7,7 +7,7 @@ use Rattle.tc_channel.specs.declared.settings.Settings.{Settings}
 use Rattle.tc_channel.specs.declared.settings.SettingsFault.TheVariants as settings_faults
 use Rattle.tc_channel.specs.Settings.{IsAllowed, IsFault as IsFaultOfSettings, faults_in_order as settings_faults_in_order}
 use Rattle.tc_channel.specs.Examples.{channel_of, two_maps}
-use Rattle.tc_channel.proofs.Refused.{both, first-not, two-apart, not-two-apart, first-of as first-of-settings}
+use Rattle.tc_channel.proofs.Faults.{both, first-not, two-apart, not-two-apart, first-of as first-of-settings}
 use Rattle.tc_fixed.specs.declared.limits.Limits.{Limits}
 use Rattle.tc_fixed.specs.declared.limits.LimitsFault.{LimitsFault}
 use Rattle.tc_fixed.specs.declared.limits.LimitsFault.TheVariants as faults

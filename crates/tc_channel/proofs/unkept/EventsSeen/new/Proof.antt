@@ -1,16 +1,5 @@
 -- A value without an octet is made, and its events are the empty list.
-use Rattle.std.proofs.Common.{[], ◌∷◌, refl}
-use Rattle.std.proofs.raw_atomic.Walks.{proved}
-use base.Fml.{ftrue}
-use mir.Val.{vstruct, vnil}
-use types.Kit.{‵, raw, ◌⊛◌, ◌$◌, ◌∵◌, !, qed, done, move, keep, split, suffices}
-use types.Run.{enter, no_more, returns}
-use types.Part.{agg}
-use types.ByLocal.{alloc_all, pass_all, free_all, look_at, sets}
-use denote.RattleType.{owns}
-use denote.Shadow.{pure_i}
-use denote.Triple.Entry.{alive}
-use denote.Triple.Walked.{says, Stays, walk_of, ends_at}
+use Rattle.tc_channel.proofs.Walking.{[], ◌∷◌, refl, proved, ftrue, vstruct, vnil, ‵, raw, ◌⊛◌, ◌$◌, ◌∵◌, !, qed, done, move, keep, split, suffices, enter, no_more, returns, agg, alloc_all, pass_all, free_all, look_at, sets, owns, pure_i, alive, says, Stays, walk_of, ends_at}
 use Rattle.tc_channel.specs.contracts.unkept.EventsSeen.new as f
 use Rattle.tc_channel.specs.contracts.unkept.EventsSeen.{the_row as row}
 use Rattle.tc_channel.proofs.unkept.EventsSeen.new.Statement.{statement}

@@ -1,20 +1,6 @@
 -- The body is empty: the borrow is opened, and closed at a list that is one event longer.
-use Rattle.std.proofs.Common.{[], ◌∷◌, ◌++◌, refl}
-use Rattle.std.proofs.raw_atomic.Walks.{proved}
+use Rattle.tc_channel.proofs.Walking.{[], ◌∷◌, ◌++◌, refl, proved, ftrue, flft, named, vunit, ‵, ◌⊛◌, ◌$◌, ◌∵◌, !, qed, done, move, keep, use1, split, join, fsplit, fsplit3, feq_i, suffices, frame, group, enter, of_opd, unit_lit, returns, alloc_all, pass_all, free_all, look_at, sets, mut_vals, mut_Tells, shr_vals, shr_Tells, plain, types_at, named_lft, owns, yes, RefOf, nothing, opens, closes, Stays, walk_of, says, stay_ref, Goes-ref, stay_dropped, Goes-dropped, ends_at}
 use base.Logic.{id⊢}
-use base.Fml.{ftrue, flft}
-use mir.Syntax.{named}
-use mir.Val.{vunit}
-use types.Kit.{‵, ◌⊛◌, ◌$◌, ◌∵◌, !, qed, done, move, keep, use1, split, join, fsplit, fsplit3, feq_i, suffices, frame, group}
-use types.Run.{enter, of_opd, unit_lit, returns}
-use types.ByLocal.{alloc_all, pass_all, free_all, look_at, sets}
-use denote.Ref.{mut_vals, mut_Tells, shr_vals, shr_Tells}
-use denote.Signature.{plain, types_at, named_lft}
-use denote.RattleType.{owns}
-use denote.Exit.{yes}
-use denote.Builtin.{RefOf}
-use denote.Steps.{nothing, opens, closes}
-use denote.Triple.Walked.{Stays, walk_of, says, stay_ref, Goes-ref, stay_dropped, Goes-dropped, ends_at}
 use Rattle.tc_channel.specs.Journal.{event_of}
 use Rattle.tc_channel.specs.contracts.unkept.EventsSeen.note as f
 use Rattle.tc_channel.specs.contracts.unkept.EventsSeen.{the_row as row}

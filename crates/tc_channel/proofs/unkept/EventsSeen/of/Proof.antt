@@ -1,22 +1,5 @@
 -- A value without an octet is made, at the events that the reference shows.
-use Rattle.std.proofs.Common.{[], ◌∷◌, refl}
-use Rattle.std.proofs.raw_atomic.Walks.{proved}
-use base.Fml.{ftrue}
-use mir.Syntax.{named}
-use mir.Val.{vstruct, vnil}
-use types.Kit.{‵, raw, ◌⊛◌, ◌$◌, ◌∵◌, !, qed, done, move, keep, split, fjoin, suffices}
-use types.Run.{enter, no_more, returns}
-use types.Part.{agg}
-use types.ByLocal.{alloc_all, pass_all, free_all, look_at, sets}
-use denote.RattleType.{owns}
-use denote.Shadow.{pure_i}
-use denote.Exit.{yes}
-use denote.Builtin.{RefOf}
-use denote.Ref.{shr_vals, shr_Tells}
-use denote.Signature.{plain, types_at}
-use denote.Steps.{nothing}
-use denote.Triple.Entry.{alive}
-use denote.Triple.Walked.{says, Stays, walk_of, ends_at, stay_dropped, Goes-dropped}
+use Rattle.tc_channel.proofs.Walking.{[], ◌∷◌, refl, proved, ftrue, named, vstruct, vnil, ‵, raw, ◌⊛◌, ◌$◌, ◌∵◌, !, qed, done, move, keep, split, fjoin, suffices, enter, no_more, returns, agg, alloc_all, pass_all, free_all, look_at, sets, owns, pure_i, yes, RefOf, shr_vals, shr_Tells, plain, types_at, nothing, alive, says, Stays, walk_of, ends_at, stay_dropped, Goes-dropped}
 use Rattle.tc_channel.specs.contracts.unkept.EventsSeen.of as f
 use Rattle.tc_channel.specs.contracts.unkept.EventsSeen.{the_row as row}
 use Rattle.tc_channel.specs.contracts.kept.Kept.{the_row as kept_row}
