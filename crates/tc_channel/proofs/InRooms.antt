@@ -1,46 +1,36 @@
 -- Queues in rooms, read and written at one place.
-use Rattle.std.proofs.Common.{◌≡◌, ℕ, zero, suc, ◌+◌, ◌-◌, ◌<◌, ◌≤◌, Bool, List, [], ◌∷◌, ◌++◌, length, map, get_or, refl, sym, ap, subst, ◌∙◌, arith}
+use Rattle.std.proofs.Common.{◌≡◌, ℕ, zero, suc, ◌-◌, ◌<◌, ◌≤◌, Bool, true, false, List, [], ◌∷◌, ◌++◌, length, map, get_or, refl, sym, ap, subst, ◌∙◌, arith}
 use Rattle.std.specs.Prelude.{set}
 use Rattle.std.proofs.Math.Seq.{map-set_same}
 use Rattle.std.proofs.lemmas.List.{append-nil, append_assoc, length-append, length-map, map-set, get_or-map}
 use Rattle.circular_buffer.specs.Buffer.{buffer}
-use Rattle.tc_channel.specs.HeldQueues.{keys_of, room_in, longer, shorter, put, HeldQueue}
-use Rattle.tc_rooms.specs.Rooms.{slotted, IsLaidBehind}
+use Rattle.tc_channel.specs.HeldQueues.{keys_of, room_in, shorter, HeldQueue}
+use Rattle.tc_rooms.specs.Rooms.{Slotted, slotted, IsLaidBehind}
 use Rattle.tc_channel.specs.Keyed.{Keyed, ring_in, rings_in, laid_in, all_laid_in, room_sizes, Fit, AreSettled, let_go, IsPutBehind, settled}
 use Rattle.tc_channel.specs.Delivering.{room_at, IsPutAt}
 use Rattle.tc_channel.proofs.Copies.{put-set, longer-fits}
 
--- an item is laid behind those of a queue
-laid-one : (q next : Keyed) (p : List ℕ) → next.key ≡ q.key → next.slots ≡ slotted q.slots.ring.items q.slots.ring.capacity (q.slots.laid ++ p ∷ []) q.slots.size
-    → length q.slots.ring.items + length q.slots.laid < q.slots.ring.capacity → laid_in next ≡ longer (laid_in q) p
-laid-one q next p key slots room =
-    let l = length-append q.slots.ring.items q.slots.laid in
-    rw (key, slots, ← append_assoc q.slots.ring.items q.slots.laid (p ∷ [])) (sym (longer-fits (laid_in q) p (omega arith)))
-
-put-in : (qs : List Keyed) (i : ℕ) (q next : Keyed) (p : List ℕ) → i < length qs → q ≡ get_or qs i q → laid_in next ≡ longer (laid_in q) p → all_laid_in (set qs i next) ≡ put (all_laid_in qs) i p
-put-in qs i q next p inside is laid =
-    map-set laid_in qs i next ∙ ap (λ (x : HeldQueue). set (all_laid_in qs) i x) laid
-    ∙ put-set (all_laid_in qs) i (laid_in q) p (ap laid_in is ∙ sym (get_or-map laid_in qs i q (laid_in q) inside)) (omega (arith, length-map qs laid_in))
-
-room-is : (qs : List Keyed) (i : ℕ) (q : Keyed) → i < length qs → q ≡ get_or qs i q → room_at i (all_laid_in qs) ≡ q.slots.ring.capacity - (length q.slots.ring.items + length q.slots.laid)
-room-is qs i q inside is =
-    get_or-map room_in (all_laid_in qs) i (laid_in q) 0 (omega (arith, length-map qs laid_in))
-    ∙ ap room_in (get_or-map laid_in qs i q (laid_in q) inside ∙ ap laid_in (sym is)) ∙ ap (λ (n : ℕ). q.slots.ring.capacity - n) (length-append q.slots.ring.items q.slots.laid)
-
-pub put-at : (qs : List Keyed) (i : ℕ) (q next : Keyed) (p : List ℕ) (place : Bool) → i < length qs → q ≡ get_or qs i q → next.key ≡ q.key → IsLaidBehind p q.slots next.slots place → IsPutAt i p (all_laid_in qs) (all_laid_in (set qs i next)) place
-put-at qs i q next p place inside is key laid = record {
+-- what is laid in the slots of a queue is laid in the queue
+pub laid-behind : (q : Keyed) (next : Slotted) (p : List ℕ) (place : Bool) → IsLaidBehind p q.slots next place → IsPutBehind p (laid_in q) (laid_in (record { key = q.key; slots = next })) place
+laid-behind q next p place laid = record {
   done = λ yes.
       let d = laid.done yes in
-      let room = room-is qs i q inside is in
-      let fits = d.1 in
-      (put-in qs i q next p inside is (laid-one q next p key d.0 fits), omega arith);
+      let room = d.1 in
+      let l = length-append q.slots.ring.items q.slots.laid in
+      (rw d.0 (ap (λ (xs : List (List ℕ)). record { key = q.key; ring = buffer xs q.slots.ring.capacity }) (sym (append_assoc q.slots.ring.items q.slots.laid (p ∷ [])))), omega arith);
   full = λ no.
       let f = laid.full no in
-      let room = room-is qs i q inside is in
-      let none = f.1 in
-      let same : laid_in next ≡ laid_in (get_or qs i q) = rw (key, f.0) (ap laid_in is) in
-      (map-set_same laid_in qs i next q same, room ∙ (let e : q.slots.ring.capacity - (length q.slots.ring.items + length q.slots.laid) ≡ 0 = omega arith in e));
+      let room = f.1 in
+      let l = length-append q.slots.ring.items q.slots.laid in
+      (rw f.0 refl, omega arith);
 }
+
+-- and so it is once it counts
+pub counted-behind : (q : Keyed) (mid next : Slotted) (p : List ℕ) (place : Bool) → next ≡ slotted (mid.ring.items ++ mid.laid) mid.ring.capacity [] mid.size → IsLaidBehind p q.slots mid place
+    → IsPutBehind p (laid_in q) (laid_in (record { key = q.key; slots = next })) place
+counted-behind q mid next p place is laid =
+    let same : laid_in (record { key = q.key; slots = next }) ≡ laid_in (record { key = q.key; slots = mid }) = rw is (ap (λ (xs : List (List ℕ)). record { key = q.key; ring = buffer xs mid.ring.capacity }) (append-nil (mid.ring.items ++ mid.laid))) in
+    rw same (laid-behind q mid p place laid)
 
 -- what waits is the same
 pub same-rings : (qs : List Keyed) (i : ℕ) (q next : Keyed) → q ≡ get_or qs i q → next.key ≡ q.key → next.slots.ring ≡ q.slots.ring → rings_in (set qs i next) ≡ rings_in qs
@@ -86,12 +76,12 @@ all-let_go [] = tt
 all-let_go (q ∷ qs) = (refl, all-let_go qs)
 
 -- where nothing is laid, what waits is all
+laid-one : (q : Keyed) → q.slots.laid ≡ [] → laid_in q ≡ ring_in q
+laid-one q none = ap (λ (xs : List (List ℕ)). record { key = q.key; ring = buffer xs q.slots.ring.capacity }) (rw none (append-nil q.slots.ring.items))
+
 pub laid-none : (qs : List Keyed) → AreSettled qs → all_laid_in qs ≡ rings_in qs
 laid-none [] all = refl
-laid-none (q ∷ qs) all =
-    let whole : q.slots.ring.items ++ q.slots.laid ≡ q.slots.ring.items = rw all.0 (append-nil q.slots.ring.items) in
-    let one : laid_in q ≡ ring_in q = ap (λ (xs : List (List ℕ)). record { key = q.key; ring = buffer xs q.slots.ring.capacity }) whole in
-    ap (λ (x : HeldQueue). x ∷ all_laid_in qs) one ∙ ap (λ (x : List HeldQueue). ring_in q ∷ x) (laid-none qs all.1)
+laid-none (q ∷ qs) all = ap (λ (x : HeldQueue). x ∷ all_laid_in qs) (laid-one q all.0) ∙ ap (λ (x : List HeldQueue). ring_in q ∷ x) (laid-none qs all.1)
 
 -- the keys with what is laid and without
 pub same-keys : (qs : List Keyed) → keys_of (all_laid_in qs) ≡ keys_of (rings_in qs)
@@ -110,45 +100,30 @@ settled-set [] i q next all inside is same = absurd (omega arith)
 settled-set (r ∷ qs) zero q next all inside is same = (same ∙ ap (λ (x : Keyed). x.slots.laid) is ∙ all.0, all.1)
 settled-set (r ∷ qs) (suc i) q next all inside is same = (all.0, settled-set qs i q next all.1 (omega arith) is same)
 
+-- what can't be without memory grows
+pub grows-of : (grows : Bool) → (grows ≡ false → ⊥) → grows ≡ true
+grows-of true not = refl
+grows-of false not = absurd (not refl)
+
 -- an item is put behind those of a queue where nothing is laid
-pub put-behind : (q mid next : Keyed) (p : List ℕ) (place : Bool) → q.slots.laid ≡ [] → IsLaidBehind p q.slots mid.slots place → mid.key ≡ q.key → next ≡ settled mid → IsPutBehind p (ring_in q) (ring_in next) place
-put-behind q mid next p place none laid key next_is = record {
-  done = λ yes.
-      let d = laid.done yes in
-      let room = d.1 in
-      let long : length (q.slots.ring.items ++ q.slots.laid) ≡ length q.slots.ring.items = ap length (rw none (append-nil q.slots.ring.items)) in
-      let l = length-append q.slots.ring.items q.slots.laid in
-      (rw (next_is, key, d.0, none) refl, omega arith);
-  full = λ no.
-      let f = laid.full no in
-      let room = f.1 in
-      let whole : q.slots.ring.items ++ q.slots.laid ≡ q.slots.ring.items = rw none (append-nil q.slots.ring.items) in
-      let l = length-append q.slots.ring.items q.slots.laid in
-      let long : length (q.slots.ring.items ++ q.slots.laid) ≡ length q.slots.ring.items = ap length whole in
-      (rw (next_is, key, f.0) (ap (λ (xs : List (List ℕ)). record { key = q.key; ring = buffer xs q.slots.ring.capacity }) whole), omega arith);
-}
+pub put-behind : (q mid next : Keyed) (p : List ℕ) (place : Bool) → q.slots.laid ≡ [] → IsPutBehind p (laid_in q) (laid_in mid) place → next ≡ settled mid → IsPutBehind p (ring_in q) (ring_in next) place
+put-behind q mid next p place none laid is = rw is (rw (laid-one q none) at laid)
 
-ring-at : (qs : List Keyed) (i : ℕ) (q : Keyed) → i < length qs → q ≡ get_or qs i q → ring_in q ≡ get_or (rings_in qs) i (ring_in q)
-ring-at qs i q inside is = ap ring_in is ∙ sym (get_or-map ring_in qs i q (ring_in q) inside)
-
-pub put-in-rings : (qs : List Keyed) (i : ℕ) (q next : Keyed) (p : List ℕ) (place : Bool) → i < length qs → q ≡ get_or qs i q → IsPutBehind p (ring_in q) (ring_in next) place → IsPutAt i p (rings_in qs) (rings_in (set qs i next)) place
-put-in-rings qs i q next p place inside is behind = record {
-  done = λ yes.
-      let d = behind.done yes in
-      let fits = d.1 in
-      let room = ring-room qs i q inside is in (
-        map-set ring_in qs i next ∙ ap (λ (x : HeldQueue). set (rings_in qs) i x) (d.0 ∙ sym (longer-fits (ring_in q) p fits))
-            ∙ put-set (rings_in qs) i (ring_in q) p (ring-at qs i q inside is) (omega (arith, length-map qs ring_in)),
-        omega arith,
-      );
-  full = λ no.
-      let f = behind.full no in
-      let full = f.1 in
-      let room = ring-room qs i q inside is in
-      (map-set_same ring_in qs i next q (f.0 ∙ ap ring_in is), omega arith);
-} where
-  ring-room : (qs : List Keyed) (i : ℕ) (q : Keyed) → i < length qs → q ≡ get_or qs i q → room_at i (rings_in qs) ≡ q.slots.ring.capacity - length q.slots.ring.items
-  ring-room qs i q inside is = get_or-map room_in (rings_in qs) i (ring_in q) 0 (omega (arith, length-map qs ring_in)) ∙ ap room_in (sym (ring-at qs i q inside is))
+-- an item that is put into the queue at a place is put there, with what is laid and without
+pub put-in : (f : Keyed → HeldQueue) (qs : List Keyed) (i : ℕ) (q next : Keyed) (p : List ℕ) (place : Bool) → i < length qs → q ≡ get_or qs i q → IsPutBehind p (f q) (f next) place → IsPutAt i p (map f qs) (map f (set qs i next)) place
+put-in f qs i q next p place inside is behind =
+    let here : f q ≡ get_or (map f qs) i (f q) = ap f is ∙ sym (get_or-map f qs i q (f q) inside) in
+    let room : room_at i (map f qs) ≡ (f q).ring.capacity - length (f q).ring.items = get_or-map room_in (map f qs) i (f q) 0 (omega (arith, length-map qs f)) ∙ ap room_in (sym here) in
+    record {
+      done = λ yes.
+          let d = behind.done yes in
+          let fits = d.1 in
+          (map-set f qs i next ∙ ap (λ (x : HeldQueue). set (map f qs) i x) (d.0 ∙ sym (longer-fits (f q) p fits)) ∙ put-set (map f qs) i (f q) p here (omega (arith, length-map qs f)), omega arith);
+      full = λ no.
+          let n = behind.full no in
+          let full = n.1 in
+          (map-set_same f qs i next q (n.0 ∙ ap f is), omega arith);
+    }
 
 -- what is written at one place has nothing laid behind it
 pub settled-at : (qs : List Keyed) (i : ℕ) (next : Keyed) → AreSettled qs → next.slots.laid ≡ [] → AreSettled (set qs i next)

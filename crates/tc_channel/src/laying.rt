@@ -21,7 +21,8 @@ use std::sync::ledger::Ledger;
 use tc_packet::{LARGEST_UNIT, Packet, each_unit_has_one_cut, next_packet};
 use tc_rooms::Room;
 
-// Lays an item behind the others of the queue at this place, where there is room, and says whether there was.
+// Lays an item behind the others of the queue at this place, where there is room, and says whether there was. It counts at once where
+// no memory can be refused.
 #[inline(always)]
 fn put_at<R: Room>(
     queues: &mut BoxedSlice<Queue<R>>,
@@ -33,7 +34,9 @@ fn put_at<R: Room>(
     ensures among { (key : ℕ) (packets : List (List ℕ)) → key ≡ get_or (keys_of (rings_in (boxed_slice_items queues.old))) place key → IsAmong key packets
         → AreLaidOf packets (boxed_slice_items queues.old) → AreLaidOf packets (boxed_slice_items queues.new) }
     ensures put { IfOk result (IsPutAt place octets.now (all_laid_in (boxed_slice_items queues.old)) (all_laid_in (boxed_slice_items queues.new))) }
-    ensures rings { rings_in (boxed_slice_items queues.new) ≡ rings_in (boxed_slice_items queues.old) }
+    ensures rings { R.grows ≡ true → rings_in (boxed_slice_items queues.new) ≡ rings_in (boxed_slice_items queues.old) }
+    ensures keys { keys_of (rings_in (boxed_slice_items queues.new)) ≡ keys_of (rings_in (boxed_slice_items queues.old)) }
+    ensures settled { R.grows ≡ false → AreSettled (boxed_slice_items queues.old) → AreSettled (boxed_slice_items queues.new) }
     ensures sizes { room_sizes (boxed_slice_items queues.new) ≡ room_sizes (boxed_slice_items queues.old) }
     ensures answered { R.grows ≡ false → IsOk result }
 {
@@ -58,7 +61,9 @@ fn put_packet<R: Room, L: Ledger>(
     ensures way { IfOk result (λ more. (base : List HeldQueue) (left all : List (List ℕ)) (n : ℕ)
         → IsOnItsWay base (packet.now.octets.now ∷ left) all n (all_laid_in (boxed_slice_items queues.old))
         → IsOnItsWay base left all (n + more) (all_laid_in (boxed_slice_items queues.new))) }
-    ensures rings { rings_in (boxed_slice_items queues.new) ≡ rings_in (boxed_slice_items queues.old) }
+    ensures rings { R.grows ≡ true → rings_in (boxed_slice_items queues.new) ≡ rings_in (boxed_slice_items queues.old) }
+    ensures keys { keys_of (rings_in (boxed_slice_items queues.new)) ≡ keys_of (rings_in (boxed_slice_items queues.old)) }
+    ensures settled { R.grows ≡ false → AreSettled (boxed_slice_items queues.old) → AreSettled (boxed_slice_items queues.new) }
     ensures one { IfOk result (λ more. more ≤ 1) }
     ensures sizes { room_sizes (boxed_slice_items queues.new) ≡ room_sizes (boxed_slice_items queues.old) }
     ensures answered { R.grows ≡ false → IsOk result }
@@ -93,7 +98,9 @@ pub(crate) fn put_packets<R: Room, L: Ledger>(
     ensures among { AreLaidOf (packets_of unit.now) (boxed_slice_items queues.new) }
     ensures put { IfOk result (ArePut unit.now (rings_in (boxed_slice_items queues.old)) (all_laid_in (boxed_slice_items queues.new))) }
     ensures few { IfOk result (λ delivery. delivery.queued ≤ length (packets_of unit.now)) }
-    ensures rings { rings_in (boxed_slice_items queues.new) ≡ rings_in (boxed_slice_items queues.old) }
+    ensures rings { R.grows ≡ true → rings_in (boxed_slice_items queues.new) ≡ rings_in (boxed_slice_items queues.old) }
+    ensures keys { keys_of (rings_in (boxed_slice_items queues.new)) ≡ keys_of (rings_in (boxed_slice_items queues.old)) }
+    ensures settled { R.grows ≡ false → AreSettled (boxed_slice_items queues.new) }
     ensures sizes { room_sizes (boxed_slice_items queues.new) ≡ room_sizes (boxed_slice_items queues.old) }
     ensures answered { R.grows ≡ false → IsOk result }
     ensures cost { steps.new ≤ steps.old + pass_steps (length (packets_of unit.now)) (looks (boxed_slice_items queues.old) table.now) }

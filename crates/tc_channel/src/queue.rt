@@ -1,8 +1,8 @@
 //! One queue in rooms.
 
-ghost use Rattle.std.specs.Prelude.{◌≡◌, ◌≤◌, [], length, drop, false, IfOk, IsOk, OnErr, None, slice_get, option_map};
-ghost use Rattle.tc_rooms.specs.Rooms.{slotted, IsLaidBehind};
-ghost use Rattle.tc_channel.specs.Keyed.{ring_in, settled, let_go as let_go_of, IsPutBehind};
+ghost use Rattle.std.specs.Prelude.{◌≡◌, ◌≤◌, [], length, drop, true, false, IfOk, IsOk, OnErr, None, slice_get, option_map};
+ghost use Rattle.tc_rooms.specs.Rooms.{slotted};
+ghost use Rattle.tc_channel.specs.Keyed.{ring_in, laid_in, settled, let_go as let_go_of, IsPutBehind};
 
 use std::alloc::{AllocError, Global};
 use std::marker::Model;
@@ -58,18 +58,25 @@ impl<R: Room> Queue<R> {
         self.slots.front()
     }
 
-    // Lays an item behind the others, where there is a place, and says whether there was.
+    // Lays an item behind the others, where there is a place, and says whether there was. It counts at once where no memory can be
+    // refused.
     #[inline(always)]
     pub(crate) fn lay(&mut self, octets: &[u8]) -> Result<bool, AllocError>
         requires { length octets.now ≤ self.old.slots.size }
-        ensures laid { IfOk result (IsLaidBehind octets.now self.old.slots self.new.slots) }
+        ensures laid { IfOk result (IsPutBehind octets.now (laid_in self.old) (laid_in self.new)) }
         ensures refused { OnErr result (self.new ≡ self.old) }
         ensures key { self.new.key ≡ self.old.key }
-        ensures ring { self.new.slots.ring ≡ self.old.slots.ring }
+        ensures ring { R.grows ≡ true → self.new.slots.ring ≡ self.old.slots.ring }
+        ensures settled { R.grows ≡ false → self.new.slots.laid ≡ [] }
         ensures size { self.new.slots.size ≡ self.old.slots.size }
         ensures answered { R.grows ≡ false → IsOk result }
     {
-        self.slots.lay(octets)
+        let put = self.slots.lay(octets)?;
+        if R::may_ask() {
+            return Ok(put);
+        }
+        self.slots.settle();
+        Ok(put)
     }
 
     // Puts an item behind the others, where there is a place, and says whether there was.

@@ -1,11 +1,11 @@
 //! What was laid in the queues counts, or is let go.
 
-ghost use Rattle.std.specs.Prelude.{ℕ, List, ◌∷◌, ◌≡◌, ◌≤◌, ◌+◌, length, map};
+ghost use Rattle.std.specs.Prelude.{ℕ, List, ◌∷◌, ◌≡◌, ◌≤◌, ◌+◌, false, length, map};
 ghost use Rattle.std.specs.Box.{boxed_slice_items};
 ghost use Rattle.tc_packet.specs.PacketFields.{HasFields};
 ghost use Rattle.tc_packet.specs.SpacePacket.{packets_of};
 ghost use Rattle.tc_channel.specs.HeldQueues.{keys_of, AreDistinct};
-ghost use Rattle.tc_channel.specs.Keyed.{rings_in, settled, let_go as let_go_of};
+ghost use Rattle.tc_channel.specs.Keyed.{rings_in, AreSettled, settled, let_go as let_go_of};
 ghost use Rattle.tc_channel.specs.Places.{IsTableOf};
 ghost use Rattle.tc_channel.specs.Delivering.{AreLaidOf};
 ghost use Rattle.tc_channel.specs.Steps.{looks, pass_steps};
@@ -54,8 +54,9 @@ fn settle_packet<R: Room, L: Ledger>(
     queues[place].settle();
 }
 
-/// What was laid of the packets of this unit counts, of which `laid` packets were laid. Where a table tells the places, and the queues
-/// are at least as many as these packets, only the queues of the unit's packets are looked at.
+/// What was laid of the packets of this unit counts, of which `laid` packets were laid. Where no memory can be refused it does already.
+/// Where a table tells the places, and the queues are at least as many as these packets, only the queues of the unit's packets are
+/// looked at.
 pub(crate) fn settle_packets<R: Room, L: Ledger>(
     queues: &mut BoxedSlice<Queue<R>>,
     table: &[u16],
@@ -65,11 +66,15 @@ pub(crate) fn settle_packets<R: Room, L: Ledger>(
 )
     requires table { IsTableOf (keys_of (rings_in (boxed_slice_items queues.old))) table.now }
     requires distinct { AreDistinct (keys_of (rings_in (boxed_slice_items queues.old))) }
+    requires settled { R.grows ≡ false → AreSettled (boxed_slice_items queues.old) }
     requires few { laid ≤ length (packets_of unit.now) }
     requires among { AreLaidOf (packets_of unit.now) (boxed_slice_items queues.old) }
     ensures settled { boxed_slice_items queues.new ≡ map settled (boxed_slice_items queues.old) }
     ensures cost { steps.new ≤ steps.old + (pass_steps (length (packets_of unit.now)) (looks (boxed_slice_items queues.old) table.now) + looks (boxed_slice_items queues.old) table.now) }
 {
+    if !R::may_ask() {
+        return;
+    }
     if table.is_empty() || queues.as_slice().len() < laid {
         settle_all(queues, steps);
         return;

@@ -21,6 +21,10 @@ pub trait Room: Drop {
     fn with_size(alloc: Global, size: usize) -> Result<Self, AllocError>
         ensures { IfOk result (λ r. held r ≡ laid [] size) };
 
+    /// Whether memory may be asked for where octets are put here.
+    fn may_ask() -> bool
+        ensures { result ≡ grows };
+
     /// How many octets may be in use.
     fn size(&self) -> usize
         ensures size { result ≡ (held self.now).size };
@@ -93,6 +97,11 @@ impl Room for FixedRoom {
         })
     }
 
+    #[inline(always)]
+    fn may_ask() -> bool {
+        false
+    }
+
     fn size(&self) -> usize {
         self.block.as_slice().len()
     }
@@ -157,6 +166,11 @@ impl Room for GrowingRoom {
             block: Vec::new(alloc),
             size,
         })
+    }
+
+    #[inline(always)]
+    fn may_ask() -> bool {
+        true
     }
 
     fn size(&self) -> usize {

@@ -332,6 +332,7 @@ impl<R: Room> Runs<R> {
     /// Takes the next field of its stream, and says where the unit lies that it ends. A run or a unit of more octets than the limit
     /// of its stream is dropped. A run that ends stays until [`settle`](Runs::settle), so that where memory runs out behind
     /// this call the runs are as they were. What is said of the fields before holds of any fields that have left the stream's run as it is.
+    #[inline(always)]
     pub fn lay(&mut self, service: Service, field: &[u8]) -> Result<Ended, AllocError>
         requires { 0 < length field.now }
         ensures unit { (fields : List (List ℕ)) → LeaveWithin fields self.old (stream_place service field.now)

@@ -2,7 +2,7 @@ use Rattle.std.proofs.Common.{◌≡◌, sym, subst, ◌∙◌, ap}
 use Rattle.std.specs.Box.{boxed_slice_items}
 use Rattle.tc_channel.specs.HeldQueues.{keys_of}
 use Rattle.tc_channel.specs.Keyed.{rings_in, all_laid_in, room_sizes, AreSettled}
-use Rattle.tc_channel.proofs.InRooms.{rings-settled, rings-let_go, sizes-settled, sizes-let_go, all-settled, all-let_go, same-keys}
+use Rattle.tc_channel.proofs.InRooms.{rings-settled, rings-let_go, sizes-settled, sizes-let_go, all-settled, all-let_go, same-keys, grows-of}
 use Rattle.tc_channel.proofs.delivering.deliver_packets.Goals as goal
 
 pub returns-in-Ok-clause-put : goal.returns-in-Ok-clause-put
@@ -14,19 +14,19 @@ pub returns-in-Ok-clause-settled : goal.returns-in-Ok-clause-settled
 returns-in-Ok-clause-settled g c = subst AreSettled (sym c.settle_packets.ensures.settled) (all-settled (boxed_slice_items c.put_packets.new.queues))
 
 pub returns-in-Ok-clause-keys : goal.returns-in-Ok-clause-keys
-returns-in-Ok-clause-keys g c = ap (λ x. keys_of (rings_in x)) c.settle_packets.ensures.settled ∙ ap keys_of (rings-settled (boxed_slice_items c.put_packets.new.queues)) ∙ same-keys (boxed_slice_items c.put_packets.new.queues) ∙ ap keys_of c.put_packets.ensures.rings
+returns-in-Ok-clause-keys g c = ap (λ x. keys_of (rings_in x)) c.settle_packets.ensures.settled ∙ ap keys_of (rings-settled (boxed_slice_items c.put_packets.new.queues)) ∙ same-keys (boxed_slice_items c.put_packets.new.queues) ∙ c.put_packets.ensures.keys
 
 pub returns-in-Ok-clause-sizes : goal.returns-in-Ok-clause-sizes
 returns-in-Ok-clause-sizes g c = ap room_sizes c.settle_packets.ensures.settled ∙ sizes-settled (boxed_slice_items c.put_packets.new.queues) ∙ c.put_packets.ensures.sizes
 
 pub returns-in-Err-clause-refused : goal.returns-in-Err-clause-refused
-returns-in-Err-clause-refused g c = ap rings_in c.let_go.ensures.let_go ∙ rings-let_go (boxed_slice_items c.put_packets.new.queues) ∙ c.put_packets.ensures.rings
+returns-in-Err-clause-refused g c = ap rings_in c.let_go.ensures.let_go ∙ rings-let_go (boxed_slice_items c.put_packets.new.queues) ∙ c.put_packets.ensures.rings (grows-of g.R.Room.grows (λ none. let ok = rw c.in-Err.is at c.put_packets.ensures.answered none in absurd cc))
 
 pub returns-in-Err-clause-settled : goal.returns-in-Err-clause-settled
 returns-in-Err-clause-settled g c = subst AreSettled (sym c.let_go.ensures.let_go) (all-let_go (boxed_slice_items c.put_packets.new.queues))
 
 pub returns-in-Err-clause-keys : goal.returns-in-Err-clause-keys
-returns-in-Err-clause-keys g c = ap (λ x. keys_of (rings_in x)) c.let_go.ensures.let_go ∙ ap keys_of (rings-let_go (boxed_slice_items c.put_packets.new.queues)) ∙ ap keys_of c.put_packets.ensures.rings
+returns-in-Err-clause-keys g c = ap (λ x. keys_of (rings_in x)) c.let_go.ensures.let_go ∙ ap keys_of (rings-let_go (boxed_slice_items c.put_packets.new.queues)) ∙ c.put_packets.ensures.keys
 
 pub returns-in-Err-clause-sizes : goal.returns-in-Err-clause-sizes
 returns-in-Err-clause-sizes g c = ap room_sizes c.let_go.ensures.let_go ∙ sizes-let_go (boxed_slice_items c.put_packets.new.queues) ∙ c.put_packets.ensures.sizes

@@ -3,7 +3,7 @@ use Rattle.std.proofs.Common.{◌∙◌, ap}
 use Rattle.std.proofs.Math.Seq.{map-set_same}
 use Rattle.tc_rooms.proofs.Sizes.{if-ok, on-err}
 use Rattle.tc_channel.specs.Keyed.{ring_in}
-use Rattle.tc_channel.proofs.InRooms.{fit-at, same-sizes, put-in-rings, settled-at, laid-of-none-at}
+use Rattle.tc_channel.proofs.InRooms.{fit-at, same-sizes, put-in, settled-at, laid-of-none-at}
 use Rattle.tc_channel.proofs.Found.{keys-set}
 use Rattle.tc_channel.proofs.delivering.put_item_at.Goals as goal
 
@@ -14,7 +14,7 @@ pub put-requires-clause-settled : goal.put-requires-clause-settled
 put-requires-clause-settled g c = laid-of-none-at (boxed_slice_items c.args.queues.now) c.args.place c.index_mut-queue.result.now c.requires.settled c.requires.place c.index_mut-queue.ensures.value
 
 pub returns-clause-put : goal.returns-clause-put
-returns-clause-put g c = if-ok _ _ c.put.result (λ place put. put-in-rings (boxed_slice_items c.args.queues.now) c.args.place c.index_mut-queue.result.now _ c.args.octets.now place c.requires.place c.index_mut-queue.ensures.value put) c.put.ensures.put
+returns-clause-put g c = if-ok _ _ c.put.result (λ place put. put-in ring_in (boxed_slice_items c.args.queues.now) c.args.place c.index_mut-queue.result.now _ c.args.octets.now place c.requires.place c.index_mut-queue.ensures.value put) c.put.ensures.put
 
 pub returns-clause-refused : goal.returns-clause-refused
 returns-clause-refused g c = on-err c.put.result (λ same. map-set_same ring_in (boxed_slice_items c.args.queues.now) c.args.place _ c.index_mut-queue.result.now (ap ring_in (same ∙ c.index_mut-queue.ensures.value))) c.put.ensures.refused

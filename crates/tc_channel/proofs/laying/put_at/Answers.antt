@@ -1,6 +1,8 @@
 use Rattle.std.specs.Box.{boxed_slice_items}
 use Rattle.tc_rooms.proofs.Sizes.{if-ok}
-use Rattle.tc_channel.proofs.InRooms.{put-at, same-rings, same-sizes, fit-at}
+use Rattle.tc_channel.specs.Keyed.{laid_in}
+use Rattle.tc_channel.proofs.Found.{keys-set}
+use Rattle.tc_channel.proofs.InRooms.{put-in, same-rings, same-sizes, fit-at, settled-at}
 use Rattle.tc_channel.proofs.Laid.{laid-at}
 use Rattle.tc_channel.proofs.laying.put_at.Goals as goal
 
@@ -8,10 +10,16 @@ pub lay-requires : goal.lay-requires
 lay-requires g c = fit-at c.args.octets.now (boxed_slice_items c.args.queues.now) c.args.place c.index_mut-queue.result.now c.requires.fits c.requires.place c.index_mut-queue.ensures.value
 
 pub returns-clause-put : goal.returns-clause-put
-returns-clause-put g c = if-ok _ _ c.lay.result (λ place laid. put-at (boxed_slice_items c.args.queues.now) c.args.place c.index_mut-queue.result.now _ c.args.octets.now place c.requires.place c.index_mut-queue.ensures.value c.lay.ensures.key laid) c.lay.ensures.laid
+returns-clause-put g c = if-ok _ _ c.lay.result (λ place laid. put-in laid_in (boxed_slice_items c.args.queues.now) c.args.place c.index_mut-queue.result.now _ c.args.octets.now place c.requires.place c.index_mut-queue.ensures.value laid) c.lay.ensures.laid
 
 pub returns-clause-rings : goal.returns-clause-rings
-returns-clause-rings g c = same-rings (boxed_slice_items c.args.queues.now) c.args.place c.index_mut-queue.result.now _ c.index_mut-queue.ensures.value c.lay.ensures.key c.lay.ensures.ring
+returns-clause-rings g c = λ grows. same-rings (boxed_slice_items c.args.queues.now) c.args.place c.index_mut-queue.result.now _ c.index_mut-queue.ensures.value c.lay.ensures.key (c.lay.ensures.ring grows)
+
+pub returns-clause-keys : goal.returns-clause-keys
+returns-clause-keys g c = keys-set (boxed_slice_items c.args.queues.now) c.args.place c.index_mut-queue.result.now _ c.index_mut-queue.ensures.value c.lay.ensures.key
+
+pub returns-clause-settled : goal.returns-clause-settled
+returns-clause-settled g c = λ none all. settled-at (boxed_slice_items c.args.queues.now) c.args.place _ all (c.lay.ensures.settled none)
 
 pub returns-clause-sizes : goal.returns-clause-sizes
 returns-clause-sizes g c = same-sizes (boxed_slice_items c.args.queues.now) c.args.place c.index_mut-queue.result.now _ c.index_mut-queue.ensures.value c.lay.ensures.size

@@ -5,7 +5,7 @@ use Rattle.tc_packet.specs.SpacePacket.{packets_of, rest_of, joined}
 use Rattle.tc_channel.specs.Keyed.{rings_in, all_laid_in, room_sizes}
 use Rattle.tc_channel.proofs.InRooms.{fit-shorter, laid-none}
 use Rattle.tc_channel.specs.Steps.{looks, pass_steps}
-use Rattle.tc_channel.proofs.Counts.{pass-step, cut-one, cut-last, looks-same, rings-count}
+use Rattle.tc_channel.proofs.Counts.{pass-step, cut-one, cut-last, looks-same, same-count}
 use Rattle.tc_channel.proofs.Laid.{none-laid}
 use Rattle.tc_channel.proofs.Ways.{at-start, first-short, at-end}
 use Rattle.tc_channel.proofs.laying.put_packets.Goals as goal
@@ -23,7 +23,9 @@ loop-packet-init g c =
       more = λ key among. among;
       cost = omega arith;
       sizes = refl;
-      rings = refl;
+      rings = λ _. refl;
+      keys = refl;
+      settled = λ _. c.requires.settled;
     }
 
 pub put_packet-requires-clause-fits : goal.put_packet-requires-clause-fits
@@ -68,9 +70,11 @@ loop-packet-preserved g c =
       more = λ key among. more key (inr among);
       cost = cut-one c.args.steps.now (pass_steps (length (packets_of c.args.unit.now)) one) c.loop-packet.steps (pass_steps (length (packets_of c.loop-packet.rest.now)) one) (pass_steps (length (packets_of c.in-Some.after.now)) one) one c.tick.new.self
           (looks (boxed_slice_items c.loop-packet.queues) c.args.table.now) c.put_packet.new.steps (ap (λ n. pass_steps n one) (ap length c.in-Some.ensures.packets) ∙ pass-step (length (packets_of c.in-Some.after.now)) one) c.loop-packet.invariant.cost c.tick.ensures c.put_packet.ensures.cost
-          (looks-same (boxed_slice_items c.loop-packet.queues) (boxed_slice_items c.args.queues.now) c.args.table.now (rings-count (boxed_slice_items c.loop-packet.queues) (boxed_slice_items c.args.queues.now) c.loop-packet.invariant.rings));
+          (looks-same (boxed_slice_items c.loop-packet.queues) (boxed_slice_items c.args.queues.now) c.args.table.now (same-count (boxed_slice_items c.loop-packet.queues) (boxed_slice_items c.args.queues.now) c.loop-packet.invariant.keys));
       sizes = c.put_packet.ensures.sizes ∙ i.sizes;
-      rings = c.put_packet.ensures.rings ∙ i.rings;
+      rings = λ grows. c.put_packet.ensures.rings grows ∙ i.rings grows;
+      keys = c.put_packet.ensures.keys ∙ i.keys;
+      settled = λ none. c.put_packet.ensures.settled none (i.settled none);
     }
 
 pub returns-in_err-one-clause-cost : goal.returns-in_err-one-clause-cost
@@ -78,4 +82,4 @@ returns-in_err-one-clause-cost g c =
     let one : ℕ = looks (boxed_slice_items c.args.queues.now) c.args.table.now in
     cut-last c.args.steps.now (pass_steps (length (packets_of c.args.unit.now)) one) c.loop-packet.steps (pass_steps (length (packets_of c.loop-packet.rest.now)) one) (pass_steps (length (packets_of c.in-Some.after.now)) one) one c.tick.new.self
     (looks (boxed_slice_items c.loop-packet.queues) c.args.table.now) c.put_packet.new.steps (ap (λ n. pass_steps n one) (ap length c.in-Some.ensures.packets) ∙ pass-step (length (packets_of c.in-Some.after.now)) one) c.loop-packet.invariant.cost c.tick.ensures c.put_packet.ensures.cost
-    (looks-same (boxed_slice_items c.loop-packet.queues) (boxed_slice_items c.args.queues.now) c.args.table.now (rings-count (boxed_slice_items c.loop-packet.queues) (boxed_slice_items c.args.queues.now) c.loop-packet.invariant.rings))
+    (looks-same (boxed_slice_items c.loop-packet.queues) (boxed_slice_items c.args.queues.now) c.args.table.now (same-count (boxed_slice_items c.loop-packet.queues) (boxed_slice_items c.args.queues.now) c.loop-packet.invariant.keys))

@@ -1,8 +1,9 @@
-use Rattle.std.proofs.Common.{◌≡◌, ◌+◌, ◌≤◌, ℕ, length}
+use Rattle.std.proofs.Common.{◌≡◌, ◌+◌, ◌≤◌, ℕ, true, false, length}
 use Rattle.std.specs.Box.{boxed_slice_items}
 use Rattle.tc_packet.specs.SpacePacket.{packets_of, rest_of}
+use Rattle.tc_channel.specs.HeldQueues.{keys_of}
 use Rattle.tc_channel.specs.Delivering.{IsOnItsWay, IsAmong, AreLaidOf}
-use Rattle.tc_channel.specs.Keyed.{rings_in, all_laid_in, room_sizes}
+use Rattle.tc_channel.specs.Keyed.{rings_in, all_laid_in, room_sizes, AreSettled}
 use Rattle.tc_channel.specs.Steps.{looks, pass_steps}
 use Rattle.tc_channel.proofs.laying.put_packets.Given as goal
 
@@ -18,7 +19,9 @@ invariant-loop-packet g l = record {
   more : (key : ℕ) → IsAmong key (packets_of l.rest) → IsAmong key (packets_of l.unit);
   cost : l.steps + pass_steps (length (packets_of l.rest)) (looks (boxed_slice_items l.fn.queues) l.table) ≤ l.fn.steps + pass_steps (length (packets_of l.unit)) (looks (boxed_slice_items l.fn.queues) l.table);
   sizes : room_sizes (boxed_slice_items l.queues) ≡ room_sizes (boxed_slice_items l.fn.queues);
-  rings : rings_in (boxed_slice_items l.queues) ≡ rings_in (boxed_slice_items l.fn.queues);
+  rings : g.R.Room.grows ≡ true → rings_in (boxed_slice_items l.queues) ≡ rings_in (boxed_slice_items l.fn.queues);
+  keys : keys_of (rings_in (boxed_slice_items l.queues)) ≡ keys_of (rings_in (boxed_slice_items l.fn.queues));
+  settled : g.R.Room.grows ≡ false → AreSettled (boxed_slice_items l.queues);
 }
 
 abbrev pub decreases-loop-packet : goal.decreases-loop-packet

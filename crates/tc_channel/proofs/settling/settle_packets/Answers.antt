@@ -7,6 +7,9 @@ use Rattle.tc_channel.proofs.Counts.{pass-step, cut-one, looks-same, same-count}
 use Rattle.tc_channel.proofs.Laid.{settled-same, all-settled-of}
 use Rattle.tc_channel.proofs.settling.settle_packets.Goals as goal
 
+pub returns-then-not-may_ask-clause-settled : goal.returns-then-not-may_ask-clause-settled
+returns-then-not-may_ask-clause-settled g c = sym (settled-same (boxed_slice_items c.args.queues.now) (c.requires.settled (sym c.may_ask.ensures ∙ c.if-not-may_ask.true)))
+
 pub returns-clause-settled : goal.returns-clause-settled
 returns-clause-settled g c = sym (settled-same (boxed_slice_items c.loop-packet.queues) (all-settled-of (boxed_slice_items c.loop-packet.queues) (subst (λ ps. AreLaidOf ps (boxed_slice_items c.loop-packet.queues)) c.in_default.ensures.no_packets c.loop-packet.invariant.among))) ∙ c.loop-packet.invariant.settled
 
