@@ -71,12 +71,12 @@ impl<R: Room> Queue<R> {
         ensures size { self.new.slots.size ≡ self.old.slots.size }
         ensures answered { R.grows ≡ false → IsOk result }
     {
-        let put = self.slots.lay(octets)?;
+        let laid = self.slots.lay(octets)?;
         if R::may_ask() {
-            return Ok(put);
+            return Ok(laid);
         }
         self.slots.settle();
-        Ok(put)
+        Ok(laid)
     }
 
     // Puts an item behind the others, where there is a place, and says whether there was.
