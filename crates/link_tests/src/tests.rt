@@ -1,4 +1,10 @@
+mod blocks;
+mod cltus;
 mod cutting;
 mod link;
 mod packets;
+mod random;
 mod reassembler;
+mod streams;
+mod telemetry;
+mod texts;

@@ -335,6 +335,15 @@ corrected-fate mode block information wrong taken =
     sym (ap (λ (o : Option (List ℕ)). if is_some o then Right else if is_some (decoded mode block) then Corrected else rejected_as block) wrong
     ∙ ap (λ (o : Option (List ℕ)). if is_some o then Corrected else rejected_as block) taken)
 
+pub right-fate : (mode : Mode) (block information : List ℕ) → decoded Detect block ≡ Some information → Right ≡ fate_in mode block
+right-fate mode block information right =
+    sym (ap (λ (o : Option (List ℕ)). if is_some o then Right else if is_some (decoded mode block) then Corrected else rejected_as block) right)
+
+pub rejected-fate : (mode : Mode) (block : List ℕ) → decoded Detect block ≡ None → decoded mode block ≡ None → rejected_as block ≡ fate_in mode block
+rejected-fate mode block wrong none =
+    sym (ap (λ (o : Option (List ℕ)). if is_some o then Right else if is_some (decoded mode block) then Corrected else rejected_as block) wrong
+    ∙ ap (λ (o : Option (List ℕ)). if is_some o then Corrected else rejected_as block) none)
+
 set-last : (block : List ℕ) (octet : ℕ) → length block ≡ 8 → (set block 7 octet ≡ take 7 block ++ octet ∷ []) × (length (take 7 block) ≡ 7)
 set-last (a ∷ b ∷ c ∷ d ∷ e ∷ f ∷ g ∷ h ∷ []) octet l = (refl, refl)
 set-last _ octet l = absurd (omega arith)

@@ -101,7 +101,7 @@ fn farm_1_goes_on_from_its_components(rt: HostRuntime) {
     check_rows(&rt, &mut farm, &rows)
 }
 
-fn check_text<T: Display>(rt: &impl Abort, alloc: Global, fault: &T, text: &str) {
+pub(super) fn check_text<T: Display>(rt: &impl Abort, alloc: Global, fault: &T, text: &str) {
     let written = fault.to_string(alloc).expect(rt, "an answer");
     assert_eq!(rt; written.as_str(), text);
 }

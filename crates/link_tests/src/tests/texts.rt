@@ -1,27 +1,14 @@
-//! The texts of faults.
+//! The texts of faults of CLTUs and of telemetry frames.
 
-use super::*;
-use std::fmt::Display;
+use super::link::check_text;
 use tc_cltu::CltuFault;
 use tc_tm::{TmFault, TmReadFault};
 
-fn check_text<T: Display>(rt: &impl Abort, alloc: Global, fault: &T, text: &str) {
-    let written = fault.to_string(alloc).expect(rt, "an answer");
-    assert_eq!(rt; written.as_str(), text);
-}
-
-static FAULTS: [(CltuFault, &str); 3] = [
+static CLTU_FAULTS: [(CltuFault, &str); 3] = [
     (CltuFault::Empty, "no octets"),
     (CltuFault::TooLong, "more than 1,029 octets"),
     (CltuFault::NoMemory, "no memory"),
 ];
-
-#[test]
-fn the_text_of_each_fault(rt: HostRuntime) {
-    for (fault, text) in &FAULTS {
-        check_text(&rt, rt.alloc(), fault, text)
-    }
-}
 
 static TM_FAULTS: [(TmFault, &str); 4] = [
     (TmFault::BadScid, "the spacecraft id is over 1,023"),
@@ -44,11 +31,14 @@ static TM_READ_FAULTS: [(TmReadFault, &str); 4] = [
 ];
 
 #[test]
-fn texts_of_faults(rt: HostRuntime) {
+fn the_text_of_each_fault_of_the_edges(rt: HostRuntime) {
+    for (fault, text) in &CLTU_FAULTS {
+        check_text(&rt, rt.alloc(), fault, text)
+    }
     for (fault, text) in &TM_FAULTS {
-        check_text(&rt, rt.alloc(), fault, text);
+        check_text(&rt, rt.alloc(), fault, text)
     }
     for (fault, text) in &TM_READ_FAULTS {
-        check_text(&rt, rt.alloc(), fault, text);
+        check_text(&rt, rt.alloc(), fault, text)
     }
 }

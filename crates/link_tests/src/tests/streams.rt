@@ -1,0 +1,83 @@
+//! Streams, and the candidate frames in them.
+
+use std::alloc::Global;
+use std::process::Abort;
+use tc_cltu::{Decoder, Mode};
+
+fn decoder_of(rt: &(impl Abort + Print), alloc: Global, mode: Mode) -> Decoder {
+    match Decoder::new(alloc, mode) {
+        Ok(decoder) => decoder,
+        Err(_) => {
+            let _ = println!(rt; "refused: Decoder::new");
+            Decoder::new(alloc, mode).expect(rt, "a decoder")
+        }
+    }
+}
+
+// Octets, and the CLTU that carries them.
+const FRAME: [u8; 7] = [0x30, 0x2a, 0x04, 0x05, 0x00, 0x00, 0x55];
+
+const CLTU: [u8; 18] = [
+    0xeb, 0x90, 0x30, 0x2a, 0x04, 0x05, 0x00, 0x00, 0x55, 0x94, 0xc5, 0xc5, 0xc5, 0xc5, 0xc5, 0xc5,
+    0xc5, 0x79,
+];
+
+// A candidate frame whose copy is refused is held: all octets up to its end were taken, and the frames before it stay.
+fn feed(
+    rt: &(impl Abort + Print),
+    alloc: Global,
+    decoder: &mut Decoder,
+    frames: &mut Vec<Vec<u8>>,
+) {
+    let count = frames.len();
+    if decoder.feed(alloc, frames, &CLTU).is_err() {
+        let _ = println!(rt; "refused: Decoder::feed");
+        assert!(rt; frames.len() == count);
+        let held = Vec::from_slice(alloc, decoder.held()).expect(rt, "a frame");
+        frames.push(held).expect(rt, "a frame");
+    }
+}
+
+#[test]
+fn growth_of_candidate_frames(rt: HostRuntime) {
+    let mut decoder = decoder_of(&rt, rt.alloc(), Mode::Detect);
+    let mut frames = Vec::new(rt.alloc());
+    for _ in 0..6 {
+        feed(&rt, rt.alloc(), &mut decoder, &mut frames);
+    }
+    assert!(rt; frames.len() == 6);
+    for frame in &frames {
+        assert!(rt; frame.as_slice() == FRAME.as_slice());
+    }
+}
+
+// How long the first candidate frame of a stream is, which comes octet by octet.
+fn length_of(rt: &(impl Abort + Print), alloc: Global, stream: &[u8]) -> Option<usize> {
+    let mut decoder = decoder_of(rt, alloc, Mode::Correct);
+    for octet in stream {
+        if decoder.feed_octet(*octet).ended {
+            return Some(decoder.held().len());
+        }
+    }
+    None
+}
+
+// Eight octets each: zeros before a start sequence, a code block of zeros, and the tail sequence.
+const BEGIN: [u8; 8] = [0, 0, 0, 0, 0, 0, 0xeb, 0x90];
+
+const ZEROS: [u8; 8] = [0, 0, 0, 0, 0, 0, 0, 0xfe];
+
+const END: [u8; 8] = [0xc5, 0xc5, 0xc5, 0xc5, 0xc5, 0xc5, 0xc5, 0x79];
+
+// 147 code blocks, and one more.
+#[test]
+fn a_cltu_that_is_too_long_gives_nothing(rt: HostRuntime) {
+    let mut longest = [ZEROS; 149];
+    longest[0] = BEGIN;
+    longest[148] = END;
+    assert!(rt; length_of(&rt, rt.alloc(), longest.as_flattened()) == Some(1029));
+    let mut longer = [ZEROS; 150];
+    longer[0] = BEGIN;
+    longer[149] = END;
+    assert!(rt; length_of(&rt, rt.alloc(), longer.as_flattened()) == None);
+}

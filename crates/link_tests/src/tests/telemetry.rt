@@ -1,0 +1,161 @@
+//! Telemetry frames, worked out by hand. The sum is that of Python's `binascii.crc_hqx(.., 0xffff)`.
+
+use std::alloc::Global;
+use std::process::Abort;
+use tc_tm::{Counts, ErrorControl, TmFault, TmFields, TmHeader, TmReadFault, read_tm, write_tm};
+
+const HEADER: TmHeader = TmHeader {
+    scid: 42,
+    vcid: 1,
+    master_count: 255,
+    channel_count: 7,
+};
+
+const CLCW: [u8; 4] = [0x01, 0x04, 0x00, 0x01];
+
+const FIELDS: TmFields = TmFields {
+    header: HEADER,
+    pointer: 2046,
+    control: CLCW,
+};
+
+// 00 0000101010 001 1, the counts, 0 0 0 11 11111111110, an idle octet and the CLCW.
+const FRAME: [u8; 11] = [
+    0x02, 0xa3, 0xff, 0x07, 0x1f, 0xfe, 0x55, 0x01, 0x04, 0x00, 0x01,
+];
+
+// The same, and the sum over it.
+const WHOLE: [u8; 13] = [
+    0x02, 0xa3, 0xff, 0x07, 0x1f, 0xfe, 0x55, 0x01, 0x04, 0x00, 0x01, 0x73, 0xd2,
+];
+
+// A spacecraft, a virtual channel and a length, and the frame with the counts of `HEADER`, or why it isn't written.
+static WRITTEN: [(ErrorControl, u16, u8, usize, Result<&[u8], TmFault>); 6] = [
+    (ErrorControl::Absent, 42, 1, 11, Ok(&FRAME)),
+    (ErrorControl::Present, 42, 1, 13, Ok(&WHOLE)),
+    (ErrorControl::Present, 1024, 8, 10, Err(TmFault::BadScid)),
+    (ErrorControl::Present, 42, 8, 10, Err(TmFault::BadVcid)),
+    (ErrorControl::Present, 42, 7, 12, Err(TmFault::BadLength)),
+    (ErrorControl::Present, 42, 7, 2049, Err(TmFault::BadLength)),
+];
+
+// A frame, written again where memory ran out for it.
+fn written(
+    rt: &impl Print,
+    alloc: Global,
+    error: ErrorControl,
+    header: &TmHeader,
+    length: usize,
+) -> Result<Vec<u8>, TmFault> {
+    match write_tm(alloc, error, header, CLCW, length) {
+        Err(TmFault::NoMemory) => {
+            let _ = println!(rt; "refused: write_tm");
+            write_tm(alloc, error, header, CLCW, length)
+        }
+        made => made,
+    }
+}
+
+// Whether a frame was written as expected, or refused so.
+fn are(made: &Result<Vec<u8>, TmFault>, expected: &Result<&[u8], TmFault>) -> bool {
+    match (made, expected) {
+        (Ok(made), Ok(frame)) => made.as_slice() == *frame,
+        (Err(fault), Err(other)) => fault == other,
+        _ => false,
+    }
+}
+
+#[test]
+fn growth_of_each_frame_of_telemetry(rt: HostRuntime) {
+    for (error, scid, vcid, length, expected) in &WRITTEN {
+        let header = TmHeader {
+            scid: *scid,
+            vcid: *vcid,
+            ..HEADER
+        };
+        let made = written(&rt, rt.alloc(), *error, &header, *length);
+        assert!(rt; are(&made, expected));
+    }
+}
+
+// Octets, and what they say, or why they aren't read.
+static READ: [(ErrorControl, &[u8], Result<TmFields, TmReadFault>); 6] = [
+    (ErrorControl::Absent, &FRAME, Ok(FIELDS)),
+    (ErrorControl::Present, &WHOLE, Ok(FIELDS)),
+    (
+        ErrorControl::Present,
+        b"\x42\xa2\xff\x07\x1f\xfe\x55\x01\x04\x00\x01\x73",
+        Err(TmReadFault::Short),
+    ),
+    (
+        ErrorControl::Present,
+        b"\x42\xa2\xff\x07\x1f\xfe\x55\x01\x04\x00\x01\x73\xd2",
+        Err(TmReadFault::Version),
+    ),
+    (
+        ErrorControl::Present,
+        b"\x02\xa2\xff\x07\x1f\xfe\x55\x01\x04\x00\x01\x73\xd2",
+        Err(TmReadFault::NoControl),
+    ),
+    (
+        ErrorControl::Present,
+        b"\x02\xa3\xff\x07\x1f\xfe\x55\x01\x04\x00\x01\x73\xd3",
+        Err(TmReadFault::WrongSum),
+    ),
+];
+
+#[test]
+fn a_frame_is_read_or_refused(rt: HostRuntime) {
+    for (error, octets, expected) in &READ {
+        assert!(rt; read_tm(*error, octets) == *expected);
+    }
+}
+
+fn new_counts(rt: &(impl Abort + Print), alloc: Global) -> Counts {
+    match Counts::new(alloc) {
+        Ok(counts) => counts,
+        Err(_) => {
+            let _ = println!(rt; "refused: Counts::new");
+            Counts::new(alloc).expect(rt, "counts")
+        }
+    }
+}
+
+// Both counts of the next frame.
+fn next_counts(
+    counts: &mut Counts,
+    alloc: Global,
+    scid: u16,
+    vcid: u8,
+    length: usize,
+) -> Result<[u8; 2], TmFault> {
+    let frame = counts.next_frame(alloc, ErrorControl::Absent, scid, vcid, CLCW, length)?;
+    Ok(match frame.as_slice() {
+        [_, _, master, channel, ..] => [*master, *channel],
+        _ => [255, 255],
+    })
+}
+
+// Frames, one after the other: the spacecraft, the virtual channel and the length, and both counts, or why the frame isn't made.
+static COUNTED: [(u16, u8, usize, Result<[u8; 2], TmFault>); 6] = [
+    (42, 1, 11, Ok([0, 0])),
+    (42, 2, 11, Ok([1, 0])),
+    (42, 1, 11, Ok([2, 1])),
+    (43, 1, 11, Ok([0, 0])),
+    (42, 1, 10, Err(TmFault::BadLength)),
+    (42, 1, 11, Ok([3, 2])),
+];
+
+// A frame for which memory ran out isn't counted.
+#[test]
+fn growth_of_frames_counted_by_channel(rt: HostRuntime) {
+    let mut counts = new_counts(&rt, rt.alloc());
+    for (scid, vcid, length, expected) in &COUNTED {
+        let mut made = next_counts(&mut counts, rt.alloc(), *scid, *vcid, *length);
+        if made == Err(TmFault::NoMemory) {
+            let _ = println!(rt; "refused: Counts::next_frame");
+            made = next_counts(&mut counts, rt.alloc(), *scid, *vcid, *length);
+        }
+        assert!(rt; made == *expected);
+    }
+}
