@@ -1,10 +1,6 @@
 use Rattle.std.proofs.Common.{◌≡◌, ◌∙◌, Some, set, sym, ap, subst, rules}
 use Rattle.std.specs.Prelude.{◌==◌, position}
-use Rattle.tc_desk.specs.Together.{heads_of, locks_of}
-use Rattle.tc_station.specs.StationSettings.{vcids_of}
-use Rattle.tc_station.specs.Tally.{AtStation, at_station, tally}
-use Rattle.tc_station.specs.Call.{IsMetAt}
-use Rattle.tc_station.specs.Roster.{Roster, IsPlace}
+use Rattle.tc_station.proofs.Names.{heads_of, locks_of, vcids_of, AtStation, at_station, tally, IsMetAt, Roster, IsPlace}
 use Rattle.tc_station.proofs.Called.{id-of}
 use Rattle.tc_station.proofs.Meetings.{channel-there, head-known, meeting-head, meeting-heads, meeting-locks, meeting-settings, meeting-tally, met-at, watcher-kept}
 use Rattle.tc_station.proofs.Posts.{same-lock}

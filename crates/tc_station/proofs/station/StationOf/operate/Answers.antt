@@ -1,10 +1,6 @@
 use Rattle.std.proofs.Common.{◌≡◌, ◌∙◌, Some, set, sym, ap, subst}
 use Rattle.std.specs.Prelude.{◌==◌, position, OnOk, OnErr}
-use Rattle.tc_desk.specs.Together.{locks_of}
-use Rattle.tc_station.specs.StationSettings.{vcids_of}
-use Rattle.tc_station.specs.Tally.{AtStation, at_station, tallied, tally}
-use Rattle.tc_station.specs.Call.{IsCallAt}
-use Rattle.tc_station.specs.Roster.{Roster}
+use Rattle.tc_station.proofs.Names.{locks_of, vcids_of, AtStation, at_station, tallied, tally, IsCallAt, Roster}
 use Rattle.tc_station.proofs.Called.{call-at, counted-by, refused-by, locks-kept, settings-kept, id-of}
 use Rattle.tc_station.proofs.Posts.{same-lock}
 use Rattle.tc_station.proofs.station.StationOf.operate.Goals as goal

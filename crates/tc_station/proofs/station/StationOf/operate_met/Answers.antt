@@ -1,10 +1,6 @@
-use Rattle.std.proofs.Common.{◌≡◌, ◌<◌, ◌∙◌, Some, length, set, sym, ap, subst, rules}
+use Rattle.std.proofs.Common.{◌≡◌, ◌∙◌, Some, set, sym, ap, subst, rules}
 use Rattle.std.specs.Prelude.{◌==◌, position, OnErr, OnOk}
-use Rattle.tc_desk.specs.Together.{heads_of, locks_of}
-use Rattle.tc_station.specs.StationSettings.{vcids_of}
-use Rattle.tc_station.specs.Tally.{AtStation, at_station, tallied, tally}
-use Rattle.tc_station.specs.Call.{IsMetCallAt}
-use Rattle.tc_station.specs.Roster.{Roster, IsPlace}
+use Rattle.tc_station.proofs.Names.{heads_of, locks_of, vcids_of, AtStation, at_station, tallied, tally, IsMetCallAt, Roster, IsPlace}
 use Rattle.tc_station.proofs.Called.{id-of}
 use Rattle.tc_station.proofs.Meetings.{channel-there, head-known, met-call, met-counted, met-head, met-heads, met-locks, met-refused, met-settings, watcher-kept}
 use Rattle.tc_station.proofs.Posts.{same-lock}

@@ -1,8 +1,5 @@
 use Rattle.std.proofs.Common.{◌≡◌, ◌++◌, ◌+◌, ◌∙◌, ℕ, subst, take, drop, length, replicate, sym, ap, rules, arith}
-use Rattle.tc_desk.specs.Together.{heads_of, locks_of, settings_of_desks}
-use Rattle.tc_station.specs.Roster.{Roster, HaveIssued}
-use Rattle.tc_station.specs.StationSettings.{vcids_of}
-use Rattle.tc_station.specs.Tally.{fresh, issued_more}
+use Rattle.tc_station.proofs.Names.{heads_of, locks_of, settings_of_desks, Roster, HaveIssued, vcids_of, fresh, issued_more}
 use Rattle.tc_station.proofs.Called.{as-many}
 use Rattle.tc_station.proofs.Posts.{at_posts, have-more, heads-more, issued-fresh, issued-heads, issued-new, issued-ours, length-more, locks-more, more-issued, settings-more, written-posts}
 use Rattle.tc_station.proofs.station.StationOf.operators.Goals as goal
