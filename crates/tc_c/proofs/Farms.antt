@@ -5,13 +5,13 @@ use Rattle.tc_link.specs.declared.farm.Arrival.{Arrival}
 use Rattle.tc_link.specs.declared.farm.Arrival.TheVariants as arrivals
 use Rattle.tc_link.specs.declared.farm.Report.{Report}
 use Rattle.tc_link.specs.declared.farm.State.{State}
-use Rattle.tc_link.specs.declared.farm.State.TheVariants.{S1, S2, S3}
+use Rattle.tc_link.specs.declared.farm.State.TheVariants.{S1}
 use Rattle.tc_link.specs.Frame.{header_of}
 use Rattle.tc_link.specs.Command.{kind_of}
 use Rattle.tc_link.specs.Farm.{Machine, E10, row_of, entry_at, entry, first_report}
 use Rattle.tc_channel.specs.declared.settings.Settings.{Settings}
 use Rattle.tc_channel.specs.declared.event.Event.{Event}
-use Rattle.tc_channel.specs.declared.event.Event.TheVariants.{Frame, Release, Take, TakeUnit}
+use Rattle.tc_channel.specs.declared.event.Event.TheVariants.{Frame, Release}
 use Rattle.tc_channel.specs.ChannelState.{ChannelState, first_state_within, has_room}
 use Rattle.tc_channel.specs.Settings.{IsAllowed}
 use Rattle.tc_channel.specs.Run.{field_of, HasStep, AreSteps, IsLawfulWithin, step, passed_on, run_from, run_within}
@@ -29,15 +29,13 @@ farm_at s state = record { width = s.width; report = state.report }
 
 released : (st : State) (r : Report) → IsSome (entry_at E10 st r)
 released S1 r = refl
-released S2 r = refl
-released S3 r = refl
+released _ r = refl
 
 step-farm : StepsLeaveFarms → (s : Settings) (state : ChannelState) (e : Event) → IsFarm (farm_at s state) → HasStep s state e → IsFarm (farm_at s (step s state e))
 unfolding passed_on
 step-farm steps s state (Frame octets) farm has = steps (farm_at s state) (arrivals.Frame (kind_of (header_of octets) (field_of octets)) (has_room s state)) farm has.1
 step-farm steps s state Release farm has = steps (farm_at s state) arrivals.Release farm (released state.report.state state.report)
-step-farm steps s state (Take apid) farm has = farm
-step-farm steps s state (TakeUnit map_id) farm has = farm
+step-farm steps s state _ farm has = farm
 
 run_from-farm : StepsLeaveFarms → (s : Settings) (state : ChannelState) (es : List Event) → IsFarm (farm_at s state) → AreSteps s state es → IsFarm (farm_at s (run_from s state es))
 run_from-farm steps s state [] farm are = farm

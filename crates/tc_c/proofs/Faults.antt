@@ -17,6 +17,10 @@ use Rattle.tc_channel.specs.declared.settings.SettingsFault.TheVariants as setti
 use Rattle.tc_fixed.specs.declared.limits.LimitsFault.{LimitsFault}
 use Rattle.tc_fixed.specs.declared.limits.LimitsFault.TheVariants as limits
 
+-- what is found again from its status has a status of its own
+apart : {A : Type 0} (status : A → Status) (found_by : Status → Option A) → ((fault : A) → found_by (status fault) ≡ Some fault) → (one other : A) → status one ≡ status other → one ≡ other
+apart status found_by found one other e = let same : Some one ≡ Some other = sym (found one) ∙ (ap found_by e ∙ found other) in cc
+
 abbrev frame_of : Status → Option FrameFault
 frame_of st.Short = Some frames.Short
 frame_of st.Version = Some frames.Version
@@ -27,15 +31,10 @@ frame_of _ = None
 
 frame-found : (fault : FrameFault) → frame_of (frame_status fault) ≡ Some fault
 frame-found frames.Short = refl
-frame-found frames.Version = refl
-frame-found frames.Spare = refl
-frame-found frames.LengthSmall = refl
-frame-found frames.Truncated = refl
+frame-found _ = refl
 
 pub frame-apart : (one other : FrameFault) → frame_status one ≡ frame_status other → one ≡ other
-frame-apart one other e =
-    let same : Some one ≡ Some other = sym (frame-found one) ∙ (ap frame_of e ∙ frame-found other) in
-    cc
+frame-apart = apart frame_status frame_of frame-found
 
 abbrev locate_of : Status → Option LocateFault
 locate_of st.OtherSpacecraft = Some locations.OtherSpacecraft
@@ -44,17 +43,10 @@ locate_of other = option_map locations.Frame (frame_of other)
 
 locate-found : (fault : LocateFault) → locate_of (locate_status fault) ≡ Some fault
 locate-found (locations.Frame frames.Short) = refl
-locate-found (locations.Frame frames.Version) = refl
-locate-found (locations.Frame frames.Spare) = refl
-locate-found (locations.Frame frames.LengthSmall) = refl
-locate-found (locations.Frame frames.Truncated) = refl
-locate-found locations.OtherSpacecraft = refl
-locate-found locations.UnknownChannel = refl
+locate-found _ = refl
 
 pub locate-apart : (one other : LocateFault) → locate_status one ≡ locate_status other → one ≡ other
-locate-apart one other e =
-    let same : Some one ≡ Some other = sym (locate-found one) ∙ (ap locate_of e ∙ locate-found other) in
-    cc
+locate-apart = apart locate_status locate_of locate-found
 
 abbrev write_of : Status → Option WriteFault
 write_of st.BadField = Some writing.BadField
@@ -65,14 +57,10 @@ write_of _ = None
 
 write-found : (fault : WriteFault) → write_of (write_status fault) ≡ Some fault
 write-found writing.BadField = refl
-write-found writing.EmptyData = refl
-write-found writing.TooLong = refl
-write-found writing.NoMemory = refl
+write-found _ = refl
 
 pub write-apart : (one other : WriteFault) → write_status one ≡ write_status other → one ≡ other
-write-apart one other e =
-    let same : Some one ≡ Some other = sym (write-found one) ∙ (ap write_of e ∙ write-found other) in
-    cc
+write-apart = apart write_status write_of write-found
 
 abbrev field_of : Status → Option FieldFault
 field_of st.Fill = Some fields.Fill
@@ -84,20 +72,10 @@ field_of other = option_map fields.NoFrame (frame_of other)
 
 field-found : (fault : FieldFault) → field_of (field_status fault) ≡ Some fault
 field-found (fields.NoFrame frames.Short) = refl
-field-found (fields.NoFrame frames.Version) = refl
-field-found (fields.NoFrame frames.Spare) = refl
-field-found (fields.NoFrame frames.LengthSmall) = refl
-field-found (fields.NoFrame frames.Truncated) = refl
-field-found fields.Fill = refl
-field-found fields.TooLong = refl
-field-found fields.TooShort = refl
-field-found fields.WrongSum = refl
-field-found fields.NoMemory = refl
+field-found _ = refl
 
 pub field-apart : (one other : FieldFault) → field_status one ≡ field_status other → one ≡ other
-field-apart one other e =
-    let same : Some one ≡ Some other = sym (field-found one) ∙ (ap field_of e ∙ field-found other) in
-    cc
+field-apart = apart field_status field_of field-found
 
 abbrev settings_of : Status → Option SettingsFault
 settings_of st.BadVcid = Some settings.BadVcid
@@ -115,21 +93,10 @@ settings_of _ = None
 
 settings-found : (fault : SettingsFault) → settings_of (settings_status fault) ≡ Some fault
 settings-found settings.BadVcid = refl
-settings-found settings.BadWindow = refl
-settings-found settings.BadBuffer = refl
-settings-found settings.BadApid = refl
-settings-found settings.DoubleApid = refl
-settings-found settings.BadCapacity = refl
-settings-found settings.BadMap = refl
-settings-found settings.DoubleMap = refl
-settings-found settings.BadUnits = refl
-settings-found settings.PlainMap = refl
-settings-found settings.NoMemory = refl
+settings-found _ = refl
 
 pub settings-apart : (one other : SettingsFault) → settings_status one ≡ settings_status other → one ≡ other
-settings-apart one other e =
-    let same : Some one ≡ Some other = sym (settings-found one) ∙ (ap settings_of e ∙ settings-found other) in
-    cc
+settings-apart = apart settings_status settings_of settings-found
 
 abbrev limits_of : Status → Option LimitsFault
 limits_of st.BadOthers = Some limits.BadOthers
@@ -142,24 +109,7 @@ limits_of other = option_map limits.Settings (settings_of other)
 
 limits-found : (fault : LimitsFault) → limits_of (limits_status fault) ≡ Some fault
 limits-found (limits.Settings settings.BadVcid) = refl
-limits-found (limits.Settings settings.BadWindow) = refl
-limits-found (limits.Settings settings.BadBuffer) = refl
-limits-found (limits.Settings settings.BadApid) = refl
-limits-found (limits.Settings settings.DoubleApid) = refl
-limits-found (limits.Settings settings.BadCapacity) = refl
-limits-found (limits.Settings settings.BadMap) = refl
-limits-found (limits.Settings settings.DoubleMap) = refl
-limits-found (limits.Settings settings.BadUnits) = refl
-limits-found (limits.Settings settings.PlainMap) = refl
-limits-found (limits.Settings settings.NoMemory) = refl
-limits-found limits.BadOthers = refl
-limits-found limits.BadMap = refl
-limits-found limits.DoubleMap = refl
-limits-found limits.BadLimit = refl
-limits-found limits.PlainMap = refl
-limits-found limits.UnlistedMap = refl
+limits-found _ = refl
 
 pub limits-apart : (one other : LimitsFault) → limits_status one ≡ limits_status other → one ≡ other
-limits-apart one other e =
-    let same : Some one ≡ Some other = sym (limits-found one) ∙ (ap limits_of e ∙ limits-found other) in
-    cc
+limits-apart = apart limits_status limits_of limits-found

@@ -1,9 +1,9 @@
+pub mod Walking
 mod Buffers
 mod Places
 mod Records
 mod Farms
 mod Faults
-mod Commands
 mod Racks
 mod Blocks
 mod Receiving

@@ -41,11 +41,6 @@ step-last mode room h o f there =
     ∙ ap (λ (x : List ℕ). after_block room x (decoded mode (take 7 (drop h f) ++ o ∷ []))) (sym (held-stays h 7 o f))
     ∙ ap (λ (x : List ℕ). after_block room (take h (set f (h + 7) o)) (decoded mode x)) (sym (block-more h 7 o f there))
 
-pub fate-more : (mode : Mode) (h c o : ℕ) (f : List ℕ) → c < 7 → h + c < length f → fate_of mode (Decoding (take h f) (take c (drop h f))) o ≡ None
-fate-more mode h c o f less there =
-    let long = block-length h c f there in
-    ap (λ (t : Bool). if t then None else Some (fate_in mode (take c (drop h f) ++ o ∷ []))) (lt-ltb (length (take c (drop h f))) 7 (omega arith))
-
 pub fate-last : (mode : Mode) (h o : ℕ) (f : List ℕ) → h + 7 < length f
     → fate_of mode (Decoding (take h f) (take 7 (drop h f))) o ≡ Some (fate_in mode (take 8 (drop h (set f (h + 7) o))))
 fate-last mode h o f there =

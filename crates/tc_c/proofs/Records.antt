@@ -1,5 +1,5 @@
 -- What a record keeps is a FARM-1.
-use Rattle.std.proofs.Common.{rules, arith, ◌≡◌, ℕ, ◌<◌, Bool, true, false, Result, Ok, Err, refl, if◌then◌else◌}
+use Rattle.std.proofs.Common.{rules, arith, ◌≡◌, ℕ, ◌<◌, Bool, true, Result, Ok, Err, refl, if◌then◌else◌}
 use Rattle.std.proofs.lemmas.Grind.{common_steps}
 use Rattle.tc_link.specs.declared.farm.Report.{Report}
 use Rattle.tc_link.specs.Farm.{Machine}
@@ -19,9 +19,8 @@ agreed kept report e = grind (arith, common_steps) steps 1000000
 parted : (w : Bool) (r : Result Report Status) (width : ℕ) (farm : Machine)
     → (if w then with_ok r (λ report. Ok (record { width = width; report = report })) else Err BadWidth) ≡ Ok farm
     → (w ≡ true) × (r ≡ Ok farm.report) × (farm.width ≡ width)
-parted false r width farm e = absurd cc
-parted true (Err fault) width farm e = absurd cc
 parted true (Ok report) width farm e = (refl, cc, cc)
+parted _ _ width farm e = absurd cc
 
 pub wide : (width : ℕ) → is_width width ≡ true → IsWidth width
 wide width e = grind (arith, common_steps) steps 1000000

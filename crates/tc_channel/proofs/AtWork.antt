@@ -1,11 +1,11 @@
 -- What a channel works with, over what rooms add to it.
 use Rattle.std.proofs.Common.{◌≡◌, ℕ, ◌<◌, Bool, true, false, cond, eqb, List, [], ◌∷◌, ◌++◌, length, drop, Option, Some, None, refl, sym, ap, subst, ◌∙◌, arith}
 use Rattle.std.specs.Prelude.{slice_get, IsSome, OnErr, option_map, Result, Ok, Err}
-use Rattle.tc_channel.proofs.Names.{at_most, run_left, run_at, Settings, Event, Take, TakeUnit, AreRuns, take_reply_within, unit_reply_within, first_of, Service, Bd}
+use Rattle.tc_channel.proofs.Names.{HoldsWithin, at_most, run_left, run_at, Settings, Event, Take, TakeUnit, AreRuns, take_reply_within, unit_reply_within, first_of, Service, Bd}
 use Rattle.tc_rooms.specs.Runs.{Store, open_runs, limit_at}
 use Rattle.tc_channel.specs.HeldQueues.{HeldQueue, queue_for, oldest_for, popped, shorter}
 use Rattle.tc_channel.specs.Keyed.{Keyed, rings_in, room_sizes, AreSettled}
-use Rattle.tc_channel.specs.Workings.{AreEnough, HaveLimits, Parts, HoldsInRooms, AreWorkings}
+use Rattle.tc_channel.specs.Workings.{inside_of, AreEnough, HaveLimits, Parts, HoldsInRooms, AreWorkings}
 use Rattle.tc_packet.specs.Reassembly.{place_of}
 use Rattle.circular_buffer.specs.Buffer.{buffer}
 use Rattle.tc_packet.specs.declared.Service.TheVariants.{Ad}
@@ -53,41 +53,51 @@ packet-is apid k = ap oldest (packets-wait apid k.holds)
 pub unit-is : {limits : ℕ → ℕ} {s : Settings} {journal : List Event} {parts : Parts} (map_id : ℕ) → HoldsInRooms limits s journal parts → unit_reply_within limits s journal map_id ≡ oldest_for map_id (rings_in parts.units)
 unit-is map_id k = ap oldest (units-wait map_id k.holds)
 
+-- the packet queues were changed, with rooms as large as before
+with-queues : {limits : ℕ → ℕ} {s : Settings} {journal : List Event} {parts : Parts} (next : List Event) (later : List Keyed) → HoldsInRooms limits s journal parts → HoldsWithin limits s next (inside_of (record parts { queues = later }))
+    → room_sizes later ≡ room_sizes parts.queues → (AreSettled parts.queues → AreSettled later) → HoldsInRooms limits s next (record parts { queues = later })
+with-queues {parts = parts} next later k holds same still = record {
+  holds = holds;
+  field_size = k.field_size;
+  fields_settled = k.fields_settled;
+  settled = still k.settled;
+  units_settled = k.units_settled;
+  limits_are = k.limits_are;
+  small = k.small;
+  sizes = subst (AreEnough parts.store) (sym same) k.sizes;
+  unit_sizes = k.unit_sizes;
+}
+
+-- the unit queues were changed, with rooms as large as before
+with-units : {limits : ℕ → ℕ} {s : Settings} {journal : List Event} {parts : Parts} (next : List Event) (later : List Keyed) → HoldsInRooms limits s journal parts → HoldsWithin limits s next (inside_of (record parts { units = later }))
+    → room_sizes later ≡ room_sizes parts.units → (AreSettled parts.units → AreSettled later) → HoldsInRooms limits s next (record parts { units = later })
+with-units {parts = parts} next later k holds same still = record {
+  holds = holds;
+  field_size = k.field_size;
+  fields_settled = k.fields_settled;
+  settled = k.settled;
+  units_settled = still k.units_settled;
+  limits_are = k.limits_are;
+  small = k.small;
+  sizes = k.sizes;
+  unit_sizes = subst (AreEnough parts.store) (sym same) k.unit_sizes;
+}
+
 -- the oldest packet was taken, and its room is free
 pub packet-taken : {limits : ℕ → ℕ} {s : Settings} {journal : List Event} {parts : Parts} (later : List Keyed) (apid : ℕ)
     → HoldsInRooms limits s journal parts → IsSome (oldest_for apid (rings_in parts.queues)) → rings_in later ≡ popped apid (rings_in parts.queues)
     → room_sizes later ≡ room_sizes parts.queues → (AreSettled parts.queues → AreSettled later) → HoldsInRooms limits s (journal ++ Take apid ∷ []) (record parts { queues = later })
-packet-taken {limits} {s} {journal} {parts} later apid k has is same still =
+packet-taken {journal = journal} {parts = parts} later apid k has is same still =
     let item = some-item (oldest_for apid (rings_in parts.queues)) has in
-    record {
-      holds = take-keeps (rings_in later) apid item.0 k.holds item.1 is;
-      field_size = k.field_size;
-      fields_settled = k.fields_settled;
-      settled = still k.settled;
-      units_settled = k.units_settled;
-      limits_are = k.limits_are;
-      small = k.small;
-      sizes = subst (AreEnough parts.store) (sym same) k.sizes;
-      unit_sizes = k.unit_sizes;
-    }
+    with-queues (journal ++ Take apid ∷ []) later k (take-keeps (rings_in later) apid item.0 k.holds item.1 is) same still
 
 -- the oldest unit was taken
 pub unit-taken : {limits : ℕ → ℕ} {s : Settings} {journal : List Event} {parts : Parts} (later : List Keyed) (map_id : ℕ)
     → HoldsInRooms limits s journal parts → IsSome (oldest_for map_id (rings_in parts.units)) → rings_in later ≡ popped map_id (rings_in parts.units)
     → room_sizes later ≡ room_sizes parts.units → (AreSettled parts.units → AreSettled later) → HoldsInRooms limits s (journal ++ TakeUnit map_id ∷ []) (record parts { units = later })
-unit-taken {limits} {s} {journal} {parts} later map_id k has is same still =
+unit-taken {journal = journal} {parts = parts} later map_id k has is same still =
     let item = some-item (oldest_for map_id (rings_in parts.units)) has in
-    record {
-      holds = take-unit-keeps (rings_in later) map_id item.0 k.holds item.1 is;
-      field_size = k.field_size;
-      fields_settled = k.fields_settled;
-      settled = k.settled;
-      units_settled = still k.units_settled;
-      limits_are = k.limits_are;
-      small = k.small;
-      sizes = k.sizes;
-      unit_sizes = subst (AreEnough parts.store) (sym same) k.unit_sizes;
-    }
+    with-units (journal ++ TakeUnit map_id ∷ []) later k (take-unit-keeps (rings_in later) map_id item.0 k.holds item.1 is) same still
 
 -- where no item waits, none is dropped
 nothing-shorter : (w : HeldQueue) → slice_get w.ring.items 0 ≡ None → shorter w ≡ w
@@ -103,40 +113,12 @@ popped-none key (w ∷ ws) none = by (eqb w.key key) (λ e. popped-none key ws e
   by true rest e = ap (λ (x : HeldQueue). x ∷ ws) (nothing-shorter w e)
   by false rest e = ap (λ (x : List HeldQueue). w ∷ x) (rest e)
 
-same-queues : {limits : ℕ → ℕ} {s : Settings} {journal : List Event} {parts : Parts} (later : List Keyed)
-    → HoldsInRooms limits s journal parts → rings_in later ≡ rings_in parts.queues → room_sizes later ≡ room_sizes parts.queues → (AreSettled parts.queues → AreSettled later) → HoldsInRooms limits s journal (record parts { queues = later })
-same-queues {limits} {s} {journal} {parts} later k is same still = record {
-  holds = rw is k.holds;
-  field_size = k.field_size;
-  fields_settled = k.fields_settled;
-  settled = still k.settled;
-  units_settled = k.units_settled;
-  limits_are = k.limits_are;
-  small = k.small;
-  sizes = subst (AreEnough parts.store) (sym same) k.sizes;
-  unit_sizes = k.unit_sizes;
-}
-
-same-units : {limits : ℕ → ℕ} {s : Settings} {journal : List Event} {parts : Parts} (later : List Keyed)
-    → HoldsInRooms limits s journal parts → rings_in later ≡ rings_in parts.units → room_sizes later ≡ room_sizes parts.units → (AreSettled parts.units → AreSettled later) → HoldsInRooms limits s journal (record parts { units = later })
-same-units {limits} {s} {journal} {parts} later k is same still = record {
-  holds = rw is k.holds;
-  field_size = k.field_size;
-  fields_settled = k.fields_settled;
-  settled = k.settled;
-  units_settled = still k.units_settled;
-  limits_are = k.limits_are;
-  small = k.small;
-  sizes = k.sizes;
-  unit_sizes = subst (AreEnough parts.store) (sym same) k.unit_sizes;
-}
-
 -- with the oldest packet taken, if one waited, they are the workings of some channel
 pub queues-work : (parts : Parts) (later : List Keyed) (apid : ℕ) → AreWorkings parts → rings_in later ≡ popped apid (rings_in parts.queues)
     → room_sizes later ≡ room_sizes parts.queues → (AreSettled parts.queues → AreSettled later) → AreWorkings (record parts { queues = later })
 queues-work parts later apid w is same still = by (oldest_for apid (rings_in parts.queues)) refl where
   by : (o : Option (List ℕ)) → oldest_for apid (rings_in parts.queues) ≡ o → AreWorkings (record parts { queues = later })
-  by None none = (w.0, w.1, w.2, same-queues later w.3 (is ∙ popped-none apid (rings_in parts.queues) none) same still)
+  by None none = (w.0, w.1, w.2, with-queues w.2 later w.3 (rw (is ∙ popped-none apid (rings_in parts.queues) none) w.3.holds) same still)
   by (Some item) some = (w.0, w.1, w.2 ++ Take apid ∷ [], packet-taken later apid w.3 (rw some refl) is same still)
 
 -- the same of the oldest unit
@@ -144,7 +126,7 @@ pub units-work : (parts : Parts) (later : List Keyed) (map_id : ℕ) → AreWork
     → room_sizes later ≡ room_sizes parts.units → (AreSettled parts.units → AreSettled later) → AreWorkings (record parts { units = later })
 units-work parts later map_id w is same still = by (oldest_for map_id (rings_in parts.units)) refl where
   by : (o : Option (List ℕ)) → oldest_for map_id (rings_in parts.units) ≡ o → AreWorkings (record parts { units = later })
-  by None none = (w.0, w.1, w.2, same-units later w.3 (is ∙ popped-none map_id (rings_in parts.units) none) same still)
+  by None none = (w.0, w.1, w.2, with-units w.2 later w.3 (rw (is ∙ popped-none map_id (rings_in parts.units) none) w.3.holds) same still)
   by (Some item) some = (w.0, w.1, w.2 ++ TakeUnit map_id ∷ [], unit-taken later map_id w.3 (rw some refl) is same still)
 
 -- a call that was refused leaves them as they were but for what doesn't count

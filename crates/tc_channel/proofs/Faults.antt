@@ -1,12 +1,11 @@
 -- Which fault settings have, and which they are free of.
-use Rattle.std.proofs.Common.{List, [], ◌∷◌, inl, inr, ◌≡◌, ◌≢◌, ℕ, zero, suc, ◌++◌, refl, arith}
+use Rattle.std.proofs.Common.{List, [], ◌∷◌, inl, inr, ◌≡◌, ◌≢◌, ℕ, zero, suc, ◌++◌, take, drop, refl, subst, sym, arith}
 use Rattle.tc_channel.specs.declared.settings.Settings.{Settings}
 use Rattle.tc_channel.specs.declared.settings.SettingsFault.{SettingsFault}
 use Rattle.tc_channel.specs.declared.settings.SettingsFault.TheVariants.{BadVcid, BadWindow, BadBuffer, BadApid, DoubleApid, BadCapacity, BadMap, DoubleMap, BadUnits, PlainMap, NoMemory}
 use Rattle.tc_channel.specs.Settings.{IsAllowed, IsFreeOf, IsFirstFault, IsFault, faults_in_order}
 use Rattle.std.specs.Prelude.{All, AllPairs}
 use Rattle.std.specs.List.{AllByRecursion}
-use Rattle.tc_channel.proofs.Names.{Settings, IsFreeOf, IsFirstFault}
 
 pub free-of-each : (s : Settings) (fault : SettingsFault) → IsAllowed s → IsFreeOf s fault
 free-of-each s BadVcid a = a.vcid
@@ -52,3 +51,8 @@ not-two-apart key one other same apart = apart 0 1 one (omega arith) (omega arit
 pub first-of : (s : Settings) (before later : List SettingsFault) (fault : SettingsFault) → AllByRecursion (IsFreeOf s) before → ¬ IsFreeOf s fault → IsFirstFault s (before ++ fault ∷ later) fault
 first-of s [] later fault free has = inl (refl, has)
 first-of s (b ∷ before) later fault free has = inr (free.0, first-of s before later fault free.1 has)
+
+-- the fault at this place of the list
+pub is-fault : (s : Settings) (n : ℕ) (fault : SettingsFault) → AllByRecursion (IsFreeOf s) (take n faults_in_order) → ¬ IsFreeOf s fault → faults_in_order ≡ take n faults_in_order ++ fault ∷ drop (suc n) faults_in_order → IsFault s fault
+unfolding IsFault
+is-fault s n fault free has at = subst (λ faults. IsFirstFault s faults fault) (sym at) (first-of s (take n faults_in_order) (drop (suc n) faults_in_order) fault free has)

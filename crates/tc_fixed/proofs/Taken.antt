@@ -24,19 +24,17 @@ says-nothing room (Some []) count fault none count_is is = rw (is, count_is) (re
 says-nothing room (Some (x ∷ xs)) count fault none count_is is = absurd cc
 
 pub says-over : (room : ℕ) (waiting : Option (List (List ℕ))) (item : List ℕ) → Some item ≡ oldest waiting → room < length item → Says room waiting (Err taking.NoRoom)
-says-over room None item some over = absurd cc
-says-over room (Some []) item some over = absurd cc
 says-over room (Some (x ∷ xs)) item some over =
     let same : item ≡ x = cc in
     record { no_queue = (λ e. absurd cc, λ e. absurd cc); empty = (λ e. absurd cc, λ e. absurd cc); no_room = (λ e. rw (← same) over, λ o. refl) }
+says-over room _ item some over = absurd cc
 
 pub says-taken : (room : ℕ) (waiting : Option (List (List ℕ))) (item : List ℕ) (count : ℕ) → Some item ≡ oldest waiting → length item ≤ room → Says room waiting (Ok count)
-says-taken room None item count some fits = absurd cc
-says-taken room (Some []) item count some fits = absurd cc
 says-taken room (Some (x ∷ xs)) item count some fits =
     let same : item ≡ x = cc in
     let short : length x ≤ room = rw (← same) fits in
     record { no_queue = (λ e. absurd cc, λ e. absurd cc); empty = (λ e. absurd cc, λ e. absurd cc); no_room = (λ e. absurd cc, λ over. absurd (omega (arith, over, short))) }
+says-taken room _ item count some fits = absurd cc
 
 -- the same of a unit queue
 pub record SaysOfUnit (room : ℕ) (waiting : Option (List (List ℕ))) (answer : Result ℕ NoUnitTaken) : Type 0 where

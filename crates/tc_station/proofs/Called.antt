@@ -5,14 +5,7 @@ use Rattle.std.proofs.lemmas.Bool.{eqb-true}
 use Rattle.std.proofs.lemmas.List.{map-set, get_or-map, length-map, length-append, set-get_or}
 use Rattle.std.proofs.lemmas.List.Quantifiers.{position-Some}
 use Rattle.std.proofs.lemmas.Option.{slice_get_read}
-use Rattle.tc_channel.specs.declared.event.Event.{Event}
-use Rattle.tc_channel.specs.declared.settings.Settings.{Settings}
-use Rattle.tc_desk.specs.Log.{Moment, Own, AtLock, count_of}
-use Rattle.tc_desk.specs.Call.{IsCall, made}
-use Rattle.tc_desk.specs.Together.{locks_of, settings_of_desks}
-use Rattle.tc_station.specs.StationSettings.{vcids_of}
-use Rattle.tc_station.specs.Tally.{AtStation, at_station, counts_of, tallied, tally, raised, raised_at}
-use Rattle.tc_station.specs.Call.{IsCallAt}
+use Rattle.tc_station.proofs.Names.{Event, Settings, Moment, Own, AtLock, count_of, IsCall, made, locks_of, settings_of_desks, vcids_of, AtStation, at_station, counts_of, tallied, tally, raised, raised_at, IsCallAt}
 use Rattle.tc_station.proofs.Counts.{raised-is}
 
 -- a list of what is read of each desk, with one desk in another's place

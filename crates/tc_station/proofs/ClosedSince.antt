@@ -3,24 +3,15 @@ use Rattle.std.proofs.Common.{◌≡◌, ◌<◌, ℕ, zero, suc, List, [], ◌�
 use mathlib.Core.List.{IsPrefix}
 use mathlib.Core.Option.{some}
 use lib.ListN.{get_elem?}
-use Rattle.std.specs.Prelude.{◌≤◌, slice_get, slice_index_or, slice_set}
+use Rattle.std.specs.Prelude.{slice_get, slice_index_or, slice_set}
 use Rattle.std.proofs.lemmas.List.{length-append}
 use Rattle.std.proofs.lemmas.Option.{none-some, same_Some, slice_get_within}
 use Rattle.logged_lock.specs.Log.{IsBeginning}
-use Rattle.tc_channel.specs.declared.event.Event.{Event}
-use Rattle.tc_channel.specs.declared.settings.Settings.{Settings}
-use Rattle.tc_channel.specs.Journal.{History}
+use Rattle.tc_station.proofs.Names.{Event, History, made, AtLock, Identity, Moment, Own, accounts_of, column, nobody, IsCallAt, IsMetAt, Roster, AtStation, crews_of}
 use Rattle.tc_channel.specs.Reply.{clcw}
 use Rattle.tc_link.specs.declared.Link.{Link}
 use Rattle.tc_status.specs.Board.{Watching}
-use Rattle.tc_desk.specs.Call.{made}
-use Rattle.tc_desk.specs.Log.{AtLock, Identity, Moment, Own, accounts_of}
-use Rattle.tc_desk.specs.Together.{column, nobody}
-use Rattle.tc_station.specs.Call.{IsCallAt, IsMetAt}
-use Rattle.tc_station.specs.Roster.{Roster}
-use Rattle.tc_station.specs.Tally.{AtStation}
 use Rattle.tc_station.specs.Through.{IsClosedSince, IsWordRead, IsShownIn}
-use Rattle.tc_station.specs.Together.{crews_of}
 
 prefix-trans : (es fs gs : List Event) → IsPrefix es fs → IsPrefix fs gs → IsPrefix es gs
 prefix-trans es fs gs p q = (p.0 ++ q.0, sym (append_assoc es p.0 q.0) ∙ (ap (λ w. w ++ q.0) p.1 ∙ q.1))

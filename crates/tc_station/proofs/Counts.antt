@@ -1,17 +1,15 @@
 -- What one job does to the count of a channel.
-use Rattle.std.proofs.Common.{◌≡◌, ℕ, zero, suc, ◌+◌, ◌<◌, ◌≤◌, List, [], ◌∷◌, length, take, get_or, set, min, max, cond, Bool, true, false, Option, Some, None, refl, sym, ap, ◌∙◌, subst, eq-eqb, arith}
+use Rattle.std.proofs.Common.{◌≡◌, ℕ, zero, suc, ◌+◌, ◌<◌, ◌≤◌, List, ◌∷◌, length, take, get_or, set, min, max, cond, Bool, true, false, Option, Some, None, refl, sym, ap, ◌∙◌, subst, eq-eqb, arith}
 use Rattle.std.specs.Prelude.{◌==◌, ◌&&◌, nat_lt, is_none, slice_index, Contains}
 use Rattle.std.proofs.lemmas.Bool.{le-ltb}
 use Rattle.std.proofs.lemmas.Bool.Decides.{nat_tests}
 use Rattle.std.proofs.lemmas.List.{get_or-take, get_or-set_same, get_or-set_other, length-set, length-take}
 use Rattle.tc_link.specs.declared.frame.FrameFault.{FrameFault}
 use Rattle.tc_link.specs.Frame.{BeginsWith, header_of, fault_of, version_of, spare_of, named_length}
-use Rattle.tc_station.specs.Roster.{Roster}
-use Rattle.tc_station.specs.Tally.{raised, raised_at}
+use Rattle.tc_station.proofs.Names.{Roster, raised, raised_at, is_frame_for, raised_by}
 use Rattle.tc_station.specs.Location.{IsLocated, IsLocateFault}
 use Rattle.tc_link.specs.declared.location.LocateFault.{LocateFault}
 use Rattle.tc_link.specs.declared.location.LocateFault.TheVariants.{Frame, OtherSpacecraft, UnknownChannel}
-use Rattle.tc_station.specs.Work.{is_frame_for, raised_by}
 
 front : (octets frame : List ℕ) (k : ℕ) → frame ≡ take (length frame) octets → k < length frame → get_or octets k 0 ≡ get_or frame k 0
 front octets frame k e lt = sym (ap (λ xs. get_or xs k 0) e ∙ get_or-take (length frame) octets k 0 lt)
@@ -91,11 +89,9 @@ raised-else None cs k other = refl
 raised-else (Some j) cs k other = get_or-set_other cs j k (raised (get_or cs j 0)) 0 (λ e. other (ap Some (sym e)))
 
 set-rises : (cs : List ℕ) (k x : ℕ) → get_or cs k 0 ≤ x → (place : ℕ) → get_or cs place 0 ≤ get_or (set cs k x) place 0
-set-rises [] k x up place = omega arith
 set-rises (c ∷ cs) zero x up zero = up
-set-rises (c ∷ cs) zero x up (suc place) = omega arith
-set-rises (c ∷ cs) (suc k) x up zero = omega arith
 set-rises (c ∷ cs) (suc k) x up (suc place) = set-rises cs k x up place
+set-rises _ _ x up _ = omega arith
 
 raised-up : (c : ℕ) → c ≤ raised c
 raised-up c = omega (arith, raised-is c)

@@ -1,3 +1,4 @@
+pub mod Names
 pub mod Distinct
 pub mod Counts
 pub mod Called

@@ -1,20 +1,12 @@
 -- What a call with meetings, and a meeting alone, make of the operator's list of desks and of the watcher.
-use Rattle.std.proofs.Common.{◌≡◌, ◌<◌, ℕ, List, length, map, get_or, Option, set, None, Some, Result, Err, refl, sym, ap, ◌∙◌, subst, arith}
+use Rattle.std.proofs.Common.{◌≡◌, ◌<◌, ℕ, List, length, get_or, Option, set, None, Some, Result, Err, refl, sym, ap, ◌∙◌, arith}
 use Rattle.std.specs.Prelude.{◌==◌, OnErr, OnOk, position, slice_get}
 use Rattle.std.proofs.lemmas.List.{get_or-map, length-map}
 use Rattle.std.proofs.lemmas.Option.{none-some, same_Some, slice_get-get_or, slice_get_read}
-use Rattle.tc_channel.specs.declared.event.Event.{Event}
+use Rattle.tc_station.proofs.Names.{Event, History, AtLock, Identity, Moment, HasMet, HasSeenNoMore, IsCall, IsMeeting, IsMetCall, heads_of, locks_of, settings_of_desks, IsCallAt, IsMetAt, IsMetCallAt, Roster, IsPlace, vcids_of, at_station, tallied, tally}
 use Rattle.tc_channel.specs.declared.event.Event.TheVariants.{Release}
-use Rattle.tc_channel.specs.Journal.{History}
-use Rattle.tc_desk.specs.Log.{AtLock, Identity, Moment, Own}
-use Rattle.tc_desk.specs.Call.{HasMet, HasSeenNoMore, IsCall, IsMeeting, IsMetCall}
-use Rattle.tc_desk.specs.Together.{heads_of, locks_of, settings_of_desks}
 use Rattle.tc_status.specs.Board.{Watching}
-use Rattle.tc_station.specs.Call.{IsCallAt, IsMetAt, IsMetCallAt}
 use Rattle.tc_station.specs.Moments.{IsWatcherOf}
-use Rattle.tc_station.specs.Roster.{Roster, IsPlace}
-use Rattle.tc_station.specs.StationSettings.{vcids_of}
-use Rattle.tc_station.specs.Tally.{at_station, tallied, tally}
 use Rattle.tc_station.proofs.Called.{counted-by, head-kept, id-of, locks-kept, refused-by, same-set, settings-kept}
 
 -- a meeting is a call that was refused

@@ -4,16 +4,9 @@ use Rattle.std.specs.Prelude.{◌==◌, position, slice_get, Some}
 use Rattle.std.proofs.lemmas.Grind.{common_steps}
 use Rattle.std.proofs.lemmas.List.{length-map, get_or-map}
 use Rattle.std.proofs.lemmas.Option.{none-some, same_Some, slice_get_read}
-use Rattle.tc_channel.specs.declared.settings.Settings.{Settings}
-use Rattle.tc_channel.specs.Journal.{History}
+use Rattle.tc_station.proofs.Names.{Settings, History, AtLock, Identity, accounts_of, with_one_issued, AreClosed, AreOurs, AreSame, HasCause, column, heads_of, locks_of, settings_of_desks, Roster, HaveIssued, IsDeskOf, vcids_of, AtStation, Tally, HasMadeNothing, IsOurs, KnowsDesks, arrival, at_station, counts_of, fresh, issued_more, newcomer_at_desks, tallies, tally, IsCauseAtStation, crews_of}
 use Rattle.tc_desk.specs.{TableId}
 use Rattle.logged_lock.specs.Log.{total_made}
-use Rattle.tc_desk.specs.Log.{AtLock, Identity, accounts_of, with_one_issued}
-use Rattle.tc_desk.specs.Together.{AreClosed, AreOurs, AreSame, HasCause, column, heads_of, locks_of, settings_of_desks}
-use Rattle.tc_station.specs.Roster.{Roster, HaveIssued, IsDeskOf}
-use Rattle.tc_station.specs.StationSettings.{vcids_of}
-use Rattle.tc_station.specs.Tally.{AtStation, Tally, HasMadeNothing, IsOurs, KnowsDesks, arrival, at_station, counts_of, fresh, issued_more, newcomer_at_desks, tallies, tally}
-use Rattle.tc_station.specs.Together.{IsCauseAtStation, crews_of}
 use Rattle.tc_station.proofs.Called.{id-of}
 
 -- the settings are in the heads
@@ -98,23 +91,16 @@ below-at (suc n) (p ∷ ps) d lt = below-at n ps d (omega (arith, lt))
 
 pub below-step : (n : ℕ) (posts : List AtLock) (d : AtLock) → n < length posts → set (issued_below n posts) n (with_one_issued (get_or posts n d)) ≡ issued_below (suc n) posts
 unfolding issued_below
-below-step zero [] d lt = absurd (omega (arith, lt))
 below-step zero (p ∷ ps) d lt = refl
-below-step (suc n) [] d lt = absurd (omega (arith, lt))
 below-step (suc n) (p ∷ ps) d lt = ap (λ (l : List AtLock). with_one_issued p ∷ l) (below-step n ps d (omega (arith, lt)))
-
-pub below-length : (n : ℕ) (posts : List AtLock) → length (issued_below n posts) ≡ length posts
-unfolding issued_below
-below-length zero posts = refl
-below-length (suc n) [] = refl
-below-length (suc n) (p ∷ ps) = ap suc (below-length n ps)
+below-step _ [] d lt = absurd (omega (arith, lt))
 
 pub below-all : (n : ℕ) (posts : List AtLock) → length posts ≤ n → issued_below n posts ≡ map with_one_issued posts
 unfolding issued_below
-below-all zero [] le = refl
 below-all zero (p ∷ ps) le = absurd (omega (arith, le))
-below-all (suc n) [] le = refl
 below-all (suc n) (p ∷ ps) le = ap (λ (l : List AtLock). with_one_issued p ∷ l) (below-all n ps (omega (arith, le)))
+below-all zero [] le = refl
+below-all (suc n) [] le = refl
 
 -- one post more has issued an operator
 pub station-step : (old now : List AtLock) (n : ℕ) (d next : AtLock) → now ≡ issued_below n old → n < length old → d ≡ get_or now n d → next ≡ with_one_issued d → set now n next ≡ issued_below (n + 1) old
@@ -248,12 +234,11 @@ more-issued station scid issued n more vcids old new is same sum =
 settings-each : (posts : List AtLock) (closed : List History) → length closed ≡ length posts
     → ((place : ℕ) (post : AtLock) (channel : History) → slice_get posts place ≡ Some post → slice_get closed place ≡ Some channel → channel.settings ≡ post.own.seen.head.settings) → map (λ (h : History). h.settings) closed ≡ settings_of_desks posts
 settings-each [] [] long each = refl
-settings-each (p ∷ ps) [] long each = absurd (omega arith)
-settings-each [] (h ∷ hs) long each = absurd (omega arith)
 settings-each (p ∷ ps) (h ∷ hs) long each =
     let here = each zero p h refl refl in
     let rest = settings-each ps hs (omega arith) (λ place post channel at there. each (suc place) post channel at there) in
     cc
+settings-each _ _ long each = absurd (omega arith)
 
 -- closed channels have the settings of their desks
 pub closed-settings : (posts : List AtLock) (crews : List (List AtLock)) (closed : List History) → AreClosed posts crews closed → map (λ (h : History). h.settings) closed ≡ settings_of_desks posts

@@ -2,7 +2,7 @@
 use Rattle.std.proofs.Common.{◌≡◌, ℕ, ◌+◌, ◌<◌, Bool, List, [], ◌∷◌, ◌++◌, length, map, take, get_or, Result, Ok, Err, refl, sym, ap, ◌∙◌, subst, inl, inr}
 use Rattle.std.proofs.lemmas.List.{take_more}
 use Rattle.std.proofs.lemmas.Option.{get_or_from_slice_get}
-use Rattle.tc_channel.specs.declared.event.Event.{Event}
+use Rattle.tc_station.proofs.Names.{Event, Moment, Own, AtLock, IsReleaseFault, IsTakeFault, IsTakeUnitFault, Roster, AtStation, release_refused, take_refused, take_unit_refused, IsCallAt, IsCallOn, IsBringCall, IsNotReleased, IsNotTaken, IsUnitNotTaken, CanBeMade, CannotBeMade, IsTriedAt, IsTriedOn, IsJobMade, AreMade, HasMadeTheSame}
 use Rattle.tc_channel.specs.declared.event.Event.TheVariants as events
 use Rattle.tc_channel.specs.declared.reply.ReleaseFault.{ReleaseFault}
 use Rattle.tc_channel.specs.declared.reply.ReleaseFault.TheVariants as release_faults
@@ -10,12 +10,6 @@ use Rattle.tc_channel.specs.declared.reply.TakeFault.{TakeFault}
 use Rattle.tc_channel.specs.declared.reply.TakeFault.TheVariants as take_faults
 use Rattle.tc_channel.specs.declared.reply.TakeUnitFault.{TakeUnitFault}
 use Rattle.tc_channel.specs.declared.reply.TakeUnitFault.TheVariants as unit_faults
-use Rattle.tc_desk.specs.Log.{Moment, Own, AtLock}
-use Rattle.tc_desk.specs.Call.{IsReleaseFault, IsTakeFault, IsTakeUnitFault}
-use Rattle.tc_station.specs.Roster.{Roster}
-use Rattle.tc_station.specs.Tally.{AtStation}
-use Rattle.tc_station.specs.Faults.{release_refused, take_refused, take_unit_refused}
-use Rattle.tc_station.specs.Call.{IsCallAt, IsCallOn, IsBringCall, IsNotReleased, IsNotTaken, IsUnitNotTaken}
 use Rattle.tc_station.specs.declared.faults.BringFault.{BringFault}
 use Rattle.tc_station.specs.declared.faults.ReleaseRefused.{ReleaseRefused}
 use Rattle.tc_station.specs.declared.faults.ReleaseRefused.TheVariants as release_refusals
@@ -25,7 +19,6 @@ use Rattle.tc_station.specs.declared.faults.TakeUnitRefused.{TakeUnitRefused}
 use Rattle.tc_station.specs.declared.faults.TakeUnitRefused.TheVariants as unit_refusals
 use Rattle.tc_station.specs.declared.work.Order.TheVariants as orders
 use Rattle.tc_station.specs.declared.work.Job.{Job}
-use Rattle.tc_station.specs.Tried.{CanBeMade, CannotBeMade, IsTriedAt, IsTriedOn, IsJobMade, AreMade, HasMadeTheSame}
 use Rattle.tc_station.proofs.Called.{ok-call, err-call, same-set}
 
 -- a call at one desk that memory didn't refuse: its event was made where it could be

@@ -8,15 +8,12 @@ use Rattle.std.proofs.lemmas.List.{take_more, map-append, length-map}
 use Rattle.std.proofs.lemmas.List.Sums.{sum_by-cons}
 use Rattle.std.proofs.lemmas.List.Quantifiers.{position-Some}
 use Rattle.std.proofs.lemmas.Grind.{common_steps}
-use Rattle.tc_station.specs.Roster.{Roster, IsPlace}
-use Rattle.tc_station.specs.Tally.{Tally, AtStation, IsOurs, tally, tallied, raised}
+use Rattle.tc_station.proofs.Names.{Roster, IsPlace, Tally, AtStation, IsOurs, tally, tallied, raised, IsListMade, IsTried, IsDone, AreDone, IsWorked, Shift, IsShift, IsTallyOf, AreWorked, lowest, brings_to, is_other, IsRaised, NoCountFalls}
 use Rattle.tc_station.specs.Lowest.{lower}
 use Rattle.tc_station.specs.declared.work.Order.{Order}
 use Rattle.tc_station.specs.declared.work.Order.TheVariants.{Bring, Release, Take, TakeUnit}
 use Rattle.tc_station.specs.declared.work.Job.{Job}
 use Rattle.tc_station.specs.declared.work.WorkList.{WorkList}
-use Rattle.tc_station.specs.Tried.{IsListMade}
-use Rattle.tc_station.specs.Work.{IsTried, IsDone, AreDone, IsWorked, Shift, IsShift, IsTallyOf, AreWorked, lowest, brings_to, is_other, IsRaised, NoCountFalls}
 use Rattle.tc_station.proofs.Counts.{Between, between-both, between-none, between-one, between-other, raised-length, raised-here, raised-else, rises, for-located, for-nobody}
 
 -- one job more
@@ -43,10 +40,8 @@ same-vcids station vcid (TakeUnit map_id) a b d = tried-vcids vcid a b d
 
 -- two parts of the lists
 lower-three : (a b c : Option ℕ) → lower a (lower b c) ≡ lower (lower a b) c
-lower-three None b c = refl
-lower-three (Some x) None c = refl
-lower-three (Some x) (Some y) None = refl
 lower-three (Some x) (Some y) (Some z) = let same : min x (min y z) ≡ min (min x y) z = omega arith in ap Some same
+lower-three _ _ _ = refl
 
 lowest-append : (xs ys : List Shift) → lowest (xs ++ ys) ≡ lower (lowest xs) (lowest ys)
 lowest-append [] ys = refl
@@ -76,10 +71,7 @@ pub one-worked : (station : Roster) (lists : List WorkList) (ops : List AtStatio
     → IsTallyOf station (tally o) → IsOurs station z → IsWorked station l line (tally o) (tally z) → IsListMade station l line o z → AreWorked station lists line ops (set ops 0 z)
 one-worked station (x ∷ []) (y ∷ []) l o z line e f p q fits ours worked made =
     (record { list = l; refused = line; before = o; after = z } ∷ [], ap (λ w. w ∷ []) p, ap (λ w. w ∷ []) q, refl, (record { ours = fits; kept = ours; worked = worked; made = made }, tt), lower-none line)
-one-worked station [] ops l o z line e f p q fits ours worked made = absurd (omega arith)
-one-worked station (x ∷ (w ∷ ws)) ops l o z line e f p q fits ours worked made = absurd (omega arith)
-one-worked station (x ∷ []) [] l o z line e f p q fits ours worked made = absurd (omega arith)
-one-worked station (x ∷ []) (y ∷ (w ∷ ws)) l o z line e f p q fits ours worked made = absurd (omega arith)
+one-worked station _ _ l o z line e f p q fits ours worked made = absurd (omega arith)
 
 pub moved-worked : (station : Roster) (fl gl : List WorkList) (a b : Option ℕ) (fo go : List AtStation) (z : List AtStation) → AreWorked station fl a fo z → fl ≡ gl → a ≡ b → fo ≡ go → AreWorked station gl b go z
 moved-worked station fl gl a b fo go z w p q r = (w.0, w.1 ∙ p, w.2 ∙ r, w.3, w.4, w.5 ∙ q)

@@ -1,20 +1,14 @@
 -- A frame with another length field.
-use Rattle.std.proofs.Common.{◌≡◌, ℕ, suc, ◌/◌, ◌%◌, ◌≤◌, List, [], ◌∷◌, ◌++◌, length, drop, take, refl, arith}
+use Rattle.std.proofs.Common.{◌≡◌, ℕ, suc, ◌/◌, ◌%◌, ◌≤◌, List, ◌∷◌, ◌++◌, length, drop, take, refl, arith}
 use Rattle.std.specs.Prelude.{slice_set}
 use Rattle.tc_fecf.proofs.Plain.{head}
 
 pub relengthened : (f : List ℕ) (n : ℕ) → 4 ≤ length f → slice_set (slice_set f 2 (n / 256 % 256)) 3 (n % 256) ≡ head f n ++ drop 4 f
 relengthened (a ∷ b ∷ c ∷ d ∷ rest) n least = refl
-relengthened [] n least = absurd (omega arith)
-relengthened (a ∷ []) n least = absurd (omega arith)
-relengthened (a ∷ b ∷ []) n least = absurd (omega arith)
-relengthened (a ∷ b ∷ c ∷ []) n least = absurd (omega arith)
+relengthened _ n least = absurd (omega arith)
 
 -- and so of its front
 pub cut-off : (f : List ℕ) (n k : ℕ) → 4 ≤ length f
     → slice_set (slice_set (take (suc (suc (suc (suc k)))) f) 2 (n / 256 % 256)) 3 (n % 256) ≡ head f n ++ take k (drop 4 f)
 cut-off (a ∷ b ∷ c ∷ d ∷ rest) n k least = refl
-cut-off [] n k least = absurd (omega arith)
-cut-off (a ∷ []) n k least = absurd (omega arith)
-cut-off (a ∷ b ∷ []) n k least = absurd (omega arith)
-cut-off (a ∷ b ∷ c ∷ []) n k least = absurd (omega arith)
+cut-off _ n k least = absurd (omega arith)

@@ -11,10 +11,4 @@ packeted (a ∷ b ∷ c ∷ d ∷ e ∷ f ∷ []) field header six says version 
   header_bits = says;
   rest = refl;
 }
-packeted [] field header six says version named least most = absurd (omega arith)
-packeted (a ∷ []) field header six says version named least most = absurd (omega arith)
-packeted (a ∷ b ∷ []) field header six says version named least most = absurd (omega arith)
-packeted (a ∷ b ∷ c ∷ []) field header six says version named least most = absurd (omega arith)
-packeted (a ∷ b ∷ c ∷ d ∷ []) field header six says version named least most = absurd (omega arith)
-packeted (a ∷ b ∷ c ∷ d ∷ e ∷ []) field header six says version named least most = absurd (omega arith)
-packeted (a ∷ b ∷ c ∷ d ∷ e ∷ f ∷ g ∷ more) field header six says version named least most = absurd (omega arith)
+packeted _ field header six says version named least most = absurd (omega arith)

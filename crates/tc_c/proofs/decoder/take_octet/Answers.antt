@@ -1,37 +1,29 @@
-use Rattle.std.proofs.Common.{◌≡◌, ℕ, ◌+◌, set, refl, ap, sym, ◌∙◌, arith}
+use Rattle.std.proofs.Common.{◌≡◌, ℕ, ◌+◌, set, refl, ap, sym, ◌∙◌, arith, rules}
+use Rattle.std.proofs.lemmas.Grind.{common_steps}
 use Rattle.tc_cltu.specs.Reception.{Step}
 use Rattle.tc_c.proofs.Receiving.{more-state, last-state, last-fate}
 use Rattle.tc_c.proofs.decoder.take_octet.Goals as goal
 
-pub returns-then-decoder-eq7-clause-state : goal.returns-then-decoder-eq7-clause-state
-returns-then-decoder-eq7-clause-state c =
+pub returns-then-decoder-eq7 : goal.returns-then-decoder-eq7
+returns-then-decoder-eq7 c =
     let d = c.args.decoder in let f = c.args.frame.now in let o = c.args.octet in
     let decoding = c.requires.decoding in let other = c.if-decoder-eq0.false in
     let on : d.decoding ≡ 1 = omega arith in
     let held = c.requires.held in let room = c.requires.room in let last = c.if-decoder-eq7.true in
     let h = c.from.ensures in let k = c.from-2.ensures in
     let place : c.from.result + c.from-2.result ≡ d.held + d.count = omega arith in
-    c.end_block.ensures.state ∙ sym (ap (λ (s : Step). s.0) (last-state c.args.mode o d f (set f (c.from.result + c.from-2.result) o) on last (omega arith) (ap (λ (n : ℕ). set f n o) place)))
-
-pub returns-then-decoder-eq7-clause-given : goal.returns-then-decoder-eq7-clause-given
-returns-then-decoder-eq7-clause-given c =
-    let d = c.args.decoder in let f = c.args.frame.now in let o = c.args.octet in
-    let decoding = c.requires.decoding in let other = c.if-decoder-eq0.false in
-    let on : d.decoding ≡ 1 = omega arith in
-    let held = c.requires.held in let room = c.requires.room in let last = c.if-decoder-eq7.true in
-    let h = c.from.ensures in let k = c.from-2.ensures in
-    let place : c.from.result + c.from-2.result ≡ d.held + d.count = omega arith in
-    c.end_block.ensures.given ∙ sym (ap (λ (s : Step). s.1) (last-state c.args.mode o d f (set f (c.from.result + c.from-2.result) o) on last (omega arith) (ap (λ (n : ℕ). set f n o) place)))
-
-pub returns-then-decoder-eq7-clause-fate : goal.returns-then-decoder-eq7-clause-fate
-returns-then-decoder-eq7-clause-fate c =
-    let d = c.args.decoder in let f = c.args.frame.now in let o = c.args.octet in
-    let decoding = c.requires.decoding in let other = c.if-decoder-eq0.false in
-    let on : d.decoding ≡ 1 = omega arith in
-    let held = c.requires.held in let room = c.requires.room in let last = c.if-decoder-eq7.true in
-    let h = c.from.ensures in let k = c.from-2.ensures in
-    let place : c.from.result + c.from-2.result ≡ d.held + d.count = omega arith in
-    c.end_block.ensures.fate ∙ sym (last-fate c.args.mode o d f (set f (c.from.result + c.from-2.result) o) on last (omega arith) (ap (λ (n : ℕ). set f n o) place))
+    let written = ap (λ (n : ℕ). set f n o) place in
+    let now = last-state c.args.mode o d f (set f (c.from.result + c.from-2.result) o) on last (omega arith) written in
+    record {
+      mode = first_of (search rules, grind (arith, common_steps));
+      count = first_of (search rules, grind (arith, common_steps));
+      held = first_of (search rules, grind (arith, common_steps));
+      decoding = first_of (search rules, grind (arith, common_steps));
+      length = first_of (search rules, grind (arith, common_steps));
+      state = c.end_block.ensures.state ∙ sym (ap (λ (s : Step). s.0) now);
+      given = c.end_block.ensures.given ∙ sym (ap (λ (s : Step). s.1) now);
+      fate = c.end_block.ensures.fate ∙ sym (last-fate c.args.mode o d f (set f (c.from.result + c.from-2.result) o) on last (omega arith) written);
+    }
 
 pub returns-clause-state : goal.returns-clause-state
 returns-clause-state c =

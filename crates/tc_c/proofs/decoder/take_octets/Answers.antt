@@ -1,4 +1,5 @@
-use Rattle.std.proofs.Common.{◌≡◌, ℕ, ◌+◌, ◌-◌, ◌<◌, ◌≤◌, Bool, List, [], ◌∷◌, ◌++◌, length, get_or, take, if◌then◌else◌, refl, ap, sym, ◌∙◌, arith}
+use Rattle.std.proofs.Common.{◌≡◌, ℕ, ◌+◌, ◌-◌, ◌<◌, ◌≤◌, Bool, List, [], ◌∷◌, ◌++◌, length, get_or, take, if◌then◌else◌, refl, ap, sym, ◌∙◌, arith, rules}
+use Rattle.std.proofs.lemmas.Grind.{common_steps}
 use Rattle.tc_cltu.specs.Reception.{Reception, reception_step, state_after, frames_of, corrections_of, rejections_of, corrected_in, rejected_in}
 use Rattle.tc_cltu.proofs.Decoding.{fed-front, fed-more, fed-more-counted, one-counted}
 use Rattle.tc_c.specs.Decoder.{reception_of}
@@ -30,41 +31,31 @@ loop-octet-preserved c =
       rejected_within = omega arith;
     }
 
-pub returns-then-next-clause-state : goal.returns-then-next-clause-state
-returns-then-next-clause-state c =
-    let l = c.loop-octet in let os = c.args.octets.now in let i = l.octet-index in let m = c.args.mode in
-    let first = reception_of c.args.decoder c.args.frame.now in let at = reception_of l.now l.frame in
-    let n = c.take_octet-next.result in let t = c.take_octet-next.ensures in let inv = l.invariant in
-    let less : i < length os = c.loop-octet-test.true in
-    fed-front m m 1029 i os first at (reception_of n.decoder c.take_octet-next.new.frame) less refl t.state inv.state
-    ∙ sym (ap (λ (k : ℕ). state_after m 1029 first (take (k + 1) os)) inv.taken)
-
-pub returns-then-next-clause-given : goal.returns-then-next-clause-given
-returns-then-next-clause-given c =
+pub returns-then-next : goal.returns-then-next
+returns-then-next c =
     let l = c.loop-octet in let os = c.args.octets.now in let i = l.octet-index in let m = c.args.mode in
     let first = reception_of c.args.decoder c.args.frame.now in let at = reception_of l.now l.frame in
     let n = c.take_octet-next.result in let t = c.take_octet-next.ensures in let inv = l.invariant in
     let less : i < length os = c.loop-octet-test.true in
     let given : (reception_step m 1029 at (get_or os i 0)).1 ≡ take n.decoder.held c.take_octet-next.new.frame ∷ [] =
     sym t.given ∙ ap (λ (b : Bool). if b then take n.decoder.held c.take_octet-next.new.frame ∷ [] else []) c.if-next.true in
-    sym (ap (λ (k : ℕ). frames_of m 1029 first (take (k + 1) os)) inv.taken
-    ∙ fed-more m m 1029 i os first at (take n.decoder.held c.take_octet-next.new.frame ∷ []) less refl inv.state given
-    ∙ ap (λ (x : List (List ℕ)). x ++ take n.decoder.held c.take_octet-next.new.frame ∷ []) inv.none)
-
-pub returns-then-next-clause-corrected : goal.returns-then-next-clause-corrected
-returns-then-next-clause-corrected c =
-    let l = c.loop-octet in let os = c.args.octets.now in let i = l.octet-index in let m = c.args.mode in
-    let first = reception_of c.args.decoder c.args.frame.now in let at = reception_of l.now l.frame in
-    let n = c.take_octet-next.result in let t = c.take_octet-next.ensures in let inv = l.invariant in
-    let less : i < length os = c.loop-octet-test.true in
-    c.count.ensures.corrected ∙ fed-more-counted corrections_of m 1029 i os first at l.counts.corrected (corrections_of n.fate) less inv.state (ap corrections_of t.fate) inv.corrected
-    ∙ sym (ap (λ (k : ℕ). corrected_in m 1029 first (take (k + 1) os)) inv.taken)
-
-pub returns-then-next-clause-rejected : goal.returns-then-next-clause-rejected
-returns-then-next-clause-rejected c =
-    let l = c.loop-octet in let os = c.args.octets.now in let i = l.octet-index in let m = c.args.mode in
-    let first = reception_of c.args.decoder c.args.frame.now in let at = reception_of l.now l.frame in
-    let n = c.take_octet-next.result in let t = c.take_octet-next.ensures in let inv = l.invariant in
-    let less : i < length os = c.loop-octet-test.true in
-    c.count.ensures.rejected ∙ fed-more-counted rejections_of m 1029 i os first at l.counts.rejected (rejections_of n.fate) less inv.state (ap rejections_of t.fate) inv.rejected
-    ∙ sym (ap (λ (k : ℕ). rejected_in m 1029 first (take (k + 1) os)) inv.taken)
+    record {
+      status = first_of (search rules, grind (arith, common_steps));
+      mode = first_of (search rules, grind (arith, common_steps));
+      count = first_of (search rules, grind (arith, common_steps));
+      held = first_of (search rules, grind (arith, common_steps));
+      decoding = first_of (search rules, grind (arith, common_steps));
+      length = first_of (search rules, grind (arith, common_steps));
+      state = fed-front m m 1029 i os first at (reception_of n.decoder c.take_octet-next.new.frame) less refl t.state inv.state
+          ∙ sym (ap (λ (k : ℕ). state_after m 1029 first (take (k + 1) os)) inv.taken);
+      given = sym (ap (λ (k : ℕ). frames_of m 1029 first (take (k + 1) os)) inv.taken
+          ∙ fed-more m m 1029 i os first at (take n.decoder.held c.take_octet-next.new.frame ∷ []) less refl inv.state given
+          ∙ ap (λ (x : List (List ℕ)). x ++ take n.decoder.held c.take_octet-next.new.frame ∷ []) inv.none);
+      before = first_of (search rules, grind (arith, common_steps));
+      all = first_of (search rules, grind (arith, common_steps));
+      flag = first_of (search rules, grind (arith, common_steps));
+      corrected = c.count.ensures.corrected ∙ fed-more-counted corrections_of m 1029 i os first at l.counts.corrected (corrections_of n.fate) less inv.state (ap corrections_of t.fate) inv.corrected
+          ∙ sym (ap (λ (k : ℕ). corrected_in m 1029 first (take (k + 1) os)) inv.taken);
+      rejected = c.count.ensures.rejected ∙ fed-more-counted rejections_of m 1029 i os first at l.counts.rejected (rejections_of n.fate) less inv.state (ap rejections_of t.fate) inv.rejected
+          ∙ sym (ap (λ (k : ℕ). rejected_in m 1029 first (take (k + 1) os)) inv.taken);
+    }

@@ -1,10 +1,9 @@
-use Rattle.std.proofs.Common.{◌≡◌, ◌≢◌, ℕ, ◌%◌, ◌≤◌, false, true, [], ◌∷◌, take, drop, refl, lit≤, lit<, arith}
-use Rattle.tc_channel.proofs.Names.{QueueSetting, MapSetting, IsVcid, IsBufferSize, HaveApids, AreApart, HaveCapacities, AreMaps, AreMapsApart, HaveUnitCapacities, faults_in_order}
+use Rattle.std.proofs.Common.{◌≡◌, ◌≢◌, ℕ, ◌%◌, ◌≤◌, false, true, [], ◌∷◌, refl, lit≤, lit<, arith}
+use Rattle.tc_channel.proofs.Names.{QueueSetting, MapSetting, IsVcid, IsBufferSize, HaveApids, AreApart, HaveCapacities, AreMaps, AreMapsApart, HaveUnitCapacities}
 use Rattle.tc_link.specs.Window.{IsWidth}
 use Rattle.tc_channel.specs.declared.settings.SettingsFault.TheVariants as faults
-use Rattle.tc_channel.specs.Settings.{IsFault}
 use Rattle.tc_channel.specs.Examples.{channel_of, two_apids, two_maps}
-use Rattle.tc_channel.proofs.Faults.{both, first-not, two-apart, not-two-apart, first-of}
+use Rattle.tc_channel.proofs.Faults.{both, first-not, two-apart, not-two-apart, is-fault}
 use Rattle.tc_channel.proofs.answered.settings_are_refused_so.Goals as goal
 
 abbrev queue : ℕ → ℕ → QueueSetting
@@ -64,44 +63,34 @@ least-queues : {Later : Type 0} → Later → Front 0 2 1 (HaveApids (two_apids 
 least-queues later = least-front (apids 0 2046 1 (lit≤ tt) (lit≤ tt), (apart 0 2046 1 (λ e. omega arith), (capacities 0 2046 1 (lit≤ tt) (lit≤ tt), later)))
 
 pub returns-clause-vcid : goal.returns-clause-vcid
-unfolding IsFault
-returns-clause-vcid c = first-of (channel_of false 64 255 65 (two_apids 2047 2047 257) (two_maps 64 64 257)) [] (drop 1 faults_in_order) faults.BadVcid tt (λ h. omega arith)
+returns-clause-vcid c = is-fault (channel_of false 64 255 65 (two_apids 2047 2047 257) (two_maps 64 64 257)) 0 faults.BadVcid tt (λ h. omega arith) refl
 
 pub returns-clause-window : goal.returns-clause-window
-unfolding IsFault
-returns-clause-window c = first-of (channel_of false 63 255 65 (two_apids 2047 2047 257) (two_maps 64 64 257)) (take 1 faults_in_order) (drop 2 faults_in_order) faults.BadWindow (lit≤ tt, tt) (λ h. let most = h.most in omega arith)
+returns-clause-window c = is-fault (channel_of false 63 255 65 (two_apids 2047 2047 257) (two_maps 64 64 257)) 1 faults.BadWindow (lit≤ tt, tt) (λ h. let most = h.most in omega arith) refl
 
 pub returns-clause-buffer : goal.returns-clause-buffer
-unfolding IsFault
-returns-clause-buffer c = first-of (channel_of false 63 254 65 (two_apids 2047 2047 257) (two_maps 64 64 257)) (take 2 faults_in_order) (drop 3 faults_in_order) faults.BadBuffer (lit≤ tt, (width 254 (lit≤ tt) (lit≤ tt) refl, tt)) (λ h. let most = h.1 in omega arith)
+returns-clause-buffer c = is-fault (channel_of false 63 254 65 (two_apids 2047 2047 257) (two_maps 64 64 257)) 2 faults.BadBuffer (lit≤ tt, (width 254 (lit≤ tt) (lit≤ tt) refl, tt)) (λ h. let most = h.1 in omega arith) refl
 
 pub returns-clause-apid : goal.returns-clause-apid
-unfolding IsFault
-returns-clause-apid c = first-of (channel_of false 63 254 64 (two_apids 2047 2047 257) (two_maps 64 64 257)) (take 3 faults_in_order) (drop 4 faults_in_order) faults.BadApid (last-front tt) (apids-not 2047 2047 257 (λ h. omega arith))
+returns-clause-apid c = is-fault (channel_of false 63 254 64 (two_apids 2047 2047 257) (two_maps 64 64 257)) 3 faults.BadApid (last-front tt) (apids-not 2047 2047 257 (λ h. omega arith)) refl
 
 pub returns-clause-double_apid : goal.returns-clause-double_apid
-unfolding IsFault
-returns-clause-double_apid c = first-of (channel_of false 63 254 64 (two_apids 2046 2046 257) (two_maps 64 64 257)) (take 4 faults_in_order) (drop 5 faults_in_order) faults.DoubleApid (last-front (apids 2046 2046 257 (lit≤ tt) (lit≤ tt), tt)) (not-two-apart (λ (q : QueueSetting). q.apid) (queue 2046 257) (queue 2046 257) refl)
+returns-clause-double_apid c = is-fault (channel_of false 63 254 64 (two_apids 2046 2046 257) (two_maps 64 64 257)) 4 faults.DoubleApid (last-front (apids 2046 2046 257 (lit≤ tt) (lit≤ tt), tt)) (not-two-apart (λ (q : QueueSetting). q.apid) (queue 2046 257) (queue 2046 257) refl) refl
 
 pub returns-clause-capacity : goal.returns-clause-capacity
-unfolding IsFault
-returns-clause-capacity c = first-of (channel_of false 63 254 64 (two_apids 2046 0 257) (two_maps 64 64 257)) (take 5 faults_in_order) (drop 6 faults_in_order) faults.BadCapacity (last-front (apids 2046 0 257 (lit≤ tt) (lit≤ tt), (apart 2046 0 257 (λ e. omega arith), tt))) (capacities-not 2046 0 257 (λ h. let most = h.1 in omega arith))
+returns-clause-capacity c = is-fault (channel_of false 63 254 64 (two_apids 2046 0 257) (two_maps 64 64 257)) 5 faults.BadCapacity (last-front (apids 2046 0 257 (lit≤ tt) (lit≤ tt), (apart 2046 0 257 (λ e. omega arith), tt))) (capacities-not 2046 0 257 (λ h. let most = h.1 in omega arith)) refl
 
 pub returns-clause-map : goal.returns-clause-map
-unfolding IsFault
-returns-clause-map c = first-of (channel_of false 63 254 64 (two_apids 2046 0 256) (two_maps 64 64 257)) (take 6 faults_in_order) (drop 7 faults_in_order) faults.BadMap (last-queues tt) (maps-not 64 64 257 (λ h. omega arith))
+returns-clause-map c = is-fault (channel_of false 63 254 64 (two_apids 2046 0 256) (two_maps 64 64 257)) 6 faults.BadMap (last-queues tt) (maps-not 64 64 257 (λ h. omega arith)) refl
 
 pub returns-clause-double_map : goal.returns-clause-double_map
-unfolding IsFault
-returns-clause-double_map c = first-of (channel_of false 63 254 64 (two_apids 2046 0 256) (two_maps 63 63 257)) (take 7 faults_in_order) (drop 8 faults_in_order) faults.DoubleMap (last-queues (maps 63 63 257 (lit≤ tt) (lit≤ tt), tt)) (not-two-apart (λ (m : MapSetting). m.map) (chosen 63 257) (chosen 63 257) refl)
+returns-clause-double_map c = is-fault (channel_of false 63 254 64 (two_apids 2046 0 256) (two_maps 63 63 257)) 7 faults.DoubleMap (last-queues (maps 63 63 257 (lit≤ tt) (lit≤ tt), tt)) (not-two-apart (λ (m : MapSetting). m.map) (chosen 63 257) (chosen 63 257) refl) refl
 
 pub returns-clause-units : goal.returns-clause-units
-unfolding IsFault
-returns-clause-units c = first-of (channel_of false 63 254 64 (two_apids 2046 0 256) (two_maps 63 0 257)) (take 8 faults_in_order) (drop 9 faults_in_order) faults.BadUnits (last-queues (maps 63 0 257 (lit≤ tt) (lit≤ tt), (maps_apart 63 0 257 (λ e. omega arith), tt))) (units-not 63 0 257 (λ h. let most = h.1 in omega arith))
+returns-clause-units c = is-fault (channel_of false 63 254 64 (two_apids 2046 0 256) (two_maps 63 0 257)) 8 faults.BadUnits (last-queues (maps 63 0 257 (lit≤ tt) (lit≤ tt), (maps_apart 63 0 257 (λ e. omega arith), tt))) (units-not 63 0 257 (λ h. let most = h.1 in omega arith)) refl
 
 pub returns-clause-plain_map : goal.returns-clause-plain_map
-unfolding IsFault
-returns-clause-plain_map c = first-of (channel_of false 63 254 64 (two_apids 2046 0 256) (two_maps 63 0 256)) (take 9 faults_in_order) (drop 10 faults_in_order) faults.PlainMap (last-queues (maps 63 0 256 (lit≤ tt) (lit≤ tt), (maps_apart 63 0 256 (λ e. omega arith), (units 63 0 256 (lit≤ tt) (lit≤ tt), tt)))) (λ none. let there : two_maps 63 0 256 ≡ [] = none refl in cc)
+returns-clause-plain_map c = is-fault (channel_of false 63 254 64 (two_apids 2046 0 256) (two_maps 63 0 256)) 9 faults.PlainMap (last-queues (maps 63 0 256 (lit≤ tt) (lit≤ tt), (maps_apart 63 0 256 (λ e. omega arith), (units 63 0 256 (lit≤ tt) (lit≤ tt), tt)))) (λ none. let there : two_maps 63 0 256 ≡ [] = none refl in cc) refl
 
 pub returns-clause-largest : goal.returns-clause-largest
 returns-clause-largest c = record {
@@ -134,17 +123,13 @@ returns-clause-least c = record {
 }
 
 pub returns-clause-odd_window : goal.returns-clause-odd_window
-unfolding IsFault
-returns-clause-odd_window c = first-of (channel_of true 0 3 1 (two_apids 0 2046 1) (two_maps 0 63 1)) (take 1 faults_in_order) (drop 2 faults_in_order) faults.BadWindow (lit≤ tt, tt) (λ h. let even : 1 ≡ 0 = h.even in omega arith)
+returns-clause-odd_window c = is-fault (channel_of true 0 3 1 (two_apids 0 2046 1) (two_maps 0 63 1)) 1 faults.BadWindow (lit≤ tt, tt) (λ h. let even : 1 ≡ 0 = h.even in omega arith) refl
 
 pub returns-clause-no_buffer : goal.returns-clause-no_buffer
-unfolding IsFault
-returns-clause-no_buffer c = first-of (channel_of true 0 2 0 (two_apids 0 2046 1) (two_maps 0 63 1)) (take 2 faults_in_order) (drop 3 faults_in_order) faults.BadBuffer (lit≤ tt, (width 2 (lit≤ tt) (lit≤ tt) refl, tt)) (λ h. let least = h.0 in omega arith)
+returns-clause-no_buffer c = is-fault (channel_of true 0 2 0 (two_apids 0 2046 1) (two_maps 0 63 1)) 2 faults.BadBuffer (lit≤ tt, (width 2 (lit≤ tt) (lit≤ tt) refl, tt)) (λ h. let least = h.0 in omega arith) refl
 
 pub returns-clause-no_packet : goal.returns-clause-no_packet
-unfolding IsFault
-returns-clause-no_packet c = first-of (channel_of true 0 2 1 (two_apids 0 2046 0) (two_maps 0 63 1)) (take 5 faults_in_order) (drop 6 faults_in_order) faults.BadCapacity (least-front (apids 0 2046 0 (lit≤ tt) (lit≤ tt), (apart 0 2046 0 (λ e. omega arith), tt))) (capacities-not 0 2046 0 (λ h. let least = h.0 in omega arith))
+returns-clause-no_packet c = is-fault (channel_of true 0 2 1 (two_apids 0 2046 0) (two_maps 0 63 1)) 5 faults.BadCapacity (least-front (apids 0 2046 0 (lit≤ tt) (lit≤ tt), (apart 0 2046 0 (λ e. omega arith), tt))) (capacities-not 0 2046 0 (λ h. let least = h.0 in omega arith)) refl
 
 pub returns-clause-no_unit : goal.returns-clause-no_unit
-unfolding IsFault
-returns-clause-no_unit c = first-of (channel_of true 0 2 1 (two_apids 0 2046 1) (two_maps 0 63 0)) (take 8 faults_in_order) (drop 9 faults_in_order) faults.BadUnits (least-queues (maps 0 63 0 (lit≤ tt) (lit≤ tt), (maps_apart 0 63 0 (λ e. omega arith), tt))) (units-not 0 63 0 (λ h. let least = h.0 in omega arith))
+returns-clause-no_unit c = is-fault (channel_of true 0 2 1 (two_apids 0 2046 1) (two_maps 0 63 0)) 8 faults.BadUnits (least-queues (maps 0 63 0 (lit≤ tt) (lit≤ tt), (maps_apart 0 63 0 (λ e. omega arith), tt))) (units-not 0 63 0 (λ h. let least = h.0 in omega arith)) refl

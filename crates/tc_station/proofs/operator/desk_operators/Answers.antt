@@ -1,6 +1,5 @@
 use Rattle.std.proofs.Common.{◌<◌, ◌≤◌, ◌∙◌, ap, get_or, length, sym, rules}
-use Rattle.tc_desk.specs.Log.{with_one_issued}
-use Rattle.tc_station.specs.Tally.{arrival}
+use Rattle.tc_station.proofs.Names.{with_one_issued, arrival}
 use Rattle.tc_station.proofs.Posts.{arrival-step, arrives, below-all, below-none, station-step}
 use Rattle.tc_station.proofs.operator.desk_operators.Goals as goal
 

@@ -1,8 +1,6 @@
 use Rattle.std.proofs.Common.{◌≡◌, ◌∙◌, ℕ, List, Some, vec_len, ap, subst, sym, rules, arith}
 use Rattle.std.proofs.lemmas.List.Elements.{All-pop}
-use Rattle.tc_desk.specs.Together.{settings_of_desks}
-use Rattle.tc_station.specs.Room.{IsRoomFor}
-use Rattle.tc_station.specs.StationSettings.{vcids_of}
+use Rattle.tc_station.proofs.Names.{settings_of_desks, IsRoomFor, vcids_of}
 use Rattle.tc_station.proofs.Posts.{issue-first, issue-step, settings-more}
 use Rattle.tc_station.proofs.station.issue.Goals as goal
 

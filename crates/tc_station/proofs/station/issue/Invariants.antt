@@ -1,6 +1,5 @@
 use Rattle.std.proofs.Common.{◌≡◌, ◌≤◌, ◌+◌, All, replicate, vec_len, vec_capacity}
-use Rattle.tc_station.specs.Room.{IsRoomFor}
-use Rattle.tc_station.specs.Tally.{issued_more, newcomer_at_desks}
+use Rattle.tc_station.proofs.Names.{IsRoomFor, issued_more, newcomer_at_desks}
 use Rattle.tc_station.proofs.station.issue.Given as goal
 
 abbrev pub invariant-loop-room : goal.invariant-loop-room

@@ -1,8 +1,5 @@
 use Rattle.std.proofs.Common.{◌≡◌, ◌≤◌, ◌+◌, map, vec_len, vec_capacity}
-use Rattle.tc_desk.specs.Log.{Identity}
-use Rattle.tc_desk.specs.Together.{heads_of, settings_of_desks}
-use Rattle.tc_station.specs.Roster.{HaveIssued}
-use Rattle.tc_station.specs.StationSettings.{vcids_of}
+use Rattle.tc_station.proofs.Names.{Identity, heads_of, settings_of_desks, HaveIssued, vcids_of}
 use Rattle.tc_station.proofs.station.start.Given as goal
 
 abbrev pub invariant-loop-settings : goal.invariant-loop-settings

@@ -1,36 +1,9 @@
 -- The box is taken apart by the library's call, and the parts own what it ensures.
-use Rattle.std.proofs.Common.{◌≡◌, List, [], ◌∷◌, ◌++◌, refl, sym, subst, ap, ◌∙◌}
-use mir.Syntax.{a_type, dcons, dnil}
-use mir.MapTy.{inst_fn}
+use Rattle.tc_c.proofs.Walking.{◌≡◌, List, [], ◌∷◌, ◌++◌, refl, sym, subst, ap, ◌∙◌, a_type, dcons, dnil, inst_fn, Val, vstruct, of_list, SProp, ent, id⊢, never, fst∗, ftrue, fsep, flft, WpFn, Item, ‵, raw, ◌⊛◌, some, later, ◌$◌, ◌∵◌, !, qed, move, drop, use1, join, split, split3, pick, rewrite, fsplit, fjoin, fpick, feq_l, suffices, await, done, whole, sub, agg, stop, fld, no_more, and_then, of_opd, returns, enter, alloc_all, pass_all, free_all, look_at, get, get_in, sets, lands_as, ◌⊑◌, fact, tables, no, bounded, RattleType, Ptr, RawPtr, block_ptr, null_ptr, ptr_val, in_a_block, plain, heard, nothing, only, calls_at, triple_of, framed, says, Stays, stay_dropped, walk_of, ends_at, token, handle_tells, Goes-blank, proved_at, Bx, D, R, P, B, τ, word, box_typed, box_out, box_in}
 use mir.Raw.{raw as bare}
-use mir.Val.{Val, vstruct, of_list}
-use base.Logic.{SProp, ent, id⊢, never, fst∗}
-use base.Fml.{ftrue, fsep, flft}
-use prog.Wp.{WpFn}
 use types.Logic.{sem}
-use types.Kit.{Item, ‵, raw, ◌⊛◌, some, later, ◌$◌, ◌∵◌, !, qed, move, drop, use1, join, split, split3, pick, rewrite, fsplit, fjoin, fpick, feq_l, suffices, await, done}
-use types.Part.{whole, sub, agg}
-use types.Run.{stop, fld, no_more, and_then, of_opd, returns, enter}
-use types.ByLocal.{alloc_all, pass_all, free_all, look_at, get, get_in, sets, lands_as}
-use contract.BorrowLft.{◌⊑◌}
-use contract.Monad.{fact}
-use contract.Running.{tables}
-use denote.Exit.{no}
-use denote.Param.{bounded}
-use denote.RattleType.{RattleType}
-use denote.RawPtr.{Ptr, RawPtr, block_ptr, null_ptr, ptr_val, in_a_block}
-use denote.Signature.{plain}
-use denote.Steps.{heard, nothing, only}
 use denote.Struct.Tuple.{Tuple}
-use denote.Triple.Call.{calls_at}
-use denote.Triple.Spec.{triple_of}
-use denote.Triple.Table.{framed}
-use denote.Triple.Walked.{says, Stays, stay_dropped, walk_of, ends_at}
 use Rattle.std.specs.Box.Ownership.{box_owns}
-use Rattle.std.proofs.alloc.Calls.{token, handle_tells, Goes-blank}
-use Rattle.std.proofs.raw_atomic.Walks.{proved_at}
-use Rattle.std.proofs.BoxSteps.Form.{Bx, D, R, P, B, τ, word, box_typed}
-use Rattle.std.proofs.BoxSteps.Steps.{box_out, box_in}
 use Rattle.std.specs.contracts.boxed.Box.into_raw_with_allocator as g
 use Rattle.std.proofs.boxed.Box.into_raw_with_allocator.Met.{met}
 use Rattle.tc_c.specs.contracts.parts.Parts as Parts

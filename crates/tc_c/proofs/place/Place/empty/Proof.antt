@@ -1,26 +1,8 @@
 -- A place of no channel owns nothing beyond its fields.
-use Rattle.std.proofs.Common.{List, [], ◌∷◌, ◌++◌, refl, sym, subst, None, lit<}
+use Rattle.tc_c.proofs.Walking.{List, [], ◌∷◌, ◌++◌, refl, sym, subst, None, lit<, T, Val, vnull, vstruct, vcons, vnil, has_ty, SProp, ent, emp, id⊢, ftrue, fsep, WpFn, ‵, raw, ◌⊛◌, ◌$◌, ◌∵◌, !, qed, move, drop, join, split, fsplit, fjoin, fpack, feq_i, suffices, done, agg, no_more, and_then, lit, returns, enter, alloc_all, pass_all, free_all, look_at, get, sets, tables, yes, Valss, null_ptr, ptr_val, plain, nothing, says, Stays, stay_dropped, walk_of, ends_at, Goes-dropped, α, handle_tells, proved_at}
 use mathlib.Core.Bool.{Bool, true, false, ◌&&◌}
-use lib.Dec.{T}
-use mir.Val.{Val, vnull, vstruct, vcons, vnil, has_ty}
-use base.Logic.{SProp, ent, emp, id⊢}
-use base.Fml.{ftrue, fsep}
-use prog.Wp.{WpFn}
-use types.Kit.{‵, raw, ◌⊛◌, ◌$◌, ◌∵◌, !, qed, move, drop, join, split, fsplit, fjoin, fpack, feq_i, suffices, done}
-use types.Part.{agg}
-use types.Run.{no_more, and_then, lit, returns, enter}
-use types.ByLocal.{alloc_all, pass_all, free_all, look_at, get, sets}
-use contract.Running.{tables}
-use denote.Exit.{yes}
-use denote.RattleType.{Valss}
-use denote.RawPtr.{null_ptr, ptr_val}
-use denote.Signature.{plain}
-use denote.Steps.{nothing}
 use denote.Struct.Struct.{within}
 use denote.Struct.Owning.{shape, fields, to}
-use denote.Triple.Walked.{says, Stays, stay_dropped, walk_of, ends_at, Goes-dropped}
-use Rattle.std.proofs.alloc.Calls.{α, handle_tells}
-use Rattle.std.proofs.raw_atomic.Walks.{proved_at}
 use Rattle.std.specs.contracts.alloc.Global as Heap
 use Rattle.tc_c.proofs.Places.{E}
 use Rattle.tc_c.specs.contracts.place.Place as Place

@@ -1,6 +1,5 @@
 use Rattle.std.proofs.Common.{◌∙◌, sym, ap}
-use Rattle.tc_desk.specs.Together.{settings_of_desks}
-use Rattle.tc_station.specs.StationSettings.{vcids_of}
+use Rattle.tc_station.proofs.Names.{settings_of_desks, vcids_of}
 use Rattle.tc_station.proofs.Posts.{arrival-settings}
 use Rattle.tc_station.proofs.operator.Operator.new.Goals as goal
 

@@ -1,7 +1,5 @@
 use Rattle.std.proofs.Common.{◌≡◌, ◌∙◌, ℕ, List, sym, ap, subst, rules, refl}
-use Rattle.tc_channel.specs.Journal.{History}
-use Rattle.tc_station.specs.Tally.{AtStation}
-use Rattle.tc_station.specs.Balance.{AreInBalance}
+use Rattle.tc_station.proofs.Names.{History, AtStation, AreInBalance}
 use Rattle.tc_station.proofs.Ordered.{in-order}
 use Rattle.tc_station.proofs.station.StationOf+Kept.close.Goals as goal
 

@@ -1,8 +1,6 @@
 use Rattle.std.proofs.Common.{◌≡◌, ◌∙◌, ℕ, List, get_or, sym, ap, subst, rules, refl}
 use Rattle.std.proofs.lemmas.Option.{slice_get-get_or}
-use Rattle.tc_channel.specs.Journal.{History}
-use Rattle.tc_station.specs.Tally.{AtStation}
-use Rattle.tc_station.specs.Balance.{AreInToldBalance}
+use Rattle.tc_station.proofs.Names.{History, AtStation, AreInToldBalance}
 use Rattle.tc_station.proofs.Ordered.{in-order}
 use Rattle.tc_station.proofs.station.StationOf+Unkept.close.Goals as goal
 

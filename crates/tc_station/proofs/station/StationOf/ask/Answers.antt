@@ -1,6 +1,5 @@
 use Rattle.std.proofs.Common.{◌∙◌, sym, ap, subst}
-use Rattle.tc_desk.specs.Log.{Identity}
-use Rattle.tc_station.specs.Roster.{Roster, IsDeskOf}
+use Rattle.tc_station.proofs.Names.{Identity, Roster, IsDeskOf}
 use Rattle.tc_station.proofs.Posts.{desk-of}
 use Rattle.tc_station.proofs.station.StationOf.ask.Goals as goal
 

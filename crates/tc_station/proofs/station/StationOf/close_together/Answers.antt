@@ -1,6 +1,5 @@
 use Rattle.std.proofs.Common.{◌∙◌, ℕ, sym, ap, subst, arith}
-use Rattle.tc_station.specs.Roster.{Roster, HaveIssued, settings_in}
-use Rattle.tc_station.specs.Together.{crews_of}
+use Rattle.tc_station.proofs.Names.{Roster, HaveIssued, settings_in, crews_of}
 use Rattle.tc_station.proofs.Posts.{are-ours, closed-settings, ids-same, issued-same, length-same, settings-heads, station-cause}
 use Rattle.tc_station.proofs.station.StationOf.close_together.Goals as goal
 

@@ -1,7 +1,5 @@
 use Rattle.std.proofs.Common.{take}
-use Rattle.tc_station.specs.Tally.{IsOurs, tally}
-use Rattle.tc_station.specs.Tried.{AreMade}
-use Rattle.tc_station.specs.Work.{AreDone}
+use Rattle.tc_station.proofs.Names.{IsOurs, tally, AreMade, AreDone}
 use Rattle.tc_station.proofs.station.StationOf.do_list.Given as goal
 
 abbrev pub invariant-loop-job : goal.invariant-loop-job

@@ -1,10 +1,6 @@
-use Rattle.std.proofs.Common.{◌≡◌, ◌<◌, ◌∙◌, Some, length, set, sym, ap, subst, rules}
+use Rattle.std.proofs.Common.{◌≡◌, ◌∙◌, Some, set, sym, ap, subst, rules}
 use Rattle.std.specs.Prelude.{◌==◌, position, OnErr, OnOk}
-use Rattle.tc_desk.specs.Together.{heads_of, locks_of}
-use Rattle.tc_station.specs.StationSettings.{vcids_of}
-use Rattle.tc_station.specs.Tally.{AtStation, at_station, tallied, tally}
-use Rattle.tc_station.specs.Call.{IsMetCallAt}
-use Rattle.tc_station.specs.Roster.{Roster, IsPlace}
+use Rattle.tc_station.proofs.Names.{heads_of, locks_of, vcids_of, AtStation, at_station, tallied, tally, IsMetCallAt, Roster, IsPlace}
 use Rattle.tc_station.proofs.Called.{id-of}
 use Rattle.tc_station.proofs.Meetings.{channel-there, head-known, met-call, met-counted, met-head, met-heads, met-locks, met-refused, met-settings, watcher-kept}
 use Rattle.tc_station.proofs.Posts.{same-lock}
@@ -37,56 +33,8 @@ operate_met-requires g c =
       board = known.1;
     }
 
-pub returns-clause-call : goal.returns-clause-call
-returns-clause-call g c =
-    let q = c.args.operation.now in
-    let at_roster : IsPlace c.args.self.now c.args.vcid c.in-Some.place = search rules in
-    let at : position (λ v. v == c.args.vcid) c.operator.inside.vcids.items ≡ Some c.in-Some.place =
-    subst (λ vs. position (λ v. v == c.args.vcid) vs ≡ Some c.in-Some.place) (sym (ap (λ (o : AtStation). o.vcids) c.operator.view_is ∙ c.requires.ours.0)) at_roster in (
-      c.in-Some.place,
-      at_roster,
-      subst
-          (λ (o : AtStation). IsMetCallAt {R = g.row.O-Answer.Denot} {F = g.row.O-Fault.Denot} c.in-Some.place c.args.vcid (g.O.Operation.event q) (g.O.Operation.answers q) (g.O.Operation.refuses q) c.args.watcher.now o c.operate_met.result c.operate_met.new.watcher
-          (at_station c.operator.inside.vcids.items (set c.operator.inside.desks.items c.in-Some.place c.operate_met.new.self)))
-          c.operator.view_is
-          (met-call {R = g.row.O-Answer.Denot} {F = g.row.O-Fault.Denot} (g.O.Operation.event q) (g.O.Operation.answers q) (g.O.Operation.refuses q) c.args.watcher.now c.operate_met.new.watcher c.operator.inside.desks.items c.in-Some.place c.index_mut.result.now c.operate_met.new.self c.operate_met.result
-          c.index_mut.ensures.value c.operate_met.ensures.call c.operator.inside.vcids.items c.args.vcid c.operator.invariant at),
-    )
-
-pub returns-clause-counted : goal.returns-clause-counted
-returns-clause-counted g c =
-    let q = c.args.operation.now in
-    let at_roster : IsPlace c.args.self.now c.args.vcid c.in-Some.place = search rules in
-    let at : position (λ v. v == c.args.vcid) c.operator.inside.vcids.items ≡ Some c.in-Some.place =
-    subst (λ vs. position (λ v. v == c.args.vcid) vs ≡ Some c.in-Some.place) (sym (ap (λ (o : AtStation). o.vcids) c.operator.view_is ∙ c.requires.ours.0)) at_roster in
-    let inside = (id-of c.operator.inside.vcids.items c.operator.inside.desks.items c.in-Some.place c.args.vcid c.index_mut.result.now c.operator.invariant c.index_mut.ensures.value at).0 in
-    subst (λ (o : AtStation). OnOk c.operate_met.result (tally (at_station c.operator.inside.vcids.items (set c.operator.inside.desks.items c.in-Some.place c.operate_met.new.self)) ≡ tallied c.args.vcid (tally o))) c.operator.view_is
-    (met-counted {R = g.row.O-Answer.Denot} {F = g.row.O-Fault.Denot} (g.O.Operation.event q) (g.O.Operation.answers q) (g.O.Operation.refuses q) c.args.watcher.now c.operate_met.new.watcher c.operator.inside.desks.items c.in-Some.place c.index_mut.result.now c.operate_met.new.self c.operate_met.result
-    c.index_mut.ensures.value c.operate_met.ensures.call c.operator.inside.vcids.items c.args.vcid inside at)
-
-pub returns-clause-refused : goal.returns-clause-refused
-returns-clause-refused g c =
-    let q = c.args.operation.now in
-    subst (λ (o : AtStation). OnErr c.operate_met.result (tally (at_station c.operator.inside.vcids.items (set c.operator.inside.desks.items c.in-Some.place c.operate_met.new.self)) ≡ tally o)) c.operator.view_is
-    (met-refused {R = g.row.O-Answer.Denot} {F = g.row.O-Fault.Denot} (g.O.Operation.event q) (g.O.Operation.answers q) (g.O.Operation.refuses q) c.args.watcher.now c.operate_met.new.watcher c.operator.inside.desks.items c.in-Some.place c.index_mut.result.now c.operate_met.new.self c.operate_met.result
-    c.index_mut.ensures.value c.operate_met.ensures.call c.operator.inside.vcids.items)
-
-pub returns-clause-ours : goal.returns-clause-ours
-returns-clause-ours g c =
-    let q = c.args.operation.now in (
-      ap (λ (o : AtStation). o.vcids) c.operator.view_is ∙ c.requires.ours.0,
-      met-locks {R = g.row.O-Answer.Denot} {F = g.row.O-Fault.Denot} (g.O.Operation.event q) (g.O.Operation.answers q) (g.O.Operation.refuses q) c.args.watcher.now c.operate_met.new.watcher c.operator.inside.desks.items c.in-Some.place c.index_mut.result.now c.operate_met.new.self c.operate_met.result
-          c.index_mut.ensures.value c.operate_met.ensures.call ∙ (ap (λ (o : AtStation). locks_of o.desks) c.operator.view_is ∙ c.requires.ours.1),
-    )
-
-pub returns-clause-knows : goal.returns-clause-knows
-returns-clause-knows g c =
-    let q = c.args.operation.now in
-    met-heads {R = g.row.O-Answer.Denot} {F = g.row.O-Fault.Denot} (g.O.Operation.event q) (g.O.Operation.answers q) (g.O.Operation.refuses q) c.args.watcher.now c.operate_met.new.watcher c.operator.inside.desks.items c.in-Some.place c.index_mut.result.now c.operate_met.new.self c.operate_met.result
-    c.index_mut.ensures.value c.operate_met.ensures.call ∙ (ap (λ (o : AtStation). heads_of o.desks) c.operator.view_is ∙ c.requires.knows)
-
-pub returns-clause-watcher : goal.returns-clause-watcher
-returns-clause-watcher g c =
+pub returns : goal.returns
+returns g c =
     let q = c.args.operation.now in
     let at_roster : IsPlace c.args.self.now c.args.vcid c.in-Some.place = search rules in
     let at : position (λ v. v == c.args.vcid) c.operator.inside.vcids.items ≡ Some c.in-Some.place =
@@ -94,6 +42,25 @@ returns-clause-watcher g c =
     let inside = (id-of c.operator.inside.vcids.items c.operator.inside.desks.items c.in-Some.place c.args.vcid c.index_mut.result.now c.operator.invariant c.index_mut.ensures.value at).0 in
     let knows = ap (λ (o : AtStation). heads_of o.desks) c.operator.view_is ∙ c.requires.knows in
     let known = head-known c.args.self.now c.operator.inside.desks.items c.in-Some.place c.args.vcid c.index_mut.result.now c.args.watcher.now knows at_roster inside c.index_mut.ensures.value c.requires.watcher in
-    watcher-kept c.args.self.now c.in-Some.place c.args.vcid c.index_mut.result.now c.operate_met.new.self c.operate_met.new.watcher at_roster known.0
-    (met-head {R = g.row.O-Answer.Denot} {F = g.row.O-Fault.Denot} (g.O.Operation.event q) (g.O.Operation.answers q) (g.O.Operation.refuses q) c.args.watcher.now c.operate_met.new.watcher c.operator.inside.desks.items c.in-Some.place c.index_mut.result.now c.operate_met.new.self c.operate_met.result
-    c.index_mut.ensures.value c.operate_met.ensures.call) c.operate_met.ensures.call.met
+    record {
+      call = (
+        c.in-Some.place,
+        at_roster,
+        subst
+            (λ (o : AtStation). IsMetCallAt {R = g.row.O-Answer.Denot} {F = g.row.O-Fault.Denot} c.in-Some.place c.args.vcid (g.O.Operation.event q) (g.O.Operation.answers q) (g.O.Operation.refuses q) c.args.watcher.now o c.operate_met.result c.operate_met.new.watcher
+            (at_station c.operator.inside.vcids.items (set c.operator.inside.desks.items c.in-Some.place c.operate_met.new.self)))
+            c.operator.view_is
+            (met-call {R = g.row.O-Answer.Denot} {F = g.row.O-Fault.Denot} (g.O.Operation.event q) (g.O.Operation.answers q) (g.O.Operation.refuses q) c.args.watcher.now c.operate_met.new.watcher c.operator.inside.desks.items c.in-Some.place c.index_mut.result.now c.operate_met.new.self c.operate_met.result c.index_mut.ensures.value c.operate_met.ensures.call c.operator.inside.vcids.items c.args.vcid c.operator.invariant at),
+      );
+      counted = subst (λ (o : AtStation). OnOk c.operate_met.result (tally (at_station c.operator.inside.vcids.items (set c.operator.inside.desks.items c.in-Some.place c.operate_met.new.self)) ≡ tallied c.args.vcid (tally o))) c.operator.view_is
+          (met-counted {R = g.row.O-Answer.Denot} {F = g.row.O-Fault.Denot} (g.O.Operation.event q) (g.O.Operation.answers q) (g.O.Operation.refuses q) c.args.watcher.now c.operate_met.new.watcher c.operator.inside.desks.items c.in-Some.place c.index_mut.result.now c.operate_met.new.self c.operate_met.result c.index_mut.ensures.value c.operate_met.ensures.call c.operator.inside.vcids.items c.args.vcid inside at);
+      refused = subst (λ (o : AtStation). OnErr c.operate_met.result (tally (at_station c.operator.inside.vcids.items (set c.operator.inside.desks.items c.in-Some.place c.operate_met.new.self)) ≡ tally o)) c.operator.view_is
+          (met-refused {R = g.row.O-Answer.Denot} {F = g.row.O-Fault.Denot} (g.O.Operation.event q) (g.O.Operation.answers q) (g.O.Operation.refuses q) c.args.watcher.now c.operate_met.new.watcher c.operator.inside.desks.items c.in-Some.place c.index_mut.result.now c.operate_met.new.self c.operate_met.result c.index_mut.ensures.value c.operate_met.ensures.call c.operator.inside.vcids.items);
+      ours = (
+        ap (λ (o : AtStation). o.vcids) c.operator.view_is ∙ c.requires.ours.0,
+        met-locks {R = g.row.O-Answer.Denot} {F = g.row.O-Fault.Denot} (g.O.Operation.event q) (g.O.Operation.answers q) (g.O.Operation.refuses q) c.args.watcher.now c.operate_met.new.watcher c.operator.inside.desks.items c.in-Some.place c.index_mut.result.now c.operate_met.new.self c.operate_met.result c.index_mut.ensures.value c.operate_met.ensures.call ∙ (ap (λ (o : AtStation). locks_of o.desks) c.operator.view_is ∙ c.requires.ours.1),
+      );
+      knows = met-heads {R = g.row.O-Answer.Denot} {F = g.row.O-Fault.Denot} (g.O.Operation.event q) (g.O.Operation.answers q) (g.O.Operation.refuses q) c.args.watcher.now c.operate_met.new.watcher c.operator.inside.desks.items c.in-Some.place c.index_mut.result.now c.operate_met.new.self c.operate_met.result c.index_mut.ensures.value c.operate_met.ensures.call ∙ knows;
+      watcher = watcher-kept c.args.self.now c.in-Some.place c.args.vcid c.index_mut.result.now c.operate_met.new.self c.operate_met.new.watcher at_roster known.0
+          (met-head {R = g.row.O-Answer.Denot} {F = g.row.O-Fault.Denot} (g.O.Operation.event q) (g.O.Operation.answers q) (g.O.Operation.refuses q) c.args.watcher.now c.operate_met.new.watcher c.operator.inside.desks.items c.in-Some.place c.index_mut.result.now c.operate_met.new.self c.operate_met.result c.index_mut.ensures.value c.operate_met.ensures.call) c.operate_met.ensures.call.met;
+    }

@@ -1,52 +1,32 @@
 use Rattle.std.proofs.Common.{◌≡◌, ◌++◌, ◌+◌, ◌∙◌, ℕ, subst, take, drop, length, replicate, sym, ap, rules, arith}
-use Rattle.tc_desk.specs.Together.{heads_of, locks_of, settings_of_desks}
-use Rattle.tc_station.specs.Roster.{Roster, HaveIssued}
-use Rattle.tc_station.specs.StationSettings.{vcids_of}
-use Rattle.tc_station.specs.Tally.{fresh, issued_more}
+use Rattle.std.proofs.lemmas.Grind.{common_steps}
+use Rattle.tc_station.proofs.Names.{heads_of, locks_of, settings_of_desks, Roster, HaveIssued, vcids_of, fresh, issued_more}
 use Rattle.tc_station.proofs.Called.{as-many}
 use Rattle.tc_station.proofs.Posts.{at_posts, have-more, heads-more, issued-fresh, issued-heads, issued-new, issued-ours, length-more, locks-more, more-issued, settings-more, written-posts}
 use Rattle.tc_station.proofs.station.StationOf.operators.Goals as goal
 
-pub returns-clause-issued : goal.returns-clause-issued
-returns-clause-issued g c =
+pub returns : goal.returns
+returns g c =
     let old = c.self.inside.desks in
     let one = old.ok.0 in
     let next = issued_more c.args.n old.items in
     let is : c.issue.new.posts ≡ next = c.in-Ok.ensures.issued ∙ ap (issued_more c.args.n) c.deref_mut.ensures.value in
-    let sum : c.in-Some.issued ≡ c.self.inside.issued + c.args.n = search rules in
-    more-issued c.args.self.now c.self.inside.scid c.self.inside.issued c.args.n c.in-Some.issued c.self.inside.vcids.items old.items _ c.self.view_is
-    (written-posts old.len old.items c.issue.new.posts next is (length-more c.args.n old.items) (omega (arith, one))) sum
-
-pub returns-clause-fresh : goal.returns-clause-fresh
-returns-clause-fresh g c =
+    let posts = take old.len (c.issue.new.posts ++ drop (length c.issue.new.posts) old.items) in
+    let now : posts ≡ next = written-posts old.len old.items c.issue.new.posts next is (length-more c.args.n old.items) (omega (arith, one)) in
     let ids = ap (λ l. vcids_of (settings_of_desks l)) c.deref_mut.ensures.value ∙ (c.self.invariant.1 ∙ sym c.deref.ensures.value) in
-    issued-fresh c.args.n c.deref.result.now c.deref_mut.result.now c.in-Ok.operators.items (as-many c.deref.result.now c.deref_mut.result.now ids) c.in-Ok.ensures.operators
-    ∙ ap (λ l. replicate c.args.n (fresh l)) (c.deref.ensures.value ∙ ap (λ (r : Roster). r.vcids) c.self.view_is)
-
-pub returns-clause-new : goal.returns-clause-new
-returns-clause-new g c = issued-new c.args.n c.deref.result.now c.deref_mut.result.now c.in-Ok.operators.items c.in-Ok.ensures.operators
-
-pub returns-clause-ours : goal.returns-clause-ours
-returns-clause-ours g c =
-    let old = c.self.inside.desks in
-    let one = old.ok.0 in
-    let next = issued_more c.args.n old.items in
-    let is : c.issue.new.posts ≡ next = c.in-Ok.ensures.issued ∙ ap (issued_more c.args.n) c.deref_mut.ensures.value in
-    let posts = take old.len (c.issue.new.posts ++ drop (length c.issue.new.posts) old.items) in
-    let now : posts ≡ next = written-posts old.len old.items c.issue.new.posts next is (length-more c.args.n old.items) (omega (arith, one)) in
-    issued-ours c.args.n (at_posts c.self.inside.scid c.self.inside.vcids.items c.in-Some.issued posts) c.deref.result.now c.deref_mut.result.now c.in-Ok.operators.items c.deref.ensures.value
-    (ap locks_of c.deref_mut.ensures.value ∙ (sym (locks-more c.args.n old.items) ∙ ap locks_of (sym now))) c.in-Ok.ensures.operators
-
-pub returns-clause-heads : goal.returns-clause-heads
-returns-clause-heads g c =
-    let old = c.self.inside.desks in
-    let one = old.ok.0 in
-    let next = issued_more c.args.n old.items in
-    let is : c.issue.new.posts ≡ next = c.in-Ok.ensures.issued ∙ ap (issued_more c.args.n) c.deref_mut.ensures.value in
-    let posts = take old.len (c.issue.new.posts ++ drop (length c.issue.new.posts) old.items) in
-    let now : posts ≡ next = written-posts old.len old.items c.issue.new.posts next is (length-more c.args.n old.items) (omega (arith, one)) in
-    issued-heads c.args.n (at_posts c.self.inside.scid c.self.inside.vcids.items c.in-Some.issued posts) c.deref.result.now c.deref_mut.result.now c.in-Ok.operators.items
-    (ap heads_of c.deref_mut.ensures.value ∙ (sym (heads-more c.args.n old.items) ∙ ap heads_of (sym now))) c.in-Ok.ensures.operators
+    let sum : c.in-Some.issued ≡ c.self.inside.issued + c.args.n = search rules in
+    record {
+      fresh = issued-fresh c.args.n c.deref.result.now c.deref_mut.result.now c.in-Ok.operators.items (as-many c.deref.result.now c.deref_mut.result.now ids) c.in-Ok.ensures.operators
+          ∙ ap (λ l. replicate c.args.n (fresh l)) (c.deref.ensures.value ∙ ap (λ (r : Roster). r.vcids) c.self.view_is);
+      new = issued-new c.args.n c.deref.result.now c.deref_mut.result.now c.in-Ok.operators.items c.in-Ok.ensures.operators;
+      ours = issued-ours c.args.n (at_posts c.self.inside.scid c.self.inside.vcids.items c.in-Some.issued posts) c.deref.result.now c.deref_mut.result.now c.in-Ok.operators.items c.deref.ensures.value
+          (ap locks_of c.deref_mut.ensures.value ∙ (sym (locks-more c.args.n old.items) ∙ ap locks_of (sym now))) c.in-Ok.ensures.operators;
+      heads = issued-heads c.args.n (at_posts c.self.inside.scid c.self.inside.vcids.items c.in-Some.issued posts) c.deref.result.now c.deref_mut.result.now c.in-Ok.operators.items
+          (ap heads_of c.deref_mut.ensures.value ∙ (sym (heads-more c.args.n old.items) ∙ ap heads_of (sym now))) c.in-Ok.ensures.operators;
+      issued = more-issued c.args.self.now c.self.inside.scid c.self.inside.issued c.args.n c.in-Some.issued c.self.inside.vcids.items old.items _ c.self.view_is now sum;
+      many = first_of (search rules, grind (arith, common_steps));
+      refused = first_of (search rules, grind (arith, common_steps));
+    }
 
 pub invariant_of-self-2 : goal.invariant_of-self-2
 invariant_of-self-2 g c =

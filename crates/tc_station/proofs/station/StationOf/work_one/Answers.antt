@@ -1,7 +1,5 @@
 use Rattle.std.proofs.Common.{sym, subst, rules}
-use Rattle.tc_station.specs.Tally.{tally}
-use Rattle.tc_station.specs.Tried.{IsListMade}
-use Rattle.tc_station.specs.Work.{IsTallyOf, IsWorked}
+use Rattle.tc_station.proofs.Names.{tally, IsListMade, IsTallyOf, IsWorked}
 use Rattle.tc_station.proofs.Works.{one-worked}
 use Rattle.tc_station.proofs.station.StationOf.work_one.Goals as goal
 
