@@ -2,7 +2,6 @@
 
 ghost use Rattle.std.specs.Prelude.{◌≡◌, ◌≤◌, ◌∷◌, ℕ, true, List, [], Some, length, map, take};
 ghost use Rattle.tc_packet.specs.declared.Service.{Service};
-ghost use Rattle.tc_packet.specs.Reassembly.{Passed};
 ghost use Rattle.tc_channel.specs.declared.settings.Settings.{Settings};
 ghost use Rattle.tc_channel.specs.declared.event.Event.{Event};
 ghost use Rattle.tc_channel.specs.ChannelState.{Accepted, Queue, first_state_within, no_limits, queue_of};
@@ -53,12 +52,12 @@ pub fn what_was_sent_is_given_in_order()
         → passed_since limits s before (run_within limits s journal).passed ≡ sent_from sent 0 (released_since limits s before journal) }
     ensures packets { (limits : ℕ → ℕ) (s : Settings) (journal before later : List Event) (x : ℕ) (sent : ℕ → List ℕ) (apid : ℕ) (q : Queue) → IsLawfulWithin limits s journal
         → IsEraWithin limits s journal before later x → ComesFromWithin limits s before later x sent → queue_of apid (run_within limits s journal).queues ≡ Some q
-        → (passed : List Passed) × (passed_since limits s before passed ≡ sent_from sent 0 (released_since limits s before journal))
-        × IsPartOf (packets_given s apid (first_state_within limits s) journal) (packets_made limits s apid passed) }
+        → (passed_since limits s before (run_within limits s journal).passed ≡ sent_from sent 0 (released_since limits s before journal))
+        × IsPartOf (packets_given s apid (first_state_within limits s) journal) (packets_made limits s apid (run_within limits s journal).passed) }
     ensures units { (limits : ℕ → ℕ) (s : Settings) (journal before later : List Event) (x : ℕ) (sent : ℕ → List ℕ) (map_id : ℕ) (q : Queue) → IsLawfulWithin limits s journal
         → IsEraWithin limits s journal before later x → ComesFromWithin limits s before later x sent → queue_of map_id (run_within limits s journal).units ≡ Some q
-        → (passed : List Passed) × (passed_since limits s before passed ≡ sent_from sent 0 (released_since limits s before journal))
-        × IsPartOf (units_given s map_id (first_state_within limits s) journal) (units_made limits s map_id passed) }
+        → (passed_since limits s before (run_within limits s journal).passed ≡ sent_from sent 0 (released_since limits s before journal))
+        × IsPartOf (units_given s map_id (first_state_within limits s) journal) (units_made limits s map_id (run_within limits s journal).passed) }
 {}
 
 /// Each data field that was passed to reassembly is accounted for. The fields of a service and a MAP part, each once and in order, into

@@ -11,7 +11,7 @@ use Rattle.tc_station.proofs.Names.{Event, History, made, AtLock, Identity, Mome
 use Rattle.tc_channel.specs.Reply.{clcw}
 use Rattle.tc_link.specs.declared.Link.{Link}
 use Rattle.tc_status.specs.Board.{Watching}
-use Rattle.tc_station.specs.Through.{IsClosedSince, IsWordRead, IsShownIn}
+use Rattle.tc_station.specs.Through.{IsClosedSince, IsItsLast, IsWordRead, IsShownIn}
 
 prefix-trans : (es fs gs : List Event) → IsPrefix es fs → IsPrefix fs gs → IsPrefix es gs
 prefix-trans es fs gs p q = (p.0 ++ q.0, sym (append_assoc es p.0 q.0) ∙ (ap (λ w. w ++ q.0) p.1 ∙ q.1))
@@ -66,7 +66,7 @@ Stands = (before : Own) (now : Moment) (e : Event) (closed : Moment) → IsBegin
 
 pub answered : {R F : Type 0} → Stands → (station : Roster) (place vcid : ℕ) (e : Event) (ok : Moment → R → Type 0) (err : Moment → F → Type 0) (before after : AtStation) (r : R) (channel : History)
     → IsCallAt place vcid e ok err before (Ok r) after → IsClosedSince station place after channel
-    → (head : Identity) × (n : ℕ) × (head.settings ≡ channel.settings) × (slice_get channel.journal n ≡ Some e) × ok (record { head = head; entries = take n channel.journal }) r
+    → (head : Identity) × (n : ℕ) × (head.settings ≡ channel.settings) × (slice_get channel.journal n ≡ Some e) × ok (record { head = head; entries = take n channel.journal }) r × IsItsLast place after n e
 answered stands station place vcid e ok err before after r channel c since =
     let at = ap (λ (l : List AtLock). slice_get l place) c.others ∙ set-there before.desks place c.there c.next c.was in
     let seen = seen-in-closed station place after channel c.next at since in
@@ -75,7 +75,7 @@ answered stands station place vcid e ok err before after r channel c since =
     let now = c.call.now in
     let begun = subst (λ (o : Own). IsBeginning o.seen closed) answer.1 seen.2 in
     let stood = stands c.there.own now e closed begun in
-    (seen.0, length now.entries, seen.1, stood.0, subst (λ (m : Moment). ok m r) stood.1 answer.0)
+    (seen.0, length now.entries, seen.1, stood.0, subst (λ (m : Moment). ok m r) stood.1 answer.0, (c.next, at, (c.there.own.made, ap (λ (o : Own). o.made) answer.1)))
 
 -- the beginning of a journal, by its length
 taken-front : (es fs gs : List Event) → es ++ fs ≡ gs → take (length es) gs ≡ es

@@ -1,5 +1,5 @@
 -- The calls of an operator, seen from the channel that was given out when its station was closed.
-use Rattle.std.specs.Prelude.{◌≡◌, ◌≤◌, ℕ, List, Some, length, slice_get, take}
+use Rattle.std.specs.Prelude.{◌≡◌, ◌≤◌, ℕ, List, [], ◌∷◌, ◌++◌, Some, length, slice_get, take}
 use Rattle.logged_lock.specs.Log.{IsBeginning}
 use Rattle.tc_channel.specs.declared.event.Event.{Event}
 use Rattle.tc_channel.specs.Journal.{History}
@@ -31,9 +31,13 @@ pub record IsClosedSince (station : Roster) (place : ℕ) (operator : AtStation)
   pub among : slice_get operators number ≡ Some last
   pub on : HasGoneOn place operator last
 
--- the event has a place in the channel's journal, and what the events before it make was answered
-abbrev pub IsAnsweredIn : History → Event → (List Event → Type 0) → Type 0
-IsAnsweredIn channel e Answers = (n : ℕ) × (slice_get channel.journal n ≡ Some e) × Answers (take n channel.journal)
+-- this event, with this number, is the last that the operator has made at the desk of this place
+abbrev pub IsItsLast : ℕ → AtStation → ℕ → Event → Type 0
+IsItsLast place operator n e = (desk : AtLock) × (slice_get operator.desks place ≡ Some desk) × ((earlier : List (ℕ × Event)) × (desk.own.made ≡ earlier ++ (n, e) ∷ []))
+
+-- the event has a place in the channel's journal, what the events before it make was answered, and it is the last that the operator has made
+abbrev pub IsAnsweredIn : ℕ → AtStation → History → Event → (List Event → Type 0) → Type 0
+IsAnsweredIn place operator channel e Answers = (n : ℕ) × (slice_get channel.journal n ≡ Some e) × Answers (take n channel.journal) × IsItsLast place operator n e
 
 -- the watcher read this CLCW, with these flags of the link, of all that it has seen then, which goes on from what it had seen
 abbrev pub IsWordRead : Link → Watching → ℕ → Watching → Type 0

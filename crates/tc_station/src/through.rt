@@ -3,7 +3,6 @@
 ghost use Rattle.std.specs.Global.{Vec};
 ghost use Rattle.std.specs.Prelude.{◌≡◌, ◌≢◌, ◌≤◌, ℕ, Bool, List, [], Some, Ok, length, slice_get};
 ghost use Rattle.logged_lock.specs.Log.{IsMergeOf};
-ghost use Rattle.tc_packet.specs.Reassembly.{Passed};
 ghost use Rattle.tc_channel.specs.declared.event.Event.{Event};
 ghost use Rattle.tc_channel.specs.declared.reply.Delivery.{Delivery};
 ghost use Rattle.tc_channel.specs.ChannelState.{Queue, first_state_within, no_limits, queue_of};
@@ -33,13 +32,14 @@ use tc_desk::each_event_stands_at_its_place;
 ///
 /// - `merge`: the journal of each channel is a merge of the events that its operators made: each once, and each operator's in its order.
 /// - `frames`, `releases`, `takes`, `units`: each call that was answered is an event of that journal, and its answer is the one that the model
-///   gives at the journal before it. So one thread could have made all calls, in the journal's order, and got the same answers.
+///   gives at the journal before it. The event, with its number, is the last that the operator has made then, so by `merge` no two calls
+///   share one. So one thread could have made all calls, in the journal's order, and got the same answers.
 /// - `words`: each CLCW that a watcher read is that of a place in that journal, which isn't before all that the watcher had seen, where an
 ///   operator lets the watcher meet the channel later on. So it is for each read before the last meeting.
 /// - `sent`: where the Type-AD frames of an era, which is the journal's part since a Set V(R) was last obeyed, or else all of it, are one
 ///   sender's, numbered on from the V(R) with which it starts, and none came 256 or more numbers early or late, the Type-AD data fields
 ///   of the era that were released are what was sent, each once, in order; and what all takes of an application gave is, in order,
-///   packets that the released fields and the Type-BD fields between them make. `sent_units` says the same of the units of a chosen MAP.
+///   packets that the fields make which the channel passed on: those, and the Type-BD fields between them. `sent_units` says the same of the units of a chosen MAP.
 /// - `whole`: where these are as many as the fields make, none is left out.
 ///
 /// Each call of an operator goes on from all that it had seen (`later` of `IsCall`), so it has gone on, too, after several.
@@ -50,32 +50,32 @@ pub fn from_a_sender_to_packets()
     ensures frames { (station : Roster) (place vcid : ℕ) (frame : List ℕ) (grows : Bool) (before after : AtStation) (brought : Brought) (channel : History)
         → IsCallAt place vcid (Event.Frame frame) (IsReplied vcid frame) (IsNotBrought grows frame) before (Ok brought) after
         → IsClosedSince station place after channel
-        → IsAnsweredIn channel (Event.Frame frame) (λ journal. brought.reply ≡ frame_reply channel.settings journal frame) }
+        → IsAnsweredIn place after channel (Event.Frame frame) (λ journal. brought.reply ≡ frame_reply channel.settings journal frame) }
     ensures releases { (station : Roster) (place vcid : ℕ) (before after : AtStation) (delivery : Delivery) (channel : History)
         → IsCallAt place vcid Event.Release at_desk.IsReleased IsNotReleased before (Ok delivery) after
         → IsClosedSince station place after channel
-        → IsAnsweredIn channel Event.Release (λ journal. (buffered_fields channel.settings journal ≢ []) × (delivery ≡ release_reply channel.settings journal)) }
+        → IsAnsweredIn place after channel Event.Release (λ journal. (buffered_fields channel.settings journal ≢ []) × (delivery ≡ release_reply channel.settings journal)) }
     ensures takes { (station : Roster) (place vcid apid : ℕ) (grows : Bool) (before after : AtStation) (packet : Vec ℕ) (channel : History)
         → IsCallAt place vcid (Event.Take apid) (λ m p. at_desk.IsOldestPacket apid m p.items) (IsNotTaken grows apid) before (Ok packet) after
         → IsClosedSince station place after channel
-        → IsAnsweredIn channel (Event.Take apid) (λ journal. take_reply channel.settings journal apid ≡ Some packet.items) }
+        → IsAnsweredIn place after channel (Event.Take apid) (λ journal. take_reply channel.settings journal apid ≡ Some packet.items) }
     ensures units { (station : Roster) (place vcid map_id : ℕ) (grows : Bool) (before after : AtStation) (unit : Vec ℕ) (channel : History)
         → IsCallAt place vcid (Event.TakeUnit map_id) (λ m u. at_desk.IsOldestUnit map_id m u.items) (IsUnitNotTaken grows map_id) before (Ok unit) after
         → IsClosedSince station place after channel
-        → IsAnsweredIn channel (Event.TakeUnit map_id) (λ journal. unit_reply channel.settings journal map_id ≡ Some unit.items) }
+        → IsAnsweredIn place after channel (Event.TakeUnit map_id) (λ journal. unit_reply channel.settings journal map_id ≡ Some unit.items) }
     ensures words { (station : Roster) (place vcid : ℕ) (link : Link) (early late met : Watching) (word : ℕ) (before after : AtStation) (channel : History)
         → IsWordRead link early word late → IsMetAt place vcid late before met after → IsClosedSince station place after channel
         → IsShownIn channel early link word }
     ensures sent { (channel : History) (before later : List Event) (x : ℕ) (sent : ℕ → List ℕ) (apid : ℕ) (q : Queue) → IsLawful channel.settings channel.journal
         → IsEra channel.settings channel.journal before later x → ComesFromWithin no_limits channel.settings before later x sent
         → queue_of apid (run channel.settings channel.journal).queues ≡ Some q
-        → (passed : List Passed) × (passed_since no_limits channel.settings before passed ≡ sent_from sent 0 (released_since no_limits channel.settings before channel.journal))
-        × IsPartOf (packets_given channel.settings apid (first_state_within no_limits channel.settings) channel.journal) (packets_made no_limits channel.settings apid passed) }
+        → (passed_since no_limits channel.settings before (run channel.settings channel.journal).passed ≡ sent_from sent 0 (released_since no_limits channel.settings before channel.journal))
+        × IsPartOf (packets_given channel.settings apid (first_state_within no_limits channel.settings) channel.journal) (packets_made no_limits channel.settings apid (run channel.settings channel.journal).passed) }
     ensures sent_units { (channel : History) (before later : List Event) (x : ℕ) (sent : ℕ → List ℕ) (map_id : ℕ) (q : Queue) → IsLawful channel.settings channel.journal
         → IsEra channel.settings channel.journal before later x → ComesFromWithin no_limits channel.settings before later x sent
         → queue_of map_id (run channel.settings channel.journal).units ≡ Some q
-        → (passed : List Passed) × (passed_since no_limits channel.settings before passed ≡ sent_from sent 0 (released_since no_limits channel.settings before channel.journal))
-        × IsPartOf (units_given channel.settings map_id (first_state_within no_limits channel.settings) channel.journal) (units_made no_limits channel.settings map_id passed) }
+        → (passed_since no_limits channel.settings before (run channel.settings channel.journal).passed ≡ sent_from sent 0 (released_since no_limits channel.settings before channel.journal))
+        × IsPartOf (units_given channel.settings map_id (first_state_within no_limits channel.settings) channel.journal) (units_made no_limits channel.settings map_id (run channel.settings channel.journal).passed) }
     ensures whole { (one other : List (List ℕ)) → IsPartOf one other → length other ≤ length one → one ≡ other }
 {
     each_event_stands_at_its_place();

@@ -20,22 +20,22 @@ returns-clause-merge c = λ station operators closed place channel together out.
 pub returns-clause-frames : goal.returns-clause-frames
 returns-clause-frames c = λ station place vcid frame grows before after brought channel call since.
     let is = answered c.each_event_stands_at_its_place.ensures station place vcid (Frame frame) (IsReplied vcid frame) (IsNotBrought grows frame) before after brought channel call since in
-    (is.1, is.3, is.4.1 ∙ ap (λ (s : Settings). frame_reply s (take is.1 channel.journal) frame) is.2)
+    (is.1, is.3, is.4.1 ∙ ap (λ (s : Settings). frame_reply s (take is.1 channel.journal) frame) is.2, is.5)
 
 pub returns-clause-releases : goal.returns-clause-releases
 returns-clause-releases c = λ station place vcid before after delivery channel call since.
     let is = answered c.each_event_stands_at_its_place.ensures station place vcid Release IsReleased IsNotReleased before after delivery channel call since in
-    (is.1, is.3, subst (λ (s : Settings). (buffered_fields s (take is.1 channel.journal) ≢ []) × (delivery ≡ release_reply s (take is.1 channel.journal))) is.2 is.4)
+    (is.1, is.3, subst (λ (s : Settings). (buffered_fields s (take is.1 channel.journal) ≢ []) × (delivery ≡ release_reply s (take is.1 channel.journal))) is.2 is.4, is.5)
 
 pub returns-clause-takes : goal.returns-clause-takes
 returns-clause-takes c = λ station place vcid apid grows before after packet channel call since.
     let is = answered c.each_event_stands_at_its_place.ensures station place vcid (Take apid) (λ (m : Moment) (p : Vec ℕ). IsOldestPacket apid m p.items) (IsNotTaken grows apid) before after packet channel call since in
-    (is.1, is.3, subst (λ (s : Settings). take_reply s (take is.1 channel.journal) apid ≡ Some packet.items) is.2 is.4)
+    (is.1, is.3, subst (λ (s : Settings). take_reply s (take is.1 channel.journal) apid ≡ Some packet.items) is.2 is.4, is.5)
 
 pub returns-clause-units : goal.returns-clause-units
 returns-clause-units c = λ station place vcid map_id grows before after unit channel call since.
     let is = answered c.each_event_stands_at_its_place.ensures station place vcid (TakeUnit map_id) (λ (m : Moment) (u : Vec ℕ). IsOldestUnit map_id m u.items) (IsUnitNotTaken grows map_id) before after unit channel call since in
-    (is.1, is.3, subst (λ (s : Settings). unit_reply s (take is.1 channel.journal) map_id ≡ Some unit.items) is.2 is.4)
+    (is.1, is.3, subst (λ (s : Settings). unit_reply s (take is.1 channel.journal) map_id ≡ Some unit.items) is.2 is.4, is.5)
 
 pub returns-clause-words : goal.returns-clause-words
 returns-clause-words c = shown

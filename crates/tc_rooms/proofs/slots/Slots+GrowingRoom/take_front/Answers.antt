@@ -17,4 +17,5 @@ returns c =
       item = rw (← c.self.view_is) (ap Some c.take_block_at-block.ensures.octets ∙ first-at held_room i.first i.waiting (boxed_slice_items i.rooms) (laid [] i.size) inside some);
       taken = rw (← c.self.view_is, c.next_place-self-inside.ensures.place, places, c.take_block_at-block.ensures.cleared, c.take_block_at-block.ensures.places)
           (popped-seen (length (boxed_slice_items i.rooms)) i.first i.waiting i.laid i.size (map held_room (boxed_slice_items i.rooms)) (laid [] i.size) (length-map (boxed_slice_items i.rooms) held_room) inside some within);
+      refused = λ none. absurd cc;
     }
