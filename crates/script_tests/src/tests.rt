@@ -24,9 +24,10 @@ fn run<T: Threads + Wait + Sync + AllocGlobal, R: Read, W: Write>(
     writer: &mut W,
 ) -> Result<(), ScriptFault> {
     match way {
-        Way::InOrder => run_script(rt, rt.alloc(), 42, reader, writer),
-        Way::InParallel => parallel_script(rt, rt.alloc(), &FreeGate, 42, reader, writer),
-    }
+        Way::InOrder => run_script(rt, rt.alloc(), 42, reader, writer)?,
+        Way::InParallel => parallel_script(rt, rt.alloc(), &FreeGate, 42, reader, writer)?,
+    };
+    Ok(())
 }
 
 /// A frame that becomes a packet, and one that finds no room.

@@ -31,7 +31,7 @@ use tc_text::{Reason, ScriptFault, next_line, parse_line, read_whole};
 ///
 /// Each worker passes the gate once, while it holds its channel's lock. Where the octets of the reader
 /// are known, nothing is done unless each line is good, and a bad line that is told is the first one.
-/// Where it ends early, nothing is written, unless a write failed.
+/// Where it ends early, nothing is written, unless a write failed. One that is done is given back.
 pub fn parallel_script<T: Threads + Wait + Sync, G: Gate + Sync, R: Read, W: Write>(
     rt: &T,
     alloc: Global,
@@ -39,8 +39,9 @@ pub fn parallel_script<T: Threads + Wait + Sync, G: Gate + Sync, R: Read, W: Wri
     scid: u16,
     reader: &mut R,
     writer: &mut W,
-) -> Result<(), ScriptFault>
+) -> Result<Vec<u8>, ScriptFault>
     requires { scid ≤ 1023 }
+    ensures script { IfOk result (λ script. IfSome (R.remaining reader.old) (λ octets. script.items ≡ octets)) }
     ensures good { OnOk result (IfSome (R.remaining reader.old) (λ script. (length script ≤ script_limit) × IsGood script)) }
     ensures fault { IfErr result (λ fault. IfSome (R.remaining reader.old) (λ script. IsScriptFault script fault)) }
     ensures written { OnOk result (IfSome (R.remaining reader.old) (λ script. IsWrittenInParallel scid script (W.contents writer.old) (W.contents writer.new))) }
@@ -50,7 +51,10 @@ pub fn parallel_script<T: Threads + Wait + Sync, G: Gate + Sync, R: Read, W: Wri
     let script = read_whole(alloc, reader)?;
     let channels = work_lines(rt, alloc, gate, scid, script.as_slice())?;
     match write_report(&channels, writer) {
-        Ok(()) => writer.flush().map_err(|_| ScriptFault::Write),
+        Ok(()) => match writer.flush() {
+            Ok(()) => Ok(script),
+            Err(_) => Err(ScriptFault::Write),
+        },
         Err(_) => Err(ScriptFault::Write),
     }
 }

@@ -36,7 +36,9 @@ impl Model for Parted {
 }
 
 impl Parted {
-    /// A station with these channels, and no job yet.
+    /// A station with these channels, and no job yet. It is made once a script, and stays out of what each line does.
+    #[cold]
+    #[inline(never)]
     pub(crate) fn new(
         alloc: Global,
         scid: u16,

@@ -27,22 +27,44 @@ use tc_text::{Reason, ScriptFault, next_line, parse_line, read_whole};
 /// Where the octets of the reader are known, a script is done to its end only if each line is good,
 /// and a bad line that ends it is the first one. Then each answer, and the report, is what the lines before make it. A CLCW, too, which is
 /// read without its channel's lock: the reader meets its channel at each operation, and once more before the report. Where the
-/// script ends early, the answers of the lines before are written alone, unless a write failed.
+/// script ends early, the answers of the lines before are written alone, unless a write failed. One that is done is given back.
 pub fn run_script<T: Wait, R: Read, W: Write>(
     rt: &T,
     alloc: Global,
     scid: u16,
     reader: &mut R,
     writer: &mut W,
-) -> Result<(), ScriptFault>
+) -> Result<Vec<u8>, ScriptFault>
     requires { scid ≤ 1023 }
+    ensures script { IfOk result (λ script. IfSome (R.remaining reader.old) (λ octets. script.items ≡ octets)) }
     ensures good { OnOk result (IfSome (R.remaining reader.old) (λ script. (length script ≤ script_limit) × IsGood script)) }
     ensures fault { IfErr result (λ fault. IfSome (R.remaining reader.old) (λ script. IsScriptFault script fault)) }
     ensures written { OnOk result (IfSome (R.remaining reader.old) (λ script. IsScriptWritten scid script (W.contents writer.old) (W.contents writer.new))) }
     ensures cut_short { IfErr result (λ fault. IfSome (R.remaining reader.old) (λ script. IsScriptCutShort scid script (W.contents writer.old) (W.contents writer.new) fault)) }
 {
     let script = read_whole(alloc, reader)?;
-    let done = run_lines(rt, alloc, scid, script.as_slice(), writer);
+    match run_read(rt, alloc, scid, script.as_slice(), writer) {
+        Ok(()) => Ok(script),
+        Err(fault) => Err(fault),
+    }
+}
+
+// Does a script that was read, and lets all that was written go out.
+fn run_read<W: Write>(
+    rt: &impl Wait,
+    alloc: Global,
+    scid: u16,
+    script: &[u8],
+    writer: &mut W,
+) -> Result<(), ScriptFault>
+    requires spacecraft { scid ≤ 1023 }
+    requires within { length script.now ≤ script_limit }
+    ensures good { OnOk result (IsGood script.now) }
+    ensures fault { IfErr result (IsScriptFault script.now) }
+    ensures written { OnOk result (IsScriptWritten scid script.now (W.contents writer.old) (W.contents writer.new)) }
+    ensures cut_short { IfErr result (IsScriptCutShort scid script.now (W.contents writer.old) (W.contents writer.new)) }
+{
+    let done = run_lines(rt, alloc, scid, script, writer);
     match writer.flush() {
         Ok(()) => done,
         Err(_) => Err(ScriptFault::Write),

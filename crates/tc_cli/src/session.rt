@@ -32,6 +32,9 @@ impl<T: Wait> Founder for StationFounder<'_, T> {
 
     ghost spares = { AreAsCounted };
 
+    // Once a script, and so out of what each line does.
+    #[cold]
+    #[inline(never)]
     fn found(&self, alloc: Global, list: Configuration) -> Result<MannedStation, Reason> {
         let vcids = list.vcids(alloc)?;
         MannedStation::new(self.rt, alloc, found(alloc, self.scid, list)?, vcids)

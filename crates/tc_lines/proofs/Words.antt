@@ -1,8 +1,9 @@
 -- The first word of octets: separators, then what stands before the next separator.
-use Rattle.std.proofs.Common.{rules, ◌≡◌, ℕ, ◌<◌, Bool, true, false, not, cond, List, [], ◌∷◌, length, take, drop, filter, refl, sym, ◌∙◌, ap, arith}
+use Rattle.std.proofs.Common.{rules, ◌≡◌, ℕ, zero, suc, ◌<◌, ◌≤◌, Bool, true, false, not, cond, Some, None, List, [], ◌∷◌, length, take, drop, get_or, filter, refl, sym, ◌∙◌, ap, arith}
 use Rattle.std.specs.List.{slice_split, onto_first, take_while}
 use Rattle.std.proofs.lemmas.List.Splits.{slice_split-cons_yes, slice_split-cons_no}
 use Rattle.std.proofs.lemmas.List.Sums.{take_while-cons}
+use Rattle.memchr.specs.Find.{IsFirstByte, is_byte3}
 use Rattle.tc_lines.specs.Word.{is_separator, is_filled, words}
 
 pub words-separator : (x : ℕ) (xs : List ℕ) → is_separator x ≡ true → words (x ∷ xs) ≡ words xs
@@ -89,3 +90,25 @@ words-split octets rest word after g n eg er h en ew ea =
     let gap : words octets ≡ words rest = sym (words-gap octets) ∙ sym (ap words at) in
     let first : words rest ≡ word ∷ words after = rw (ew, ea, en) (words-first rest starts) in
     (rw en starts, gap ∙ first)
+
+false-of : (b : Bool) → (b ≡ true → ⊥) → b ≡ false
+false-of true h = absurd (h refl)
+false-of false _ = refl
+
+-- how many octets come before the first separator
+before-separator : (xs : List ℕ) (n : ℕ) → ((k : ℕ) → k < n → is_separator (get_or xs k 0) ≡ false) → n ≤ length xs → (n < length xs → is_separator (get_or xs n 0) ≡ true)
+    → n ≡ length (take_while is_inner xs)
+before-separator [] n inner within stops = omega (arith, within)
+before-separator (x ∷ xs) zero inner within stops = rw (take_while-cons, stops (omega arith)) refl
+before-separator (x ∷ xs) (suc n) inner within stops =
+    rw (take_while-cons, inner 0 (omega arith))
+    (ap suc (before-separator xs n (λ k lt. inner (suc k) (omega (arith, lt))) (omega (arith, within)) (λ lt. stops (omega (arith, lt)))))
+
+-- the first separator was found
+pub word-to-separator : (xs : List ℕ) (n : ℕ) → IsFirstByte (is_byte3 32 9 13) xs (Some n) → n ≡ length (take_while is_inner xs)
+word-to-separator xs n found =
+    before-separator xs n (λ k lt. false-of _ (found.0.before k (omega arith) lt)) (omega (arith, found.0.high)) (λ lt. found.1)
+
+-- there is none
+pub last-word : (xs : List ℕ) → IsFirstByte (is_byte3 32 9 13) xs None → length xs ≡ length (take_while is_inner xs)
+last-word xs none = before-separator xs (length xs) (λ k lt. false-of _ (none k (omega arith) lt)) (omega arith) (λ lt. absurd (omega (arith, lt)))

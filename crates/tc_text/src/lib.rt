@@ -1,13 +1,11 @@
 //! Scripts as text: their octets are read and taken apart into lines, and a line into its words, which say what is to be done.
 //!
-//! `read_whole` reads a script, `next_line` takes its first line off, and `parse_line` says what a line says. A [`Noticing`] reader
-//! says of the frames of a script whether each ends with its frame error control field.
+//! `read_whole` reads a script, `next_line` takes its first line off, and `parse_line` says what a line says.
 #![tactic(auto)]
 
 mod fault;
 mod line;
 mod live;
-mod noticing;
 mod printed;
 mod reading;
 mod spacecraft;
@@ -16,7 +14,6 @@ mod word;
 pub use fault::{Reason, ScriptFault};
 pub use line::{Line, parse_line};
 pub use live::{LiveLine, parse_live_line};
-pub use noticing::Noticing;
 pub use printed::{Delivered, UnitDigits, WordDigits};
 pub use reading::{MAX_OCTETS, next_line, read_whole};
 pub use spacecraft::SpacecraftId;

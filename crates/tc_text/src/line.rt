@@ -59,26 +59,33 @@ pub fn parse_line(alloc: Global, octets: &[u8]) -> Result<Line, Reason>
         return Ok(Line::Blank);
     };
     if command[0] == b'#' {
-        Ok(Line::Blank)
-    } else if command == b"channel".as_slice() {
-        channel(arguments)
-    } else if command == b"queue".as_slice() {
-        queue(arguments)
-    } else if command == b"map".as_slice() {
-        map(arguments)
-    } else if command == b"frame".as_slice() {
-        frame(alloc, arguments)
-    } else if command == b"release".as_slice() {
-        release(arguments)
-    } else if command == b"take".as_slice() {
-        take(arguments)
-    } else if command == b"unit".as_slice() {
-        unit(arguments)
-    } else if command == b"clcw".as_slice() {
-        clcw(arguments)
-    } else {
-        Err(Reason::UnknownCommand)
+        return Ok(Line::Blank);
     }
+    if command == b"channel".as_slice() {
+        return channel(arguments);
+    }
+    if command == b"queue".as_slice() {
+        return queue(arguments);
+    }
+    if command == b"map".as_slice() {
+        return map(arguments);
+    }
+    if command == b"frame".as_slice() {
+        return frame(alloc, arguments);
+    }
+    if command == b"release".as_slice() {
+        return release(arguments);
+    }
+    if command == b"take".as_slice() {
+        return take(arguments);
+    }
+    if command == b"unit".as_slice() {
+        return unit(arguments);
+    }
+    if command == b"clcw".as_slice() {
+        return clcw(arguments);
+    }
+    Err(Reason::UnknownCommand)
 }
 
 fn channel(arguments: &[u8]) -> Result<Line, Reason>

@@ -4,6 +4,7 @@ ghost use Rattle.std.specs.Prelude.{◌≡◌, ◌≤◌, [], vec_len, IfOk, IfE
 ghost use Rattle.tc_text.specs.Reading.{IsFirstLine, IsReadFault};
 
 use crate::fault::{Reason, ScriptFault};
+use memchr::memchr;
 use std::alloc::Global;
 use std::io::Read;
 
@@ -46,7 +47,7 @@ pub fn next_line(octets: &[u8]) -> Option<(&[u8], &[u8])>
     if octets.is_empty() {
         return None;
     }
-    match octets.iter().position(|octet| *octet == b'\n') {
+    match memchr(b'\n', octets) {
         Some(end) => {
             let (line, rest) = octets.split_at(end);
             let (_, after) = rest.split_at(1);

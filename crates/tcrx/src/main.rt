@@ -3,6 +3,9 @@
 
 ghost use Rattle.std.specs.Prelude.{◌≤◌};
 
+mod fields;
+
+use crate::fields::each_frame_has_its_field;
 use command_line::{ScriptRun, Way, asked_of_tcrx};
 use std::io;
 use std::io::BufWriter;
@@ -11,7 +14,6 @@ use std::sync::Wait;
 use std::thread::Threads;
 use tc_cli::{Reason, ScriptFault, parallel_script, run_script};
 use tc_station::FreeGate;
-use tc_text::Noticing;
 
 fn main(rt: HostRuntime) -> ExitCode {
     match asked_of_tcrx(&rt) {
@@ -46,8 +48,8 @@ fn obey<R: AllocGlobal + Input + Print + Eprint + Threads + Wait + Sync>(
     let Ok(mut writer) = BufWriter::new(rt.alloc(), io::writer(rt)) else {
         return Err(NO_WRITER);
     };
-    let mut reader = Noticing::new(rt.alloc(), rt.reader());
-    match asked.way {
+    let mut reader = rt.reader();
+    let script = match asked.way {
         Way::InOrder => run_script(rt, rt.alloc(), asked.scid, &mut reader, &mut writer)?,
         Way::Parallel => parallel_script(
             rt,
@@ -57,8 +59,8 @@ fn obey<R: AllocGlobal + Input + Print + Eprint + Threads + Wait + Sync>(
             &mut reader,
             &mut writer,
         )?,
-    }
-    hint(rt, reader.has_fields());
+    };
+    hint(rt, each_frame_has_its_field(rt.alloc(), script.as_slice()));
     Ok(())
 }
 

@@ -1,0 +1,46 @@
+//! Whether the frames of a script end with their frame error control fields.
+
+ghost use Rattle.std.specs.Prelude.{◌≤◌, length};
+
+use memchr::{memchr, memrchr};
+use std::alloc::Global;
+use tc_fecf::without_field;
+use tc_text::{Line, next_line, parse_line};
+
+/// Whether a script that was done has a frame, and each one is whole and ends with its field. Where memory is refused, it has none. It
+/// is a hint for a user, of which no contract speaks.
+pub(crate) fn each_frame_has_its_field(alloc: Global, script: &[u8]) -> bool {
+    let mut has_frame = false;
+    let mut rest = from_next_frame(script);
+    while let Some((line, after)) = next_line(rest) {
+        match has_field(alloc, line) {
+            Some(true) => has_frame = true,
+            Some(false) => return false,
+            None => {}
+        }
+        rest = from_next_frame(after);
+    }
+    has_frame
+}
+
+// The lines from the next one on that may be a frame. Without an `f` a line is none.
+fn from_next_frame(lines: &[u8]) -> &[u8]
+    ensures { length result.now ≤ length lines.now }
+{
+    let Some(place) = memchr(b'f', lines) else {
+        return &[];
+    };
+    match memrchr(b'\n', &lines[..place]) {
+        Some(feed) => &lines[feed + 1..],
+        None => lines,
+    }
+}
+
+// Whether the frame of a line is whole and ends with its field. None: the line is no frame.
+fn has_field(alloc: Global, line: &[u8]) -> Option<bool> {
+    match parse_line(alloc, line) {
+        Ok(Line::Frame(octets)) => Some(without_field(alloc, octets.as_slice()).is_ok()),
+        Ok(_) => None,
+        Err(_) => Some(false),
+    }
+}
