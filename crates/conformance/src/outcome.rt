@@ -65,9 +65,9 @@ pub(crate) fn perform<T: Threads + Wait + Sync>(
     let mut reader = script;
     let mut answers = Vec::new(alloc);
     let done = match command {
-        Command::Run => run_script(rt, alloc, scid, &mut reader, &mut answers).map(|_| ()),
+        Command::Run => run_script(rt, alloc, scid, &mut reader, &mut answers),
         Command::Parallel => {
-            parallel_script(rt, alloc, &FreeGate, scid, &mut reader, &mut answers).map(|_| ())
+            parallel_script(rt, alloc, &FreeGate, scid, &mut reader, &mut answers)
         }
         Command::Alone => replay::<Channel, _, _>(alloc, scid, &mut reader, &mut answers),
         Command::Flight => replay::<FlightChannel, _, _>(alloc, scid, &mut reader, &mut answers),

@@ -19,8 +19,8 @@ mod worked;
 pub use laws::{
     the_lines_before_memory_ran_out_are_good, what_a_script_does_follows_from_its_lines,
 };
-pub use parallel::parallel_script;
-pub use script::run_script;
+pub use parallel::{parallel_and_give_back, parallel_script};
+pub use script::{run_and_give_back, run_script};
 pub use tc_rack::{Answer, Operation, Refusal, Stage, write_report};
 pub use tc_text::{Line, Reason, ScriptFault, parse_line};
 pub use worked::a_script_writes_this;

@@ -31,8 +31,29 @@ use tc_text::{Reason, ScriptFault, next_line, parse_line, read_whole};
 ///
 /// Each worker passes the gate once, while it holds its channel's lock. Where the octets of the reader
 /// are known, nothing is done unless each line is good, and a bad line that is told is the first one.
-/// Where it ends early, nothing is written, unless a write failed. One that is done is given back.
+/// Where it ends early, nothing is written, unless a write failed.
 pub fn parallel_script<T: Threads + Wait + Sync, G: Gate + Sync, R: Read, W: Write>(
+    rt: &T,
+    alloc: Global,
+    gate: &G,
+    scid: u16,
+    reader: &mut R,
+    writer: &mut W,
+) -> Result<(), ScriptFault>
+    requires { scid ≤ 1023 }
+    ensures good { OnOk result (IfSome (R.remaining reader.old) (λ script. (length script ≤ script_limit) × IsGood script)) }
+    ensures fault { IfErr result (λ fault. IfSome (R.remaining reader.old) (λ script. IsScriptFault script fault)) }
+    ensures written { OnOk result (IfSome (R.remaining reader.old) (λ script. IsWrittenInParallel scid script (W.contents writer.old) (W.contents writer.new))) }
+    ensures kept { IfErr result (λ fault. (fault ≡ ScriptFault.Write) ⊎ Keeps (W.contents writer.old) (W.contents writer.new)) }
+{
+    match parallel_and_give_back(rt, alloc, gate, scid, reader, writer) {
+        Ok(_) => Ok(()),
+        Err(fault) => Err(fault),
+    }
+}
+
+/// The same, and a script that was done is given back, as it was read.
+pub fn parallel_and_give_back<T: Threads + Wait + Sync, G: Gate + Sync, R: Read, W: Write>(
     rt: &T,
     alloc: Global,
     gate: &G,

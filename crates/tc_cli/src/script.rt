@@ -27,8 +27,28 @@ use tc_text::{Reason, ScriptFault, next_line, parse_line, read_whole};
 /// Where the octets of the reader are known, a script is done to its end only if each line is good,
 /// and a bad line that ends it is the first one. Then each answer, and the report, is what the lines before make it. A CLCW, too, which is
 /// read without its channel's lock: the reader meets its channel at each operation, and once more before the report. Where the
-/// script ends early, the answers of the lines before are written alone, unless a write failed. One that is done is given back.
+/// script ends early, the answers of the lines before are written alone, unless a write failed.
 pub fn run_script<T: Wait, R: Read, W: Write>(
+    rt: &T,
+    alloc: Global,
+    scid: u16,
+    reader: &mut R,
+    writer: &mut W,
+) -> Result<(), ScriptFault>
+    requires { scid ≤ 1023 }
+    ensures good { OnOk result (IfSome (R.remaining reader.old) (λ script. (length script ≤ script_limit) × IsGood script)) }
+    ensures fault { IfErr result (λ fault. IfSome (R.remaining reader.old) (λ script. IsScriptFault script fault)) }
+    ensures written { OnOk result (IfSome (R.remaining reader.old) (λ script. IsScriptWritten scid script (W.contents writer.old) (W.contents writer.new))) }
+    ensures cut_short { IfErr result (λ fault. IfSome (R.remaining reader.old) (λ script. IsScriptCutShort scid script (W.contents writer.old) (W.contents writer.new) fault)) }
+{
+    match run_and_give_back(rt, alloc, scid, reader, writer) {
+        Ok(_) => Ok(()),
+        Err(fault) => Err(fault),
+    }
+}
+
+/// The same, and a script that was done is given back, as it was read.
+pub fn run_and_give_back<T: Wait, R: Read, W: Write>(
     rt: &T,
     alloc: Global,
     scid: u16,

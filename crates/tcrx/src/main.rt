@@ -12,7 +12,7 @@ use std::io::BufWriter;
 use std::process::ExitCode;
 use std::sync::Wait;
 use std::thread::Threads;
-use tc_cli::{Reason, ScriptFault, parallel_script, run_script};
+use tc_cli::{Reason, ScriptFault, parallel_and_give_back, run_and_give_back};
 use tc_station::FreeGate;
 
 fn main(rt: HostRuntime) -> ExitCode {
@@ -50,8 +50,8 @@ fn obey<R: AllocGlobal + Input + Print + Eprint + Threads + Wait + Sync>(
     };
     let mut reader = rt.reader();
     let script = match asked.way {
-        Way::InOrder => run_script(rt, rt.alloc(), asked.scid, &mut reader, &mut writer)?,
-        Way::Parallel => parallel_script(
+        Way::InOrder => run_and_give_back(rt, rt.alloc(), asked.scid, &mut reader, &mut writer)?,
+        Way::Parallel => parallel_and_give_back(
             rt,
             rt.alloc(),
             &FreeGate,

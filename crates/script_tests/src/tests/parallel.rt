@@ -55,10 +55,8 @@ fn channels_are_worked_side_by_side(rt: HostRuntime) {
     };
     let mut report: Vec<u8> = Vec::new(rt.alloc());
     let mut reader = TWO_CHANNELS.as_bytes();
-    match parallel_script(&rt, rt.alloc(), &gate, 42, &mut reader, &mut report) {
-        Ok(script) => assert_eq!(rt; script.as_slice(), TWO_CHANNELS.as_bytes()),
-        Err(fault) => panic!(rt; "{fault}"),
-    }
+    let done = parallel_script(&rt, rt.alloc(), &gate, 42, &mut reader, &mut report);
+    assert_eq!(rt; done, Ok(()));
     assert_eq!(rt; report.as_slice(), TWO_CHANNELS_REPORT.as_bytes());
     assert!(rt; gate.first_came.load(Ordering::SeqCst));
     assert!(rt; gate.second_came.load(Ordering::SeqCst));

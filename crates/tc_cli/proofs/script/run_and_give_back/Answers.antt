@@ -2,7 +2,7 @@ use Rattle.std.proofs.Common.{rules, Err}
 use Rattle.std.proofs.KnownBytes.{Keeps-refl}
 use Rattle.tc_cli.proofs.Scripts.{read-fault}
 use Rattle.tc_cli.proofs.Written.{read-cut-short, whole-written, whole-cut-short}
-use Rattle.tc_cli.proofs.script.run_script.Goals as goal
+use Rattle.tc_cli.proofs.script.run_and_give_back.Goals as goal
 
 pub returns-in_err-script-clause-fault : goal.returns-in_err-script-clause-fault
 returns-in_err-script-clause-fault g c = search (rules, read-fault)

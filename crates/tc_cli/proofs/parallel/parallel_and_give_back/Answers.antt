@@ -1,7 +1,7 @@
 use Rattle.std.proofs.Common.{rules, Ok}
 use Rattle.tc_cli.proofs.Scripts.{read-fault}
 use Rattle.tc_cli.proofs.Written.{parallel-written}
-use Rattle.tc_cli.proofs.parallel.parallel_script.Goals as goal
+use Rattle.tc_cli.proofs.parallel.parallel_and_give_back.Goals as goal
 
 pub returns-in_err-script-clause-fault : goal.returns-in_err-script-clause-fault
 returns-in_err-script-clause-fault g c = search (rules, read-fault)
