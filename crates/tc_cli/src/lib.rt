@@ -2,7 +2,8 @@
 //!
 //! `run_script` reads a script from a reader, does its lines in order, and writes an answer for each
 //! operation and then a report. `parallel_script` does the operations of each channel by a worker of its
-//! own, and writes the report alone. `parse_line` reads one line.
+//! own, and writes the report alone. `run_and_give_back` and `parallel_and_give_back` also give the script
+//! back. `parse_line` reads one line.
 #![tactic(auto)]
 
 mod closing;

@@ -52,7 +52,7 @@ pub fn parallel_script<T: Threads + Wait + Sync, G: Gate + Sync, R: Read, W: Wri
     }
 }
 
-/// The same, and a script that was done is given back, as it was read.
+/// Runs a script as [`parallel_script`] does, and gives it back, as it was read, if all of it was done.
 pub fn parallel_and_give_back<T: Threads + Wait + Sync, G: Gate + Sync, R: Read, W: Write>(
     rt: &T,
     alloc: Global,

@@ -36,7 +36,8 @@ impl Model for Parted {
 }
 
 impl Parted {
-    /// A station with these channels, and no job yet. It is made once a script, and stays out of what each line does.
+    /// A station with these channels, and no job yet.
+    // It is made once for a script, so its code isn't inlined into what runs for each line.
     #[cold]
     #[inline(never)]
     pub(crate) fn new(

@@ -47,7 +47,7 @@ pub fn run_script<T: Wait, R: Read, W: Write>(
     }
 }
 
-/// The same, and a script that was done is given back, as it was read.
+/// Runs a script as [`run_script`] does, and gives it back, as it was read, if all of it was done.
 pub fn run_and_give_back<T: Wait, R: Read, W: Write>(
     rt: &T,
     alloc: Global,

@@ -32,7 +32,7 @@ impl<T: Wait> Founder for StationFounder<'_, T> {
 
     ghost spares = { AreAsCounted };
 
-    // Once a script, and so out of what each line does.
+    // It is made once for a script, so its code isn't inlined into what runs for each line.
     #[cold]
     #[inline(never)]
     fn found(&self, alloc: Global, list: Configuration) -> Result<MannedStation, Reason> {

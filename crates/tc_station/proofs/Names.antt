@@ -1,4 +1,4 @@
--- The types and definitions that most proofs speak of, under one name.
+-- The types and definitions that most proofs speak of, imported from one file.
 pub use Rattle.tc_channel.specs.Journal.{History, IsNumberTold}
 pub use Rattle.tc_channel.specs.declared.event.Event.{Event}
 pub use Rattle.tc_channel.specs.declared.settings.Settings.{Settings}

@@ -32,14 +32,15 @@ use tc_desk::each_event_stands_at_its_place;
 ///
 /// - `merge`: the journal of each channel is a merge of the events that its operators made: each once, and each operator's in its order.
 /// - `frames`, `releases`, `takes`, `units`: each call that was answered is an event of that journal, and its answer is the one that the model
-///   gives at the journal before it. The event, with its number, is the last that the operator has made then, so by `merge` no two calls
-///   share one. So one thread could have made all calls, in the journal's order, and got the same answers.
+///   gives at the journal before it. The event, with its number, is the last that the operator has made then. So one thread could have
+///   made all calls, in the journal's order, and got the same answers.
 /// - `words`: each CLCW that a watcher read is that of a place in that journal, which isn't before all that the watcher had seen, where an
 ///   operator lets the watcher meet the channel later on. So it is for each read before the last meeting.
 /// - `sent`: where the Type-AD frames of an era, which is the journal's part since a Set V(R) was last obeyed, or else all of it, are one
 ///   sender's, numbered on from the V(R) with which it starts, and none came 256 or more numbers early or late, the Type-AD data fields
 ///   of the era that were released are what was sent, each once, in order; and what all takes of an application gave is, in order,
-///   packets that the fields make which the channel passed on: those, and the Type-BD fields between them. `sent_units` says the same of the units of a chosen MAP.
+///   packets that the fields make which the channel passed on: those, the Type-AD fields of earlier eras, and the Type-BD fields
+///   between them. `sent_units` says the same of the units of a chosen MAP.
 /// - `whole`: where these are as many as the fields make, none is left out.
 ///
 /// Each call of an operator goes on from all that it had seen (`later` of `IsCall`), so it has gone on, too, after several.

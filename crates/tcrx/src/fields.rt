@@ -7,8 +7,8 @@ use std::alloc::Global;
 use tc_fecf::without_field;
 use tc_text::{Line, next_line, parse_line};
 
-/// Whether a script that was done has a frame, and each one is whole and ends with its field. Where memory is refused, it has none. It
-/// is a hint for a user, of which no contract speaks.
+/// Whether a script that was done has a frame, and each one is whole and ends with its field. Where memory is refused, the answer is
+/// no. It is a hint for a user, of which no contract speaks.
 pub(crate) fn each_frame_has_its_field(alloc: Global, script: &[u8]) -> bool {
     let mut has_frame = false;
     let mut rest = from_next_frame(script);
@@ -36,7 +36,7 @@ fn from_next_frame(lines: &[u8]) -> &[u8]
     }
 }
 
-// Whether the frame of a line is whole and ends with its field. None: the line is no frame.
+// Whether the frame of a line is whole and ends with its field. None: the line is no frame. A line that is refused has no field.
 fn has_field(alloc: Global, line: &[u8]) -> Option<bool> {
     match parse_line(alloc, line) {
         Ok(Line::Frame(octets)) => Some(without_field(alloc, octets.as_slice()).is_ok()),
