@@ -10,28 +10,6 @@ use Rattle.tc_channel.specs.Keyed.{Keyed, ring_in, rings_in, laid_in, all_laid_i
 use Rattle.tc_channel.specs.Delivering.{room_at, IsPutAt}
 use Rattle.tc_channel.proofs.Copies.{put-set, longer-fits}
 
--- what is laid in the slots of a queue is laid in the queue
-pub laid-behind : (q : Keyed) (next : Slotted) (p : List ℕ) (place : Bool) → IsLaidBehind p q.slots next place → IsPutBehind p (laid_in q) (laid_in (record { key = q.key; slots = next })) place
-laid-behind q next p place laid = record {
-  done = λ yes.
-      let d = laid.done yes in
-      let room = d.1 in
-      let l = length-append q.slots.ring.items q.slots.laid in
-      (rw d.0 (ap (λ (xs : List (List ℕ)). record { key = q.key; ring = buffer xs q.slots.ring.capacity }) (sym (append_assoc q.slots.ring.items q.slots.laid (p ∷ [])))), omega arith);
-  full = λ no.
-      let f = laid.full no in
-      let room = f.1 in
-      let l = length-append q.slots.ring.items q.slots.laid in
-      (rw f.0 refl, omega arith);
-}
-
--- and so it is once it counts
-pub counted-behind : (q : Keyed) (mid next : Slotted) (p : List ℕ) (place : Bool) → next ≡ slotted (mid.ring.items ++ mid.laid) mid.ring.capacity [] mid.size → IsLaidBehind p q.slots mid place
-    → IsPutBehind p (laid_in q) (laid_in (record { key = q.key; slots = next })) place
-counted-behind q mid next p place is laid =
-    let same : laid_in (record { key = q.key; slots = next }) ≡ laid_in (record { key = q.key; slots = mid }) = rw is (ap (λ (xs : List (List ℕ)). record { key = q.key; ring = buffer xs mid.ring.capacity }) (append-nil (mid.ring.items ++ mid.laid))) in
-    rw same (laid-behind q mid p place laid)
-
 -- what waits is the same
 pub same-rings : (qs : List Keyed) (i : ℕ) (q next : Keyed) → q ≡ get_or qs i q → next.key ≡ q.key → next.slots.ring ≡ q.slots.ring → rings_in (set qs i next) ≡ rings_in qs
 same-rings qs i q next is key ring =

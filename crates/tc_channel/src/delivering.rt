@@ -9,7 +9,7 @@ ghost use Rattle.tc_channel.specs.Places.{IsTableOf};
 ghost use Rattle.tc_channel.specs.Delivering.{IsPutAt, ArePut, IsPutWhole, IsDelivered};
 ghost use Rattle.tc_channel.specs.Steps.{looks, pass_steps, unit_steps};
 
-use crate::laying::put_packets;
+use crate::laying::lay_packets;
 use crate::places::place_counted;
 use crate::queue::Queue;
 use crate::reply::Delivery;
@@ -97,7 +97,7 @@ fn deliver_packets<R: Room, L: Ledger>(
     ensures cost { IfOk result (λ _. steps.new ≤ steps.old + (pass_steps (length (packets_of unit.now)) (looks (boxed_slice_items queues.old) table.now) + (pass_steps (length (packets_of unit.now)) (looks (boxed_slice_items queues.old) table.now) + looks (boxed_slice_items queues.old) table.now))) }
     ensures refused_cost { OnErr result (steps.new ≤ steps.old + (pass_steps (length (packets_of unit.now)) (looks (boxed_slice_items queues.old) table.now) + length (boxed_slice_items queues.old))) }
 {
-    match put_packets(queues, table, unit, steps) {
+    match lay_packets(queues, table, unit, steps) {
         Ok(delivery) => {
             settle_packets(queues, table, unit, delivery.queued as usize, steps);
             Ok(delivery)

@@ -24,7 +24,7 @@ use tc_rooms::Room;
 // Lays an item behind the others of the queue at this place, where there is room, and says whether there was. It counts at once where
 // no memory can be refused.
 #[inline(always)]
-fn put_at<R: Room>(
+fn lay_at<R: Room>(
     queues: &mut BoxedSlice<Queue<R>>,
     place: usize,
     octets: &[u8],
@@ -46,7 +46,7 @@ fn put_at<R: Room>(
 
 // Lays a packet into its queue, where one takes it, and says how many packets that were.
 #[inline(always)]
-fn put_packet<R: Room, L: Ledger>(
+fn lay_packet<R: Room, L: Ledger>(
     queues: &mut BoxedSlice<Queue<R>>,
     table: &[u16],
     packet: &Packet,
@@ -75,7 +75,7 @@ fn put_packet<R: Room, L: Ledger>(
     let Some(place) = place_counted(queues, table, packet.apid, steps) else {
         return Ok(0);
     };
-    let put = put_at(queues, place, packet.octets)?;
+    let put = lay_at(queues, place, packet.octets)?;
     if put {
         return Ok(1);
     }
@@ -84,7 +84,7 @@ fn put_packet<R: Room, L: Ledger>(
 
 /// Lays the packets of a unit into their queues.
 #[inline(always)]
-pub(crate) fn put_packets<R: Room, L: Ledger>(
+pub(crate) fn lay_packets<R: Room, L: Ledger>(
     queues: &mut BoxedSlice<Queue<R>>,
     table: &[u16],
     unit: &[u8],
@@ -111,7 +111,7 @@ pub(crate) fn put_packets<R: Room, L: Ledger>(
     let mut rest = unit;
     while let Some((packet, after)) = next_packet(rest) {
         steps.tick();
-        let one = put_packet(queues, table, &packet, steps)?;
+        let one = lay_packet(queues, table, &packet, steps)?;
         queued += one;
         packets += 1;
         rest = after;

@@ -67,15 +67,14 @@ impl<R: Room> Queue<R> {
         ensures refused { OnErr result (self.new ≡ self.old) }
         ensures key { self.new.key ≡ self.old.key }
         ensures ring { R.grows ≡ true → self.new.slots.ring ≡ self.old.slots.ring }
-        ensures settled { R.grows ≡ false → self.new.slots.laid ≡ [] }
+        ensures settled { R.grows ≡ false → self.old.slots.laid ≡ [] → self.new.slots.laid ≡ [] }
         ensures size { self.new.slots.size ≡ self.old.slots.size }
         ensures answered { R.grows ≡ false → IsOk result }
     {
         let laid = self.slots.lay(octets)?;
-        if R::may_ask() {
-            return Ok(laid);
+        if laid && !R::may_ask() {
+            self.slots.settle();
         }
-        self.slots.settle();
         Ok(laid)
     }
 

@@ -134,6 +134,19 @@ fn deliver_unit<R: Room, L: Ledger>(
     )
 }
 
+// The unit that a data field ended, lent from where it lies.
+#[inline(always)]
+fn unit_of<'a, R: Room>(runs: &'a Runs<R>, field: &'a [u8], ended: Ended) -> Option<&'a [u8]>
+    requires { IsThere ended runs.now field.now }
+    ensures { option_map (λ unit. unit.now) result ≡ unit_in ended runs.now field.now }
+{
+    match ended {
+        Ended::Nothing => None,
+        Ended::Lying(from) => Some(&field[from..]),
+        Ended::Joined(place) => Some(runs.joined(place)),
+    }
+}
+
 /// Delivers the unit that a data field ended, if it ended one, from where it lies. Where memory runs out all queues are as they were.
 /// A step is counted for each packet that is cut from the unit, and for each queue that is looked at while one is found, settled or let
 /// go. So the steps grow as the unit's packets times the queues that are looked at where one is found: one where there are 64 queues or
@@ -168,10 +181,9 @@ pub(crate) fn deliver_ended<R: Room, L: Ledger>(
     ensures cost { IfOk result (λ _. steps.new ≤ steps.old + unit_steps (packet_count (unit_in ended runs.now field.now)) (most_looks (length queues.old)) (most_looks (length units.old))) }
     ensures refused_cost { OnErr result (steps.new ≤ steps.old + (unit_steps (packet_count (unit_in ended runs.now field.now)) (most_looks (length queues.old)) (most_looks (length units.old)) + length queues.old)) }
 {
-    match ended {
-        Ended::Nothing => Ok(deliver_nothing()),
-        Ended::Lying(from) => deliver_unit(queues, units, map, &field[from..], steps),
-        Ended::Joined(place) => deliver_unit(queues, units, map, runs.joined(place), steps),
+    match unit_of(runs, field, ended) {
+        Some(unit) => deliver_unit(queues, units, map, unit, steps),
+        None => Ok(deliver_nothing()),
     }
 }
 

@@ -5,7 +5,7 @@ use Rattle.tc_channel.specs.HeldQueues.{keys_of}
 use Rattle.tc_channel.specs.Delivering.{IsOnItsWay, IsAmong, AreLaidOf}
 use Rattle.tc_channel.specs.Keyed.{rings_in, all_laid_in, room_sizes, AreSettled}
 use Rattle.tc_channel.specs.Steps.{looks, pass_steps}
-use Rattle.tc_channel.proofs.laying.put_packets.Given as goal
+use Rattle.tc_channel.proofs.laying.lay_packets.Given as goal
 
 -- the packets so far and those that are left are all of them
 abbrev pub invariant-loop-packet : goal.invariant-loop-packet

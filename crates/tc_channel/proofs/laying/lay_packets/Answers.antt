@@ -8,7 +8,7 @@ use Rattle.tc_channel.specs.Steps.{looks, pass_steps}
 use Rattle.tc_channel.proofs.Counts.{pass-step, cut-one, cut-last, looks-same, same-count}
 use Rattle.tc_channel.proofs.Laid.{none-laid}
 use Rattle.tc_channel.proofs.Ways.{at-start, first-short, at-end}
-use Rattle.tc_channel.proofs.laying.put_packets.Goals as goal
+use Rattle.tc_channel.proofs.laying.lay_packets.Goals as goal
 
 pub loop-packet-init : goal.loop-packet-init
 loop-packet-init g c =
@@ -28,8 +28,8 @@ loop-packet-init g c =
       settled = λ _. c.requires.settled;
     }
 
-pub put_packet-requires-clause-fits : goal.put_packet-requires-clause-fits
-put_packet-requires-clause-fits g c =
+pub lay_packet-requires-clause-fits : goal.lay_packet-requires-clause-fits
+lay_packet-requires-clause-fits g c =
     let rest = c.loop-packet.rest.now in
     let cut = c.each_unit_has_one_cut.ensures.cut rest in
     let short : length c.in-Some.packet.octets.now ≤ length rest = first-short rest c.in-Some.packet.octets.now (rest_of rest) (packets_of c.in-Some.after.now) (cut.parts ∙ ap (λ x. joined x ++ rest_of rest) c.in-Some.ensures.packets) in
@@ -47,7 +47,7 @@ returns-clause-put g c =
 pub returns-in_err-one-clause-among : goal.returns-in_err-one-clause-among
 returns-in_err-one-clause-among g c =
     let more = rw c.in-Some.ensures.packets at c.loop-packet.invariant.more in
-    c.put_packet.ensures.among (packets_of c.args.unit.now) (λ key for_it. more key (inl for_it)) c.loop-packet.invariant.among
+    c.lay_packet.ensures.among (packets_of c.args.unit.now) (λ key for_it. more key (inl for_it)) c.loop-packet.invariant.among
 
 pub loop-packet-preserved : goal.loop-packet-preserved
 loop-packet-preserved g c =
@@ -66,20 +66,20 @@ loop-packet-preserved g c =
       within = omega arith;
       few = omega arith;
       rest = sym c.in-Some.ensures.rest ∙ i.rest;
-      among = c.put_packet.ensures.among (packets_of c.args.unit.now) (λ key for_it. more key (inl for_it)) i.among;
+      among = c.lay_packet.ensures.among (packets_of c.args.unit.now) (λ key for_it. more key (inl for_it)) i.among;
       more = λ key among. more key (inr among);
       cost = cut-one c.args.steps.now (pass_steps (length (packets_of c.args.unit.now)) one) c.loop-packet.steps (pass_steps (length (packets_of c.loop-packet.rest.now)) one) (pass_steps (length (packets_of c.in-Some.after.now)) one) one c.tick.new.self
-          (looks (boxed_slice_items c.loop-packet.queues) c.args.table.now) c.put_packet.new.steps (ap (λ n. pass_steps n one) (ap length c.in-Some.ensures.packets) ∙ pass-step (length (packets_of c.in-Some.after.now)) one) c.loop-packet.invariant.cost c.tick.ensures c.put_packet.ensures.cost
+          (looks (boxed_slice_items c.loop-packet.queues) c.args.table.now) c.lay_packet.new.steps (ap (λ n. pass_steps n one) (ap length c.in-Some.ensures.packets) ∙ pass-step (length (packets_of c.in-Some.after.now)) one) c.loop-packet.invariant.cost c.tick.ensures c.lay_packet.ensures.cost
           (looks-same (boxed_slice_items c.loop-packet.queues) (boxed_slice_items c.args.queues.now) c.args.table.now (same-count (boxed_slice_items c.loop-packet.queues) (boxed_slice_items c.args.queues.now) c.loop-packet.invariant.keys));
-      sizes = c.put_packet.ensures.sizes ∙ i.sizes;
-      rings = λ grows. c.put_packet.ensures.rings grows ∙ i.rings grows;
-      keys = c.put_packet.ensures.keys ∙ i.keys;
-      settled = λ none. c.put_packet.ensures.settled none (i.settled none);
+      sizes = c.lay_packet.ensures.sizes ∙ i.sizes;
+      rings = λ grows. c.lay_packet.ensures.rings grows ∙ i.rings grows;
+      keys = c.lay_packet.ensures.keys ∙ i.keys;
+      settled = λ none. c.lay_packet.ensures.settled none (i.settled none);
     }
 
 pub returns-in_err-one-clause-cost : goal.returns-in_err-one-clause-cost
 returns-in_err-one-clause-cost g c =
     let one : ℕ = looks (boxed_slice_items c.args.queues.now) c.args.table.now in
     cut-last c.args.steps.now (pass_steps (length (packets_of c.args.unit.now)) one) c.loop-packet.steps (pass_steps (length (packets_of c.loop-packet.rest.now)) one) (pass_steps (length (packets_of c.in-Some.after.now)) one) one c.tick.new.self
-    (looks (boxed_slice_items c.loop-packet.queues) c.args.table.now) c.put_packet.new.steps (ap (λ n. pass_steps n one) (ap length c.in-Some.ensures.packets) ∙ pass-step (length (packets_of c.in-Some.after.now)) one) c.loop-packet.invariant.cost c.tick.ensures c.put_packet.ensures.cost
+    (looks (boxed_slice_items c.loop-packet.queues) c.args.table.now) c.lay_packet.new.steps (ap (λ n. pass_steps n one) (ap length c.in-Some.ensures.packets) ∙ pass-step (length (packets_of c.in-Some.after.now)) one) c.loop-packet.invariant.cost c.tick.ensures c.lay_packet.ensures.cost
     (looks-same (boxed_slice_items c.loop-packet.queues) (boxed_slice_items c.args.queues.now) c.args.table.now (same-count (boxed_slice_items c.loop-packet.queues) (boxed_slice_items c.args.queues.now) c.loop-packet.invariant.keys))

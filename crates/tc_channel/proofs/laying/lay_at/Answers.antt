@@ -2,9 +2,9 @@ use Rattle.std.specs.Box.{boxed_slice_items}
 use Rattle.tc_rooms.proofs.Sizes.{if-ok}
 use Rattle.tc_channel.specs.Keyed.{laid_in}
 use Rattle.tc_channel.proofs.Found.{keys-set}
-use Rattle.tc_channel.proofs.InRooms.{put-in, same-rings, same-sizes, fit-at, settled-at}
+use Rattle.tc_channel.proofs.InRooms.{put-in, same-rings, same-sizes, fit-at, settled-at, laid-of-none-at}
 use Rattle.tc_channel.proofs.Laid.{laid-at}
-use Rattle.tc_channel.proofs.laying.put_at.Goals as goal
+use Rattle.tc_channel.proofs.laying.lay_at.Goals as goal
 
 pub lay-requires : goal.lay-requires
 lay-requires g c = fit-at c.args.octets.now (boxed_slice_items c.args.queues.now) c.args.place c.index_mut-queue.result.now c.requires.fits c.requires.place c.index_mut-queue.ensures.value
@@ -19,7 +19,9 @@ pub returns-clause-keys : goal.returns-clause-keys
 returns-clause-keys g c = keys-set (boxed_slice_items c.args.queues.now) c.args.place c.index_mut-queue.result.now _ c.index_mut-queue.ensures.value c.lay.ensures.key
 
 pub returns-clause-settled : goal.returns-clause-settled
-returns-clause-settled g c = λ none all. settled-at (boxed_slice_items c.args.queues.now) c.args.place _ all (c.lay.ensures.settled none)
+returns-clause-settled g c = λ none all.
+    settled-at (boxed_slice_items c.args.queues.now) c.args.place _ all
+    (c.lay.ensures.settled none (laid-of-none-at (boxed_slice_items c.args.queues.now) c.args.place c.index_mut-queue.result.now all c.requires.place c.index_mut-queue.ensures.value))
 
 pub returns-clause-sizes : goal.returns-clause-sizes
 returns-clause-sizes g c = same-sizes (boxed_slice_items c.args.queues.now) c.args.place c.index_mut-queue.result.now _ c.index_mut-queue.ensures.value c.lay.ensures.size

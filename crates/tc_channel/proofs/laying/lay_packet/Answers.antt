@@ -6,7 +6,7 @@ use Rattle.tc_channel.proofs.Passes.{NoneFor, is-for, not-telecommand, no-queue}
 use Rattle.tc_channel.specs.Keyed.{laid_in, all_laid_in, rings_in}
 use Rattle.tc_channel.proofs.InRooms.{same-keys}
 use Rattle.tc_channel.proofs.Ways.{way-none, way-full, way-put}
-use Rattle.tc_channel.proofs.laying.put_packet.Goals as goal
+use Rattle.tc_channel.proofs.laying.lay_packet.Goals as goal
 
 pub returns-then-not-packet-clause-way : goal.returns-then-not-packet-clause-way
 returns-then-not-packet-clause-way g c = λ base left all n k. way-none base (all_laid_in (boxed_slice_items c.args.queues.now)) c.args.packet.now.octets.now left all n
@@ -23,7 +23,7 @@ returns-then-put-clause-way g c = λ base left all n k.
     let some = rw c.deref.ensures.value at c.in-Some.ensures.some in
     let lt = some.0 in
     let inside : c.in-Some.place < length (all_laid_in (boxed_slice_items c.args.queues.now)) = omega (arith, length-map (boxed_slice_items c.args.queues.now) laid_in, lt) in
-    way-put base (all_laid_in (boxed_slice_items c.args.queues.now)) (all_laid_in (boxed_slice_items c.put_at.new.queues)) c.args.packet.now.octets.now left all n c.in-Some.place c.args.packet.now.apid (subst AreDistinct keys c.requires.distinct) inside
+    way-put base (all_laid_in (boxed_slice_items c.args.queues.now)) (all_laid_in (boxed_slice_items c.lay_at.new.queues)) c.args.packet.now.octets.now left all n c.in-Some.place c.args.packet.now.apid (subst AreDistinct keys c.requires.distinct) inside
     (rw keys at some.1)
     (is-for c.args.packet.now c.args.packet.now.apid c.requires.fields c.if-not-packet.false refl) done.1 done.0 k
 
@@ -41,14 +41,14 @@ returns-clause-way g c = λ base left all n k.
 pub returns-then-put-clause-among : goal.returns-then-put-clause-among
 returns-then-put-clause-among g c = λ packets more all.
     let some = rw c.deref.ensures.value at c.in-Some.ensures.some in
-    c.put_at.ensures.among c.args.packet.now.apid packets some.1 (more c.args.packet.now.apid (is-for c.args.packet.now c.args.packet.now.apid c.requires.fields c.if-not-packet.false refl)) all
+    c.lay_at.ensures.among c.args.packet.now.apid packets some.1 (more c.args.packet.now.apid (is-for c.args.packet.now c.args.packet.now.apid c.requires.fields c.if-not-packet.false refl)) all
 
 pub returns-clause-among : goal.returns-clause-among
 returns-clause-among g c = λ packets more all.
     let some = rw c.deref.ensures.value at c.in-Some.ensures.some in
-    c.put_at.ensures.among c.args.packet.now.apid packets some.1 (more c.args.packet.now.apid (is-for c.args.packet.now c.args.packet.now.apid c.requires.fields c.if-not-packet.false refl)) all
+    c.lay_at.ensures.among c.args.packet.now.apid packets some.1 (more c.args.packet.now.apid (is-for c.args.packet.now c.args.packet.now.apid c.requires.fields c.if-not-packet.false refl)) all
 
 pub returns-in_err-put-clause-among : goal.returns-in_err-put-clause-among
 returns-in_err-put-clause-among g c = λ packets more all.
     let some = rw c.deref.ensures.value at c.in-Some.ensures.some in
-    c.put_at.ensures.among c.args.packet.now.apid packets some.1 (more c.args.packet.now.apid (is-for c.args.packet.now c.args.packet.now.apid c.requires.fields c.if-not-packet.false refl)) all
+    c.lay_at.ensures.among c.args.packet.now.apid packets some.1 (more c.args.packet.now.apid (is-for c.args.packet.now c.args.packet.now.apid c.requires.fields c.if-not-packet.false refl)) all
