@@ -83,10 +83,6 @@ pub grows-of : (grows : Bool) → (grows ≡ false → ⊥) → grows ≡ true
 grows-of true not = refl
 grows-of false not = absurd (not refl)
 
--- an item is put behind those of a queue where nothing is laid
-pub put-behind : (q mid next : Keyed) (p : List ℕ) (place : Bool) → q.slots.laid ≡ [] → IsPutBehind p (laid_in q) (laid_in mid) place → next ≡ settled mid → IsPutBehind p (ring_in q) (ring_in next) place
-put-behind q mid next p place none laid is = rw is (rw (laid-one q none) at laid)
-
 -- an item that is put into the queue at a place is put there, with what is laid and without
 pub put-in : (f : Keyed → HeldQueue) (qs : List Keyed) (i : ℕ) (q next : Keyed) (p : List ℕ) (place : Bool) → i < length qs → q ≡ get_or qs i q → IsPutBehind p (f q) (f next) place → IsPutAt i p (map f qs) (map f (set qs i next)) place
 put-in f qs i q next p place inside is behind =

@@ -31,12 +31,13 @@ fn lay_at<R: Room>(
 ) -> Result<bool, AllocError>
     requires place { place < length (boxed_slice_items queues.old) }
     requires fits { Fit octets.now (room_sizes (boxed_slice_items queues.old)) }
+    requires settled { R.grows ≡ false → AreSettled (boxed_slice_items queues.old) }
     ensures among { (key : ℕ) (packets : List (List ℕ)) → key ≡ get_or (keys_of (rings_in (boxed_slice_items queues.old))) place key → IsAmong key packets
         → AreLaidOf packets (boxed_slice_items queues.old) → AreLaidOf packets (boxed_slice_items queues.new) }
     ensures put { IfOk result (IsPutAt place octets.now (all_laid_in (boxed_slice_items queues.old)) (all_laid_in (boxed_slice_items queues.new))) }
     ensures rings { R.grows ≡ true → rings_in (boxed_slice_items queues.new) ≡ rings_in (boxed_slice_items queues.old) }
     ensures keys { keys_of (rings_in (boxed_slice_items queues.new)) ≡ keys_of (rings_in (boxed_slice_items queues.old)) }
-    ensures settled { R.grows ≡ false → AreSettled (boxed_slice_items queues.old) → AreSettled (boxed_slice_items queues.new) }
+    ensures settled { R.grows ≡ false → AreSettled (boxed_slice_items queues.new) }
     ensures sizes { room_sizes (boxed_slice_items queues.new) ≡ room_sizes (boxed_slice_items queues.old) }
     ensures answered { R.grows ≡ false → IsOk result }
 {
@@ -56,6 +57,7 @@ fn lay_packet<R: Room, L: Ledger>(
     requires fields { HasFields packet.now }
     requires distinct { AreDistinct (keys_of (rings_in (boxed_slice_items queues.old))) }
     requires fits { Fit packet.now.octets.now (room_sizes (boxed_slice_items queues.old)) }
+    requires settled { R.grows ≡ false → AreSettled (boxed_slice_items queues.old) }
     ensures among { (packets : List (List ℕ)) → ((key : ℕ) → is_for key packet.now.octets.now ≡ true → IsAmong key packets)
         → AreLaidOf packets (boxed_slice_items queues.old) → AreLaidOf packets (boxed_slice_items queues.new) }
     ensures way { IfOk result (λ more. (base : List HeldQueue) (left all : List (List ℕ)) (n : ℕ)
@@ -63,7 +65,7 @@ fn lay_packet<R: Room, L: Ledger>(
         → IsOnItsWay base left all (n + more) (all_laid_in (boxed_slice_items queues.new))) }
     ensures rings { R.grows ≡ true → rings_in (boxed_slice_items queues.new) ≡ rings_in (boxed_slice_items queues.old) }
     ensures keys { keys_of (rings_in (boxed_slice_items queues.new)) ≡ keys_of (rings_in (boxed_slice_items queues.old)) }
-    ensures settled { R.grows ≡ false → AreSettled (boxed_slice_items queues.old) → AreSettled (boxed_slice_items queues.new) }
+    ensures settled { R.grows ≡ false → AreSettled (boxed_slice_items queues.new) }
     ensures one { IfOk result (λ more. more ≤ 1) }
     ensures sizes { room_sizes (boxed_slice_items queues.new) ≡ room_sizes (boxed_slice_items queues.old) }
     ensures answered { R.grows ≡ false → IsOk result }

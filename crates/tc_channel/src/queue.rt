@@ -62,23 +62,24 @@ impl<R: Room> Queue<R> {
     // refused.
     #[inline(always)]
     pub(crate) fn lay(&mut self, octets: &[u8]) -> Result<bool, AllocError>
-        requires { length octets.now ≤ self.old.slots.size }
+        requires fits { length octets.now ≤ self.old.slots.size }
+        requires settled { R.grows ≡ false → self.old.slots.laid ≡ [] }
         ensures laid { IfOk result (IsPutBehind octets.now (laid_in self.old) (laid_in self.new)) }
         ensures refused { OnErr result (self.new ≡ self.old) }
         ensures key { self.new.key ≡ self.old.key }
         ensures ring { R.grows ≡ true → self.new.slots.ring ≡ self.old.slots.ring }
-        ensures settled { R.grows ≡ false → self.old.slots.laid ≡ [] → self.new.slots.laid ≡ [] }
+        ensures settled { R.grows ≡ false → self.new.slots.laid ≡ [] }
         ensures size { self.new.slots.size ≡ self.old.slots.size }
         ensures answered { R.grows ≡ false → IsOk result }
     {
-        let laid = self.slots.lay(octets)?;
-        if laid && !R::may_ask() {
-            self.slots.settle();
+        if R::may_ask() {
+            return self.slots.lay(octets);
         }
-        Ok(laid)
+        self.put(octets)
     }
 
-    // Puts an item behind the others, where there is a place, and says whether there was.
+    // Puts an item behind the others, where there is a place and nothing is laid, and says whether there was.
+    #[inline(always)]
     pub(crate) fn put(&mut self, octets: &[u8]) -> Result<bool, AllocError>
         requires fits { length octets.now ≤ self.old.slots.size }
         requires settled { self.old.slots.laid ≡ [] }
@@ -89,9 +90,7 @@ impl<R: Room> Queue<R> {
         ensures size { self.new.slots.size ≡ self.old.slots.size }
         ensures answered { R.grows ≡ false → IsOk result }
     {
-        let put = self.lay(octets)?;
-        self.settle();
-        Ok(put)
+        self.slots.put(octets)
     }
 
     // What was laid counts.

@@ -322,9 +322,7 @@ fn put_field(fields: &mut Slots<FixedRoom>, act: &Act, field: &[u8])
     ensures settled { fields.new.laid ≡ [] }
 {
     if act.event == 1 && act.accepted {
-        if fields.lay(field).unwrap() {
-            fields.settle();
-        }
+        fields.put(field).unwrap();
     }
 }
 

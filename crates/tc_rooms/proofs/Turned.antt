@@ -3,7 +3,7 @@ use Rattle.std.proofs.Common.{◌≡◌, ℕ, zero, suc, ◌+◌, ◌-◌, ◌�
 use Rattle.std.specs.Prelude.{set, slice_get, if◌then◌else◌}
 use Rattle.std.proofs.lemmas.Bool.Decides.{nat_tests}
 use Rattle.std.proofs.lemmas.List.{append-nil, length-append, length-map, length-take, length-drop, length-take-le, length-set, map-append, get_or-map, set-append_left, set-append_right, take-set, take-set-le, take_more, take_more_set, take_all, take-append-le, take-take, take-append-drop, drop_more, drop-take, drop-set-lt, drop-set-add, drop-append-le, drop_all}
-use Rattle.tc_rooms.specs.Rooms.{Laid, laid, octets_of, HaveSize, AreSlots, Slotted, slotted, seen, turned, IsLaidBehind}
+use Rattle.tc_rooms.specs.Rooms.{Laid, laid, octets_of, HaveSize, AreSlots, Slotted, slotted, seen, turned, IsLaidBehind, IsPut}
 
 -- sizes
 
@@ -80,6 +80,30 @@ laid-behind places first waiting count size at rooms later octets old long k lt 
     let w = length-waiting places first waiting count rooms long k.within in
     let l = length-laid places first waiting count rooms long k.within in
     rw (← view, later_is, at_is) (record { done = λ yes. (laid-seen places first waiting count size rooms octets long inside lt, omega arith); full = λ e. absurd cc })
+
+-- an item is put behind those that wait
+pub put-seen : (places first waiting size : ℕ) (rooms : List Laid) (octets : List ℕ) → length rooms ≡ places → first < places → waiting < places
+    → seen places first (waiting + 1) 0 size (set rooms (if nat_lt waiting (places - first) then first + waiting else waiting - (places - first)) (laid octets size))
+    ≡ slotted (map octets_of (take waiting (turned first rooms)) ++ octets ∷ []) places [] size
+put-seen places first waiting size rooms octets long inside lt =
+    let t = turned first rooms in
+    let x = laid octets size in
+    let l = length-turned first rooms in
+    rw (turned-set first waiting places rooms x long inside lt, take_more_set t waiting x (omega arith), map-append octets_of (take waiting t) (x ∷ [])) refl
+
+-- nothing is laid where no room of it is taken
+pub none-laid : (places first waiting count size : ℕ) (rooms : List Laid) (old : Slotted) → length rooms ≡ places → AreSlots places first waiting count size rooms → seen places first waiting count size rooms ≡ old → old.laid ≡ [] → count ≡ 0
+none-laid places first waiting count size rooms old long k view none =
+    sym (length-laid places first waiting count rooms long k.within) ∙ ap length (ap (λ (s : Slotted). s.laid) view ∙ none)
+
+pub put-behind : (places first waiting count size at : ℕ) (rooms later : List Laid) (octets : List ℕ) (old : Slotted) → length rooms ≡ places → AreSlots places first waiting count size rooms → waiting < places
+    → at ≡ (if nat_lt waiting (places - first) then first + waiting else waiting - (places - first)) → later ≡ set rooms at (laid octets size) → seen places first waiting count size rooms ≡ old → old.laid ≡ []
+    → IsPut octets old (seen places first (waiting + 1) count size later) true
+put-behind places first waiting count size at rooms later octets old long k lt at_is later_is view none =
+    let inside : first < places = k.inside (omega arith) in
+    let w = length-waiting places first waiting count rooms long k.within in
+    let free = none-laid places first waiting count size rooms old long k view none in
+    rw (← view, later_is, at_is, free) (record { done = λ yes. (put-seen places first waiting size rooms octets long inside lt, omega arith); full = λ e. absurd cc })
 
 -- what waits stays where a room behind it is written
 pub behind-seen : (places first waiting count at : ℕ) (rooms : List Laid) (x : Laid) → length rooms ≡ places → first < places → waiting ≤ at → at < places

@@ -47,3 +47,8 @@ seen places first waiting count size rooms = slotted (map octets_of (take waitin
 pub record IsLaidBehind (octets : List ℕ) (old new : Slotted) (place : Bool) : Type 0 where
   pub done : place ≡ true → (new ≡ slotted old.ring.items old.ring.capacity (old.laid ++ octets ∷ []) old.size) × (length old.ring.items + length old.laid < old.ring.capacity)
   pub full : place ≡ false → (new ≡ old) × (old.ring.capacity ≤ length old.ring.items + length old.laid)
+
+-- where nothing is laid: an item is put behind those that wait, or there is no place for it
+pub record IsPut (octets : List ℕ) (old new : Slotted) (place : Bool) : Type 0 where
+  pub done : place ≡ true → (new ≡ slotted (old.ring.items ++ octets ∷ []) old.ring.capacity [] old.size) × (length old.ring.items < old.ring.capacity)
+  pub full : place ≡ false → (new ≡ old) × (old.ring.capacity ≤ length old.ring.items)

@@ -2,7 +2,7 @@
 
 ghost use Rattle.std.specs.Prelude.{◌≡◌, ◌≤◌, ◌<◌, ◌==◌, ◌+◌, ◌-◌, ◌++◌, [], length, map, get_or, drop, set, nat_lt, false, IfOk, IsOk, OnOk, OnErr, IfSome, None, slice_get, option_map, if◌then◌else◌};
 ghost use Rattle.std.specs.Box.{boxed_slice_items};
-ghost use Rattle.tc_rooms.specs.Rooms.{held_room, laid, octets_of, slotted, HaveSize, IsLaidBehind};
+ghost use Rattle.tc_rooms.specs.Rooms.{held_room, laid, octets_of, slotted, HaveSize, IsLaidBehind, IsPut};
 
 use crate::room::{GrowingRoom, Room};
 use std::alloc::{AllocError, Global};
@@ -166,6 +166,27 @@ impl<R: Room> Slots<R> {
             return None;
         }
         Some(self.rooms[self.first].as_slice())
+    }
+
+    /// Puts an item behind the others, where nothing is laid, and says whether there was a place. It counts at once.
+    #[inline(always)]
+    pub fn put(&mut self, octets: &[u8]) -> Result<bool, AllocError>
+        requires fits { length octets.now ≤ self.old.size }
+        requires settled { self.old.laid ≡ [] }
+        ensures put { IfOk result (IsPut octets.now self.old self.new) }
+        ensures refused { OnErr result (self.new ≡ self.old) }
+        ensures settled { self.new.laid ≡ [] }
+        ensures size { self.new.size ≡ self.old.size }
+        ensures answered { R.grows ≡ false → IsOk result }
+    {
+        let places = self.rooms.as_slice().len();
+        if self.waiting >= places {
+            return Ok(false);
+        }
+        let place = place_behind(self.first, self.waiting, places);
+        fill_at(&mut self.rooms, place, self.size, octets)?;
+        self.waiting += 1;
+        Ok(true)
     }
 
     /// Lays an item behind the others, where there is a place, and says whether there was.

@@ -6,8 +6,11 @@ use Rattle.tc_channel.proofs.InRooms.{put-in, same-rings, same-sizes, fit-at, se
 use Rattle.tc_channel.proofs.Laid.{laid-at}
 use Rattle.tc_channel.proofs.laying.lay_at.Goals as goal
 
-pub lay-requires : goal.lay-requires
-lay-requires g c = fit-at c.args.octets.now (boxed_slice_items c.args.queues.now) c.args.place c.index_mut-queue.result.now c.requires.fits c.requires.place c.index_mut-queue.ensures.value
+pub lay-requires-clause-fits : goal.lay-requires-clause-fits
+lay-requires-clause-fits g c = fit-at c.args.octets.now (boxed_slice_items c.args.queues.now) c.args.place c.index_mut-queue.result.now c.requires.fits c.requires.place c.index_mut-queue.ensures.value
+
+pub lay-requires-clause-settled : goal.lay-requires-clause-settled
+lay-requires-clause-settled g c = λ none. laid-of-none-at (boxed_slice_items c.args.queues.now) c.args.place c.index_mut-queue.result.now (c.requires.settled none) c.requires.place c.index_mut-queue.ensures.value
 
 pub returns-clause-put : goal.returns-clause-put
 returns-clause-put g c = if-ok _ _ c.lay.result (λ place laid. put-in laid_in (boxed_slice_items c.args.queues.now) c.args.place c.index_mut-queue.result.now _ c.args.octets.now place c.requires.place c.index_mut-queue.ensures.value laid) c.lay.ensures.laid
@@ -19,9 +22,7 @@ pub returns-clause-keys : goal.returns-clause-keys
 returns-clause-keys g c = keys-set (boxed_slice_items c.args.queues.now) c.args.place c.index_mut-queue.result.now _ c.index_mut-queue.ensures.value c.lay.ensures.key
 
 pub returns-clause-settled : goal.returns-clause-settled
-returns-clause-settled g c = λ none all.
-    settled-at (boxed_slice_items c.args.queues.now) c.args.place _ all
-    (c.lay.ensures.settled none (laid-of-none-at (boxed_slice_items c.args.queues.now) c.args.place c.index_mut-queue.result.now all c.requires.place c.index_mut-queue.ensures.value))
+returns-clause-settled g c = λ none. settled-at (boxed_slice_items c.args.queues.now) c.args.place _ (c.requires.settled none) (c.lay.ensures.settled none)
 
 pub returns-clause-sizes : goal.returns-clause-sizes
 returns-clause-sizes g c = same-sizes (boxed_slice_items c.args.queues.now) c.args.place c.index_mut-queue.result.now _ c.index_mut-queue.ensures.value c.lay.ensures.size

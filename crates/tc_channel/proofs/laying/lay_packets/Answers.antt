@@ -74,7 +74,7 @@ loop-packet-preserved g c =
       sizes = c.lay_packet.ensures.sizes ∙ i.sizes;
       rings = λ grows. c.lay_packet.ensures.rings grows ∙ i.rings grows;
       keys = c.lay_packet.ensures.keys ∙ i.keys;
-      settled = λ none. c.lay_packet.ensures.settled none (i.settled none);
+      settled = λ none. c.lay_packet.ensures.settled none;
     }
 
 pub returns-in_err-one-clause-cost : goal.returns-in_err-one-clause-cost
