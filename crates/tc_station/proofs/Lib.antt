@@ -8,3 +8,4 @@ pub mod Works
 pub mod Ordered
 pub mod ClosedSince
 pub mod Meetings
+pub mod VcidTable

@@ -13,3 +13,4 @@ pub mod Tried
 pub mod Work
 pub mod Through
 pub mod Room
+pub mod VcidTable

@@ -18,6 +18,7 @@ mod guest;
 mod operator;
 mod station;
 mod through;
+mod vcids;
 mod work;
 
 pub use faults::{

@@ -21,7 +21,8 @@ use crate::faults::{
     StationFault, TakeRefused, TakeUnitRefused, WatcherFault,
 };
 use crate::guest::{Passing, Summing};
-use crate::operator::{Operator, Room, place_of};
+use crate::operator::{Operator, Room};
+use crate::vcids::Vcids;
 use crate::work::Gate;
 use std::alloc::{AllocError, Global};
 use std::marker::Model;
@@ -59,7 +60,7 @@ pub struct Brought {
 pub struct StationOf<J: Journal> {
     alloc: Global,
     scid: u16,
-    vcids: Vec<u8>,
+    vcids: Vcids,
     issued: u16,
     desks: Vec<Post<J>>,
 }
@@ -80,16 +81,16 @@ pub struct StillOpen<J: Journal> {
 }
 
 impl<J: Journal> Model for StationOf<J> {
-    ghost use Rattle.std.specs.Prelude.{◌≡◌, vec_len};
+    ghost use Rattle.std.specs.Prelude.{◌≡◌, length, vec_len};
     ghost use Rattle.tc_desk.specs.Together.{locks_of, heads_of, settings_of_desks};
     ghost use Rattle.tc_station.specs.Roster.{Roster, HaveIssued};
     ghost use Rattle.tc_station.specs.StationSettings.{vcids_of};
 
     ghost Value = { Roster };
 
-    ghost view = { λ s. record { scid = s.scid; vcids = s.vcids.items; issued = s.issued; locks = locks_of s.desks.items; heads = heads_of s.desks.items } };
+    ghost view = { λ s. record { scid = s.scid; vcids = s.vcids; issued = s.issued; locks = locks_of s.desks.items; heads = heads_of s.desks.items } };
 
-    ghost invariant = { λ s. (vec_len s.desks ≡ vec_len s.vcids) × (vcids_of (settings_of_desks s.desks.items) ≡ s.vcids.items) × HaveIssued s.issued s.desks.items };
+    ghost invariant = { λ s. (vec_len s.desks ≡ length s.vcids) × (vcids_of (settings_of_desks s.desks.items) ≡ s.vcids) × HaveIssued s.issued s.desks.items };
 }
 
 impl<J: Journal> StationOf<J> {
@@ -133,7 +134,7 @@ impl<J: Journal> StationOf<J> {
             return Err(LocateFault::OtherSpacecraft);
         }
         let vcid = header.vcid;
-        let Some(place) = place_of(&self.vcids, vcid) else {
+        let Some(place) = self.vcids.place_of(vcid) else {
             return Err(LocateFault::UnknownChannel);
         };
         Ok((place, Located { vcid, frame }))
@@ -153,7 +154,7 @@ impl<J: Journal> StationOf<J> {
         let Some(issued) = self.issued.checked_add(n) else {
             return Err(OperatorsFault::TooMany);
         };
-        let Ok(operators) = issue(self.alloc, &self.vcids, &mut self.desks, n) else {
+        let Ok(operators) = issue(self.alloc, self.vcids.as_slice(), &mut self.desks, n) else {
             return Err(OperatorsFault::NoMemory);
         };
         self.issued = issued;
@@ -201,7 +202,7 @@ impl<J: Journal> StationOf<J> {
         ensures refused { OnErr result (tally operator.new ≡ tally operator.old) }
         ensures ours { IsOurs self.now operator.new }
     {
-        let Some(place) = place_of(&self.vcids, vcid) else {
+        let Some(place) = self.vcids.place_of(vcid) else {
             return Err(ReleaseRefused::UnknownChannel);
         };
         let delivery = self.operate(rt, operator, place, vcid, &Release)?;
@@ -224,7 +225,7 @@ impl<J: Journal> StationOf<J> {
         ensures ours { IsOurs self.now operator.new }
         ensures answered { J.grows ≡ false → IsErrOf result TakeRefused.NoMemory → ⊥ }
     {
-        let Some(place) = place_of(&self.vcids, vcid) else {
+        let Some(place) = self.vcids.place_of(vcid) else {
             return Err(TakeRefused::UnknownChannel);
         };
         let packet = self.operate(rt, operator, place, vcid, &Taking { apid })?;
@@ -247,7 +248,7 @@ impl<J: Journal> StationOf<J> {
         ensures ours { IsOurs self.now operator.new }
         ensures answered { J.grows ≡ false → IsErrOf result TakeUnitRefused.NoMemory → ⊥ }
     {
-        let Some(place) = place_of(&self.vcids, vcid) else {
+        let Some(place) = self.vcids.place_of(vcid) else {
             return Err(TakeUnitRefused::UnknownChannel);
         };
         let unit = self.operate(rt, operator, place, vcid, &UnitTaking { map })?;
@@ -259,7 +260,7 @@ impl<J: Journal> StationOf<J> {
         ensures answer { MatchResult result (λ watcher. IsWatched self.now vcid watcher.seen) (IsWatcherFault self.now vcid) }
         ensures desk { IfOk result (IsWatcherOf self.now vcid) }
     {
-        let Some(place) = place_of(&self.vcids, vcid) else {
+        let Some(place) = self.vcids.place_of(vcid) else {
             return Err(WatcherFault::UnknownChannel);
         };
         let Ok(watcher) = self.ask(rt, place, vcid, &Watching) else {
@@ -288,7 +289,7 @@ impl<J: Journal> StationOf<J> {
         ensures answer { MatchResult result (IsHolding self.now vcid) (IsHoldingFault self.now vcid) }
         ensures desk { IfOk result (IsHoldingOf self.now vcid) }
     {
-        let Some(place) = place_of(&self.vcids, vcid) else {
+        let Some(place) = self.vcids.place_of(vcid) else {
             return Err(HoldingFault::UnknownChannel);
         };
         let alloc = self.alloc;
@@ -343,7 +344,7 @@ impl<J: Journal> StationOf<J> {
         ensures knows { KnowsDesks self.now operator.new }
         ensures watcher { IsWatcherOf self.now vcid watcher.new }
     {
-        let Some(place) = place_of(&self.vcids, vcid) else {
+        let Some(place) = self.vcids.place_of(vcid) else {
             unreachable!()
         };
         let post = &self.desks[place];
@@ -362,7 +363,7 @@ impl<J: Journal> StationOf<J> {
         ensures knows { KnowsDesks self.now operator.new }
         ensures watcher { IsWatcherOf self.now vcid watcher.new }
     {
-        let Some(place) = place_of(&self.vcids, vcid) else {
+        let Some(place) = self.vcids.place_of(vcid) else {
             unreachable!()
         };
         let post = &self.desks[place];
@@ -405,7 +406,7 @@ impl<J: Journal> StationOf<J> {
 
     /// Passes the gate once, under the lock of the channel if there is one.
     pub(crate) fn pass<G: Gate, R: Wait>(&self, rt: &R, gate: &G, vcid: u8) {
-        match place_of(&self.vcids, vcid) {
+        match self.vcids.place_of(vcid) {
             None => gate.pass(vcid),
             Some(place) => self.desks[place]
                 .desk()
@@ -427,7 +428,7 @@ impl<J: Journal> StationOf<J> {
             desks,
         } = self;
         match take_out_together(alloc, desks) {
-            Ok(channels) => Ok((vcids, channels)),
+            Ok(channels) => Ok((vcids.into_vec(), channels)),
             Err((desks, _)) => Err(StationOf {
                 alloc,
                 scid,
@@ -597,6 +598,7 @@ fn start<J: Journal>(
     scid: u16,
     list: Vec<Settings>,
 ) -> Result<StationOf<J>, NoMemory>
+    requires { AreStationSettings scid list.items }
     ensures made { IfOk result (λ station. (station.scid ≡ scid) × (station.vcids ≡ vcids_of list.items) × (station.issued ≡ 0)) }
     ensures settings { IfOk result (λ station. settings_in station ≡ list.items) }
 {
@@ -612,7 +614,7 @@ fn start<J: Journal>(
     Ok(StationOf {
         alloc,
         scid,
-        vcids,
+        vcids: Vcids::new(vcids),
         issued: 0,
         desks,
     })

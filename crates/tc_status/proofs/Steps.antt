@@ -80,6 +80,31 @@ publishes slots id me h new is_first is law later = subst (λ (i : ℕ). Allows 
           refl,
         )
 
+-- what is published without a store, since its word is the same
+pub publishes-same : (slots id : ℕ) (me : Me (Unit {0}) View) (h : History) → id ≡ 0 → status_word h ≡ status_word me.0.seen → IsLawful h.settings h.journal → IsEarlier me.0.seen h
+    → Allows Kept slots id me 0 (λ n. n) (λ _ w. w ≡ (view h, me.1))
+publishes-same slots id me h is_first is law later = subst (λ (i : ℕ). Allows Kept slots i me 0 (λ n. n) (λ _ w. w ≡ (view h, me.1))) (sym is_first) at_zero
+  where
+    at_zero : Allows Kept slots 0 me 0 (λ n. n) (λ _ w. w ≡ (view h, me.1))
+    at_zero s b len at small =
+        let same : b.publisher ≡ me.0 = some-injective b.publisher me.0 (sym b.first ∙ at) in
+        let later' : IsEarlier b.publisher.seen h = subst (λ (v : View). IsEarlier v.seen h) (sym same) later in
+        let word : status_word b.publisher.seen ≡ status_word h = ap (λ (v : View). status_word v.seen) same ∙ sym is in (
+          view h,
+          keeps,
+          tt,
+          record {
+            publisher = view h;
+            first = set-there s.views 0 me.0 (view h) at;
+            live = refl;
+            allowed = subst IsAllowed (sym later'.0) b.allowed;
+            lawful = law;
+            word = ap (λ ws. set ws 0 (slice_index ws 0)) b.word ∙ ap (λ n. n ∷ []) word;
+            behind = all-behind-set h s.views 0 (view h) (λ j u e. behind-later b.publisher.seen h u later' (b.behind j u e)) (behind-self h);
+          },
+          refl,
+        )
+
 pub splits : (id : ℕ) (v : View) → Splits Kept id v v v
 splits id v s b at =
     let same = set_again s.views id v at in record {

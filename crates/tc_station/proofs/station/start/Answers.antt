@@ -1,7 +1,13 @@
-use Rattle.std.proofs.Common.{arith, rules}
+use Rattle.std.proofs.Common.{◌≡◌, ◌≢◌, ◌≤◌, ◌∙◌, ap, sym, subst, arith, rules}
+use Rattle.std.specs.Prelude.{All, AllPairs}
 use Rattle.std.proofs.lemmas.Grind.{common_steps}
+use Rattle.std.proofs.lemmas.Iterator.Adapters.{YieldsList-from_vec}
+use Rattle.std.proofs.lemmas.Iterator.Consumers.{YieldsList-end}
+use Rattle.std.proofs.lemmas.List.{map-id}
 use Rattle.tc_station.specs.Roster.{HaveIssued}
+use Rattle.tc_station.specs.StationSettings.{vcids_of}
 use Rattle.tc_station.proofs.Posts.{have-end}
+use Rattle.tc_station.proofs.VcidTable.{distinct-ids, small-ids}
 use Rattle.tc_station.proofs.station.start.Goals as goal
 
 pub loop-settings-preserved : goal.loop-settings-preserved
@@ -9,3 +15,15 @@ loop-settings-preserved g c =
     let i = c.loop-settings.invariant in
     let have : HaveIssued 0 c.push_reserved-in-loop-settings.new.self.items = have-end 0 c.loop-settings.desks.items c.push_reserved-in-loop-settings.new.self.items c.in-Ok.post c.push_reserved-in-loop-settings.ensures.items i.2 (search rules) in
     (grind (arith, common_steps), grind (arith, common_steps), have, grind (arith, common_steps), grind (arith, common_steps), grind (arith, common_steps), grind (arith, common_steps), grind (arith, common_steps))
+
+pub new-requires-2-clause-distinct : goal.new-requires-2-clause-distinct
+new-requires-2-clause-distinct g c =
+    let seen = YieldsList-end (YieldsList-from_vec c.args.list.items (search rules) (search rules)) c.loop-settings.yielded c.loop-settings.settings-iterator c.loop-settings.yielded_by c.next.result c.next.new.self c.in-None.is c.next.ensures.steps in
+    let is : c.loop-settings.vcids.items ≡ vcids_of c.args.list.items = c.loop-settings.invariant.0 ∙ ap vcids_of (sym (map-id c.loop-settings.yielded) ∙ seen.0) in
+    subst (AllPairs (λ x y. x ≢ y)) (sym is) (distinct-ids c.args.list.items c.requires.distinct)
+
+pub new-requires-2-clause-allowed : goal.new-requires-2-clause-allowed
+new-requires-2-clause-allowed g c =
+    let seen = YieldsList-end (YieldsList-from_vec c.args.list.items (search rules) (search rules)) c.loop-settings.yielded c.loop-settings.settings-iterator c.loop-settings.yielded_by c.next.result c.next.new.self c.in-None.is c.next.ensures.steps in
+    let is : c.loop-settings.vcids.items ≡ vcids_of c.args.list.items = c.loop-settings.invariant.0 ∙ ap vcids_of (sym (map-id c.loop-settings.yielded) ∙ seen.0) in
+    subst (All (λ v. v ≤ 63)) (sym is) (small-ids c.args.list.items c.requires.allowed)

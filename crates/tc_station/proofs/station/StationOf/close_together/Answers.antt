@@ -15,7 +15,7 @@ invariant_of-station g c =
     let long = length-same old.items new.items same in
     let as-many = c.self.invariant.0 in
     let one = old.ok.0 in let two = new.ok.0 in
-    (omega (arith, long, as-many, one, two), ids-same c.self.inside.vcids.items old.items new.items c.self.invariant.1 same, issued-same c.self.inside.issued old.items new.items c.self.invariant.2 same)
+    (omega (arith, long, as-many, one, two), ids-same c.self.inside.vcids old.items new.items c.self.invariant.1 same, issued-same c.self.inside.issued old.items new.items c.self.invariant.2 same)
 
 pub returns-in-Ok-clause-channels : goal.returns-in-Ok-clause-channels
 returns-in-Ok-clause-channels g c =

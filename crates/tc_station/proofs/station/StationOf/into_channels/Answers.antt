@@ -9,4 +9,4 @@ invariant_of-result g c =
     let long = length-same old.items c.in-Err.desks.items same in
     let as-many = c.self.invariant.0 in
     let one = old.ok.0 in let two = c.in-Err.desks.ok.0 in
-    (omega (arith, long, as-many, one, two), ids-same c.self.inside.vcids.items old.items c.in-Err.desks.items c.self.invariant.1 same, issued-same c.self.inside.issued old.items c.in-Err.desks.items c.self.invariant.2 same)
+    (omega (arith, long, as-many, one, two), ids-same c.self.inside.vcids old.items c.in-Err.desks.items c.self.invariant.1 same, issued-same c.self.inside.issued old.items c.in-Err.desks.items c.self.invariant.2 same)

@@ -18,7 +18,7 @@ operate-requires g c =
     let at = subst (λ vs. position (λ v. v == c.args.vcid) vs ≡ Some c.args.place) (sym (ap (λ (o : AtStation). o.vcids) c.operator.view_is ∙ c.requires.ours.0)) c.requires.place in
     let at_post = subst (λ vs. position (λ v. v == c.args.vcid) vs ≡ Some c.args.place) (sym (ap (λ (r : Roster). r.vcids) c.self.view_is)) c.requires.place in
     let inside = (id-of c.operator.inside.vcids.items c.operator.inside.desks.items c.args.place c.args.vcid c.index_mut.result.now c.operator.invariant c.index_mut.ensures.value at).0 in
-    let within = (id-of c.self.inside.vcids.items c.self.inside.desks.items c.args.place c.args.vcid c.index.result.now c.self.invariant.1 c.index.ensures at_post).0 in
+    let within = (id-of c.self.inside.vcids c.self.inside.desks.items c.args.place c.args.vcid c.index.result.now c.self.invariant.1 c.index.ensures at_post).0 in
     let locks = ap (λ (o : AtStation). locks_of o.desks) c.operator.view_is ∙ (c.requires.ours.1 ∙ sym (ap (λ (r : Roster). r.locks) c.self.view_is)) in
     record {
       ours = same-lock c.operator.inside.desks.items c.self.inside.desks.items c.args.place c.index_mut.result.now c.index.result.now locks inside within c.index_mut.ensures.value c.index.ensures ∙ sym c.desk-desk.ensures.lock;

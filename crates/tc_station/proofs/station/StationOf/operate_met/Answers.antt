@@ -15,7 +15,7 @@ invariant_of-operator g c =
     ∙ c.operator.invariant
 
 pub unreachable-requires : goal.unreachable-requires
-unreachable-requires g c = absurd (channel-there c.args.self.now c.deref.result.now c.args.vcid c.args.watcher.now c.place_of.result (search rules) c.requires.watcher c.place_of.ensures.place (search rules))
+unreachable-requires g c = absurd (channel-there c.args.self.now c.self.inside.vcids c.args.vcid c.args.watcher.now c.place_of.result (search rules) c.requires.watcher c.place_of.ensures.place (search rules))
 
 pub operate_met-requires : goal.operate_met-requires
 operate_met-requires g c =
@@ -26,7 +26,7 @@ operate_met-requires g c =
     let knows = ap (λ (o : AtStation). heads_of o.desks) c.operator.view_is ∙ c.requires.knows in
     let known = head-known c.args.self.now c.operator.inside.desks.items c.in-Some.place c.args.vcid c.index_mut.result.now c.args.watcher.now knows at_roster inside c.index_mut.ensures.value c.requires.watcher in
     let at_post = subst (λ vs. position (λ v. v == c.args.vcid) vs ≡ Some c.in-Some.place) (sym (ap (λ (r : Roster). r.vcids) c.self.view_is)) at_roster in
-    let within = (id-of c.self.inside.vcids.items c.self.inside.desks.items c.in-Some.place c.args.vcid c.index-post.result.now c.self.invariant.1 c.index-post.ensures at_post).0 in
+    let within = (id-of c.self.inside.vcids c.self.inside.desks.items c.in-Some.place c.args.vcid c.index-post.result.now c.self.invariant.1 c.index-post.ensures at_post).0 in
     let locks = ap (λ (o : AtStation). locks_of o.desks) c.operator.view_is ∙ (c.requires.ours.1 ∙ sym (ap (λ (r : Roster). r.locks) c.self.view_is)) in
     record {
       ours = same-lock c.operator.inside.desks.items c.self.inside.desks.items c.in-Some.place c.index_mut.result.now c.index-post.result.now locks inside within c.index_mut.ensures.value c.index-post.ensures ∙ sym c.desk.ensures.lock;

@@ -13,17 +13,17 @@ returns g c =
     let is : c.issue.new.posts ≡ next = c.in-Ok.ensures.issued ∙ ap (issued_more c.args.n) c.deref_mut.ensures.value in
     let posts = take old.len (c.issue.new.posts ++ drop (length c.issue.new.posts) old.items) in
     let now : posts ≡ next = written-posts old.len old.items c.issue.new.posts next is (length-more c.args.n old.items) (omega (arith, one)) in
-    let ids = ap (λ l. vcids_of (settings_of_desks l)) c.deref_mut.ensures.value ∙ (c.self.invariant.1 ∙ sym c.deref.ensures.value) in
+    let ids = ap (λ l. vcids_of (settings_of_desks l)) c.deref_mut.ensures.value ∙ (c.self.invariant.1 ∙ sym c.as_slice.ensures) in
     let sum : c.in-Some.issued ≡ c.self.inside.issued + c.args.n = search rules in
     record {
-      fresh = issued-fresh c.args.n c.deref.result.now c.deref_mut.result.now c.in-Ok.operators.items (as-many c.deref.result.now c.deref_mut.result.now ids) c.in-Ok.ensures.operators
-          ∙ ap (λ l. replicate c.args.n (fresh l)) (c.deref.ensures.value ∙ ap (λ (r : Roster). r.vcids) c.self.view_is);
-      new = issued-new c.args.n c.deref.result.now c.deref_mut.result.now c.in-Ok.operators.items c.in-Ok.ensures.operators;
-      ours = issued-ours c.args.n (at_posts c.self.inside.scid c.self.inside.vcids.items c.in-Some.issued posts) c.deref.result.now c.deref_mut.result.now c.in-Ok.operators.items c.deref.ensures.value
+      fresh = issued-fresh c.args.n c.as_slice.result.now c.deref_mut.result.now c.in-Ok.operators.items (as-many c.as_slice.result.now c.deref_mut.result.now ids) c.in-Ok.ensures.operators
+          ∙ ap (λ l. replicate c.args.n (fresh l)) (c.as_slice.ensures ∙ ap (λ (r : Roster). r.vcids) c.self.view_is);
+      new = issued-new c.args.n c.as_slice.result.now c.deref_mut.result.now c.in-Ok.operators.items c.in-Ok.ensures.operators;
+      ours = issued-ours c.args.n (at_posts c.self.inside.scid c.self.inside.vcids c.in-Some.issued posts) c.as_slice.result.now c.deref_mut.result.now c.in-Ok.operators.items c.as_slice.ensures
           (ap locks_of c.deref_mut.ensures.value ∙ (sym (locks-more c.args.n old.items) ∙ ap locks_of (sym now))) c.in-Ok.ensures.operators;
-      heads = issued-heads c.args.n (at_posts c.self.inside.scid c.self.inside.vcids.items c.in-Some.issued posts) c.deref.result.now c.deref_mut.result.now c.in-Ok.operators.items
+      heads = issued-heads c.args.n (at_posts c.self.inside.scid c.self.inside.vcids c.in-Some.issued posts) c.as_slice.result.now c.deref_mut.result.now c.in-Ok.operators.items
           (ap heads_of c.deref_mut.ensures.value ∙ (sym (heads-more c.args.n old.items) ∙ ap heads_of (sym now))) c.in-Ok.ensures.operators;
-      issued = more-issued c.args.self.now c.self.inside.scid c.self.inside.issued c.args.n c.in-Some.issued c.self.inside.vcids.items old.items _ c.self.view_is now sum;
+      issued = more-issued c.args.self.now c.self.inside.scid c.self.inside.issued c.args.n c.in-Some.issued c.self.inside.vcids old.items _ c.self.view_is now sum;
       many = first_of (search rules, grind (arith, common_steps));
       refused = first_of (search rules, grind (arith, common_steps));
     }

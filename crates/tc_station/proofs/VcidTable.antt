@@ -1,0 +1,125 @@
+-- How the table of the places of virtual channel ids is filled, and what it then tells.
+use Rattle.std.proofs.Common.{◌≡◌, ◌≢◌, ℕ, zero, suc, ◌+◌, ◌<◌, ◌≤◌, Bool, true, false, true≢false, cond, ltb, eqb, List, [], ◌∷◌, length, get_or, set, replicate, map, Option, Some, None, ◌⊎◌, inl, inr, refl, sym, ap, ◌∙◌, subst, arith}
+use Rattle.std.specs.Prelude.{◌==◌, All, AllPairs, Contains, MatchOption, position, slice_index}
+use Rattle.std.specs.List.{list_any, position_or_len}
+use Rattle.std.proofs.lemmas.Bool.{eqb-true, eq-eqb, ltb-false, ltb-true, lt-ltb}
+use Rattle.std.proofs.lemmas.Bool.Decides.{Decides-eqb}
+use Rattle.std.proofs.lemmas.List.{get_or-set_same, get_or-set_other, get_or-map, get_or_default, get_or_past, length-map, length-replicate, length-set}
+use Rattle.std.proofs.lemmas.List.Folds.{Any-from_list_any}
+use Rattle.std.proofs.lemmas.List.Quantifiers.{position-Some}
+use Rattle.std.proofs.lemmas.List.Sums.{fails_before_first, passes_at_first, prefix_len-le-length}
+use Rattle.std.proofs.lemmas.Option.{none-some}
+use Rattle.std.proofs.lemmas.Map.Made.{IsDistinct-from_AllPairs}
+use Rattle.std.proofs.lemmas.Map.Steps.{length-le_from_distinct_below}
+use Rattle.tc_channel.specs.Settings.{IsAllowed}
+use Rattle.tc_station.proofs.Names.{Settings, vcids_of}
+use Rattle.tc_station.specs.StationSettings.{HaveDistinctVcids}
+use Rattle.tc_station.specs.VcidTable.{IsTableOf, place_told}
+
+-- the entries of the first ids, of so many, tell their places, and no other entry tells one
+pub record AreTold (ids : List ℕ) (n : ℕ) (table : List ℕ) : Type 0 where
+  pub size : length table ≡ 64
+  pub here : (k : ℕ) → k < n → get_or table (get_or ids k 0) 64 ≡ k
+  pub apart : (v : ℕ) → ((k : ℕ) → k < n → get_or ids k 0 ≢ v) → get_or table v 64 ≡ 64
+
+all-alike : (n v x : ℕ) → get_or (replicate n x) v x ≡ x
+all-alike zero zero x = refl
+all-alike zero (suc v) x = refl
+all-alike (suc n) zero x = refl
+all-alike (suc n) (suc v) x = all-alike n v x
+
+pub none-told : (ids table : List ℕ) → table ≡ replicate 64 64 → AreTold ids 0 table
+none-told ids table is = record {
+  size = ap (length {A = ℕ}) is ∙ length-replicate {A = ℕ} 64 64;
+  here = λ k lt. absurd (omega (arith, lt));
+  apart = λ v none. ap (λ (t : List ℕ). get_or t v 64) is ∙ all-alike 64 v 64;
+}
+
+last-or-before : (k i : ℕ) → k < i + 1 → (k ≡ i) ⊎ (k < i)
+last-or-before k i lt = grind arith
+
+pub one-more-told : (ids table : List ℕ) (i b : ℕ) → AllPairs (λ x y. x ≢ y) ids → i < length ids → get_or ids i 0 ≡ b → b ≤ 63 → AreTold ids i table → AreTold ids (i + 1) (set table b i)
+one-more-told ids table i b distinct lt is small t = record {
+  size = length-set table b i ∙ t.size;
+  here = λ k le. here k (last-or-before k i le);
+  apart = λ v none. get_or-set_other table b v i 64 (λ e. none i (omega arith) (is ∙ sym e)) ∙ t.apart v (λ k le. none k (omega (arith, le)));
+}
+  where
+    here : (k : ℕ) → (k ≡ i) ⊎ (k < i) → get_or (set table b i) (get_or ids k 0) 64 ≡ k
+    here k (inl same) =
+        ap (λ j. get_or (set table b i) (get_or ids j 0) 64) same
+        ∙ (ap (λ j. get_or (set table b i) j 64) is ∙ (get_or-set_same table b i 64 (let s = t.size in omega (arith, s, small)) ∙ sym same))
+    here k (inr before) = get_or-set_other table b (get_or ids k 0) i 64 (λ e. distinct k i 0 before lt (e ∙ sym is)) ∙ t.here k before
+
+told : (k : ℕ) → k ≢ 64 → place_told k ≡ Some k
+told k some = grind (arith, some)
+
+-- once all ids have entries
+pub table-of : (ids table : List ℕ) → length ids ≤ 64 → AreTold ids (length ids) table → IsTableOf ids table
+table-of ids table few t v = by (ltb n (length ids)) refl where
+  n : ℕ
+  n = position_or_len (λ x. x == v) ids
+
+  by : (b : Bool) → ltb n (length ids) ≡ b → cond b (Some n) None ≡ place_told (get_or table v 64)
+  by true is =
+      let lt = ltb-true n (length ids) is in
+      let there : get_or ids n 0 ≡ v = eqb-true (get_or ids n 0) v (passes_at_first (λ x. x == v) ids 0 lt) in
+      let entry : get_or table v 64 ≡ n = ap (λ j. get_or table j 64) (sym there) ∙ t.here n lt in
+      sym (ap place_told entry ∙ told n (λ e. absurd (omega (arith, e, lt, few))))
+  by false is =
+      let ge = ltb-false n (length ids) is in
+      let none : (k : ℕ) → k < length ids → get_or ids k 0 ≢ v = λ k lt e. true≢false (sym (eq-eqb (get_or ids k 0) v e) ∙ fails_before_first (λ x. x == v) ids k 0 (omega (arith, lt, ge))) in
+      sym (ap place_told (t.apart v none))
+
+-- ids that differ are no more than there are
+pub few-ids : (ids : List ℕ) → AllPairs (λ x y. x ≢ y) ids → All (λ v. v ≤ 63) ids → length ids ≤ 64
+few-ids ids distinct small = length-le_from_distinct_below ids 64 (IsDistinct-from_AllPairs Decides-eqb ids distinct) below where
+  below : (q : ℕ) → list_any (eqb q) ids ≡ true → q < 64
+  below q has =
+      let a = Any-from_list_any (eqb q) ids has in
+      let le = small a.0 a.1 a.2 in
+      let at = a.3 in
+      let same = eqb-true q a.1 a.4 in omega arith
+
+-- the ids of settings that make a station
+id-at : (s : Settings) (ss : List Settings) (k d : ℕ) → k < length (s ∷ ss) → get_or (vcids_of (s ∷ ss)) k d ≡ (get_or (s ∷ ss) k s).vcid
+id-at s ss k d lt = get_or-map (λ (x : Settings). x.vcid) (s ∷ ss) k s d lt
+
+inside : (list : List Settings) (k : ℕ) → k < length (vcids_of list) → k < length list
+inside list k lt = omega (arith, lt, length-map list (λ (x : Settings). x.vcid))
+
+pub distinct-ids : (list : List Settings) → HaveDistinctVcids list → AllPairs (λ x y. x ≢ y) (vcids_of list)
+distinct-ids [] apart i j d before lt = absurd (omega (arith, lt))
+distinct-ids (s ∷ ss) apart i j d before lt =
+    let within = inside (s ∷ ss) j lt in
+    λ e. apart i j s before within (sym (id-at s ss i d (omega (arith, before, within))) ∙ (e ∙ id-at s ss j d within))
+
+pub small-ids : (list : List Settings) → All IsAllowed list → All (λ v. v ≤ 63) (vcids_of list)
+small-ids [] allowed k d lt = absurd (omega (arith, lt))
+small-ids (s ∷ ss) allowed k d lt =
+    let within = inside (s ∷ ss) k lt in
+    let le = (allowed k s within).vcid in omega (arith, le, id-at s ss k d within)
+
+-- an id without a place isn't among them
+not-there : (ids : List ℕ) (v : ℕ) → None ≡ position (λ x. x == v) ids → ¬ Contains ids v
+not-there ids v is (k, lt, e) = by (ltb n (length ids)) refl is where
+  n : ℕ
+  n = position_or_len (λ x. x == v) ids
+
+  by : (b : Bool) → ltb n (length ids) ≡ b → None ≡ cond b (Some n) None → ⊥
+  by true there none = none-some n none
+  by false far none =
+      let ge = ltb-false n (length ids) far in
+      true≢false (sym (eq-eqb (get_or ids k v) v e) ∙ fails_before_first (λ x. x == v) ids k v (omega (arith, lt, ge)))
+
+-- what a clause says of a place
+pub found-there : (ids : List ℕ) (v : ℕ) (place : Option ℕ) → place ≡ position (λ x. x == v) ids → MatchOption place (¬ Contains ids v) (λ k. (k < length ids) × (slice_index ids k ≡ v))
+found-there ids v None is = not-there ids v is
+found-there ids v (Some k) is = let at = position-Some (λ x. x == v) ids k 0 (sym is) in (at.0, eqb-true (get_or ids k 0) v at.1)
+
+-- what an entry tells
+pub nowhere-told : (ids table : List ℕ) (v : ℕ) → IsTableOf ids table → get_or table v 64 ≡ 64 → None ≡ position (λ x. x == v) ids
+nowhere-told ids table v t is = sym (t v ∙ ap place_told is)
+
+pub somewhere-told : (ids table : List ℕ) (v place : ℕ) → IsTableOf ids table → get_or table v 64 ≡ place → place ≢ 64 → Some place ≡ position (λ x. x == v) ids
+somewhere-told ids table v place t is some = sym (t v ∙ (ap place_told is ∙ told place some))

@@ -1,0 +1,18 @@
+use Rattle.std.proofs.Common.{◌∙◌, sym, ap, subst, rules}
+use Rattle.tc_channel.specs.Journal.{History}
+use Rattle.tc_channel.specs.Run.{IsLawful}
+use Rattle.tc_status.specs.Board.{IsEarlier, status_word}
+use Rattle.tc_status.proofs.Steps.{publishes-same}
+use Rattle.tc_status.proofs.publisher.keep.Goals as goal
+
+pub load-requires : goal.load-requires
+load-requires g c =
+    let q = c.requires in
+    let published = sym q.publication in (
+      search rules,
+      search rules,
+      publishes-same _ _ _ _ q.first
+          (ap status_word q.publication ∙ q.same)
+          (subst (λ (h : History). IsLawful h.settings h.journal) published c.settings.ensures.lawful)
+          (subst (λ (h : History). IsEarlier c.args.seat.now.me.0.seen h) published q.later),
+    )
