@@ -6,7 +6,7 @@ mod run;
 mod storage;
 
 use run::{Run, Step};
-use std::alloc::Global;
+use std::alloc::{AllocError, Global};
 use std::process::Abort;
 use tc_channel::{Delivery, FrameReply, Items, Settings, SettingsFault};
 use tc_fixed::{
@@ -14,7 +14,7 @@ use tc_fixed::{
 };
 use test_parts::{
     BD_PACKET, BD_UNIT, BUFFERED, DELIVERED, FRAME, NOTHING, ONE, PACKET, UNIT, WANTED, Wanted,
-    copied, have_texts,
+    copied, have_texts, made_again,
 };
 
 // A Type-BD frame was accepted (event 6), and ended no unit.

@@ -1,5 +1,4 @@
-//! Tests of a channel whose journal takes no memory, beside one that keeps its journal, and of a station of such channels. The
-//! library itself is empty.
+//! Tests of a station whose channels' journals take no memory. The library itself is empty.
 #![tactic(auto)]
 
 #[cfg(test)]

@@ -1,22 +1,13 @@
-mod growth;
-mod lending;
 mod station;
-mod twins;
 
 ghost use Rattle.std.specs.Prelude.{◌≡◌, IfOk};
 
 use std::alloc::{AllocError, Global};
 use std::process::Abort;
-use tc_channel::{
-    Channel, ChannelWith, Delivery, FlightChannel, FrameReply, Items, Journal, NoMemory,
-    ReleaseFault, Settings, SettingsFault, TakeFault, TakeUnitFault,
-};
-use tc_link::Report;
+use tc_channel::{Delivery, FlightChannel, FrameReply, Items, Settings};
 use test_parts::{
-    BD_PACKET, BD_UNIT, BUFFERED, DELIVERED, FRAME, NO_FLAG, ONE, PACKET, UNIT, UNLOCK, WANTED,
-    Wanted, list_of,
+    BD_PACKET, BUFFERED, DELIVERED, FRAME, NO_FLAG, ONE, PACKET, UNLOCK, WANTED, Wanted, list_of,
 };
-use twins::{Step, Twins, play};
 
 // Virtual channel 1 with a queue of capacity 2 for APID 5, and one of two units for MAP 3.
 fn settings(alloc: Global) -> Result<Settings, AllocError>

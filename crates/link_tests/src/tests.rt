@@ -1,6 +1,5 @@
 mod blocks;
 mod cltus;
-mod cutting;
 mod link;
 mod packets;
 mod random;

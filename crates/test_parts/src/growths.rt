@@ -47,6 +47,24 @@ pub fn note(journal: &mut Vec<Event>, event: Event) -> Result<(), AllocError> {
     Ok(())
 }
 
+/// What a call answers. Where it was refused memory, that is told under this name, and the call is made again.
+pub fn made_again<T, E: Drop + PartialEq, F: Fn() -> Result<T, E>>(
+    rt: &impl Print,
+    name: &str,
+    no_memory: E,
+    call: &F,
+) -> Result<T, E>
+    requires { F.IsAlwaysCallable call.now }
+{
+    match call() {
+        Err(fault) if fault == no_memory => {
+            let _ = println!(rt; "refused: {name}");
+            call()
+        }
+        answer => answer,
+    }
+}
+
 /// Whether a call was answered, as it must be, or refused so. Nothing where it was neither.
 pub fn is_answered<T: Drop + PartialEq, E: Drop + PartialEq>(
     answer: Result<T, E>,

@@ -11,6 +11,8 @@ pub use frames::{
     AD_UNIT, BD_PACKET, BD_UNIT, BEHIND, BUFFERED, DELIVERED, FRAME, NEXT, NO_FLAG, NO_ROOM,
     NOTHING, ONE, PACKET, UNIT, UNLOCK, ad_frame, frame_event, is_frame, offer,
 };
-pub use growths::{copied, have_texts, is_answered, is_taken, list_of, note, octets_of, room};
+pub use growths::{
+    copied, have_texts, is_answered, is_taken, list_of, made_again, note, octets_of, room,
+};
 pub use streams::{Failing, Watched};
 pub use wanted::{WANTED, Wanted, settings};

@@ -5,16 +5,16 @@ mod run;
 mod told;
 
 use run::{Run, Step};
-use std::alloc::Global;
+use std::alloc::{AllocError, Global};
 use std::process::Abort;
 use tc_channel::{
-    Channel, Delivery, Event, FrameReply, NoMemory, Octets, ReleaseFault, Settings, SettingsFault,
-    TakeFault, TakeUnitFault,
+    Channel, ChannelWith, Delivery, Event, FrameReply, Journal, Kept, NoMemory, Octets,
+    ReleaseFault, Settings, SettingsFault, TakeFault, TakeUnitFault, Unkept,
 };
 use tc_link::Report;
 use test_parts::{
-    BD_UNIT, BEHIND, BUFFERED, DELIVERED, NO_FLAG, NO_ROOM, NOTHING, ONE, PACKET, UNIT, WANTED,
-    Wanted, ad_frame, frame_event, have_texts, note, room,
+    BD_PACKET, BD_UNIT, BEHIND, BUFFERED, DELIVERED, NO_FLAG, NO_ROOM, NOTHING, ONE, PACKET, UNIT,
+    WANTED, Wanted, ad_frame, frame_event, have_texts, made_again, note, room,
 };
 
 fn settings(rt: &impl Abort, alloc: Global, wanted: &Wanted<'_>) -> Settings {
@@ -22,19 +22,28 @@ fn settings(rt: &impl Abort, alloc: Global, wanted: &Wanted<'_>) -> Settings {
 }
 
 // A channel by settings that make one; where memory is refused, that is printed, and it is made again.
-fn new_channel(rt: &(impl Abort + Print), alloc: Global, wanted: &Wanted<'_>) -> Channel {
-    match Channel::new(alloc, settings(rt, alloc, wanted)) {
+fn new_channel<J: Journal>(
+    rt: &(impl Abort + Print),
+    alloc: Global,
+    name: &str,
+    wanted: &Wanted<'_>,
+) -> ChannelWith<J> {
+    match ChannelWith::new(alloc, settings(rt, alloc, wanted)) {
         Ok(channel) => channel,
         Err(fault) => {
-            let _ = println!(rt; "refused: Channel::new");
+            let _ = println!(rt; "refused: {name}::new");
             assert_eq!(rt; fault, SettingsFault::NoMemory);
-            Channel::new(alloc, settings(rt, alloc, wanted)).expect(rt, "a channel")
+            ChannelWith::new(alloc, settings(rt, alloc, wanted)).expect(rt, "a channel")
         }
     }
 }
 
 // What a channel answers to the frame at the front of these octets.
-fn offer(rt: &impl Abort, channel: &mut Channel, octets: &[u8]) -> Result<FrameReply, NoMemory> {
+fn offer<J: Journal>(
+    rt: &impl Abort,
+    channel: &mut ChannelWith<J>,
+    octets: &[u8],
+) -> Result<FrameReply, NoMemory> {
     test_parts::offer(channel, octets).expect(rt, "a frame")
 }
 

@@ -26,15 +26,9 @@ fn made(rt: &impl Abort, alloc: Global, limited: bool) -> Result<Run, LimitsFaul
 
 // The channel that this call makes.
 fn check_made(rt: &(impl Abort + Print), alloc: Global, call: &str, limited: bool) {
-    let mut run = match made(rt, alloc, limited) {
-        Ok(run) => run,
-        Err(fault) => {
-            let _ = println!(rt; "refused: {call}");
-            assert_eq!(rt; fault, LimitsFault::Settings(SettingsFault::NoMemory));
-            made(rt, alloc, limited).expect(rt, "a channel")
-        }
-    };
-    run.play(rt, &EACH_CALL)
+    let no_memory = LimitsFault::Settings(SettingsFault::NoMemory);
+    let run = made_again(rt, call, no_memory, &|| made(rt, alloc, limited));
+    run.expect(rt, "a channel").play(rt, &EACH_CALL)
 }
 
 #[test]
@@ -45,13 +39,9 @@ fn growth_of_a_fixed_channel(rt: HostRuntime) {
 
 #[test]
 fn growth_of_limits_that_are_copied(rt: HostRuntime) {
-    let own = limits_of(&rt, rt.alloc(), 16, &[MapLimit { map: 3, octets: 7 }]);
-    let copy = match own.lent().copied(rt.alloc()) {
-        Ok(copy) => copy,
-        Err(_) => {
-            let _ = println!(&rt; "refused: LentLimits::copied");
-            own.lent().copied(rt.alloc()).expect(&rt, "a copy")
-        }
-    };
-    assert_eq!(&rt; copy, own);
+    let alloc = rt.alloc();
+    let own = limits_of(&rt, alloc, 16, &[MapLimit { map: 3, octets: 7 }]);
+    let copy = || own.lent().copied(alloc);
+    let copied = made_again(&rt, "LentLimits::copied", AllocError, &copy);
+    assert_eq!(&rt; copied.expect(&rt, "a copy"), own);
 }

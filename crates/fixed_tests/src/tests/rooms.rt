@@ -3,32 +3,23 @@
 use super::*;
 use tc_rooms::{FixedRoom, GrowingRoom, Room, Slots};
 
-#[test]
-fn octets_in_a_room(rt: HostRuntime) {
-    let mut room: FixedRoom = Room::with_size(rt.alloc(), 4).expect(&rt, "a room");
-    assert_eq!(&rt; (room.size(), room.as_slice().len()), (4, 0));
-    room.fill(&[1, 2, 3]).expect(&rt, "octets");
-    room.fill(&[4, 5]).expect(&rt, "octets");
-    room.append(&[6, 7]).expect(&rt, "octets");
-    assert_eq!(&rt; room.as_slice(), [4, 5, 6, 7].as_slice());
+fn check_room<R: Room, T: Abort>(rt: &T, alloc: Global) {
+    let mut room: R = Room::with_size(alloc, 4).expect(rt, "a room");
+    assert_eq!(rt; (room.size(), room.as_slice().len()), (4, 0));
+    room.fill(&[1, 2, 3]).expect(rt, "octets");
+    room.fill(&[4, 5]).expect(rt, "octets");
+    room.append(&[6, 7]).expect(rt, "octets");
+    assert_eq!(rt; room.as_slice(), [4, 5, 6, 7].as_slice());
     room.cut(3);
-    assert_eq!(&rt; (room.size(), room.as_slice()), (4, [4, 5, 6].as_slice()));
+    assert_eq!(rt; (room.size(), room.as_slice()), (4, [4, 5, 6].as_slice()));
     room.clear();
-    assert_eq!(&rt; room.as_slice().len(), 0);
+    assert_eq!(rt; room.as_slice().len(), 0);
 }
 
 #[test]
-fn octets_in_a_room_that_grows(rt: HostRuntime) {
-    let mut room: GrowingRoom = Room::with_size(rt.alloc(), 4).expect(&rt, "a room");
-    assert_eq!(&rt; (room.size(), room.as_slice().len()), (4, 0));
-    room.fill(&[1, 2, 3]).expect(&rt, "octets");
-    room.fill(&[4, 5]).expect(&rt, "octets");
-    room.append(&[6, 7]).expect(&rt, "octets");
-    assert_eq!(&rt; room.as_slice(), [4, 5, 6, 7].as_slice());
-    room.cut(3);
-    assert_eq!(&rt; (room.size(), room.as_slice()), (4, [4, 5, 6].as_slice()));
-    room.clear();
-    assert_eq!(&rt; room.as_slice().len(), 0);
+fn octets_in_a_room(rt: HostRuntime) {
+    check_room::<FixedRoom, HostRuntime>(&rt, rt.alloc());
+    check_room::<GrowingRoom, HostRuntime>(&rt, rt.alloc());
 }
 
 // Three items, one after the other, in two rooms.
@@ -62,8 +53,9 @@ fn items_laid_and_let_go(rt: HostRuntime) {
     assert!(&rt; slots.lay(&[3]).expect(&rt, "an item"));
     slots.let_go();
     assert_eq!(&rt; (slots.len(), slots.front()), (1, Some([1].as_slice())));
-    assert!(&rt; slots.lay(&[4]).expect(&rt, "an item"));
-    slots.settle();
+    assert!(&rt; slots.put(&[4]).expect(&rt, "an item"));
+    assert!(&rt; slots.put(&[5]).expect(&rt, "an item"));
+    assert!(&rt; !slots.put(&[6]).expect(&rt, "an answer"));
     slots.pop_front();
-    assert_eq!(&rt; (slots.len(), slots.front()), (1, Some([4].as_slice())));
+    assert_eq!(&rt; (slots.len(), slots.front()), (2, Some([4].as_slice())));
 }

@@ -1,8 +1,8 @@
 //! CLTUs that are written.
 
 use std::alloc::Global;
-use std::process::Abort;
 use tc_cltu::{CltuFault, write_cltu};
+use test_parts::made_again;
 
 // Octets, and the CLTU that carries them: the start sequence eb90, code blocks, in the last of which fill octets are 55, and the tail
 // sequence. The parity bits of the first row are worked out by hand (`blocks`), the others by long division of integers in Python.
@@ -25,23 +25,13 @@ static CLTUS: [(&[u8], &[u8]); 4] = [
     ),
 ];
 
-// A CLTU, made again where memory ran out for it.
-fn cltu_of(rt: &(impl Abort + Print), alloc: Global, octets: &[u8]) -> Vec<u8> {
-    match write_cltu(alloc, octets) {
-        Ok(made) => made,
-        Err(fault) => {
-            let _ = println!(rt; "refused: write_cltu");
-            assert!(rt; fault == CltuFault::NoMemory);
-            write_cltu(alloc, octets).expect(rt, "a CLTU")
-        }
-    }
-}
-
 #[test]
-fn growth_of_each_cltu(rt: HostRuntime) {
+fn growth_of_a_cltu_that_is_written(rt: HostRuntime) {
+    let alloc = rt.alloc();
     for (octets, cltu) in &CLTUS {
-        let made = cltu_of(&rt, rt.alloc(), octets);
-        assert!(rt; made.as_slice() == *cltu);
+        let write = || write_cltu(alloc, octets);
+        let made = made_again(&rt, "write_cltu", CltuFault::NoMemory, &write);
+        assert!(rt; made.expect(&rt, "a CLTU").as_slice() == *cltu);
     }
 }
 

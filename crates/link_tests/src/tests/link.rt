@@ -1,19 +1,12 @@
 //! Frames, FARM-1 by itself and CLCWs.
 
 use std::alloc::Global;
-use std::fmt::Display;
 use std::process::Abort;
 use tc_link::{
-    Act, Arrival, ClcwFields, Command, Farm, FrameFault, Header, Kind, Link, Report, State, Window,
-    WriteFault, clcw_word, kind, read_clcw, read_frame, write_frame, written_header,
+    Act, Arrival, ClcwFields, Command, Farm, Header, Kind, Link, Report, State, Window, WriteFault,
+    clcw_word, kind, read_clcw, read_frame, write_frame, written_header,
 };
-
-// The AD frame of 13 octets with this N(S), for spacecraft 42 and virtual channel 1.
-fn ad_frame(ns: u8) -> [u8; 13] {
-    [
-        0x00, 0x2a, 0x04, 0x0c, ns, 0xc0, 0x10, 0x05, 0xc0, 0x00, 0x00, 0x00, 0xaa,
-    ]
-}
+use test_parts::{FRAME, NO_FLAG, made_again};
 
 fn window(rt: &impl Abort, width: u8) -> Window {
     Window::new(width).expect(rt, "a width")
@@ -29,11 +22,7 @@ fn arrive(farm: &mut Farm, kind: Kind, room: bool) -> Act {
 }
 
 fn word(farm: &Farm) -> u32 {
-    let no_flag = Link {
-        no_rf: false,
-        no_bit_lock: false,
-    };
-    clcw_word(&farm.report(), 1, no_flag)
+    clcw_word(&farm.report(), 1, NO_FLAG)
 }
 
 // What comes, what FARM-1 makes of it, and the CLCW after it.
@@ -101,32 +90,6 @@ fn farm_1_goes_on_from_its_components(rt: HostRuntime) {
     check_rows(&rt, &mut farm, &rows)
 }
 
-pub(super) fn check_text<T: Display>(rt: &impl Abort, alloc: Global, fault: &T, text: &str) {
-    let written = fault.to_string(alloc).expect(rt, "an answer");
-    assert_eq!(rt; written.as_str(), text);
-}
-
-static FRAME_FAULTS: [(FrameFault, &str); 5] = [
-    (FrameFault::Short, "fewer than 5 octets"),
-    (FrameFault::Version, "the version isn't 0"),
-    (FrameFault::Spare, "the spare bits aren't 0"),
-    (
-        FrameFault::LengthSmall,
-        "the frame length names fewer than 6 octets",
-    ),
-    (
-        FrameFault::Truncated,
-        "the frame length names more octets than there are",
-    ),
-];
-
-#[test]
-fn the_text_of_each_fault(rt: HostRuntime) {
-    for (fault, text) in &FRAME_FAULTS {
-        check_text(&rt, rt.alloc(), fault, text)
-    }
-}
-
 const HEADER: Header = Header {
     bypass: false,
     control: false,
@@ -136,16 +99,6 @@ const HEADER: Header = Header {
 };
 
 const FIELD: [u8; 8] = [0xc0, 0x10, 0x05, 0xc0, 0x00, 0x00, 0x00, 0xaa];
-
-fn written(rt: &impl Abort, alloc: Global, header: &Header, field: &[u8]) -> Vec<u8> {
-    write_frame(alloc, header, field).expect(rt, "an answer")
-}
-
-#[test]
-fn a_frame_is_written(rt: HostRuntime) {
-    let octets = written(&rt, rt.alloc(), &HEADER, &FIELD);
-    assert_eq!(rt; octets.as_slice(), ad_frame(0).as_slice());
-}
 
 #[test]
 fn a_header_is_written_without_its_data_field(rt: HostRuntime) {
@@ -157,20 +110,16 @@ fn a_header_is_written_without_its_data_field(rt: HostRuntime) {
     );
 }
 
-// The octets are a frame with this header and this data field.
-fn check_frame(rt: &impl Abort, octets: &[u8], header: &Header, field: &[u8]) {
-    let frame = read_frame(octets).expect(rt, "a frame");
-    assert_eq!(rt; frame.header(), *header);
-    assert_eq!(rt; frame.field(), field);
-}
-
 #[test]
 fn the_longest_frame_is_written_and_read_back(rt: HostRuntime) {
     let field = [0u8; 1019];
-    let octets = written(&rt, rt.alloc(), &HEADER, &field);
+    let octets = write_frame(rt.alloc(), &HEADER, &field).expect(&rt, "an answer");
     assert_eq!(rt; octets.len(), 1024);
     assert_eq!(rt; &octets[..5], [0x00, 0x2a, 0x07, 0xff, 0x00].as_slice());
-    check_frame(&rt, &octets, &HEADER, &field)
+    let frame = read_frame(&octets).expect(&rt, "a frame");
+    assert_eq!(rt; kind(&frame), Kind::Ad(0));
+    assert_eq!(rt; frame.header(), HEADER);
+    assert_eq!(rt; frame.field(), field.as_slice());
 }
 
 // Headers and data fields of no frame.
@@ -195,37 +144,12 @@ fn each_fault_of_what_is_to_be_written(rt: HostRuntime) {
     }
 }
 
-static WRITE_FAULTS: [(WriteFault, &str); 4] = [
-    (
-        WriteFault::BadField,
-        "a field of the header is over its bound",
-    ),
-    (WriteFault::EmptyData, "the data field is empty"),
-    (
-        WriteFault::TooLong,
-        "the data field has more than 1,019 octets",
-    ),
-    (WriteFault::NoMemory, "no memory"),
-];
-
 #[test]
-fn the_text_of_each_write_fault(rt: HostRuntime) {
-    for (fault, text) in &WRITE_FAULTS {
-        check_text(&rt, rt.alloc(), fault, text)
-    }
-}
-
-#[test]
-fn growth_of_a_written_frame(rt: HostRuntime) {
-    let octets = match write_frame(rt.alloc(), &HEADER, &FIELD) {
-        Ok(octets) => octets,
-        Err(fault) => {
-            let _ = println!(rt; "refused: write_frame");
-            assert_eq!(rt; fault, WriteFault::NoMemory);
-            written(&rt, rt.alloc(), &HEADER, &FIELD)
-        }
-    };
-    assert_eq!(rt; octets.as_slice(), ad_frame(0).as_slice());
+fn growth_of_a_frame_that_is_written(rt: HostRuntime) {
+    let alloc = rt.alloc();
+    let write = || write_frame(alloc, &HEADER, &FIELD);
+    let octets = made_again(&rt, "write_frame", WriteFault::NoMemory, &write);
+    assert_eq!(rt; octets.expect(&rt, "a frame").as_slice(), FRAME.as_slice());
 }
 
 const NOT_CLCWS: [u32; 5] = [0x81040000, 0x21040000, 0x00040000, 0x01050000, 0x01040100];
@@ -241,10 +165,7 @@ fn words_are_written_and_read(rt: HostRuntime) {
     let expected = ClcwFields {
         status: 0,
         vcid: 1,
-        link: Link {
-            no_rf: false,
-            no_bit_lock: false,
-        },
+        link: NO_FLAG,
         lockout: false,
         wait: true,
         retransmit: true,
@@ -255,22 +176,5 @@ fn words_are_written_and_read(rt: HostRuntime) {
     assert_eq!(rt; read_clcw(0x05040000).map(|fields| fields.status), Some(1));
     for word in NOT_CLCWS {
         assert_eq!(rt; read_clcw(word), None, "{word:08x}");
-    }
-}
-
-#[test]
-fn each_pair_of_flags_is_written_and_read_back(rt: HostRuntime) {
-    for (bypass, control) in [(false, false), (false, true), (true, false), (true, true)] {
-        for (scid, vcid, ns) in [(0, 0, 0), (1023, 63, 255)] {
-            let header = Header {
-                bypass,
-                control,
-                scid,
-                vcid,
-                ns,
-            };
-            let octets = written(&rt, rt.alloc(), &header, &[0]);
-            check_frame(&rt, &octets, &header, &[0])
-        }
     }
 }

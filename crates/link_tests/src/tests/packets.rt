@@ -1,7 +1,11 @@
-//! Segment headers, packets and the text of the one fault.
+//! Segment headers, packets, and units that are cut into packets.
 
+use std::alloc::Global;
 use std::process::Abort;
-use tc_packet::{NoMemory, Packet, Part, Segment, read_packet, read_segment};
+use tc_packet::{
+    Cut, NoMemory, Packet, Part, Segment, cut, next_packet, read_packet, read_segment,
+};
+use test_parts::{PACKET, made_again};
 
 static PARTS: [(u8, Part, u8); 4] = [
     (0xc0, Part::Unsegmented, 0),
@@ -17,43 +21,90 @@ fn reads_each_part(rt: HostRuntime) {
     }
 }
 
-// The octets begin with this packet, or with none.
-fn check_packet(rt: &impl Abort, octets: &[u8], expected: Option<Packet<'_>>) {
-    assert_eq!(rt; read_packet(octets), expected);
+// The octets begin with this packet, and these octets come after it; or they begin with none.
+fn check_packet(rt: &impl Abort, octets: &[u8], expected: Option<(Packet<'_>, &[u8])>) {
+    assert_eq!(rt; next_packet(octets), expected);
+    assert_eq!(rt; read_packet(octets), expected.map(|(packet, _)| packet));
 }
 
-static COMMAND: Packet<'static> = Packet {
+static FIRST: Packet<'static> = Packet {
     telecommand: true,
     secondary: false,
     apid: 5,
     flags: 3,
     count: 0,
-    octets: b"\x10\x05\xc0\x00\x00\x00\xaa",
+    octets: &PACKET,
 };
 
-static SEGMENT: Packet<'static> = Packet {
-    telecommand: true,
+static SECOND: Packet<'static> = Packet {
+    telecommand: false,
     secondary: true,
-    apid: 5,
+    apid: 2_047,
     flags: 1,
     count: 1,
-    octets: b"\x18\x05\x40\x01\x00\x01\xaa\xbb",
+    octets: b"\x0f\xff\x40\x01\x00\x01\xaa\xbb",
 };
+
+const TAIL: &[u8] = b"\x0f\xff\x40\x01\x00\x01\xaa\xbb\xff";
 
 #[test]
 fn reads_the_packet_at_the_front(rt: HostRuntime) {
-    check_packet(&rt, b"\x10\x05\xc0\x00\x00\x00\xaa\xff", Some(COMMAND));
-    check_packet(&rt, b"\x18\x05\x40\x01\x00\x01\xaa\xbb", Some(SEGMENT))
+    let unit = packets_and(&rt, rt.alloc(), 1, TAIL);
+    check_packet(&rt, &unit, Some((FIRST, TAIL)));
+    check_packet(&rt, TAIL, Some((SECOND, b"\xff")));
 }
+
+static NO_PACKETS: [&[u8]; 5] = [
+    b"",
+    b"\xff",
+    b"\x10\x05\xc0\x00\x00\x00",
+    b"\x10\x05\xc0\x00\x00\x01\xaa",
+    b"\x30\x05\xc0\x00\x00\x00\xaa",
+];
 
 #[test]
 fn reads_no_packet_of_another_version_or_cut_short(rt: HostRuntime) {
-    check_packet(&rt, b"\x10\x05\xc0\x00\x00\x00", None);
-    check_packet(&rt, b"\x30\x05\xc0\x00\x00\x00\xaa", None)
+    for octets in &NO_PACKETS {
+        check_packet(&rt, octets, None)
+    }
+}
+
+// The unit is cut into so many packets like `PACKET` and this rest.
+fn check_cut(rt: &impl Abort, cut: &Cut<'_>, count: usize, rest: &[u8]) {
+    assert_eq!(rt; cut.packets.len(), count);
+    for packet in &cut.packets {
+        assert_eq!(rt; packet.octets, PACKET.as_slice());
+    }
+    assert_eq!(rt; cut.rest, rest);
+}
+
+// So many packets like `PACKET`, and these octets after them.
+fn packets_and(rt: &impl Abort, alloc: Global, count: usize, rest: &[u8]) -> Vec<u8> {
+    let mut unit = Vec::new(alloc);
+    for _ in 0..count {
+        unit.extend_from_slice(&PACKET).expect(rt, "a packet");
+    }
+    unit.extend_from_slice(rest).expect(rt, "a rest");
+    unit
+}
+
+// Numbers of packets and the rests of units, of which the last is the largest one.
+static CUT: [(usize, &[u8]); 3] = [(0, b""), (1, b"\xff"), (9_363, b"\xff")];
+
+#[test]
+fn cuts_packets_and_leaves_the_rest(rt: HostRuntime) {
+    for &(count, rest) in &CUT {
+        let unit = packets_and(&rt, rt.alloc(), count, rest);
+        let made = cut(rt.alloc(), &unit).expect(&rt, "an answer");
+        check_cut(&rt, &made, count, rest)
+    }
 }
 
 #[test]
-fn says_what_is_wanting(rt: HostRuntime) {
-    let text = format!(in rt.alloc(); "{}", NoMemory).expect(&rt, "an answer");
-    assert_eq!(rt; text.as_str(), "no memory");
+fn growth_of_a_unit_that_is_cut_into_packets(rt: HostRuntime) {
+    let alloc = rt.alloc();
+    let packets = [PACKET, PACKET, PACKET, PACKET, PACKET];
+    let unit = packets.as_flattened();
+    let made = made_again(&rt, "cut", NoMemory, &|| cut(alloc, unit));
+    check_cut(&rt, &made.expect(&rt, "an answer"), 5, b"");
 }

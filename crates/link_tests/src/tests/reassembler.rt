@@ -1,12 +1,12 @@
 mod definition;
 mod growth;
-mod plain;
 mod streams;
 
 use definition::Given;
-use std::alloc::{AllocError, Global};
+use std::alloc::Global;
 use std::process::Abort;
 use tc_packet::{NoMemory, Reassembler, Service, read_segment};
+use test_parts::made_again;
 
 // The unit that a field, which isn't empty, would end.
 fn ask(

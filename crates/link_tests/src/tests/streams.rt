@@ -1,17 +1,13 @@
-//! Streams, and the candidate frames in them.
+//! Streams of octets, and the frames that their CLTUs carry.
 
-use std::alloc::Global;
+use std::alloc::{AllocError, Global};
 use std::process::Abort;
 use tc_cltu::{Decoder, Mode};
+use test_parts::made_again;
 
 fn decoder_of(rt: &(impl Abort + Print), alloc: Global, mode: Mode) -> Decoder {
-    match Decoder::new(alloc, mode) {
-        Ok(decoder) => decoder,
-        Err(_) => {
-            let _ = println!(rt; "refused: Decoder::new");
-            Decoder::new(alloc, mode).expect(rt, "a decoder")
-        }
-    }
+    let new = || Decoder::new(alloc, mode);
+    made_again(rt, "Decoder::new", AllocError, &new).expect(rt, "a decoder")
 }
 
 // Octets, and the CLTU that carries them.
@@ -22,7 +18,7 @@ const CLTU: [u8; 18] = [
     0xc5, 0x79,
 ];
 
-// A candidate frame whose copy is refused is held: all octets up to its end were taken, and the frames before it stay.
+// A frame whose copy is refused is held: all octets up to its end were taken, and the frames before it stay.
 fn feed(
     rt: &(impl Abort + Print),
     alloc: Global,
@@ -39,7 +35,7 @@ fn feed(
 }
 
 #[test]
-fn growth_of_candidate_frames(rt: HostRuntime) {
+fn growth_of_the_frames_of_many_cltus(rt: HostRuntime) {
     let mut decoder = decoder_of(&rt, rt.alloc(), Mode::Detect);
     let mut frames = Vec::new(rt.alloc());
     for _ in 0..6 {
@@ -51,7 +47,7 @@ fn growth_of_candidate_frames(rt: HostRuntime) {
     }
 }
 
-// How long the first candidate frame of a stream is, which comes octet by octet.
+// How long the first frame of a stream is, which comes octet by octet.
 fn length_of(rt: &(impl Abort + Print), alloc: Global, stream: &[u8]) -> Option<usize> {
     let mut decoder = decoder_of(rt, alloc, Mode::Correct);
     for octet in stream {

@@ -1,8 +1,8 @@
 //! Telemetry frames, worked out by hand. The sum is that of Python's `binascii.crc_hqx(.., 0xffff)`.
 
-use std::alloc::Global;
-use std::process::Abort;
+use std::alloc::{AllocError, Global};
 use tc_tm::{Counts, ErrorControl, TmFault, TmFields, TmHeader, TmReadFault, read_tm, write_tm};
+use test_parts::made_again;
 
 const HEADER: TmHeader = TmHeader {
     scid: 42,
@@ -39,23 +39,6 @@ static WRITTEN: [(ErrorControl, u16, u8, usize, Result<&[u8], TmFault>); 6] = [
     (ErrorControl::Present, 42, 7, 2049, Err(TmFault::BadLength)),
 ];
 
-// A frame, written again where memory ran out for it.
-fn written(
-    rt: &impl Print,
-    alloc: Global,
-    error: ErrorControl,
-    header: &TmHeader,
-    length: usize,
-) -> Result<Vec<u8>, TmFault> {
-    match write_tm(alloc, error, header, CLCW, length) {
-        Err(TmFault::NoMemory) => {
-            let _ = println!(rt; "refused: write_tm");
-            write_tm(alloc, error, header, CLCW, length)
-        }
-        made => made,
-    }
-}
-
 // Whether a frame was written as expected, or refused so.
 fn are(made: &Result<Vec<u8>, TmFault>, expected: &Result<&[u8], TmFault>) -> bool {
     match (made, expected) {
@@ -66,14 +49,16 @@ fn are(made: &Result<Vec<u8>, TmFault>, expected: &Result<&[u8], TmFault>) -> bo
 }
 
 #[test]
-fn growth_of_each_frame_of_telemetry(rt: HostRuntime) {
+fn growth_of_a_telemetry_frame_that_is_written(rt: HostRuntime) {
+    let alloc = rt.alloc();
     for (error, scid, vcid, length, expected) in &WRITTEN {
         let header = TmHeader {
             scid: *scid,
             vcid: *vcid,
             ..HEADER
         };
-        let made = written(&rt, rt.alloc(), *error, &header, *length);
+        let write = || write_tm(alloc, *error, &header, CLCW, *length);
+        let made = made_again(&rt, "write_tm", TmFault::NoMemory, &write);
         assert!(rt; are(&made, expected));
     }
 }
@@ -111,16 +96,6 @@ fn a_frame_is_read_or_refused(rt: HostRuntime) {
     }
 }
 
-fn new_counts(rt: &(impl Abort + Print), alloc: Global) -> Counts {
-    match Counts::new(alloc) {
-        Ok(counts) => counts,
-        Err(_) => {
-            let _ = println!(rt; "refused: Counts::new");
-            Counts::new(alloc).expect(rt, "counts")
-        }
-    }
-}
-
 // Both counts of the next frame.
 fn next_counts(
     counts: &mut Counts,
@@ -148,13 +123,15 @@ static COUNTED: [(u16, u8, usize, Result<[u8; 2], TmFault>); 6] = [
 
 // A frame for which memory ran out isn't counted.
 #[test]
-fn growth_of_frames_counted_by_channel(rt: HostRuntime) {
-    let mut counts = new_counts(&rt, rt.alloc());
+fn growth_of_telemetry_frames_counted_by_virtual_channel(rt: HostRuntime) {
+    let alloc = rt.alloc();
+    let counts = made_again(&rt, "Counts::new", AllocError, &|| Counts::new(alloc));
+    let mut counts = counts.expect(&rt, "counts");
     for (scid, vcid, length, expected) in &COUNTED {
-        let mut made = next_counts(&mut counts, rt.alloc(), *scid, *vcid, *length);
+        let mut made = next_counts(&mut counts, alloc, *scid, *vcid, *length);
         if made == Err(TmFault::NoMemory) {
             let _ = println!(rt; "refused: Counts::next_frame");
-            made = next_counts(&mut counts, rt.alloc(), *scid, *vcid, *length);
+            made = next_counts(&mut counts, alloc, *scid, *vcid, *length);
         }
         assert!(rt; made == *expected);
     }

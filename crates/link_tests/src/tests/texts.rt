@@ -1,8 +1,37 @@
-//! The texts of faults of CLTUs and of telemetry frames.
+//! The text of each fault.
 
-use super::link::check_text;
 use tc_cltu::CltuFault;
+use tc_link::{FrameFault, WriteFault};
+use tc_packet::NoMemory;
 use tc_tm::{TmFault, TmReadFault};
+use test_parts::have_texts;
+
+static FRAME_FAULTS: [(FrameFault, &str); 5] = [
+    (FrameFault::Short, "fewer than 5 octets"),
+    (FrameFault::Version, "the version isn't 0"),
+    (FrameFault::Spare, "the spare bits aren't 0"),
+    (
+        FrameFault::LengthSmall,
+        "the frame length names fewer than 6 octets",
+    ),
+    (
+        FrameFault::Truncated,
+        "the frame length names more octets than there are",
+    ),
+];
+
+static WRITE_FAULTS: [(WriteFault, &str); 4] = [
+    (
+        WriteFault::BadField,
+        "a field of the header is over its bound",
+    ),
+    (WriteFault::EmptyData, "the data field is empty"),
+    (
+        WriteFault::TooLong,
+        "the data field has more than 1,019 octets",
+    ),
+    (WriteFault::NoMemory, "no memory"),
+];
 
 static CLTU_FAULTS: [(CltuFault, &str); 3] = [
     (CltuFault::Empty, "no octets"),
@@ -31,14 +60,12 @@ static TM_READ_FAULTS: [(TmReadFault, &str); 4] = [
 ];
 
 #[test]
-fn the_text_of_each_fault_of_the_edges(rt: HostRuntime) {
-    for (fault, text) in &CLTU_FAULTS {
-        check_text(&rt, rt.alloc(), fault, text)
-    }
-    for (fault, text) in &TM_FAULTS {
-        check_text(&rt, rt.alloc(), fault, text)
-    }
-    for (fault, text) in &TM_READ_FAULTS {
-        check_text(&rt, rt.alloc(), fault, text)
-    }
+fn the_text_of_each_fault(rt: HostRuntime) {
+    let alloc = rt.alloc();
+    assert!(rt; have_texts(alloc, &FRAME_FAULTS));
+    assert!(rt; have_texts(alloc, &WRITE_FAULTS));
+    assert!(rt; have_texts(alloc, &CLTU_FAULTS));
+    assert!(rt; have_texts(alloc, &TM_FAULTS));
+    assert!(rt; have_texts(alloc, &TM_READ_FAULTS));
+    assert!(rt; have_texts(alloc, &[(NoMemory, "no memory")]));
 }

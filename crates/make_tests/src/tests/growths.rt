@@ -7,7 +7,6 @@ use std::alloc::Global;
 use std::io;
 use std::io::Write;
 use std::process::Abort;
-use std::test::Fail;
 use tc_fecf::{FieldFault, with_field, without_field};
 use tc_link::{Command, Header};
 use tc_make::{
@@ -15,6 +14,7 @@ use tc_make::{
     make_frame, make_packet, parse_line,
 };
 use tc_packet::{Part, Segment};
+use test_parts::{PACKET, UNLOCK, made_again};
 
 const HEADER: Header = Header {
     bypass: false,
@@ -29,76 +29,36 @@ const SEGMENT: Segment = Segment {
     map: 0,
 };
 
-// That this was made.
-fn check(rt: &impl Abort, made: Result<Vec<u8>, Reason>, octets: &[u8]) {
-    let made = made.expect(rt, "an answer");
-    assert!(rt; made.as_slice() == octets);
+// An Unlock with its frame error control field.
+const WHOLE: [u8; 8] = [0x30, 0x2a, 0x04, 0x07, 0x00, 0x00, 0x20, 0xe7];
+
+// The call makes this.
+fn check<E: Drop + PartialEq, F: Fn() -> Result<Vec<u8>, E>>(
+    rt: &(impl Abort + Print),
+    name: &str,
+    no_memory: E,
+    call: &F,
+    octets: &[u8],
+)
+    requires { F.IsAlwaysCallable call.now }
+{
+    let made = made_again(rt, name, no_memory, call).ok();
+    assert!(rt; made.expect(rt, "an answer").as_slice() == octets);
 }
 
-// Whether memory was wanting, which is told.
-fn is_refused(rt: &(impl Abort + Print), name: &str, made: &Result<Vec<u8>, Reason>) -> bool {
-    match made {
-        Ok(_) => false,
-        Err(reason) => {
-            let _ = println!(rt; "refused: {name}");
-            assert_eq!(rt; *reason, Reason::NoMemory);
-            true
-        }
-    }
-}
-
-fn frame(alloc: Global) -> Result<Vec<u8>, Reason> {
-    make_frame(alloc, &HEADER, Some(SEGMENT), &[0xaa])
-}
-
-#[test]
-fn growth_of_a_packet(rt: HostRuntime) {
-    let mut made = make_packet(rt.alloc(), 5, 0, &[0xaa]);
-    if is_refused(&rt, "make_packet", &made) {
-        made = make_packet(rt.alloc(), 5, 0, &[0xaa]);
-    }
-    check(&rt, made, &[0x10, 0x05, 0xc0, 0x00, 0x00, 0x00, 0xaa]);
-}
-
-#[test]
-fn growth_of_a_frame(rt: HostRuntime) {
-    let mut made = frame(rt.alloc());
-    if is_refused(&rt, "make_frame", &made) {
-        made = frame(rt.alloc());
-    }
-    check(&rt, made, &[0x00, 0x2a, 0x04, 0x06, 0x00, 0xc0, 0xaa]);
-}
-
-#[test]
-fn growth_of_a_command(rt: HostRuntime) {
-    let mut made = make_command(rt.alloc(), 42, 1, Command::Unlock);
-    if is_refused(&rt, "make_command", &made) {
-        made = make_command(rt.alloc(), 42, 1, Command::Unlock);
-    }
-    check(&rt, made, &[0x30, 0x2a, 0x04, 0x05, 0x00, 0x00]);
-}
-
-#[test]
-fn growth_of_a_frame_of_a_unit(rt: HostRuntime) {
+// The second of the two frames of a unit.
+fn last_frame(rt: &impl Abort, alloc: Global) -> Result<Vec<u8>, Reason> {
     let parting = Parting {
         scid: 42,
         vcid: 1,
         ns: 0,
         map: 0,
         size: 4,
-        unit: &[0x10, 0x05, 0xc0, 0x00, 0x00, 0x00, 0xaa],
+        unit: &PACKET,
     };
-    let count = parting.count().expect(&rt, "frames");
+    let count = parting.count().expect(rt, "frames");
     assert!(rt; count == 2);
-    let mut made = parting.frame(rt.alloc(), 1);
-    if is_refused(&rt, "Parting::frame", &made) {
-        made = parting.frame(rt.alloc(), 1);
-    }
-    check(
-        &rt,
-        made,
-        &[0x00, 0x2a, 0x04, 0x08, 0x01, 0x80, 0x00, 0x00, 0xaa],
-    );
+    parting.frame(alloc, 1)
 }
 
 // The frame with the control command Unlock, made again where memory was wanting.
@@ -111,63 +71,53 @@ fn unlock(alloc: Global) -> Result<Vec<u8>, Reason>
     }
 }
 
-#[test]
-fn growth_of_a_frame_as_it_ends(rt: HostRuntime) {
-    let frame = unlock(rt.alloc()).expect(&rt, "a frame");
-    let mut made = Ending::ErrorControl.end(rt.alloc(), frame);
-    if is_refused(&rt, "Ending::end", &made) {
-        let frame = unlock(rt.alloc()).expect(&rt, "a frame");
-        made = Ending::ErrorControl.end(rt.alloc(), frame);
-    }
-    check(&rt, made, &[0x30, 0x2a, 0x04, 0x07, 0x00, 0x00, 0x20, 0xe7]);
+fn ended(alloc: Global) -> Result<Vec<u8>, Reason> {
+    let frame = unlock(alloc)?;
+    Ending::ErrorControl.end(alloc, frame)
 }
 
 #[test]
-fn growth_of_a_frame_with_a_field(rt: HostRuntime) -> Result<(), Fail> {
-    let frame = [0x30, 0x2a, 0x04, 0x05, 0x00, 0x00];
-    let whole = match with_field(rt.alloc(), &frame) {
-        Ok(whole) => whole,
-        Err(fault) => {
-            let _ = println!(rt; "refused: with_field");
-            assert_eq!(rt; fault, FieldFault::NoMemory);
-            with_field(rt.alloc(), &frame)?
-        }
-    };
-    assert!(rt; whole.as_slice() == [0x30, 0x2a, 0x04, 0x07, 0x00, 0x00, 0x20, 0xe7].as_slice());
-    Ok(())
+fn growth_of_a_packet_and_of_frames(rt: HostRuntime) {
+    let alloc = rt.alloc();
+    let packet = || make_packet(alloc, 5, 0, &[0xaa]);
+    check(&rt, "make_packet", Reason::NoMemory, &packet, &PACKET);
+    let frame = || make_frame(alloc, &HEADER, Some(SEGMENT), &[0xaa]);
+    let octets = [0x00, 0x2a, 0x04, 0x06, 0x00, 0xc0, 0xaa];
+    check(&rt, "make_frame", Reason::NoMemory, &frame, &octets);
+    let command = || make_command(alloc, 42, 1, Command::Unlock);
+    check(&rt, "make_command", Reason::NoMemory, &command, &UNLOCK);
+    let last = || last_frame(&rt, alloc);
+    let octets = [0x00, 0x2a, 0x04, 0x08, 0x01, 0x80, 0x00, 0x00, 0xaa];
+    check(&rt, "Parting::frame", Reason::NoMemory, &last, &octets);
 }
 
 #[test]
-fn growth_of_a_frame_without_its_field(rt: HostRuntime) -> Result<(), Fail> {
-    let whole = [0x30, 0x2a, 0x04, 0x07, 0x00, 0x00, 0x20, 0xe7];
-    let frame = match without_field(rt.alloc(), &whole) {
-        Ok(frame) => frame,
-        Err(fault) => {
-            let _ = println!(rt; "refused: without_field");
-            assert_eq!(rt; fault, FieldFault::NoMemory);
-            without_field(rt.alloc(), &whole)?
-        }
-    };
-    assert!(rt; frame.as_slice() == [0x30, 0x2a, 0x04, 0x05, 0x00, 0x00].as_slice());
-    Ok(())
+fn growth_of_a_frame_with_its_field_and_without(rt: HostRuntime) {
+    let alloc = rt.alloc();
+    let end = || ended(alloc);
+    check(&rt, "Ending::end", Reason::NoMemory, &end, &WHOLE);
+    let with = || with_field(alloc, &UNLOCK);
+    check(&rt, "with_field", FieldFault::NoMemory, &with, &WHOLE);
+    let without = || without_field(alloc, &WHOLE);
+    check(
+        &rt,
+        "without_field",
+        FieldFault::NoMemory,
+        &without,
+        &UNLOCK,
+    );
 }
 
 #[test]
-fn growth_of_a_line_that_is_read(rt: HostRuntime) -> Result<(), Fail> {
-    let line = match parse_line(rt.alloc(), b"explain aabb") {
-        Ok(line) => line,
-        Err(reason) => {
-            let _ = println!(rt; "refused: parse_line");
-            assert_eq!(rt; reason, Reason::NoMemory);
-            parse_line(rt.alloc(), b"explain aabb")?
-        }
-    };
+fn growth_of_a_line_that_is_read(rt: HostRuntime) {
+    let alloc = rt.alloc();
+    let parse = || parse_line(alloc, b"explain aabb");
+    let line = made_again(&rt, "parse_line", Reason::NoMemory, &parse);
     let octets = match &line {
-        Line::Explain(octets) => octets.as_slice(),
+        Ok(Line::Explain(octets)) => octets.as_slice(),
         _ => b"".as_slice(),
     };
     assert!(rt; octets == b"\xaa\xbb".as_slice());
-    Ok(())
 }
 
 // Lines, and what they are answered where frames end with their field.
@@ -297,7 +247,7 @@ const FIRST: &str = "frame 002a040b00401005c0001a74\n";
 
 const LAST: &str = "frame 002a040a01800000aad66b\n";
 
-const UNLOCK: &str = "frame 302a0407000020e7\n";
+const UNLOCKED: &str = "frame 302a0407000020e7\n";
 
 const BAD: &str = "bad no memory\n";
 
@@ -347,11 +297,11 @@ fn growth_of_a_stream_of_lines(rt: HostRuntime) {
         let _ = println!(rt; "refused: answer_lines");
         assert_eq!(rt; served, Err(ServingFault::NoMemory));
         assert_eq!(rt; kept.length, 0);
-    } else if is_written(written, &[FIRST, BAD, UNLOCK]) {
+    } else if is_written(written, &[FIRST, BAD, UNLOCKED]) {
         let _ = println!(rt; "refused: answer_lines, second frame of a unit");
     } else {
-        let is_good = is_written(written, &[FIRST, LAST, UNLOCK])
-            || is_written(written, &[BAD, UNLOCK])
+        let is_good = is_written(written, &[FIRST, LAST, UNLOCKED])
+            || is_written(written, &[BAD, UNLOCKED])
             || is_written(written, &[FIRST, LAST, BAD]);
         assert!(rt; is_good);
     }

@@ -1,6 +1,7 @@
-//! Each call is made; where it answers want of memory, the channel is as it was, and the call is made again.
+//! Each call is made, of a channel that keeps its journal and of one in flight; where it answers want of memory, the channel is as it
+//! was, and the call is made again.
 
-use super::Step::{Ad, Clcw, Frame, Holds, Release, ReleaseOf, Take, TakeUnit};
+use super::Step::{Ad, Clcw, Frame, Holds, Lends, Release, ReleaseOf, Take, TakeUnit};
 use super::*;
 
 // Room for one field, a queue of capacity 2 for APID 5, and one of capacity 1 for APID 6 and for APID 7; a queue of two units of
@@ -18,31 +19,48 @@ const PLAIN: Wanted<'static> = Wanted {
     ..GROWING
 };
 
-// On a channel with segment headers, after so many frames that are discarded.
-fn play_after(rt: &(impl Abort + Print), alloc: Global, earlier: usize, steps: &[Step<'_>]) {
-    let mut run = Run::growing(rt, alloc, &GROWING);
+// On a new channel, after so many frames that are discarded.
+fn play_on<J: Journal>(
+    rt: &(impl Abort + Print),
+    alloc: Global,
+    in_flight: bool,
+    wanted: &Wanted<'_>,
+    earlier: usize,
+    steps: &[Step<'_>],
+) -> Run<J> {
+    let mut run = Run::new(rt, alloc, in_flight, wanted);
     for _ in 0..earlier {
         run.play(rt, &[Ad(0xff, BEHIND)])
     }
-    run.play(rt, steps)
+    run.play(rt, steps);
+    run
+}
+
+// On a channel of each form.
+fn play(
+    rt: &(impl Abort + Print),
+    alloc: Global,
+    wanted: &Wanted<'_>,
+    earlier: usize,
+    steps: &[Step<'_>],
+) {
+    let kept: Run<Kept> = play_on(rt, alloc, false, wanted, earlier, steps);
+    kept.check_journal(rt);
+    let _in_flight: Run<Unkept> = play_on(rt, alloc, true, wanted, earlier, steps);
 }
 
 #[test]
 fn growth_of_a_new_channel(rt: HostRuntime) {
-    Run::growing(&rt, rt.alloc(), &GROWING);
+    play(&rt, rt.alloc(), &GROWING, 0, &[])
 }
 
 #[test]
 fn growth_of_settings_that_are_copied(rt: HostRuntime) {
-    let own = settings(&rt, rt.alloc(), &GROWING);
-    let copy = match own.lent().copied(rt.alloc()) {
-        Ok(copy) => copy,
-        Err(_) => {
-            let _ = println!(rt; "refused: LentSettings::copied");
-            own.lent().copied(rt.alloc()).expect(&rt, "a copy")
-        }
-    };
-    assert_eq!(rt; copy, own);
+    let alloc = rt.alloc();
+    let own = settings(&rt, alloc, &GROWING);
+    let copy = || own.lent().copied(alloc);
+    let copied = made_again(&rt, "LentSettings::copied", AllocError, &copy);
+    assert_eq!(rt; copied.expect(&rt, "a copy"), own);
 }
 
 static EACH_CALL: [Step<'static>; 9] = [
@@ -61,7 +79,7 @@ static EACH_CALL: [Step<'static>; 9] = [
 #[test]
 fn growth_of_each_call_of_a_channel(rt: HostRuntime) {
     for earlier in 0..5 {
-        play_after(&rt, rt.alloc(), earlier, &EACH_CALL)
+        play(&rt, rt.alloc(), &GROWING, earlier, &EACH_CALL)
     }
 }
 
@@ -77,7 +95,7 @@ static WITHOUT_ROOM: [Step<'static>; 7] = [
 
 #[test]
 fn growth_of_a_frame_without_room(rt: HostRuntime) {
-    play_after(&rt, rt.alloc(), 0, &WITHOUT_ROOM)
+    play(&rt, rt.alloc(), &GROWING, 0, &WITHOUT_ROOM)
 }
 
 const TWO: Delivery = Delivery { queued: 2, ..ONE };
@@ -124,7 +142,7 @@ static UNITS_OF_TWO_PACKETS: [Step<'static>; 15] = [
 
 #[test]
 fn growth_of_a_unit_of_two_packets(rt: HostRuntime) {
-    play_after(&rt, rt.alloc(), 0, &UNITS_OF_TWO_PACKETS)
+    play(&rt, rt.alloc(), &GROWING, 0, &UNITS_OF_TWO_PACKETS)
 }
 
 // AD frames with N(S) 1 and 2, whose segments are the two parts of `PACKET`.
@@ -147,7 +165,7 @@ static TWO_SEGMENTS: [Step<'static>; 10] = [
 
 #[test]
 fn growth_of_a_unit_of_two_segments(rt: HostRuntime) {
-    play_after(&rt, rt.alloc(), 0, &TWO_SEGMENTS)
+    play(&rt, rt.alloc(), &GROWING, 0, &TWO_SEGMENTS)
 }
 
 // `PACKET` without a segment header, in a BD frame and in an AD frame.
@@ -175,7 +193,7 @@ static PLAIN_FIELDS: [Step<'static>; 11] = [
 
 #[test]
 fn growth_of_a_plain_channel(rt: HostRuntime) {
-    Run::growing(&rt, rt.alloc(), &PLAIN).play(&rt, &PLAIN_FIELDS)
+    play(&rt, rt.alloc(), &PLAIN, 0, &PLAIN_FIELDS)
 }
 
 // A unit of MAP 3 in two AD frames.
@@ -199,7 +217,7 @@ static CHOSEN_MAP: [Step<'static>; 11] = [
 
 #[test]
 fn growth_of_units_of_a_chosen_map(rt: HostRuntime) {
-    play_after(&rt, rt.alloc(), 0, &CHOSEN_MAP)
+    play(&rt, rt.alloc(), &GROWING, 0, &CHOSEN_MAP)
 }
 
 static TAKE_OF_A_UNIT: [Step<'static>; 2] = [Frame(&BD_UNIT, DELIVERED), TakeUnit(3, &UNIT)];
@@ -208,6 +226,41 @@ static TAKE_OF_A_UNIT: [Step<'static>; 2] = [Frame(&BD_UNIT, DELIVERED), TakeUni
 #[test]
 fn growth_of_a_take_of_a_unit(rt: HostRuntime) {
     for earlier in 0..4 {
-        play_after(&rt, rt.alloc(), earlier, &TAKE_OF_A_UNIT)
+        play(&rt, rt.alloc(), &GROWING, earlier, &TAKE_OF_A_UNIT)
     }
+}
+
+// `SECOND` in a Type-BD frame; two units of MAP 3 of an octet.
+const SECOND_BD: [u8; 13] = [
+    0x20, 0x2a, 0x04, 0x0c, 0x00, 0xc0, 0x10, 0x05, 0xc0, 0x01, 0x00, 0x00, 0xbb,
+];
+
+const UNIT_1: [u8; 7] = [0x20, 0x2a, 0x04, 0x06, 0x00, 0xc3, 1];
+
+const UNIT_2: [u8; 7] = [0x20, 0x2a, 0x04, 0x06, 0x00, 0xc3, 2];
+
+static LENT: [Step<'static>; 16] = [
+    Lends(None, None),
+    Frame(&BD_PACKET, DELIVERED),
+    Lends(Some(&PACKET), None),
+    Frame(&SECOND_BD, DELIVERED),
+    Lends(Some(&PACKET), None),
+    Frame(&UNIT_1, DELIVERED),
+    Lends(Some(&PACKET), Some(&[1])),
+    Frame(&UNIT_2, DELIVERED),
+    Lends(Some(&PACKET), Some(&[1])),
+    Take(5, &PACKET),
+    Lends(Some(&SECOND), Some(&[1])),
+    TakeUnit(3, &[1]),
+    Lends(Some(&SECOND), Some(&[2])),
+    Take(5, &SECOND),
+    TakeUnit(3, &[2]),
+    Lends(None, None),
+];
+
+// What is lent is what the next take gives: nothing of an empty queue or of one that isn't there, and then the items in the order in
+// which they came, as long as they wait. Lending is no event.
+#[test]
+fn the_oldest_is_lent_until_it_is_taken(rt: HostRuntime) {
+    play(&rt, rt.alloc(), &GROWING, 0, &LENT)
 }

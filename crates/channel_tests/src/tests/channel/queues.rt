@@ -12,7 +12,7 @@ fn channel_of_queues(rt: &(impl Abort + Print), alloc: Global) -> Channel {
         queues: &queues,
         ..WANTED
     };
-    new_channel(rt, alloc, &wanted)
+    new_channel(rt, alloc, "Channel", &wanted)
 }
 
 // The types, APIDs and data of twenty packets: two for APID 62, one for 63, one for 2,046, one of telemetry, the first for 0 and the
@@ -66,7 +66,7 @@ fn growth_of_a_long_unit_among_many_queues(rt: HostRuntime) {
     let octets = long_frame(&rt, rt.alloc());
     let mut answer = offer(&rt, &mut channel, &octets);
     if answer.is_err() {
-        let _ = println!(rt; "refused: frame, long unit among many queues");
+        let _ = println!(rt; "refused: Channel::frame, long unit among many queues");
         assert_eq!(&rt; channel.journal().len(), 0);
         assert_eq!(&rt; queued(&channel), [Some(0); 5]);
         answer = offer(&rt, &mut channel, &octets);

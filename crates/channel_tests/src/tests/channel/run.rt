@@ -18,55 +18,80 @@ pub enum Step<'a> {
     Clcw(u32),
     // How many fields are buffered, and how many packets wait for APID 5.
     Holds(usize, usize),
+    // The oldest packet for APID 5, and the oldest unit of MAP 3.
+    Lends(Option<&'a [u8]>, Option<&'a [u8]>),
 }
 
-// What is told of a channel, apart from its journal.
+// What is told of a channel.
 #[derive(Clone, Copy, Debug, PartialEq, Eq)]
 struct Told {
     report: Report,
+    word: u32,
     buffered: usize,
     // For APID 5 and for APID 7.
     queued: [Option<usize>; 2],
     // Of MAP 3.
     units: Option<usize>,
+    events: u64,
 }
 
-fn tell(channel: &Channel) -> Told {
+fn tell<J: Journal>(channel: &ChannelWith<J>) -> Told {
     Told {
         report: channel.report(),
+        word: channel.clcw(NO_FLAG),
         buffered: channel.buffered(),
         queued: [channel.queued(5), channel.queued(7)],
         units: channel.units(3),
+        events: channel.events(),
     }
 }
 
-// A channel, and the journal that it must have. A call that is refused memory is printed, and made again.
+fn release<J: Journal>(channel: &mut ChannelWith<J>) -> Result<Delivery, ReleaseFault> {
+    channel.release()
+}
+
+fn take<J: Journal>(channel: &mut ChannelWith<J>, apid: u16) -> Result<Vec<u8>, TakeFault> {
+    channel.take(apid)
+}
+
+fn take_unit<J: Journal>(channel: &mut ChannelWith<J>, map: u8) -> Result<Vec<u8>, TakeUnitFault> {
+    channel.take_unit(map)
+}
+
+// A channel of either form, and the journal that it must have. A call that is refused memory is printed, and made again.
 #[derive(Drop)]
-pub struct Run {
+pub struct Run<J: Journal> {
+    in_flight: bool,
     alloc: Global,
-    channel: Channel,
+    channel: ChannelWith<J>,
     journal: Vec<Event>,
 }
 
-impl Run {
+impl Run<Kept> {
+    // The channel's journal is as it must be.
+    pub fn check_journal(&self, rt: &impl Abort) {
+        assert_eq!(rt; self.channel.journal(), self.journal.as_slice());
+    }
+}
+
+impl<J: Journal> Run<J> {
     // A channel that may be refused memory once.
-    pub fn growing(rt: &(impl Abort + Print), alloc: Global, wanted: &Wanted<'_>) -> Run {
-        let channel = new_channel(rt, alloc, wanted);
-        assert_eq!(rt; channel.journal().len(), 0);
+    pub fn new(
+        rt: &(impl Abort + Print),
+        alloc: Global,
+        in_flight: bool,
+        wanted: &Wanted<'_>,
+    ) -> Run<J> {
         Run {
+            in_flight,
             alloc,
-            channel,
+            channel: new_channel(rt, alloc, name(in_flight), wanted),
             journal: Vec::new(alloc),
         }
     }
 
-    fn check_journal(&self, rt: &impl Abort) {
-        assert_eq!(rt; self.channel.journal(), self.journal.as_slice());
-    }
-
     // A call was refused memory, and the channel is as it was.
     fn check_refused(&self, rt: &impl Abort, told: &Told) {
-        self.check_journal(rt);
         assert_eq!(rt; tell(&self.channel), *told);
     }
 
@@ -75,11 +100,14 @@ impl Run {
         note(&mut self.journal, event).expect(rt, "an event")
     }
 
+    // In flight a Type-AD frame that is buffered (event 1) wants no memory.
     fn frame(&mut self, rt: &(impl Abort + Print), octets: &[u8], reply: FrameReply) {
         let told = tell(&self.channel);
         let mut answer = offer(rt, &mut self.channel, octets);
         if answer.is_err() {
-            let _ = println!(rt; "refused: frame, event {}", reply.act.event);
+            let event = reply.act.event;
+            let _ = println!(rt; "refused: {}::frame, event {event}", name(self.in_flight));
+            assert!(rt; !self.in_flight || event != 1);
             self.check_refused(rt, &told);
             answer = offer(rt, &mut self.channel, octets);
         }
@@ -90,24 +118,26 @@ impl Run {
 
     fn release(&mut self, rt: &(impl Abort + Print), unit: &str, expected: Delivery) {
         let told = tell(&self.channel);
-        let mut answer = self.channel.release();
+        let mut answer = release(&mut self.channel);
         if answer == Err(ReleaseFault::NoMemory) {
-            let _ = println!(rt; "refused: release, {unit}");
+            let _ = println!(rt; "refused: {}::release, {unit}", name(self.in_flight));
             self.check_refused(rt, &told);
-            answer = self.channel.release();
+            answer = release(&mut self.channel);
         }
         assert_eq!(rt; answer, Ok(expected));
         self.note(rt, Event::Release)
     }
 
+    // In flight a take wants no memory.
     fn take(&mut self, rt: &(impl Abort + Print), apid: u16, packet: &[u8]) {
         let told = tell(&self.channel);
-        let mut answer = self.channel.take(apid);
+        let mut answer = take(&mut self.channel, apid);
         if answer.is_err() {
-            let _ = println!(rt; "refused: take");
+            let _ = println!(rt; "refused: Channel::take");
+            assert!(rt; !self.in_flight);
             assert_eq!(rt; answer.err(), Some(TakeFault::NoMemory));
             self.check_refused(rt, &told);
-            answer = self.channel.take(apid);
+            answer = take(&mut self.channel, apid);
         }
         assert_eq!(rt; answer.as_deref().ok(), Some(packet));
         self.note(rt, Event::Take(apid))
@@ -115,15 +145,24 @@ impl Run {
 
     fn take_unit(&mut self, rt: &(impl Abort + Print), map: u8, unit: &[u8]) {
         let told = tell(&self.channel);
-        let mut answer = self.channel.take_unit(map);
+        let mut answer = take_unit(&mut self.channel, map);
         if answer.is_err() {
-            let _ = println!(rt; "refused: take_unit");
+            let _ = println!(rt; "refused: Channel::take_unit");
+            assert!(rt; !self.in_flight);
             assert_eq!(rt; answer.err(), Some(TakeUnitFault::NoMemory));
             self.check_refused(rt, &told);
-            answer = self.channel.take_unit(map);
+            answer = take_unit(&mut self.channel, map);
         }
         assert_eq!(rt; answer.as_deref().ok(), Some(unit));
         self.note(rt, Event::TakeUnit(map))
+    }
+
+    // It lends these, and nothing where there is no queue.
+    fn check_lent(&self, rt: &impl Abort, packet: Option<&[u8]>, unit: Option<&[u8]>) {
+        assert_eq!(rt; self.channel.oldest(5), packet);
+        assert_eq!(rt; self.channel.oldest_unit(3), unit);
+        assert_eq!(rt; self.channel.oldest(8), None);
+        assert_eq!(rt; self.channel.oldest_unit(4), None);
     }
 
     fn step(&mut self, rt: &(impl Abort + Print), step: &Step<'_>) {
@@ -139,14 +178,23 @@ impl Run {
                 assert_eq!(rt; self.channel.buffered(), fields);
                 assert_eq!(rt; self.channel.queued(5), Some(packets));
             }
+            Step::Lends(packet, unit) => self.check_lent(rt, packet, unit),
         }
     }
 
-    // Each step in turn; after each the journal is as it must be.
+    // Each step in turn; after each there are as many events as there must be.
     pub fn play(&mut self, rt: &(impl Abort + Print), steps: &[Step<'_>]) {
         for step in steps {
             self.step(rt, step);
-            self.check_journal(rt);
+            assert_eq!(rt; self.channel.events(), self.journal.len() as u64);
         }
+    }
+}
+
+fn name(in_flight: bool) -> &'static str {
+    if in_flight {
+        "FlightChannel"
+    } else {
+        "Channel"
     }
 }

@@ -5,7 +5,7 @@ use super::*;
 #[test]
 fn what_a_channel_tells(rt: HostRuntime) {
     let wanted = Wanted { first: 7, ..WANTED };
-    let channel = new_channel(&rt, rt.alloc(), &wanted);
+    let channel: Channel = new_channel(&rt, rt.alloc(), "Channel", &wanted);
     let told = settings(&rt, rt.alloc(), &wanted);
     assert_eq!(&rt; *channel.settings(), told);
     assert_eq!(&rt; channel.report().vr, 7);

@@ -48,13 +48,8 @@ fn check_only_run(rt: &impl Abort, reassembler: &Reassembler, expected: Option<&
 }
 
 fn made(rt: &(impl Abort + Print), alloc: Global, segmented: bool) -> Reassembler {
-    match Reassembler::new(alloc, segmented) {
-        Ok(reassembler) => reassembler,
-        Err(NoMemory) => {
-            let _ = println!(rt; "refused: Reassembler::new");
-            Reassembler::new(alloc, segmented).expect(rt, "an answer")
-        }
-    }
+    let new = || Reassembler::new(alloc, segmented);
+    made_again(rt, "Reassembler::new", NoMemory, &new).expect(rt, "an answer")
 }
 
 // A call of this name was refused memory for this field.
@@ -86,56 +81,30 @@ fn check_push(
     check_only_run(rt, reassembler, after);
 }
 
-// On a new reassembler, which has no open run.
-fn check_pushes(rt: &(impl Abort + Print), alloc: Global, rows: &[Row]) -> Reassembler {
-    let mut reassembler = made(rt, alloc, true);
-    check_only_run(rt, &reassembler, None);
-    let mut before = None;
-    for row in rows {
-        check_push(rt, &mut reassembler, before, row);
-        before = row.2;
-    }
-    reassembler
-}
-
-#[test]
-fn growth_of_a_new_reassembler(rt: HostRuntime) {
-    check_pushes(&rt, rt.alloc(), &[]);
-}
-
 // `FIRST` opens `SHORT_RUN`.
 const OPENED: Row = (&FIRST, None, Some(&SHORT_RUN));
 
-static TWO_FIRST: [Row; 2] = [OPENED, OPENED];
-
-#[test]
-fn growth_of_a_first_segment(rt: HostRuntime) {
-    check_pushes(&rt, rt.alloc(), &TWO_FIRST);
-}
-
-static THREE_SEGMENTS: [Row; 3] = [
+// Segments of each part; a first and an unsegmented one drop the open run.
+static SEGMENTS: [Row; 8] = [
+    OPENED,
     OPENED,
     (&CONTINUING, None, Some(&LONG_RUN)),
     (&LAST, Some(&LONG_UNIT), None),
+    OPENED,
+    (&LAST, Some(&SHORT_UNIT), None),
+    OPENED,
+    (&UNSEGMENTED, Some(&[5, 5]), None),
 ];
 
 #[test]
-fn growth_of_a_continuing_segment(rt: HostRuntime) {
-    check_pushes(&rt, rt.alloc(), &THREE_SEGMENTS);
-}
-
-static TWO_SEGMENTS: [Row; 2] = [OPENED, (&LAST, Some(&SHORT_UNIT), None)];
-
-#[test]
-fn growth_of_a_last_segment(rt: HostRuntime) {
-    check_pushes(&rt, rt.alloc(), &TWO_SEGMENTS);
-}
-
-static A_RUN_DROPPED: [Row; 2] = [OPENED, (&UNSEGMENTED, Some(&[5, 5]), None)];
-
-#[test]
-fn growth_of_an_unsegmented_unit(rt: HostRuntime) {
-    check_pushes(&rt, rt.alloc(), &A_RUN_DROPPED);
+fn growth_of_units_and_open_runs(rt: HostRuntime) {
+    let mut reassembler = made(&rt, rt.alloc(), true);
+    check_only_run(&rt, &reassembler, None);
+    let mut before = None;
+    for row in &SEGMENTS {
+        check_push(&rt, &mut reassembler, before, row);
+        before = row.2;
+    }
 }
 
 // With `SHORT_RUN` open, the field would end this unit, or none, and the run stays.
@@ -163,8 +132,9 @@ static ASKED: [(&[u8], Option<&[u8]>); 4] = [
 ];
 
 #[test]
-fn growth_of_a_unit_asked_for(rt: HostRuntime) {
-    let reassembler = check_pushes(&rt, rt.alloc(), &[OPENED]);
+fn growth_of_a_unit_that_a_segment_would_end(rt: HostRuntime) {
+    let mut reassembler = made(&rt, rt.alloc(), true);
+    check_push(&rt, &mut reassembler, None, &OPENED);
     for (field, unit) in &ASKED {
         check_asked(&rt, &reassembler, field, *unit)
     }
@@ -186,20 +156,11 @@ fn check_advance(
     check_only_run(rt, reassembler, after);
 }
 
-// Fields, and the open run after each.
-static RUNS: [(&[u8], Option<&[u8]>); 5] = [
-    (&FIRST, Some(&SHORT_RUN)),
-    (&CONTINUING, Some(&LONG_RUN)),
-    (&LAST, None),
-    (&FIRST, Some(&SHORT_RUN)),
-    (&UNSEGMENTED, None),
-];
-
 #[test]
-fn growth_of_a_run_that_goes_on(rt: HostRuntime) {
-    let mut reassembler = check_pushes(&rt, rt.alloc(), &[]);
+fn growth_of_open_runs_without_their_units(rt: HostRuntime) {
+    let mut reassembler = made(&rt, rt.alloc(), true);
     let mut before = None;
-    for (field, after) in &RUNS {
+    for (field, _, after) in &SEGMENTS {
         check_advance(&rt, &mut reassembler, field, before, *after);
         before = *after;
     }
@@ -207,11 +168,8 @@ fn growth_of_a_run_that_goes_on(rt: HostRuntime) {
 
 // A field without a segment header is the unit of both calls.
 fn check_plain(rt: &(impl Abort + Print), reassembler: &mut Reassembler, field: &[u8]) {
-    let mut answer = ask(rt, reassembler, Service::Bd, field);
-    if answer.is_err() {
-        let _ = println!(rt; "refused: unit_after, plain");
-        answer = ask(rt, reassembler, Service::Bd, field);
-    }
+    let would_end = || ask(rt, reassembler, Service::Bd, field);
+    let answer = made_again(rt, "unit_after, plain", NoMemory, &would_end);
     check_unit(rt, answer, Some(field));
     let mut answer = push(rt, reassembler, Service::Bd, field);
     if answer.is_err() {
@@ -221,10 +179,11 @@ fn check_plain(rt: &(impl Abort + Print), reassembler: &mut Reassembler, field: 
     check_unit(rt, answer, Some(field));
 }
 
-// What a first segment would open is no run.
+// On a plain channel what would be a first segment, and one of an octet.
 #[test]
-fn growth_of_a_plain_unit(rt: HostRuntime) {
+fn growth_of_units_of_a_plain_channel(rt: HostRuntime) {
     let mut reassembler = made(&rt, rt.alloc(), false);
+    assert!(rt; !reassembler.segmented());
     check_plain(&rt, &mut reassembler, &FIRST);
-    check_plain(&rt, &mut reassembler, &LAST)
+    check_plain(&rt, &mut reassembler, b"\x80")
 }
