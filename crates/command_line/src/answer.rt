@@ -3,13 +3,16 @@
 ghost use Rattle.std.specs.Prelude.{◌≡◌, ◌≤◌, IfErr};
 ghost use Rattle.std.specs.Process.{exit_status};
 
+use crate::help::INPUT;
+use crate::program::Program;
 use crate::words::read_words;
 use clap::Error;
+use clap::error::ErrorKind;
 use std::env::Env;
 use std::process::ExitCode;
 
-// The exit status of a bad command line.
-const BAD_COMMAND_LINE: u8 = 2;
+/// The exit status of a bad command line.
+pub(crate) const BAD_COMMAND_LINE: u8 = 2;
 
 /// The words that a program was started with, its name first. Where they are of no use, standard error says why.
 pub(crate) fn words_of<R: Env + AllocGlobal + Eprint>(
@@ -29,17 +32,20 @@ pub(crate) fn words_of<R: Env + AllocGlobal + Eprint>(
 
 /// Prints help, the version, or why the words are refused, and gives the exit status. What can't be written to standard output is
 /// told on standard error.
-pub(crate) fn print<R: Print + Eprint>(rt: &R, program: &str, answer: &Error) -> ExitCode
+pub(crate) fn print<R: Print + Eprint>(rt: &R, program: &Program, answer: &Error) -> ExitCode
     ensures { exit_status result ≤ 2 }
 {
     let printed = answer.print(rt);
     if answer.use_stderr() {
+        if !program.commands.is_empty() && answer.kind() == ErrorKind::UnknownArgument {
+            let _ = eprintln!(rt; "{INPUT}");
+        }
         return ExitCode::from(BAD_COMMAND_LINE);
     }
     match printed {
         Ok(()) => ExitCode::SUCCESS,
         Err(_) => {
-            let _ = eprintln!(rt; "{program}: cannot write");
+            let _ = eprintln!(rt; "{}: cannot write", program.name);
             ExitCode::FAILURE
         }
     }

@@ -6,12 +6,9 @@
 
 mod answer;
 mod help;
-mod spacecraft;
-mod tclive;
-mod tcmake;
-mod tcrx;
+mod program;
+mod programs;
 mod words;
 
-pub use tclive::{Reception, asked_of_tclive};
-pub use tcmake::asked_of_tcmake;
-pub use tcrx::{ScriptRun, Way, asked_of_tcrx};
+pub use program::Way;
+pub use programs::{Reception, ScriptRun, asked_of_tclive, asked_of_tcmake, asked_of_tcrx};

@@ -1,0 +1,132 @@
+//! What a program was asked for, by a table of its words.
+
+ghost use Rattle.std.specs.Prelude.{◌≡◌, ◌≤◌, IfOk, IfErr};
+ghost use Rattle.std.specs.Process.{exit_status};
+
+use crate::answer::{BAD_COMMAND_LINE, print, words_of};
+use crate::help::{POINTER, VERSION};
+use clap::{Arg, ArgAction, ArgMatches, Command, Error, value_parser};
+use std::alloc::{AllocError, Global};
+use std::convert::AsStr;
+use std::env::Env;
+use std::process::ExitCode;
+
+/// The largest spacecraft id (CCSDS 232.0-B, 4.1.2.5: ten bits).
+const MAX_SCID: u16 = 1023;
+
+/// How a script is run.
+#[derive(Clone, Copy, Debug, PartialEq, Eq)]
+pub enum Way {
+    /// Line by line.
+    InOrder,
+    /// With a worker for each channel.
+    Parallel,
+}
+
+/// The words of a program, and what help says of it.
+pub(crate) struct Program {
+    pub(crate) name: &'static str,
+    pub(crate) about: &'static str,
+    /// What help ends with.
+    pub(crate) end: &'static str,
+    /// Whether `--scid` names the spacecraft.
+    pub(crate) scid: bool,
+    /// What `--fecf` asks for, if it is an option.
+    pub(crate) fecf: Option<&'static str>,
+    /// The commands, each of which runs a script for a spacecraft, with what help says of it.
+    pub(crate) commands: &'static [(&'static str, &'static str)],
+}
+
+/// What a program was asked for. What it has no word for is left out.
+#[derive(Clone, Copy)]
+pub(crate) struct Asked {
+    pub(crate) way: Way,
+    pub(crate) scid: Option<u16>,
+    pub(crate) fecf: bool,
+}
+
+/// What the words that a program was started with ask for; or else the exit status, after all is printed.
+pub(crate) fn ask<R: Env + AllocGlobal + Print + Eprint>(
+    rt: &R,
+    program: &Program,
+) -> Result<Asked, ExitCode>
+    ensures { IfErr result (λ status. exit_status status ≤ 2) }
+{
+    let words = words_of(rt, program.name)?;
+    match judge(rt.alloc(), program, words.as_slice()) {
+        Ok(asked) => Ok(asked),
+        Err(answer) => Err(print(rt, program, &answer)),
+    }
+}
+
+/// The spacecraft id that was asked for. The words of a program that calls this give one.
+pub(crate) fn spacecraft_of<R: Eprint>(rt: &R, asked: Asked) -> Result<u16, ExitCode>
+    ensures id { IfOk result (λ scid. scid ≤ MAX_SCID) }
+    ensures status { IfErr result (λ status. exit_status status ≡ BAD_COMMAND_LINE) }
+{
+    match asked.scid {
+        Some(scid) if scid <= MAX_SCID => Ok(scid),
+        _ => {
+            let _ = eprintln!(rt; "error: no spacecraft id is given");
+            Err(ExitCode::from(BAD_COMMAND_LINE))
+        }
+    }
+}
+
+// What the words ask for, the program's name first. An error is what to print: help, the version, or why the words are refused.
+fn judge<'a, S: AsStr>(alloc: Global, program: &Program, words: &'a [S]) -> Result<Asked, Error> {
+    let command = command(alloc, program)?
+        .version(VERSION)
+        .disable_help_subcommand(true)
+        .subcommand_required(!program.commands.is_empty());
+    let matches = command.try_get_matches_from(words)?;
+    Ok(match matches.subcommand() {
+        Some(("parallel", found)) => asked_by(Way::Parallel, found),
+        Some((_, found)) => asked_by(Way::InOrder, found),
+        None => asked_by(Way::InOrder, &matches),
+    })
+}
+
+fn asked_by(way: Way, matches: &ArgMatches) -> Asked {
+    Asked {
+        way,
+        scid: matches.get_one::<u16>("scid"),
+        fecf: matches.get_flag("fecf"),
+    }
+}
+
+fn command<'a>(alloc: Global, program: &Program) -> Result<Command<'a>, AllocError> {
+    let mut command = texts(alloc, program.name, program.about, program.end);
+    for (name, about) in program.commands {
+        let script = texts(alloc, name, about, POINTER).arg(scid(alloc))?;
+        command = command.subcommand(script)?;
+    }
+    if program.scid {
+        command = command.arg(scid(alloc))?;
+    }
+    match program.fecf {
+        Some(help) => command.arg(fecf(alloc, help)),
+        None => Ok(command),
+    }
+}
+
+fn texts<'a>(alloc: Global, name: &'a str, about: &'a str, end: &'a str) -> Command<'a> {
+    Command::new(alloc, name).about(about).after_help(end)
+}
+
+fn scid<'a>(alloc: Global) -> Arg<'a> {
+    Arg::new(alloc, "scid")
+        .long("scid")
+        .value_name("N")
+        .required(true)
+        .action(ArgAction::Set)
+        .value_parser(value_parser!(u16).range(0..=1023))
+        .help("The spacecraft id, from 0 to 1023")
+}
+
+fn fecf<'a>(alloc: Global, help: &'a str) -> Arg<'a> {
+    Arg::new(alloc, "fecf")
+        .long("fecf")
+        .action(ArgAction::SetTrue)
+        .help(help)
+}

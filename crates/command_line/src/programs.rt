@@ -1,0 +1,90 @@
+//! The command lines of the programs.
+
+ghost use Rattle.std.specs.Prelude.{◌≤◌, IfOk, IfErr};
+ghost use Rattle.std.specs.Process.{exit_status};
+
+use crate::help::{LIVE_LINES, MAKER_LINES, SCRIPTS};
+use crate::program::{Program, Way, ask, spacecraft_of};
+use std::env::Env;
+use std::process::ExitCode;
+
+const TCRX: Program = Program {
+    name: "tcrx",
+    about: "Receives telecommand frames: runs a script, which it reads from standard input",
+    end: SCRIPTS,
+    scid: false,
+    fecf: None,
+    commands: &[
+        (
+            "run",
+            "Runs a script line by line, and prints each answer and the final report",
+        ),
+        (
+            "parallel",
+            "Runs a script with a worker for each channel, and prints the final report",
+        ),
+    ],
+};
+
+const TCLIVE: Program = Program {
+    name: "tclive",
+    about: "Receives telecommand frames line by line: answers the lines of standard input",
+    end: LIVE_LINES,
+    scid: true,
+    fecf: Some(
+        "Each frame must end with its frame error control field; one that doesn't is answered: refused check",
+    ),
+    commands: &[],
+};
+
+const TCMAKE: Program = Program {
+    name: "tcmake",
+    about: "Makes and explains telecommand frames, packets, CLTUs and telemetry frames: answers the lines of standard input",
+    end: MAKER_LINES,
+    scid: false,
+    fecf: Some("Ends each frame with a frame error control field"),
+    commands: &[],
+};
+
+/// A script that is to be run for the spacecraft with this id.
+#[derive(Clone, Copy, Debug, PartialEq, Eq)]
+pub struct ScriptRun {
+    pub scid: u16,
+    pub way: Way,
+}
+
+/// For which spacecraft frames are received, and whether each must end with its frame error control field.
+#[derive(Clone, Copy, Debug, PartialEq, Eq)]
+pub struct Reception {
+    pub scid: u16,
+    pub fecf: bool,
+}
+
+/// What `tcrx` is to do, by the words that it was started with; or else the exit status, after all is printed.
+pub fn asked_of_tcrx<R: Env + AllocGlobal + Print + Eprint>(rt: &R) -> Result<ScriptRun, ExitCode>
+    ensures spacecraft { IfOk result (λ run. run.scid ≤ 1023) }
+    ensures status { IfErr result (λ status. exit_status status ≤ 2) }
+{
+    let asked = ask(rt, &TCRX)?;
+    let scid = spacecraft_of(rt, asked)?;
+    let way = asked.way;
+    Ok(ScriptRun { scid, way })
+}
+
+/// What `tclive` is to do, likewise.
+pub fn asked_of_tclive<R: Env + AllocGlobal + Print + Eprint>(rt: &R) -> Result<Reception, ExitCode>
+    ensures spacecraft { IfOk result (λ reception. reception.scid ≤ 1023) }
+    ensures status { IfErr result (λ status. exit_status status ≤ 2) }
+{
+    let asked = ask(rt, &TCLIVE)?;
+    let scid = spacecraft_of(rt, asked)?;
+    let fecf = asked.fecf;
+    Ok(Reception { scid, fecf })
+}
+
+/// Whether `tcmake` is to end each frame with its frame error control field, likewise.
+pub fn asked_of_tcmake<R: Env + AllocGlobal + Print + Eprint>(rt: &R) -> Result<bool, ExitCode>
+    ensures { IfErr result (λ status. exit_status status ≤ 2) }
+{
+    Ok(ask(rt, &TCMAKE)?.fecf)
+}
