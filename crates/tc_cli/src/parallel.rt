@@ -234,7 +234,24 @@ fn give_order(
 }
 
 // Makes the station and its lists, where no operation came before.
+#[inline(always)]
 fn begin(plan: &mut Plan, alloc: Global, scid: u16) -> Result<(), Reason>
+    requires { scid ≤ 1023 }
+    ensures parted { OnOk result (Begins scid plan.old plan.new) }
+    ensures some { OnOk result (phase_of plan.old ≢ Setup []) }
+    ensures reason { IfErr result (λ reason. (reason ≡ Reason.NoMemory) ⊎ ((reason ≡ Reason.NoChannel) × (phase_of plan.old ≡ Setup []))) }
+    ensures refused { IfErr result (λ reason. IsStageKept reason plan.old plan.new) }
+{
+    match plan {
+        Stage::Operating(_) => Ok(()),
+        Stage::SettingUp(_) => begin_anew(plan, alloc, scid),
+    }
+}
+
+// The same, apart from what runs for each line.
+#[cold]
+#[inline(never)]
+fn begin_anew(plan: &mut Plan, alloc: Global, scid: u16) -> Result<(), Reason>
     requires { scid ≤ 1023 }
     ensures parted { OnOk result (Begins scid plan.old plan.new) }
     ensures some { OnOk result (phase_of plan.old ≢ Setup []) }

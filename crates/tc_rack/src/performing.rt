@@ -138,7 +138,27 @@ fn operate<F: Founder>(
 }
 
 /// Makes what operates, where no operation came before: by a copy of what was set up, which stays where memory is wanting.
+#[inline(always)]
 pub fn begin<F: Founder>(
+    founder: &F,
+    alloc: Global,
+    stage: &mut Stage<F::Founded>,
+) -> Result<(), Reason>
+    ensures found { OnOk result ((found : F.Founded) × IsFound (F.is_new founder.now) stage.old found × (stage.new ≡ Stage.Operating found)) }
+    ensures some { OnOk result (phase_of stage.old ≢ Setup []) }
+    ensures reason { IfErr result (λ reason. (reason ≡ Reason.NoMemory) ⊎ IsBadOperation (phase_of stage.old) reason) }
+    ensures refused { OnErr result (stage.new ≡ stage.old) }
+{
+    match stage {
+        Stage::Operating(_) => Ok(()),
+        Stage::SettingUp(_) => begin_anew(founder, alloc, stage),
+    }
+}
+
+// The same, apart from what runs for each line.
+#[cold]
+#[inline(never)]
+fn begin_anew<F: Founder>(
     founder: &F,
     alloc: Global,
     stage: &mut Stage<F::Founded>,

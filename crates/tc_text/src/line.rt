@@ -5,7 +5,7 @@ ghost use Rattle.tc_lines.specs.Word.{words};
 ghost use Rattle.tc_text.specs.Line.{line_of, channel_command, segmented_of, queue_command, map_command, frame_command, release_command, take_command, unit_command, clcw_command};
 
 use crate::fault::Reason;
-use crate::word::{last_argument, next_argument, no_more, three_arguments, two_arguments};
+use crate::word::{is_text, last_argument, next_argument, no_more, three_arguments, two_arguments};
 use hex::FromHexError;
 use std::alloc::Global;
 use tc_channel::Octets;
@@ -61,28 +61,28 @@ pub fn parse_line(alloc: Global, octets: &[u8]) -> Result<Line, Reason>
     if command[0] == b'#' {
         return Ok(Line::Blank);
     }
-    if command == b"channel".as_slice() {
+    if is_text(command, b"channel") {
         return channel(arguments);
     }
-    if command == b"queue".as_slice() {
+    if is_text(command, b"queue") {
         return queue(arguments);
     }
-    if command == b"map".as_slice() {
+    if is_text(command, b"map") {
         return map(arguments);
     }
-    if command == b"frame".as_slice() {
+    if is_text(command, b"frame") {
         return frame(alloc, arguments);
     }
-    if command == b"release".as_slice() {
+    if is_text(command, b"release") {
         return release(arguments);
     }
-    if command == b"take".as_slice() {
+    if is_text(command, b"take") {
         return take(arguments);
     }
-    if command == b"unit".as_slice() {
+    if is_text(command, b"unit") {
         return unit(arguments);
     }
-    if command == b"clcw".as_slice() {
+    if is_text(command, b"clcw") {
         return clcw(arguments);
     }
     Err(Reason::UnknownCommand)

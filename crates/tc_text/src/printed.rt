@@ -32,7 +32,9 @@ impl fmt::Display for WordDigits {
 
     fn fmt<W: fmt::Write>(&self, f: &mut fmt::Formatter<W>) -> fmt::Result {
         let octets = self.0.to_be_bytes();
-        fmt::Display::fmt(&Digits(&octets), f)
+        let mut digits = [0u8; 8];
+        hex::encode_to_slice(octets.as_slice(), &mut digits).map_err(|_| fmt::Error)?;
+        f.write_str(str::from_utf8(&digits).map_err(|_| fmt::Error)?)
     }
 }
 

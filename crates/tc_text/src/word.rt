@@ -1,7 +1,7 @@
 //! The words that commands take.
 
 ghost use Rattle.std.specs.Prelude.{◌≡◌, ◌≢◌, [], ◌∷◌, option_map, MatchResult, OnOk, IfErr};
-ghost use Rattle.tc_lines.specs.Word.{words};
+ghost use Rattle.tc_lines.specs.Word.{is, words};
 ghost use Rattle.tc_text.specs.Line.{last_of, two_of, three_of};
 
 use crate::fault::Reason;
@@ -68,4 +68,20 @@ pub(crate) fn no_more(octets: &[u8]) -> Result<(), Reason>
         Some(_) => Err(Reason::WordCount),
         None => Ok(()),
     }
+}
+
+/// Whether a word is this text. The first octet that differs decides: most commands differ from a word there.
+#[inline(always)]
+pub(crate) fn is_text(word: &[u8], text: &[u8]) -> bool
+    ensures { result ≡ is word.now text.now }
+{
+    if word.len() != text.len() {
+        return false;
+    }
+    for place in 0..text.len() {
+        if word[place] != text[place] {
+            return false;
+        }
+    }
+    true
 }
