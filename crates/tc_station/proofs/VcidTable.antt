@@ -14,7 +14,7 @@ use Rattle.std.proofs.lemmas.Map.Steps.{length-le_from_distinct_below}
 use Rattle.tc_channel.specs.Settings.{IsAllowed}
 use Rattle.tc_station.proofs.Names.{Settings, vcids_of}
 use Rattle.tc_station.specs.StationSettings.{HaveDistinctVcids}
-use Rattle.tc_station.specs.VcidTable.{IsTableOf, place_told}
+use Rattle.tc_station.specs.VcidTable.{IsVcidTable, place_told}
 
 -- the entries of the first ids, of so many, tell their places, and no other entry tells one
 pub record AreTold (ids : List ℕ) (n : ℕ) (table : List ℕ) : Type 0 where
@@ -55,7 +55,7 @@ told : (k : ℕ) → k ≢ 64 → place_told k ≡ Some k
 told k some = grind (arith, some)
 
 -- once all ids have entries
-pub table-of : (ids table : List ℕ) → length ids ≤ 64 → AreTold ids (length ids) table → IsTableOf ids table
+pub table-of : (ids table : List ℕ) → length ids ≤ 64 → AreTold ids (length ids) table → IsVcidTable ids table
 table-of ids table few t v = by (ltb n (length ids)) refl where
   n : ℕ
   n = position_or_len (λ x. x == v) ids
@@ -118,8 +118,8 @@ found-there ids v None is = not-there ids v is
 found-there ids v (Some k) is = let at = position-Some (λ x. x == v) ids k 0 (sym is) in (at.0, eqb-true (get_or ids k 0) v at.1)
 
 -- what an entry tells
-pub nowhere-told : (ids table : List ℕ) (v : ℕ) → IsTableOf ids table → get_or table v 64 ≡ 64 → None ≡ position (λ x. x == v) ids
+pub nowhere-told : (ids table : List ℕ) (v : ℕ) → IsVcidTable ids table → get_or table v 64 ≡ 64 → None ≡ position (λ x. x == v) ids
 nowhere-told ids table v t is = sym (t v ∙ ap place_told is)
 
-pub somewhere-told : (ids table : List ℕ) (v place : ℕ) → IsTableOf ids table → get_or table v 64 ≡ place → place ≢ 64 → Some place ≡ position (λ x. x == v) ids
+pub somewhere-told : (ids table : List ℕ) (v place : ℕ) → IsVcidTable ids table → get_or table v 64 ≡ place → place ≢ 64 → Some place ≡ position (λ x. x == v) ids
 somewhere-told ids table v place t is some = sym (t v ∙ (ap place_told is ∙ told place some))

@@ -6,5 +6,5 @@ abbrev pub place_told : ℕ → Option ℕ
 place_told entry = if entry == 64 then None else Some entry
 
 -- the table tells of each number where it first stands among these ids; of one that it has no entry for, that it doesn't
-abbrev pub IsTableOf : List ℕ → List ℕ → Type 0
-IsTableOf ids table = (vcid : ℕ) → position (λ v. v == vcid) ids ≡ place_told (get_or table vcid 64)
+abbrev pub IsVcidTable : List ℕ → List ℕ → Type 0
+IsVcidTable ids table = (vcid : ℕ) → position (λ v. v == vcid) ids ≡ place_told (get_or table vcid 64)

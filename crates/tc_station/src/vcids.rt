@@ -19,13 +19,13 @@ pub(crate) struct Vcids {
 
 impl Model for Vcids {
     ghost use Rattle.std.specs.Prelude.{ℕ, List};
-    ghost use Rattle.tc_station.specs.VcidTable.{IsTableOf};
+    ghost use Rattle.tc_station.specs.VcidTable.{IsVcidTable};
 
     ghost Value = { List ℕ };
 
     ghost view = { λ v. v.ids.items };
 
-    ghost invariant = { λ v. IsTableOf v.ids.items v.table };
+    ghost invariant = { λ v. IsVcidTable v.ids.items v.table };
 }
 
 impl Vcids {
