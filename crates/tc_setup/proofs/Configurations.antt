@@ -1,17 +1,16 @@
 -- Looking for a channel of a configuration, and setting one up besides.
-use Rattle.std.proofs.Common.{◌≡◌, ◌≢◌, ℕ, ◌<◌, ◌≤◌, Bool, true, false, eqb, Option, Some, None, List, [], ◌∷◌, ◌++◌, length, map, get_or, sym, ◌∙◌, subst, arith}
-use Rattle.std.proofs.lemmas.Bool.{eqb-true}
+use Rattle.std.proofs.Common.{◌≡◌, ◌≢◌, ℕ, ◌<◌, ◌≤◌, Bool, true, false, true≢false, eqb, Option, Some, None, List, [], ◌∷◌, ◌++◌, length, map, get_or, set, refl, sym, ap, ◌∙◌, subst, arith}
+use Rattle.std.proofs.lemmas.Bool.{eqb-true, eq-eqb}
 use Rattle.std.proofs.lemmas.Bool.Decides.{Decides-eqb}
-use Rattle.std.proofs.lemmas.List.{get_or-map, get_or_default, length-map}
-use Rattle.std.proofs.lemmas.List.Elements.{All-push}
+use Rattle.std.proofs.lemmas.List.{get_or-map, get_or-set_other, get_or-set_same, get_or_default, length-map, length-set}
+use Rattle.std.proofs.lemmas.List.Elements.{All-push, All-set}
 use Rattle.std.proofs.lemmas.List.Folds.{Any-from_list_any}
 use Rattle.std.proofs.lemmas.List.Quantifiers.{all_pairs_push}
 use Rattle.std.proofs.lemmas.Map.Made.{IsDistinct-from_AllPairs}
 use Rattle.std.proofs.lemmas.Map.Steps.{length-le_from_distinct_below}
 use Rattle.std.proofs.lemmas.Option.{get_or_from_slice_get, slice_get_within}
-use Rattle.std.specs.Bool.{if◌then◌else◌}
 use Rattle.std.specs.List.{list_any}
-use Rattle.std.specs.Prelude.{All, AllPairs, is_some, MatchOption}
+use Rattle.std.specs.Prelude.{AllPairs, is_some, MatchOption}
 use Rattle.tc_channel.specs.declared.settings.Settings.{Settings}
 use Rattle.tc_channel.specs.Settings.{IsAllowed}
 use Rattle.tc_setup.specs.Configuration.{HasSettings, IsAt, IsConfiguration}
@@ -63,8 +62,27 @@ one-more list s c new allowed = record {
   allowed = All-push IsAllowed list s c.allowed allowed;
 }
 
--- as before where the memory for one channel more is refused
-pub one-more-if : (more : Bool) (list : List Settings) (s : Settings) → IsConfiguration list → ¬ HasSettings list s.vcid → IsAllowed s
-    → IsConfiguration (if more then list ++ s ∷ [] else list)
-one-more-if true list s c new allowed = one-more list s c new allowed
-one-more-if false list s c new allowed = c
+-- a place that was found is one of the list
+pub within : (list : List Settings) (vcid place : ℕ) → (s : Settings) × IsAt list vcid place s → place < length list
+within list vcid place (s, (at, v)) = slice_get_within list place s at
+
+-- other settings with the same id
+pub other-settings : (list : List Settings) (place : ℕ) (old new : Settings) → IsConfiguration list → place < length list → old ≡ get_or list place old → new.vcid ≡ old.vcid → IsAllowed new
+    → IsConfiguration (set list place new)
+other-settings list place old new c lt is same allowed = record {
+  distinct = λ i j d before last. (
+      let far : j < length list = omega (arith, last, length-set list place new) in
+      λ e. c.distinct i j d before far (sym (id-at i d (omega (arith, before, far))) ∙ (e ∙ id-at j d far)));
+  allowed = All-set IsAllowed list place new allowed c.allowed;
+}
+  where
+    by : (k : ℕ) (d : Settings) → (b : Bool) → eqb k place ≡ b → (get_or (set list place new) k d).vcid ≡ (get_or list k d).vcid
+    by k d true here =
+        let e = eqb-true k place here in
+        let there : (get_or (set list place new) place d).vcid ≡ (get_or list place d).vcid =
+        ap (λ (s : Settings). s.vcid) (get_or-set_same list place new d lt) ∙ (same ∙ ap (λ (s : Settings). s.vcid) (is ∙ get_or_default list place old d lt)) in
+        subst (λ (n : ℕ). (get_or (set list place new) n d).vcid ≡ (get_or list n d).vcid) (sym e) there
+    by k d false other = ap (λ (s : Settings). s.vcid) (get_or-set_other list place k new d (λ e. true≢false (sym (eq-eqb k place e) ∙ other)))
+
+    id-at : (k : ℕ) (d : Settings) → k < length list → (get_or (set list place new) k d).vcid ≡ (get_or list k d).vcid
+    id-at k d within = by k d (eqb k place) refl

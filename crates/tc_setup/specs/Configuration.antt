@@ -1,5 +1,7 @@
 -- The settings of the channels that a script has set up, in the order of their lines.
-use Rattle.std.specs.Prelude.{◌≡◌, ◌≢◌, ℕ, List, [], ◌∷◌, ◌++◌, All, AllPairs, Any, map, slice_get, slice_set, Some}
+use Rattle.std.specs.Prelude.{◌≡◌, ◌≢◌, ◌==◌, ◌≤◌, ℕ, Bool, false, List, [], ◌∷◌, ◌++◌, All, AllPairs, Any, get_or, length, map, slice_get, slice_set, Some}
+use Rattle.std.specs.List.{AllZip, list_any}
+use Rattle.tc_channel.specs.declared.settings.QueueSetting.{QueueSetting}
 use Rattle.tc_channel.specs.declared.settings.Settings.{Settings}
 use Rattle.tc_channel.specs.Settings.{IsAllowed}
 use Rattle.tc_setup.specs.declared.instruction.Addition.{Addition}
@@ -35,3 +37,12 @@ AddsChannel list s new = ¬ HasSettings list s.vcid × IsAllowed s × (new ≡ l
 abbrev pub AddsToChannel : List Settings → ℕ → Addition → List Settings → Type 0
 AddsToChannel list vcid addition new =
     (place : ℕ) × (s : Settings) × IsAt list vcid place s × IsAllowed (with_addition s addition) × (new ≡ slice_set list place (with_addition s addition))
+
+-- for each APID, whether a queue has it
+pub record AreApidsOf (queues : List QueueSetting) (apids : List Bool) : Type 0 where
+  pub size : length apids ≡ 2047
+  pub told : (apid : ℕ) → apid ≤ 2046 → get_or apids apid false ≡ list_any (λ (q : QueueSetting). q.apid == apid) queues
+
+-- the same for the queues of each channel
+abbrev pub AreApidsOfEach : List Settings → List (List Bool) → Type 0
+AreApidsOfEach = AllZip (λ (s : Settings) (apids : List Bool). AreApidsOf s.queues apids)

@@ -3,9 +3,10 @@
 ghost use Rattle.std.specs.Prelude.{◌≡◌, ◌↔◌, ◌≤◌, ◌⊎◌, Any, IsTrue, [], length, IfOk, IfErr, OnOk, OnErr, MatchOption, MatchResult};
 ghost use Rattle.tc_channel.specs.Settings.{IsAllowed, IsFault};
 ghost use Rattle.tc_channel.specs.declared.settings.Settings.{Settings};
-ghost use Rattle.tc_setup.specs.Configuration.{AddsChannel, AddsToChannel, IsConfiguration, HasSettings, IsAt, vcids_of, with_addition};
+ghost use Rattle.tc_setup.specs.Configuration.{AddsChannel, AddsToChannel, AreApidsOf, IsConfiguration, HasSettings, IsAt, vcids_of, with_addition};
 ghost use Rattle.tc_setup.specs.Phase.{IsChannelRefused, IsAdditionRefused, IsSettingsReason};
 
+use crate::apids::{Apids, apids_of};
 use crate::copying::copy_each;
 use crate::growing::append;
 use crate::instruction::Addition;
@@ -19,18 +20,20 @@ use tc_text::Reason;
 #[derive(Drop)]
 pub struct Configuration {
     channels: Vec<Settings>,
+    // The APIDs of each channel's queues, so that a queue line need not go through the lines before it.
+    apids: Vec<Apids>,
 }
 
 impl Model for Configuration {
     ghost use Rattle.std.specs.Prelude.{List};
     ghost use Rattle.tc_channel.specs.declared.settings.Settings.{Settings};
-    ghost use Rattle.tc_setup.specs.Configuration.{IsConfiguration};
+    ghost use Rattle.tc_setup.specs.Configuration.{AreApidsOfEach, IsConfiguration};
 
     ghost Value = { List Settings };
 
     ghost view = { λ o. o.channels.items };
 
-    ghost invariant = { λ o. IsConfiguration o.channels.items };
+    ghost invariant = { λ o. IsConfiguration o.channels.items × AreApidsOfEach o.channels.items o.apids.items };
 }
 
 impl Configuration {
@@ -40,6 +43,7 @@ impl Configuration {
     {
         Configuration {
             channels: Vec::new(alloc),
+            apids: Vec::new(alloc),
         }
     }
 
@@ -53,8 +57,15 @@ impl Configuration {
             return Err(Reason::DoubleChannel);
         }
         check(&settings)?;
+        let apids = apids_of(&settings.queues);
+        if self.apids.reserve(1).is_err() {
+            return Err(Reason::NoMemory);
+        }
         match self.channels.push(settings) {
-            Ok(()) => Ok(()),
+            Ok(()) => {
+                self.apids.push_reserved(apids);
+                Ok(())
+            }
             Err(_) => Err(Reason::NoMemory),
         }
     }
@@ -73,8 +84,8 @@ impl Configuration {
         let Some(place) = place_of(&self.channels, vcid) else {
             return Err(Reason::UnknownChannel);
         };
-        add_checked(alloc, &mut self.channels[place], addition)?;
-        Ok(())
+        let settings = &mut self.channels[place];
+        add_checked(alloc, settings, &mut self.apids[place], addition)
     }
 
     /// The ids of the channels, in their order.
@@ -97,7 +108,10 @@ impl Configuration {
         ensures reason { IfErr result (λ reason. reason ≡ Reason.NoMemory) }
     {
         let channels = copy_each(alloc, &self.channels)?;
-        Ok(Configuration { channels })
+        let Ok(apids) = Vec::from_slice(alloc, self.apids.as_slice()) else {
+            return Err(Reason::NoMemory);
+        };
+        Ok(Configuration { channels, apids })
     }
 
     /// The settings of the channels, at most one for each id of six bits.
@@ -113,7 +127,7 @@ impl Configuration {
         ensures channels { result.items ≡ self }
         ensures configuration { IsConfiguration result.items }
     {
-        let Configuration { channels } = self;
+        let Configuration { channels, apids: _ } = self;
         channels
     }
 }
@@ -134,18 +148,27 @@ fn check(settings: &Settings) -> Result<(), Reason>
 }
 
 // One queue or one chosen MAP more, where a channel can have it.
-fn add_checked(alloc: Global, settings: &mut Settings, addition: Addition) -> Result<(), Reason>
-    requires { IsAllowed settings.old }
+fn add_checked(
+    alloc: Global,
+    settings: &mut Settings,
+    apids: &mut Apids,
+    addition: Addition,
+) -> Result<(), Reason>
+    requires allowed { IsAllowed settings.old }
+    requires apids { AreApidsOf settings.old.queues apids.old }
     ensures done { OnOk result (settings.new ≡ with_addition settings.old addition) }
-    ensures allowed { OnOk result (IsAllowed settings.new) }
+    ensures allowed { IsAllowed settings.new }
     ensures vcid { settings.new.vcid ≡ settings.old.vcid }
+    ensures apids { AreApidsOf settings.new.queues apids.new }
     ensures reason { IfErr result (λ reason. (reason ≡ Reason.NoMemory) ⊎ IsSettingsReason (with_addition settings.old addition) reason) }
     ensures refused { OnErr result (settings.new ≡ settings.old) }
 {
     match addition {
         Addition::Queue(queue) => {
-            check_queue(settings, queue)?;
-            append(alloc, &mut settings.queues, queue)
+            check_queue(apids, queue)?;
+            append(alloc, &mut settings.queues, queue)?;
+            apids[usize::from(queue.apid)] = true;
+            Ok(())
         }
         Addition::Map(map) => {
             check_map(settings, map)?;
@@ -154,15 +177,15 @@ fn add_checked(alloc: Global, settings: &mut Settings, addition: Addition) -> Re
     }
 }
 
-// Whether a channel can have this queue besides. The settings before it are allowed, so only the queue is looked at.
-fn check_queue(settings: &Settings, queue: QueueSetting) -> Result<(), SettingsFault>
-    requires { IsAllowed settings.now }
-    ensures { MatchResult result (λ _. IsAllowed (with_addition settings.now (Addition.Queue queue))) (IsFault (with_addition settings.now (Addition.Queue queue))) }
+// Whether a channel whose queues have these APIDs can have this queue besides. Its settings before it are allowed, so only the queue
+// is looked at.
+fn check_queue(apids: &Apids, queue: QueueSetting) -> Result<(), SettingsFault>
+    ensures { (s : Settings) → IsAllowed s → AreApidsOf s.queues apids.now → MatchResult result (λ _. IsAllowed (with_addition s (Addition.Queue queue))) (IsFault (with_addition s (Addition.Queue queue))) }
 {
     if queue.apid > 2046 {
         return Err(SettingsFault::BadApid);
     }
-    if has_apid(&settings.queues, queue.apid) {
+    if apids[usize::from(queue.apid)] {
         return Err(SettingsFault::DoubleApid);
     }
     if queue.capacity < 1 || queue.capacity > 256 {
@@ -189,12 +212,6 @@ fn check_map(settings: &Settings, map: MapSetting) -> Result<(), SettingsFault>
         return Err(SettingsFault::PlainMap);
     }
     Ok(())
-}
-
-fn has_apid(queues: &[QueueSetting], apid: u16) -> bool
-    ensures { IsTrue result ↔ Any (λ q. q.apid ≡ apid) queues.now }
-{
-    queues.iter().any(|queue| queue.apid == apid)
 }
 
 fn has_map(maps: &[MapSetting], map: u8) -> bool

@@ -4,6 +4,7 @@
 //! no two have one id, so that a station can have them as soon as there are some.
 #![tactic(auto)]
 
+mod apids;
 mod configuration;
 mod copying;
 mod growing;

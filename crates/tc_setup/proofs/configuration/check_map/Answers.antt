@@ -1,4 +1,4 @@
-use Rattle.std.proofs.Common.{◌<◌, ◌≤◌, refl, arith}
+use Rattle.std.proofs.Common.{refl, arith}
 use Rattle.tc_setup.proofs.Additions.{bad-map, double-map, bad-units, plain-map, map-allowed}
 use Rattle.tc_setup.proofs.configuration.check_map.Goals.{then-map-lt1-via-then-map-lt1, then-map-lt1-via-else-map-lt1+then-map-gt256}
 use Rattle.tc_setup.proofs.configuration.check_map.Goals as goal

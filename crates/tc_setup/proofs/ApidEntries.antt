@@ -1,0 +1,106 @@
+-- The APIDs of a channel's queues: of no queue, of one queue more, and what an entry says; and those of all channels.
+use Rattle.std.proofs.Common.{◌≡◌, ℕ, zero, suc, ◌<◌, ◌≤◌, Bool, true, false, true≢false, ◌||◌, eqb, List, [], ◌∷◌, ◌++◌, length, get_or, set, replicate, refl, sym, ◌∙◌, ap, subst, arith}
+use Rattle.std.proofs.lemmas.Bool.{eqb-true, eq-eqb}
+use Rattle.std.proofs.lemmas.List.{get_or-set_same, get_or-set_other, length-replicate, length-set}
+use Rattle.std.proofs.lemmas.List.Folds.{Any-from_list_any, list_any-from_Any, list_any-append}
+use Rattle.std.specs.List.{AllZip, list_any}
+use Rattle.std.specs.Prelude.{Any}
+use Rattle.tc_channel.specs.declared.settings.QueueSetting.{QueueSetting}
+use Rattle.tc_channel.specs.declared.settings.Settings.{Settings}
+use Rattle.tc_setup.specs.Configuration.{AreApidsOf, AreApidsOfEach}
+
+all-alike : (n k : ℕ) → get_or (replicate n false) k false ≡ false
+all-alike zero zero = refl
+all-alike zero (suc k) = refl
+all-alike (suc n) zero = refl
+all-alike (suc n) (suc k) = all-alike n k
+
+pub no-queue : (apids : List Bool) → apids ≡ replicate 2047 false → AreApidsOf [] apids
+no-queue apids is = record {
+  size = ap (length {A = Bool}) is ∙ length-replicate {A = Bool} 2047 false;
+  told = λ apid small. ap (λ (t : List Bool). get_or t apid false) is ∙ all-alike 2047 apid;
+}
+
+pub one-more-queue : (queues : List QueueSetting) (q : QueueSetting) (apids : List Bool) → q.apid ≤ 2046 → AreApidsOf queues apids → AreApidsOf (queues ++ q ∷ []) (set apids q.apid true)
+one-more-queue queues q apids fits a = record {
+  size = length-set apids q.apid true ∙ a.size;
+  told = λ apid small. sym (list_any-append (has apid) queues (q ∷ []) ∙ by apid small (eqb q.apid apid) refl);
+}
+  where
+    has : ℕ → QueueSetting → Bool
+    has apid x = eqb x.apid apid
+
+    or-true : (b : Bool) → (b || true) ≡ true
+    or-true true = refl
+    or-true false = refl
+
+    or-false : (b : Bool) → (b || false) ≡ b
+    or-false true = refl
+    or-false false = refl
+
+    by : (apid : ℕ) → apid ≤ 2046 → (b : Bool) → eqb q.apid apid ≡ b → (list_any (has apid) queues || list_any (has apid) (q ∷ [])) ≡ get_or (set apids q.apid true) apid false
+    by apid small true is =
+        let same = eqb-true q.apid apid is in
+        let one : list_any (has apid) (q ∷ []) ≡ true = rw is refl in
+        ap (λ b. list_any (has apid) queues || b) one ∙ or-true (list_any (has apid) queues)
+        ∙ sym (subst (λ k. get_or (set apids q.apid true) k false ≡ true) same (get_or-set_same apids q.apid true false (let s = a.size in omega (arith, s, fits))))
+    by apid small false is =
+        let none : list_any (has apid) (q ∷ []) ≡ false = rw is refl in
+        ap (λ b. list_any (has apid) queues || b) none ∙ or-false (list_any (has apid) queues)
+        ∙ sym (a.told apid small)
+        ∙ sym (get_or-set_other apids q.apid apid true false (λ same. true≢false (sym (eq-eqb q.apid apid (sym same)) ∙ is)))
+
+-- what an entry says
+pub there : (queues : List QueueSetting) (apids : List Bool) (apid : ℕ) → apid ≤ 2046 → AreApidsOf queues apids → get_or apids apid false ≡ true → Any (λ (q : QueueSetting). q.apid ≡ apid) queues
+there queues apids apid small a is =
+    let (i, d, lt, e, same) = Any-from_list_any (λ (q : QueueSetting). eqb q.apid apid) queues (sym (a.told apid small) ∙ is) in
+    (i, d, lt, e, eqb-true d.apid apid same)
+
+pub not-there : (queues : List QueueSetting) (apids : List Bool) (apid : ℕ) → apid ≤ 2046 → AreApidsOf queues apids → get_or apids apid false ≡ false → ¬ Any (λ (q : QueueSetting). q.apid ≡ apid) queues
+not-there queues apids apid small a is (i, d, lt, e, same) =
+    true≢false (sym (list_any-from_Any (λ (q : QueueSetting). eqb q.apid apid) queues (i, d, lt, e, eq-eqb d.apid apid same)) ∙ (sym (a.told apid small) ∙ is))
+
+-- two lists of which each pair is related: one pair more, one pair in place of another, and the pair at a place
+module _ {X Y : Type 0} (R : X → Y → Type 0) where
+  pub push-pair : (xs : List X) (ys : List Y) (x : X) (y : Y) → AllZip R xs ys → R x y → AllZip R (xs ++ x ∷ []) (ys ++ y ∷ [])
+  push-pair [] [] x y all one = (one, all)
+  push-pair [] (b ∷ ys) x y all one = absurd all
+  push-pair (a ∷ xs) [] x y all one = absurd all
+  push-pair (a ∷ xs) (b ∷ ys) x y all one = (all.0, push-pair xs ys x y all.1 one)
+
+  pub set-pair : (xs : List X) (ys : List Y) (i : ℕ) (x : X) (y : Y) → AllZip R xs ys → R x y → AllZip R (set xs i x) (set ys i y)
+  set-pair [] [] i x y all one = all
+  set-pair [] (b ∷ ys) i x y all one = absurd all
+  set-pair (a ∷ xs) [] i x y all one = absurd all
+  set-pair (a ∷ xs) (b ∷ ys) zero x y all one = (one, all.1)
+  set-pair (a ∷ xs) (b ∷ ys) (suc i) x y all one = (all.0, set-pair xs ys i x y all.1 one)
+
+  pub pair-at : (xs : List X) (ys : List Y) (i : ℕ) (d : X) (e : Y) → AllZip R xs ys → i < length xs → R (get_or xs i d) (get_or ys i e)
+  pair-at [] ys i d e all lt = absurd (omega (arith, lt))
+  pair-at (a ∷ xs) [] i d e all lt = absurd all
+  pair-at (a ∷ xs) (b ∷ ys) zero d e all lt = all.0
+  pair-at (a ∷ xs) (b ∷ ys) (suc i) d e all lt = pair-at xs ys i d e all.1 (omega (arith, lt))
+
+  pub as-many : (xs : List X) (ys : List Y) → AllZip R xs ys → length xs ≡ length ys
+  as-many [] [] all = refl
+  as-many [] (b ∷ ys) all = absurd all
+  as-many (a ∷ xs) [] all = absurd all
+  as-many (a ∷ xs) (b ∷ ys) all = ap suc (as-many xs ys all.1)
+
+-- the APIDs of each channel of a configuration
+module _ (list : List Settings) (tables : List (List Bool)) (each : AreApidsOfEach list tables) where
+  abbrev of-one : Settings → List Bool → Type 0
+  of-one s apids = AreApidsOf s.queues apids
+
+  pub tables-as-channels : length list ≡ length tables
+  tables-as-channels = as-many of-one list tables each
+
+  pub table-at : (place : ℕ) (s : Settings) (apids : List Bool) → place < length list → s ≡ get_or list place s → apids ≡ get_or tables place apids → AreApidsOf s.queues apids
+  table-at place s apids lt is told =
+      subst (λ (x : Settings). AreApidsOf x.queues apids) (sym is) (subst (AreApidsOf (get_or list place s).queues) (sym told) (pair-at of-one list tables place s apids each lt))
+
+  pub one-more-table : (s : Settings) (apids : List Bool) → AreApidsOf s.queues apids → AreApidsOfEach (list ++ s ∷ []) (tables ++ apids ∷ [])
+  one-more-table s apids = push-pair of-one list tables s apids each
+
+  pub other-table : (place : ℕ) (s : Settings) (apids : List Bool) → AreApidsOf s.queues apids → AreApidsOfEach (set list place s) (set tables place apids)
+  other-table place s apids = set-pair of-one list tables place s apids each

@@ -1,0 +1,7 @@
+use Rattle.std.proofs.Common.{take}
+use Rattle.tc_setup.specs.Configuration.{AreApidsOf}
+use Rattle.tc_setup.proofs.apids.apids_of.Given as goal
+
+-- the APIDs of the queues so far
+abbrev pub invariant-loop-queue : goal.invariant-loop-queue
+invariant-loop-queue l = AreApidsOf (take l.queue-index l.queues) l.apids
