@@ -1,6 +1,5 @@
 -- Each field of a stream has its share: by the run that the fields before it left, field by field.
 use Rattle.std.proofs.Common.{◌≡◌, ℕ, ◌≤◌, ◌⊎◌, Bool, true, false, leb, eqb, ◌&&◌, List, [], ◌∷◌, ◌++◌, length, Option, Some, None, refl, sym, ap, subst, ◌∙◌, inl, inr, append_assoc, arith}
-use Rattle.std.specs.List.{AllByRecursion}
 use Rattle.std.proofs.lemmas.Bool.Decides.{nat_tests}
 use Rattle.std.proofs.lemmas.Grind.{flat_map-append}
 use Rattle.std.proofs.lemmas.List.{append-nil, length-append}
@@ -15,6 +14,7 @@ use Rattle.tc_packet.proofs.OpenRuns.{open_run-push}
 use Rattle.tc_channel.specs.Through.{all_made, unit_made}
 use Rattle.tc_channel.specs.Account.{Share, AccountFor, AreAllSegments, AreShares, BeginUnit, IsRun, fields_in, open_in, unit_on, units_in}
 use Rattle.tc_channel.specs.Account.Share.{Ended, Open, OverLimit, Broken, WithoutRun}
+use Rattle.tc_channel.proofs.Lists.{all-append}
 use Rattle.tc_channel.proofs.Streams.{same_map, stream-same, stream-other}
 
 -- the fields of the run that is open so far, if one is
@@ -77,10 +77,7 @@ joined-push fs f = flat_map-append body_of fs (f ∷ []) ∙ ap (λ (x : List �
 -- one segment more behind a run
 run-push : (fs : List (List ℕ)) (f : List ℕ) → IsRun fs → IsPart Continuing f → IsRun (fs ++ f ∷ [])
 run-push [] f run part = absurd run
-run-push (first ∷ after) f run part = (run.0, all after run.1) where
-  all : (after : List (List ℕ)) → AllByRecursion (IsPart Continuing) after → AllByRecursion (IsPart Continuing) (after ++ f ∷ [])
-  all [] h = (part, tt)
-  all (g ∷ gs) h = (h.0, all gs h.1)
+run-push (first ∷ after) f run part = (run.0, all-append (IsPart Continuing) after (f ∷ []) run.1 (part, tt))
 
 -- a stream of which nothing is left
 at-end : (limit : ℕ) (before : List (List ℕ)) (so_far : Run) → open_run before ≡ octets_so_far so_far → IsSoFar so_far → Parted limit before [] so_far

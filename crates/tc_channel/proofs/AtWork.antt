@@ -5,12 +5,11 @@ use Rattle.tc_channel.proofs.Names.{HoldsWithin, at_most, run_left, run_at, Sett
 use Rattle.tc_rooms.specs.Runs.{Store, open_runs, limit_at}
 use Rattle.tc_channel.specs.HeldQueues.{HeldQueue, queue_for, oldest_for, popped, shorter}
 use Rattle.tc_channel.specs.Keyed.{Keyed, rings_in, room_sizes, AreSettled}
-use Rattle.tc_channel.specs.Workings.{inside_of, AreEnough, HaveLimits, Parts, HoldsInRooms, AreWorkings}
+use Rattle.tc_channel.specs.Workings.{inside_of, HaveLimits, Parts, HoldsInRooms, AreWorkings}
 use Rattle.tc_packet.specs.Reassembly.{place_of}
 use Rattle.circular_buffer.specs.Buffer.{buffer}
 use Rattle.tc_packet.specs.declared.Service.TheVariants.{Ad}
 use Rattle.tc_channel.specs.ChannelState.{no_limits}
-use Rattle.tc_channel.proofs.Sizes.{enough-after, limits-after, small-after}
 use Rattle.tc_channel.proofs.Takes.{oldest, packets-wait, units-wait, take-keeps, take-unit-keeps}
 
 nothing-left : (segmented : Bool) → run_left segmented [] ≡ None
@@ -53,35 +52,26 @@ packet-is apid k = ap oldest (packets-wait apid k.holds)
 pub unit-is : {limits : ℕ → ℕ} {s : Settings} {journal : List Event} {parts : Parts} (map_id : ℕ) → HoldsInRooms limits s journal parts → unit_reply_within limits s journal map_id ≡ oldest_for map_id (rings_in parts.units)
 unit-is map_id k = ap oldest (units-wait map_id k.holds)
 
--- the packet queues were changed, with rooms as large as before
-with-queues : {limits : ℕ → ℕ} {s : Settings} {journal : List Event} {parts : Parts} (next : List Event) (later : List Keyed) → HoldsInRooms limits s journal parts → HoldsWithin limits s next (inside_of (record parts { queues = later }))
-    → room_sizes later ≡ room_sizes parts.queues → (AreSettled parts.queues → AreSettled later) → HoldsInRooms limits s next (record parts { queues = later })
-with-queues {parts = parts} next later k holds same still = record {
+-- what a step leaves, where rooms and limits are as before and nothing is laid that doesn't count
+pub holds-on : {limits : ℕ → ℕ} {s : Settings} {journal : List Event} {parts : Parts} (next : List Event) (later : Parts) → HoldsInRooms limits s journal parts → HoldsWithin limits s next (inside_of later)
+    → later.fields.size ≡ parts.fields.size → later.fields.laid ≡ [] → ((place : ℕ) → limit_at later.store place ≡ limit_at parts.store place) → later.store.segmented ≡ parts.store.segmented
+    → room_sizes later.queues ≡ room_sizes parts.queues → room_sizes later.units ≡ room_sizes parts.units → AreSettled later.queues → AreSettled later.units → HoldsInRooms limits s next later
+holds-on next later k holds size fields limits_are segmented sizes unit_sizes settled units_settled = record {
   holds = holds;
-  field_size = k.field_size;
-  fields_settled = k.fields_settled;
-  settled = still k.settled;
-  units_settled = k.units_settled;
-  limits_are = k.limits_are;
-  small = k.small;
-  sizes = subst (AreEnough parts.store) (sym same) k.sizes;
-  unit_sizes = k.unit_sizes;
+  field_size = size ∙ k.field_size;
+  fields_settled = fields;
+  settled = settled;
+  units_settled = units_settled;
+  limits_are = λ service map_id inside. limits_are _ ∙ k.limits_are service map_id inside;
+  small = λ place inside. rw (limits_are place) (k.small place inside);
+  sizes = λ place inside. rw (sizes, limits_are place, segmented) (k.sizes place inside);
+  unit_sizes = λ place inside. rw (unit_sizes, limits_are place, segmented) (k.unit_sizes place inside);
 }
 
--- the unit queues were changed, with rooms as large as before
-with-units : {limits : ℕ → ℕ} {s : Settings} {journal : List Event} {parts : Parts} (next : List Event) (later : List Keyed) → HoldsInRooms limits s journal parts → HoldsWithin limits s next (inside_of (record parts { units = later }))
-    → room_sizes later ≡ room_sizes parts.units → (AreSettled parts.units → AreSettled later) → HoldsInRooms limits s next (record parts { units = later })
-with-units {parts = parts} next later k holds same still = record {
-  holds = holds;
-  field_size = k.field_size;
-  fields_settled = k.fields_settled;
-  settled = k.settled;
-  units_settled = still k.units_settled;
-  limits_are = k.limits_are;
-  small = k.small;
-  sizes = k.sizes;
-  unit_sizes = subst (AreEnough parts.store) (sym same) k.unit_sizes;
-}
+-- the queues were changed, with rooms as large as before
+with-queues : {limits : ℕ → ℕ} {s : Settings} {journal : List Event} {parts : Parts} (next : List Event) (queues units : List Keyed) → HoldsInRooms limits s journal parts → HoldsWithin limits s next (inside_of (record parts { queues = queues; units = units }))
+    → room_sizes queues ≡ room_sizes parts.queues → room_sizes units ≡ room_sizes parts.units → AreSettled queues → AreSettled units → HoldsInRooms limits s next (record parts { queues = queues; units = units })
+with-queues {parts = parts} next queues units k holds = holds-on next (record parts { queues = queues; units = units }) k holds refl k.fields_settled (λ _. refl) refl
 
 -- the oldest packet was taken, and its room is free
 pub packet-taken : {limits : ℕ → ℕ} {s : Settings} {journal : List Event} {parts : Parts} (later : List Keyed) (apid : ℕ)
@@ -89,7 +79,7 @@ pub packet-taken : {limits : ℕ → ℕ} {s : Settings} {journal : List Event} 
     → room_sizes later ≡ room_sizes parts.queues → (AreSettled parts.queues → AreSettled later) → HoldsInRooms limits s (journal ++ Take apid ∷ []) (record parts { queues = later })
 packet-taken {journal = journal} {parts = parts} later apid k has is same still =
     let item = some-item (oldest_for apid (rings_in parts.queues)) has in
-    with-queues (journal ++ Take apid ∷ []) later k (take-keeps (rings_in later) apid item.0 k.holds item.1 is) same still
+    with-queues (journal ++ Take apid ∷ []) later parts.units k (take-keeps (rings_in later) apid item.0 k.holds item.1 is) same refl (still k.settled) k.units_settled
 
 -- the oldest unit was taken
 pub unit-taken : {limits : ℕ → ℕ} {s : Settings} {journal : List Event} {parts : Parts} (later : List Keyed) (map_id : ℕ)
@@ -97,7 +87,7 @@ pub unit-taken : {limits : ℕ → ℕ} {s : Settings} {journal : List Event} {p
     → room_sizes later ≡ room_sizes parts.units → (AreSettled parts.units → AreSettled later) → HoldsInRooms limits s (journal ++ TakeUnit map_id ∷ []) (record parts { units = later })
 unit-taken {journal = journal} {parts = parts} later map_id k has is same still =
     let item = some-item (oldest_for map_id (rings_in parts.units)) has in
-    with-units (journal ++ TakeUnit map_id ∷ []) later k (take-unit-keeps (rings_in later) map_id item.0 k.holds item.1 is) same still
+    with-queues (journal ++ TakeUnit map_id ∷ []) parts.queues later k (take-unit-keeps (rings_in later) map_id item.0 k.holds item.1 is) refl same k.settled (still k.units_settled)
 
 -- where no item waits, none is dropped
 nothing-shorter : (w : HeldQueue) → slice_get w.ring.items 0 ≡ None → shorter w ≡ w
@@ -118,7 +108,7 @@ pub queues-work : (parts : Parts) (later : List Keyed) (apid : ℕ) → AreWorki
     → room_sizes later ≡ room_sizes parts.queues → (AreSettled parts.queues → AreSettled later) → AreWorkings (record parts { queues = later })
 queues-work parts later apid w is same still = by (oldest_for apid (rings_in parts.queues)) refl where
   by : (o : Option (List ℕ)) → oldest_for apid (rings_in parts.queues) ≡ o → AreWorkings (record parts { queues = later })
-  by None none = (w.0, w.1, w.2, with-queues w.2 later w.3 (rw (is ∙ popped-none apid (rings_in parts.queues) none) w.3.holds) same still)
+  by None none = (w.0, w.1, w.2, with-queues w.2 later parts.units w.3 (rw (is ∙ popped-none apid (rings_in parts.queues) none) w.3.holds) same refl (still w.3.settled) w.3.units_settled)
   by (Some item) some = (w.0, w.1, w.2 ++ Take apid ∷ [], packet-taken later apid w.3 (rw some refl) is same still)
 
 -- the same of the oldest unit
@@ -126,7 +116,7 @@ pub units-work : (parts : Parts) (later : List Keyed) (map_id : ℕ) → AreWork
     → room_sizes later ≡ room_sizes parts.units → (AreSettled parts.units → AreSettled later) → AreWorkings (record parts { units = later })
 units-work parts later map_id w is same still = by (oldest_for map_id (rings_in parts.units)) refl where
   by : (o : Option (List ℕ)) → oldest_for map_id (rings_in parts.units) ≡ o → AreWorkings (record parts { units = later })
-  by None none = (w.0, w.1, w.2, with-units w.2 later w.3 (rw (is ∙ popped-none map_id (rings_in parts.units) none) w.3.holds) same still)
+  by None none = (w.0, w.1, w.2, with-queues w.2 parts.queues later w.3 (rw (is ∙ popped-none map_id (rings_in parts.units) none) w.3.holds) refl same w.3.settled (still w.3.units_settled))
   by (Some item) some = (w.0, w.1, w.2 ++ TakeUnit map_id ∷ [], unit-taken later map_id w.3 (rw some refl) is same still)
 
 -- a call that was refused leaves them as they were but for what doesn't count
@@ -134,14 +124,5 @@ pub still-holds : {limits : ℕ → ℕ} {s : Settings} {journal : List Event} {
     → HoldsInRooms limits s journal parts → open_runs store ≡ open_runs parts.store → rings_in queues ≡ rings_in parts.queues → rings_in units ≡ rings_in parts.units
     → ((place : ℕ) → limit_at store place ≡ limit_at parts.store place) → store.segmented ≡ parts.store.segmented → room_sizes queues ≡ room_sizes parts.queues → room_sizes units ≡ room_sizes parts.units
     → AreSettled queues → AreSettled units → HoldsInRooms limits s journal (record parts { store = store; queues = queues; units = units })
-still-holds {limits} {s} {journal} {parts} store queues units k runs_are queues_are units_are limits_are segmented sizes unit_sizes settled units_settled = record {
-  holds = rw (runs_are, queues_are, units_are) k.holds;
-  field_size = k.field_size;
-  fields_settled = k.fields_settled;
-  settled = settled;
-  units_settled = units_settled;
-  limits_are = limits-after limits parts.store store limits_are k.limits_are;
-  small = small-after parts.store store limits_are k.small;
-  sizes = enough-after parts.store store (room_sizes parts.queues) (room_sizes queues) segmented limits_are sizes k.sizes;
-  unit_sizes = enough-after parts.store store (room_sizes parts.units) (room_sizes units) segmented limits_are unit_sizes k.unit_sizes;
-}
+still-holds {journal = journal} {parts = parts} store queues units k runs_are queues_are units_are limits_are segmented sizes unit_sizes settled units_settled =
+    holds-on journal (record parts { store = store; queues = queues; units = units }) k (rw (runs_are, queues_are, units_are) k.holds) refl k.fields_settled limits_are segmented sizes unit_sizes settled units_settled

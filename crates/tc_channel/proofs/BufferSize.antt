@@ -1,5 +1,5 @@
 -- The buffer never holds more data fields than its size.
-use Rattle.std.proofs.Common.{◌≡◌, ℕ, ◌+◌, ◌<◌, ◌≤◌, Bool, true, List, [], ◌∷◌, ◌++◌, length, drop, refl, arith}
+use Rattle.std.proofs.Common.{◌≡◌, ℕ, ◌<◌, ◌≤◌, Bool, true, List, [], ◌∷◌, ◌++◌, length, refl, arith}
 use Rattle.std.proofs.lemmas.Bool.Decides.{nat_tests}
 use Rattle.std.proofs.lemmas.List.{length-append, length-drop, length-map}
 use Rattle.tc_channel.proofs.Names.{Row, E1, E6, accepts, Settings, Event, Frame, Release, ChannelState, Accepted, buffer, has_room, step, row_of, kept}
@@ -13,14 +13,7 @@ Fits c b = length (buffer b) ≤ c.buffer
 one-more : (c : Settings) (b : ChannelState) (a : Accepted) → has_room c b ≡ true → Fits c (record b { accepted = b.accepted ++ a ∷ [] })
 one-more c b a room =
     let some : length (buffer b) < c.buffer = grind (arith, nat_tests) in
-    omega (
-      arith,
-      length-map (drop b.released b.accepted) (λ (x : Accepted). x.field),
-      length-drop b.released b.accepted,
-      length-append b.accepted (a ∷ []),
-      length-map (drop b.released (b.accepted ++ a ∷ [])) (λ (x : Accepted). x.field),
-      length-drop b.released (b.accepted ++ a ∷ []),
-    )
+    omega (arith, length-map {A = Accepted} {B = List ℕ}, length-drop {A = Accepted}, length-append {A = Accepted})
 
 kept-fits : (c : Settings) (b : ChannelState) (octets : List ℕ) (row : Row) (accepted : Bool) → row_of c b octets ≡ row → Fits c b → Fits c (kept row accepted octets b)
 unfolding passed_on
@@ -31,14 +24,7 @@ kept-fits c b octets _ _ e h = h
 step-fits : (c : Settings) (b : ChannelState) (e : Event) → Fits c b → Fits c (step c b e)
 unfolding passed_on
 step-fits c b (Frame octets) h = kept-fits c b octets (row_of c b octets) (accepts (row_of c b octets) b.report) refl h
-step-fits c b Release h =
-    omega (
-      arith,
-      length-map (drop b.released b.accepted) (λ (x : Accepted). x.field),
-      length-drop b.released b.accepted,
-      length-map (drop (b.released + 1) b.accepted) (λ (x : Accepted). x.field),
-      length-drop (b.released + 1) b.accepted,
-    )
+step-fits c b Release h = omega (arith, length-map {A = Accepted} {B = List ℕ}, length-drop {A = Accepted})
 step-fits c b _ h = h
 
 pub buffer-fits : (limits : ℕ → ℕ) (c : Settings) (journal : List Event) → Fits c (run_within limits c journal)

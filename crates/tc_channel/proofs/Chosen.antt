@@ -3,10 +3,10 @@ use Rattle.std.proofs.Common.{◌≡◌, ◌≢◌, ◌<◌, ℕ, cond, take, �
 use Rattle.std.specs.Prelude.{is_some, Any, ◌↔◌, IsTrue}
 use Rattle.std.proofs.lemmas.Bool.Decides.{eqb_tells, nat_tests}
 use Rattle.std.proofs.lemmas.Bool.{eq-eqb, ne_eqb}
-use Rattle.std.proofs.lemmas.List.{append-nil}
+use Rattle.std.proofs.lemmas.List.{append-nil, take_all}
 use Rattle.tc_channel.proofs.Names.{Service, Settings, MapSetting, Event, ChannelState, Queue, queue_of, map_of, is_for, is_of_map, is_chosen, packets_offered, units_offered, with_share, room_of, run_within, unit_of, IsOfChosenMap, has_room_for_one}
 use Rattle.tc_channel.specs.Run.{passed_on}
-use Rattle.tc_channel.proofs.Wholes.{take-one, take-nil}
+use Rattle.std.proofs.Math.Seq.{take-nil}
 use Rattle.tc_channel.proofs.StateQueues.{keys, unit-keys-stay}
 use Rattle.tc_channel.proofs.Shares.{shares-none}
 
@@ -53,8 +53,8 @@ chosen-by-settings limits c journal field = by-settings (map_of field) (run_with
 pub one-kept : (q : Queue) (unit : List ℕ) → with_share (is_of_map q.key) (unit ∷ []) q ≡ cond (has_room_for_one q) (record q { admitted = q.admitted ++ unit ∷ [] }) q
 one-kept q unit = rw (eq-eqb q.key q.key refl) (by (has_room_for_one q) refl) where
   by : (t : Bool) → has_room_for_one q ≡ t → record q { admitted = q.admitted ++ take (room_of q) (unit ∷ []) } ≡ cond t (record q { admitted = q.admitted ++ unit ∷ [] }) q
-  by true e = let some : 0 < room_of q = grind (arith, nat_tests) in rw (take-one (room_of q) unit some) refl
+  by true e = let some : 0 < room_of q = grind (arith, nat_tests) in rw (take_all (room_of q) (unit ∷ []) (omega arith)) refl
   by false e = let none : room_of q ≡ 0 = grind (arith, nat_tests) in rw (none, append-nil q.admitted) refl
 
 pub others-stay : (q : Queue) (map_id : ℕ) (unit : List ℕ) → q.key ≢ map_id → with_share (is_of_map map_id) (unit ∷ []) q ≡ q
-others-stay q map_id unit other = rw (ne_eqb q.key map_id other, take-nil (room_of q), append-nil q.admitted) refl
+others-stay q map_id unit other = rw (ne_eqb q.key map_id other, take-nil {A = List ℕ} (room_of q), append-nil q.admitted) refl

@@ -1,7 +1,8 @@
 -- Copies of items that are put into their queues one after the other, whatever the queues want.
-use Rattle.std.proofs.Common.{◌≡◌, ℕ, Bool, zero, suc, ◌+◌, ◌-◌, ◌<◌, ◌≤◌, List, [], ◌∷◌, ◌++◌, length, map, filter, take, get_or, refl, sym, ap, ◌∙◌, append_assoc, arith}
+use Rattle.std.proofs.Common.{◌≡◌, ℕ, Bool, zero, suc, ◌+◌, ◌-◌, ◌<◌, ◌≤◌, List, [], ◌∷◌, ◌++◌, length, map, filter, get_or, refl, sym, ap, ◌∙◌, append_assoc, arith}
 use Rattle.std.specs.List.{AllByRecursion, sum_by}
 use Rattle.std.proofs.Math.ListN.{set}
+use Rattle.std.proofs.Math.Seq.{take-nil}
 use Rattle.std.proofs.lemmas.List.{append-nil, length-append, length-map, length-take}
 use Rattle.std.proofs.lemmas.List.Sums.{sum_by-cons}
 use Rattle.circular_buffer.specs.Buffer.{buffer as ring_of}
@@ -87,7 +88,4 @@ shares-put wanted ps ws fit = put-copies wanted [] ps ws 0 refl fit
 -- no item, no copy
 pub copies-none : (wanted : ℕ → List ℕ → Bool) (place : ℕ) (ws : List HeldQueue) → copies_from wanted place [] ws ≡ []
 copies-none wanted place [] = refl
-copies-none wanted place (w ∷ ws) = rw (take-nil (w.ring.capacity - length w.ring.items), copies-none wanted (place + 1) ws) refl where
-  take-nil : (n : ℕ) → take {A = List ℕ} n [] ≡ []
-  take-nil zero = refl
-  take-nil (suc n) = refl
+copies-none wanted place (w ∷ ws) = rw (take-nil {A = List ℕ} (w.ring.capacity - length w.ring.items), copies-none wanted (place + 1) ws) refl

@@ -1,14 +1,14 @@
 -- Steps that are taken.
-use Rattle.std.proofs.Common.{◌≡◌, ℕ, zero, suc, ◌+◌, ◌*◌, ◌≤◌, List, [], ◌∷◌, ◌++◌, length, Option, Some, None, Bool, true, false, cond, refl, sym, ap, ◌∙◌, arith}
+use Rattle.std.proofs.Common.{◌≡◌, ℕ, suc, ◌+◌, ◌*◌, ◌≤◌, List, [], ◌∷◌, ◌++◌, length, Option, Some, None, Bool, true, false, cond, refl, sym, ap, ◌∙◌, arith}
 use Rattle.std.specs.Prelude.{nat_lt}
-use Rattle.std.proofs.Math.Nat.{suc-mul}
+use Rattle.std.proofs.Math.Nat.{suc-mul, mul-le-mul_left, mul-le-mul_right, le-add_right}
 use Rattle.std.proofs.lemmas.Bool.Decides.{nat_tests}
 use Rattle.std.specs.List.{AllByRecursion}
-use Rattle.std.proofs.lemmas.List.{length-append, length-map}
+use Rattle.std.proofs.lemmas.List.{length-append}
 use Rattle.tc_channel.proofs.Names.{IsPacket, joined, packets_of, rest_of}
 use Rattle.tc_rooms.specs.Runs.{IsAtMost}
 use Rattle.tc_channel.specs.HeldQueues.{keys_of}
-use Rattle.tc_channel.specs.Keyed.{Keyed, ring_in, rings_in}
+use Rattle.tc_channel.specs.Keyed.{Keyed, rings_in}
 use Rattle.tc_channel.specs.Places.{IsTabled}
 use Rattle.tc_packet.proofs.Cuts.{is-cut}
 use Rattle.tc_channel.specs.Steps.{looks, most_looks, most_steps, packet_count, pass_steps, unit_steps}
@@ -22,9 +22,6 @@ looks-same a b (t ∷ table) same = refl
 pub same-count : (a b : List Keyed) → keys_of (rings_in a) ≡ keys_of (rings_in b) → length a ≡ length b
 same-count a b same = sym (keys-length a) ∙ ap length same ∙ keys-length b
 
-pub rings-count : (a b : List Keyed) → rings_in a ≡ rings_in b → length a ≡ length b
-rings-count a b same = sym (length-map a ring_in) ∙ ap length same ∙ length-map b ring_in
-
 -- one more packet
 pub pass-step : (n k : ℕ) → pass_steps (suc n) k ≡ pass_steps n k + (k + 1)
 pass-step n k = suc-mul n (k + 1)
@@ -37,15 +34,7 @@ cut-last before total s rest more one tick here after rest_is so_far tick_is cos
 
 -- more looks, more steps
 pass-more : (n a b : ℕ) → a ≤ b → pass_steps n a ≤ pass_steps n b
-pass-more zero a b le = omega arith
-pass-more (suc n) a b le =
-    let l = pass-step n a in
-    let r = pass-step n b in
-    let rest = pass-more n a b le in
-    rw (l, r) (sum-more (pass_steps n a) (pass_steps n b) a b rest le)
-  where
-    sum-more : (x y a b : ℕ) → x ≤ y → a ≤ b → x + (a + 1) ≤ y + (b + 1)
-    sum-more x y a b le le' = omega arith
+pass-more n a b le = let more : a + 1 ≤ b + 1 = omega arith in mul-le-mul_left n more
 
 pub unit-more : (n a b m o : ℕ) → a ≤ b → m ≤ o → unit_steps n a m ≤ unit_steps n b o
 unit-more n a b m o le le' = sum-more (pass_steps n a) (pass_steps n b) a b m o (pass-more n a b le) le le' where
@@ -97,16 +86,7 @@ few-packets unit within =
 
 -- more packets, more steps
 packets-more : (n m k : ℕ) → n ≤ m → pass_steps n k ≤ pass_steps m k
-packets-more zero m k le = omega arith
-packets-more (suc n) zero k le = absurd (omega arith)
-packets-more (suc n) (suc m) k le =
-    let l = pass-step n k in
-    let r = pass-step m k in
-    let rest = packets-more n m k (omega arith) in
-    rw (l, r) (sum (pass_steps n k) (pass_steps m k) rest)
-  where
-    sum : (x y : ℕ) → x ≤ y → x + (k + 1) ≤ y + (k + 1)
-    sum x y le = omega arith
+packets-more n m k le = mul-le-mul_right (k + 1) le
 
 -- no unit takes more than the one with the most packets
 few-steps : (n q u : ℕ) → n ≤ 9363 → unit_steps n q u ≤ unit_steps 9363 q u
@@ -118,14 +98,6 @@ few-of : (o : Option (List ℕ)) → IsAtMost 65542 o → packet_count o ≤ 936
 few-of None within = omega arith
 few-of (Some unit) within = few-packets unit within
 
-pub at-most : (o : Option (List ℕ)) (queues units before after : ℕ) → IsAtMost 65542 o → after ≤ before + unit_steps (packet_count o) (most_looks queues) (most_looks units) → after ≤ before + most_steps queues units
-at-most o queues units before after within cost =
-    let few = few-steps (packet_count o) (most_looks queues) (most_looks units) (few-of o within) in
-    sum (unit_steps (packet_count o) (most_looks queues) (most_looks units)) (unit_steps 9363 (most_looks queues) (most_looks units)) few cost
-  where
-    sum : (x y : ℕ) → x ≤ y → after ≤ before + x → after ≤ before + (y + queues)
-    sum x y h c = omega arith
-
 pub at-most-err : (o : Option (List ℕ)) (queues units before after : ℕ) → IsAtMost 65542 o → after ≤ before + (unit_steps (packet_count o) (most_looks queues) (most_looks units) + queues) → after ≤ before + most_steps queues units
 at-most-err o queues units before after within cost =
     let few = few-steps (packet_count o) (most_looks queues) (most_looks units) (few-of o within) in
@@ -133,3 +105,6 @@ at-most-err o queues units before after within cost =
   where
     sum : (x y : ℕ) → x ≤ y → after ≤ before + (x + queues) → after ≤ before + (y + queues)
     sum x y h c = omega arith
+
+pub at-most : (o : Option (List ℕ)) (queues units before after : ℕ) → IsAtMost 65542 o → after ≤ before + unit_steps (packet_count o) (most_looks queues) (most_looks units) → after ≤ before + most_steps queues units
+at-most o queues units before after within cost = at-most-err o queues units before after within (cost-more before after _ _ (le-add_right _ queues) cost)

@@ -22,25 +22,14 @@ found-key key (p ∷ qs) q e = elim (eqb_tells p.key key) [
   | inr h ↦ found-key key qs q (let t = h.0 in cc)
 ]
 
-pub found-shared : (key : ℕ) (wanted : ℕ → List ℕ → Bool) (items : List (List ℕ)) (qs : List Queue) (new : Queue) → queue_of key (with_shares wanted items qs) ≡ Some new
-    → (old : Queue) × (queue_of key qs ≡ Some old) × (new ≡ with_share wanted items old)
-found-shared key wanted items [] new e = absurd cc
-found-shared key wanted items (p ∷ qs) new e = by (eqb p.key key) (found-shared key wanted items qs new) e where
-  by : (t : Bool) → (queue_of key (with_shares wanted items qs) ≡ Some new → (old : Queue) × (queue_of key qs ≡ Some old) × (new ≡ with_share wanted items old))
-      → cond t (Some (with_share wanted items p)) (queue_of key (with_shares wanted items qs)) ≡ Some new
-      → (old : Queue) × (cond t (Some p) (queue_of key qs) ≡ Some old) × (new ≡ with_share wanted items old)
+-- a queue that is found after each was changed, but for its key, was found before
+pub found-changed : (key : ℕ) (f : Queue → Queue) → ((q : Queue) → (f q).key ≡ q.key) → (qs : List Queue) (new : Queue) → queue_of key (map f qs) ≡ Some new → (old : Queue) × (queue_of key qs ≡ Some old) × (new ≡ f old)
+found-changed key f same [] new e = absurd cc
+found-changed key f same (p ∷ qs) new e = by (eqb p.key key) (found-changed key f same qs new) (subst (λ k. cond (eqb k key) (Some (f p)) (queue_of key (map f qs)) ≡ Some new) (same p) e) where
+  by : (t : Bool) → (queue_of key (map f qs) ≡ Some new → (old : Queue) × (queue_of key qs ≡ Some old) × (new ≡ f old))
+      → cond t (Some (f p)) (queue_of key (map f qs)) ≡ Some new → (old : Queue) × (cond t (Some p) (queue_of key qs) ≡ Some old) × (new ≡ f old)
   by true later e = (p, refl, cc)
   by false later e = later e
-
-pub found-taken : (key other : ℕ) (qs : List Queue) (new : Queue) → queue_of key (map (taken_from other) qs) ≡ Some new → (old : Queue) × (queue_of key qs ≡ Some old) × (new ≡ taken_from other old)
-found-taken key other [] new e = absurd cc
-found-taken key other (p ∷ qs) new e =
-    by (eqb p.key key) (found-taken key other qs new) (subst (λ k. cond (eqb k key) (Some (taken_from other p)) (queue_of key (map (taken_from other) qs)) ≡ Some new) (taken-key other p) e) where
-      by : (t : Bool) → (queue_of key (map (taken_from other) qs) ≡ Some new → (old : Queue) × (queue_of key qs ≡ Some old) × (new ≡ taken_from other old))
-          → cond t (Some (taken_from other p)) (queue_of key (map (taken_from other) qs)) ≡ Some new
-          → (old : Queue) × (cond t (Some p) (queue_of key qs) ≡ Some old) × (new ≡ taken_from other old)
-      by true later e = (p, refl, cc)
-      by false later e = later e
 
 -- the queue with this key, if there is one, gave just these items: the first that it admitted
 record Gave (key : ℕ) (gave : List (List ℕ)) (qs : List Queue) : Type 0 where
@@ -49,7 +38,7 @@ record Gave (key : ℕ) (gave : List (List ℕ)) (qs : List Queue) : Type 0 wher
 gave-shared : (key : ℕ) (gave : List (List ℕ)) (wanted : ℕ → List ℕ → Bool) (items : List (List ℕ)) (qs : List Queue) → Gave key gave qs → Gave key gave (with_shares wanted items qs)
 gave-shared key gave wanted items qs g = record {
   each = λ new e.
-      let found = found-shared key wanted items qs new e in
+      let found = found-changed key (with_share wanted items) (λ q. refl) qs new e in
       let old = found.0 in
       let was = g.each old found.1 in
       let longer = length-append old.admitted (share_of wanted items old) in
@@ -72,7 +61,7 @@ one-more key gave old is at_most same = rw same (by (nat_lt old.taken (length ol
 gave-taken : (key : ℕ) (gave : List (List ℕ)) (qs : List Queue) → Gave key gave qs → Gave key (gave ++ as_list (oldest_in key qs)) (map (taken_from key) qs)
 gave-taken key gave qs g = record {
   each = λ new e.
-      let found = found-taken key key qs new e in
+      let found = found-changed key (taken_from key) (taken-key key) qs new e in
       let old = found.0 in
       let was = g.each old found.1 in
       let same : eqb old.key key ≡ true = (let k = found-key key qs old found.1 in grind (arith, nat_tests)) in
@@ -82,7 +71,7 @@ gave-taken key gave qs g = record {
 gave-other : (key other : ℕ) (gave : List (List ℕ)) (qs : List Queue) → other ≢ key → Gave key gave qs → Gave key gave (map (taken_from other) qs)
 gave-other key other gave qs apart g = record {
   each = λ new e.
-      let found = found-taken key other qs new e in
+      let found = found-changed key (taken_from other) (taken-key other) qs new e in
       let old = found.0 in
       let differs : eqb old.key other ≡ false = (let k = found-key key qs old found.1 in grind (arith, nat_tests)) in
       let stays : new ≡ old = found.2 ∙ rw differs refl in

@@ -2,6 +2,7 @@
 use Rattle.std.proofs.Common.{◌≡◌, ℕ, ◌+◌, Bool, true, false, cond, eqb, ◌&&◌, List, [], ◌∷◌, ◌++◌, length, map, drop, refl, sym, ◌∙◌, append_assoc, arith}
 use Rattle.std.specs.Prelude.{nat_lt}
 use Rattle.std.proofs.lemmas.List.{append-nil}
+use mathlib.Core.List.{map-map}
 use Rattle.tc_channel.proofs.Names.{Report, E10, accepts, after, Service, Bd, Settings, Event, Frame, Release, Take, TakeUnit, ChannelState, Accepted, Queue, buffer, first_state_within, empty_queue, empty_unit_queue, QueueSetting, MapSetting, is_for, is_of_map, map_of, is_chosen, packets_offered, units_offered, share_of, with_shares, QueueGrows, QueuesGrow, Grows, step, row_of, unit_of, taken_from, first_of, run_from}
 use Rattle.tc_link.specs.Frame.{header_of}
 use Rattle.tc_packet.specs.declared.Service.TheVariants.{Ad}
@@ -102,18 +103,10 @@ keys-and-capacities-kept [] [] g = refl
 keys-and-capacities-kept (old ∷ olds) (new ∷ news) g = rw (g.0.key, g.0.capacity, keys-and-capacities-kept olds news g.1) refl
 keys-and-capacities-kept _ _ g = absurd g
 
-keys-and-capacities-empty : (qs : List QueueSetting) → map key_and_capacity (map empty_queue qs) ≡ map {B = ℕ × ℕ} (λ (q : QueueSetting). (q.apid, q.capacity)) qs
-keys-and-capacities-empty [] = refl
-keys-and-capacities-empty (q ∷ qs) = rw (keys-and-capacities-empty qs) refl
-
-keys-and-capacities-empty-units : (ms : List MapSetting) → map key_and_capacity (map empty_unit_queue ms) ≡ map {B = ℕ × ℕ} (λ (m : MapSetting). (m.map, m.capacity)) ms
-keys-and-capacities-empty-units [] = refl
-keys-and-capacities-empty-units (m ∷ ms) = rw (keys-and-capacities-empty-units ms) refl
-
 pub queues-are : (limits : ℕ → ℕ) (c : Settings) (journal : List Event) → map key_and_capacity (run_within limits c journal).queues ≡ map {B = ℕ × ℕ} (λ (q : QueueSetting). (q.apid, q.capacity)) c.queues
 unfolding run_within
-queues-are limits c journal = keys-and-capacities-kept (map empty_queue c.queues) (run_within limits c journal).queues (run_from-grows c (first_state_within limits c) journal).queues ∙ keys-and-capacities-empty c.queues
+queues-are limits c journal = keys-and-capacities-kept (map empty_queue c.queues) (run_within limits c journal).queues (run_from-grows c (first_state_within limits c) journal).queues ∙ map-map key_and_capacity empty_queue c.queues
 
 pub units-are : (limits : ℕ → ℕ) (c : Settings) (journal : List Event) → map key_and_capacity (run_within limits c journal).units ≡ map {B = ℕ × ℕ} (λ (m : MapSetting). (m.map, m.capacity)) c.maps
 unfolding run_within
-units-are limits c journal = keys-and-capacities-kept (map empty_unit_queue c.maps) (run_within limits c journal).units (run_from-grows c (first_state_within limits c) journal).units ∙ keys-and-capacities-empty-units c.maps
+units-are limits c journal = keys-and-capacities-kept (map empty_unit_queue c.maps) (run_within limits c journal).units (run_from-grows c (first_state_within limits c) journal).units ∙ map-map key_and_capacity empty_unit_queue c.maps

@@ -13,7 +13,7 @@ use Rattle.tc_channel.proofs.Shares.{delivered-held, frame-queues, release-queue
 use Rattle.tc_channel.proofs.Streams.{frame-runs, release-runs}
 use Rattle.tc_channel.proofs.StateQueues.{kept-either, queues-kept, units-kept}
 use Rattle.tc_channel.proofs.Filled.{IsFilled, first-filled, state-filled}
-use Rattle.tc_channel.proofs.Runs.{run-push, lawful-push, keeps}
+use Rattle.tc_channel.proofs.Runs.{step-keeps, keeps}
 use Rattle.tc_channel.proofs.Plain.{run-limit}
 use Rattle.tc_channel.proofs.Sound.{HaveEntries, state-sound, frame-enters}
 use Rattle.tc_channel.proofs.Lists.{all-drop}
@@ -74,24 +74,14 @@ pub frame-keeps : {limits : ℕ → ℕ} {c : Settings} {j : List Event} {i : In
     → HoldsWithin limits c (j ++ Frame octets ∷ []) later
 frame-keeps {limits} {c} {j} {i} later d unit kind octets row act entries k kind_is follows ends is whole row_is event_is accepted_is width report items capacity =
     let b = run_within limits c j in
-    let pushed = run-push limits c j (Frame octets) in
     let accepts_is : act.accepted ≡ accepts (row_of c b octets) b.report = rw (accepted_is, row_is, k.report) refl in
     let number_is : act.event ≡ number_of (row_of c b octets) = rw (event_is, row_is) refl in
     let fields : later.ring.items ≡ buffer (step c b (Frame octets)) =
     items ∙ rw (k.fields, number_is, accepts_is) (sym (buffer-kept (row_of c b octets) (accepts (row_of c b octets) b.report) octets b (state-counted limits c j k.lawful))) in
     let offered = delivered-held (drop 5 octets) unit i.rings later.rings i.unit_rings later.unit_rings d b (queues-kept limits c j) (units-kept limits c j) (k.queues, k.units) is in
     let queues = frame-queues limits c b octets i.open_runs unit later.rings later.unit_rings (run-limit limits c j) k.runs (rw (← kind_is) ends) offered in
-    record {
-      allowed = k.allowed;
-      lawful = lawful-push limits c j (Frame octets) k.lawful (whole, frame-enters entries c b (state-sound limits c j) octets);
-      width = width ∙ k.width;
-      report = report ∙ rw (row_is, k.report, pushed) refl;
-      capacity = capacity ∙ k.capacity;
-      fields = fields ∙ ap buffer (sym pushed);
-      runs = rw pushed (frame-runs limits c b octets i.open_runs later.open_runs k.runs (rw (← kind_is) follows));
-      queues = rw pushed queues.0;
-      units = rw pushed queues.1;
-    }
+    let runs = frame-runs limits c b octets i.open_runs later.open_runs k.runs (rw (← kind_is) follows) in
+    step-keeps (Frame octets) later k (whole, frame-enters entries c b (state-sound limits c j) octets) width (report ∙ rw (row_is, k.report) refl) capacity fields runs queues.0 queues.1
 
 buffer-released : (c : Settings) (b : ChannelState) → buffer (step c b Release) ≡ drop 1 (buffer b)
 unfolding passed_on
@@ -113,7 +103,6 @@ pub release-keeps : {limits : ℕ → ℕ} {c : Settings} {j : List Event} {i : 
     → HoldsWithin limits c (j ++ Release ∷ []) later
 release-keeps {limits} {c} {j} {i} later d unit k follows ends delivery some width report is =
     let b = run_within limits c j in
-    let pushed = run-push limits c j Release in
     let len : length i.ring.items ≡ length (buffer b) = ap length k.fields in
     let fields : later.ring.items ≡ buffer (step c b Release) =
     ap (λ (x : Buffer (List ℕ)). x.items) is ∙ ap (drop 1) k.fields ∙ sym (buffer-released c b) in
@@ -121,14 +110,6 @@ release-keeps {limits} {c} {j} {i} later d unit k follows ends delivery some wid
     let ends_is : EndsWithin (limits (map_of (first_of (buffer b)))) i.open_runs Ad (first_of (buffer b)) unit = rw k.fields at ends in
     let offered = delivered-held (first_of (buffer b)) unit i.rings later.rings i.unit_rings later.unit_rings d b (queues-kept limits c j) (units-kept limits c j) (k.queues, k.units) delivered_is in
     let queues = release-queues limits c b i.open_runs unit later.rings later.unit_rings (run-limit limits c j) k.runs ends_is offered in
-    record {
-      allowed = k.allowed;
-      lawful = lawful-push limits c j Release k.lawful (has-release b (omega arith));
-      width = width ∙ k.width;
-      report = report ∙ rw (k.report, pushed) (sym (released-report c b));
-      capacity = ap (λ (x : Buffer (List ℕ)). x.capacity) is ∙ k.capacity;
-      fields = fields ∙ ap buffer (sym pushed);
-      runs = rw pushed (release-runs limits c b i.open_runs later.open_runs k.runs (let f : FollowsWithin (limits (map_of (first_of (buffer b)))) i.open_runs later.open_runs Ad (first_of (buffer b)) = rw k.fields at follows in f));
-      queues = rw pushed queues.0;
-      units = rw pushed queues.1;
-    }
+    let follows_is : FollowsWithin (limits (map_of (first_of (buffer b)))) i.open_runs later.open_runs Ad (first_of (buffer b)) = rw k.fields at follows in
+    step-keeps Release later k (has-release b (omega arith)) width (report ∙ rw k.report (sym (released-report c b))) (ap (λ (x : Buffer (List ℕ)). x.capacity) is) fields
+    (release-runs limits c b i.open_runs later.open_runs k.runs follows_is) queues.0 queues.1

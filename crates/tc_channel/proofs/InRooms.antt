@@ -1,12 +1,12 @@
 -- Queues in rooms, read and written at one place.
-use Rattle.std.proofs.Common.{◌≡◌, ℕ, zero, suc, ◌-◌, ◌<◌, ◌≤◌, Bool, true, false, List, [], ◌∷◌, ◌++◌, length, map, get_or, refl, sym, ap, subst, ◌∙◌, arith}
+use Rattle.std.proofs.Common.{◌≡◌, ℕ, zero, suc, ◌-◌, ◌<◌, ◌≤◌, Bool, true, false, List, [], ◌∷◌, length, map, get_or, refl, sym, ap, subst, ◌∙◌, arith}
 use Rattle.std.specs.Prelude.{set}
 use Rattle.std.proofs.Math.Seq.{map-set_same}
-use Rattle.std.proofs.lemmas.List.{append-nil, append_assoc, length-append, length-map, map-set, get_or-map}
+use mathlib.Core.List.{map-map}
+use Rattle.std.proofs.lemmas.List.{append-nil, length-map, map-set, get_or-map}
 use Rattle.circular_buffer.specs.Buffer.{buffer}
-use Rattle.tc_channel.specs.HeldQueues.{keys_of, room_in, shorter, HeldQueue}
-use Rattle.tc_rooms.specs.Rooms.{Slotted, slotted, IsLaidBehind}
-use Rattle.tc_channel.specs.Keyed.{Keyed, ring_in, rings_in, laid_in, all_laid_in, room_sizes, Fit, AreSettled, let_go, IsPutBehind, settled}
+use Rattle.tc_channel.specs.HeldQueues.{keys_of, room_in, HeldQueue}
+use Rattle.tc_channel.specs.Keyed.{Keyed, ring_in, rings_in, laid_in, all_laid_in, room_sizes, Fit, AreSettled, IsPutBehind}
 use Rattle.tc_channel.specs.Delivering.{room_at, IsPutAt}
 use Rattle.tc_channel.proofs.Copies.{put-set, longer-fits}
 
@@ -24,35 +24,6 @@ fit-at octets [] i q fits inside is = absurd (omega arith)
 fit-at octets (r ∷ qs) zero q fits inside is = subst (λ (x : Keyed). length octets ≤ x.slots.size) (sym is) fits.0
 fit-at octets (r ∷ qs) (suc i) q fits inside is = fit-at octets qs i q fits.1 (omega arith) is
 
-pub fit-shorter : (octets shorter : List ℕ) (sizes : List ℕ) → length shorter ≤ length octets → Fit octets sizes → Fit shorter sizes
-fit-shorter octets shorter [] le all = tt
-fit-shorter octets shorter (m ∷ sizes) le all = (let one = all.0 in omega arith, fit-shorter octets shorter sizes le all.1)
-
--- queues that count what was laid, and queues that let it go
-pub rings-settled : (qs : List Keyed) → rings_in (map settled qs) ≡ all_laid_in qs
-rings-settled [] = refl
-rings-settled (q ∷ qs) = ap (λ (x : List HeldQueue). laid_in q ∷ x) (rings-settled qs)
-
-pub rings-let_go : (qs : List Keyed) → rings_in (map let_go qs) ≡ rings_in qs
-rings-let_go [] = refl
-rings-let_go (q ∷ qs) = ap (λ (x : List HeldQueue). ring_in q ∷ x) (rings-let_go qs)
-
-pub sizes-settled : (qs : List Keyed) → room_sizes (map settled qs) ≡ room_sizes qs
-sizes-settled [] = refl
-sizes-settled (q ∷ qs) = ap (λ (x : List ℕ). q.slots.size ∷ x) (sizes-settled qs)
-
-pub sizes-let_go : (qs : List Keyed) → room_sizes (map let_go qs) ≡ room_sizes qs
-sizes-let_go [] = refl
-sizes-let_go (q ∷ qs) = ap (λ (x : List ℕ). q.slots.size ∷ x) (sizes-let_go qs)
-
-pub all-settled : (qs : List Keyed) → AreSettled (map settled qs)
-all-settled [] = tt
-all-settled (q ∷ qs) = (refl, all-settled qs)
-
-pub all-let_go : (qs : List Keyed) → AreSettled (map let_go qs)
-all-let_go [] = tt
-all-let_go (q ∷ qs) = (refl, all-let_go qs)
-
 -- where nothing is laid, what waits is all
 laid-one : (q : Keyed) → q.slots.laid ≡ [] → laid_in q ≡ ring_in q
 laid-one q none = ap (λ (xs : List (List ℕ)). record { key = q.key; ring = buffer xs q.slots.ring.capacity }) (rw none (append-nil q.slots.ring.items))
@@ -63,20 +34,13 @@ laid-none (q ∷ qs) all = ap (λ (x : HeldQueue). x ∷ all_laid_in qs) (laid-o
 
 -- the keys with what is laid and without
 pub same-keys : (qs : List Keyed) → keys_of (all_laid_in qs) ≡ keys_of (rings_in qs)
-same-keys [] = refl
-same-keys (q ∷ qs) = ap (λ (x : List ℕ). q.key ∷ x) (same-keys qs)
+same-keys qs = map-map (λ (w : HeldQueue). w.key) laid_in qs ∙ sym (map-map (λ (w : HeldQueue). w.key) ring_in qs)
 
 -- the key at a place
 pub key-in : (qs : List Keyed) (i k : ℕ) (q : Keyed) → i < length qs → q ≡ get_or qs i q → k ≡ q.key → k ≡ get_or (keys_of (rings_in qs)) i k
 key-in qs i k q inside is k_is =
     k_is ∙ sym (get_or-map (λ (x : HeldQueue). x.key) (rings_in qs) i (ring_in q) k (omega (arith, length-map qs ring_in))
     ∙ ap (λ (x : HeldQueue). x.key) (get_or-map ring_in qs i q (ring_in q) inside ∙ ap ring_in (sym is)))
-
--- nothing is laid in the others, nor in the one that is written
-pub settled-set : (qs : List Keyed) (i : ℕ) (q next : Keyed) → AreSettled qs → i < length qs → q ≡ get_or qs i q → next.slots.laid ≡ q.slots.laid → AreSettled (set qs i next)
-settled-set [] i q next all inside is same = absurd (omega arith)
-settled-set (r ∷ qs) zero q next all inside is same = (same ∙ ap (λ (x : Keyed). x.slots.laid) is ∙ all.0, all.1)
-settled-set (r ∷ qs) (suc i) q next all inside is same = (all.0, settled-set qs i q next all.1 (omega arith) is same)
 
 -- what can't be without memory grows
 pub grows-of : (grows : Bool) → (grows ≡ false → ⊥) → grows ≡ true
@@ -109,3 +73,7 @@ pub laid-of-none-at : (qs : List Keyed) (i : ℕ) (q : Keyed) → AreSettled qs 
 laid-of-none-at [] i q all inside is = absurd (omega arith)
 laid-of-none-at (r ∷ qs) zero q all inside is = ap (λ (x : Keyed). x.slots.laid) is ∙ all.0
 laid-of-none-at (r ∷ qs) (suc i) q all inside is = laid-of-none-at qs i q all.1 (omega arith) is
+
+-- nothing is laid in the others, nor in the one that is written
+pub settled-set : (qs : List Keyed) (i : ℕ) (q next : Keyed) → AreSettled qs → i < length qs → q ≡ get_or qs i q → next.slots.laid ≡ q.slots.laid → AreSettled (set qs i next)
+settled-set qs i q next all inside is same = settled-at qs i next all (same ∙ laid-of-none-at qs i q all inside is)

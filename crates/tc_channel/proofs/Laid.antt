@@ -1,7 +1,6 @@
 -- What is laid in the queues is of the packets of a unit.
-use Rattle.std.proofs.Common.{◌≡◌, ◌≢◌, ℕ, zero, suc, ◌<◌, true, false, List, [], ◌∷◌, length, map, get_or, ◌⊎◌, inl, inr, refl, sym, ap, subst, ◌∙◌, arith}
+use Rattle.std.proofs.Common.{◌≡◌, ℕ, zero, suc, ◌<◌, true, false, List, [], ◌∷◌, length, map, get_or, ◌⊎◌, inl, inr, refl, sym, ap, subst, ◌∙◌, arith}
 use Rattle.std.specs.Prelude.{set}
-use Rattle.std.specs.List.{AllByRecursion}
 use Rattle.std.proofs.lemmas.List.{append-nil}
 use Rattle.tc_channel.proofs.Names.{is_for}
 use Rattle.tc_channel.specs.HeldQueues.{keys_of, AreDistinct}
@@ -9,9 +8,8 @@ use Rattle.tc_rooms.specs.Rooms.{slotted}
 use Rattle.tc_channel.specs.Keyed.{Keyed, rings_in, AreSettled, settled}
 use Rattle.tc_channel.specs.Delivering.{IsAmong, AreLaidOf}
 use Rattle.tc_channel.proofs.Counted.{for-one}
-use Rattle.tc_channel.proofs.Passes.{NoneFor}
+use Rattle.tc_channel.proofs.Passes.{NoneFor, apart-at, none-others}
 use Rattle.tc_channel.proofs.Tables.{keys-length}
-use Rattle.tc_channel.proofs.Ways.{apart-at}
 
 -- at the start nothing is laid
 pub none-laid : (qs : List Keyed) (ps : List (List ℕ)) → AreSettled qs → AreLaidOf ps qs
@@ -58,10 +56,6 @@ passed-over q p ps other (inr (inr among)) = inr among
 pub passed-none : (qs : List Keyed) (p : List ℕ) (ps : List (List ℕ)) → NoneFor p (keys_of (rings_in qs)) → AreLaidOf (p ∷ ps) qs → AreLaidOf ps qs
 passed-none [] p ps none all = tt
 passed-none (q ∷ qs) p ps none all = (passed-over q p ps none.0 all.0, passed-none qs p ps none.1 all.1)
-
-none-others : (a : ℕ) (p : List ℕ) (keys : List ℕ) → is_for a p ≡ true → AllByRecursion (λ (b : ℕ). a ≢ b) keys → NoneFor p keys
-none-others a p [] h apart = tt
-none-others a p (b ∷ keys) h apart = (for-one a b p h apart.0, none-others a p keys h apart.1)
 
 -- the queue of this packet counts what was laid
 pub passed-one : (qs : List Keyed) (i k : ℕ) (q next : Keyed) (p : List ℕ) (ps : List (List ℕ)) → AreDistinct (keys_of (rings_in qs)) → i < length qs → q ≡ get_or qs i q → next ≡ settled q → k ≡ get_or (keys_of (rings_in qs)) i k

@@ -28,7 +28,6 @@ pub mod Given
 pub mod Through
 pub mod Account
 pub mod Apart
-pub mod Examples
 pub mod InRooms
 pub mod Ways
 pub mod Sizes

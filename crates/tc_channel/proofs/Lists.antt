@@ -14,6 +14,10 @@ pub all-drop : {A : Type 0} (P : A → Type 0) (n : ℕ) (xs : List A) → AllBy
 all-drop P (suc n) (x ∷ xs) h = all-drop P n xs h.1
 all-drop P _ _ h = h
 
+pub all-mapped : {A B : Type 0} (P : A → Type 0) (Q : B → Type 0) (f : A → B) (xs : List A) → ((x : A) → P x → Q (f x)) → AllByRecursion P xs → AllByRecursion Q (map f xs)
+all-mapped P Q f [] each h = tt
+all-mapped P Q f (x ∷ xs) each h = (each x h.0, all-mapped P Q f xs each h.1)
+
 pub all-map : {A B : Type 0} (P : B → Type 0) (f : A → B) (xs : List A) → ((x : A) → P (f x)) → AllByRecursion P (map f xs)
 all-map P f [] each = tt
 all-map P f (x ∷ xs) each = (each x, all-map P f xs each)

@@ -1,20 +1,19 @@
 -- How many octets wait in the queues and in the buffer, and the bound of memory.
-use Rattle.std.proofs.Common.{ℕ, zero, suc, ◌+◌, ◌*◌, ◌≤◌, Bool, true, false, cond, eqb, ◌&&◌, List, [], ◌∷◌, length, take, map, drop, filter, Option, Some, arith, ◌≡◌}
-use Rattle.std.specs.Prelude.{nat_lt}
+use Rattle.std.proofs.Common.{ℕ, zero, suc, ◌+◌, ◌*◌, ◌≤◌, Bool, true, false, cond, List, [], ◌∷◌, length, take, map, drop, filter, Option, Some, refl, arith, ◌≡◌}
 use Rattle.std.specs.List.{AllByRecursion}
 use Rattle.std.proofs.lemmas.List.{length-drop, length-map, length-take}
 use Rattle.std.proofs.lemmas.List.Sums.{sum_by-cons}
-use Rattle.tc_channel.proofs.Names.{HasStep, IsWhole, Row, accepts, Service, Bd, IsWithinLimit, unit_ended, largest_unit, stream, begins, named_length, packets_within, Settings, Event, Frame, Release, Take, TakeUnit, ChannelState, Accepted, Queue, empty_queue, empty_unit_queue, buffer, waiting, map_of, is_chosen, packets_offered, units_offered, share_of, with_shares, room_of, is_for, is_of_map, step, row_of, kept, taken_from, unit_of, first_of, IsLawfulWithin, run_within}
+use Rattle.tc_channel.proofs.Names.{accepts, Service, Bd, IsWithinLimit, unit_ended, largest_unit, stream, begins, named_length, packets_within, Settings, Event, Frame, Release, Take, TakeUnit, ChannelState, Accepted, Queue, empty_queue, empty_unit_queue, buffer, waiting, map_of, is_chosen, packets_offered, units_offered, share_of, with_shares, room_of, is_for, is_of_map, step, row_of, taken_from, unit_of, first_of, IsLawfulWithin, run_within}
 use Rattle.tc_channel.specs.Memory.{largest_field, packets_held, units_held, waiting_in_all, octets_in, octets_waiting, room_words, queue_words, largest_item, runs_memory, tables_memory, segment_memory, memory_waiting, memory_bound}
-use Rattle.tc_link.specs.Frame.{header_of as frame_header}
 use Rattle.tc_packet.specs.declared.Service.TheVariants.{Ad}
 use Rattle.tc_channel.specs.Run.{passed_on, IsLawfulWithin, run_within}
 use Rattle.tc_channel.proofs.BufferSize.{buffer-fits}
 use Rattle.tc_channel.proofs.Limits.{within-unit, within-both}
-use Rattle.tc_channel.proofs.StateQueues.{kept-either}
+use Rattle.tc_channel.proofs.StateQueues.{kept-either, taken-same}
+use Rattle.tc_channel.proofs.Filled.{each-accepted}
 use Rattle.tc_channel.proofs.Room.{packets-within, units-within}
-use Rattle.tc_channel.proofs.Runs.{keeps, always}
-use Rattle.tc_channel.proofs.Lists.{all-append, all-take, all-drop, all-map}
+use Rattle.tc_channel.proofs.Runs.{always}
+use Rattle.tc_channel.proofs.Lists.{all-append, all-take, all-drop, all-map, all-mapped}
 
 -- none of the items is longer than the largest unit
 abbrev IsShort : List ℕ → Type 0
@@ -56,14 +55,10 @@ hold-offered wanted items [] i h = tt
 hold-offered wanted items (q ∷ qs) i h = (all-append IsShort q.admitted (share_of wanted items q) h.0 (all-take IsShort (room_of q) (filter (wanted q.key) items) (short-filter (wanted q.key) items i)), hold-offered wanted items qs i h.1)
 
 hold-one : (key : ℕ) (q : Queue) → AreShort q.admitted → AreShort (taken_from key q).admitted
-hold-one key q h = by (eqb q.key key && nat_lt q.taken (length q.admitted)) where
-  by : (t : Bool) → AreShort (cond t (record q { taken = q.taken + 1 }) q).admitted
-  by true = h
-  by false = h
+hold-one key q h = rw (taken-same {A = List (List ℕ)} (λ q. q.admitted) (λ q n. refl) key q) h
 
 hold-taken : (key : ℕ) (qs : List Queue) → HoldShort qs → HoldShort (map (taken_from key) qs)
-hold-taken key [] h = tt
-hold-taken key (q ∷ qs) h = (hold-one key q h.0, hold-taken key qs h.1)
+hold-taken key qs = all-mapped (λ (q : Queue). AreShort q.admitted) (λ (q : Queue). AreShort q.admitted) (taken_from key) qs (hold-one key)
 
 abbrev Hold : ChannelState → Type 0
 Hold b = HoldShort b.queues × HoldShort b.units
@@ -92,13 +87,8 @@ octets-within (x ∷ xs) h =
 all-within : (qs : List Queue) → HoldShort qs → octets_waiting qs ≤ waiting_in_all qs * 65542
 all-within [] h = omega arith
 all-within (q ∷ qs) h =
-    omega (
-      arith,
-      sum_by-cons (λ (x : Queue). octets_in (waiting x)) q qs,
-      sum_by-cons (λ (x : Queue). length (waiting x)) q qs,
-      octets-within (drop q.taken q.admitted) (all-drop IsShort q.taken q.admitted h.0),
-      all-within qs h.1,
-    )
+    let short = octets-within (drop q.taken q.admitted) (all-drop IsShort q.taken q.admitted h.0) in
+    omega (arith, sum_by-cons (λ (x : Queue). octets_in (waiting x)) q qs, sum_by-cons (λ (x : Queue). length (waiting x)) q qs, short, all-within qs h.1)
 
 pub packets-fit : (limits : ℕ → ℕ) (s : Settings) (journal : List Event) → octets_waiting (run_within limits s journal).queues ≤ packets_held s * largest_unit
 packets-fit limits s journal = omega (arith, all-within (run_within limits s journal).queues (run-hold limits s journal).0, packets-within limits s journal)
@@ -113,17 +103,8 @@ HasField a = length a.field ≤ 1019
 abbrev HaveFields : List Accepted → Type 0
 HaveFields xs = AllByRecursion HasField xs
 
-kept-fields : (row : Row) (accepted : Bool) (octets : List ℕ) (b : ChannelState) → IsWhole octets → HaveFields b.accepted → HaveFields (kept row accepted octets b).accepted
-unfolding passed_on
-kept-fields row accepted octets b whole h = kept-either (λ x. HaveFields x.accepted) row accepted octets b h (all-append HasField b.accepted (record { ns = (frame_header octets).ns; field = drop 5 octets } ∷ []) h (let most = whole.most in omega (arith, length-drop 5 octets), tt)) h
-
-step-fields : (c : Settings) (b : ChannelState) (e : Event) → HasStep c b e → HaveFields b.accepted → HaveFields (step c b e).accepted
-unfolding passed_on
-step-fields c b (Frame octets) has h = kept-fields (row_of c b octets) (accepts (row_of c b octets) b.report) octets b has.0 h
-step-fields c b _ has h = h
-
 state-fields : (limits : ℕ → ℕ) (c : Settings) (journal : List Event) → IsLawfulWithin limits c journal → HaveFields (run_within limits c journal).accepted
-state-fields limits c journal lawful = keeps (λ b. HaveFields b.accepted) limits c journal lawful (step-fields c) tt
+state-fields = each-accepted HasField (λ octets whole. let most = whole.most in omega (arith, length-drop 5 octets))
 
 fields-within : (xs : List Accepted) → HaveFields xs → octets_in (map (λ (a : Accepted). a.field) xs) ≤ length xs * 1019
 fields-within [] h = omega arith
@@ -134,13 +115,8 @@ fields-within (x ∷ xs) h =
 pub fields-fit : (limits : ℕ → ℕ) (s : Settings) (journal : List Event) → IsLawfulWithin limits s journal → octets_in (buffer (run_within limits s journal)) ≤ s.buffer * largest_field
 fields-fit limits s journal lawful =
     let b = run_within limits s journal in
-    let waiting = drop b.released b.accepted in
-    omega (
-      arith,
-      fields-within waiting (all-drop HasField b.released b.accepted (state-fields limits s journal lawful)),
-      length-map waiting (λ (a : Accepted). a.field),
-      buffer-fits limits s journal,
-    )
+    let fields = fields-within (drop b.released b.accepted) (all-drop HasField b.released b.accepted (state-fields limits s journal lawful)) in
+    omega (arith, fields, length-map (drop b.released b.accepted) (λ (a : Accepted). a.field), buffer-fits limits s journal)
 
 -- ---- what waits in a channel, and the bound of its memory
 -- of plain numbers: so many queues and MAPs, the packets, units and data fields that they may hold, those that wait, with their octets

@@ -8,6 +8,7 @@ use Rattle.tc_channel.proofs.Names.{apid_of, is_telecommand, is_for}
 use Rattle.tc_channel.specs.HeldQueues.{keys_of, AreDistinct, room_in, share, with_items, shared, shares_in, copied_to, longer, put, put_all, IsUnderWay, HeldQueue, Placed, AreShares}
 use Rattle.tc_packet.specs.PacketFields.{HasFields}
 use Rattle.std.proofs.Math.ListN.{set}
+use Rattle.std.proofs.Math.Seq.{take-nil}
 use Rattle.std.proofs.lemmas.List.{append-nil, length-append, length-map}
 use Rattle.std.proofs.lemmas.List.Sums.{sum_by-cons}
 use Rattle.circular_buffer.specs.Buffer.{buffer as ring_of}
@@ -47,18 +48,18 @@ goes-none : (p : List ℕ) (ps : List (List ℕ)) (ws : List HeldQueue) → None
 goes-none p ps [] h = record { put = refl; count = refl }
 goes-none p ps (w ∷ ws) h = goes-cons p ps w ws ws 0 (rw h.0 refl) (goes-none p ps ws h.1)
 
-none-others : (a : ℕ) (p : List ℕ) (apids : List ℕ) → is_for a p ≡ true → AllByRecursion (λ (b : ℕ). a ≢ b) apids → NoneFor p apids
+pub none-others : (a : ℕ) (p : List ℕ) (apids : List ℕ) → is_for a p ≡ true → AllByRecursion (λ (b : ℕ). a ≢ b) apids → NoneFor p apids
 none-others a p [] h apart = tt
 none-others a p (b ∷ apids) h apart = (for-one a b p h apart.0, none-others a p apids h apart.1)
 
-apart-at : (b : ℕ) (xs : List ℕ) (i a : ℕ) → AllByRecursion (λ (x : ℕ). b ≢ x) xs → i < length xs → a ≡ get_or xs i a → a ≢ b
-apart-at b [] i a h lt is = absurd (omega arith)
-apart-at b (x ∷ xs) zero a h lt is = λ e. h.0 (sym e ∙ is)
-apart-at b (x ∷ xs) (suc i) a h lt is = apart-at b xs i a h.1 (omega arith) is
+pub apart-at : (b : ℕ) (xs : List ℕ) (i m : ℕ) → AllByRecursion (λ (x : ℕ). b ≢ x) xs → i < length xs → m ≡ get_or xs i m → b ≢ m
+apart-at b [] i m h inside is = absurd (omega arith)
+apart-at b (x ∷ xs) zero m h inside is = λ e. h.0 (e ∙ is)
+apart-at b (x ∷ xs) (suc i) m h inside is = apart-at b xs i m h.1 (omega arith) is
 
 not-head : (v : HeldQueue) (ws : List HeldQueue) (i a : ℕ) (p : List ℕ) → AreDistinct (keys_of (v ∷ ws)) → i < length ws → a ≡ get_or (keys_of ws) i a → is_for a p ≡ true → is_for v.key p ≡ false
 not-head v ws i a p distinct lt is for_it =
-    for-one a v.key p for_it (apart-at v.key (keys_of ws) i a distinct.0 (let l = length-map ws (λ (q : HeldQueue). q.key) in omega arith) is)
+    for-one a v.key p for_it (λ e. apart-at v.key (keys_of ws) i a distinct.0 (let l = length-map ws (λ (q : HeldQueue). q.key) in omega arith) is (sym e))
 
 -- the packet's queue is full
 goes-full : (p : List ℕ) (ps : List (List ℕ)) (ws : List HeldQueue) (i a n : ℕ) → AreDistinct (keys_of ws) → i < length ws → a ≡ get_or (keys_of ws) i a → is_for a p ≡ true
@@ -155,14 +156,10 @@ copy-on qs p ps all cs rooms i a n distinct lt is for_it room some k =
 pub under-way : (qs : List HeldQueue) (all : List (List ℕ)) (cs : List Placed) (rooms : List ℕ) → cs ≡ [] → rooms ≡ map room_in qs → IsUnderWay qs all all cs rooms
 under-way qs all cs rooms none is = rw none (record { places = tt; keys = refl; rooms = is; put = refl; count = omega arith })
 
-no-take : {A : Type 0} (n : ℕ) → take {A = A} n [] ≡ []
-no-take zero = refl
-no-take (suc n) = refl
-
 none-shared : (ws : List HeldQueue) → (shared is_for [] ws ≡ ws) × (shares_in is_for [] ws ≡ 0)
 none-shared [] = (refl, refl)
 none-shared (w ∷ ws) =
-    let none : share is_for [] w ≡ [] = no-take {A = List ℕ} (room_in w) in
+    let none : share is_for [] w ≡ [] = take-nil {A = List ℕ} (room_in w) in
     let ih = none-shared ws in
     let same : with_items w (share is_for [] w) ≡ w = rw (none, append-nil w.ring.items) refl in
     let one : length (share is_for [] w) ≡ 0 = ap length none in

@@ -1,7 +1,8 @@
 -- A run goes on by one event, or by several.
-use Rattle.std.proofs.Common.{ℕ, ◌≡◌, List, [], ◌∷◌, ◌++◌, refl, subst, append_assoc}
+use Rattle.std.proofs.Common.{ℕ, ◌≡◌, List, [], ◌∷◌, ◌++◌, map, refl, subst, ◌∙◌, append_assoc}
 use Rattle.std.proofs.lemmas.List.{append-nil}
-use Rattle.tc_channel.proofs.Names.{Settings, Event, ChannelState, first_state_within, HasStep, step, run_from, AreSteps}
+use Rattle.tc_channel.proofs.Names.{Settings, Event, ChannelState, first_state_within, buffer, HasStep, step, run_from, AreSteps, AreRuns, Inside, HoldsWithin}
+use Rattle.tc_channel.specs.HeldQueues.{held}
 use Rattle.tc_channel.specs.Run.{run_within, IsLawfulWithin}
 
 pub run_from-append : (c : Settings) (b : ChannelState) (es fs : List Event) → run_from c b (es ++ fs) ≡ run_from c (run_from c b es) fs
@@ -38,6 +39,25 @@ lawful-before limits c past future all = AreSteps-before c (first_state_within l
 pub lawful-after : (limits : ℕ → ℕ) (c : Settings) (past future : List Event) → IsLawfulWithin limits c (past ++ future) → AreSteps c (run_within limits c past) future
 unfolding run_within IsLawfulWithin
 lawful-after limits c past future all = AreSteps-later c (first_state_within limits c) past future all
+
+-- what is held of a run goes on by one event
+pub step-keeps : {limits : ℕ → ℕ} {c : Settings} {j : List Event} {i : Inside} (e : Event) (later : Inside) → HoldsWithin limits c j i → HasStep c (run_within limits c j) e
+    → later.farm.width ≡ i.farm.width → later.farm.report ≡ (step c (run_within limits c j) e).report → later.ring.capacity ≡ i.ring.capacity → later.ring.items ≡ buffer (step c (run_within limits c j) e)
+    → AreRuns limits later.open_runs (step c (run_within limits c j) e).segmented (step c (run_within limits c j) e).passed → later.rings ≡ map held (step c (run_within limits c j) e).queues
+    → later.unit_rings ≡ map held (step c (run_within limits c j) e).units → HoldsWithin limits c (j ++ e ∷ []) later
+step-keeps {limits} {c} {j} e later k has width report capacity fields runs queues units =
+    let pushed = run-push limits c j e in
+    record {
+      allowed = k.allowed;
+      lawful = lawful-push limits c j e k.lawful has;
+      width = width ∙ k.width;
+      report = rw pushed report;
+      capacity = capacity ∙ k.capacity;
+      fields = rw pushed fields;
+      runs = rw pushed runs;
+      queues = rw pushed queues;
+      units = rw pushed units;
+    }
 
 -- by events from the first on
 pub from-first : (P : List Event → Type 0) (push : (j : List Event) (e : Event) → P j → P (j ++ e ∷ [])) (done rest : List Event) → P done → P (done ++ rest)

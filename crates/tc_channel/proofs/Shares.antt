@@ -1,12 +1,13 @@
 -- The queues, where the unit that a field ends is offered.
-use Rattle.std.proofs.Common.{◌≡◌, ◌≢◌, ℕ, zero, suc, ◌+◌, ◌-◌, ◌≤◌, Bool, true, false, List, [], ◌∷◌, length, map, take, drop, Option, Some, None, cond, eqb, subst, refl, sym, ap, ◌∙◌, arith}
-use Rattle.std.specs.Prelude.{is_some}
+use Rattle.std.proofs.Common.{◌≡◌, ◌≢◌, ℕ, ◌+◌, ◌-◌, ◌≤◌, Bool, true, List, [], ◌∷◌, length, map, drop, Option, Some, None, subst, refl, sym, ap, ◌∙◌, arith}
+use Rattle.std.specs.Prelude.{is_some, option_map}
 use Rattle.std.specs.List.{sum_by}
 use Rattle.std.proofs.lemmas.List.Sums.{sum_by-cons}
 use Rattle.tc_channel.proofs.Names.{Delivery, nothing, delivery_of, frame_delivery, release_reply_at, Row, E1, E6, row_at, frame_row, accepts, Settings, Frame, Release, ChannelState, Queue, queue_of, has_room, buffer, map_of, is_chosen, is_for, is_of_map, packets_offered, units_offered, offered, share_of, with_share, with_shares, queued_of, Kind, Unlock, SetVr, kind_of, Service, Bd, OpenRuns, at_most, stream, unit_ended, AreRuns, EndsWithin, EndsAtOnceWithin, step, row_of, kept, unit_of, first_of}
 use Rattle.tc_channel.specs.Delivering.{IsDelivered}
 use Rattle.tc_channel.specs.HeldQueues.{Placed, HeldQueue, held, share, with_items, shared, shares_in, queue_for, copies_from, put_all, placed, AreShares}
 use Rattle.std.proofs.lemmas.List.{drop-append-le, length-drop, append-nil}
+use Rattle.std.proofs.Math.Seq.{take-nil}
 use Rattle.tc_link.specs.declared.Kind.TheVariants as kinds
 use Rattle.tc_link.specs.Frame.{header_of}
 use Rattle.tc_link.specs.Window.{place_of}
@@ -15,6 +16,7 @@ use Rattle.tc_packet.specs.Segment as segment
 use Rattle.tc_channel.specs.Run.{passed_on}
 use Rattle.tc_channel.proofs.StateQueues.{AreKept}
 use Rattle.tc_channel.proofs.Streams.{not-BD}
+use Rattle.tc_channel.proofs.Takes.{held-queue}
 use Rattle.tc_channel.proofs.Copies.{Fit, shares-put, copies-places, length-copies}
 
 fit-held : (qs : List Queue) → AreKept qs → Fit (map held qs)
@@ -57,12 +59,8 @@ kept-held E1 true octets b rings unit_rings other h = h
 kept-held E6 accepted octets b rings unit_rings other h = absurd (other refl)
 kept-held _ _ octets b rings unit_rings other h = h
 
-no-share : (n : ℕ) → take {A = List ℕ} n [] ≡ []
-no-share zero = refl
-no-share (suc n) = refl
-
 none-with : (wanted : ℕ → List ℕ → Bool) (q : Queue) → with_share wanted [] q ≡ q
-none-with wanted q = rw (no-share (q.capacity - (length q.admitted - q.taken)), append-nil q.admitted) refl
+none-with wanted q = rw (take-nil {A = List ℕ} (q.capacity - (length q.admitted - q.taken)), append-nil q.admitted) refl
 
 -- no item, no change
 pub shares-none : (wanted : ℕ → List ℕ → Bool) (qs : List Queue) → with_shares wanted [] qs ≡ qs
@@ -77,14 +75,10 @@ ends-unit limits service field b open_runs unit limit are ends =
 
 -- whether a MAP is chosen, by the rings
 same-chosen : (map_id : ℕ) (unit_rings : List HeldQueue) (qs : List Queue) → unit_rings ≡ map held qs → is_some (queue_for map_id unit_rings) ≡ is_some (queue_of map_id qs)
-same-chosen map_id unit_rings qs are = ap (λ (x : List HeldQueue). is_some (queue_for map_id x)) are ∙ by qs where
-  by : (qs : List Queue) → is_some (queue_for map_id (map held qs)) ≡ is_some (queue_of map_id qs)
-  by [] = refl
-  by (q ∷ qs) = at (eqb q.key map_id) (by qs) where
-    at : (t : Bool) → is_some (queue_for map_id (map held qs)) ≡ is_some (queue_of map_id qs)
-        → is_some (cond t (Some (held q)) (queue_for map_id (map held qs))) ≡ is_some (cond t (Some q) (queue_of map_id qs))
-    at true h = refl
-    at false h = h
+same-chosen map_id unit_rings qs are = rw (are, held-queue map_id qs) (by (queue_of map_id qs)) where
+  by : (o : Option Queue) → is_some (option_map held o) ≡ is_some o
+  by None = refl
+  by (Some q) = refl
 
 -- what is delivered leaves the queues of the state to which the unit was offered
 pub delivered-held : (field : List ℕ) (unit : Option (List ℕ)) (rings later unit_rings later_units : List HeldQueue) (d : Delivery) (b : ChannelState) → AreKept b.queues → AreKept b.units → AreHeld rings unit_rings b

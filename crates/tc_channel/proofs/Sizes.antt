@@ -1,12 +1,12 @@
 -- Octets that fit rooms.
-use Rattle.std.proofs.Common.{◌≡◌, ℕ, zero, suc, ◌≤◌, ◌<◌, Bool, true, false, Option, Some, None, List, [], ◌∷◌, length, replicate, refl, sym, subst, ◌∙◌, arith}
+use Rattle.std.proofs.Common.{◌≡◌, ℕ, zero, suc, ◌≤◌, ◌<◌, Bool, true, false, Option, Some, None, List, [], ◌∷◌, length, replicate, refl, sym, subst, arith}
 use Rattle.std.specs.Prelude.{min}
 use Rattle.std.specs.List.{AllByRecursion}
 use Rattle.tc_channel.proofs.Names.{Service, Bd, stream_place}
 use Rattle.tc_rooms.specs.Runs.{IsAtMost, Store, limit_at}
 use Rattle.tc_channel.specs.Memory.{largest_item}
 use Rattle.tc_channel.specs.Keyed.{Fit, FitsIn}
-use Rattle.tc_channel.specs.Workings.{AreEnough, AreSmall, HaveLimits}
+use Rattle.tc_channel.specs.Workings.{AreEnough, AreSmall}
 use Rattle.tc_packet.specs.declared.Service.TheVariants.{Ad}
 
 -- octets that are no more than the least room
@@ -42,13 +42,3 @@ within-all store place (Some octets) inside small within = let s = small place i
 -- rooms of one size are enough where no limit is more
 pub enough-at-start : (store : Store) (size count : ℕ) (sizes : List ℕ) → sizes ≡ replicate count size → ((place : ℕ) → place < 128 → min (limit_at store place) (largest_item store.segmented) ≤ size) → AreEnough store sizes
 enough-at-start store size count sizes are fits = λ place inside. subst (λ (x : List ℕ). AllByRecursion (λ (n : ℕ). min (limit_at store place) (largest_item store.segmented) ≤ n) x) (sym are) (all-least (min (limit_at store place) (largest_item store.segmented)) size count (fits place inside))
-
--- what is said of rooms goes on where neither they nor the limits change
-pub enough-after : (old new : Store) (sizes later : List ℕ) → new.segmented ≡ old.segmented → ((place : ℕ) → limit_at new place ≡ limit_at old place) → later ≡ sizes → AreEnough old sizes → AreEnough new later
-enough-after old new sizes later segmented limits same enough = λ place inside. rw (same, limits place, segmented) (enough place inside)
-
-pub small-after : (old new : Store) → ((place : ℕ) → limit_at new place ≡ limit_at old place) → AreSmall old → AreSmall new
-small-after old new limits small = λ place inside. let e = limits place in let s = small place inside in omega arith
-
-pub limits-after : (limits : ℕ → ℕ) (old new : Store) → ((place : ℕ) → limit_at new place ≡ limit_at old place) → HaveLimits limits old → HaveLimits limits new
-limits-after limits old new same have = λ service map_id inside. same _ ∙ have service map_id inside

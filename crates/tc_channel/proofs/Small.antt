@@ -87,12 +87,4 @@ pub clcw-fits : (limits : ℕ → ℕ) (c : Settings) (journal : List Event) (li
 unfolding clcw_within
 clcw-fits limits c journal link allowed lawful =
     let r = (run_within limits c journal).report in
-    let vcid = allowed.vcid in
-    let vr = vr-below limits c journal allowed.first lawful in
-    let farm_b = run-counter limits c journal in
-    let no_rf = bit-most link.no_rf in
-    let no_bit_lock = bit-most link.no_bit_lock in
-    let lockout = bit-most r.lockout in
-    let wait = bit-most r.wait in
-    let retransmit = bit-most r.retransmit in
-    omega arith
+    omega (arith, allowed.vcid, vr-below limits c journal allowed.first lawful, run-counter limits c journal, bit-most link.no_rf, bit-most link.no_bit_lock, bit-most r.lockout, bit-most r.wait, bit-most r.retransmit)

@@ -10,7 +10,8 @@ use Rattle.tc_channel.specs.HeldQueues.{AreDistinct}
 use Rattle.tc_packet.specs.declared.Service.TheVariants.{Ad}
 use Rattle.tc_channel.specs.Run.{passed_on, run_within}
 use Rattle.tc_channel.proofs.Runs.{always}
-use Rattle.tc_channel.proofs.Lists.{all-map}
+use Rattle.tc_channel.proofs.Lists.{all-map, all-mapped}
+use mathlib.Core.List.{map-map}
 
 -- what holds of a state, of it with one more accepted frame and of it with one more field passed on, holds of what a frame leaves
 pub kept-either : (P : ChannelState → Type 0) (row : Row) (accepted : Bool) (octets : List ℕ) (b : ChannelState) → P b
@@ -48,10 +49,6 @@ run-both limits P Q p q c journal h u = always (λ b. P b.queues × Q b.units) l
 abbrev pub keys : List Queue → List ℕ
 keys qs = map (λ (q : Queue). q.key) qs
 
-keys-with_shares : (wanted : ℕ → List ℕ → Bool) (items : List (List ℕ)) (qs : List Queue) → keys (with_shares wanted items qs) ≡ keys qs
-keys-with_shares wanted items [] = refl
-keys-with_shares wanted items (q ∷ qs) = ap (λ (x : List ℕ). q.key ∷ x) (keys-with_shares wanted items qs)
-
 -- a take changes only how many were taken
 pub taken-same : {A : Type 0} (f : Queue → A) → ((q : Queue) (n : ℕ) → f (record q { taken = n }) ≡ f q) → (key : ℕ) (q : Queue) → f (taken_from key q) ≡ f q
 taken-same f same key q = by (eqb q.key key && nat_lt q.taken (length q.admitted)) where
@@ -66,13 +63,9 @@ keys-taken : (key : ℕ) (qs : List Queue) → keys (map (taken_from key) qs) �
 keys-taken key [] = refl
 keys-taken key (q ∷ qs) = rw (taken-key key q) (ap (λ (x : List ℕ). q.key ∷ x) (keys-taken key qs))
 
-keys-new : {A : Type 0} (f : A → Queue) (key : A → ℕ) (xs : List A) → ((x : A) → (f x).key ≡ key x) → keys (map f xs) ≡ map key xs
-keys-new f key [] same = refl
-keys-new f key (x ∷ xs) same = rw (same x) (ap (λ (l : List ℕ). key x ∷ l) (keys-new f key xs same))
-
 keys-go-on : (first : List ℕ) → GoesOn (λ qs. keys qs ≡ first)
 keys-go-on first = record {
-  offered = λ wanted items qs h. keys-with_shares wanted items qs ∙ h;
+  offered = λ wanted items qs h. map-map (λ (q : Queue). q.key) (with_share wanted items) qs ∙ h;
   taken = λ key qs h. keys-taken key qs ∙ h;
 }
 
@@ -80,10 +73,7 @@ keys-stay-both : (limits : ℕ → ℕ) (c : Settings) (journal : List Event) �
 keys-stay-both limits c journal =
     let apids = map (λ (q : QueueSetting). q.apid) c.queues in
     let maps = map (λ (m : MapSetting). m.map) c.maps in
-    run-both limits (λ qs. keys qs ≡ apids) (λ qs. keys qs ≡ maps) (keys-go-on apids) (keys-go-on maps) c journal (keys-new empty_queue _ c.queues (λ q. refl)) (keys-new empty_unit_queue _ c.maps (λ m. refl))
-
-pub keys-stay : (limits : ℕ → ℕ) (c : Settings) (journal : List Event) → keys (run_within limits c journal).queues ≡ map (λ (q : QueueSetting). q.apid) c.queues
-keys-stay limits c journal = (keys-stay-both limits c journal).0
+    run-both limits (λ qs. keys qs ≡ apids) (λ qs. keys qs ≡ maps) (keys-go-on apids) (keys-go-on maps) c journal (map-map (λ (q : Queue). q.key) empty_queue c.queues) (map-map (λ (q : Queue). q.key) empty_unit_queue c.maps)
 
 pub unit-keys-stay : (limits : ℕ → ℕ) (c : Settings) (journal : List Event) → keys (run_within limits c journal).units ≡ map (λ (m : MapSetting). m.map) c.maps
 unit-keys-stay limits c journal = (keys-stay-both limits c journal).1
@@ -97,7 +87,7 @@ settings-apart key [] h = tt
 settings-apart key (q ∷ qs) h = (others-apart key (key q) qs (λ j d lt. h 0 (suc j) d (omega arith) (omega arith)), settings-apart key qs (λ i j d lt l. h (suc i) (suc j) d (omega arith) (omega arith)))
 
 pub queues-apart : (limits : ℕ → ℕ) (c : Settings) (journal : List Event) → IsAllowed c → AreDistinct (keys (run_within limits c journal).queues)
-queues-apart limits c journal allowed = rw (keys-stay limits c journal) (settings-apart (λ (q : QueueSetting). q.apid) c.queues allowed.apart)
+queues-apart limits c journal allowed = rw (keys-stay-both limits c journal).0 (settings-apart (λ (q : QueueSetting). q.apid) c.queues allowed.apart)
 
 pub units-apart : (limits : ℕ → ℕ) (c : Settings) (journal : List Event) → IsAllowed c → AreDistinct (keys (run_within limits c journal).units)
 units-apart limits c journal allowed = rw (unit-keys-stay limits c journal) (settings-apart (λ (m : MapSetting). m.map) c.maps allowed.maps_apart)
@@ -113,10 +103,6 @@ kept-share wanted ps q h =
     let n = length-take (room_of q) (filter (wanted q.key) ps) in
     record { taken = omega arith; capacity = omega arith }
 
-kept-shares : (wanted : ℕ → List ℕ → Bool) (ps : List (List ℕ)) (qs : List Queue) → AreKept qs → AreKept (with_shares wanted ps qs)
-kept-shares wanted ps [] h = tt
-kept-shares wanted ps (q ∷ qs) h = (kept-share wanted ps q h.0, kept-shares wanted ps qs h.1)
-
 kept-one : (key : ℕ) (q : Queue) → KeepsToItsCapacity q → KeepsToItsCapacity (taken_from key q)
 kept-one key q h = by (eqb q.key key) (nat_lt q.taken (length q.admitted)) refl where
   by : (s t : Bool) → nat_lt q.taken (length q.admitted) ≡ t → KeepsToItsCapacity (cond (s && t) (record q { taken = q.taken + 1 }) q)
@@ -124,12 +110,11 @@ kept-one key q h = by (eqb q.key key) (nat_lt q.taken (length q.admitted)) refl 
   by true false e = h
   by false t e = h
 
-kept-taken : (key : ℕ) (qs : List Queue) → AreKept qs → AreKept (map (taken_from key) qs)
-kept-taken key [] h = tt
-kept-taken key (q ∷ qs) h = (kept-one key q h.0, kept-taken key qs h.1)
-
 kept-go-on : GoesOn AreKept
-kept-go-on = record { offered = kept-shares; taken = kept-taken }
+kept-go-on = record {
+  offered = λ wanted ps qs. all-mapped KeepsToItsCapacity KeepsToItsCapacity (with_share wanted ps) qs (kept-share wanted ps);
+  taken = λ key qs. all-mapped KeepsToItsCapacity KeepsToItsCapacity (taken_from key) qs (kept-one key);
+}
 
 kept-both : (limits : ℕ → ℕ) (c : Settings) (journal : List Event) → AreKept (run_within limits c journal).queues × AreKept (run_within limits c journal).units
 kept-both limits c journal =

@@ -1,6 +1,7 @@
 -- The table of the places of all keys that an APID can be.
 use Rattle.std.proofs.Common.{◌≡◌, ◌≢◌, ℕ, zero, suc, ◌+◌, ◌<◌, ◌≤◌, List, [], ◌∷◌, ◌++◌, length, take, replicate, get_or, ◌⊎◌, inl, inr, refl, sym, ap, ◌∙◌, arith}
 use Rattle.std.specs.List.{AllByRecursion}
+use Rattle.std.proofs.lemmas.Bool.{cases_eq}
 use Rattle.std.proofs.Math.ListN.{set}
 use Rattle.std.proofs.lemmas.List.{get_or-set_same, get_or-set_other, get_or-replicate, length-replicate, length-set, length-take, length-map, take_more, map_push}
 use Rattle.tc_channel.specs.HeldQueues.{keys_of, HeldQueue}
@@ -42,11 +43,8 @@ told-kept : (keys : List ℕ) (none a b n : ℕ) → n ≢ none → TellsFirst k
 told-kept keys none a b n is (inl at) = inl (first-push a b n keys at)
 told-kept keys none a b n is (inr away) = absurd (is away.0)
 
-same_or : (x y : ℕ) → (x ≡ y) ⊎ (x ≢ y)
-same_or x y = grind arith
-
 table-more : (keys : List ℕ) (none b n : ℕ) (table : List ℕ) → AreFirst keys none table → n ≡ length keys → length keys ≤ none → b < 2048 → get_or table b 0 ≡ none → AreFirst (keys ++ b ∷ []) none (set table b n)
-table-more keys none b n table t is le lt free = record { size = length-set table b n ∙ t.size; tells = λ a small. by a small (same_or a b) } where
+table-more keys none b n table t is le lt free = record { size = length-set table b n ∙ t.size; tells = λ a small. by a small (cases_eq a b) } where
   new : IsFirst b n (keys ++ b ∷ [])
   new = rw is (first-last b keys (none-told keys none b (get_or table b 0) le free (t.tells b lt)))
 
@@ -55,7 +53,7 @@ table-more keys none b n table t is le lt free = record { size = length-set tabl
   by a small (inr other) = rw (get_or-set_other table b a n 0 other) (tells-more keys none a b (get_or table a 0) other (t.tells a small))
 
 table-kept : (keys : List ℕ) (none b : ℕ) (table : List ℕ) → AreFirst keys none table → get_or table b 0 ≢ none → AreFirst (keys ++ b ∷ []) none table
-table-kept keys none b table t taken = record { size = t.size; tells = λ a small. by a small (same_or a b) } where
+table-kept keys none b table t taken = record { size = t.size; tells = λ a small. by a small (cases_eq a b) } where
   by : (a : ℕ) → a < 2048 → (a ≡ b) ⊎ (a ≢ b) → TellsFirst (keys ++ b ∷ []) none a (get_or table a 0)
   by a small (inl same) = told-kept keys none a b (get_or table a 0) (rw same taken) (t.tells a small)
   by a small (inr other) = tells-more keys none a b (get_or table a 0) other (t.tells a small)

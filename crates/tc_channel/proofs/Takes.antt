@@ -4,9 +4,10 @@ use Rattle.std.specs.Prelude.{nat_lt, option_map, slice_get}
 use Rattle.std.specs.Option.{option_and_then}
 use Rattle.std.specs.List.{AllByRecursion}
 use Rattle.std.proofs.lemmas.List.{drop-drop, length-drop}
+use mathlib.Core.List.{map-map}
 use Rattle.tc_channel.proofs.Names.{Settings, Event, Take, TakeUnit, Inside, HoldsWithin, Queue, waiting, queue_of, taken_from, HasItem, run_within}
 use Rattle.tc_channel.specs.HeldQueues.{HeldQueue, AreDistinct, keys_of, held, queue_for, items_for, popped, shorter}
-use Rattle.tc_channel.proofs.Runs.{run-push, lawful-push}
+use Rattle.tc_channel.proofs.Runs.{step-keeps}
 use Rattle.std.proofs.lemmas.Bool.Decides.{nat_tests, eqb_tells}
 use Rattle.tc_channel.specs.Reply.{waiting_packets_within, waiting_units_within}
 use Rattle.tc_channel.proofs.StateQueues.{keys, queues-apart, units-apart}
@@ -83,36 +84,14 @@ oldest-taken key qs old new item apart are has is =
 pub take-keeps : {limits : ℕ → ℕ} {c : Settings} {j : List Event} {i : Inside} (later : List HeldQueue) (apid : ℕ) (packet : List ℕ)
     → HoldsWithin limits c j i → oldest (items_for apid i.rings) ≡ Some packet → later ≡ popped apid i.rings → HoldsWithin limits c (j ++ Take apid ∷ []) (record i { rings = later })
 take-keeps {limits} {c} {j} {i} later apid packet k has is =
-    let pushed = run-push limits c j (Take apid) in
     let taken = oldest-taken apid (run_within limits c j).queues i.rings later packet (queues-apart limits c j k.allowed) k.queues has is in
-    record {
-      allowed = k.allowed;
-      lawful = lawful-push limits c j (Take apid) k.lawful taken.0;
-      width = k.width;
-      report = k.report ∙ rw pushed refl;
-      capacity = k.capacity;
-      fields = k.fields ∙ rw pushed refl;
-      runs = rw pushed k.runs;
-      queues = taken.1 ∙ rw pushed refl;
-      units = k.units ∙ rw pushed refl;
-    }
+    step-keeps (Take apid) (record i { rings = later }) k taken.0 refl k.report refl k.fields k.runs taken.1 k.units
 
 pub take-unit-keeps : {limits : ℕ → ℕ} {c : Settings} {j : List Event} {i : Inside} (later : List HeldQueue) (map_id : ℕ) (unit : List ℕ)
     → HoldsWithin limits c j i → oldest (items_for map_id i.unit_rings) ≡ Some unit → later ≡ popped map_id i.unit_rings → HoldsWithin limits c (j ++ TakeUnit map_id ∷ []) (record i { unit_rings = later })
 take-unit-keeps {limits} {c} {j} {i} later map_id unit k has is =
-    let pushed = run-push limits c j (TakeUnit map_id) in
     let taken = oldest-taken map_id (run_within limits c j).units i.unit_rings later unit (units-apart limits c j k.allowed) k.units has is in
-    record {
-      allowed = k.allowed;
-      lawful = lawful-push limits c j (TakeUnit map_id) k.lawful taken.0;
-      width = k.width;
-      report = k.report ∙ rw pushed refl;
-      capacity = k.capacity;
-      fields = k.fields ∙ rw pushed refl;
-      runs = rw pushed k.runs;
-      queues = k.queues ∙ rw pushed refl;
-      units = taken.1 ∙ rw pushed refl;
-    }
+    step-keeps (TakeUnit map_id) (record i { unit_rings = later }) k taken.0 refl k.report refl k.fields k.runs k.queues taken.1
 
 items-map : (o : Option Queue) → option_map waiting o ≡ option_map (λ (w : HeldQueue). w.ring.items) (option_map held o)
 items-map None = refl
@@ -133,8 +112,7 @@ unfolding waiting_units_within
 units-wait {limits} {c} {j} {i} map_id k = items-wait map_id i.unit_rings (run_within limits c j).units k.units
 
 pub same-keys : (qs : List Queue) → keys_of (map held qs) ≡ keys qs
-same-keys [] = refl
-same-keys (q ∷ qs) = ap (λ (x : List ℕ). q.key ∷ x) (same-keys qs)
+same-keys qs = map-map (λ (w : HeldQueue). w.key) held qs
 
 pub queues-distinct : {limits : ℕ → ℕ} {c : Settings} {j : List Event} {i : Inside} → HoldsWithin limits c j i → AreDistinct (keys_of i.rings)
 queues-distinct {limits} {c} {j} k = rw (k.queues, same-keys (run_within limits c j).queues) (queues-apart limits c j k.allowed)

@@ -2,7 +2,8 @@
 use Rattle.std.proofs.Common.{◌≡◌, ℕ, zero, suc, ◌+◌, ◌-◌, ◌≤◌, Bool, true, false, cond, eqb, List, [], ◌∷◌, ◌++◌, length, map, filter, take, drop, Some, refl, sym, ap, subst, ◌∙◌, inl, inr, append_assoc, arith}
 use Rattle.std.specs.Prelude.{is_some, slice_get}
 use Rattle.std.proofs.lemmas.List.{append-nil, length-drop}
-use Rattle.tc_channel.proofs.Names.{accepts, Service, Bd, Passed, Settings, MapSetting, Event, Frame, Release, Take, TakeUnit, ChannelState, Accepted, Queue, first_state_within, empty_queue, empty_unit_queue, buffer, queue_of, is_for, is_of_map, map_of, is_chosen, packets_offered, units_offered, room_of, with_shares, step, row_of, unit_of, taken_from, first_of, IsLawfulWithin}
+use Rattle.std.proofs.Math.Seq.{take-nil}
+use Rattle.tc_channel.proofs.Names.{accepts, Service, Bd, Passed, Settings, MapSetting, Event, Frame, Release, Take, TakeUnit, ChannelState, Accepted, Queue, first_state_within, empty_queue, empty_unit_queue, buffer, queue_of, is_for, is_of_map, map_of, is_chosen, packets_offered, units_offered, room_of, with_share, with_shares, step, row_of, unit_of, taken_from, first_of, IsLawfulWithin}
 use Rattle.tc_channel.specs.Given.{packets_given, units_given}
 use Rattle.tc_channel.specs.Era.{IsEraWithin, ComesFromWithin}
 use Rattle.tc_packet.specs.declared.Service.TheVariants.{Ad}
@@ -10,8 +11,8 @@ use Rattle.tc_channel.specs.Run.{passed_on, run_within}
 use Rattle.tc_channel.specs.Through.{IsPartOf, unit_made, is_chosen_by, packets_ended, units_ended, all_made, packets_made, units_made, passed_since, released_since, sent_from}
 use Rattle.tc_channel.proofs.Runs.{run-push, from-first}
 use Rattle.tc_channel.proofs.Plain.{run-segmented, run-limit}
-use Rattle.tc_channel.proofs.StateQueues.{keys, taken-same, kept-either, unit-keys-stay}
-use Rattle.tc_channel.proofs.Given.{found-key, set-up, found-shared, found-taken, packets-in-order, units-in-order, fields-in-order, released-within}
+use Rattle.tc_channel.proofs.StateQueues.{keys, taken-key, taken-same, kept-either, unit-keys-stay}
+use Rattle.tc_channel.proofs.Given.{found-key, set-up, found-changed, packets-in-order, units-in-order, fields-in-order, released-within}
 use Rattle.tc_channel.proofs.Eras.{all-sent}
 
 -- parts of lists
@@ -100,7 +101,7 @@ admits-shared : (key : ℕ) (Ended : List Passed → Passed → List (List ℕ))
     → filter (wanted key) items ≡ Ended passed p → Admits key Ended qs passed → Admits key Ended (with_shares wanted items qs) (passed ++ p ∷ [])
 admits-shared key Ended wanted items qs passed p same h = record {
   each = λ new e.
-      let found = found-shared key wanted items qs new e in
+      let found = found-changed key (with_share wanted items) (λ q. refl) qs new e in
       let old = found.0 in
       let its : old.key ≡ key = found-key key qs old found.1 in
       let was : IsPartOf old.admitted (all_made Ended [] passed) = h.each old found.1 in
@@ -112,7 +113,7 @@ admits-shared key Ended wanted items qs passed p same h = record {
 admits-taken : (key other : ℕ) (Ended : List Passed → Passed → List (List ℕ)) (qs : List Queue) (passed : List Passed) → Admits key Ended qs passed → Admits key Ended (map (taken_from other) qs) passed
 admits-taken key other Ended qs passed h = record {
   each = λ new e.
-      let found = found-taken key other qs new e in
+      let found = found-changed key (taken_from other) (taken-key other) qs new e in
       rw (found.2, taken-same {A = List (List ℕ)} (λ q. q.admitted) (λ q n. refl) other found.0) (h.each found.0 found.1);
 }
 
@@ -172,10 +173,6 @@ sent-fields sent k (suc n) (x ∷ xs) each le =
     let later = sent-fields sent (suc k) n xs (λ i a is. each (suc i) a is ∙ ap sent (omega arith)) (omega arith) in
     rw (here, later) refl
 
-take-none : (k : ℕ) (xs : List Accepted) → xs ≡ [] → map (λ (a : Accepted). a.field) (take k xs) ≡ []
-take-none (suc k) (x ∷ xs) none = absurd cc
-take-none _ _ none = refl
-
 -- what is released of a list behind its first n is released of the rest
 rest-released : (n r : ℕ) (xs : List Accepted) → drop n (map (λ (a : Accepted). a.field) (take r xs)) ≡ map (λ (a : Accepted). a.field) (take (r - n) (drop n xs))
 rest-released zero r xs =
@@ -184,7 +181,7 @@ rest-released zero r xs =
 rest-released (suc n) zero xs =
     let none : 0 - suc n ≡ 0 = omega arith in
     ap (λ (k : ℕ). map (λ (a : Accepted). a.field) (take k (drop (suc n) xs))) (sym none)
-rest-released (suc n) (suc r) [] = sym (take-none (suc r - suc n) [] refl)
+rest-released (suc n) (suc r) [] = sym (ap (map (λ (a : Accepted). a.field)) (take-nil {A = Accepted} (suc r - suc n)))
 rest-released (suc n) (suc r) (x ∷ xs) =
     let less : suc r - suc n ≡ r - n = omega arith in
     rest-released n r xs ∙ ap (λ (k : ℕ). map (λ (a : Accepted). a.field) (take k (drop n xs))) (sym less)

@@ -1,5 +1,5 @@
 -- Packets that go into their queues one after the other.
-use Rattle.std.proofs.Common.{◌≡◌, ◌≢◌, ℕ, zero, suc, ◌+◌, ◌-◌, ◌<◌, ◌≤◌, Bool, true, false, cond, eqb, List, [], ◌∷◌, ◌++◌, length, map, drop, get_or, Some, None, refl, sym, ap, subst, ◌∙◌, arith}
+use Rattle.std.proofs.Common.{◌≡◌, ◌≢◌, ℕ, zero, suc, ◌+◌, ◌-◌, ◌<◌, ◌≤◌, Bool, true, false, cond, eqb, List, [], ◌∷◌, ◌++◌, length, map, drop, get_or, Option, Some, None, refl, sym, ap, subst, ◌∙◌, arith}
 use Rattle.std.specs.Prelude.{is_some}
 use Rattle.std.specs.List.{AllByRecursion}
 use Rattle.std.proofs.Math.ListN.{set}
@@ -9,8 +9,10 @@ use Rattle.tc_channel.proofs.Names.{packets_of, joined, is_for, is_of_map, deliv
 use Rattle.tc_channel.specs.HeldQueues.{keys_of, AreDistinct, room_in, share, put, copied_to, copies_from, queue_for, placed, HeldQueue}
 use Rattle.tc_channel.specs.Delivering.{room_at, IsOnItsWay, ArePut, IsPutWhole, IsDelivered}
 use Rattle.tc_channel.proofs.Copies.{copies-none, put_all-push, length-put_all}
-use Rattle.tc_channel.proofs.Passes.{NoneFor, under-way, none-on, full-on, copy-on, as-many, all-shared, none-shares}
-use Rattle.tc_channel.proofs.Wholes.{take-nil, takes-one, takes-none}
+use Rattle.tc_channel.proofs.Passes.{NoneFor, apart-at, under-way, none-on, full-on, copy-on, as-many, all-shared, none-shares}
+use Rattle.std.proofs.Math.Seq.{take-nil}
+use Rattle.tc_channel.proofs.Found.{not-found}
+use Rattle.tc_channel.proofs.Wholes.{one-takes, share-room, share-full}
 
 -- before the first packet
 pub at-start : (base now : List HeldQueue) (all : List (List ℕ)) → now ≡ base → IsOnItsWay base all all 0 now
@@ -60,11 +62,6 @@ way-put base now later p left all n i a distinct inside is for_it some put_is k 
 key-at : (ws : List HeldQueue) (i : ℕ) (m : ℕ) (q : HeldQueue) → i < length ws → m ≡ get_or (keys_of ws) i m → q ≡ get_or ws i q → q.key ≡ m
 key-at ws i m q inside is q_is = ap (λ (x : HeldQueue). x.key) q_is ∙ sym (get_or-map (λ (x : HeldQueue). x.key) ws i q m inside) ∙ sym is
 
-pub apart-at : (b : ℕ) (xs : List ℕ) (i m : ℕ) → AllByRecursion (λ (x : ℕ). b ≢ x) xs → i < length xs → m ≡ get_or xs i m → b ≢ m
-apart-at b [] i m h inside is = absurd (omega arith)
-apart-at b (x ∷ xs) zero m h inside is = λ e. h.0 (e ∙ is)
-apart-at b (x ∷ xs) (suc i) m h inside is = apart-at b xs i m h.1 (omega arith) is
-
 -- only the queue of its MAP takes a unit
 skip : (m p i : ℕ) (u : List ℕ) (ws : List HeldQueue) → AreDistinct (keys_of ws) → i < length ws → m ≡ get_or (keys_of ws) i m
     → copies_from (is_of_map m) p (u ∷ []) ws ≡ copies_from (is_of_map m) (p + i) (u ∷ []) (drop i ws)
@@ -72,7 +69,7 @@ skip m p i u [] distinct inside is = absurd (omega arith)
 skip m p zero u (w ∷ ws) distinct inside is = ap (λ (n : ℕ). copies_from (is_of_map m) n (u ∷ []) (w ∷ ws)) (let e : p ≡ p + 0 = omega arith in e)
 skip m p (suc i) u (w ∷ ws) distinct inside is =
     let other : w.key ≢ m = apart-at w.key (keys_of ws) i m distinct.0 (omega (arith, length-map ws (λ (q : HeldQueue). q.key))) is in
-    let none : share (is_of_map m) (u ∷ []) w ≡ [] = rw (ne_eqb w.key m other) (take-nil (w.ring.capacity - length w.ring.items)) in
+    let none : share (is_of_map m) (u ∷ []) w ≡ [] = rw (ne_eqb w.key m other) (take-nil {A = List ℕ} (w.ring.capacity - length w.ring.items)) in
     rw none (skip m (p + 1) i u ws distinct.1 (omega arith) is ∙ ap (λ (n : ℕ). copies_from (is_of_map m) n (u ∷ []) (drop i ws)) (let e : p + 1 + i ≡ p + suc i = omega arith in e))
 
 -- the queue at a place
@@ -88,9 +85,10 @@ put-whole m i u ws new d distinct inside is new_is room d_is =
     let q_is : q ≡ get_or ws i q = (at ws i inside).1 in
     let r : room_at i ws ≡ room_in q = get_or-map room_in ws i q 0 inside ∙ ap room_in (sym q_is) in
     let some : 0 < q.ring.capacity - length q.ring.items = omega arith in
+    let key = key-at ws i m q inside is q_is in
     record {
       made = Some (copied_to i u);
-      whole = sym (skip m 0 i u ws distinct inside is ∙ takes-one m (0 + i) i u ws q distinct inside q_is (key-at ws i m q inside is q_is) (omega arith) ∙ ap (λ (n : ℕ). copied_to n u ∷ []) (let e : 0 + i ≡ i = omega arith in e));
+      whole = sym (skip m 0 i u ws distinct inside is ∙ one-takes m (0 + i) i u ws q distinct inside q_is key ∙ ap (map (copied_to (0 + i))) (share-room m u q key (omega arith)) ∙ ap (λ (n : ℕ). copied_to n u ∷ []) (let e : 0 + i ≡ i = omega arith in e));
       new_is = new_is;
       delivery_is = d_is;
     }
@@ -104,16 +102,12 @@ put-none m i u ws new d distinct inside is new_is room d_is =
     let none : q.ring.capacity - length q.ring.items ≡ 0 = sym r ∙ room in
     record {
       made = None;
-      whole = sym (skip m 0 i u ws distinct inside is ∙ takes-none m (0 + i) i u ws q distinct inside q_is (key-at ws i m q inside is q_is) (omega arith));
+      whole = sym (skip m 0 i u ws distinct inside is ∙ one-takes m (0 + i) i u ws q distinct inside q_is (key-at ws i m q inside is q_is) ∙ ap (map (copied_to (0 + i))) (share-full m u q (omega arith)));
       new_is = new_is;
       delivery_is = d_is;
     }
 
 -- whether the MAP is chosen
-not-there : (m : ℕ) (ws : List HeldQueue) → AllByRecursion (λ (other : ℕ). m ≢ other) (keys_of ws) → is_some (queue_for m ws) ≡ false
-not-there m [] h = refl
-not-there m (w ∷ ws) h = rw (ne_eqb w.key m (λ e. h.0 (sym e))) (not-there m ws h.1)
-
 there : (m i : ℕ) (ws : List HeldQueue) → i < length ws → m ≡ get_or (keys_of ws) i m → is_some (queue_for m ws) ≡ true
 there m i [] inside is = absurd (omega arith)
 there m zero (w ∷ ws) inside is = rw (eq-eqb w.key m (sym is)) refl
@@ -124,7 +118,7 @@ there m (suc i) (w ∷ ws) inside is = by (eqb w.key m) (there m i ws (omega ari
 
 pub by-packets : (m : ℕ) (u : List ℕ) (queues later units : List HeldQueue) (d : Delivery) → AllByRecursion (λ (other : ℕ). m ≢ other) (keys_of units) → ArePut u queues later d → IsDelivered m (Some u) queues later units units d
 by-packets m u queues later units d none put =
-    let other = not-there m units none in
+    let other = ap (λ (q : Option HeldQueue). is_some q) (not-found m units none) in
     let e : length put.made + 0 ≡ length put.made = omega arith in
     record {
       made = put.made;

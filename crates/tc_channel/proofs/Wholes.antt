@@ -1,28 +1,20 @@
 -- The one queue that takes a unit of a MAP.
-use Rattle.std.proofs.Common.{◌≡◌, ◌≢◌, ℕ, zero, suc, ◌+◌, ◌-◌, ◌<◌, ◌≤◌, List, [], ◌∷◌, length, map, take, drop, get_or, refl, sym, ap, subst, ◌∙◌, arith}
+use Rattle.std.proofs.Common.{◌≡◌, ◌≢◌, ℕ, zero, suc, ◌+◌, ◌-◌, ◌<◌, ◌≤◌, List, [], ◌∷◌, length, map, drop, get_or, refl, sym, ap, subst, ◌∙◌, arith}
 use Rattle.std.specs.List.{AllByRecursion}
 use Rattle.std.proofs.lemmas.Bool.{eq-eqb, ne_eqb}
-use Rattle.std.proofs.lemmas.List.{append-nil}
+use Rattle.std.proofs.lemmas.List.{append-nil, take_all}
+use Rattle.std.proofs.Math.Seq.{take-nil}
 use Rattle.tc_channel.proofs.Names.{is_of_map}
 use Rattle.tc_channel.specs.HeldQueues.{keys_of, AreDistinct, share, copied_to, copies_from, HeldQueue}
 
-pub take-one : (n : ℕ) (u : List ℕ) → 0 < n → take n (u ∷ []) ≡ u ∷ []
-take-one zero u some = absurd (omega arith)
-take-one (suc zero) u some = refl
-take-one (suc (suc n)) u some = refl
+pub share-room : (m : ℕ) (u : List ℕ) (q : HeldQueue) → q.key ≡ m → length q.ring.items < q.ring.capacity → share (is_of_map m) (u ∷ []) q ≡ u ∷ []
+share-room m u q same room = rw (eq-eqb q.key m same) (take_all (q.ring.capacity - length q.ring.items) (u ∷ []) (omega arith))
 
-pub take-nil : (n : ℕ) → take {A = List ℕ} n [] ≡ []
-take-nil zero = refl
-take-nil (suc n) = refl
-
-share-room : (m : ℕ) (u : List ℕ) (q : HeldQueue) → q.key ≡ m → length q.ring.items < q.ring.capacity → share (is_of_map m) (u ∷ []) q ≡ u ∷ []
-share-room m u q same room = rw (eq-eqb q.key m same) (take-one (q.ring.capacity - length q.ring.items) u (omega arith))
-
-share-full : (m : ℕ) (u : List ℕ) (q : HeldQueue) → q.ring.capacity ≤ length q.ring.items → share (is_of_map m) (u ∷ []) q ≡ []
+pub share-full : (m : ℕ) (u : List ℕ) (q : HeldQueue) → q.ring.capacity ≤ length q.ring.items → share (is_of_map m) (u ∷ []) q ≡ []
 share-full m u q full = let none : q.ring.capacity - length q.ring.items ≡ 0 = omega arith in rw none refl
 
 share-other : (m : ℕ) (u : List ℕ) (q : HeldQueue) → q.key ≢ m → share (is_of_map m) (u ∷ []) q ≡ []
-share-other m u q other = rw (ne_eqb q.key m other) (take-nil (q.ring.capacity - length q.ring.items))
+share-other m u q other = rw (ne_eqb q.key m other) (take-nil {A = List ℕ} (q.ring.capacity - length q.ring.items))
 
 others-take-none : (m place : ℕ) (u : List ℕ) (ws : List HeldQueue) → AllByRecursion (λ b. m ≢ b) (keys_of ws) → copies_from (is_of_map m) place (u ∷ []) ws ≡ []
 others-take-none m place u [] h = refl
@@ -37,11 +29,3 @@ one-takes m place zero u (w ∷ ws) q apart lt is same =
     let others : AllByRecursion (λ b. m ≢ b) (keys_of ws) = subst (λ k. AllByRecursion (λ b. k ≢ b) (keys_of ws)) e apart.0 in
     rw (others-take-none m (place + 1) u ws others, append-nil (map (copied_to place) (share (is_of_map m) (u ∷ []) w)), ← is) refl
 one-takes m place (suc i) u (w ∷ ws) q apart lt is same = one-takes m place i u ws q apart.1 (omega arith) is same
-
-pub takes-one : (m place i : ℕ) (u : List ℕ) (ws : List HeldQueue) (q : HeldQueue) → AreDistinct (keys_of ws) → i < length ws → q ≡ get_or ws i q → q.key ≡ m → length q.ring.items < q.ring.capacity
-    → copies_from (is_of_map m) place (u ∷ []) (drop i ws) ≡ copied_to place u ∷ []
-takes-one m place i u ws q apart lt is same room = one-takes m place i u ws q apart lt is same ∙ ap (map (copied_to place)) (share-room m u q same room)
-
-pub takes-none : (m place i : ℕ) (u : List ℕ) (ws : List HeldQueue) (q : HeldQueue) → AreDistinct (keys_of ws) → i < length ws → q ≡ get_or ws i q → q.key ≡ m → q.ring.capacity ≤ length q.ring.items
-    → copies_from (is_of_map m) place (u ∷ []) (drop i ws) ≡ []
-takes-none m place i u ws q apart lt is same full = one-takes m place i u ws q apart lt is same ∙ ap (map (copied_to place)) (share-full m u q full)

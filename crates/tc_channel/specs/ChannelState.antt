@@ -60,10 +60,6 @@ first_state_within limits s = record {
   units = map empty_unit_queue s.maps;
 }
 
--- the state of a channel that starts
-abbrev pub first_state : Settings → ChannelState
-first_state s = first_state_within no_limits s
-
 -- the data fields that wait in the buffer, the oldest first
 abbrev pub buffer : ChannelState → List (List ℕ)
 buffer state = map (λ a. a.field) (drop state.released state.accepted)

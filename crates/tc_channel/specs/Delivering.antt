@@ -4,9 +4,7 @@ use Rattle.std.specs.List.{AllByRecursion}
 use Rattle.tc_packet.specs.SpacePacket.{packets_of}
 use Rattle.tc_channel.specs.Admission.{is_for, is_of_map, packets_offered, units_offered}
 use Rattle.tc_channel.specs.Reply.{delivered}
-use Rattle.tc_channel.specs.HeldQueues.{copies_from, put, put_all, room_in, placed, queue_for, IsUnderWay, AreShares}
-use Rattle.tc_channel.specs.HeldQueues.{HeldQueue}
-use Rattle.tc_channel.specs.HeldQueues.{Placed}
+use Rattle.tc_channel.specs.HeldQueues.{HeldQueue, Placed, copies_from, put, put_all, room_in, placed, queue_for, IsUnderWay, AreShares}
 use Rattle.tc_channel.specs.declared.reply.Delivery.{Delivery}
 use Rattle.tc_channel.specs.Keyed.{Keyed}
 

@@ -78,8 +78,5 @@ ComesFromWithin limits s before later x sent = (place : ℕ) (e : Event) → sli
 abbrev pub IsEra : Settings → List Event → List Event → List Event → ℕ → Type 0
 IsEra s journal before later x = IsEraWithin no_limits s journal before later x
 
-abbrev pub accepted_since : Settings → List Event → List Event → List Accepted
-accepted_since s before journal = accepted_since_within no_limits s before journal
-
 abbrev pub CountsUpInItsEra : Settings → List Event → Type 0
 CountsUpInItsEra s journal = CountsUpInItsEraWithin no_limits s journal

@@ -104,11 +104,6 @@ abbrev pub placed : Option Placed → List Placed
 placed None = []
 placed (Some one) = one ∷ []
 
--- a unit goes to this place, if any
-abbrev pub placed_at : Option ℕ → List ℕ → List Placed
-placed_at None unit = []
-placed_at (Some place) unit = copied_to place unit ∷ []
-
 -- how many APIDs there are: they have 11 bits (CCSDS 133.0-B, 4.1.3.3)
 abbrev pub apid_count : ℕ
 apid_count = 2048

@@ -2,8 +2,7 @@
 use Rattle.std.specs.Prelude.{◌≡◌, ◌≤◌, ◌<◌, ◌++◌, ℕ, Bool, true, false, List, [], ◌∷◌, length, map, Option, IfSome}
 use Rattle.std.specs.List.{AllByRecursion}
 use Rattle.circular_buffer.specs.Buffer.{buffer}
-use Rattle.tc_channel.specs.HeldQueues.{with_items}
-use Rattle.tc_channel.specs.HeldQueues.{HeldQueue}
+use Rattle.tc_channel.specs.HeldQueues.{HeldQueue, with_items}
 use Rattle.tc_rooms.specs.Rooms.{Slotted, slotted}
 
 -- what a contract sees of a queue: its key, and the items in its slots

@@ -1,4 +1,5 @@
 //! What the definitions answer after short journals.
+#![tactic(auto, unfolding(crate::specs::Run::run_within, crate::specs::Run::passed_on, crate::specs::Run::IsLawfulWithin, crate::specs::ChannelState::no_limits, crate::specs::Reply::frame_reply_within, crate::specs::Reply::release_reply_within, crate::specs::Reply::waiting_packets_within, crate::specs::Reply::waiting_units_within, crate::specs::Reply::buffered_fields_within, crate::specs::Reply::clcw_within, crate::specs::Memory::memory_bound, tc_link::specs::Window::some_of_first))]
 
 ghost use Rattle.std.specs.Prelude.{◌≡◌, true, false, [], ◌∷◌, Some, None};
 ghost use Rattle.tc_channel.specs.declared.event.Event.TheVariants.{Frame, Release, Take, TakeUnit};
@@ -14,6 +15,7 @@ ghost use Rattle.tc_channel.specs.Examples as example;
 /// The definitions give the answers that were worked out by hand from the standard. Each clause is one journal, and what the next
 /// call answers after it.
 pub fn short_journals_are_answered_so()
+    ensures accepted { clcw (example.buffer_of 1) (example.one_packet 0 ∷ []) example.link_up ≡ 0x01040001 }
     ensures one_queued_one_dropped { release_reply (example.buffer_of 1) (example.two_packets ∷ []) ≡ record { queued = 1; dropped = 1; rest = false } }
     ensures rest { release_reply (example.buffer_of 1) (example.packet_and_rest ∷ []) ≡ record { queued = 1; dropped = 0; rest = true } }
     ensures telemetry_and_idle { release_reply (example.buffer_of 1) (example.telemetry_and_idle ∷ []) ≡ record { queued = 0; dropped = 2; rest = false } }

@@ -73,6 +73,7 @@ pub fn each_passed_field_is_accounted_for()
 /// What data fields make, worked out by hand: a packet in two segments, for its own application alone; none where the two came by
 /// different services, or where its unit is over the limit of its MAP; on a chosen MAP the unit as it is, and no packet; and a packet that
 /// is a field without segment header.
+#[tactic(auto, unfolding(crate::specs::ChannelState::no_limits))]
 pub fn passed_fields_make_so()
     ensures two_segments { packets_made no_limits (example.buffer_of 2) 5 (example.in_two_segments Service.Ad Service.Ad) ≡ example.joined_packet ∷ [] }
     ensures other_application { packets_made no_limits (example.buffer_of 2) 6 (example.in_two_segments Service.Ad Service.Ad) ≡ [] }

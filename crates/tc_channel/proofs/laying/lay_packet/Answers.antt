@@ -39,16 +39,13 @@ returns-clause-way g c = λ base left all n k.
     (is-for c.args.packet.now c.args.packet.now.apid c.requires.fields c.if-not-packet.false refl) full.1 k)
 
 pub returns-then-put-clause-among : goal.returns-then-put-clause-among
-returns-then-put-clause-among g c = λ packets more all.
-    let some = rw c.deref.ensures.value at c.in-Some.ensures.some in
-    c.lay_at.ensures.among c.args.packet.now.apid packets some.1 (more c.args.packet.now.apid (is-for c.args.packet.now c.args.packet.now.apid c.requires.fields c.if-not-packet.false refl)) all
+returns-then-put-clause-among g c = λ packets more.
+    c.lay_at.ensures.among _ packets (rw c.deref.ensures.value at c.in-Some.ensures.some).1 (more _ (is-for c.args.packet.now _ c.requires.fields c.if-not-packet.false refl))
 
 pub returns-clause-among : goal.returns-clause-among
-returns-clause-among g c = λ packets more all.
-    let some = rw c.deref.ensures.value at c.in-Some.ensures.some in
-    c.lay_at.ensures.among c.args.packet.now.apid packets some.1 (more c.args.packet.now.apid (is-for c.args.packet.now c.args.packet.now.apid c.requires.fields c.if-not-packet.false refl)) all
+returns-clause-among g c = λ packets more.
+    c.lay_at.ensures.among _ packets (rw c.deref.ensures.value at c.in-Some.ensures.some).1 (more _ (is-for c.args.packet.now _ c.requires.fields c.if-not-packet.false refl))
 
 pub returns-in_err-put-clause-among : goal.returns-in_err-put-clause-among
-returns-in_err-put-clause-among g c = λ packets more all.
-    let some = rw c.deref.ensures.value at c.in-Some.ensures.some in
-    c.lay_at.ensures.among c.args.packet.now.apid packets some.1 (more c.args.packet.now.apid (is-for c.args.packet.now c.args.packet.now.apid c.requires.fields c.if-not-packet.false refl)) all
+returns-in_err-put-clause-among g c = λ packets more.
+    c.lay_at.ensures.among _ packets (rw c.deref.ensures.value at c.in-Some.ensures.some).1 (more _ (is-for c.args.packet.now _ c.requires.fields c.if-not-packet.false refl))

@@ -3,7 +3,8 @@ use Rattle.std.specs.Box.{boxed_slice_items}
 use Rattle.std.proofs.lemmas.Grind.{common_steps}
 use Rattle.tc_packet.specs.SpacePacket.{packets_of, rest_of, joined}
 use Rattle.tc_channel.specs.Keyed.{rings_in, all_laid_in, room_sizes}
-use Rattle.tc_channel.proofs.InRooms.{fit-shorter, laid-none}
+use Rattle.tc_channel.proofs.InRooms.{laid-none}
+use Rattle.tc_channel.proofs.Sizes.{fit-enough}
 use Rattle.tc_channel.specs.Steps.{looks, pass_steps}
 use Rattle.tc_channel.proofs.Counts.{pass-step, cut-one, cut-last, looks-same, same-count}
 use Rattle.tc_channel.proofs.Laid.{none-laid}
@@ -34,7 +35,7 @@ lay_packet-requires-clause-fits g c =
     let cut = c.each_unit_has_one_cut.ensures.cut rest in
     let short : length c.in-Some.packet.octets.now ≤ length rest = first-short rest c.in-Some.packet.octets.now (rest_of rest) (packets_of c.in-Some.after.now) (cut.parts ∙ ap (λ x. joined x ++ rest_of rest) c.in-Some.ensures.packets) in
     let within = c.loop-packet.invariant.within in
-    rw c.loop-packet.invariant.sizes (fit-shorter c.args.unit.now c.in-Some.packet.octets.now (room_sizes (boxed_slice_items c.args.queues.now)) (omega arith) c.requires.fits)
+    rw c.loop-packet.invariant.sizes (fit-enough c.in-Some.packet.octets.now (length c.args.unit.now) (room_sizes (boxed_slice_items c.args.queues.now)) c.requires.fits (omega arith))
 
 pub returns-clause-put : goal.returns-clause-put
 returns-clause-put g c =

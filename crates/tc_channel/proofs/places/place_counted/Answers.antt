@@ -15,12 +15,8 @@ returns-then-place-queues-clause-first g c =
 
 pub returns-then-place-queues-clause-some : goal.returns-then-place-queues-clause-some
 returns-then-place-queues-clause-some g c =
-    let keys = keys_of (rings_in c.args.queues.now) in
-    let count : length keys ≡ length c.args.queues.now = keys-length c.args.queues.now in
-    let inside : c.args.key < length c.args.table.now = grind (arith, common_steps) in
-    let lt : get_or c.args.table.now c.args.key 0 < length c.args.queues.now = grind (arith, common_steps) in
-    let first = told-first keys c.args.table.now (length keys) c.args.key (c.requires (omega arith)) refl inside (omega arith) in
-    (lt, first-key c.args.key (get_or c.args.table.now c.args.key 0) keys first)
+    let first = returns-then-place-queues-clause-first g c in
+    (grind (arith, common_steps), first-key _ _ (keys_of (rings_in c.args.queues.now)) first)
 
 pub returns-clause-none : goal.returns-clause-none
 returns-clause-none g c =

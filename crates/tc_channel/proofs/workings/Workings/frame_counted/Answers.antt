@@ -6,11 +6,10 @@ use Rattle.tc_channel.specs.Keyed.{rings_in}
 use Rattle.tc_channel.specs.Reply.{frame_reply_within}
 use Rattle.tc_channel.specs.Run.{run_within, row_of}
 use Rattle.tc_rooms.specs.Runs.{open_runs}
-use Rattle.tc_channel.proofs.AtWork.{on-err, still-holds}
+use Rattle.tc_channel.proofs.AtWork.{holds-on, on-err, still-holds}
 use Rattle.tc_channel.proofs.Held.{row-is, can-enter, frame-keeps}
 use Rattle.tc_channel.proofs.Plain.{run-limit}
 use Rattle.tc_channel.proofs.Shares.{frame-delivery}
-use Rattle.tc_channel.proofs.Sizes.{enough-after, limits-after, small-after}
 use Rattle.tc_channel.proofs.Takes.{queues-distinct, units-distinct}
 use Rattle.tc_channel.proofs.Within.{ends-at-once-is, follows-kind-is}
 use Rattle.tc_channel.proofs.workings.Workings.frame_counted.Goals as goal
@@ -37,23 +36,15 @@ returns-clause-done g c = λ limits s journal k_now.
     let f = c.self.inside in
     let k = rw (← c.self.view_is) at k_now in
     let d = c.in_ok-delivery.ensures.delivered in
-    record {
-      holds = frame-keeps _ c.in_ok-delivery.delivery d.0 c.kind-kind.result c.args.frame.now
-          (frame_row f.farm.width f.farm.report.vr c.kind-kind.result (nat_lt c.len.result c.capacity.result)) c.step-act.result
-          c.each_arrival_has_an_entry.ensures.frame k.holds c.kind-kind.ensures (follows-kind-is limits f.runs c.kind-kind.result (open_runs c.pass_bypass.new.runs) (drop 5 c.args.frame.now) k.limits_are (rw (take_rest c.octets.result.now 5, c.octets.ensures.octets) at c.in_ok-delivery.ensures.follows)) (ends-at-once-is limits f.runs c.kind-kind.result (drop 5 c.args.frame.now) d.0 k.limits_are (rw (take_rest c.octets.result.now 5, c.octets.ensures.octets) at d.1))
-          (rw (take_rest c.octets.result.now 5, c.octets.ensures.octets) at d.2) c.octets.ensures.whole
-          (row-is c.args.frame.now c.kind-kind.result c.len.result c.capacity.result k.holds c.kind-kind.ensures c.len.ensures.len c.capacity.ensures.capacity)
-          c.step-act.ensures.event c.step-act.ensures.accepted c.step-act.ensures.width c.step-act.ensures.report
-          (rw (take_rest c.octets.result.now 5, c.octets.ensures.octets) at c.put_field.ensures.items) c.put_field.ensures.capacity;
-      field_size = c.put_field.ensures.size ∙ k.field_size;
-      fields_settled = c.put_field.ensures.settled;
-      settled = c.pass_bypass.ensures.settled;
-      units_settled = c.pass_bypass.ensures.units_settled;
-      limits_are = limits-after limits f.runs c.pass_bypass.new.runs c.pass_bypass.ensures.limits k.limits_are;
-      small = small-after f.runs c.pass_bypass.new.runs c.pass_bypass.ensures.limits k.small;
-      sizes = enough-after f.runs c.pass_bypass.new.runs _ _ c.pass_bypass.ensures.segmented c.pass_bypass.ensures.limits c.pass_bypass.ensures.sizes k.sizes;
-      unit_sizes = enough-after f.runs c.pass_bypass.new.runs _ _ c.pass_bypass.ensures.segmented c.pass_bypass.ensures.limits c.pass_bypass.ensures.unit_sizes k.unit_sizes;
-    }
+    holds-on _ _ k
+    (frame-keeps _ c.in_ok-delivery.delivery d.0 c.kind-kind.result c.args.frame.now
+    (frame_row f.farm.width f.farm.report.vr c.kind-kind.result (nat_lt c.len.result c.capacity.result)) c.step-act.result
+    c.each_arrival_has_an_entry.ensures.frame k.holds c.kind-kind.ensures (follows-kind-is limits f.runs c.kind-kind.result (open_runs c.pass_bypass.new.runs) (drop 5 c.args.frame.now) k.limits_are (rw (take_rest c.octets.result.now 5, c.octets.ensures.octets) at c.in_ok-delivery.ensures.follows)) (ends-at-once-is limits f.runs c.kind-kind.result (drop 5 c.args.frame.now) d.0 k.limits_are (rw (take_rest c.octets.result.now 5, c.octets.ensures.octets) at d.1))
+    (rw (take_rest c.octets.result.now 5, c.octets.ensures.octets) at d.2) c.octets.ensures.whole
+    (row-is c.args.frame.now c.kind-kind.result c.len.result c.capacity.result k.holds c.kind-kind.ensures c.len.ensures.len c.capacity.ensures.capacity)
+    c.step-act.ensures.event c.step-act.ensures.accepted c.step-act.ensures.width c.step-act.ensures.report
+    (rw (take_rest c.octets.result.now 5, c.octets.ensures.octets) at c.put_field.ensures.items) c.put_field.ensures.capacity)
+    c.put_field.ensures.size c.put_field.ensures.settled c.pass_bypass.ensures.limits c.pass_bypass.ensures.segmented c.pass_bypass.ensures.sizes c.pass_bypass.ensures.unit_sizes c.pass_bypass.ensures.settled c.pass_bypass.ensures.units_settled
 
 pub invariant_of-self-2 : goal.invariant_of-self-2
 invariant_of-self-2 g c =

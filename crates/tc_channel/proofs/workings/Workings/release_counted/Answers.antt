@@ -7,11 +7,10 @@ use Rattle.tc_channel.specs.Run.{run_within, first_of}
 use Rattle.tc_packet.specs.declared.Service.TheVariants.{Ad}
 use Rattle.tc_rooms.specs.Rooms.{Slotted}
 use Rattle.tc_rooms.specs.Runs.{open_runs}
-use Rattle.tc_channel.proofs.AtWork.{first-is, on-err, still-holds}
+use Rattle.tc_channel.proofs.AtWork.{first-is, holds-on, on-err, still-holds}
 use Rattle.tc_channel.proofs.Held.{release-keeps, oldest-filled}
 use Rattle.tc_channel.proofs.Plain.{run-limit}
 use Rattle.tc_channel.proofs.Shares.{release-delivery}
-use Rattle.tc_channel.proofs.Sizes.{enough-after, limits-after, small-after}
 use Rattle.tc_channel.proofs.Takes.{queues-distinct, units-distinct}
 use Rattle.tc_channel.proofs.Within.{ends-is, follows-is}
 use Rattle.tc_channel.proofs.workings.Workings.release_counted.Goals as goal
@@ -38,19 +37,12 @@ returns-clause-done g c = λ limits s journal k_now.
     let k = rw (← c.self.view_is) at k_now in
     let first = first-is f.fields.ring.items c.unwrap-field.result.now (rw c.unwrap-field.ensures at c.front.ensures.item) in
     let d = c.in_ok-delivery.ensures.delivered in
-    record {
-      holds = release-keeps _ c.in_ok-delivery.delivery d.0 k.holds
-          (follows-is limits f.runs (open_runs c.pass.new.runs) Ad (first_of f.fields.ring.items) k.limits_are (rw first.0 at c.in_ok-delivery.ensures.follows)) (ends-is limits f.runs Ad (first_of f.fields.ring.items) d.0 k.limits_are (rw first.0 at d.1)) (rw first.0 at d.2) first.1
-          c.step.ensures.width c.step.ensures.report (ap (λ (x : Slotted). x.ring) c.pop_front.ensures);
-      field_size = ap (λ (x : Slotted). x.size) c.pop_front.ensures ∙ k.field_size;
-      fields_settled = ap (λ (x : Slotted). x.laid) c.pop_front.ensures ∙ k.fields_settled;
-      settled = c.pass.ensures.settled;
-      units_settled = c.pass.ensures.units_settled;
-      limits_are = limits-after limits f.runs c.pass.new.runs c.pass.ensures.limits k.limits_are;
-      small = small-after f.runs c.pass.new.runs c.pass.ensures.limits k.small;
-      sizes = enough-after f.runs c.pass.new.runs _ _ c.pass.ensures.segmented c.pass.ensures.limits c.pass.ensures.sizes k.sizes;
-      unit_sizes = enough-after f.runs c.pass.new.runs _ _ c.pass.ensures.segmented c.pass.ensures.limits c.pass.ensures.unit_sizes k.unit_sizes;
-    }
+    holds-on _ _ k
+    (release-keeps _ c.in_ok-delivery.delivery d.0 k.holds
+    (follows-is limits f.runs (open_runs c.pass.new.runs) Ad (first_of f.fields.ring.items) k.limits_are (rw first.0 at c.in_ok-delivery.ensures.follows)) (ends-is limits f.runs Ad (first_of f.fields.ring.items) d.0 k.limits_are (rw first.0 at d.1)) (rw first.0 at d.2) first.1
+    c.step.ensures.width c.step.ensures.report (ap (λ (x : Slotted). x.ring) c.pop_front.ensures))
+    (ap (λ (x : Slotted). x.size) c.pop_front.ensures) (ap (λ (x : Slotted). x.laid) c.pop_front.ensures ∙ k.fields_settled)
+    c.pass.ensures.limits c.pass.ensures.segmented c.pass.ensures.sizes c.pass.ensures.unit_sizes c.pass.ensures.settled c.pass.ensures.units_settled
 
 pub invariant_of-self-2 : goal.invariant_of-self-2
 invariant_of-self-2 g c =

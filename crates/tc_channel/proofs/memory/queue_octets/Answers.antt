@@ -1,4 +1,0 @@
-use Rattle.tc_channel.proofs.memory.queue_octets.Goals as goal
-
-pub returns-clause-value : goal.returns-clause-value
-returns-clause-value c = cc
