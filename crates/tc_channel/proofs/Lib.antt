@@ -37,3 +37,4 @@ pub mod Found
 pub mod Tables
 pub mod Laid
 pub mod Counts
+pub mod Closing

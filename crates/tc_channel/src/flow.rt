@@ -1,4 +1,5 @@
 //! Laws on what leaves a channel: it is what came in, in order.
+#![tactic(auto, using(crate::proofs::Closing::flow))]
 
 ghost use Rattle.std.specs.Prelude.{◌≡◌, ◌≤◌, ◌∷◌, ℕ, true, List, [], Some, length, map, take};
 ghost use Rattle.tc_packet.specs.declared.Service.{Service};

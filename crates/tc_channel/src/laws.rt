@@ -1,5 +1,6 @@
 //! Laws over the definitions. A law over the run of a journal is one of each run, with any limit for each MAP (`run_within`); so it is
 //! one of a channel that has no limit by MAP (`run`), too.
+#![tactic(auto, using(crate::proofs::Closing::laws))]
 
 ghost use Rattle.std.specs.Prelude.{List, ℕ, ◌≡◌, ◌≤◌, ◌<◌, ◌+◌, ◌^◌, ◌++◌, ◌↔◌, Option, Some, None, false, [], ◌∷◌, ◌≢◌, IsTrue, length, map, slice_get};
 ghost use Rattle.tc_channel.specs.ChannelState.{ChannelState, Accepted, Queue, buffer};

@@ -180,6 +180,7 @@ fn segment_octets(settings: LentSettings<'_>) -> u128
 
 /// Whatever journal a channel has, its queues hold no more packets and units than the bound of its memory counts, and of each no
 /// more octets than as many largest units; in a lawful one its buffer holds no more octets than as many largest data fields.
+#[tactic(auto, using(crate::proofs::Closing::memory))]
 pub fn no_more_items_wait_than_memory_counts()
     ensures packets { (limits : ℕ → ℕ) (s : Settings) (journal : List Event) → waiting_in_all (run_within limits s journal).queues ≤ packets_held s }
     ensures units { (limits : ℕ → ℕ) (s : Settings) (journal : List Event) → waiting_in_all (run_within limits s journal).units ≤ units_held s }
@@ -190,6 +191,7 @@ pub fn no_more_items_wait_than_memory_counts()
 
 /// After each lawful journal, what waits in a channel with segment headers is within the bound of its memory: the octets of packets,
 /// units and data fields, and the words of each item and of each queue.
+#[tactic(auto, using(crate::proofs::Closing::memory))]
 pub fn what_waits_is_within_the_bound_of_memory()
     ensures { (limits : ℕ → ℕ) (s : Settings) (journal : List Event) → s.segmented ≡ true → IsLawfulWithin limits s journal → memory_waiting s (run_within limits s journal) ≤ memory_bound s }
 {}

@@ -1,0 +1,21 @@
+-- The lemmas that close the laws, by the file of src/ in which these stand.
+use Rattle.tc_channel.proofs.Runs.{run-append, lawful-before, lawful-after}
+use Rattle.tc_channel.proofs.Chosen.{whole-only, packets-only, one-kept, others-stay, chosen-by-settings}
+use Rattle.tc_channel.proofs.Faults.{no-fault}
+use Rattle.tc_channel.proofs.BufferSize.{buffer-fits}
+use Rattle.tc_channel.proofs.Small.{clcw-fits}
+use Rattle.tc_channel.proofs.Eras.{each-era}
+use Rattle.tc_channel.proofs.Delivered.{all-told}
+use Rattle.tc_channel.proofs.Growth.{queues-are, units-are}
+use Rattle.tc_channel.proofs.StateQueues.{queues-kept, units-kept}
+use Rattle.tc_channel.proofs.Sound.{state-sound}
+use Rattle.tc_channel.proofs.Given.{fields-in-order}
+use Rattle.tc_channel.proofs.Through.{packets-are-made, units-are-made, part-whole}
+use Rattle.tc_channel.proofs.Octets.{fields-fit, packets-fit, units-fit, waits-within}
+use Rattle.tc_channel.proofs.Room.{packets-within, units-within}
+
+pub ruleset laws = (run-append, lawful-before, lawful-after, whole-only, packets-only, one-kept, others-stay, no-fault, buffer-fits, chosen-by-settings, clcw-fits, each-era, all-told, queues-are, units-are, queues-kept, units-kept, state-sound)
+
+pub ruleset flow = (fields-in-order, packets-are-made, units-are-made, part-whole)
+
+pub ruleset memory = (fields-fit, packets-fit, units-fit, packets-within, units-within, waits-within)
