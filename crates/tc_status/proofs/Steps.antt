@@ -39,9 +39,6 @@ all-behind-set h views id w all mine j u e =
     (λ (x : (j ≢ id) × (get_elem? views j ≡ some u)). all j u x.1)
     (at_set views id j w u e)
 
-set-word : (words : List ℕ) (m n : ℕ) → words ≡ m ∷ [] → set words 0 n ≡ n ∷ []
-set-word words m n is = ap (λ ws. set ws 0 n) is
-
 pub opens : (word : ℕ) (h : History) → word ≡ status_word h → IsAllowed h.settings → IsLawful h.settings h.journal → Kept (opening (word ∷ []) [] (view h))
 opens word h is allowed law = record {
   publisher = view h;
@@ -57,53 +54,27 @@ opens word h is allowed law = record {
     one zero v e = subst (IsBehind h) (some-injective (view h) v e) (behind-self h)
     one (suc id) v e = absurd (some-ne-none v (sym e))
 
-pub publishes : (slots id : ℕ) (me : Me (Unit {0}) View) (h : History) (new : ℕ) → id ≡ 0 → new ≡ status_word h → IsLawful h.settings h.journal → IsEarlier me.0.seen h
-    → Allows Kept slots id me 0 (λ _. new) (λ _ w. w ≡ (view h, me.1))
-publishes slots id me h new is_first is law later = subst (λ (i : ℕ). Allows Kept slots i me 0 (λ _. new) (λ _ w. w ≡ (view h, me.1))) (sym is_first) at_zero
-  where
-    at_zero : Allows Kept slots 0 me 0 (λ _. new) (λ _ w. w ≡ (view h, me.1))
-    at_zero s b len at small =
-        let same : b.publisher ≡ me.0 = some-injective b.publisher me.0 (sym b.first ∙ at) in
-        let later' : IsEarlier b.publisher.seen h = subst (λ (v : View). IsEarlier v.seen h) (sym same) later in (
-          view h,
-          keeps,
-          tt,
-          record {
-            publisher = view h;
-            first = set-there s.views 0 me.0 (view h) at;
-            live = refl;
-            allowed = subst IsAllowed (sym later'.0) b.allowed;
-            lawful = law;
-            word = set-word s.words (status_word b.publisher.seen) new b.word ∙ ap (λ n. n ∷ []) is;
-            behind = all-behind-set h s.views 0 (view h) (λ j u e. behind-later b.publisher.seen h u later' (b.behind j u e)) (behind-self h);
-          },
-          refl,
-        )
-
--- what is published without a store, since its word is the same
-pub publishes-same : (slots id : ℕ) (me : Me (Unit {0}) View) (h : History) → id ≡ 0 → status_word h ≡ status_word me.0.seen → IsLawful h.settings h.journal → IsEarlier me.0.seen h
-    → Allows Kept slots id me 0 (λ n. n) (λ _ w. w ≡ (view h, me.1))
-publishes-same slots id me h is_first is law later = subst (λ (i : ℕ). Allows Kept slots i me 0 (λ n. n) (λ _ w. w ≡ (view h, me.1))) (sym is_first) at_zero
-  where
-    at_zero : Allows Kept slots 0 me 0 (λ n. n) (λ _ w. w ≡ (view h, me.1))
-    at_zero s b len at small =
-        let same : b.publisher ≡ me.0 = some-injective b.publisher me.0 (sym b.first ∙ at) in
-        let later' : IsEarlier b.publisher.seen h = subst (λ (v : View). IsEarlier v.seen h) (sym same) later in
-        let word : status_word b.publisher.seen ≡ status_word h = ap (λ (v : View). status_word v.seen) same ∙ sym is in (
-          view h,
-          keeps,
-          tt,
-          record {
-            publisher = view h;
-            first = set-there s.views 0 me.0 (view h) at;
-            live = refl;
-            allowed = subst IsAllowed (sym later'.0) b.allowed;
-            lawful = law;
-            word = ap (λ ws. set ws 0 (slice_index ws 0)) b.word ∙ ap (λ n. n ∷ []) word;
-            behind = all-behind-set h s.views 0 (view h) (λ j u e. behind-later b.publisher.seen h u later' (b.behind j u e)) (behind-self h);
-          },
-          refl,
-        )
+-- what is published by a step that leaves this word: by a store, or without one where the word is the same
+pub publishes : (slots id : ℕ) (me : Me (Unit {0}) View) (h : History) (f : ℕ → ℕ) → id ≡ 0 → f (status_word me.0.seen) ≡ status_word h → IsLawful h.settings h.journal → IsEarlier me.0.seen h
+    → Allows Kept slots id me 0 f (λ _ w. w ≡ (view h, me.1))
+publishes slots id me h f is_first is law later = rw is_first (λ s b len at small.
+    let same : b.publisher ≡ me.0 = some-injective b.publisher me.0 (sym b.first ∙ at) in
+    let later' : IsEarlier b.publisher.seen h = subst (λ (v : View). IsEarlier v.seen h) (sym same) later in
+    let word : f (status_word b.publisher.seen) ≡ status_word h = ap (λ (v : View). f (status_word v.seen)) same ∙ is in (
+      view h,
+      keeps,
+      tt,
+      record {
+        publisher = view h;
+        first = set-there s.views 0 me.0 (view h) at;
+        live = refl;
+        allowed = subst IsAllowed (sym later'.0) b.allowed;
+        lawful = law;
+        word = ap (λ ws. set ws 0 (f (slice_index ws 0))) b.word ∙ ap (λ n. n ∷ []) word;
+        behind = all-behind-set h s.views 0 (view h) (λ j u e. behind-later b.publisher.seen h u later' (b.behind j u e)) (behind-self h);
+      },
+      refl,
+    ))
 
 pub splits : (id : ℕ) (v : View) → Splits Kept id v v v
 splits id v s b at =
@@ -153,38 +124,32 @@ reads slots id me live s b len at small =
     )
 
 pub joins : (id : ℕ) (v : View) (other : ℕ) (w : View) → id ≡ 0 → v.live ≡ true → w.live ≡ true → Joins Kept id v other w (with_told v w) spent
-joins id v other w is_first live live' = subst (λ (i : ℕ). Joins Kept i v other w (with_told v w) spent) (sym is_first) at_zero
-  where
-    at_zero : Joins Kept 0 v other w (with_told v w) spent
-    at_zero s b at apart there =
-        let both = with_told v w in
-        let same : b.publisher ≡ v = some-injective b.publisher v (sym b.first ∙ at) in
-        let seen : b.publisher.seen ≡ v.seen = ap (λ (x : View). x.seen) same in
-        let mine = b.behind 0 v at live in
-        let theirs = ⊎_elim (λ (t : (other ≡ 0) × (both ≡ w)). absurd (apart t.0)) (λ (t : (other ≢ 0) × (get_elem? s.views other ≡ some w)). b.behind other w t.1 live') (at_set s.views 0 other both w there) in
-        let behind : (j : ℕ) (u : View) → get_elem? (set (set s.views 0 both) other spent) j ≡ some u → IsBehind b.publisher.seen u =
-        all-behind-set b.publisher.seen (set s.views 0 both) other spent (all-behind-set b.publisher.seen s.views 0 both b.behind (λ _. (mine.0, theirs.0))) (λ e. absurd (true≢false (sym e))) in record {
-          publisher = both;
-          first = set_else (set s.views 0 both) other 0 spent (λ e. apart (sym e)) ∙ set-there s.views 0 v both at;
-          live = live;
-          allowed = subst (λ (r : History). IsAllowed r.settings) seen b.allowed;
-          lawful = subst (λ (r : History). IsLawful r.settings r.journal) seen b.lawful;
-          word = b.word ∙ ap (λ (r : History). status_word r ∷ []) seen;
-          behind = subst (λ (r : History). (j : ℕ) (u : View) → get_elem? (set (set s.views 0 both) other spent) j ≡ some u → IsBehind r u) seen behind;
-        }
+joins id v other w is_first live live' = rw is_first (λ s b at apart there.
+    let both = with_told v w in
+    let same : b.publisher ≡ v = some-injective b.publisher v (sym b.first ∙ at) in
+    let seen : b.publisher.seen ≡ v.seen = ap (λ (x : View). x.seen) same in
+    let mine = b.behind 0 v at live in
+    let theirs = ⊎_elim (λ (t : (other ≡ 0) × (both ≡ w)). absurd (apart t.0)) (λ (t : (other ≢ 0) × (get_elem? s.views other ≡ some w)). b.behind other w t.1 live') (at_set s.views 0 other both w there) in
+    let behind : (j : ℕ) (u : View) → get_elem? (set (set s.views 0 both) other spent) j ≡ some u → IsBehind b.publisher.seen u =
+    all-behind-set b.publisher.seen (set s.views 0 both) other spent (all-behind-set b.publisher.seen s.views 0 both b.behind (λ _. (mine.0, theirs.0))) (λ e. absurd (true≢false (sym e))) in record {
+      publisher = both;
+      first = set_else (set s.views 0 both) other 0 spent (λ e. apart (sym e)) ∙ set-there s.views 0 v both at;
+      live = live;
+      allowed = subst (λ (r : History). IsAllowed r.settings) seen b.allowed;
+      lawful = subst (λ (r : History). IsLawful r.settings r.journal) seen b.lawful;
+      word = b.word ∙ ap (λ (r : History). status_word r ∷ []) seen;
+      behind = subst (λ (r : History). (j : ℕ) (u : View) → get_elem? (set (set s.views 0 both) other spent) j ≡ some u → IsBehind r u) seen behind;
+    })
 
 pub compares : (slots id : ℕ) (me : Me (Unit {0}) View) → id ≡ 0 → me.0.live ≡ true → Allows Kept slots id me 0 (λ n. n) (λ _ w. IsCompared me w)
-compares slots id me is_first live = subst (λ (i : ℕ). Allows Kept slots i me 0 (λ n. n) (λ _ w. IsCompared me w)) (sym is_first) at_zero
-  where
-    at_zero : Allows Kept slots 0 me 0 (λ n. n) (λ _ w. IsCompared me w)
-    at_zero s b len at small =
-        let same : b.publisher.seen ≡ me.0.seen = ap (λ (x : View). x.seen) (some-injective b.publisher me.0 (sym b.first ∙ at)) in (
-          view b.publisher.seen,
-          keeps,
-          tt,
-          loads s 0 b,
-          record {
-            seat = ap (λ h. (view h, me.1)) same;
-            later = subst (λ (h : History). IsEarlier me.0.told h) same (b.behind 0 me.0 at live).1;
-          },
-        )
+compares slots id me is_first live = rw is_first (λ s b len at small.
+    let same : b.publisher.seen ≡ me.0.seen = ap (λ (x : View). x.seen) (some-injective b.publisher me.0 (sym b.first ∙ at)) in (
+      view b.publisher.seen,
+      keeps,
+      tt,
+      loads s 0 b,
+      record {
+        seat = ap (λ h. (view h, me.1)) same;
+        later = subst (λ (h : History). IsEarlier me.0.told h) same (b.behind 0 me.0 at live).1;
+      },
+    ))
