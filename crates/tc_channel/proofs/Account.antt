@@ -1,17 +1,13 @@
 -- Each field of a stream has its share: by the run that the fields before it left, field by field.
-use Rattle.std.proofs.Common.{◌≡◌, ℕ, ◌≤◌, ◌⊎◌, Bool, true, false, leb, eqb, ◌&&◌, List, [], ◌∷◌, ◌++◌, length, Option, Some, None, refl, sym, ap, subst, ◌∙◌, inl, inr, append_assoc, arith}
-use Rattle.std.proofs.lemmas.Bool.Decides.{nat_tests}
-use Rattle.std.proofs.lemmas.Grind.{flat_map-append}
-use Rattle.std.proofs.lemmas.List.{append-nil, length-append}
-use Rattle.tc_packet.specs.declared.segment.Part.{Part}
-use Rattle.tc_packet.specs.declared.segment.Part.TheVariants.{First, Continuing, Last, Unsegmented}
-use Rattle.tc_channel.proofs.Names.{Service, Bd, IsPart, Passed, at_most, bounded, ended_by, extended, is_of, joined_bodies, open_run, same_service, stream, unit_at, Settings}
+use Rattle.tc_channel.proofs.Names.{◌≡◌, ℕ, ◌≤◌, ◌⊎◌, Bool, true, false, eqb, ◌&&◌, List, [], ◌∷◌, ◌++◌, length, Option, Some, None, refl, sym, ap, subst, ◌∙◌, inl, inr, append_assoc, arith, nat_tests, append-nil, length-append, Part, Service, Bd, Passed, at_most, ended_by, is_of, open_run, same_service, stream, Settings, as_list, Ad}
+use Rattle.tc_packet.specs.declared.segment.Part.TheVariants.{Last, Unsegmented, First, Continuing}
 use Rattle.tc_packet.specs.Segment.{body_of, header_of}
-use Rattle.tc_channel.specs.Given.{as_list}
-use Rattle.tc_packet.specs.declared.Service.TheVariants.{Ad}
+use Rattle.tc_channel.specs.Through.{all_made, unit_made}
+use Rattle.std.proofs.Common.{leb}
+use Rattle.std.proofs.lemmas.Grind.{flat_map-append}
+use Rattle.tc_packet.specs.Reassembly.{IsPart, bounded, extended, joined_bodies, unit_at}
 use Rattle.tc_packet.specs.Runs.{next_run}
 use Rattle.tc_packet.proofs.OpenRuns.{open_run-push}
-use Rattle.tc_channel.specs.Through.{all_made, unit_made}
 use Rattle.tc_channel.specs.Account.{Share, AccountFor, AreAllSegments, AreShares, BeginUnit, IsRun, fields_in, open_in, unit_on, units_in}
 use Rattle.tc_channel.specs.Account.Share.{Ended, Open, OverLimit, Broken, WithoutRun}
 use Rattle.tc_channel.proofs.Lists.{all-append}

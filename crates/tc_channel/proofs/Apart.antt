@@ -1,9 +1,6 @@
 -- Settings with distinct keys, looked at one after the other.
-use Rattle.std.proofs.Common.{◌≡◌, ◌≢◌, ℕ, ◌+◌, ◌<◌, Bool, true, false, List, length, take, get_or, replicate, sym, ap, ◌∙◌, inl, inr, arith}
-use Rattle.std.specs.Prelude.{Any, AllPairs, ◌↔◌}
-use Rattle.std.proofs.Math.ListN.{set}
-use Rattle.std.proofs.lemmas.Bool.{cases_eq}
-use Rattle.std.proofs.lemmas.List.{get_or-take, get_or_default, get_or-set_same, get_or-set_other, get_or-replicate, length-set, length-replicate, length-take}
+use Rattle.tc_channel.proofs.Names.{◌≡◌, ◌≢◌, ℕ, ◌+◌, ◌<◌, Bool, true, false, List, length, take, get_or, replicate, sym, ap, ◌∙◌, inl, inr, arith, Any, AllPairs, ◌↔◌, set, cases_eq, get_or_default, get_or-set_same, get_or-set_other, get_or-replicate, length-set, length-replicate, length-take}
+use Rattle.std.proofs.lemmas.List.{get_or-take}
 
 -- an earlier one has this key
 abbrev Earlier : {A : Type 0} → (A → ℕ) → List A → ℕ → ℕ → Type 0

@@ -1,15 +1,10 @@
 -- What a channel works with, over what rooms add to it.
-use Rattle.std.proofs.Common.{◌≡◌, ℕ, ◌<◌, Bool, true, false, cond, eqb, List, [], ◌∷◌, ◌++◌, length, drop, Option, Some, None, refl, sym, ap, subst, ◌∙◌, arith}
-use Rattle.std.specs.Prelude.{slice_get, IsSome, OnErr, option_map, Result, Ok, Err}
-use Rattle.tc_channel.proofs.Names.{HoldsWithin, at_most, run_left, run_at, Settings, Event, Take, TakeUnit, AreRuns, take_reply_within, unit_reply_within, first_of, Service, Bd}
-use Rattle.tc_rooms.specs.Runs.{Store, open_runs, limit_at}
-use Rattle.tc_channel.specs.HeldQueues.{HeldQueue, queue_for, oldest_for, popped, shorter}
-use Rattle.tc_channel.specs.Keyed.{Keyed, rings_in, room_sizes, AreSettled}
-use Rattle.tc_channel.specs.Workings.{inside_of, HaveLimits, Parts, HoldsInRooms, AreWorkings}
+use Rattle.tc_channel.proofs.Names.{◌≡◌, ℕ, ◌<◌, Bool, true, false, cond, eqb, List, [], ◌∷◌, ◌++◌, length, drop, Option, Some, None, refl, sym, ap, subst, ◌∙◌, arith, slice_get, IsSome, option_map, HoldsWithin, at_most, run_left, run_at, Settings, Event, Take, TakeUnit, AreRuns, first_of, Service, Bd, Store, open_runs, limit_at, HeldQueue, queue_for, oldest_for, popped, shorter, Keyed, rings_in, room_sizes, AreSettled, Ad, no_limits}
+use Rattle.tc_channel.specs.Workings.{HaveLimits, inside_of, Parts, HoldsInRooms, AreWorkings}
+use Rattle.std.specs.Prelude.{OnErr, Result, Ok, Err}
+use Rattle.tc_channel.specs.Reply.{take_reply_within, unit_reply_within}
 use Rattle.tc_packet.specs.Reassembly.{place_of}
 use Rattle.circular_buffer.specs.Buffer.{buffer}
-use Rattle.tc_packet.specs.declared.Service.TheVariants.{Ad}
-use Rattle.tc_channel.specs.ChannelState.{no_limits}
 use Rattle.tc_channel.proofs.Takes.{oldest, packets-wait, units-wait, take-keeps, take-unit-keeps}
 
 nothing-left : (segmented : Bool) → run_left segmented [] ≡ None

@@ -1,9 +1,5 @@
 -- The buffer never holds more data fields than its size.
-use Rattle.std.proofs.Common.{◌≡◌, ℕ, ◌<◌, ◌≤◌, Bool, true, List, [], ◌∷◌, ◌++◌, length, refl, arith}
-use Rattle.std.proofs.lemmas.Bool.Decides.{nat_tests}
-use Rattle.std.proofs.lemmas.List.{length-append, length-drop, length-map}
-use Rattle.tc_channel.proofs.Names.{Row, E1, E6, accepts, Settings, Event, Frame, Release, ChannelState, Accepted, buffer, has_room, step, row_of, kept}
-use Rattle.tc_channel.specs.Run.{passed_on, run_within}
+use Rattle.tc_channel.proofs.Names.{◌≡◌, ℕ, ◌<◌, ◌≤◌, Bool, true, List, [], ◌∷◌, ◌++◌, length, refl, arith, nat_tests, length-append, length-drop, length-map, Row, E1, E6, accepts, Settings, Event, Frame, Release, ChannelState, Accepted, buffer, has_room, step, row_of, kept, passed_on, run_within}
 use Rattle.tc_channel.proofs.Sound.{room-at_E1}
 use Rattle.tc_channel.proofs.Runs.{always}
 

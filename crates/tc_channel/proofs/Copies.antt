@@ -1,12 +1,7 @@
 -- Copies of items that are put into their queues one after the other, whatever the queues want.
-use Rattle.std.proofs.Common.{◌≡◌, ℕ, Bool, zero, suc, ◌+◌, ◌-◌, ◌<◌, ◌≤◌, List, [], ◌∷◌, ◌++◌, length, map, filter, get_or, refl, sym, ap, ◌∙◌, append_assoc, arith}
-use Rattle.std.specs.List.{AllByRecursion, sum_by}
-use Rattle.std.proofs.Math.ListN.{set}
-use Rattle.std.proofs.Math.Seq.{take-nil}
-use Rattle.std.proofs.lemmas.List.{append-nil, length-append, length-map, length-take}
-use Rattle.std.proofs.lemmas.List.Sums.{sum_by-cons}
+use Rattle.tc_channel.proofs.Names.{◌≡◌, ℕ, Bool, zero, suc, ◌+◌, ◌-◌, ◌<◌, ◌≤◌, List, [], ◌∷◌, ◌++◌, length, map, filter, get_or, refl, sym, ap, ◌∙◌, append_assoc, arith, AllByRecursion, sum_by, set, take-nil, append-nil, length-append, length-map, length-take, sum_by-cons, share, with_items, copied_to, copies_from, longer, put, put_all, HeldQueue, Placed}
 use Rattle.circular_buffer.specs.Buffer.{buffer as ring_of}
-use Rattle.tc_channel.specs.HeldQueues.{share, with_items, copied_to, copies_from, longer, put, put_all, HavePlaces, HeldQueue, Placed}
+use Rattle.tc_channel.specs.HeldQueues.{HavePlaces}
 
 pub put-set : (ws : List HeldQueue) (i : ℕ) (w : HeldQueue) (p : List ℕ) → w ≡ get_or ws i w → i < length ws → set ws i (longer w p) ≡ put ws i p
 put-set [] i w p is lt = absurd (omega arith)

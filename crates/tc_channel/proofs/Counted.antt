@@ -1,11 +1,5 @@
 -- Queues with distinct keys take no item twice, where one key alone wants it.
-use Rattle.std.proofs.Common.{◌≡◌, ◌≢◌, ℕ, ◌+◌, ◌-◌, ◌≤◌, Bool, true, false, cond, eqb, ◌&&◌, List, [], ◌∷◌, length, map, filter, refl, inl, inr, arith}
-use Rattle.std.specs.List.{AllByRecursion, sum_by}
-use Rattle.std.proofs.lemmas.List.{length-take}
-use Rattle.std.proofs.lemmas.List.Sums.{sum_by-cons}
-use Rattle.std.proofs.lemmas.Bool.Decides.{eqb_tells}
-use Rattle.tc_channel.proofs.Names.{apid_of, is_telecommand, is_for}
-use Rattle.tc_channel.specs.HeldQueues.{HeldQueue, share, keys_of, AreDistinct}
+use Rattle.tc_channel.proofs.Names.{◌≡◌, ◌≢◌, ℕ, ◌+◌, ◌-◌, ◌≤◌, Bool, true, false, cond, eqb, ◌&&◌, List, [], ◌∷◌, length, map, filter, refl, inl, inr, arith, AllByRecursion, sum_by, length-take, sum_by-cons, eqb_tells, apid_of, is_telecommand, is_for, HeldQueue, share, keys_of, AreDistinct}
 
 abbrev meant : (ℕ → List ℕ → Bool) → List (List ℕ) → ℕ → ℕ
 meant wanted ps key = length (filter (wanted key) ps)

@@ -1,17 +1,10 @@
 -- Steps that are taken.
-use Rattle.std.proofs.Common.{◌≡◌, ℕ, suc, ◌+◌, ◌*◌, ◌≤◌, List, [], ◌∷◌, ◌++◌, length, Option, Some, None, Bool, true, false, cond, refl, sym, ap, ◌∙◌, arith}
-use Rattle.std.specs.Prelude.{nat_lt}
+use Rattle.tc_channel.proofs.Names.{◌≡◌, ℕ, suc, ◌+◌, ◌*◌, ◌≤◌, List, [], ◌∷◌, ◌++◌, length, Option, Some, None, Bool, true, false, cond, refl, sym, ap, ◌∙◌, arith, nat_lt, nat_tests, AllByRecursion, length-append, joined, packets_of, rest_of, IsAtMost, keys_of, Keyed, rings_in, looks, pass_steps}
 use Rattle.std.proofs.Math.Nat.{suc-mul, mul-le-mul_left, mul-le-mul_right, le-add_right}
-use Rattle.std.proofs.lemmas.Bool.Decides.{nat_tests}
-use Rattle.std.specs.List.{AllByRecursion}
-use Rattle.std.proofs.lemmas.List.{length-append}
-use Rattle.tc_channel.proofs.Names.{IsPacket, joined, packets_of, rest_of}
-use Rattle.tc_rooms.specs.Runs.{IsAtMost}
-use Rattle.tc_channel.specs.HeldQueues.{keys_of}
-use Rattle.tc_channel.specs.Keyed.{Keyed, rings_in}
+use Rattle.tc_packet.specs.SpacePacket.{IsPacket}
 use Rattle.tc_channel.specs.Places.{IsTabled}
 use Rattle.tc_packet.proofs.Cuts.{is-cut}
-use Rattle.tc_channel.specs.Steps.{looks, most_looks, most_steps, packet_count, pass_steps, unit_steps}
+use Rattle.tc_channel.specs.Steps.{most_looks, most_steps, packet_count, unit_steps}
 use Rattle.tc_channel.proofs.Tables.{keys-length}
 
 -- as many queues, as many looks

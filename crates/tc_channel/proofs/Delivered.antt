@@ -1,10 +1,8 @@
 -- How many packets of a unit are queued and dropped, or whether it is as a whole, and that queues which are given the same packet have the same APID.
-use Rattle.std.proofs.Common.{◌≡◌, ℕ, ◌+◌, ◌≤◌, Bool, true, false, eqb, List, [], ◌∷◌, length, map, filter, Option, Some, None, refl, sym, subst, ◌∙◌, arith}
-use Rattle.std.specs.List.{All, Contains}
-use Rattle.std.proofs.lemmas.Bool.{and_parts, eqb-true, ne_eqb}
+use Rattle.tc_channel.proofs.Names.{◌≡◌, ℕ, ◌+◌, ◌≤◌, Bool, true, false, eqb, List, [], ◌∷◌, length, map, filter, Option, Some, None, refl, sym, subst, ◌∙◌, arith, All, ne_eqb, Settings, Event, Delivery, ChannelState, Queue, map_of, is_chosen, is_for, is_of_map, packets_offered, units_offered, queued_of, room_of, share_of, apid_of, is_telecommand, packets_of, delivered, delivery_of, run_within, IsAllowed, keys_of, held, AreDistinct}
+use Rattle.std.specs.List.{Contains}
+use Rattle.std.proofs.lemmas.Bool.{and_parts, eqb-true}
 use Rattle.std.proofs.lemmas.List.Elements.{All-take, filter_passes}
-use Rattle.tc_channel.proofs.Names.{Settings, Event, Delivery, ChannelState, Queue, map_of, is_chosen, is_for, is_of_map, packets_offered, units_offered, queued_of, room_of, share_of, apid_of, is_telecommand, packets_of, delivered, delivery_of, run_within, IsAllowed}
-use Rattle.tc_channel.specs.HeldQueues.{keys_of, held, AreDistinct}
 use Rattle.tc_channel.proofs.Counted.{IsForOneKey, for-one, queued-within}
 use Rattle.tc_channel.proofs.Shares.{queued-is}
 use Rattle.tc_channel.proofs.StateQueues.{keys, queues-apart, units-apart}

@@ -1,15 +1,9 @@
 -- Frames that are accepted after V(R) was set have consecutive numbers.
-use Rattle.std.proofs.Common.{◌≡◌, ◌≢◌, ℕ, zero, suc, ◌+◌, ◌-◌, ◌%◌, Bool, true, false, cond, List, [], ◌∷◌, ◌++◌, length, take, drop, Option, Some, None, refl, sym, ap, subst, ◌∙◌, inl, inr, arith, append_assoc}
-use Rattle.std.specs.Prelude.{slice_get, unwrap_or}
-use Rattle.std.proofs.lemmas.List.{append-nil, length-append, length-drop}
+use Rattle.tc_channel.proofs.Names.{◌≡◌, ◌≢◌, ℕ, zero, suc, ◌+◌, ◌-◌, ◌%◌, Bool, true, false, cond, List, [], ◌∷◌, ◌++◌, length, take, drop, Option, Some, None, refl, sym, ap, subst, ◌∙◌, inl, inr, arith, append_assoc, slice_get, unwrap_or, append-nil, length-append, length-drop, eqb_tells, Report, State, S1, S2, S3, Unlock, SetVr, Ahead, Behind, Outside, command_of, control_kind, kind_by, Row, E1, E6, E8, E10, row_at, frame_row, entry_at, accepts, Settings, Event, Frame, Release, Take, TakeUnit, ChannelState, Accepted, has_room, step, row_of, kept, after_frame, run_from, IsLawfulWithin, IsAllowed, Command, header_of, passed_on, run_within}
+use Rattle.tc_channel.specs.Era.{IsEraWithin, ComesFromWithin, set_at, set_by, StartsWithin, NoneSetsWithin, accepted_since_within, CountsUpWithin, CountsUpInItsEraWithin, IsOfSender}
 use Rattle.std.proofs.Math.Seq.{drop-append_seam}
-use Rattle.std.proofs.lemmas.Bool.Decides.{eqb_tells}
-use Rattle.tc_channel.proofs.Names.{Report, State, S1, S2, S3, Unlock, SetVr, Ahead, Behind, Outside, command_of, control_kind, kind_by, Row, E1, E6, E8, E10, row_at, frame_row, entry_at, accepts, accepts_at, Settings, Event, Frame, Release, Take, TakeUnit, ChannelState, Accepted, has_room, step, row_of, kept, after_frame, run_from, IsLawfulWithin, IsAllowed}
+use Rattle.tc_link.specs.Farm.{accepts_at}
 use Rattle.tc_link.specs.Window.{is_ahead, is_behind}
-use Rattle.tc_channel.specs.Era.{set_at, set_by, StartsWithin, NoneSetsWithin, IsEraWithin, accepted_since_within, CountsUpWithin, CountsUpInItsEraWithin, IsOfSender, ComesFromWithin}
-use Rattle.tc_link.specs.declared.Command.{Command}
-use Rattle.tc_link.specs.Frame.{header_of}
-use Rattle.tc_channel.specs.Run.{passed_on, run_within}
 use Rattle.tc_channel.proofs.Filled.{AreFilled, IsFilled, state-filled}
 use Rattle.tc_channel.proofs.Small.{vr-below}
 use Rattle.tc_channel.proofs.Runs.{run-append, run-push, from-first}

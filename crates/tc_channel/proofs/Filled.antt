@@ -1,11 +1,6 @@
 -- Each accepted frame has a field with an octet, and a number below 256.
-use Rattle.std.proofs.Common.{ℕ, ◌<◌, List, [], ◌∷◌, length, map, drop, arith}
-use Rattle.std.specs.List.{AllByRecursion}
-use Rattle.std.proofs.lemmas.List.{length-drop}
-use Rattle.tc_channel.proofs.Names.{HasStep, IsWhole, accepts, Settings, Event, Frame, ChannelState, Accepted, step, row_of, first_of}
-use Rattle.tc_link.specs.Frame.{header_of}
+use Rattle.tc_channel.proofs.Names.{ℕ, ◌<◌, List, [], ◌∷◌, length, map, drop, arith, AllByRecursion, length-drop, HasStep, IsWhole, accepts, Settings, Event, Frame, ChannelState, Accepted, step, row_of, first_of, header_of, passed_on, run_within, IsLawfulWithin}
 use Rattle.tc_channel.proofs.StateQueues.{kept-either}
-use Rattle.tc_channel.specs.Run.{passed_on, run_within, IsLawfulWithin}
 use Rattle.tc_channel.proofs.Runs.{keeps}
 use Rattle.tc_channel.proofs.Lists.{all-append}
 

@@ -1,15 +1,6 @@
 -- Where a key stands, and what is read and written there.
-use Rattle.std.proofs.Common.{◌≡◌, ◌≢◌, ℕ, zero, suc, ◌<◌, false, List, [], ◌∷◌, length, drop, take, get_or, Option, Some, None, refl, sym, ap, ◌∙◌, arith}
-use Rattle.std.specs.Prelude.{set, slice_get, option_map, IsTrue, IsSome}
-use Rattle.std.specs.Option.{option_and_then}
-use Rattle.std.specs.List.{AllByRecursion}
-use Rattle.std.proofs.lemmas.Bool.{eq-eqb, ne_eqb}
-use Rattle.std.proofs.lemmas.List.{map-set, get_or-map}
+use Rattle.tc_channel.proofs.Names.{◌≡◌, ◌≢◌, ℕ, zero, suc, ◌<◌, false, List, [], ◌∷◌, length, drop, take, get_or, Option, Some, None, refl, sym, ap, ◌∙◌, arith, set, slice_get, option_map, IsTrue, IsSome, option_and_then, AllByRecursion, eq-eqb, ne_eqb, map-set, get_or-map, keys_of, queue_for, shorter, popped, HeldQueue, oldest_for, slotted, Keyed, ring_in, rings_in, IsFirst}
 use Rattle.circular_buffer.specs.Buffer.{buffer}
-use Rattle.tc_channel.specs.HeldQueues.{keys_of, queue_for, shorter, popped, HeldQueue, oldest_for}
-use Rattle.tc_rooms.specs.Rooms.{slotted}
-use Rattle.tc_channel.specs.Keyed.{Keyed, ring_in, rings_in}
-use Rattle.tc_channel.specs.Places.{IsFirst}
 
 -- no queue so far has the key
 abbrev pub NoneHas : ℕ → List Keyed → Type 0

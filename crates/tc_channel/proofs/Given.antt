@@ -1,15 +1,8 @@
 -- What leaves a channel is what came in, in order: each packet and unit that is taken is the next that was admitted, and each Type-AD field
 -- that is passed on the next that was accepted.
-use Rattle.std.proofs.Common.{◌≡◌, ◌≢◌, ℕ, ◌+◌, ◌<◌, ◌≤◌, Bool, true, false, cond, eqb, List, [], ◌∷◌, ◌++◌, length, map, filter, take, drop, get_or, Some, None, refl, sym, ap, subst, ◌∙◌, inl, inr, append_assoc, arith}
-use Rattle.std.specs.Prelude.{nat_lt, slice_get}
-use Rattle.std.proofs.lemmas.Bool.Decides.{eqb_tells, nat_tests}
-use Rattle.std.proofs.lemmas.List.{append-nil, map-append, length-append, take-append-le, take_more, drop_more, drop_all}
-use Rattle.std.proofs.lemmas.List.Elements.{filter-append}
-use Rattle.tc_link.specs.Frame.{header_of}
-use Rattle.tc_channel.proofs.Names.{accepts, Bd, Passed, same_service, Settings, Event, Frame, Release, Take, TakeUnit, ChannelState, Accepted, Queue, first_state_within, empty_queue, empty_unit_queue, buffer, queue_of, is_for, is_of_map, map_of, is_chosen, packets_offered, units_offered, share_of, with_share, with_shares, step, row_of, unit_of, taken_from, first_of, HasStep, run_from}
-use Rattle.tc_channel.specs.Given.{oldest_in, packet_given, unit_given, as_list, packets_given, units_given, fields_passed}
-use Rattle.tc_packet.specs.declared.Service.TheVariants.{Ad}
-use Rattle.tc_channel.specs.Run.{passed_on, run_within, IsLawfulWithin}
+use Rattle.tc_channel.proofs.Names.{◌≡◌, ◌≢◌, ℕ, ◌+◌, ◌<◌, ◌≤◌, Bool, true, false, cond, eqb, List, [], ◌∷◌, ◌++◌, length, map, filter, take, drop, get_or, Some, None, refl, sym, ap, subst, ◌∙◌, inl, inr, append_assoc, arith, nat_lt, slice_get, eqb_tells, nat_tests, append-nil, map-append, length-append, take_more, filter-append, header_of, accepts, Bd, Passed, same_service, Settings, Event, Frame, Release, Take, TakeUnit, ChannelState, Accepted, Queue, first_state_within, empty_queue, empty_unit_queue, buffer, queue_of, is_for, is_of_map, map_of, is_chosen, packets_offered, units_offered, share_of, with_share, with_shares, step, row_of, unit_of, taken_from, first_of, HasStep, run_from, as_list, packets_given, units_given, Ad, passed_on, run_within, IsLawfulWithin}
+use Rattle.std.proofs.lemmas.List.{take-append-le, drop_more, drop_all}
+use Rattle.tc_channel.specs.Given.{oldest_in, packet_given, unit_given, fields_passed}
 use Rattle.tc_channel.proofs.StateQueues.{kept-either, taken-key}
 use Rattle.tc_channel.proofs.Runs.{keeps}
 

@@ -1,12 +1,6 @@
 -- The state of a longer journal goes on from that of its beginning.
-use Rattle.std.proofs.Common.{◌≡◌, ℕ, ◌+◌, Bool, true, false, cond, eqb, ◌&&◌, List, [], ◌∷◌, ◌++◌, length, map, drop, refl, sym, ◌∙◌, append_assoc, arith}
-use Rattle.std.specs.Prelude.{nat_lt}
-use Rattle.std.proofs.lemmas.List.{append-nil}
-use mathlib.Core.List.{map-map}
-use Rattle.tc_channel.proofs.Names.{Report, E10, accepts, after, Service, Bd, Settings, Event, Frame, Release, Take, TakeUnit, ChannelState, Accepted, Queue, buffer, first_state_within, empty_queue, empty_unit_queue, QueueSetting, MapSetting, is_for, is_of_map, map_of, is_chosen, packets_offered, units_offered, share_of, with_shares, QueueGrows, QueuesGrow, Grows, step, row_of, unit_of, taken_from, first_of, run_from}
-use Rattle.tc_link.specs.Frame.{header_of}
-use Rattle.tc_packet.specs.declared.Service.TheVariants.{Ad}
-use Rattle.tc_channel.specs.Run.{passed_on, run_within}
+use Rattle.tc_channel.proofs.Names.{◌≡◌, ℕ, ◌+◌, Bool, true, false, cond, eqb, ◌&&◌, List, [], ◌∷◌, ◌++◌, length, map, drop, refl, sym, ◌∙◌, append_assoc, arith, nat_lt, append-nil, map-map, Report, E10, accepts, after, Service, Bd, Settings, Event, Frame, Release, Take, TakeUnit, ChannelState, Accepted, Queue, buffer, first_state_within, empty_queue, empty_unit_queue, QueueSetting, MapSetting, is_for, is_of_map, map_of, is_chosen, packets_offered, units_offered, share_of, with_shares, step, row_of, unit_of, taken_from, first_of, run_from, header_of, Ad, passed_on, run_within}
+use Rattle.tc_channel.specs.Laws.{QueueGrows, QueuesGrow, Grows}
 use Rattle.tc_channel.proofs.Runs.{run-append}
 use Rattle.tc_channel.proofs.StateQueues.{kept-either}
 

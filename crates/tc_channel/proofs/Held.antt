@@ -1,13 +1,8 @@
 -- What a channel's fields keep, over one event.
-use Rattle.std.proofs.Common.{◌≡◌, ℕ, ◌<◌, ◌≤◌, Bool, true, List, [], ◌∷◌, ◌++◌, length, map, drop, Option, refl, sym, ap, ◌∙◌, arith}
-use Rattle.std.specs.Prelude.{IsSome, nat_lt}
-use Rattle.std.proofs.lemmas.List.{drop-append-le, drop-drop, drop-map, map_push, length-map, length-append, length-drop}
+use Rattle.tc_channel.proofs.Names.{◌≡◌, ℕ, ◌<◌, ◌≤◌, Bool, true, List, [], ◌∷◌, ◌++◌, length, map, drop, Option, refl, sym, ap, ◌∙◌, arith, IsSome, nat_lt, drop-append-le, drop-drop, map_push, length-map, length-append, length-drop, Kind, IsWhole, kind_of, Row, E1, E6, E10, number_of, frame_row, entry, accepts, after, Settings, Event, Frame, Release, ChannelState, Accepted, buffer, HasStep, step, row_of, kept, first_of, map_of, Inside, HoldsWithin, FollowsWithin, FollowsKindWithin, EndsWithin, EndsAtOnceWithin, Delivery, IsDelivered, header_of, passed_on, run_within, IsLawfulWithin, Ad}
+use Rattle.std.proofs.lemmas.List.{drop-map}
 use Rattle.circular_buffer.specs.Buffer.{Buffer}
-use Rattle.tc_channel.proofs.Names.{Kind, IsWhole, kind_of, Row, E1, E6, E10, number_of, frame_row, entry, accepts, after, Settings, Event, Frame, Release, ChannelState, Accepted, buffer, HasStep, step, row_of, kept, first_of, map_of, Inside, HoldsWithin, FollowsWithin, FollowsKindWithin, EndsWithin, EndsAtOnceWithin, buffered_of, with_field, Delivery}
-use Rattle.tc_channel.specs.Delivering.{IsDelivered}
-use Rattle.tc_link.specs.Frame.{header_of}
-use Rattle.tc_channel.specs.Run.{passed_on, run_within, IsLawfulWithin}
-use Rattle.tc_packet.specs.declared.Service.TheVariants.{Ad}
+use Rattle.tc_channel.specs.Channel.{buffered_of, with_field}
 use Rattle.tc_link.specs.declared.Act.{Act}
 use Rattle.tc_channel.proofs.Shares.{delivered-held, frame-queues, release-queues}
 use Rattle.tc_channel.proofs.Streams.{frame-runs, release-runs}

@@ -1,13 +1,8 @@
 -- Queues in rooms, read and written at one place.
-use Rattle.std.proofs.Common.{◌≡◌, ℕ, zero, suc, ◌-◌, ◌<◌, ◌≤◌, Bool, true, false, List, [], ◌∷◌, length, map, get_or, refl, sym, ap, subst, ◌∙◌, arith}
-use Rattle.std.specs.Prelude.{set}
-use Rattle.std.proofs.Math.Seq.{map-set_same}
-use mathlib.Core.List.{map-map}
-use Rattle.std.proofs.lemmas.List.{append-nil, length-map, map-set, get_or-map}
+use Rattle.tc_channel.proofs.Names.{◌≡◌, ℕ, zero, suc, ◌-◌, ◌<◌, ◌≤◌, Bool, true, false, List, [], ◌∷◌, length, map, get_or, refl, sym, ap, subst, ◌∙◌, arith, set, map-set_same, map-map, append-nil, length-map, map-set, get_or-map, keys_of, room_in, HeldQueue, Keyed, ring_in, rings_in, laid_in, all_laid_in, room_sizes, Fit, AreSettled, room_at}
 use Rattle.circular_buffer.specs.Buffer.{buffer}
-use Rattle.tc_channel.specs.HeldQueues.{keys_of, room_in, HeldQueue}
-use Rattle.tc_channel.specs.Keyed.{Keyed, ring_in, rings_in, laid_in, all_laid_in, room_sizes, Fit, AreSettled, IsPutBehind}
-use Rattle.tc_channel.specs.Delivering.{room_at, IsPutAt}
+use Rattle.tc_channel.specs.Keyed.{IsPutBehind}
+use Rattle.tc_channel.specs.Delivering.{IsPutAt}
 use Rattle.tc_channel.proofs.Copies.{put-set, longer-fits}
 
 -- what waits is the same

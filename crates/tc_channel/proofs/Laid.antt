@@ -1,12 +1,5 @@
 -- What is laid in the queues is of the packets of a unit.
-use Rattle.std.proofs.Common.{◌≡◌, ℕ, zero, suc, ◌<◌, true, false, List, [], ◌∷◌, length, map, get_or, ◌⊎◌, inl, inr, refl, sym, ap, subst, ◌∙◌, arith}
-use Rattle.std.specs.Prelude.{set}
-use Rattle.std.proofs.lemmas.List.{append-nil}
-use Rattle.tc_channel.proofs.Names.{is_for}
-use Rattle.tc_channel.specs.HeldQueues.{keys_of, AreDistinct}
-use Rattle.tc_rooms.specs.Rooms.{slotted}
-use Rattle.tc_channel.specs.Keyed.{Keyed, rings_in, AreSettled, settled}
-use Rattle.tc_channel.specs.Delivering.{IsAmong, AreLaidOf}
+use Rattle.tc_channel.proofs.Names.{◌≡◌, ℕ, zero, suc, ◌<◌, true, false, List, [], ◌∷◌, length, map, get_or, ◌⊎◌, inl, inr, refl, sym, ap, subst, ◌∙◌, arith, set, append-nil, is_for, keys_of, AreDistinct, slotted, Keyed, rings_in, AreSettled, settled, IsAmong, AreLaidOf}
 use Rattle.tc_channel.proofs.Counted.{for-one}
 use Rattle.tc_channel.proofs.Passes.{NoneFor, apart-at, none-others}
 use Rattle.tc_channel.proofs.Tables.{keys-length}

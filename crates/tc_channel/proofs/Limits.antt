@@ -1,13 +1,9 @@
 -- A limit for each MAP, and that the largest unit is one that says nothing.
-use Rattle.std.proofs.Common.{◌≡◌, ℕ, ◌≤◌, Bool, true, false, cond, List, ◌++◌, length, Option, Some, None, refl, ap, ◌∙◌, arith}
-use Rattle.std.specs.Prelude.{nat_le, ◌↔◌}
-use Rattle.std.proofs.lemmas.Bool.Decides.{nat_tests}
-use Rattle.tc_packet.specs.declared.segment.Part.{Part}
+use Rattle.tc_channel.proofs.Names.{◌≡◌, ℕ, ◌≤◌, Bool, true, false, cond, List, ◌++◌, length, Option, Some, None, refl, ap, ◌∙◌, arith, ◌↔◌, nat_tests, Part, Service, IsWithinLimit, at_most, ended_by, largest_unit, open_run, stream, unit_ended, ChannelState, map_of, unit_of, no_limits}
 use Rattle.tc_packet.specs.declared.segment.Part.TheVariants.{Last, Unsegmented}
-use Rattle.tc_channel.proofs.Names.{Service, IsWithinLimit, at_most, ended_by, largest_unit, open_run, stream, unit_ended, ChannelState, map_of, unit_of}
 use Rattle.tc_packet.specs.Segment.{body_of, header_of}
+use Rattle.std.specs.Prelude.{nat_le}
 use Rattle.tc_packet.proofs.KeptRuns.{bounded-within}
-use Rattle.tc_channel.specs.ChannelState.{no_limits}
 
 -- a unit is within the limit
 

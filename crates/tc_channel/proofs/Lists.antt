@@ -1,6 +1,5 @@
 -- Lists of which each item is so.
-use Rattle.std.proofs.Common.{ℕ, suc, List, [], ◌∷◌, ◌++◌, map, take, drop}
-use Rattle.std.specs.List.{AllByRecursion}
+use Rattle.tc_channel.proofs.Names.{ℕ, suc, List, [], ◌∷◌, ◌++◌, map, take, drop, AllByRecursion}
 
 pub all-append : {A : Type 0} (P : A → Type 0) (xs ys : List A) → AllByRecursion P xs → AllByRecursion P ys → AllByRecursion P (xs ++ ys)
 all-append P [] ys h i = i

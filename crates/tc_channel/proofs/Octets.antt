@@ -1,12 +1,7 @@
 -- How many octets wait in the queues and in the buffer, and the bound of memory.
-use Rattle.std.proofs.Common.{ℕ, zero, suc, ◌+◌, ◌*◌, ◌≤◌, Bool, true, false, cond, List, [], ◌∷◌, length, take, map, drop, filter, Option, Some, refl, arith, ◌≡◌}
-use Rattle.std.specs.List.{AllByRecursion}
-use Rattle.std.proofs.lemmas.List.{length-drop, length-map, length-take}
-use Rattle.std.proofs.lemmas.List.Sums.{sum_by-cons}
-use Rattle.tc_channel.proofs.Names.{accepts, Service, Bd, IsWithinLimit, unit_ended, largest_unit, stream, begins, named_length, packets_within, Settings, Event, Frame, Release, Take, TakeUnit, ChannelState, Accepted, Queue, empty_queue, empty_unit_queue, buffer, waiting, map_of, is_chosen, packets_offered, units_offered, share_of, with_shares, room_of, is_for, is_of_map, step, row_of, taken_from, unit_of, first_of, IsLawfulWithin, run_within}
-use Rattle.tc_channel.specs.Memory.{largest_field, packets_held, units_held, waiting_in_all, octets_in, octets_waiting, room_words, queue_words, largest_item, runs_memory, tables_memory, segment_memory, memory_waiting, memory_bound}
-use Rattle.tc_packet.specs.declared.Service.TheVariants.{Ad}
-use Rattle.tc_channel.specs.Run.{passed_on, IsLawfulWithin, run_within}
+use Rattle.tc_channel.proofs.Names.{ℕ, zero, suc, ◌+◌, ◌*◌, ◌≤◌, Bool, true, false, cond, List, [], ◌∷◌, length, take, map, drop, filter, Option, Some, refl, arith, ◌≡◌, AllByRecursion, length-drop, length-map, length-take, sum_by-cons, accepts, Service, Bd, IsWithinLimit, unit_ended, largest_unit, stream, Settings, Event, Frame, Release, Take, TakeUnit, ChannelState, Accepted, Queue, empty_queue, empty_unit_queue, buffer, waiting, map_of, is_chosen, packets_offered, units_offered, share_of, with_shares, room_of, is_for, is_of_map, step, row_of, taken_from, unit_of, first_of, IsLawfulWithin, run_within, packets_held, units_held, waiting_in_all, largest_item, Ad, passed_on}
+use Rattle.tc_packet.specs.SpacePacket.{begins, named_length, packets_within}
+use Rattle.tc_channel.specs.Memory.{largest_field, octets_in, octets_waiting, room_words, queue_words, runs_memory, tables_memory, segment_memory, memory_waiting, memory_bound}
 use Rattle.tc_channel.proofs.BufferSize.{buffer-fits}
 use Rattle.tc_channel.proofs.Limits.{within-unit, within-both}
 use Rattle.tc_channel.proofs.StateQueues.{kept-either, taken-same}

@@ -1,16 +1,9 @@
 -- One pass over the packets of a unit: each goes to the one queue that wants it, where that has room.
-use Rattle.std.proofs.Common.{◌≡◌, ◌≢◌, ℕ, zero, suc, ◌+◌, ◌-◌, ◌<◌, List, [], ◌∷◌, ◌++◌, length, map, filter, take, get_or, true, false, ◌⊎◌, inl, inr, refl, sym, ap, ◌∙◌, append_assoc, arith}
-use Rattle.std.proofs.lemmas.Bool.{eq-eqb, ne_eqb}
+use Rattle.tc_channel.proofs.Names.{◌≡◌, ◌≢◌, ℕ, zero, suc, ◌+◌, ◌-◌, ◌<◌, List, [], ◌∷◌, ◌++◌, length, map, filter, take, get_or, true, false, ◌⊎◌, inl, inr, refl, sym, ap, ◌∙◌, append_assoc, arith, eq-eqb, ne_eqb, AllByRecursion, apid_of, is_telecommand, is_for, keys_of, AreDistinct, room_in, share, with_items, shared, shares_in, copied_to, longer, put, put_all, HeldQueue, Placed, AreShares, set, take-nil, append-nil, length-append, length-map, sum_by-cons}
 use Rattle.std.proofs.Math.Bool.{and-false}
-use Rattle.std.specs.List.{AllByRecursion}
 use Rattle.tc_packet.specs.declared.Packet.{Packet}
-use Rattle.tc_channel.proofs.Names.{apid_of, is_telecommand, is_for}
-use Rattle.tc_channel.specs.HeldQueues.{keys_of, AreDistinct, room_in, share, with_items, shared, shares_in, copied_to, longer, put, put_all, IsUnderWay, HeldQueue, Placed, AreShares}
+use Rattle.tc_channel.specs.HeldQueues.{IsUnderWay}
 use Rattle.tc_packet.specs.PacketFields.{HasFields}
-use Rattle.std.proofs.Math.ListN.{set}
-use Rattle.std.proofs.Math.Seq.{take-nil}
-use Rattle.std.proofs.lemmas.List.{append-nil, length-append, length-map}
-use Rattle.std.proofs.lemmas.List.Sums.{sum_by-cons}
 use Rattle.circular_buffer.specs.Buffer.{buffer as ring_of}
 use Rattle.tc_channel.proofs.Copies.{length-put_all, put_all-push, places-append, longer-fits}
 use Rattle.tc_channel.proofs.Counted.{for-one}

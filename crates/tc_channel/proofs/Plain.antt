@@ -1,7 +1,5 @@
 -- With segment headers or without, and the limits: no event changes them.
-use Rattle.std.proofs.Common.{◌≡◌, ℕ, List, refl, ◌∙◌}
-use Rattle.tc_channel.proofs.Names.{accepts, Settings, Event, Frame, ChannelState, step, row_of}
-use Rattle.tc_channel.specs.Run.{passed_on, run_within}
+use Rattle.tc_channel.proofs.Names.{◌≡◌, ℕ, List, refl, ◌∙◌, accepts, Settings, Event, Frame, ChannelState, step, row_of, passed_on, run_within}
 use Rattle.tc_channel.proofs.Streams.{kept-limit, kept-segmented}
 use Rattle.tc_channel.proofs.Runs.{always}
 

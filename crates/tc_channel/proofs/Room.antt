@@ -1,10 +1,5 @@
 -- No more items wait in the queues than the bound of memory counts.
-use Rattle.std.proofs.Common.{◌≡◌, ℕ, ◌+◌, ◌≤◌, Bool, List, [], ◌∷◌, length, map, refl, sym, ap, ◌∙◌, arith}
-use Rattle.std.specs.Prelude.{sum_by}
-use Rattle.std.proofs.lemmas.List.{length-drop}
-use Rattle.std.proofs.lemmas.List.Sums.{sum_by-cons}
-use Rattle.tc_channel.proofs.Names.{QueueSetting, MapSetting, Settings, Event, Queue, empty_queue, empty_unit_queue, waiting, with_share, with_shares, taken_from, run_within}
-use Rattle.tc_channel.specs.Memory.{packets_held, units_held, waiting_in_all}
+use Rattle.tc_channel.proofs.Names.{◌≡◌, ℕ, ◌+◌, ◌≤◌, Bool, List, [], ◌∷◌, length, map, refl, sym, ap, ◌∙◌, arith, sum_by, length-drop, sum_by-cons, QueueSetting, MapSetting, Settings, Event, Queue, empty_queue, empty_unit_queue, waiting, with_share, with_shares, taken_from, run_within, packets_held, units_held, waiting_in_all}
 use Rattle.tc_channel.proofs.StateQueues.{GoesOn, taken-same, AreKept, run-both, queues-kept, units-kept}
 
 abbrev room : List Queue → ℕ

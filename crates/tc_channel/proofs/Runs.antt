@@ -1,9 +1,6 @@
 -- A run goes on by one event, or by several.
-use Rattle.std.proofs.Common.{ℕ, ◌≡◌, List, [], ◌∷◌, ◌++◌, map, refl, subst, ◌∙◌, append_assoc}
-use Rattle.std.proofs.lemmas.List.{append-nil}
-use Rattle.tc_channel.proofs.Names.{Settings, Event, ChannelState, first_state_within, buffer, HasStep, step, run_from, AreSteps, AreRuns, Inside, HoldsWithin}
-use Rattle.tc_channel.specs.HeldQueues.{held}
-use Rattle.tc_channel.specs.Run.{run_within, IsLawfulWithin}
+use Rattle.tc_channel.proofs.Names.{ℕ, ◌≡◌, List, [], ◌∷◌, ◌++◌, map, refl, subst, ◌∙◌, append_assoc, append-nil, Settings, Event, ChannelState, first_state_within, buffer, HasStep, step, run_from, AreRuns, Inside, HoldsWithin, held, run_within, IsLawfulWithin}
+use Rattle.tc_channel.specs.Run.{AreSteps}
 
 pub run_from-append : (c : Settings) (b : ChannelState) (es fs : List Event) → run_from c b (es ++ fs) ≡ run_from c (run_from c b es) fs
 run_from-append c b [] fs = refl

@@ -1,23 +1,13 @@
 -- The queues, where the unit that a field ends is offered.
-use Rattle.std.proofs.Common.{◌≡◌, ◌≢◌, ℕ, ◌+◌, ◌-◌, ◌≤◌, Bool, true, List, [], ◌∷◌, length, map, drop, Option, Some, None, subst, refl, sym, ap, ◌∙◌, arith}
-use Rattle.std.specs.Prelude.{is_some, option_map}
-use Rattle.std.specs.List.{sum_by}
-use Rattle.std.proofs.lemmas.List.Sums.{sum_by-cons}
-use Rattle.tc_channel.proofs.Names.{Delivery, nothing, delivery_of, frame_delivery, release_reply_at, Row, E1, E6, row_at, frame_row, accepts, Settings, Frame, Release, ChannelState, Queue, queue_of, has_room, buffer, map_of, is_chosen, is_for, is_of_map, packets_offered, units_offered, offered, share_of, with_share, with_shares, queued_of, Kind, Unlock, SetVr, kind_of, Service, Bd, OpenRuns, at_most, stream, unit_ended, AreRuns, EndsWithin, EndsAtOnceWithin, step, row_of, kept, unit_of, first_of}
-use Rattle.tc_channel.specs.Delivering.{IsDelivered}
-use Rattle.tc_channel.specs.HeldQueues.{Placed, HeldQueue, held, share, with_items, shared, shares_in, queue_for, copies_from, put_all, placed, AreShares}
-use Rattle.std.proofs.lemmas.List.{drop-append-le, length-drop, append-nil}
-use Rattle.std.proofs.Math.Seq.{take-nil}
-use Rattle.tc_link.specs.declared.Kind.TheVariants as kinds
-use Rattle.tc_link.specs.Frame.{header_of}
-use Rattle.tc_link.specs.Window.{place_of}
-use Rattle.tc_packet.specs.declared.Service.TheVariants.{Ad}
-use Rattle.tc_packet.specs.Segment as segment
-use Rattle.tc_channel.specs.Run.{passed_on}
+use Rattle.tc_channel.proofs.Names.{◌≡◌, ◌≢◌, ℕ, ◌+◌, ◌-◌, ◌≤◌, Bool, true, List, [], ◌∷◌, length, map, drop, Option, Some, None, subst, refl, sym, ap, ◌∙◌, arith, is_some, option_map, sum_by, sum_by-cons, Delivery, delivery_of, Row, E1, E6, row_at, frame_row, accepts, Settings, Frame, Release, ChannelState, Queue, queue_of, has_room, buffer, map_of, is_chosen, is_for, is_of_map, packets_offered, units_offered, share_of, with_share, with_shares, queued_of, Kind, Unlock, SetVr, kind_of, Service, Bd, OpenRuns, at_most, stream, unit_ended, AreRuns, EndsWithin, EndsAtOnceWithin, step, row_of, kept, unit_of, first_of, IsDelivered, Placed, HeldQueue, held, share, with_items, shared, shares_in, queue_for, copies_from, put_all, placed, AreShares, drop-append-le, length-drop, append-nil, take-nil, header_of, place_of, Ad, passed_on}
+use Rattle.tc_channel.specs.Reply.{nothing, frame_delivery, release_reply_at}
+use Rattle.tc_channel.specs.Admission.{offered}
 use Rattle.tc_channel.proofs.StateQueues.{AreKept}
 use Rattle.tc_channel.proofs.Streams.{not-BD}
 use Rattle.tc_channel.proofs.Takes.{held-queue}
 use Rattle.tc_channel.proofs.Copies.{Fit, shares-put, copies-places, length-copies}
+use Rattle.tc_link.specs.declared.Kind.TheVariants as kinds
+use Rattle.tc_packet.specs.Segment as segment
 
 fit-held : (qs : List Queue) → AreKept qs → Fit (map held qs)
 fit-held [] h = tt

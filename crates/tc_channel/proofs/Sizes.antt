@@ -1,13 +1,8 @@
 -- Octets that fit rooms.
-use Rattle.std.proofs.Common.{◌≡◌, ℕ, zero, suc, ◌≤◌, ◌<◌, Bool, true, false, Option, Some, None, List, [], ◌∷◌, length, replicate, refl, sym, subst, arith}
+use Rattle.tc_channel.proofs.Names.{◌≡◌, ℕ, zero, suc, ◌≤◌, ◌<◌, Bool, true, false, Option, Some, None, List, [], ◌∷◌, length, replicate, refl, sym, subst, arith, AllByRecursion, Service, Bd, stream_place, IsAtMost, Store, limit_at, largest_item, Fit, Ad}
 use Rattle.std.specs.Prelude.{min}
-use Rattle.std.specs.List.{AllByRecursion}
-use Rattle.tc_channel.proofs.Names.{Service, Bd, stream_place}
-use Rattle.tc_rooms.specs.Runs.{IsAtMost, Store, limit_at}
-use Rattle.tc_channel.specs.Memory.{largest_item}
-use Rattle.tc_channel.specs.Keyed.{Fit, FitsIn}
+use Rattle.tc_channel.specs.Keyed.{FitsIn}
 use Rattle.tc_channel.specs.Workings.{AreEnough, AreSmall}
-use Rattle.tc_packet.specs.declared.Service.TheVariants.{Ad}
 
 -- octets that are no more than the least room
 pub fit-enough : (octets : List ℕ) (least : ℕ) (sizes : List ℕ) → AllByRecursion (λ (n : ℕ). least ≤ n) sizes → length octets ≤ least → Fit octets sizes

@@ -1,18 +1,12 @@
 -- Numbers are small: V(R), the number of each accepted frame, the counter, and so the CLCW.
-use Rattle.std.proofs.Common.{◌≡◌, ◌≢◌, ℕ, ◌+◌, ◌<◌, Bool, true, false, cond, eqb, ◌&&◌, List, [], ◌∷◌, drop, Option, Some, None, refl, arith, ◌≤◌, ◌^◌}
-use Rattle.std.specs.Prelude.{unwrap_or}
+use Rattle.tc_channel.proofs.Names.{◌≡◌, ◌≢◌, ℕ, ◌+◌, ◌<◌, Bool, true, false, cond, eqb, ◌&&◌, List, [], ◌∷◌, drop, Option, Some, None, refl, arith, ◌≤◌, unwrap_or, HasStep, Report, State, S1, S2, Kind, Unlock, SetVr, Expected, command_of, control_kind, kind_by, kind_of, Row, E1, E8, E10, row_at, frame_row, entry_at, Settings, Event, Frame, Release, ChannelState, has_room, step, row_of, IsAllowed, IsLawfulWithin, Place, Command, place_of, header_of, passed_on, run_within, clcw_within}
+use Rattle.tc_link.specs.declared.Kind.TheVariants.{Bc, Ad}
+use Rattle.std.proofs.Common.{◌^◌}
 use Rattle.std.proofs.lemmas.List.{get_or-drop}
-use Rattle.tc_channel.proofs.Names.{HasStep, Report, State, S1, S2, Kind, Unlock, SetVr, Expected, IsOctets, command_of, control_kind, kind_by, kind_of, Row, E1, E8, E10, row_at, frame_row, entry_at, Settings, Event, Frame, Release, ChannelState, has_room, step, row_of, IsAllowed, IsLawfulWithin}
-use Rattle.tc_link.specs.declared.Place.{Place}
-use Rattle.tc_link.specs.declared.Kind.TheVariants.{Ad, Bc}
-use Rattle.tc_link.specs.declared.Command.{Command}
-use Rattle.tc_link.specs.Window.{place_of}
-use Rattle.tc_link.specs.Frame.{header_of}
-use Rattle.tc_channel.specs.Run.{passed_on, run_within, IsLawfulWithin}
+use Rattle.tc_link.specs.Frame.{IsOctets}
 use Rattle.tc_channel.proofs.Runs.{keeps, always}
 use Rattle.tc_link.specs.Bits.{bit}
 use Rattle.tc_link.specs.declared.Link.{Link}
-use Rattle.tc_channel.specs.Reply.{clcw_within}
 
 set-below : (field : List ℕ) (x : ℕ) → IsOctets field → command_of field ≡ Some (SetVr x) → x < 256
 set-below (a ∷ []) x h e = by (eqb a 0) e where

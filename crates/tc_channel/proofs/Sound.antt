@@ -1,12 +1,9 @@
 -- In S2 Wait is set, and then there is no room.
-use Rattle.std.proofs.Common.{◌≡◌, ◌≢◌, ℕ, Bool, true, false, List, drop, refl}
-use Rattle.std.specs.Prelude.{IsSome, unwrap_or}
-use Rattle.tc_channel.proofs.Names.{Report, State, S1, S2, S3, Kind, Unlock, Expected, Ahead, Behind, Outside, kind_of, Row, E1, E2, E5, E7, E8, E10, row_at, frame_row, entry_at, entry, after, Settings, Event, Frame, Release, ChannelState, has_room, step, row_of, after_frame, after_release, IsSound}
-use Rattle.tc_link.specs.declared.Place.{Place}
-use Rattle.tc_link.specs.declared.Kind.TheVariants.{Ad, Bc}
-use Rattle.tc_link.specs.Window.{place_of}
-use Rattle.tc_link.specs.Frame.{header_of}
-use Rattle.tc_channel.specs.Run.{passed_on, run_within}
+use Rattle.tc_channel.proofs.Names.{◌≡◌, ◌≢◌, ℕ, Bool, true, false, List, drop, refl, IsSome, unwrap_or, Report, State, S1, S2, S3, Kind, Unlock, Expected, Ahead, Behind, Outside, kind_of, Row, E1, E8, E10, row_at, frame_row, entry_at, entry, after, Settings, Event, Frame, Release, ChannelState, has_room, step, row_of, after_frame, Place, place_of, header_of, passed_on, run_within}
+use Rattle.tc_link.specs.declared.Kind.TheVariants.{Bc, Ad}
+use Rattle.tc_link.specs.Farm.{E2, E5, E7}
+use Rattle.tc_channel.specs.Run.{after_release}
+use Rattle.tc_channel.specs.Laws.{IsSound}
 use Rattle.tc_channel.proofs.Runs.{always}
 
 -- by state: Wait, Lockout, and whether there is room

@@ -1,17 +1,8 @@
 -- What holds of the queues of each state.
-use Rattle.std.proofs.Common.{◌≡◌, ◌≢◌, ℕ, suc, ◌+◌, ◌<◌, Bool, true, false, cond, eqb, ◌&&◌, List, [], ◌∷◌, ◌++◌, length, map, drop, filter, get_or, refl, ap, ◌∙◌, arith}
-use Rattle.std.specs.Prelude.{nat_lt, AllPairs}
-use Rattle.std.specs.List.{AllByRecursion}
-use Rattle.std.proofs.lemmas.Bool.Decides.{nat_tests}
-use Rattle.std.proofs.lemmas.List.{length-append, length-take}
-use Rattle.tc_link.specs.Frame.{header_of}
-use Rattle.tc_channel.proofs.Names.{Row, E1, E6, accepts, Bd, QueueSetting, MapSetting, Settings, Event, Frame, Release, Take, TakeUnit, IsAllowed, ChannelState, Queue, empty_queue, empty_unit_queue, buffer, map_of, is_chosen, packets_offered, units_offered, share_of, with_share, with_shares, room_of, is_for, is_of_map, KeepsToItsCapacity, step, row_of, kept, taken_from, unit_of, first_of}
-use Rattle.tc_channel.specs.HeldQueues.{AreDistinct}
-use Rattle.tc_packet.specs.declared.Service.TheVariants.{Ad}
-use Rattle.tc_channel.specs.Run.{passed_on, run_within}
+use Rattle.tc_channel.proofs.Names.{◌≡◌, ◌≢◌, ℕ, suc, ◌+◌, ◌<◌, Bool, true, false, cond, eqb, ◌&&◌, List, [], ◌∷◌, ◌++◌, length, map, drop, filter, get_or, refl, ap, ◌∙◌, arith, nat_lt, AllPairs, AllByRecursion, nat_tests, length-append, length-take, header_of, Row, E1, E6, accepts, Bd, QueueSetting, MapSetting, Settings, Event, Frame, Release, Take, TakeUnit, IsAllowed, ChannelState, Queue, empty_queue, empty_unit_queue, buffer, map_of, is_chosen, packets_offered, units_offered, share_of, with_share, with_shares, room_of, is_for, is_of_map, step, row_of, kept, taken_from, unit_of, first_of, AreDistinct, Ad, passed_on, run_within, map-map}
+use Rattle.tc_channel.specs.Laws.{KeepsToItsCapacity}
 use Rattle.tc_channel.proofs.Runs.{always}
 use Rattle.tc_channel.proofs.Lists.{all-map, all-mapped}
-use mathlib.Core.List.{map-map}
 
 -- what holds of a state, of it with one more accepted frame and of it with one more field passed on, holds of what a frame leaves
 pub kept-either : (P : ChannelState → Type 0) (row : Row) (accepted : Bool) (octets : List ℕ) (b : ChannelState) → P b

@@ -1,19 +1,10 @@
 -- The open run of each stream, when a field is passed to reassembly.
-use Rattle.std.proofs.Common.{◌≡◌, ◌≢◌, ℕ, ◌+◌, ◌<◌, Bool, true, false, eqb, ◌&&◌, List, [], ◌∷◌, ◌++◌, map, filter, drop, refl, sym, ap, ◌∙◌, inl, inr, arith}
-use Rattle.std.proofs.lemmas.Bool.Decides.{eqb_tells}
-use Rattle.std.proofs.lemmas.Bool.{eq-eqb}
-use Rattle.std.proofs.lemmas.List.{append-nil, map-append}
-use Rattle.std.proofs.lemmas.List.Elements.{filter-append}
-use Rattle.tc_channel.proofs.Names.{Kind, Unlock, Expected, kind_of, Row, E1, E6, row_at, frame_row, accepts, Service, Bd, OpenRuns, Passed, at_most, is_of, same_service, stream, run_left, run_at, stream_place, Settings, Frame, Release, ChannelState, has_room, buffer, step, kept, first_of, AreRuns, FollowsWithin, FollowsKindWithin, LeaveAtMost}
-use Rattle.tc_link.specs.declared.Place.{Place}
-use Rattle.tc_link.specs.declared.Kind.TheVariants as kinds
-use Rattle.tc_link.specs.Frame.{header_of}
-use Rattle.tc_link.specs.Window.{place_of}
-use Rattle.tc_packet.specs.declared.Service.TheVariants.{Ad}
-use Rattle.tc_packet.specs.Segment as segment
+use Rattle.tc_channel.proofs.Names.{◌≡◌, ◌≢◌, ℕ, ◌+◌, ◌<◌, Bool, true, false, eqb, ◌&&◌, List, [], ◌∷◌, ◌++◌, map, filter, drop, refl, sym, ap, ◌∙◌, inl, inr, arith, eqb_tells, eq-eqb, append-nil, map-append, filter-append, Kind, Unlock, Expected, kind_of, Row, E1, E6, row_at, frame_row, accepts, Service, Bd, OpenRuns, Passed, at_most, is_of, same_service, stream, run_left, run_at, stream_place, Settings, Frame, Release, ChannelState, has_room, buffer, step, kept, first_of, AreRuns, FollowsWithin, FollowsKindWithin, Place, header_of, place_of, Ad, passed_on}
+use Rattle.tc_channel.specs.Channel.{LeaveAtMost}
 use Rattle.tc_packet.specs.Reassembly.{place_of as stream_at}
-use Rattle.tc_channel.specs.Run.{passed_on}
 use Rattle.tc_channel.proofs.StateQueues.{kept-either}
+use Rattle.tc_link.specs.declared.Kind.TheVariants as kinds
+use Rattle.tc_packet.specs.Segment as segment
 
 pub stream-same : (s : Service) (n : ℕ) (passed : List Passed) (p : Passed) → is_of s n p ≡ true → stream s n (passed ++ p ∷ []) ≡ stream s n passed ++ p.field ∷ []
 stream-same s n passed p h =

@@ -1,12 +1,6 @@
 -- The table of the places of all keys that an APID can be.
-use Rattle.std.proofs.Common.{◌≡◌, ◌≢◌, ℕ, zero, suc, ◌+◌, ◌<◌, ◌≤◌, List, [], ◌∷◌, ◌++◌, length, take, replicate, get_or, ◌⊎◌, inl, inr, refl, sym, ap, ◌∙◌, arith}
-use Rattle.std.specs.List.{AllByRecursion}
-use Rattle.std.proofs.lemmas.Bool.{cases_eq}
-use Rattle.std.proofs.Math.ListN.{set}
-use Rattle.std.proofs.lemmas.List.{get_or-set_same, get_or-set_other, get_or-replicate, length-replicate, length-set, length-take, length-map, take_more, map_push}
-use Rattle.tc_channel.specs.HeldQueues.{keys_of, HeldQueue}
-use Rattle.tc_channel.specs.Keyed.{Keyed, ring_in, rings_in}
-use Rattle.tc_channel.specs.Places.{IsFirst, TellsFirst, AreFirst}
+use Rattle.tc_channel.proofs.Names.{◌≡◌, ◌≢◌, ℕ, zero, suc, ◌+◌, ◌<◌, ◌≤◌, List, [], ◌∷◌, ◌++◌, length, take, replicate, get_or, ◌⊎◌, inl, inr, refl, sym, ap, ◌∙◌, arith, AllByRecursion, cases_eq, set, get_or-set_same, get_or-set_other, get_or-replicate, length-replicate, length-set, length-take, length-map, take_more, map_push, keys_of, HeldQueue, Keyed, ring_in, rings_in, IsFirst, AreFirst}
+use Rattle.tc_channel.specs.Places.{TellsFirst}
 use Rattle.tc_channel.proofs.Lists.{all-append}
 
 first-within : (a n : ℕ) (xs : List ℕ) → IsFirst a n xs → n < length xs

@@ -1,15 +1,8 @@
 -- A packet or a unit is taken.
-use Rattle.std.proofs.Common.{◌≡◌, ◌≢◌, ℕ, suc, ◌+◌, ◌<◌, Bool, true, false, cond, eqb, List, [], ◌∷◌, ◌++◌, length, map, Option, Some, None, refl, sym, ap, ◌∙◌, inl, inr, arith}
-use Rattle.std.specs.Prelude.{nat_lt, option_map, slice_get}
-use Rattle.std.specs.Option.{option_and_then}
-use Rattle.std.specs.List.{AllByRecursion}
-use Rattle.std.proofs.lemmas.List.{drop-drop, length-drop}
-use mathlib.Core.List.{map-map}
-use Rattle.tc_channel.proofs.Names.{Settings, Event, Take, TakeUnit, Inside, HoldsWithin, Queue, waiting, queue_of, taken_from, HasItem, run_within}
-use Rattle.tc_channel.specs.HeldQueues.{HeldQueue, AreDistinct, keys_of, held, queue_for, items_for, popped, shorter}
+use Rattle.tc_channel.proofs.Names.{◌≡◌, ◌≢◌, ℕ, suc, ◌+◌, ◌<◌, Bool, true, false, cond, eqb, List, [], ◌∷◌, ◌++◌, length, map, Option, Some, None, refl, sym, ap, ◌∙◌, inl, inr, arith, nat_lt, option_map, slice_get, option_and_then, AllByRecursion, drop-drop, length-drop, map-map, Settings, Event, Take, TakeUnit, Inside, HoldsWithin, Queue, waiting, queue_of, taken_from, run_within, HeldQueue, AreDistinct, keys_of, held, queue_for, popped, shorter, nat_tests, eqb_tells, waiting_packets_within, waiting_units_within}
+use Rattle.tc_channel.specs.Run.{HasItem}
+use Rattle.tc_channel.specs.HeldQueues.{items_for}
 use Rattle.tc_channel.proofs.Runs.{step-keeps}
-use Rattle.std.proofs.lemmas.Bool.Decides.{nat_tests, eqb_tells}
-use Rattle.tc_channel.specs.Reply.{waiting_packets_within, waiting_units_within}
 use Rattle.tc_channel.proofs.StateQueues.{keys, queues-apart, units-apart}
 
 pub held-queue : (key : ℕ) (qs : List Queue) → queue_for key (map held qs) ≡ option_map held (queue_of key qs)

@@ -1,14 +1,7 @@
 -- What queues admit is what the passed data fields make, in order, of which some may be left out.
-use Rattle.std.proofs.Common.{◌≡◌, ℕ, zero, suc, ◌+◌, ◌-◌, ◌≤◌, Bool, true, false, cond, eqb, List, [], ◌∷◌, ◌++◌, length, map, filter, take, drop, Some, refl, sym, ap, subst, ◌∙◌, inl, inr, append_assoc, arith}
-use Rattle.std.specs.Prelude.{is_some, slice_get}
-use Rattle.std.proofs.lemmas.List.{append-nil, length-drop}
-use Rattle.std.proofs.Math.Seq.{take-nil}
-use Rattle.tc_channel.proofs.Names.{accepts, Service, Bd, Passed, Settings, MapSetting, Event, Frame, Release, Take, TakeUnit, ChannelState, Accepted, Queue, first_state_within, empty_queue, empty_unit_queue, buffer, queue_of, is_for, is_of_map, map_of, is_chosen, packets_offered, units_offered, room_of, with_share, with_shares, step, row_of, unit_of, taken_from, first_of, IsLawfulWithin}
-use Rattle.tc_channel.specs.Given.{packets_given, units_given}
+use Rattle.tc_channel.proofs.Names.{◌≡◌, ℕ, zero, suc, ◌+◌, ◌-◌, ◌≤◌, Bool, true, false, cond, eqb, List, [], ◌∷◌, ◌++◌, length, map, filter, take, drop, Some, refl, sym, ap, subst, ◌∙◌, inl, inr, append_assoc, arith, is_some, slice_get, append-nil, length-drop, take-nil, accepts, Service, Bd, Passed, Settings, MapSetting, Event, Frame, Release, Take, TakeUnit, ChannelState, Accepted, Queue, first_state_within, empty_queue, empty_unit_queue, buffer, queue_of, is_for, is_of_map, map_of, is_chosen, packets_offered, units_offered, room_of, with_share, with_shares, step, row_of, unit_of, taken_from, first_of, IsLawfulWithin, packets_given, units_given, Ad, passed_on, run_within}
 use Rattle.tc_channel.specs.Era.{IsEraWithin, ComesFromWithin}
-use Rattle.tc_packet.specs.declared.Service.TheVariants.{Ad}
-use Rattle.tc_channel.specs.Run.{passed_on, run_within}
-use Rattle.tc_channel.specs.Through.{IsPartOf, unit_made, is_chosen_by, packets_ended, units_ended, all_made, packets_made, units_made, passed_since, released_since, sent_from}
+use Rattle.tc_channel.specs.Through.{unit_made, all_made, IsPartOf, is_chosen_by, packets_ended, units_ended, packets_made, units_made, passed_since, released_since, sent_from}
 use Rattle.tc_channel.proofs.Runs.{run-push, from-first}
 use Rattle.tc_channel.proofs.Plain.{run-segmented, run-limit}
 use Rattle.tc_channel.proofs.StateQueues.{keys, taken-key, taken-same, kept-either, unit-keys-stay}

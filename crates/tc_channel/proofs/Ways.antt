@@ -1,16 +1,8 @@
 -- Packets that go into their queues one after the other.
-use Rattle.std.proofs.Common.{◌≡◌, ◌≢◌, ℕ, zero, suc, ◌+◌, ◌-◌, ◌<◌, ◌≤◌, Bool, true, false, cond, eqb, List, [], ◌∷◌, ◌++◌, length, map, drop, get_or, Option, Some, None, refl, sym, ap, subst, ◌∙◌, arith}
-use Rattle.std.specs.Prelude.{is_some}
-use Rattle.std.specs.List.{AllByRecursion}
-use Rattle.std.proofs.Math.ListN.{set}
-use Rattle.std.proofs.lemmas.Bool.{eq-eqb, ne_eqb}
-use Rattle.std.proofs.lemmas.List.{length-append, length-map, get_or-map, get_or_default}
-use Rattle.tc_channel.proofs.Names.{packets_of, joined, is_for, is_of_map, delivered, Delivery}
-use Rattle.tc_channel.specs.HeldQueues.{keys_of, AreDistinct, room_in, share, put, copied_to, copies_from, queue_for, placed, HeldQueue}
-use Rattle.tc_channel.specs.Delivering.{room_at, IsOnItsWay, ArePut, IsPutWhole, IsDelivered}
+use Rattle.tc_channel.proofs.Names.{◌≡◌, ◌≢◌, ℕ, zero, suc, ◌+◌, ◌-◌, ◌<◌, ◌≤◌, Bool, true, false, cond, eqb, List, [], ◌∷◌, ◌++◌, length, map, drop, get_or, Option, Some, None, refl, sym, ap, subst, ◌∙◌, arith, is_some, AllByRecursion, set, eq-eqb, ne_eqb, length-append, length-map, get_or-map, get_or_default, packets_of, joined, is_for, is_of_map, delivered, Delivery, keys_of, AreDistinct, room_in, share, put, copied_to, copies_from, queue_for, placed, HeldQueue, room_at, IsOnItsWay, IsDelivered, take-nil}
+use Rattle.tc_channel.specs.Delivering.{ArePut, IsPutWhole}
 use Rattle.tc_channel.proofs.Copies.{copies-none, put_all-push, length-put_all}
 use Rattle.tc_channel.proofs.Passes.{NoneFor, apart-at, under-way, none-on, full-on, copy-on, as-many, all-shared, none-shares}
-use Rattle.std.proofs.Math.Seq.{take-nil}
 use Rattle.tc_channel.proofs.Found.{not-found}
 use Rattle.tc_channel.proofs.Wholes.{one-takes, share-room, share-full}
 

@@ -1,11 +1,5 @@
 -- The one queue that takes a unit of a MAP.
-use Rattle.std.proofs.Common.{◌≡◌, ◌≢◌, ℕ, zero, suc, ◌+◌, ◌-◌, ◌<◌, ◌≤◌, List, [], ◌∷◌, length, map, drop, get_or, refl, sym, ap, subst, ◌∙◌, arith}
-use Rattle.std.specs.List.{AllByRecursion}
-use Rattle.std.proofs.lemmas.Bool.{eq-eqb, ne_eqb}
-use Rattle.std.proofs.lemmas.List.{append-nil, take_all}
-use Rattle.std.proofs.Math.Seq.{take-nil}
-use Rattle.tc_channel.proofs.Names.{is_of_map}
-use Rattle.tc_channel.specs.HeldQueues.{keys_of, AreDistinct, share, copied_to, copies_from, HeldQueue}
+use Rattle.tc_channel.proofs.Names.{◌≡◌, ◌≢◌, ℕ, zero, suc, ◌+◌, ◌-◌, ◌<◌, ◌≤◌, List, [], ◌∷◌, length, map, drop, get_or, refl, sym, ap, subst, ◌∙◌, arith, AllByRecursion, eq-eqb, ne_eqb, append-nil, take_all, take-nil, is_of_map, keys_of, AreDistinct, share, copied_to, copies_from, HeldQueue}
 
 pub share-room : (m : ℕ) (u : List ℕ) (q : HeldQueue) → q.key ≡ m → length q.ring.items < q.ring.capacity → share (is_of_map m) (u ∷ []) q ≡ u ∷ []
 share-room m u q same room = rw (eq-eqb q.key m same) (take_all (q.ring.capacity - length q.ring.items) (u ∷ []) (omega arith))

@@ -1,4 +1,4 @@
-use Rattle.tc_channel.specs.ChannelState.{no_limits}
+use Rattle.tc_channel.proofs.Names.{no_limits}
 use Rattle.tc_channel.proofs.AtWork.{without-limits}
 use Rattle.tc_channel.proofs.channel.start.Goals as goal
 

@@ -1,8 +1,4 @@
-use Rattle.std.proofs.Common.{◌<◌, length, arith}
-use Rattle.std.specs.Box.{boxed_slice_items}
-use Rattle.std.proofs.lemmas.List.{length-map}
-use Rattle.tc_rooms.proofs.Sizes.{if-ok}
-use Rattle.tc_channel.specs.Keyed.{ring_in, rings_in}
+use Rattle.tc_channel.proofs.Names.{◌<◌, length, arith, boxed_slice_items, length-map, if-ok, ring_in, rings_in}
 use Rattle.tc_channel.proofs.Ways.{by-packets, by-unit}
 use Rattle.tc_channel.proofs.delivering.deliver.Goals as goal
 

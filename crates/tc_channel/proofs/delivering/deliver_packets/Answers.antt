@@ -1,8 +1,4 @@
-use Rattle.std.proofs.Common.{◌≡◌, [], refl, sym, subst, ◌∙◌, ap}
-use mathlib.Core.List.{map-map}
-use Rattle.std.specs.Box.{boxed_slice_items}
-use Rattle.tc_channel.specs.HeldQueues.{keys_of}
-use Rattle.tc_channel.specs.Keyed.{Keyed, ring_in, rings_in, all_laid_in, room_sizes, settled, let_go, AreSettled}
+use Rattle.tc_channel.proofs.Names.{◌≡◌, [], refl, sym, subst, ◌∙◌, ap, map-map, boxed_slice_items, keys_of, Keyed, ring_in, rings_in, all_laid_in, room_sizes, settled, let_go, AreSettled}
 use Rattle.tc_channel.proofs.Lists.{all-map}
 use Rattle.tc_channel.proofs.InRooms.{same-keys, grows-of}
 use Rattle.tc_channel.proofs.delivering.deliver_packets.Goals as goal

@@ -1,7 +1,4 @@
-use Rattle.std.proofs.Common.{◌<◌, length, refl, arith}
-use Rattle.std.specs.Box.{boxed_slice_items}
-use Rattle.std.proofs.lemmas.List.{length-map}
-use Rattle.tc_channel.specs.Keyed.{ring_in, rings_in}
+use Rattle.tc_channel.proofs.Names.{◌<◌, length, refl, arith, boxed_slice_items, length-map, ring_in, rings_in}
 use Rattle.tc_channel.proofs.Ways.{put-whole, put-none}
 use Rattle.tc_channel.proofs.delivering.deliver_whole.Goals as goal
 

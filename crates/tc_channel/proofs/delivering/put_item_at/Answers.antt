@@ -1,8 +1,4 @@
-use Rattle.std.specs.Box.{boxed_slice_items}
-use Rattle.std.proofs.Common.{◌∙◌, ap}
-use Rattle.std.proofs.Math.Seq.{map-set_same}
-use Rattle.tc_rooms.proofs.Sizes.{if-ok, on-err}
-use Rattle.tc_channel.specs.Keyed.{ring_in}
+use Rattle.tc_channel.proofs.Names.{boxed_slice_items, ◌∙◌, ap, map-set_same, if-ok, on-err, ring_in}
 use Rattle.tc_channel.proofs.InRooms.{fit-at, same-sizes, put-in, settled-at, laid-of-none-at}
 use Rattle.tc_channel.proofs.Found.{keys-set}
 use Rattle.tc_channel.proofs.delivering.put_item_at.Goals as goal

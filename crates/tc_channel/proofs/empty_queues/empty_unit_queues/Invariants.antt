@@ -1,7 +1,4 @@
-use Rattle.std.proofs.Common.{◌≡◌, ◌≤◌, length, take, map, replicate}
-use Rattle.tc_channel.proofs.Names.{empty_unit_queue}
-use Rattle.tc_channel.specs.HeldQueues.{held}
-use Rattle.tc_channel.specs.Keyed.{rings_in, room_sizes, AreSettled}
+use Rattle.tc_channel.proofs.Names.{◌≡◌, ◌≤◌, length, take, map, replicate, empty_unit_queue, held, rings_in, room_sizes, AreSettled}
 use Rattle.tc_channel.proofs.empty_queues.empty_unit_queues.Given as goal
 
 abbrev pub invariant-loop-chosen : goal.invariant-loop-chosen

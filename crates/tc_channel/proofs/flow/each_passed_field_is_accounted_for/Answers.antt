@@ -1,4 +1,4 @@
-use Rattle.tc_channel.specs.Run.{run_within}
+use Rattle.tc_channel.proofs.Names.{run_within}
 use Rattle.tc_channel.proofs.Account.{accounted}
 use Rattle.tc_channel.proofs.flow.each_passed_field_is_accounted_for.Goals as goal
 

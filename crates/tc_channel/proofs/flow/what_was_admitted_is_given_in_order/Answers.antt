@@ -1,5 +1,4 @@
-use Rattle.std.proofs.Common.{refl}
-use Rattle.tc_channel.specs.Reply.{waiting_packets_within, waiting_units_within}
+use Rattle.tc_channel.proofs.Names.{refl, waiting_packets_within, waiting_units_within}
 use Rattle.tc_channel.proofs.Given.{packets-in-order, units-in-order}
 use Rattle.tc_channel.proofs.flow.what_was_admitted_is_given_in_order.Goals as goal
 

@@ -1,6 +1,4 @@
-use Rattle.std.proofs.Common.{arith}
-use Rattle.std.proofs.lemmas.Grind.{common_steps}
-use Rattle.std.proofs.lemmas.List.Elements.{filter_map-append}
+use Rattle.tc_channel.proofs.Names.{arith, common_steps, filter_map-append}
 use Rattle.tc_channel.proofs.holding.units_in.Goals as goal
 
 pub loop-chosen-preserved : goal.loop-chosen-preserved

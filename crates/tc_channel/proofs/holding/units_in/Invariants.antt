@@ -1,5 +1,4 @@
-use Rattle.std.proofs.Common.{◌≡◌, ◌≤◌, length, take, vec_len, vec_capacity}
-use Rattle.std.specs.List.{filter_map}
+use Rattle.tc_channel.proofs.Names.{◌≡◌, ◌≤◌, length, take, vec_len, vec_capacity, filter_map}
 use Rattle.tc_channel.specs.Holding.{map_holding}
 use Rattle.tc_channel.proofs.holding.units_in.Given as goal
 

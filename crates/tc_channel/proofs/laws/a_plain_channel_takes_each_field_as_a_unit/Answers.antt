@@ -1,6 +1,5 @@
-use Rattle.std.proofs.Common.{◌∙◌}
+use Rattle.tc_channel.proofs.Names.{◌∙◌, stream, run_within}
 use Rattle.tc_packet.specs.Segment.{header_of}
-use Rattle.tc_channel.proofs.Names.{stream, run_within}
 use Rattle.tc_channel.proofs.Plain.{run-limit, run-segmented}
 use Rattle.tc_channel.proofs.Limits.{plain-unit}
 use Rattle.tc_channel.proofs.laws.a_plain_channel_takes_each_field_as_a_unit.Goals as goal

@@ -1,4 +1,5 @@
-use Rattle.tc_channel.proofs.Names.{no_limits, run, run_within}
+use Rattle.tc_channel.proofs.Names.{no_limits, run_within}
+use Rattle.tc_channel.specs.Run.{run}
 use Rattle.tc_channel.proofs.Plain.{run-limit}
 use Rattle.tc_channel.proofs.Limits.{limited-unit, unlimited-unit}
 use Rattle.tc_channel.proofs.laws.a_unit_beyond_the_limit_of_its_map_is_none.Goals as goal

@@ -1,4 +1,4 @@
-use Rattle.tc_channel.specs.Run.{run_within}
+use Rattle.tc_channel.proofs.Names.{run_within}
 use Rattle.tc_channel.proofs.Sound.{state-sound, frame-enters}
 use Rattle.tc_channel.proofs.laws.each_frame_has_a_step.Goals as goal
 

@@ -1,6 +1,4 @@
-use Rattle.std.specs.Box.{boxed_slice_items}
-use Rattle.tc_rooms.proofs.Sizes.{if-ok}
-use Rattle.tc_channel.specs.Keyed.{laid_in}
+use Rattle.tc_channel.proofs.Names.{boxed_slice_items, if-ok, laid_in}
 use Rattle.tc_channel.proofs.Found.{keys-set}
 use Rattle.tc_channel.proofs.InRooms.{put-in, same-rings, same-sizes, fit-at, settled-at, laid-of-none-at}
 use Rattle.tc_channel.proofs.Laid.{laid-at}

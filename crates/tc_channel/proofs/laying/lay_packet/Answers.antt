@@ -1,9 +1,5 @@
-use Rattle.std.proofs.Common.{◌<◌, length, refl, sym, subst, arith}
-use Rattle.std.specs.Box.{boxed_slice_items}
-use Rattle.std.proofs.lemmas.List.{length-map}
-use Rattle.tc_channel.specs.HeldQueues.{keys_of, AreDistinct}
+use Rattle.tc_channel.proofs.Names.{◌<◌, length, refl, sym, subst, arith, boxed_slice_items, length-map, keys_of, AreDistinct, laid_in, all_laid_in, rings_in}
 use Rattle.tc_channel.proofs.Passes.{NoneFor, is-for, not-telecommand, no-queue}
-use Rattle.tc_channel.specs.Keyed.{laid_in, all_laid_in, rings_in}
 use Rattle.tc_channel.proofs.InRooms.{same-keys}
 use Rattle.tc_channel.proofs.Ways.{way-none, way-full, way-put}
 use Rattle.tc_channel.proofs.laying.lay_packet.Goals as goal

@@ -1,11 +1,6 @@
-use Rattle.std.proofs.Common.{◌≡◌, ◌≤◌, ◌++◌, ℕ, inl, inr, length, refl, sym, ap, ◌∙◌, arith}
-use Rattle.std.specs.Box.{boxed_slice_items}
-use Rattle.std.proofs.lemmas.Grind.{common_steps}
-use Rattle.tc_packet.specs.SpacePacket.{packets_of, rest_of, joined}
-use Rattle.tc_channel.specs.Keyed.{rings_in, all_laid_in, room_sizes}
+use Rattle.tc_channel.proofs.Names.{◌≡◌, ◌≤◌, ◌++◌, ℕ, inl, inr, length, refl, sym, ap, ◌∙◌, arith, boxed_slice_items, common_steps, packets_of, rest_of, joined, rings_in, all_laid_in, room_sizes, looks, pass_steps}
 use Rattle.tc_channel.proofs.InRooms.{laid-none}
 use Rattle.tc_channel.proofs.Sizes.{fit-enough}
-use Rattle.tc_channel.specs.Steps.{looks, pass_steps}
 use Rattle.tc_channel.proofs.Counts.{pass-step, cut-one, cut-last, looks-same, same-count}
 use Rattle.tc_channel.proofs.Laid.{none-laid}
 use Rattle.tc_channel.proofs.Ways.{at-start, first-short, at-end}

@@ -1,10 +1,4 @@
-use Rattle.std.proofs.Common.{◌≡◌, ◌+◌, ◌≤◌, ℕ, true, false, length}
-use Rattle.std.specs.Box.{boxed_slice_items}
-use Rattle.tc_packet.specs.SpacePacket.{packets_of, rest_of}
-use Rattle.tc_channel.specs.HeldQueues.{keys_of}
-use Rattle.tc_channel.specs.Delivering.{IsOnItsWay, IsAmong, AreLaidOf}
-use Rattle.tc_channel.specs.Keyed.{rings_in, all_laid_in, room_sizes, AreSettled}
-use Rattle.tc_channel.specs.Steps.{looks, pass_steps}
+use Rattle.tc_channel.proofs.Names.{◌≡◌, ◌+◌, ◌≤◌, ℕ, true, false, length, boxed_slice_items, packets_of, rest_of, keys_of, IsOnItsWay, IsAmong, AreLaidOf, rings_in, all_laid_in, room_sizes, AreSettled, looks, pass_steps}
 use Rattle.tc_channel.proofs.laying.lay_packets.Given as goal
 
 -- the packets so far and those that are left are all of them

@@ -1,6 +1,4 @@
-use Rattle.std.proofs.Common.{◌≡◌, ◌≤◌, ◌*◌, take}
-use Rattle.std.specs.Prelude.{sum_by}
-use Rattle.tc_channel.specs.declared.settings.QueueSetting.{QueueSetting}
+use Rattle.tc_channel.proofs.Names.{◌≡◌, ◌≤◌, ◌*◌, take, sum_by, QueueSetting}
 use Rattle.tc_channel.proofs.memory.held_packets.Given as goal
 
 abbrev pub invariant-loop-queue : goal.invariant-loop-queue

@@ -1,6 +1,4 @@
-use Rattle.std.proofs.Common.{◌≡◌, ◌≤◌, ◌*◌, take}
-use Rattle.std.specs.Prelude.{sum_by}
-use Rattle.tc_channel.specs.declared.settings.MapSetting.{MapSetting}
+use Rattle.tc_channel.proofs.Names.{◌≡◌, ◌≤◌, ◌*◌, take, sum_by, MapSetting}
 use Rattle.tc_channel.proofs.memory.held_units.Given as goal
 
 abbrev pub invariant-loop-chosen : goal.invariant-loop-chosen

@@ -1,5 +1,4 @@
-use Rattle.std.proofs.Common.{sym}
-use Rattle.tc_channel.specs.Keyed.{rings_in}
+use Rattle.tc_channel.proofs.Names.{sym, rings_in}
 use Rattle.tc_channel.proofs.Found.{found-in, not-found}
 use Rattle.tc_channel.proofs.places.find_in.Goals as goal
 

@@ -1,7 +1,4 @@
-use Rattle.std.proofs.Common.{◌≡◌, ◌<◌, ◌≤◌, length, get_or, refl, arith}
-use Rattle.std.proofs.lemmas.Grind.{common_steps}
-use Rattle.tc_channel.specs.HeldQueues.{keys_of}
-use Rattle.tc_channel.specs.Keyed.{rings_in}
+use Rattle.tc_channel.proofs.Names.{◌≡◌, ◌<◌, ◌≤◌, length, get_or, refl, arith, common_steps, keys_of, rings_in}
 use Rattle.tc_channel.proofs.Tables.{keys-length, told-first, told-none, first-key}
 use Rattle.tc_channel.proofs.places.place_counted.Goals as goal
 

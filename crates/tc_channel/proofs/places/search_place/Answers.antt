@@ -1,5 +1,4 @@
-use Rattle.std.proofs.Common.{◌≡◌, ◌∙◌, sym, subst, suc, ℕ, ◌+◌, take, arith}
-use Rattle.std.proofs.lemmas.Grind.{common_steps}
+use Rattle.tc_channel.proofs.Names.{◌≡◌, ◌∙◌, sym, subst, suc, ℕ, ◌+◌, take, arith, common_steps}
 use Rattle.tc_channel.proofs.InRooms.{key-in}
 use Rattle.tc_channel.proofs.Found.{NoneHas, none-more, first-here}
 use Rattle.tc_channel.proofs.places.search_place.Goals as goal

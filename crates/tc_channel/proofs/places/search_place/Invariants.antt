@@ -1,4 +1,4 @@
-use Rattle.std.proofs.Common.{◌≡◌, ◌+◌, take}
+use Rattle.tc_channel.proofs.Names.{◌≡◌, ◌+◌, take}
 use Rattle.tc_channel.proofs.Found.{NoneHas}
 use Rattle.tc_channel.proofs.places.search_place.Given as goal
 

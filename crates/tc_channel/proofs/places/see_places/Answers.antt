@@ -1,11 +1,7 @@
-use Rattle.std.proofs.Common.{◌≡◌, length, get_or, subst, take, refl, sym, ap, ◌∙◌, arith}
-use Rattle.std.proofs.lemmas.List.{get_or_default, take_all}
-use Rattle.tc_channel.specs.HeldQueues.{keys_of}
-use Rattle.tc_channel.specs.Keyed.{rings_in}
-use Rattle.tc_channel.specs.Places.{AreFirst}
+use Rattle.tc_channel.proofs.Names.{◌≡◌, length, get_or, subst, take, refl, sym, ap, ◌∙◌, arith, get_or_default, take_all, keys_of, rings_in, AreFirst}
 use Rattle.tc_channel.proofs.Tables.{no-queue, next-place, kept-place, skip-place, keys-length}
-use Rattle.tc_channel.proofs.places.see_places.Goals as goal
 use Rattle.tc_channel.proofs.places.see_places.Goals.{then-key-lt-KEYS+then-index-none, else-key-lt-KEYS, else-key-lt-KEYS-via-then-key-lt-KEYS+else-index-none, else-key-lt-KEYS-via-else-key-lt-KEYS}
+use Rattle.tc_channel.proofs.places.see_places.Goals as goal
 
 pub loop-place-init : goal.loop-place-init
 loop-place-init g c = no-queue c.in_ok-table.table.items (length c.args.queues.now) (length c.args.queues.now) (c.in_ok-table.ensures.items_if_clones_equal (λ y e. e)) refl

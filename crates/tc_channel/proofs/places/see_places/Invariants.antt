@@ -1,7 +1,4 @@
-use Rattle.std.proofs.Common.{length, take}
-use Rattle.tc_channel.specs.HeldQueues.{keys_of}
-use Rattle.tc_channel.specs.Keyed.{rings_in}
-use Rattle.tc_channel.specs.Places.{AreFirst}
+use Rattle.tc_channel.proofs.Names.{length, take, keys_of, rings_in, AreFirst}
 use Rattle.tc_channel.proofs.places.see_places.Given as goal
 
 -- the table of the queues so far

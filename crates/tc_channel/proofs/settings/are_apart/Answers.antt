@@ -1,7 +1,5 @@
-use Rattle.std.proofs.Common.{◌<◌, true, length, get_or, refl, ◌∙◌, arith}
-use Rattle.std.proofs.lemmas.List.{length-set}
+use Rattle.tc_channel.proofs.Names.{◌<◌, true, length, get_or, refl, ◌∙◌, arith, length-set, QueueSetting}
 use Rattle.tc_channel.proofs.Apart.{none-marked, not-apart, apart-more, marked-more}
-use Rattle.tc_channel.specs.declared.settings.QueueSetting.{QueueSetting}
 use Rattle.tc_channel.proofs.settings.are_apart.Goals as goal
 
 pub loop-queue-init : goal.loop-queue-init

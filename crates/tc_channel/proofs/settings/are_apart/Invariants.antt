@@ -1,6 +1,5 @@
-use Rattle.std.proofs.Common.{◌≡◌, length}
+use Rattle.tc_channel.proofs.Names.{◌≡◌, length, QueueSetting}
 use Rattle.tc_channel.proofs.Apart.{ApartBelow, AreMarked}
-use Rattle.tc_channel.specs.declared.settings.QueueSetting.{QueueSetting}
 use Rattle.tc_channel.proofs.settings.are_apart.Given as goal
 
 abbrev pub invariant-loop-queue : goal.invariant-loop-queue

@@ -1,6 +1,5 @@
-use Rattle.std.proofs.Common.{refl}
+use Rattle.tc_channel.proofs.Names.{refl, MapSetting}
 use Rattle.tc_channel.proofs.Apart.{not-apart, apart-more}
-use Rattle.tc_channel.specs.declared.settings.MapSetting.{MapSetting}
 use Rattle.tc_channel.proofs.settings.are_maps_apart.Goals as goal
 
 pub returns-then-has_map : goal.returns-then-has_map

@@ -1,5 +1,5 @@
+use Rattle.tc_channel.proofs.Names.{MapSetting}
 use Rattle.tc_channel.proofs.Apart.{ApartBelow}
-use Rattle.tc_channel.specs.declared.settings.MapSetting.{MapSetting}
 use Rattle.tc_channel.proofs.settings.are_maps_apart.Given as goal
 
 abbrev pub invariant-loop-i : goal.invariant-loop-i

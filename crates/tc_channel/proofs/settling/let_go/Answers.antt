@@ -1,8 +1,4 @@
-use Rattle.std.proofs.Common.{◌<◌, length, arith}
-use Rattle.std.specs.Box.{boxed_slice_items}
-use Rattle.std.proofs.lemmas.Grind.{common_steps}
-use Rattle.std.proofs.lemmas.List.Edits.{map_over_more}
-use Rattle.tc_channel.specs.Keyed.{let_go}
+use Rattle.tc_channel.proofs.Names.{◌<◌, length, arith, boxed_slice_items, common_steps, map_over_more, let_go}
 use Rattle.tc_channel.proofs.settling.let_go.Goals as goal
 
 pub loop-i-preserved : goal.loop-i-preserved

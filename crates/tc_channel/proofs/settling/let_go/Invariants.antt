@@ -1,6 +1,4 @@
-use Rattle.std.proofs.Common.{◌≡◌, ◌++◌, ◌+◌, map, take, drop}
-use Rattle.std.specs.Box.{boxed_slice_items}
-use Rattle.tc_channel.specs.Keyed.{let_go}
+use Rattle.tc_channel.proofs.Names.{◌≡◌, ◌++◌, ◌+◌, map, take, drop, boxed_slice_items, let_go}
 use Rattle.tc_channel.proofs.settling.let_go.Given as goal
 
 abbrev pub invariant-loop-i : goal.invariant-loop-i

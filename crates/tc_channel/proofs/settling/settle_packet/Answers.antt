@@ -1,8 +1,5 @@
-use Rattle.std.proofs.Common.{refl, ap}
-use Rattle.std.specs.Box.{boxed_slice_items}
-use Rattle.tc_channel.specs.HeldQueues.{keys_of}
+use Rattle.tc_channel.proofs.Names.{refl, ap, boxed_slice_items, keys_of, Keyed, rings_in}
 use Rattle.tc_channel.proofs.Passes.{is-for, not-telecommand, no-queue}
-use Rattle.tc_channel.specs.Keyed.{Keyed, rings_in}
 use Rattle.tc_channel.proofs.Laid.{passed-none, passed-one, settled-one}
 use Rattle.tc_channel.proofs.Found.{keys-set}
 use Rattle.tc_channel.proofs.settling.settle_packet.Goals as goal

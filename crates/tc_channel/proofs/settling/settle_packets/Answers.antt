@@ -1,8 +1,4 @@
-use Rattle.std.proofs.Common.{ℕ, length, sym, subst, ap, ◌∙◌}
-use Rattle.std.specs.Box.{boxed_slice_items}
-use Rattle.tc_packet.specs.SpacePacket.{packets_of}
-use Rattle.tc_channel.specs.Delivering.{AreLaidOf}
-use Rattle.tc_channel.specs.Steps.{looks, pass_steps}
+use Rattle.tc_channel.proofs.Names.{ℕ, length, sym, subst, ap, ◌∙◌, boxed_slice_items, packets_of, AreLaidOf, looks, pass_steps}
 use Rattle.tc_channel.proofs.Counts.{pass-step, cut-one, looks-same, same-count}
 use Rattle.tc_channel.proofs.Laid.{settled-same, all-settled-of}
 use Rattle.tc_channel.proofs.settling.settle_packets.Goals as goal

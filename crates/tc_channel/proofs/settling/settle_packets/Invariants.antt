@@ -1,10 +1,4 @@
-use Rattle.std.proofs.Common.{◌≡◌, ◌+◌, ◌≤◌, length, map}
-use Rattle.std.specs.Box.{boxed_slice_items}
-use Rattle.tc_packet.specs.SpacePacket.{packets_of}
-use Rattle.tc_channel.specs.HeldQueues.{keys_of}
-use Rattle.tc_channel.specs.Delivering.{AreLaidOf}
-use Rattle.tc_channel.specs.Keyed.{rings_in, settled}
-use Rattle.tc_channel.specs.Steps.{looks, pass_steps}
+use Rattle.tc_channel.proofs.Names.{◌≡◌, ◌+◌, ◌≤◌, length, map, boxed_slice_items, packets_of, keys_of, AreLaidOf, rings_in, settled, looks, pass_steps}
 use Rattle.tc_channel.proofs.settling.settle_packets.Given as goal
 
 -- what is laid still is of the packets that are left

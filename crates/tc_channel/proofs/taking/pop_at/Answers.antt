@@ -1,7 +1,4 @@
-use Rattle.std.proofs.Common.{◌≡◌, ◌≢◌, length, ap, refl, arith}
-use Rattle.std.specs.Box.{boxed_slice_items}
-use Rattle.std.proofs.lemmas.Grind.{common_steps}
-use Rattle.tc_rooms.specs.Rooms.{Slotted}
+use Rattle.tc_channel.proofs.Names.{◌≡◌, ◌≢◌, length, ap, refl, arith, boxed_slice_items, common_steps, Slotted}
 use Rattle.tc_channel.proofs.InRooms.{same-sizes, settled-set}
 use Rattle.tc_channel.proofs.Found.{popped-in, keys-set, empty-in, oldest-in, none-waits, one-waits}
 use Rattle.tc_channel.proofs.taking.pop_at.Goals as goal

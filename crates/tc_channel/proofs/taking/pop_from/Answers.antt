@@ -1,6 +1,4 @@
-use Rattle.std.proofs.Common.{sym}
-use Rattle.std.specs.Box.{boxed_slice_items}
-use Rattle.tc_channel.specs.Keyed.{rings_in}
+use Rattle.tc_channel.proofs.Names.{sym, boxed_slice_items, rings_in}
 use Rattle.tc_channel.proofs.Found.{oldest-none, popped-none}
 use Rattle.tc_channel.proofs.taking.pop_from.Goals as goal
 

@@ -1,8 +1,5 @@
-use Rattle.std.proofs.Common.{ap, sym, ◌∙◌}
-use Rattle.std.specs.Prelude.{set}
-use Rattle.std.specs.Box.{boxed_slice_items}
+use Rattle.tc_channel.proofs.Names.{ap, sym, ◌∙◌, set, boxed_slice_items, Slotted}
 use Rattle.std.proofs.lemmas.List.{set-get_or}
-use Rattle.tc_rooms.specs.Rooms.{Slotted}
 use Rattle.tc_channel.proofs.InRooms.{same-sizes, settled-set}
 use Rattle.tc_channel.proofs.Found.{popped-in, keys-set, oldest-in}
 use Rattle.tc_channel.proofs.taking.take_at.Goals as goal

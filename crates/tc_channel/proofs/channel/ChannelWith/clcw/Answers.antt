@@ -1,5 +1,4 @@
-use Rattle.tc_channel.specs.Reply.{clcw_within}
-use Rattle.tc_channel.specs.ChannelState.{no_limits}
+use Rattle.tc_channel.proofs.Names.{clcw_within, no_limits}
 use Rattle.tc_channel.proofs.channel.ChannelWith.clcw.Goals as goal
 
 pub returns-clause-word : goal.returns-clause-word

@@ -1,4 +1,4 @@
-use Rattle.tc_channel.specs.ChannelState.{no_limits}
+use Rattle.tc_channel.proofs.Names.{no_limits}
 use Rattle.tc_channel.proofs.channel.ChannelWith.oldest_unit.Goals as goal
 
 pub returns-clause-unit : goal.returns-clause-unit

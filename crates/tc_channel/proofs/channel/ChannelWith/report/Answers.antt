@@ -1,6 +1,5 @@
-use Rattle.std.proofs.Common.{subst}
+use Rattle.tc_channel.proofs.Names.{subst, no_limits}
 use Rattle.tc_channel.specs.Journal.{History}
-use Rattle.tc_channel.proofs.Names.{no_limits}
 use Rattle.tc_channel.specs.Era.{CountsUpInItsEra}
 use Rattle.tc_channel.proofs.Eras.{era-law}
 use Rattle.tc_channel.proofs.channel.ChannelWith.report.Goals as goal

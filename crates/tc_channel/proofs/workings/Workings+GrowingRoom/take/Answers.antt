@@ -1,4 +1,4 @@
-use Rattle.std.proofs.Common.{sym, ◌∙◌}
+use Rattle.tc_channel.proofs.Names.{sym, ◌∙◌}
 use Rattle.tc_channel.proofs.AtWork.{packet-is, packet-taken, queues-work, some-mapped}
 use Rattle.tc_channel.proofs.workings.Workings+GrowingRoom.take.Goals as goal
 

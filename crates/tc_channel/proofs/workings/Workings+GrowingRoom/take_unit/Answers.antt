@@ -1,4 +1,4 @@
-use Rattle.std.proofs.Common.{sym, ◌∙◌}
+use Rattle.tc_channel.proofs.Names.{sym, ◌∙◌}
 use Rattle.tc_channel.proofs.AtWork.{unit-is, unit-taken, units-work, some-mapped}
 use Rattle.tc_channel.proofs.workings.Workings+GrowingRoom.take_unit.Goals as goal
 

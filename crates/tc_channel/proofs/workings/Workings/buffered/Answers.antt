@@ -1,4 +1,4 @@
-use Rattle.std.proofs.Common.{length, ap, ◌∙◌}
+use Rattle.tc_channel.proofs.Names.{length, ap, ◌∙◌}
 use Rattle.tc_channel.specs.Reply.{buffered_fields_within}
 use Rattle.tc_channel.proofs.workings.Workings.buffered.Goals as goal
 

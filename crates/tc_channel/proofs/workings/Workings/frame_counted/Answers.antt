@@ -1,11 +1,6 @@
-use Rattle.std.proofs.Common.{drop, ◌≡◌, ◌∷◌, [], ◌++◌, nat_lt, ◌∙◌, ap, refl, arith}
-use Rattle.std.proofs.lemmas.List.{length-drop, take_rest}
-use Rattle.tc_link.specs.Farm.{frame_row, number_of, accepts}
-use Rattle.tc_channel.specs.declared.event.Event.TheVariants.{Frame}
-use Rattle.tc_channel.specs.Keyed.{rings_in}
+use Rattle.tc_channel.proofs.Names.{drop, ◌≡◌, ◌∷◌, [], ◌++◌, nat_lt, ◌∙◌, ap, refl, arith, length-drop, frame_row, number_of, accepts, Frame, rings_in, run_within, row_of, open_runs}
+use Rattle.std.proofs.lemmas.List.{take_rest}
 use Rattle.tc_channel.specs.Reply.{frame_reply_within}
-use Rattle.tc_channel.specs.Run.{run_within, row_of}
-use Rattle.tc_rooms.specs.Runs.{open_runs}
 use Rattle.tc_channel.proofs.AtWork.{holds-on, on-err, still-holds}
 use Rattle.tc_channel.proofs.Held.{row-is, can-enter, frame-keeps}
 use Rattle.tc_channel.proofs.Plain.{run-limit}

@@ -1,7 +1,4 @@
-use Rattle.std.proofs.Common.{[], ap, sym, subst, ◌∙◌}
-use Rattle.tc_channel.specs.Keyed.{rings_in, room_sizes, AreSettled}
-use Rattle.tc_channel.specs.Run.{run_within, IsLawfulWithin}
-use Rattle.tc_rooms.specs.Rooms.{Slotted}
+use Rattle.tc_channel.proofs.Names.{[], ap, sym, subst, ◌∙◌, rings_in, room_sizes, AreSettled, run_within, IsLawfulWithin, Slotted}
 use Rattle.tc_channel.proofs.AtWork.{none-open}
 use Rattle.tc_channel.proofs.Sizes.{enough-at-start}
 use Rattle.tc_channel.proofs.workings.Workings.new.Goals as goal

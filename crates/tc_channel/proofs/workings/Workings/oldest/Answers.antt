@@ -1,4 +1,4 @@
-use Rattle.std.proofs.Common.{sym, ◌∙◌}
+use Rattle.tc_channel.proofs.Names.{sym, ◌∙◌}
 use Rattle.tc_channel.proofs.AtWork.{packet-is}
 use Rattle.tc_channel.proofs.workings.Workings.oldest.Goals as goal
 

@@ -1,5 +1,4 @@
-use Rattle.std.proofs.Common.{arith}
-use Rattle.std.proofs.lemmas.Grind.{common_steps}
+use Rattle.tc_channel.proofs.Names.{arith, common_steps}
 use Rattle.tc_channel.proofs.Takes.{packets-wait}
 use Rattle.tc_channel.proofs.workings.Workings.queued.Goals as goal
 

@@ -1,12 +1,5 @@
-use Rattle.std.proofs.Common.{◌≡◌, ◌≤◌, ◌∷◌, [], ◌++◌, length, ap, ◌∙◌}
-use Rattle.tc_channel.specs.declared.event.Event.TheVariants.{Release}
-use Rattle.tc_channel.specs.ChannelState.{buffer}
-use Rattle.tc_channel.specs.Keyed.{rings_in}
+use Rattle.tc_channel.proofs.Names.{◌≡◌, ◌≤◌, ◌∷◌, [], ◌++◌, length, ap, ◌∙◌, Release, buffer, rings_in, run_within, first_of, Ad, Slotted, open_runs}
 use Rattle.tc_channel.specs.Reply.{release_reply_within}
-use Rattle.tc_channel.specs.Run.{run_within, first_of}
-use Rattle.tc_packet.specs.declared.Service.TheVariants.{Ad}
-use Rattle.tc_rooms.specs.Rooms.{Slotted}
-use Rattle.tc_rooms.specs.Runs.{open_runs}
 use Rattle.tc_channel.proofs.AtWork.{first-is, holds-on, on-err, still-holds}
 use Rattle.tc_channel.proofs.Held.{release-keeps, oldest-filled}
 use Rattle.tc_channel.proofs.Plain.{run-limit}
