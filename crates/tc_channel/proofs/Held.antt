@@ -16,13 +16,9 @@ use Rattle.tc_channel.proofs.Lists.{all-drop}
 abbrev IsCounted : ChannelState → Type 0
 IsCounted b = b.released ≤ length b.accepted
 
-kept-counted : (row : Row) (accepted : Bool) (octets : List ℕ) (b : ChannelState) → IsCounted b → IsCounted (kept row accepted octets b)
-unfolding passed_on
-kept-counted row accepted octets b h = kept-either IsCounted row accepted octets b h (omega (arith, length-append {A = Accepted})) h
-
 step-counted : (c : Settings) (b : ChannelState) (e : Event) → HasStep c b e → IsCounted b → IsCounted (step c b e)
 unfolding passed_on
-step-counted c b (Frame octets) one h = kept-counted (row_of c b octets) (accepts (row_of c b octets) b.report) octets b h
+step-counted c b (Frame octets) one h = kept-either IsCounted (row_of c b octets) (accepts (row_of c b octets) b.report) octets b h (omega (arith, length-append {A = Accepted})) h
 step-counted c b Release one h = omega arith
 step-counted c b _ one h = h
 

@@ -1,5 +1,5 @@
 -- Queues in rooms, read and written at one place.
-use Rattle.tc_channel.proofs.Names.{◌≡◌, ℕ, zero, suc, ◌-◌, ◌<◌, ◌≤◌, Bool, true, false, List, [], ◌∷◌, length, map, get_or, refl, sym, ap, subst, ◌∙◌, arith, set, map-set_same, map-map, append-nil, length-map, map-set, get_or-map, keys_of, room_in, HeldQueue, Keyed, ring_in, rings_in, laid_in, all_laid_in, room_sizes, Fit, AreSettled, room_at}
+use Rattle.tc_channel.proofs.Names.{◌≡◌, ℕ, zero, suc, ◌-◌, ◌<◌, ◌≤◌, Bool, List, [], ◌∷◌, length, map, get_or, refl, sym, ap, subst, ◌∙◌, arith, set, map-set_same, map-map, append-nil, length-map, map-set, get_or-map, keys_of, room_in, HeldQueue, Keyed, ring_in, rings_in, laid_in, all_laid_in, room_sizes, Fit, AreSettled, room_at}
 use Rattle.circular_buffer.specs.Buffer.{buffer}
 use Rattle.tc_channel.specs.Keyed.{IsPutBehind}
 use Rattle.tc_channel.specs.Delivering.{IsPutAt}
@@ -36,11 +36,6 @@ pub key-in : (qs : List Keyed) (i k : ℕ) (q : Keyed) → i < length qs → q �
 key-in qs i k q inside is k_is =
     k_is ∙ sym (get_or-map (λ (x : HeldQueue). x.key) (rings_in qs) i (ring_in q) k (omega (arith, length-map qs ring_in))
     ∙ ap (λ (x : HeldQueue). x.key) (get_or-map ring_in qs i q (ring_in q) inside ∙ ap ring_in (sym is)))
-
--- what can't be without memory grows
-pub grows-of : (grows : Bool) → (grows ≡ false → ⊥) → grows ≡ true
-grows-of true not = refl
-grows-of false not = absurd (not refl)
 
 -- an item that is put into the queue at a place is put there, with what is laid and without
 pub put-in : (f : Keyed → HeldQueue) (qs : List Keyed) (i : ℕ) (q next : Keyed) (p : List ℕ) (place : Bool) → i < length qs → q ≡ get_or qs i q → IsPutBehind p (f q) (f next) place → IsPutAt i p (map f qs) (map f (set qs i next)) place

@@ -1,11 +1,11 @@
 -- With segment headers or without, and the limits: no event changes them.
 use Rattle.tc_channel.proofs.Names.{◌≡◌, ℕ, List, refl, ◌∙◌, accepts, Settings, Event, Frame, ChannelState, step, row_of, passed_on, run_within}
-use Rattle.tc_channel.proofs.Streams.{kept-limit, kept-segmented}
+use Rattle.tc_channel.proofs.StateQueues.{kept-either}
 use Rattle.tc_channel.proofs.Runs.{always}
 
 step-segmented : (s : Settings) (b : ChannelState) (e : Event) → (step s b e).segmented ≡ b.segmented
 unfolding passed_on
-step-segmented s b (Frame octets) = kept-segmented (row_of s b octets) (accepts (row_of s b octets) b.report) octets b
+step-segmented s b (Frame octets) = kept-either (λ x. x.segmented ≡ b.segmented) (row_of s b octets) (accepts (row_of s b octets) b.report) octets b refl refl refl
 step-segmented s b _ = refl
 
 pub run-segmented : (limits : ℕ → ℕ) (s : Settings) (journal : List Event) → (run_within limits s journal).segmented ≡ s.segmented
@@ -13,7 +13,7 @@ run-segmented limits s journal = always (λ b. b.segmented ≡ s.segmented) limi
 
 step-limit : (s : Settings) (b : ChannelState) (e : Event) → (step s b e).limit ≡ b.limit
 unfolding passed_on
-step-limit s b (Frame octets) = kept-limit (row_of s b octets) (accepts (row_of s b octets) b.report) octets b
+step-limit s b (Frame octets) = kept-either (λ x. x.limit ≡ b.limit) (row_of s b octets) (accepts (row_of s b octets) b.report) octets b refl refl refl
 step-limit s b _ = refl
 
 pub run-limit : (limits : ℕ → ℕ) (s : Settings) (journal : List Event) → (run_within limits s journal).limit ≡ limits

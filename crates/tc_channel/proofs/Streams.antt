@@ -52,11 +52,7 @@ runs-follow limits old new service field segmented passed are follows = record {
         ∙ ap (λ q. at_most (limits n) (run_left q (stream s n passed))) follows.segmented
         ∙ are.runs s n n_in ∙ sym (follows.others (stream_at s n) (at_place.1 h))
 
-pub kept-limit : (row : Row) (accepted : Bool) (octets : List ℕ) (b : ChannelState) → (kept row accepted octets b).limit ≡ b.limit
-unfolding passed_on
-kept-limit row accepted octets b = kept-either (λ x. x.limit ≡ b.limit) row accepted octets b refl refl refl
-
-pub kept-segmented : (row : Row) (accepted : Bool) (octets : List ℕ) (b : ChannelState) → (kept row accepted octets b).segmented ≡ b.segmented
+kept-segmented : (row : Row) (accepted : Bool) (octets : List ℕ) (b : ChannelState) → (kept row accepted octets b).segmented ≡ b.segmented
 unfolding passed_on
 kept-segmented row accepted octets b = kept-either (λ x. x.segmented ≡ b.segmented) row accepted octets b refl refl refl
 

@@ -67,26 +67,11 @@ fn packets_in<J: Journal>(
 {
     let mut told = Vec::with_capacity(alloc, queues.len())?;
     for queue in queues {
-        add_packets(channel, queue, &mut told);
+        if let Some(holding) = packets_of(channel, queue) {
+            told.push_reserved(holding);
+        }
     }
     Ok(told)
-}
-
-// Adds what waits in a queue, where there is one.
-fn add_packets<J: Journal>(
-    channel: &ChannelWith<J>,
-    queue: &QueueSetting,
-    told: &mut Vec<QueueHolding>,
-)
-    requires { vec_len told.old < vec_capacity told.old }
-    ensures items { told.new.items ≡ told.old.items ++ filter_map (queue_holding channel.now.settings channel.now.journal) (queue.now ∷ []) }
-    ensures len { vec_len told.new ≤ vec_len told.old + 1 }
-    ensures capacity { vec_capacity told.new ≡ vec_capacity told.old }
-{
-    match packets_of(channel, queue) {
-        Some(holding) => told.push_reserved(holding),
-        None => {}
-    }
 }
 
 fn packets_of<J: Journal>(channel: &ChannelWith<J>, queue: &QueueSetting) -> Option<QueueHolding>
@@ -106,22 +91,11 @@ fn units_in<J: Journal>(
 {
     let mut told = Vec::with_capacity(alloc, maps.len())?;
     for chosen in maps {
-        add_units(channel, chosen, &mut told);
+        if let Some(holding) = units_of(channel, chosen) {
+            told.push_reserved(holding);
+        }
     }
     Ok(told)
-}
-
-// Adds what waits in the queue of a chosen MAP, where there is one.
-fn add_units<J: Journal>(channel: &ChannelWith<J>, chosen: &MapSetting, told: &mut Vec<MapHolding>)
-    requires { vec_len told.old < vec_capacity told.old }
-    ensures items { told.new.items ≡ told.old.items ++ filter_map (map_holding channel.now.settings channel.now.journal) (chosen.now ∷ []) }
-    ensures len { vec_len told.new ≤ vec_len told.old + 1 }
-    ensures capacity { vec_capacity told.new ≡ vec_capacity told.old }
-{
-    match units_of(channel, chosen) {
-        Some(holding) => told.push_reserved(holding),
-        None => {}
-    }
 }
 
 fn units_of<J: Journal>(channel: &ChannelWith<J>, chosen: &MapSetting) -> Option<MapHolding>

@@ -1,5 +1,9 @@
 use Rattle.tc_channel.proofs.Names.{arith, common_steps, filter_map-append}
+use Rattle.tc_channel.proofs.holding.units_in.Goals.{in-Some, in_default}
 use Rattle.tc_channel.proofs.holding.units_in.Goals as goal
 
 pub loop-chosen-preserved : goal.loop-chosen-preserved
-loop-chosen-preserved g c = grind (arith, common_steps, filter_map-append)
+loop-chosen-preserved g c = elim c.match-units_of.branch [
+  | in-Some w ↦ rw w.told-is (grind (arith, common_steps, filter_map-append))
+  | in_default w ↦ rw w.told-is (grind (arith, common_steps, filter_map-append))
+]
