@@ -11,8 +11,7 @@ use Rattle.tc_channel.proofs.StateQueues.{queues-kept, units-kept}
 use Rattle.tc_channel.proofs.Sound.{state-sound}
 use Rattle.tc_channel.proofs.Given.{fields-in-order}
 use Rattle.tc_channel.proofs.Through.{packets-are-made, units-are-made, part-whole}
-use Rattle.tc_channel.proofs.Octets.{fields-fit, packets-fit, units-fit, waits-within}
-use Rattle.tc_channel.proofs.Room.{packets-within, units-within}
+use Rattle.tc_channel.proofs.Octets.{fields-fit, packets-fit, units-fit, waits-within, packets-within, units-within}
 
 pub ruleset laws = (run-append, lawful-before, lawful-after, whole-only, packets-only, one-kept, others-stay, no-fault, buffer-fits, chosen-by-settings, clcw-fits, each-era, all-told, queues-are, units-are, queues-kept, units-kept, state-sound)
 

@@ -12,10 +12,8 @@ pub mod Shares
 pub mod Counted
 pub mod Copies
 pub mod Passes
-pub mod Wholes
 pub mod Chosen
 pub mod Takes
-pub mod Room
 pub mod Limits
 pub mod Octets
 pub mod Filled

@@ -22,7 +22,6 @@ pub use Rattle.tc_channel.specs.Delivering.{AreLaidOf, IsAmong, IsDelivered, IsO
 pub use Rattle.tc_channel.specs.Given.{as_list, packets_given, units_given}
 pub use Rattle.tc_channel.specs.HeldQueues.{AreDistinct, AreShares, HeldQueue, Placed, copied_to, copies_from, held, keys_of, longer, oldest_for, placed, popped, put, put_all, queue_for, room_in, share, shared, shares_in, shorter, with_items}
 pub use Rattle.tc_channel.specs.Keyed.{AreSettled, Fit, Keyed, all_laid_in, laid_in, let_go, ring_in, rings_in, room_sizes, settled}
-pub use Rattle.tc_channel.specs.Memory.{largest_item, packets_held, units_held, waiting_in_all}
 pub use Rattle.tc_channel.specs.Places.{AreFirst, IsFirst}
 pub use Rattle.tc_channel.specs.Reply.{delivered, delivery_of}
 unfoldable pub use Rattle.tc_channel.specs.Reply.{clcw_within, waiting_packets_within, waiting_units_within}

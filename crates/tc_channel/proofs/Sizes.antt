@@ -1,5 +1,6 @@
 -- Octets that fit rooms.
-use Rattle.tc_channel.proofs.Names.{◌≡◌, ℕ, zero, suc, ◌≤◌, ◌<◌, Bool, true, false, Option, Some, None, List, [], ◌∷◌, length, replicate, refl, sym, subst, arith, AllByRecursion, Service, Bd, stream_place, IsAtMost, Store, limit_at, largest_item, Fit, Ad}
+use Rattle.tc_channel.proofs.Names.{◌≡◌, ℕ, zero, suc, ◌≤◌, ◌<◌, Bool, true, false, Option, Some, None, List, [], ◌∷◌, length, replicate, refl, sym, subst, arith, AllByRecursion, Service, Bd, stream_place, IsAtMost, Store, limit_at, Fit, Ad}
+use Rattle.tc_channel.specs.Memory.{largest_item}
 use Rattle.std.specs.Prelude.{min}
 use Rattle.tc_channel.specs.Keyed.{FitsIn}
 use Rattle.tc_channel.specs.Workings.{AreEnough, AreSmall}

@@ -1,10 +1,32 @@
--- Packets that go into their queues one after the other.
-use Rattle.tc_channel.proofs.Names.{◌≡◌, ◌≢◌, ℕ, zero, suc, ◌+◌, ◌-◌, ◌<◌, ◌≤◌, Bool, true, false, cond, eqb, List, [], ◌∷◌, ◌++◌, length, map, drop, get_or, Option, Some, None, refl, sym, ap, subst, ◌∙◌, arith, is_some, AllByRecursion, set, eq-eqb, ne_eqb, length-append, length-map, get_or-map, get_or_default, packets_of, joined, is_for, is_of_map, delivered, Delivery, keys_of, AreDistinct, room_in, share, put, copied_to, copies_from, queue_for, placed, HeldQueue, room_at, IsOnItsWay, IsDelivered, take-nil}
+-- Packets that go into their queues one after the other, and the one queue that takes a unit of a MAP.
+use Rattle.tc_channel.proofs.Names.{◌≡◌, ◌≢◌, ℕ, zero, suc, ◌+◌, ◌-◌, ◌<◌, ◌≤◌, Bool, true, false, cond, eqb, List, [], ◌∷◌, ◌++◌, length, map, drop, get_or, Option, Some, None, refl, sym, ap, subst, ◌∙◌, arith, is_some, AllByRecursion, set, eq-eqb, ne_eqb, length-append, length-map, get_or-map, get_or_default, packets_of, joined, is_for, is_of_map, delivered, Delivery, keys_of, AreDistinct, room_in, share, put, copied_to, copies_from, queue_for, placed, HeldQueue, room_at, IsOnItsWay, IsDelivered, take-nil, append-nil, take_all}
 use Rattle.tc_channel.specs.Delivering.{ArePut, IsPutWhole}
 use Rattle.tc_channel.proofs.Copies.{copies-none, put_all-push, length-put_all}
 use Rattle.tc_channel.proofs.Passes.{NoneFor, apart-at, under-way, none-on, full-on, copy-on, as-many, all-shared, none-shares}
 use Rattle.tc_channel.proofs.Found.{not-found}
-use Rattle.tc_channel.proofs.Wholes.{one-takes, share-room, share-full}
+
+share-room : (m : ℕ) (u : List ℕ) (q : HeldQueue) → q.key ≡ m → length q.ring.items < q.ring.capacity → share (is_of_map m) (u ∷ []) q ≡ u ∷ []
+share-room m u q same room = rw (eq-eqb q.key m same) (take_all (q.ring.capacity - length q.ring.items) (u ∷ []) (omega arith))
+
+share-full : (m : ℕ) (u : List ℕ) (q : HeldQueue) → q.ring.capacity ≤ length q.ring.items → share (is_of_map m) (u ∷ []) q ≡ []
+share-full m u q full = let none : q.ring.capacity - length q.ring.items ≡ 0 = omega arith in rw none refl
+
+share-other : (m : ℕ) (u : List ℕ) (q : HeldQueue) → q.key ≢ m → share (is_of_map m) (u ∷ []) q ≡ []
+share-other m u q other = rw (ne_eqb q.key m other) (take-nil {A = List ℕ} (q.ring.capacity - length q.ring.items))
+
+others-take-none : (m place : ℕ) (u : List ℕ) (ws : List HeldQueue) → AllByRecursion (λ b. m ≢ b) (keys_of ws) → copies_from (is_of_map m) place (u ∷ []) ws ≡ []
+others-take-none m place u [] h = refl
+others-take-none m place u (w ∷ ws) h = rw (share-other m u w (λ e. h.0 (sym e)), others-take-none m (place + 1) u ws h.1) refl
+
+-- the queue of the MAP is queue i
+one-takes : (m place i : ℕ) (u : List ℕ) (ws : List HeldQueue) (q : HeldQueue) → AreDistinct (keys_of ws) → i < length ws → q ≡ get_or ws i q → q.key ≡ m
+    → copies_from (is_of_map m) place (u ∷ []) (drop i ws) ≡ map (copied_to place) (share (is_of_map m) (u ∷ []) q)
+one-takes m place i u [] q apart lt is same = absurd (omega arith)
+one-takes m place zero u (w ∷ ws) q apart lt is same =
+    let e : w.key ≡ m = ap (λ (x : HeldQueue). x.key) (sym is) ∙ same in
+    let others : AllByRecursion (λ b. m ≢ b) (keys_of ws) = subst (λ k. AllByRecursion (λ b. k ≢ b) (keys_of ws)) e apart.0 in
+    rw (others-take-none m (place + 1) u ws others, append-nil (map (copied_to place) (share (is_of_map m) (u ∷ []) w)), ← is) refl
+one-takes m place (suc i) u (w ∷ ws) q apart lt is same = one-takes m place i u ws q apart.1 (omega arith) is same
 
 -- before the first packet
 pub at-start : (base now : List HeldQueue) (all : List (List ℕ)) → now ≡ base → IsOnItsWay base all all 0 now
@@ -61,8 +83,7 @@ skip m p i u [] distinct inside is = absurd (omega arith)
 skip m p zero u (w ∷ ws) distinct inside is = ap (λ (n : ℕ). copies_from (is_of_map m) n (u ∷ []) (w ∷ ws)) (let e : p ≡ p + 0 = omega arith in e)
 skip m p (suc i) u (w ∷ ws) distinct inside is =
     let other : w.key ≢ m = apart-at w.key (keys_of ws) i m distinct.0 (omega (arith, length-map ws (λ (q : HeldQueue). q.key))) is in
-    let none : share (is_of_map m) (u ∷ []) w ≡ [] = rw (ne_eqb w.key m other) (take-nil {A = List ℕ} (w.ring.capacity - length w.ring.items)) in
-    rw none (skip m (p + 1) i u ws distinct.1 (omega arith) is ∙ ap (λ (n : ℕ). copies_from (is_of_map m) n (u ∷ []) (drop i ws)) (let e : p + 1 + i ≡ p + suc i = omega arith in e))
+    rw (share-other m u w other) (skip m (p + 1) i u ws distinct.1 (omega arith) is ∙ ap (λ (n : ℕ). copies_from (is_of_map m) n (u ∷ []) (drop i ws)) (let e : p + 1 + i ≡ p + suc i = omega arith in e))
 
 -- the queue at a place
 at : (ws : List HeldQueue) (i : ℕ) → i < length ws → (q : HeldQueue) × (q ≡ get_or ws i q)
