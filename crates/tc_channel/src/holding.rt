@@ -1,6 +1,6 @@
 //! What a channel has come to.
 
-ghost use Rattle.std.specs.Prelude.{◌≡◌, ◌<◌, ◌≤◌, ◌+◌, ◌++◌, ◌∷◌, [], vec_len, vec_capacity, IfOk};
+ghost use Rattle.std.specs.Prelude.{◌≡◌, IfOk};
 ghost use Rattle.std.specs.List.{filter_map};
 ghost use Rattle.tc_channel.specs.Settings.{IsAllowed};
 ghost use Rattle.tc_channel.specs.Run.{IsLawful};
