@@ -9,12 +9,13 @@ use Rattle.tc_channel.proofs.Delivered.{all-told}
 use Rattle.tc_channel.proofs.Growth.{queues-are, units-are}
 use Rattle.tc_channel.proofs.StateQueues.{queues-kept, units-kept}
 use Rattle.tc_channel.proofs.Sound.{state-sound}
-use Rattle.tc_channel.proofs.Given.{fields-in-order}
+use Rattle.tc_channel.proofs.Plain.{run-limit, run-segmented}
+use Rattle.tc_channel.proofs.Given.{fields-in-order, packets-in-order, units-in-order}
 use Rattle.tc_channel.proofs.Through.{packets-are-made, units-are-made, part-whole}
 use Rattle.tc_channel.proofs.Octets.{fields-fit, packets-fit, units-fit, waits-within, packets-within, units-within}
 
-pub ruleset laws = (run-append, lawful-before, lawful-after, whole-only, packets-only, one-kept, others-stay, no-fault, buffer-fits, chosen-by-settings, clcw-fits, each-era, all-told, queues-are, units-are, queues-kept, units-kept, state-sound)
+pub ruleset laws = (run-append, lawful-before, lawful-after, whole-only, packets-only, one-kept, others-stay, no-fault, buffer-fits, chosen-by-settings, clcw-fits, each-era, all-told, queues-are, units-are, queues-kept, units-kept, state-sound, run-limit, run-segmented)
 
-pub ruleset flow = (fields-in-order, packets-are-made, units-are-made, part-whole)
+pub ruleset flow = (fields-in-order, packets-in-order, units-in-order, packets-are-made, units-are-made, part-whole)
 
 pub ruleset memory = (fields-fit, packets-fit, units-fit, packets-within, units-within, waits-within)

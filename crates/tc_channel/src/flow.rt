@@ -23,6 +23,7 @@ pub fn what_was_accepted_is_passed_on_in_order()
 
 /// All that the takes of an application gave, in their order, is the beginning of what its queue ever admitted: each packet once,
 /// and none left out. The same holds of the units of a chosen MAP. What each take gives is what its reply says.
+#[tactic(auto, using(crate::proofs::Closing::flow), unfolding(crate::specs::Reply::waiting_packets_within, crate::specs::Reply::waiting_units_within))]
 pub fn what_was_admitted_is_given_in_order()
     ensures packets { (limits : ℕ → ℕ) (s : Settings) (journal : List Event) (apid : ℕ) (q : Queue) → queue_of apid (run_within limits s journal).queues ≡ Some q
         → packets_given s apid (first_state_within limits s) journal ≡ take q.taken q.admitted }

@@ -4,9 +4,6 @@ use Rattle.tc_channel.proofs.Plain.{run-limit, run-segmented}
 use Rattle.tc_channel.proofs.Limits.{plain-unit}
 use Rattle.tc_channel.proofs.laws.a_plain_channel_takes_each_field_as_a_unit.Goals as goal
 
-pub returns-clause-stays : goal.returns-clause-stays
-returns-clause-stays c = run-segmented
-
 pub returns-clause-unit : goal.returns-clause-unit
 returns-clause-unit c = λ limits s journal service field octets plain.
     let off = run-segmented limits s journal ∙ plain in

@@ -4,9 +4,6 @@ use Rattle.tc_channel.proofs.Plain.{run-limit}
 use Rattle.tc_channel.proofs.Limits.{limited-unit, unlimited-unit}
 use Rattle.tc_channel.proofs.laws.a_unit_beyond_the_limit_of_its_map_is_none.Goals as goal
 
-pub returns-clause-stays : goal.returns-clause-stays
-returns-clause-stays c = run-limit
-
 pub returns-clause-within : goal.returns-clause-within
 returns-clause-within c = λ limits s journal service field octets. limited-unit limits (run_within limits s journal) service field octets (run-limit limits s journal)
 
