@@ -22,6 +22,7 @@ use tc_packet::LARGEST_UNIT;
 use tc_rooms::Room;
 
 // Puts an item behind the others of the queue at this place, where there is room, and says whether there was.
+#[tactic(auto, using(crate::proofs::Closing::at_place))]
 fn put_item_at<R: Room>(
     queues: &mut BoxedSlice<Queue<R>>,
     place: usize,

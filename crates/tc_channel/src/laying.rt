@@ -24,6 +24,7 @@ use tc_rooms::Room;
 // Lays an item behind the others of the queue at this place, where there is room, and says whether there was. It counts at once where
 // no memory can be refused.
 #[inline(always)]
+#[tactic(auto, using(crate::proofs::Closing::at_place))]
 fn lay_at<R: Room>(
     queues: &mut BoxedSlice<Queue<R>>,
     place: usize,

@@ -125,6 +125,7 @@ pub(crate) fn see_places<R: Room>(
 }
 
 /// The queue with this key.
+#[tactic(auto, using(crate::proofs::Closing::by_key))]
 pub(crate) fn find_in<'a, R: Room>(
     queues: &'a [Queue<R>],
     table: &[u16],

@@ -12,6 +12,7 @@ use std::boxed::BoxedSlice;
 use tc_rooms::{GrowingRoom, Room};
 
 // Drops the oldest item of the queue at this place, and says whether there was one.
+#[tactic(auto, using(crate::proofs::Closing::at_place))]
 fn pop_at<R: Room>(queues: &mut BoxedSlice<Queue<R>>, place: usize) -> bool
     requires { place < length (boxed_slice_items queues.old) }
     ensures waits { (key : ℕ) → IsFirst key place (keys_of (rings_in (boxed_slice_items queues.old))) → IsTrue result ↔ IsSome (oldest_for key (rings_in (boxed_slice_items queues.old))) }
@@ -29,6 +30,7 @@ fn pop_at<R: Room>(queues: &mut BoxedSlice<Queue<R>>, place: usize) -> bool
 }
 
 // Takes the oldest item out of the queue at this place, in its own block.
+#[tactic(auto, using(crate::proofs::Closing::at_place))]
 fn take_at(queues: &mut BoxedSlice<Queue<GrowingRoom>>, place: usize) -> Option<Vec<u8>>
     requires { place < length (boxed_slice_items queues.old) }
     ensures item { (key : ℕ) → IsFirst key place (keys_of (rings_in (boxed_slice_items queues.old))) → option_map (λ block. block.items) result ≡ oldest_for key (rings_in (boxed_slice_items queues.old)) }
