@@ -1,4 +1,5 @@
--- The lemmas that close the laws, by the file of src/ in which these stand.
+-- Sets of lemmas that close goals without an answer: of laws, by the file of src/ in which these stand, and of calls.
+use Rattle.tc_channel.proofs.Names.{map-set_same}
 use Rattle.tc_channel.proofs.Runs.{run-append, lawful-before, lawful-after}
 use Rattle.tc_channel.proofs.Chosen.{whole-only, packets-only, one-kept, others-stay, chosen-by-settings}
 use Rattle.tc_channel.proofs.Faults.{no-fault}
@@ -13,15 +14,25 @@ use Rattle.tc_channel.proofs.Plain.{run-limit, run-segmented}
 use Rattle.tc_channel.proofs.Given.{fields-in-order, packets-in-order, units-in-order}
 use Rattle.tc_channel.proofs.Through.{packets-are-made, units-are-made, part-whole}
 use Rattle.tc_channel.proofs.Octets.{fields-fit, packets-fit, units-fit, waits-within, packets-within, units-within}
-use Rattle.tc_channel.proofs.Names.{map-set_same}
 use Rattle.std.proofs.lemmas.List.{set-get_or}
-use Rattle.tc_channel.proofs.InRooms.{fit-at, laid-of-none-at, put-in, same-rings, same-sizes, settled-at, settled-set}
-use Rattle.tc_channel.proofs.Found.{empty-in, found-in, keys-set, none-waits, not-found, oldest-in, one-waits, popped-in}
-use Rattle.tc_channel.proofs.Laid.{laid-at}
+use Rattle.tc_channel.proofs.InRooms.{fit-at, key-in, laid-of-none-at, put-in, same-rings, same-sizes, settled-at, settled-set}
+use Rattle.tc_channel.proofs.Found.{empty-in, first-here, found-in, keys-set, none-more, none-waits, not-found, oldest-in, one-waits, popped-in}
+use Rattle.tc_channel.proofs.Laid.{laid-at, passed-none, settled-one}
+use Rattle.tc_channel.proofs.Passes.{not-telecommand}
+use Rattle.tc_channel.proofs.Tables.{first-key, keys-length, told-first, told-none}
+use Rattle.tc_channel.proofs.AtWork.{packet-is, unit-is}
 
 pub ruleset at_place = (fit-at, laid-of-none-at, put-in, same-rings, same-sizes, settled-at, settled-set, empty-in, keys-set, none-waits, oldest-in, one-waits, popped-in, laid-at, map-set_same, set-get_or)
 
 pub ruleset by_key = (found-in, not-found)
+
+pub ruleset searched = (none-more, first-here, key-in)
+
+pub ruleset told = (keys-length, told-first, told-none, first-key)
+
+pub ruleset passing = (passed-none, settled-one, keys-set, not-telecommand)
+
+pub ruleset at_work = (packet-is, unit-is)
 
 pub ruleset laws = (run-append, lawful-before, lawful-after, whole-only, packets-only, one-kept, others-stay, no-fault, buffer-fits, chosen-by-settings, clcw-fits, each-era, all-told, queues-are, units-are, queues-kept, units-kept, state-sound, run-limit, run-segmented)
 

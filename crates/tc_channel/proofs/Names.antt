@@ -24,7 +24,7 @@ pub use Rattle.tc_channel.specs.HeldQueues.{AreDistinct, AreShares, HeldQueue, P
 pub use Rattle.tc_channel.specs.Keyed.{AreSettled, Fit, Keyed, all_laid_in, laid_in, let_go, ring_in, rings_in, room_sizes, settled}
 pub use Rattle.tc_channel.specs.Places.{AreFirst, IsFirst}
 pub use Rattle.tc_channel.specs.Reply.{delivered, delivery_of}
-unfoldable pub use Rattle.tc_channel.specs.Reply.{clcw_within, waiting_packets_within, waiting_units_within}
+unfoldable pub use Rattle.tc_channel.specs.Reply.{clcw_within}
 pub use Rattle.tc_channel.specs.Run.{HasStep, after_frame, first_of, kept, row_of, run_from, step, taken_from, unit_of}
 unfoldable pub use Rattle.tc_channel.specs.Run.{IsLawfulWithin, passed_on, run_within}
 pub use Rattle.tc_channel.specs.Settings.{IsAllowed}
@@ -52,7 +52,6 @@ pub use Rattle.tc_packet.specs.SpacePacket.{apid_of, is_telecommand, joined, pac
 pub use Rattle.tc_packet.specs.declared.Service.{Service}
 pub use Rattle.tc_packet.specs.declared.Service.TheVariants.{Ad, Bd}
 pub use Rattle.tc_packet.specs.declared.segment.Part.{Part}
-pub use Rattle.tc_rooms.proofs.Sizes.{if-ok, on-err}
 pub use Rattle.tc_rooms.specs.Rooms.{Slotted, slotted}
 pub use Rattle.tc_rooms.specs.Runs.{IsAtMost, Store, limit_at, open_runs}
 pub use mathlib.Core.List.{map-map}

@@ -1,5 +1,6 @@
 -- A packet or a unit is taken.
-use Rattle.tc_channel.proofs.Names.{◌≡◌, ◌≢◌, ℕ, suc, ◌+◌, ◌<◌, Bool, true, false, cond, eqb, List, [], ◌∷◌, ◌++◌, length, map, Option, Some, None, refl, sym, ap, ◌∙◌, inl, inr, arith, nat_lt, option_map, slice_get, option_and_then, AllByRecursion, drop-drop, length-drop, map-map, Settings, Event, Take, TakeUnit, Inside, HoldsWithin, Queue, waiting, queue_of, taken_from, run_within, HeldQueue, AreDistinct, keys_of, held, queue_for, popped, shorter, nat_tests, eqb_tells, waiting_packets_within, waiting_units_within}
+use Rattle.tc_channel.proofs.Names.{◌≡◌, ◌≢◌, ℕ, suc, ◌+◌, ◌<◌, Bool, true, false, cond, eqb, List, [], ◌∷◌, ◌++◌, length, map, Option, Some, None, refl, sym, ap, ◌∙◌, inl, inr, arith, nat_lt, option_map, slice_get, option_and_then, AllByRecursion, drop-drop, length-drop, map-map, Settings, Event, Take, TakeUnit, Inside, HoldsWithin, Queue, waiting, queue_of, taken_from, run_within, HeldQueue, AreDistinct, keys_of, held, queue_for, popped, shorter, nat_tests, eqb_tells}
+use Rattle.tc_channel.specs.Reply.{waiting_packets_within, waiting_units_within}
 use Rattle.tc_channel.specs.Run.{HasItem}
 use Rattle.tc_channel.specs.HeldQueues.{items_for}
 use Rattle.tc_channel.proofs.Runs.{step-keeps}

@@ -27,6 +27,7 @@ pub(crate) const QUEUES_FOR_A_TABLE: usize = 64;
 const QUEUES_IN_A_TABLE: usize = 65_535;
 
 // The place of the queue with this key, found by a search.
+#[tactic(auto, using(crate::proofs::Closing::searched))]
 fn search_place<R: Room, L: Ledger>(
     queues: &[Queue<R>],
     key: u16,
@@ -49,6 +50,7 @@ fn search_place<R: Room, L: Ledger>(
 /// The place of the queue with this key: from the table where there is one and the key is in it. A step is taken for each queue that
 /// is looked at.
 #[inline(always)]
+#[tactic(auto, using(crate::proofs::Closing::told))]
 pub(crate) fn place_counted<R: Room, L: Ledger>(
     queues: &[Queue<R>],
     table: &[u16],

@@ -31,6 +31,7 @@ fn settle_all<R: Room, L: Ledger>(queues: &mut BoxedSlice<Queue<R>>, steps: &mut
 
 // What was laid in the queue of this packet counts.
 #[inline(always)]
+#[tactic(auto, using(crate::proofs::Closing::passing))]
 fn settle_packet<R: Room, L: Ledger>(
     queues: &mut BoxedSlice<Queue<R>>,
     table: &[u16],

@@ -223,6 +223,7 @@ impl<R: Room> Workings<R> {
     }
 
     /// Drops the oldest packet of the queue with this APID, where one waits, and says whether it did.
+    #[tactic(auto, using(crate::proofs::Closing::at_work))]
     pub fn drop_packet(&mut self, apid: u16) -> bool
         ensures waits { (limits : ℕ → ℕ) (s : Settings) (journal : List Event) → HoldsInRooms limits s journal self.old → (IsTrue result ↔ IsSome (take_reply_within limits s journal apid)) }
         ensures done { IsTrue result → GoOn (Event.Take apid) self.old self.new }
@@ -232,6 +233,7 @@ impl<R: Room> Workings<R> {
     }
 
     /// Drops the oldest unit of the queue of this chosen MAP, where one waits, and says whether it did.
+    #[tactic(auto, using(crate::proofs::Closing::at_work))]
     pub fn drop_unit(&mut self, map: u8) -> bool
         ensures waits { (limits : ℕ → ℕ) (s : Settings) (journal : List Event) → HoldsInRooms limits s journal self.old → (IsTrue result ↔ IsSome (unit_reply_within limits s journal map)) }
         ensures done { IsTrue result → GoOn (Event.TakeUnit map) self.old self.new }
@@ -241,6 +243,7 @@ impl<R: Room> Workings<R> {
     }
 
     /// The oldest packet of the queue with this APID, lent.
+    #[tactic(auto, using(crate::proofs::Closing::at_work))]
     pub fn oldest(&self, apid: u16) -> Option<&[u8]>
         ensures packet { (limits : ℕ → ℕ) (s : Settings) (journal : List Event) → HoldsInRooms limits s journal self.now
             → option_map (λ octets. octets.now) result ≡ take_reply_within limits s journal apid }
@@ -249,6 +252,7 @@ impl<R: Room> Workings<R> {
     }
 
     /// The oldest unit of the queue of this chosen MAP, lent.
+    #[tactic(auto, using(crate::proofs::Closing::at_work))]
     pub fn oldest_unit(&self, map: u8) -> Option<&[u8]>
         ensures unit { (limits : ℕ → ℕ) (s : Settings) (journal : List Event) → HoldsInRooms limits s journal self.now
             → option_map (λ octets. octets.now) result ≡ unit_reply_within limits s journal map }
@@ -291,6 +295,7 @@ impl<R: Room> Workings<R> {
 
 impl Workings<GrowingRoom> {
     /// The oldest packet of the queue with this APID, moved out of it; none where there is no such queue, and where it is empty.
+    #[tactic(auto, using(crate::proofs::Closing::at_work))]
     pub fn take(&mut self, apid: u16) -> Option<Vec<u8>>
         ensures packet { (limits : ℕ → ℕ) (s : Settings) (journal : List Event) → HoldsInRooms limits s journal self.old
             → option_map (λ packet. packet.items) result ≡ take_reply_within limits s journal apid }
@@ -301,6 +306,7 @@ impl Workings<GrowingRoom> {
     }
 
     /// The oldest unit of the queue of this chosen MAP, moved out of it; none where the MAP isn't chosen, and where its queue is empty.
+    #[tactic(auto, using(crate::proofs::Closing::at_work))]
     pub fn take_unit(&mut self, map: u8) -> Option<Vec<u8>>
         ensures unit { (limits : ℕ → ℕ) (s : Settings) (journal : List Event) → HoldsInRooms limits s journal self.old
             → option_map (λ unit. unit.items) result ≡ unit_reply_within limits s journal map }

@@ -1,19 +1,6 @@
-use Rattle.tc_channel.proofs.Names.{◌≡◌, ◌<◌, ◌≤◌, length, get_or, refl, arith, common_steps, keys_of, rings_in}
-use Rattle.tc_channel.proofs.Tables.{keys-length, told-first, told-none, first-key}
+use Rattle.tc_channel.proofs.Names.{◌≡◌, ◌<◌, ◌≤◌, length, get_or, arith, common_steps, keys_of, rings_in}
+use Rattle.tc_channel.proofs.Tables.{keys-length, told-none}
 use Rattle.tc_channel.proofs.places.place_counted.Goals as goal
-
-pub returns-then-place-queues-clause-first : goal.returns-then-place-queues-clause-first
-returns-then-place-queues-clause-first g c =
-    let keys = keys_of (rings_in c.args.queues.now) in
-    let count : length keys ≡ length c.args.queues.now = keys-length c.args.queues.now in
-    let inside : c.args.key < length c.args.table.now = grind (arith, common_steps) in
-    let lt : get_or c.args.table.now c.args.key 0 < length c.args.queues.now = grind (arith, common_steps) in
-    told-first keys c.args.table.now (length keys) c.args.key (c.requires (omega arith)) refl inside (omega arith)
-
-pub returns-then-place-queues-clause-some : goal.returns-then-place-queues-clause-some
-returns-then-place-queues-clause-some g c =
-    let first = returns-then-place-queues-clause-first g c in
-    (grind (arith, common_steps), first-key _ _ (keys_of (rings_in c.args.queues.now)) first)
 
 pub returns-clause-none : goal.returns-clause-none
 returns-clause-none g c =
