@@ -1,46 +1,21 @@
 -- What a script does is a function of its lines.
-use Rattle.std.proofs.Common.{◌≡◌, ◌<◌, ℕ, zero, suc, List, [], ◌∷◌, ◌++◌, ◌⊎◌, Ok, Option, None, Some, map, length, set, slice_get, inl, inr, refl, sym, ap, ◌∙◌, subst, arith}
-use Rattle.std.specs.Prelude.{◌≢◌, All, Any, Contains, IsPermutation}
-use Rattle.std.specs.Option.{option_and_then}
-use Rattle.std.proofs.lemmas.Bool.{cases_lt}
-use Rattle.std.proofs.lemmas.List.{length_push, nil_from_length}
-use Rattle.std.proofs.lemmas.List.Elements.{All-head, All-tail}
+use Rattle.std.proofs.Common.{◌≡◌, ◌<◌, ℕ, List, [], ◌∷◌, ◌++◌, ◌⊎◌, Ok, Option, None, Some, map, length, set, slice_get, inl, inr, refl, sym, ap, ◌∙◌, subst, arith, ◌≢◌, All, Contains, IsPermutation}
+use Rattle.tc_cli.proofs.Names.{Add, All-head, All-tail, Answer, AreAnswers, BeginsWith, Changes, Channel, Clcw, Does, Empty, Frame, HasChannel, History, Instruction, IsAnswerOf, IsChannelAnswer, IsClcwAnswer, IsDoneSo, IsFirstLine, IsFrameAnswer, IsFrameAnswered, IsInstructionAnswered, IsLineAnswered, IsPerformed, IsRackLocateFault, IsReleaseAnswered, IsReportOf, IsScriptReport, IsTakeAnswered, IsUnitAnswered, Linked, LocateFault, NoMap, NoQueue, Nothing, Operating, Operation, Progress, Racked, Release, SettingUp, Settings, Setup, Take, TakeUnit, Unlocated, at_first, cases_lt, header_of, histories, instruction_of, later, map-map, new_linked, nil_from_length, no-fault, none-some, one_more, option_and_then, phase_of, rack_for, report_text, same_Some, slice_get-get_or, told_word, vcid_of, waiting_packets, waiting_units}
+use Rattle.std.proofs.lemmas.List.{length_push, map_push}
 use Rattle.std.proofs.lemmas.List.Sorted.{length_permutation}
-use Rattle.std.proofs.lemmas.Option.{get_or_from_slice_get, none-some, same_Some, slice_get_within, slice_get-get_or}
-use Rattle.tc_channel.specs.Journal.{History}
-use Rattle.tc_channel.specs.Reply.{waiting_packets, waiting_units}
 use Rattle.tc_channel.specs.declared.event.Event.TheVariants as events
-use Rattle.tc_channel.specs.declared.settings.Settings.{Settings}
 use Rattle.tc_link.specs.declared.frame.FrameFault.{FrameFault}
-use Rattle.tc_link.specs.Frame.{BeginsWith, header_of}
 use Rattle.tc_setup.specs.Configuration.{AddsToChannel, vcids_of, with_addition}
-use Rattle.tc_setup.specs.Instruction.{instruction_of}
-use Rattle.tc_setup.specs.Phase.{Setup, Does}
 use Rattle.tc_setup.specs.declared.instruction.Addition.{Addition}
 use Rattle.tc_setup.specs.declared.instruction.Addition.TheVariants.{Queue, Map}
-use Rattle.tc_setup.specs.declared.instruction.Instruction.{Instruction}
-use Rattle.tc_setup.specs.declared.instruction.Instruction.TheVariants.{Nothing, Channel, Add, Frame, Release, Take, Unit as TakeUnit, Clcw}
-use Rattle.tc_link.specs.declared.location.LocateFault.{LocateFault}
 use Rattle.tc_link.specs.declared.location.LocateFault.TheVariants as faults
-use Rattle.tc_text.specs.Reading.{IsFirstLine}
 use Rattle.tc_text.specs.declared.line.Line.{Line as Said}
-use Rattle.tc_cli.proofs.Framed.{IsOneAtMost, no-fault}
+use Rattle.tc_cli.proofs.Happened.{IsOneAtMost}
+use Rattle.tc_cli.proofs.Lists.{any-here, any-mapped, mapped-at, push-cases, same-set}
 use Rattle.tc_cli.proofs.Reported.{one-order}
 use Rattle.tc_rack.proofs.Performed.{performed-at}
-use Rattle.tc_rack.specs.Linked.{Linked, vcid_of, new_linked, later, IsFrameAnswered, IsReleaseAnswered, IsTakeAnswered, IsUnitAnswered, told_word}
-use Rattle.tc_rack.specs.Operation.{IsAnswerOf, IsChannelAnswer, IsClcwAnswer, IsFrameAnswer}
-use Rattle.tc_rack.specs.Progress.{Progress, rack_for, IsPerformed}
-use Rattle.tc_rack.specs.Rack.{Racked, Changes, IsRackLocateFault, HasChannel, histories}
-use Rattle.tc_rack.specs.Report.{IsReportOf, report_text}
-use Rattle.tc_rack.specs.Performing.{IsInstructionAnswered, IsDoneSo}
-use Rattle.tc_rack.specs.Stage.{phase_of}
-use Rattle.tc_cli.specs.Written.{AreAnswers, at_first, one_more, IsLineAnswered, IsScriptReport}
-use Rattle.tc_rack.specs.declared.answer.Answer.{Answer}
 use Rattle.tc_rack.specs.declared.answer.Answer.TheVariants as answers
-use Rattle.tc_rack.specs.declared.answer.Refusal.TheVariants.{NoQueue, NoMap, Empty, Unlocated}
-use Rattle.tc_rack.specs.declared.operation.Operation.{Operation}
 use Rattle.tc_rack.specs.declared.operation.Operation.TheVariants as operations
-use Rattle.tc_rack.specs.declared.stage.Stage.TheVariants.{SettingUp, Operating}
 
 -- ---- the line that comes first
 
@@ -84,50 +59,15 @@ same-line octets line after other rest one two = same-parts octets line after ot
 abbrev AreApart : List ℕ → Type 0
 AreApart ids = (one other vcid : ℕ) → slice_get ids one ≡ Some vcid → slice_get ids other ≡ Some vcid → one ≡ other
 
-module _ {X : Type 0} (id : X → ℕ) where
-  id-at : (xs : List X) (place : ℕ) (x : X) (vcid : ℕ) → slice_get xs place ≡ Some x → id x ≡ vcid → slice_get (map id xs) place ≡ Some vcid
-  id-at [] place x vcid at is = absurd (none-some x at)
-  id-at (y ∷ xs) zero x vcid at is = ap (λ (z : ℕ). Some z) (ap id (same_Some y x at) ∙ is)
-  id-at (y ∷ xs) (suc place) x vcid at is = id-at xs place x vcid at is
-
-  of-id : (xs : List X) (place vcid : ℕ) → slice_get (map id xs) place ≡ Some vcid → Any (λ (x : X). id x ≡ vcid) xs
-  of-id [] place vcid at = absurd (none-some vcid at)
-  of-id (y ∷ xs) zero vcid at = (zero, y, omega arith, refl, same_Some (id y) vcid at)
-  of-id (y ∷ xs) (suc place) vcid at =
-      let (k, x, lt, is, named) = of-id xs place vcid at in
-      (suc k, x, omega (arith, lt), is, named)
-
-  there : (xs : List X) (place : ℕ) (x : X) (vcid : ℕ) → slice_get xs place ≡ Some x → id x ≡ vcid → Any (λ (x : X). id x ≡ vcid) xs
-  there xs place x vcid at is = (place, x, slice_get_within xs place x at, get_or_from_slice_get xs place x x at, is)
-
-  -- an element at its place, by its id
-  same-at : (xs : List X) → AreApart (map id xs) → (vcid one other : ℕ) (x y : X) → slice_get xs one ≡ Some x → id x ≡ vcid → slice_get xs other ≡ Some y → id y ≡ vcid → (one ≡ other) × (x ≡ y)
-  same-at xs apart vcid one other x y at is to too =
-      let place = apart one other vcid (id-at xs one x vcid at is) (id-at xs other y vcid to too) in
-      (place, same_Some x y (sym at ∙ (ap (slice_get xs) place ∙ to)))
-
-  -- another element in its place, with the same id
-  ids-set : (xs : List X) (place : ℕ) (x y : X) → slice_get xs place ≡ Some x → id y ≡ id x → map id (set xs place y) ≡ map id xs
-  ids-set [] place x y at is = absurd (none-some x at)
-  ids-set (z ∷ xs) zero x y at is = ap (λ (n : ℕ). n ∷ map id xs) (is ∙ sym (ap id (same_Some z x at)))
-  ids-set (z ∷ xs) (suc place) x y at is = ap (λ (l : List ℕ). id z ∷ l) (ids-set xs place x y at is)
-
-  ids-push : (xs : List X) (x : X) → map id (xs ++ x ∷ []) ≡ map id xs ++ id x ∷ []
-  ids-push [] x = refl
-  ids-push (y ∷ xs) x = ap (λ (l : List ℕ). id y ∷ l) (ids-push xs x)
-
-pushed-at : (ids : List ℕ) (new place vcid : ℕ) → slice_get (ids ++ new ∷ []) place ≡ Some vcid → (slice_get ids place ≡ Some vcid) ⊎ ((place ≡ length ids) × (new ≡ vcid))
-pushed-at [] new zero vcid at = inr (refl, same_Some new vcid at)
-pushed-at [] new (suc place) vcid at = absurd (none-some vcid at)
-pushed-at (id ∷ ids) new zero vcid at = inl at
-pushed-at (id ∷ ids) new (suc place) vcid at = elim (pushed-at ids new place vcid at) [
-  | inl h ↦ inl h
-  | inr h ↦ inr (ap suc h.0, h.1)
-]
+-- an element at its place, by its id
+same-at : {X : Type 0} (id : X → ℕ) (xs : List X) → AreApart (map id xs) → (vcid one other : ℕ) (x y : X) → slice_get xs one ≡ Some x → id x ≡ vcid → slice_get xs other ≡ Some y → id y ≡ vcid → (one ≡ other) × (x ≡ y)
+same-at id xs apart vcid one other x y at is to too =
+    let place = apart one other vcid (mapped-at id xs one x at ∙ ap (λ (z : ℕ). Some z) is) (mapped-at id xs other y to ∙ ap (λ (z : ℕ). Some z) too) in
+    (place, same_Some x y (sym at ∙ (ap (slice_get xs) place ∙ to)))
 
 -- one id more, which is that of no other
 apart-push : (ids : List ℕ) (new : ℕ) → AreApart ids → ((place : ℕ) → slice_get ids place ≡ Some new → ⊥) → AreApart (ids ++ new ∷ [])
-apart-push ids new apart none one other vcid at to = cases (pushed-at ids new one vcid at) (pushed-at ids new other vcid to) where
+apart-push ids new apart none one other vcid at to = cases (push-cases ids new vcid one at) (push-cases ids new vcid other to) where
   cases : (slice_get ids one ≡ Some vcid) ⊎ ((one ≡ length ids) × (new ≡ vcid)) → (slice_get ids other ≡ Some vcid) ⊎ ((other ≡ length ids) × (new ≡ vcid)) → one ≡ other
   cases (inl h) (inl k) = apart one other vcid h k
   cases (inl h) (inr (end, is)) = absurd (none one (h ∙ ap (λ (z : ℕ). Some z) (sym is)))
@@ -139,12 +79,8 @@ abbrev ids_of : Progress → List ℕ
 ids_of (SettingUp list) = vcids_of list
 ids_of (Operating rack) = map vcid_of rack.channels
 
-new-ids : (list : List Settings) → map vcid_of (map new_linked list) ≡ vcids_of list
-new-ids [] = refl
-new-ids (s ∷ list) = ap (λ (l : List ℕ). s.vcid ∷ l) (new-ids list)
-
 rack-ids : (scid : ℕ) (progress : Progress) → map vcid_of (rack_for scid progress).channels ≡ ids_of progress
-rack-ids scid (SettingUp list) = new-ids list
+rack-ids scid (SettingUp list) = map-map vcid_of new_linked list
 rack-ids scid (Operating rack) = refl
 
 -- ---- what a channel is answered, and what becomes of it
@@ -237,10 +173,10 @@ change-determined Answers determined vcid old new other answer another apart (pl
 change-ids : (Answers : Linked → Answer → Linked → Type 0) → IsIdKept Answers → (vcid : ℕ) (old new : Racked) (answer : Answer) → Changes old vcid (λ before after. Answers before answer after) new
     → map vcid_of new.channels ≡ map vcid_of old.channels
 change-ids Answers kept vcid old new answer (place, before, after, at, a, is) =
-    ap (λ (r : Racked). map vcid_of r.channels) is ∙ ids-set vcid_of old.channels place before after at.0 (kept before after answer a)
+    ap (λ (r : Racked). map vcid_of r.channels) is ∙ same-set vcid_of old.channels place before after at.0 (kept before after answer a)
 
 not-unknown : (Becomes : Linked → Linked → Type 0) (vcid : ℕ) (old new : Racked) → Changes old vcid Becomes new → ¬ HasChannel old.channels vcid → ⊥
-not-unknown Becomes vcid old new (place, before, after, at, a, is) none = none (there vcid_of old.channels place before vcid at.0 at.1)
+not-unknown Becomes vcid old new (place, before, after, at, a, is) none = none (any-here (λ (c : Linked). vcid_of c ≡ vcid) old.channels place before at.0 at.1)
 
 channel-determined : (Answers : Linked → Answer → Linked → Type 0) → IsDetermined Answers → (vcid : ℕ) (old new other : Racked) (answer another : Answer) → AreApart (map vcid_of old.channels)
     → IsChannelAnswer vcid Answers old answer new → IsChannelAnswer vcid Answers old another other → (answer ≡ another) × (new ≡ other)
@@ -271,8 +207,8 @@ operation-ids (operations.Clcw vcid) old new answer (read, still) = ap (λ (r : 
 word-determined : (vcid : ℕ) (rack : Racked) (answer another : Answer) → AreApart (map vcid_of rack.channels) → IsClcwAnswer vcid rack answer → IsClcwAnswer vcid rack another → answer ≡ another
 word-determined vcid rack answer another apart (inl (place, channel, at, is)) (inl (second, other, to, too)) =
     is ∙ (ap told_word (same-at vcid_of rack.channels apart vcid place second channel other at.0 at.1 to.0 to.1).1 ∙ sym too)
-word-determined vcid rack answer another apart (inl (place, channel, at, word)) (inr (none, too)) = absurd (none (there vcid_of rack.channels place channel vcid at.0 at.1))
-word-determined vcid rack answer another apart (inr (none, is)) (inl (place, channel, at, word)) = absurd (none (there vcid_of rack.channels place channel vcid at.0 at.1))
+word-determined vcid rack answer another apart (inl (place, channel, at, word)) (inr (none, too)) = absurd (none (any-here (λ (c : Linked). vcid_of c ≡ vcid) rack.channels place channel at.0 at.1))
+word-determined vcid rack answer another apart (inr (none, is)) (inl (place, channel, at, word)) = absurd (none (any-here (λ (c : Linked). vcid_of c ≡ vcid) rack.channels place channel at.0 at.1))
 word-determined vcid rack answer another apart (inr (none, is)) (inr (nothing, too)) = is ∙ sym too
 
 -- ---- octets that begin with a frame, and octets that don't
@@ -333,11 +269,11 @@ abbrev setting_up : List Settings → Progress
 setting_up list = SettingUp list
 
 set-up : (progress : Progress) (list : List Settings) → phase_of progress ≡ Setup list → progress ≡ SettingUp list
-set-up (SettingUp settings) list is = let same : settings ≡ list = cc in ap setting_up same
+set-up (SettingUp settings) list is = cc
 set-up (Operating rack) list is = absurd cc
 
 same-setup : (progress : Progress) (list other : List Settings) → phase_of progress ≡ Setup list → phase_of progress ≡ Setup other → other ≡ list
-same-setup progress list other is too = let same : Setup other ≡ Setup list = sym too ∙ is in cc
+same-setup progress list other is too = cc
 
 added-id : (s : Settings) (addition : Addition) → (with_addition s addition).vcid ≡ s.vcid
 added-id s (Queue queue) = refl
@@ -362,14 +298,14 @@ module _ (only : IsOneAtMost) (scid : ℕ) where
   line-apart (Channel settings) old new answer apart (list, longer, was, (none, allowed, pushed), is) a =
       let before : AreApart (vcids_of list) = subst (λ (p : Progress). AreApart (ids_of p)) (set-up old list was) apart in
       let of : Settings → ℕ = λ s. s.vcid in
-      let after : AreApart (vcids_of list ++ settings.vcid ∷ []) = apart-push (vcids_of list) settings.vcid before (λ place at. none (of-id of list place settings.vcid at)) in
-      let same : ids_of new ≡ vcids_of list ++ settings.vcid ∷ [] = ap ids_of (set-up new longer is) ∙ (ap vcids_of pushed ∙ ids-push of list settings) in
+      let after : AreApart (vcids_of list ++ settings.vcid ∷ []) = apart-push (vcids_of list) settings.vcid before (λ place at. none (any-mapped of list place settings.vcid at)) in
+      let same : ids_of new ≡ vcids_of list ++ settings.vcid ∷ [] = ap ids_of (set-up new longer is) ∙ (ap vcids_of pushed ∙ map_push of list settings) in
       subst AreApart (sym same) after
   line-apart (Add vcid addition) old new answer apart (list, longer, was, (place, s, at, allowed, put), is) a =
       let before : AreApart (vcids_of list) = subst (λ (p : Progress). AreApart (ids_of p)) (set-up old list was) apart in
       let of : Settings → ℕ = λ s. s.vcid in
       let same : ids_of new ≡ vcids_of list =
-      ap ids_of (set-up new longer is) ∙ (ap vcids_of put ∙ ids-set of list place s (with_addition s addition) at.0 (added-id s addition)) in
+      ap ids_of (set-up new longer is) ∙ (ap vcids_of put ∙ same-set of list place s (with_addition s addition) at.0 (added-id s addition)) in
       subst AreApart (sym same) before
   line-apart (Frame octets) old new answer apart does a = done-apart (operations.Frame octets) old new answer apart a
   line-apart (Release vcid) old new answer apart does a = done-apart (operations.Release vcid) old new answer apart a
@@ -471,10 +407,6 @@ module _ (only : IsOneAtMost) (scid : ℕ) where
   ]
 
 -- ---- the report
-
-map-map : {X Y Z : Type 0} (f : Y → Z) (g : X → Y) (xs : List X) → map f (map g xs) ≡ map (λ (x : X). f (g x)) xs
-map-map f g [] = refl
-map-map {X} {Y} {Z} f g (x ∷ xs) = ap (λ (l : List Z). f (g x) ∷ l) (map-map f g xs)
 
 -- no two channels of a script have one id
 keyed : (scid : ℕ) (progress : Progress) → AreApart (ids_of progress) → (c d : History) → Contains (histories (rack_for scid progress)) c → Contains (histories (rack_for scid progress)) d

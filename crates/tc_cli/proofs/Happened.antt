@@ -1,28 +1,28 @@
 -- What the jobs of one channel make of its journal, and what the worker of its list made of them.
-use Rattle.std.proofs.Common.{◌≡◌, ℕ, List, [], ◌∷◌, ◌++◌, ◌⊎◌, Result, Ok, Err, Some, None, get_or, inl, inr, refl, sym, ap, ◌∙◌, subst}
-use Rattle.std.specs.Prelude.{◌≢◌, ◌==◌, Contains, slice_index_or, slice_get}
-use Rattle.std.specs.Option.{option_and_then}
-use Rattle.std.proofs.lemmas.Bool.{eqb-true}
+use Rattle.std.proofs.Common.{◌≡◌, ℕ, List, [], ◌∷◌, ◌++◌, ◌⊎◌, Result, Ok, Err, None, get_or, inl, inr, refl, sym, ap, ◌∙◌, subst, ◌≢◌, ◌==◌, Contains, slice_index_or, slice_get}
+use Rattle.tc_cli.proofs.Names.{AtLock, AtStation, BeginsWith, Event, HasMadeAll, HasSeenItsOwn, IsBeginning, IsCall, IsLocateFault, IsMergeOf, IsPlace, Job, LocateFault, Moment, Order, Own, Roster, Settings, eqb-true, get_or_from_slice_get, header_of, looked, made, made_by, no-fault, nobody, none-some, option_and_then, position-Some, same_Some, slice_get_within, Identity}
 use Rattle.std.proofs.lemmas.List.{get_or-set_other, get_or-set_same}
-use Rattle.std.proofs.lemmas.List.Quantifiers.{position-Some}
-use Rattle.std.proofs.lemmas.Option.{get_or_from_slice_get, none-some, same_Some, slice_get_within}
-use Rattle.logged_lock.specs.Log.{IsBeginning, IsMergeOf, made_by}
-use Rattle.tc_channel.specs.Reply.{buffered_fields, take_reply, unit_reply, waiting_packets, waiting_units}
-use Rattle.tc_channel.specs.declared.event.Event.{Event}
+use Rattle.tc_channel.specs.Reply.{take_reply, unit_reply}
 use Rattle.tc_channel.specs.declared.event.Event.TheVariants as events
-use Rattle.tc_channel.specs.declared.settings.Settings.{Settings}
-use Rattle.tc_desk.specs.Alone.{HasMadeAll, HasSeenItsOwn}
-use Rattle.tc_desk.specs.Call.{IsCall, looked, made}
-use Rattle.tc_desk.specs.Log.{AtLock, Moment, Own, nowhere}
-use Rattle.tc_desk.specs.Together.{nobody}
-use Rattle.tc_link.specs.Frame.{BeginsWith, header_of}
-use Rattle.tc_station.specs.Roster.{Roster, IsPlace}
-use Rattle.tc_station.specs.Tally.{AtStation}
+use Rattle.tc_desk.specs.Log.{nowhere}
 use Rattle.tc_station.specs.Tried.{CanBeMade, CannotBeMade, IsTriedAt, IsTriedOn, IsJobMade, AreMade}
-use Rattle.tc_station.specs.declared.work.Job.{Job}
-use Rattle.tc_station.specs.declared.work.Order.{Order}
 use Rattle.tc_station.specs.declared.work.Order.TheVariants as orders
-use Rattle.tc_cli.proofs.Framed.{IsOneAtMost, no-locate-fault}
+use Rattle.tc_link.specs.declared.location.LocateFault.TheVariants.{Frame, OtherSpacecraft, UnknownChannel}
+
+-- ---- octets that begin with a frame
+
+-- octets begin with one frame at most
+abbrev pub IsOneAtMost : Type 0
+IsOneAtMost = (octets one other : List ℕ) → BeginsWith octets one → BeginsWith octets other → one ≡ other
+
+-- octets that begin with a frame for a channel of the station have no fault
+pub no-locate-fault : IsOneAtMost → (station : Roster) (octets frame : List ℕ) (fault : LocateFault)
+    → BeginsWith octets frame → (header_of frame).scid ≡ station.scid → Contains station.vcids (header_of frame).vcid → IsLocateFault station octets fault → ⊥
+no-locate-fault only station octets frame (Frame f) begins ours there why = none-some f (sym (no-fault octets frame begins) ∙ why)
+no-locate-fault only station octets frame OtherSpacecraft begins ours there (other, from, apart) =
+    apart (ap (λ (x : List ℕ). (header_of x).scid) (only octets other frame from begins) ∙ ours)
+no-locate-fault only station octets frame UnknownChannel begins ours there (other, from, none) =
+    none (subst (λ (x : List ℕ). Contains station.vcids (header_of x).vcid) (only octets frame other begins from.0) there)
 
 -- ---- the journal that jobs make
 
@@ -63,17 +63,11 @@ not-both (events.TakeUnit map_id) m (unit, is) (inr empty) = let e : unit_reply 
 -- what can be made depends on the settings and the journal alone
 moved-can : (e : Event) (m : Moment) (s : Settings) (j : List Event) → m.head.settings ≡ s → m.entries ≡ j → CanBeMade e m → CanBeMade e (moment s j)
 moved-can (events.Frame octets) m s j p q can = tt
-moved-can events.Release m s j p q can = subst (λ (x : Settings × List Event). buffered_fields x.0 x.1 ≢ []) (λ i. (p i, q i)) can
-moved-can (events.Take apid) m s j p q can = (can.0, subst (λ (x : Settings × List Event). take_reply x.0 x.1 apid ≡ Some can.0) (λ i. (p i, q i)) can.1)
-moved-can (events.TakeUnit map_id) m s j p q can = (can.0, subst (λ (x : Settings × List Event). unit_reply x.0 x.1 map_id ≡ Some can.0) (λ i. (p i, q i)) can.1)
+moved-can e m s j p q can = subst (λ (x : Settings × List Event). CanBeMade e (moment x.0 x.1)) (λ i. (p i, q i)) can
 
 moved-cannot : (e : Event) (m : Moment) (s : Settings) (j : List Event) → m.head.settings ≡ s → m.entries ≡ j → CannotBeMade e m → CannotBeMade e (moment s j)
 moved-cannot (events.Frame octets) m s j p q cannot = cannot
-moved-cannot events.Release m s j p q cannot = subst (λ (x : Settings × List Event). buffered_fields x.0 x.1 ≡ []) (λ i. (p i, q i)) cannot
-moved-cannot (events.Take apid) m s j p q cannot =
-    subst (λ (x : Settings × List Event). (waiting_packets x.0 x.1 apid ≡ None) ⊎ (waiting_packets x.0 x.1 apid ≡ Some [])) (λ i. (p i, q i)) cannot
-moved-cannot (events.TakeUnit map_id) m s j p q cannot =
-    subst (λ (x : Settings × List Event). (waiting_units x.0 x.1 map_id ≡ None) ⊎ (waiting_units x.0 x.1 map_id ≡ Some [])) (λ i. (p i, q i)) cannot
+moved-cannot e m s j p q cannot = subst (λ (x : Settings × List Event). CannotBeMade e (moment x.0 x.1)) (λ i. (p i, q i)) cannot
 
 -- so there is one journal that comes next
 next-can : (e : Event) (m : Moment) (s : Settings) (old new : List Event) → m.head.settings ≡ s → m.entries ≡ old → CanBeMade e m → IsTriedNext s e old new → new ≡ old ++ e ∷ []
@@ -133,40 +127,31 @@ worked-more s place old mid new before between after first second = record {
       );
 }
 
+-- what an operator has of a desk, by what it has then
+desk-grown : (there next : AtLock) (now : Moment) (o : Own) (s : Settings) (old new : List Event) → next.own ≡ o → o.seen.head ≡ now.head → (HasSeenItsOwn there.own → HasSeenItsOwn o)
+    → (HasSeenItsOwn there.own → HasMadeAll o → HasMadeAll there.own × (now ≡ there.own.seen)) → (now.head.settings ≡ s → now.entries ≡ old → o.seen.entries ≡ new) → IsMadeOf s old new there next
+desk-grown there next now o s old new is head its law journal = λ own. (
+  subst HasSeenItsOwn (sym is) (its own),
+  λ all.
+      let one = law own (subst HasMadeAll is all) in (
+        one.0,
+        λ seen.
+            let settings : now.head.settings ≡ s = ap (λ (m : Moment). m.head.settings) one.1 ∙ seen.0 in
+            let entries : now.entries ≡ old = ap (λ (m : Moment). m.entries) one.1 ∙ seen.1 in
+            (ap (λ (x : Own). x.seen.head.settings) is ∙ (ap (λ (h : Identity). h.settings) head ∙ settings), ap (λ (x : Own). x.seen.entries) is ∙ journal settings entries),
+      ),
+)
+
 module _ (laws : WorkLaws) where
   -- one try at a desk
   tried-desk : (e : Event) (there next : AtLock) (r : Result (Unit {0}) (Unit {0})) (s : Settings) (old new : List Event)
       → IsCall e (λ m _. CanBeMade e m) (λ m _. CannotBeMade e m) there r next → IsTriedNext s e old new → IsMadeOf s old new there next
-  tried-desk e there next (Ok u) s old new call tried = λ own.
-      let after : HasSeenItsOwn next.own = subst HasSeenItsOwn (sym call.answer.1) (laws.seen there.own call.now e own call.later).0 in (
-        after,
-        λ all.
-            let law = laws.event there.own call.now e own call.later (subst HasMadeAll call.answer.1 all) in (
-              law.0,
-              λ seen.
-                  let settings = ap (λ (m : Moment). m.head.settings) law.1 ∙ seen.0 in
-                  let entries = ap (λ (m : Moment). m.entries) law.1 ∙ seen.1 in
-                  let grown = next-can e call.now s old new settings entries call.answer.0 tried in (
-                    ap (λ (o : Own). o.seen.head.settings) call.answer.1 ∙ settings,
-                    ap (λ (o : Own). o.seen.entries) call.answer.1 ∙ (ap (λ (l : List Event). l ++ e ∷ []) entries ∙ sym grown),
-                  ),
-            ),
-      )
-  tried-desk e there next (Err u) s old new call tried = λ own.
-      let after : HasSeenItsOwn next.own = subst HasSeenItsOwn (sym call.answer.1) (laws.seen there.own call.now e own call.later).1 in (
-        after,
-        λ all.
-            let law = laws.look there.own call.now own call.later (subst HasMadeAll call.answer.1 all) in (
-              law.0,
-              λ seen.
-                  let settings = ap (λ (m : Moment). m.head.settings) law.1 ∙ seen.0 in
-                  let entries = ap (λ (m : Moment). m.entries) law.1 ∙ seen.1 in
-                  let same = next-cannot e call.now s old new settings entries call.answer.0 tried in (
-                    ap (λ (o : Own). o.seen.head.settings) call.answer.1 ∙ settings,
-                    ap (λ (o : Own). o.seen.entries) call.answer.1 ∙ (entries ∙ sym same),
-                  ),
-            ),
-      )
+  tried-desk e there next (Ok u) s old new call tried =
+      desk-grown there next call.now (made e call.now there.own) s old new call.answer.1 refl (λ own. (laws.seen there.own call.now e own call.later).0) (λ own. laws.event there.own call.now e own call.later)
+      (λ settings entries. ap (λ (l : List Event). l ++ e ∷ []) entries ∙ sym (next-can e call.now s old new settings entries call.answer.0 tried))
+  tried-desk e there next (Err u) s old new call tried =
+      desk-grown there next call.now (looked call.now there.own) s old new call.answer.1 refl (λ own. (laws.seen there.own call.now e own call.later).1) (λ own. laws.look there.own call.now own call.later)
+      (λ settings entries. entries ∙ sym (next-cannot e call.now s old new settings entries call.answer.0 tried))
 
   tried-at : (place vcid : ℕ) (e : Event) (s : Settings) (old new : List Event) (before after : AtStation)
       → IsTriedAt place vcid e before after → IsTriedNext s e old new → IsWorkedAt s place old new before after

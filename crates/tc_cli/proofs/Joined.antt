@@ -1,38 +1,19 @@
 -- The channels of a closed station whose lists were worked side by side: they are those of the lines in order, and so is their report.
-use Rattle.std.proofs.Common.{◌≡◌, ◌<◌, ℕ, zero, suc, ◌+◌, List, [], ◌∷◌, Bool, true, false, Option, None, Some, All, map, length, get_or, cond, inl, inr, refl, sym, ap, ◌∙◌, subst, arith, eq-eqb, ne_eqb, not}
+use Rattle.std.proofs.Common.{◌≡◌, ◌<◌, ℕ, zero, suc, ◌+◌, List, [], ◌∷◌, Bool, true, false, Option, None, Some, All, map, length, get_or, cond, inl, inr, refl, sym, ap, ◌∙◌, subst, arith, eq-eqb, ne_eqb, not, ◌≢◌, ◌==◌, AllPairs, IsPermutation, nat_lt, slice_get, slice_index_or}
+use Rattle.tc_cli.proofs.Names.{Answer, AreAnswers, AreClosedTogether, AreWorkedChannels, AtLock, AtStation, Event, HasMadeNothing, HasSeenItsOwn, History, Identity, IsBeginning, IsClosed, IsPerformed, IsPlace, IsReportOf, IsScriptReport, IsWorkedOut, KnowsDesks, Linked, Parted, Progress, Racked, Roster, Settings, WorkList, column, crews_of, get_or_from_slice_get, heads_of, histories, length-map, lower, made_by, nobody, none-some, rack_for, report_text, same_Some, settings_in, slice_get_within, vcid_of, cases_lt}
 use mathlib.Core.Option.{some}
 use lib.ListN.{get_elem?}
-use Rattle.std.specs.Prelude.{◌≢◌, ◌==◌, AllPairs, IsPermutation, nat_lt, slice_get, slice_index_or}
 use Rattle.std.specs.List.{AllByRecursion, position_or_len}
 use Rattle.std.proofs.lemmas.Bool.{lt-ltb}
-use Rattle.std.proofs.lemmas.List.{length-map}
-use Rattle.std.proofs.lemmas.List.Elements.{All-head, All-tail}
-use Rattle.std.proofs.lemmas.Option.{get_or_from_slice_get, none-some, same_Some, slice_get_cases, slice_get_past, slice_get_within}
-use Rattle.logged_lock.specs.Log.{IsBeginning, made_by}
-use Rattle.tc_channel.specs.Journal.{History}
-use Rattle.tc_channel.specs.declared.event.Event.{Event}
-use Rattle.tc_channel.specs.declared.settings.Settings.{Settings}
-use Rattle.tc_desk.specs.Alone.{HasMadeAll, HasSeenItsOwn, with_places}
-use Rattle.tc_desk.specs.Closing.{IsClosed}
-use Rattle.tc_desk.specs.Log.{AtLock, Identity, Own, accounts_of}
-use Rattle.tc_desk.specs.Together.{column, heads_of, nobody}
-use Rattle.tc_station.specs.Lowest.{lower}
-use Rattle.tc_station.specs.Roster.{Roster, IsPlace, settings_in}
-use Rattle.tc_station.specs.Tally.{AtStation, HasMadeNothing, KnowsDesks}
-use Rattle.tc_station.specs.Together.{AreClosedTogether, crews_of}
+use Rattle.std.proofs.lemmas.List.{get_or_past}
+use Rattle.std.proofs.lemmas.Option.{slice_get_cases, slice_get_past}
+use Rattle.tc_desk.specs.Log.{accounts_of}
 use Rattle.tc_station.specs.Tried.{AreMade, IsListMade}
 use Rattle.tc_station.specs.Work.{Shift, IsShift, AreWorked, lowest}
-use Rattle.tc_station.specs.declared.work.WorkList.{WorkList}
-use Rattle.tc_rack.specs.Linked.{Linked, vcid_of}
-use Rattle.tc_cli.specs.Parallel.{AreWorkedChannels}
-use Rattle.tc_cli.specs.Parting.{Parted, IsWorkedOut}
-use Rattle.tc_rack.specs.Progress.{Progress, rack_for, IsPerformed}
-use Rattle.tc_rack.specs.Rack.{Racked, histories}
-use Rattle.tc_rack.specs.Report.{IsReportOf, report_text}
-use Rattle.tc_cli.specs.Written.{AreAnswers, IsScriptReport}
-use Rattle.tc_rack.specs.declared.answer.Answer.{Answer}
 use Rattle.tc_cli.proofs.Happened.{HasSeen, IsWorkedAt, WorkLaws, desk_at, list-worked}
-use Rattle.tc_cli.proofs.Planned.{IsPlanned, all-planned, element, found-planned, mapped-at, matched-phase}
+use Rattle.tc_cli.proofs.Beginnings.{no-event}
+use Rattle.tc_cli.proofs.Lists.{element, mapped-at, same-mapped, was-there}
+use Rattle.tc_cli.proofs.Planned.{IsPlanned, all-planned, found-planned, matched-phase}
 
 -- ---- places
 
@@ -96,28 +77,10 @@ desk-settings (d ∷ desks) (suc k) s at = desk-settings desks k s at
 
 -- who has made nothing has made nothing at each desk
 nothing-at : (o : AtStation) (place : ℕ) → HasMadeNothing o → (desk_at place o).own.made ≡ []
-nothing-at o place nothing = at-desk o.desks place nothing where
-  at-desk : (desks : List AtLock) (k : ℕ) → All (λ (d : AtLock). d.own.made ≡ []) desks → (slice_index_or desks k nobody).own.made ≡ []
-  at-desk [] k none = refl
-  at-desk (d ∷ desks) zero none = All-head (λ (x : AtLock). x.own.made ≡ []) d desks none
-  at-desk (d ∷ desks) (suc k) none = at-desk desks k (All-tail (λ (x : AtLock). x.own.made ≡ []) d desks none)
-
-no-event : (own : Own) → HasMadeAll own → own.made ≡ [] → own.seen.entries ≡ []
-no-event own all none = none-placed own.seen.entries (sym all ∙ none) where
-  none-placed : (es : List Event) → with_places 0 es ≡ [] → es ≡ []
-  none-placed [] is = refl
-  none-placed (e ∷ es) is = let l = ap (length {A = ℕ × Event}) is in absurd (omega arith)
-
--- channels that are the same at each place
-same-channels : (closed : List History) (channels : List Linked) → length closed ≡ length channels
-    → ((k : ℕ) (h : History) (c : Linked) → slice_get closed k ≡ Some h → slice_get channels k ≡ Some c → h ≡ c.history) → closed ≡ map (λ (c : Linked). c.history) channels
-same-channels [] [] long each = refl
-same-channels [] (c ∷ cs) long each = absurd (omega arith)
-same-channels (h ∷ hs) [] long each = absurd (omega arith)
-same-channels (h ∷ hs) (c ∷ cs) long each =
-    let first = each 0 h c refl refl in
-    let rest = same-channels hs cs (omega arith) (λ k x y at here. each (suc k) x y at here) in
-    λ i. first i ∷ rest i
+nothing-at o place nothing = elim (cases_lt place (length o.desks)) [
+  | inl inside ↦ nothing place nobody inside
+  | inr past ↦ ap (λ (d : AtLock). d.own.made) (get_or_past o.desks place nobody past)
+]
 
 -- ---- a plan that was worked out
 
@@ -125,16 +88,19 @@ same-channels (h ∷ hs) (c ∷ cs) long each =
 issued-planned : (parted : Parted) (station : Roster) (n : ℕ) (rack : Racked) → station ≡ record parted.station { issued = n } → IsPlanned parted rack → IsPlanned (record parted { station = station }) rack
 issued-planned parted station n rack issued planned =
     subst (λ (s : Roster). IsPlanned (record parted { station = s }) rack) (sym issued)
-    (record {
-      spacecraft = planned.spacecraft;
-      ids = planned.ids;
-      lists = planned.lists;
-      settings = planned.settings;
-      distinct = planned.distinct;
-      jobs = planned.jobs;
-    })
+    (record { spacecraft = planned.spacecraft; ids = planned.ids; lists = planned.lists; settings = planned.settings; distinct = planned.distinct; jobs = planned.jobs })
 
 module _ (laws : WorkLaws) (station : Roster) (lists : List WorkList) (rack : Racked) (planned : IsPlanned (record { station = station; lists = lists }) rack) where
+  -- as many workers as channels
+  long-shifts : (shifts : List Shift) → map (λ (s : Shift). s.list) shifts ≡ lists → length shifts ≡ length rack.channels
+  long-shifts shifts same =
+      sym (length-map shifts (λ (s : Shift). s.list)) ∙ (ap (length {A = WorkList}) same
+      ∙ (sym (length-map lists (λ (l : WorkList). l.vcid)) ∙ (ap (length {A = ℕ}) (planned.lists ∙ sym planned.ids) ∙ length-map rack.channels vcid_of)))
+
+  -- the settings that the station knows at a place
+  settings-at : (k : ℕ) (c : Linked) → slice_get rack.channels k ≡ Some c → slice_get (settings_in station) k ≡ Some c.history.settings
+  settings-at k c at = ap (λ (l : List Settings). slice_get l k) (sym planned.settings) ∙ mapped-at (λ (y : Linked). y.history.settings) rack.channels k c at
+
   -- a worker and its list
   shift-worked : (shifts : List Shift) → map (λ (s : Shift). s.list) shifts ≡ lists → AllByRecursion (IsShift station) shifts → lowest shifts ≡ None → (k : ℕ) (x : Shift) (c : Linked)
       → slice_get shifts k ≡ Some x → slice_get rack.channels k ≡ Some c → IsWorkedAt c.history.settings k [] c.history.journal x.before x.after
@@ -156,12 +122,9 @@ module _ (laws : WorkLaws) (station : Roster) (lists : List WorkList) (rack : Ra
       let before-at : (i : ℕ) (y : Shift) → slice_get shifts i ≡ Some y → slice_get befores i ≡ Some y.before =
       λ i y is. ap (λ (l : List AtStation). slice_get l i) (sym of-befores) ∙ mapped-at (λ (s : Shift). s.before) shifts i y is in
       let nothing-before : (i : ℕ) (y : Shift) → slice_get shifts i ≡ Some y → HasMadeNothing y.before =
-      λ i y is. subst HasMadeNothing (get_or_from_slice_get befores i y.before y.before (before-at i y is)) (nothing i y.before (slice_get_within befores i y.before (before-at i y is))) in
-      let knows-before : KnowsDesks station x.before =
-      subst (KnowsDesks station) (get_or_from_slice_get befores k x.before x.before (before-at k x at)) (knows k x.before (slice_get_within befores k x.before (before-at k x at))) in
-      let long : length shifts ≡ length rack.channels =
-      sym (length-map shifts (λ (s : Shift). s.list)) ∙ (ap (length {A = WorkList}) of-lists
-      ∙ (sym (length-map lists (λ (l : WorkList). l.vcid)) ∙ (ap (length {A = ℕ}) (planned.lists ∙ sym planned.ids) ∙ length-map rack.channels vcid_of))) in
+      λ i y is. was-there HasMadeNothing befores i y.before (before-at i y is) nothing in
+      let knows-before : KnowsDesks station x.before = was-there (KnowsDesks station) befores k x.before (before-at k x at) knows in
+      let long = long-shifts shifts of-lists in
       let elsewhere : (i : ℕ) → i ≢ k → made_by makers i ≡ [] = λ i apart. elim (slice_get_cases shifts i).1 [
         | inl there ↦
             let y = there.0 in
@@ -181,10 +144,8 @@ module _ (laws : WorkLaws) (station : Roster) (lists : List WorkList) (rack : Ra
       let behind : IsBeginning own.seen (record { head = post.own.seen.head; entries = h.journal }) = closed.seen k own (account-at ops k k x.after (op-at k x at)) in
       let whole = laws.maker makers k own h.journal (maker-at ops k k x.after (op-at k x at)) elsewhere after.0 (refl, behind.1) closed.merge in
       let start = after.1 whole.0 in
-      let of-station : slice_get (settings_in station) k ≡ Some c.history.settings =
-      ap (λ (l : List Settings). slice_get l k) (sym planned.settings) ∙ mapped-at (λ (y : Linked). y.history.settings) rack.channels k c here in
       let known : slice_get (map (λ (i : Identity). i.settings) (heads_of x.before.desks)) k ≡ Some c.history.settings =
-      ap (λ (l : List Identity). slice_get (map (λ (i : Identity). i.settings) l) k) knows-before ∙ of-station in
+      ap (λ (l : List Identity). slice_get (map (λ (i : Identity). i.settings) l) k) knows-before ∙ settings-at k c here in
       let seen : HasSeen c.history.settings [] before = (desk-settings x.before.desks k c.history.settings known, no-event before.own start.0 no-made) in
       let journal : h.journal ≡ c.history.journal = sym whole.1 ∙ (start.1 seen).1 in
       let same : h.settings ≡ c.history.settings = closed.settings ∙ settings in
@@ -199,17 +160,12 @@ module _ (laws : WorkLaws) (station : Roster) (lists : List WorkList) (rack : Ra
       let long-posts : length posts ≡ length station.heads = sym (length-map posts head) ∙ ap (length {A = Identity}) posted.1 in
       let long-heads : length station.heads ≡ length rack.channels =
       sym (length-map station.heads settings) ∙ (ap (length {A = Settings}) (sym planned.settings) ∙ length-map rack.channels (λ (c : Linked). c.history.settings)) in
-      let long-shifts : length shifts ≡ length rack.channels =
-      sym (length-map shifts (λ (s : Shift). s.list)) ∙ (ap (length {A = WorkList}) of-lists
-      ∙ (sym (length-map lists (λ (l : WorkList). l.vcid)) ∙ (ap (length {A = ℕ}) (planned.lists ∙ sym planned.ids) ∙ length-map rack.channels vcid_of))) in
-      same-channels closed rack.channels (all.as_many ∙ (long-posts ∙ long-heads)) (λ k h c at here.
+      same-mapped (λ (c : Linked). c.history) rack.channels closed (all.as_many ∙ (long-posts ∙ long-heads)) (λ k c h here at.
       let inside = slice_get_within rack.channels k c here in
-      let shift = element shifts k (omega (arith, inside, long-shifts)) in
+      let shift = element shifts k (omega (arith, inside, long-shifts shifts of-lists)) in
       let post = element posts k (omega (arith, inside, long-posts, long-heads)) in
-      let of-station : slice_get (settings_in station) k ≡ Some c.history.settings =
-      ap (λ (l : List Settings). slice_get l k) (sym planned.settings) ∙ mapped-at (λ (y : Linked). y.history.settings) rack.channels k c here in
       let known : slice_get (map (λ (i : Identity). i.settings) (heads_of posts)) k ≡ Some c.history.settings =
-      ap (λ (l : List Identity). slice_get (map (λ (i : Identity). i.settings) l) k) posted.1 ∙ of-station in
+      ap (λ (l : List Identity). slice_get (map (λ (i : Identity). i.settings) l) k) posted.1 ∙ settings-at k c here in
       let own : post.0.own.seen.head.settings ≡ c.history.settings =
       ap (λ (d : AtLock). d.own.seen.head.settings) (sym (get_or_from_slice_get posts k post.0 nobody post.1)) ∙ desk-settings posts k c.history.settings known in
       one-closed shifts befores ops of-lists of-befores of-ops each none nothing knows k c shift.0 post.0 h here shift.1 own (all.each k post.0 h post.1 at))

@@ -1,8 +1,9 @@
+pub mod Names
+pub mod Lists
 pub mod Alone
 pub mod Beginnings
 pub mod Answered
 pub mod Sessions
-pub mod Framed
 pub mod Happened
 pub mod Planned
 pub mod Numbered

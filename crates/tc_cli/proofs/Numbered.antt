@@ -1,36 +1,15 @@
 -- Jobs have the numbers of lines of their script, so where memory runs out at one of them a line was reached.
-use Rattle.std.proofs.Common.{◌≡◌, ◌≤◌, ℕ, zero, suc, ◌+◌, List, [], ◌∷◌, ◌++◌, ◌⊎◌, Option, None, Some, map, length, inl, inr, refl, sym, ap, ◌∙◌, subst, arith}
+use Rattle.std.proofs.Common.{◌≡◌, ◌≤◌, ℕ, suc, ◌+◌, List, [], ◌∷◌, ◌⊎◌, Option, None, Some, map, length, inl, inr, refl, sym, ap, ◌∙◌, subst, arith, Any, min, slice_get, slice_set}
+use Rattle.tc_cli.proofs.Names.{Add, AreParted, ArePartedFor, AtStation, Channel, Clcw, Does, Frame, GivesToFound, Instruction, IsFrameGiven, IsGiven, IsJobLine, IsParted, IsScriptFault, Job, Nothing, Operating, Parted, Plan, Release, Roster, ScriptFault, SettingUp, Settings, Setup, Take, TakeUnit, WorkList, cases_lt, empty_list, eqb_tells, instruction_of, lower, none-some, none_parted, one_parted, phase_of, same_Some, script_limit, with_job}
 use Rattle.std.specs.List.{AllByRecursion}
-use Rattle.std.specs.Prelude.{Any, min, slice_get, slice_set}
-use Rattle.std.proofs.lemmas.Bool.{cases_lt}
-use Rattle.std.proofs.lemmas.Bool.Decides.{eqb_tells}
-use Rattle.std.proofs.lemmas.Option.{get_or_from_slice_get, none-some, same_Some, slice_get_within}
-use Rattle.tc_channel.specs.declared.settings.Settings.{Settings}
-use Rattle.tc_setup.specs.Instruction.{instruction_of}
-use Rattle.tc_setup.specs.Phase.{Setup, Does}
-use Rattle.tc_setup.specs.declared.instruction.Instruction.{Instruction}
-use Rattle.tc_setup.specs.declared.instruction.Instruction.TheVariants.{Nothing, Channel, Add, Frame, Release, Take, Unit as TakeUnit, Clcw}
-use Rattle.tc_station.specs.Lowest.{lower}
-use Rattle.tc_station.specs.Roster.{Roster}
-use Rattle.tc_station.specs.Tally.{AtStation, Tally}
+use Rattle.tc_station.specs.Tally.{Tally}
 use Rattle.tc_station.specs.Work.{AreWorked, IsShift, IsWorked, Shift, lowest}
-use Rattle.tc_station.specs.declared.work.Job.{Job}
 use Rattle.tc_station.specs.declared.work.Order.TheVariants as orders
-use Rattle.tc_station.specs.declared.work.WorkList.{WorkList}
-use Rattle.tc_text.specs.Reading.{script_limit}
-use Rattle.tc_text.specs.declared.fault.ScriptFault.{ScriptFault}
-use Rattle.tc_cli.specs.Parallel.{Plan, AreParted, none_parted, one_parted, ArePartedFor, IsParted, GivesToFound}
-use Rattle.tc_cli.specs.Parting.{Parted, IsGiven, IsFrameGiven, IsJobLine, IsWorkFault, empty_list, with_job}
-use Rattle.tc_cli.specs.Script.{IsScriptFault}
-use Rattle.tc_rack.specs.Stage.{phase_of}
-use Rattle.tc_rack.specs.declared.stage.Stage.TheVariants.{SettingUp, Operating}
-use Rattle.tc_cli.proofs.Planned.{element, set-elsewhere, set-there}
+use Rattle.tc_cli.specs.Parting.{IsWorkFault}
+use Rattle.tc_cli.proofs.Lists.{any-at, any-here, push-cases, set-at, set-else, unmapped}
 use Rattle.tc_cli.proofs.Scripts.{first-good, parted-leads}
 
 -- ---- a job that was refused for memory
-
-any-here : {X : Type 0} (P : X → Type 0) (xs : List X) (k : ℕ) (x : X) → slice_get xs k ≡ Some x → P x → Any P xs
-any-here P xs k x at holds = (k, x, slice_get_within xs k x at, get_or_from_slice_get xs k x x at, holds)
 
 lower-either : (a b : Option ℕ) (n : ℕ) → lower a b ≡ Some n → (a ≡ Some n) ⊎ (b ≡ Some n)
 lower-either None b n is = inr is
@@ -77,35 +56,26 @@ one-more count (SettingUp list) numbered = tt
 one-more count (Operating parted) numbered = λ place n l job at there. omega (arith, numbered place n l job at there)
 
 new-numbered : (count : ℕ) (list : List Settings) → AreNumbered count (map empty_list list)
-new-numbered count [] place n l job at there = absurd (none-some l at)
-new-numbered count (s ∷ list) zero n l job at there =
-    absurd (none-some job (ap (λ (x : WorkList). slice_get x.jobs n) (same_Some (empty_list s) l at) ∙ there))
-new-numbered count (s ∷ list) (suc place) n l job at there = new-numbered count list place n l job at there
+new-numbered count list place n l job at there =
+    let new = unmapped empty_list list place l at in
+    absurd (none-some job (ap (λ (x : WorkList). slice_get x.jobs n) new.2 ∙ there))
 
 found-numbered : (scid count : ℕ) (plan : Plan) (found : Parted) → IsNumbered count plan → ArePartedFor scid plan found → AreNumbered count found.lists
 found-numbered scid count (SettingUp list) found numbered new = subst (AreNumbered count) (sym new.1) (new-numbered count list)
 found-numbered scid count (Operating parted) found numbered same = subst (λ (p : Parted). AreNumbered count p.lists) (sym same) numbered
 
--- a job of a list that another one was given to
-old-or-last : (jobs : List Job) (last job : Job) (n : ℕ) → slice_get (jobs ++ last ∷ []) n ≡ Some job → (slice_get jobs n ≡ Some job) ⊎ (last ≡ job)
-old-or-last [] last job zero at = inr (same_Some last job at)
-old-or-last [] last job (suc n) at = absurd (none-some job at)
-old-or-last (x ∷ jobs) last job zero at = inl at
-old-or-last (x ∷ jobs) last job (suc n) at = old-or-last jobs last job n at
-
 given-numbered : (count vcid : ℕ) (given : Job) (found parted : Parted) → given.line ≡ count + 1 → AreNumbered count found.lists → IsGiven vcid given found parted
     → AreNumbered (count + 1) parted.lists
 given-numbered count vcid given found parted number numbered (inl (place, l, (at, id), is)) other n x job here there =
-    let set : slice_get (slice_set found.lists place (with_job l given)) other ≡ Some x = ap (λ (p : Parted). slice_get p.lists other) (sym is) ∙ here in
+    let lists : parted.lists ≡ slice_set found.lists place (with_job l given) = ap (λ (p : Parted). p.lists) is in
     elim (eqb_tells other place) [
       | inl h ↦
-          let first = ap (λ (k : ℕ). slice_get (slice_set found.lists place (with_job l given)) k) h.1 ∙ set-there found.lists place l (with_job l given) at in
-          let list : with_job l given ≡ x = same_Some (with_job l given) x (sym first ∙ set) in
-          elim (old-or-last l.jobs given job n (ap (λ (y : WorkList). slice_get y.jobs n) list ∙ there)) [
+          let list = set-at found.lists parted.lists place other l (with_job l given) x lists at h.1 here in
+          elim (push-cases l.jobs given job n (ap (λ (y : WorkList). slice_get y.jobs n) list ∙ there)) [
             | inl old ↦ omega (arith, numbered place n l job at old)
-            | inr last ↦ omega (arith, ap (λ (j : Job). j.line) last, number)
+            | inr last ↦ omega (arith, ap (λ (j : Job). j.line) last.1, number)
           ]
-      | inr h ↦ omega (arith, numbered other n x job (sym (set-elsewhere found.lists place other (with_job l given) h.1) ∙ set) there)
+      | inr h ↦ omega (arith, numbered other n x job (set-else found.lists parted.lists place other (with_job l given) x lists h.1 here) there)
     ]
 given-numbered count vcid given found parted number numbered (inr (none, is)) other n x job here there =
     omega (arith, numbered other n x job (ap (λ (p : Parted). slice_get p.lists other) (sym is) ∙ here) there)
@@ -151,12 +121,6 @@ all-numbered : (scid : ℕ) (script : List ℕ) (count : ℕ) (plan : Plan) (res
 all-numbered scid script count plan rest none_parted = tt
 all-numbered scid script count plan rest (one_parted {count = before} {plan = old} leads next parted) =
     line-numbered scid before (instruction_of parted.0) old plan (all-numbered scid script before old _ leads) parted.2 parted.3
-
-any-at : {X : Type 0} (P : X → Type 0) (xs : List X) → Any P xs → (k : ℕ) × (x : X) × (slice_get xs k ≡ Some x) × P x
-any-at {X} P xs (k, x, lt, is, holds) =
-    let there = element xs k lt in
-    let same : there.0 ≡ x = sym (get_or_from_slice_get xs k there.0 x there.1) ∙ is in
-    (k, x, there.1 ∙ ap (λ (y : X). Some y) same, holds)
 
 job-within : (count : ℕ) (lists : List WorkList) (line : ℕ) → AreNumbered count lists → IsJobLine lists line → line ≤ count
 job-within count lists line numbered job =

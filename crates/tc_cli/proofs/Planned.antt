@@ -1,92 +1,23 @@
 -- The jobs of a script, parted by their channels, and how far its lines alone have come: each list has just the jobs that make the
 -- journal of its channel.
-use Rattle.std.proofs.Common.{◌≡◌, ◌<◌, ℕ, zero, suc, ◌+◌, List, [], ◌∷◌, ◌++◌, ◌⊎◌, Option, None, Some, map, length, get_or, inl, inr, refl, sym, ap, ◌∙◌, subst, arith}
-use Rattle.std.specs.Prelude.{◌≢◌, AllPairs, Any, Contains, slice_get, slice_set}
-use Rattle.std.specs.Option.{option_and_then, option_map}
-use Rattle.std.proofs.lemmas.Bool.Decides.{eqb_tells}
-use Rattle.std.proofs.lemmas.List.{get_or-map, length-map, map-id}
-use Rattle.std.proofs.lemmas.Option.{get_or_from_slice_get, none-some, same_Some, slice_get-map, slice_get_within}
-use Rattle.tc_channel.specs.Reply.{buffered_fields, frame_reply, release_reply, waiting_packets, waiting_units}
-use Rattle.tc_channel.specs.declared.event.Event.{Event}
+use Rattle.std.proofs.Common.{◌≡◌, ℕ, zero, suc, ◌+◌, List, [], ◌∷◌, ◌++◌, ◌⊎◌, Option, None, Some, map, length, inl, inr, refl, sym, ap, ◌∙◌, subst, arith, ◌≢◌, AllPairs, Contains, slice_get, slice_set}
+use Rattle.tc_cli.proofs.Names.{Add, Answer, AreAnswers, AreParted, ArePartedFor, Channel, Clcw, Does, Empty, Event, Frame, GivesToFound, HasChannel, Instruction, IsAnswerOf, IsChannelAnswer, IsClcwAnswer, IsDoneSo, IsFrameAnswer, IsFrameAnswered, IsFrameGiven, IsGiven, IsInstructionAnswered, IsParted, IsPerformed, IsRackLocateFault, IsReleaseAnswered, IsTakeAnswered, IsUnitAnswered, Job, Linked, LocateFault, NoMap, NoQueue, Nothing, Operating, Operation, Order, Parted, Phase, Plan, Progress, Racked, Release, SettingUp, Settings, Setup, Take, TakeUnit, Unlocated, WorkList, at_first, buffered_fields, empty_list, eqb_tells, header_of, instruction_of, later, length-map, map-map, new_linked, new_rack, none_parted, one_more, one_parted, option_and_then, phase_of, rack-found, rack_for, settings_in, slice_get-get_or, slice_get_within, told_word, vcid_of, waiting_packets, waiting_units, with_job}
+use Rattle.std.proofs.lemmas.List.{map-id}
+use Rattle.tc_channel.specs.Reply.{frame_reply, release_reply}
 use Rattle.tc_channel.specs.declared.event.Event.TheVariants as events
-use Rattle.tc_channel.specs.declared.settings.Settings.{Settings}
-use Rattle.tc_link.specs.Frame.{header_of}
-use Rattle.tc_setup.specs.Instruction.{instruction_of}
-use Rattle.tc_setup.specs.Phase.{Phase, Setup, Does}
-use Rattle.tc_setup.specs.declared.instruction.Instruction.{Instruction}
-use Rattle.tc_setup.specs.declared.instruction.Instruction.TheVariants.{Nothing, Channel, Add, Frame, Release, Take, Unit as TakeUnit, Clcw}
 use Rattle.tc_station.specs.Location as at_station
-use Rattle.tc_station.specs.Roster.{settings_in}
-use Rattle.tc_link.specs.declared.location.LocateFault.{LocateFault}
 use Rattle.tc_link.specs.declared.location.LocateFault.TheVariants as faults
-use Rattle.tc_station.specs.declared.work.Job.{Job}
-use Rattle.tc_station.specs.declared.work.Order.{Order}
 use Rattle.tc_station.specs.declared.work.Order.TheVariants as orders
-use Rattle.tc_station.specs.declared.work.WorkList.{WorkList}
-use Rattle.tc_rack.proofs.Performed.{rack-found}
-use Rattle.tc_rack.specs.Linked.{Linked, vcid_of, new_linked, later, IsFrameAnswered, IsReleaseAnswered, IsTakeAnswered, IsUnitAnswered, told_word}
-use Rattle.tc_rack.specs.Operation.{IsAnswerOf, IsChannelAnswer, IsClcwAnswer, IsFrameAnswer}
-use Rattle.tc_cli.specs.Parallel.{Plan, AreParted, none_parted, one_parted, ArePartedFor, IsParted, GivesToFound}
-use Rattle.tc_cli.specs.Parting.{Parted, IsNewlyParted, IsGiven, IsFrameGiven, HasWorkList, empty_list, with_job}
-use Rattle.tc_rack.specs.Progress.{Progress, rack_for, IsPerformed}
-use Rattle.tc_rack.specs.Rack.{Racked, IsChannelAt, IsRackLocateFault, HasChannel, new_rack}
-use Rattle.tc_rack.specs.Performing.{IsInstructionAnswered, IsDoneSo}
-use Rattle.tc_rack.specs.Stage.{phase_of}
-use Rattle.tc_cli.specs.Written.{AreAnswers, at_first, one_more}
-use Rattle.tc_rack.specs.declared.answer.Answer.{Answer}
+use Rattle.tc_cli.specs.Parting.{IsNewlyParted, HasWorkList}
+use Rattle.tc_rack.specs.Rack.{IsChannelAt}
 use Rattle.tc_rack.specs.declared.answer.Answer.TheVariants as answers
-use Rattle.tc_rack.specs.declared.answer.Refusal.TheVariants.{Unlocated, UnknownChannel, NoQueue, NoMap, Empty}
-use Rattle.tc_rack.specs.declared.operation.Operation.{Operation}
+use Rattle.tc_rack.specs.declared.answer.Refusal.TheVariants.{UnknownChannel}
 use Rattle.tc_rack.specs.declared.operation.Operation.TheVariants as operations
-use Rattle.tc_rack.specs.declared.stage.Stage.TheVariants.{SettingUp, Operating}
 use Rattle.tc_cli.proofs.Happened.{AllHappen, Happens, one-more-happens}
+use Rattle.tc_cli.proofs.Lists.{any-contains, any-mapped, element, same-at, same-set, set-at, set-elsewhere, unmapped}
+use Rattle.tc_cli.proofs.Stations.{new-ordered}
 
 -- ---- lists
-
-pub map-twice : {X Y Z : Type 0} (f : Y → Z) (g : X → Y) (xs : List X) → map f (map g xs) ≡ map (λ (x : X). f (g x)) xs
-map-twice f g [] = refl
-map-twice {X} {Y} {Z} f g (x ∷ xs) = ap (λ (l : List Z). f (g x) ∷ l) (map-twice f g xs)
-
--- the element at a place within the list
-pub element : {X : Type 0} (xs : List X) (k : ℕ) → k < length xs → (x : X) × (slice_get xs k ≡ Some x)
-element [] k lt = absurd (omega arith)
-element (x ∷ xs) zero lt = (x, refl)
-element (x ∷ xs) (suc k) lt = element xs k (omega arith)
-
-pub mapped-at : {X Y : Type 0} (f : X → Y) (xs : List X) (k : ℕ) (x : X) → slice_get xs k ≡ Some x → slice_get (map f xs) k ≡ Some (f x)
-mapped-at f xs k x at = slice_get-map f xs k ∙ ap (option_map f) at
-
--- what two lists have at a place that are mapped to one
-pub same-at : {X Y Z : Type 0} (f : X → Z) (g : Y → Z) (xs : List X) (ys : List Y) (k : ℕ) (x : X) (y : Y) → map f xs ≡ map g ys → slice_get xs k ≡ Some x → slice_get ys k ≡ Some y → f x ≡ g y
-same-at {X} {Y} {Z} f g xs ys k x y same at here = same_Some (f x) (g y) (sym (mapped-at f xs k x at) ∙ (ap (λ (l : List Z). slice_get l k) same ∙ mapped-at g ys k y here))
-
-same-set : {X Y : Type 0} (f : X → Y) (xs : List X) (k : ℕ) (x y : X) → slice_get xs k ≡ Some x → f y ≡ f x → map f (slice_set xs k y) ≡ map f xs
-same-set f [] k x y at same = absurd (none-some x at)
-same-set {X} {Y} f (z ∷ xs) zero x y at same = ap (λ (a : Y). a ∷ map f xs) (same ∙ ap f (sym (same_Some z x at)))
-same-set {X} {Y} f (z ∷ xs) (suc k) x y at same = ap (λ (l : List Y). f z ∷ l) (same-set f xs k x y at same)
-
-pub set-there : {X : Type 0} (xs : List X) (k : ℕ) (x y : X) → slice_get xs k ≡ Some x → slice_get (slice_set xs k y) k ≡ Some y
-set-there [] k x y at = absurd (none-some x at)
-set-there (z ∷ xs) zero x y at = refl
-set-there (z ∷ xs) (suc k) x y at = set-there xs k x y at
-
-pub set-elsewhere : {X : Type 0} (xs : List X) (k j : ℕ) (y : X) → j ≢ k → slice_get (slice_set xs k y) j ≡ slice_get xs j
-set-elsewhere [] k j y apart = refl
-set-elsewhere (z ∷ xs) zero zero y apart = absurd (apart refl)
-set-elsewhere (z ∷ xs) zero (suc j) y apart = refl
-set-elsewhere (z ∷ xs) (suc k) zero y apart = refl
-set-elsewhere (z ∷ xs) (suc k) (suc j) y apart = set-elsewhere xs k j y (λ e. apart (ap suc e))
-
-any-contains : {X : Type 0} (f : X → ℕ) (xs : List X) (v : ℕ) → Any (λ (x : X). f x ≡ v) xs → Contains (map f xs) v
-any-contains f xs v (k, x, lt, is, id) = (k, omega (arith, lt, length-map xs f), get_or-map f xs k x v lt ∙ (ap f is ∙ id))
-
-contains-any : {X : Type 0} (f : X → ℕ) (xs : List X) (v : ℕ) → Contains (map f xs) v → Any (λ (x : X). f x ≡ v) xs
-contains-any f xs v (k, lt, is) =
-    let inside : k < length xs = omega (arith, lt, length-map xs f) in
-    let there = element xs k inside in
-    let x = there.0 in
-    let here = get_or_from_slice_get xs k x x there.1 in
-    (k, x, inside, here, ap f (sym here) ∙ (sym (get_or-map f xs k x v inside) ∙ is))
 
 nil-or-not : {X : Type 0} (xs : List X) → (xs ≡ []) ⊎ (xs ≢ [])
 nil-or-not [] = inl refl
@@ -117,29 +48,21 @@ as-many-lists parted rack planned =
     sym (length-map rack.channels vcid_of) ∙ (ap (length {A = ℕ}) (planned.ids ∙ sym planned.lists) ∙ length-map parted.lists (λ (l : WorkList). l.vcid))
 
 -- a new plan has no job, and its channels no event
-new-at : (list : List Settings) (place : ℕ) (l : WorkList) (c : Linked) → slice_get (map empty_list list) place ≡ Some l → slice_get (map new_linked list) place ≡ Some c
-    → (l.jobs ≡ []) × (c.history.journal ≡ [])
-new-at [] place l c at here = absurd (none-some l at)
-new-at (s ∷ list) zero l c at here = (ap (λ (x : WorkList). x.jobs) (sym (same_Some (empty_list s) l at)), ap (λ (x : Linked). x.history.journal) (sym (same_Some (new_linked s) c here)))
-new-at (s ∷ list) (suc place) l c at here = new-at list place l c at here
-
 new-planned : (scid : ℕ) (list : List Settings) (found : Parted) → IsNewlyParted scid list found → IsPlanned found (new_rack scid list)
 new-planned scid list found new =
     let vcids = new.0.vcids in
     record {
       spacecraft = sym new.0.spacecraft;
-      ids = map-twice vcid_of new_linked list ∙ sym vcids;
-      lists = ap (map (λ (l : WorkList). l.vcid)) new.1 ∙ (map-twice (λ (l : WorkList). l.vcid) empty_list list ∙ sym vcids);
-      settings = map-twice (λ (c : Linked). c.history.settings) new_linked list ∙ (map-id list ∙ sym new.0.settings);
-      distinct = λ i j d lt inside same.
-          let within : j < length list = omega (arith, inside, ap (length {A = ℕ}) vcids, length-map list (λ (s : Settings). s.vcid)) in
-          let there = element list j within in
-          let at : (k : ℕ) → k < length list → get_or found.station.vcids k d ≡ (get_or list k there.0).vcid =
-          λ k lt'. ap (λ (l : List ℕ). get_or l k d) vcids ∙ get_or-map (λ (s : Settings). s.vcid) list k there.0 d lt' in
-          new.0.distinct i j there.0 lt within (sym (at i (omega (arith, lt, within))) ∙ (same ∙ at j within));
+      ids = map-map vcid_of new_linked list ∙ sym vcids;
+      lists = ap (map (λ (l : WorkList). l.vcid)) new.1 ∙ (map-map (λ (l : WorkList). l.vcid) empty_list list ∙ sym vcids);
+      settings = map-map (λ (c : Linked). c.history.settings) new_linked list ∙ (map-id list ∙ sym new.0.settings);
+      distinct = (new-ordered scid list found.station new.0).distinct;
       jobs = λ place l c at here.
-          let none = new-at list place l c (ap (λ (ls : List WorkList). slice_get ls place) (sym new.1) ∙ at) here in
-          subst (λ (x : List Job × List Event). AllHappen found.station.scid l.vcid c.history.settings x.0 [] x.1) (λ i. (sym none.0 i, sym none.1 i)) refl;
+          let list-is = unmapped empty_list list place l (ap (λ (ls : List WorkList). slice_get ls place) (sym new.1) ∙ at) in
+          let channel-is = unmapped new_linked list place c here in
+          let no-jobs : l.jobs ≡ [] = ap (λ (x : WorkList). x.jobs) (sym list-is.2) in
+          let no-events : c.history.journal ≡ [] = ap (λ (x : Linked). x.history.journal) (sym channel-is.2) in
+          subst (λ (x : List Job × List Event). AllHappen found.station.scid l.vcid c.history.settings x.0 [] x.1) (λ i. (sym no-jobs i, sym no-events i)) refl;
     }
 
 -- a job, and what the channel of its list comes to
@@ -155,10 +78,8 @@ moved-planned found rack place l c new job planned at here same happens = record
   distinct = planned.distinct;
   jobs = λ other x y there given. elim (eqb_tells other place) [
     | inl h ↦
-        let list : with_job l job ≡ x =
-        same_Some (with_job l job) x (sym (set-there found.lists place l (with_job l job) at) ∙ (ap (λ (k : ℕ). slice_get (slice_set found.lists place (with_job l job)) k) (sym h.1) ∙ there)) in
-        let channel : new ≡ y =
-        same_Some new y (sym (set-there rack.channels place c new here) ∙ (ap (λ (k : ℕ). slice_get (slice_set rack.channels place new) k) (sym h.1) ∙ given)) in
+        let list = set-at found.lists (slice_set found.lists place (with_job l job)) place other l (with_job l job) x refl at h.1 there in
+        let channel = set-at rack.channels (slice_set rack.channels place new) place other c new y refl here h.1 given in
         let all = one-more-happens found.station.scid l.vcid c.history.settings l.jobs job [] c.history.journal new.history.journal (planned.jobs place l c at here) happens in
         let moved = subst (λ (s : Settings). AllHappen found.station.scid l.vcid s (l.jobs ++ job ∷ []) [] new.history.journal) (sym same) all in
         subst (λ (z : WorkList × Linked). AllHappen found.station.scid z.0.vcid z.1.history.settings z.0.jobs [] z.1.history.journal) (λ i. (list i, channel i)) moved
@@ -180,8 +101,8 @@ no-channel : (parted : Parted) (rack : Racked) (vcid : ℕ) → IsPlanned parted
 no-channel parted rack vcid planned none there = none (subst (λ (l : List ℕ). Contains l vcid) planned.ids (any-contains vcid_of rack.channels vcid there))
 
 no-list : (parted : Parted) (rack : Racked) (vcid : ℕ) → IsPlanned parted rack → ¬ HasWorkList parted.lists vcid → ¬ Contains parted.station.vcids vcid
-no-list parted rack vcid planned none there =
-    none (contains-any (λ (l : WorkList). l.vcid) parted.lists vcid (subst (λ (l : List ℕ). Contains l vcid) (sym planned.lists) there))
+no-list parted rack vcid planned none (k, lt, is) =
+    none (any-mapped (λ (l : WorkList). l.vcid) parted.lists k vcid (ap (λ (l : List ℕ). slice_get l k) planned.lists ∙ (slice_get-get_or parted.station.vcids k vcid lt ∙ ap (λ (v : ℕ). Some v) is)))
 
 given-planned : (vcid : ℕ) (job : Job) (Answers : Linked → Answer → Linked → Type 0) (found parted : Parted) (rack : Racked) → IsPlanned found rack → IsGiven vcid job found parted
     → ((c : Linked) → vcid_of c ≡ vcid → CanAnswer Answers found.station.scid job.order c)
@@ -323,7 +244,7 @@ found-planned scid (Operating parted) progress found (rack, is, planned) same =
     subst (λ (x : Parted × Progress). IsPlanned x.0 (rack_for scid x.1)) (λ i. (sym same i, sym is i)) planned
 
 setup-matched : (new : Plan) (list : List Settings) → phase_of new ≡ Setup list → AreMatched new (SettingUp list)
-setup-matched (SettingUp there) list is = let same : list ≡ there = cc in ap (λ (l : List Settings). SettingUp l) same
+setup-matched (SettingUp there) list is = cc
 setup-matched (Operating parted) list is = absurd cc
 
 abbrev IsLineMatched : ℕ → Progress → Instruction → Plan → Type 0

@@ -1,13 +1,10 @@
 -- Channels in rising id have one order, where each id is that of one channel.
-use Rattle.std.proofs.Common.{◌≡◌, ◌<◌, ◌≤◌, ℕ, zero, suc, ◌+◌, cond, Bool, List, [], ◌∷◌, Some, map, length, drop, get_or, slice_get, inl, inr, refl, sym, ap, ◌∙◌, subst, arith, eq-eqb}
-use Rattle.std.specs.Prelude.{◌==◌, Contains, IsPermutation}
+use Rattle.std.proofs.Common.{◌≡◌, ◌<◌, ◌≤◌, ℕ, zero, suc, ◌+◌, cond, Bool, List, [], ◌∷◌, Some, map, length, drop, get_or, slice_get, inl, inr, refl, sym, ap, ◌∙◌, subst, arith, eq-eqb, ◌==◌, Contains, IsPermutation}
+use Rattle.tc_cli.proofs.Names.{AreRising, History, eqb_tells, get_or_from_slice_get, same_Some, slice_get_within}
 use Rattle.std.specs.List.{sum_by}
-use Rattle.std.proofs.lemmas.Bool.Decides.{eqb_tells}
 use Rattle.std.proofs.lemmas.List.Sorted.{IsPermutation-sym, Contains-permutation, sum_by-IsPermutation}
 use Rattle.std.proofs.lemmas.List.Sums.{sum_by-cons}
-use Rattle.std.proofs.lemmas.Option.{get_or_from_slice_get, same_Some, slice_get_within}
-use Rattle.tc_channel.specs.Journal.{History}
-use Rattle.tc_rack.specs.Report.{AreRising, vcid_of}
+use Rattle.tc_rack.specs.Report.{vcid_of}
 
 -- 1 for a channel with this id, and 0 for any other
 abbrev one_of : ℕ → History → ℕ

@@ -1,36 +1,15 @@
 -- A script, line by line.
-use Rattle.std.proofs.Common.{◌≡◌, ◌<◌, ◌≤◌, ℕ, ◌+◌, List, [], ◌⊎◌, Result, Ok, Err, Option, None, Some, IfSome, inl, inr, length, refl, subst, sym, arith}
-use Rattle.std.proofs.lemmas.Bool.{cases_lt}
-use Rattle.std.specs.Prelude.{OnOk, IfErr}
-use Rattle.tc_setup.specs.Phase.{Phase, Setup}
-use Rattle.tc_cli.specs.Parallel.{Plan, AreParted, none_parted, one_parted}
-use Rattle.tc_cli.specs.Script.{Leads, starts, goes_on, AreFirstGood, IsReached, IsBadLine, IsScriptFault, IsFirstBad, IsGood, IsReportFault}
-use Rattle.tc_rack.specs.Stage.{phase_of}
-use Rattle.tc_text.specs.Reading.{IsFirstLine, IsReadFault, script_limit}
-use Rattle.tc_text.specs.declared.fault.Reason.{Reason}
-use Rattle.tc_text.specs.declared.fault.Reason.TheVariants.{NoMemory}
-use Rattle.tc_text.specs.declared.fault.ScriptFault.{ScriptFault}
-use Rattle.tc_text.specs.declared.fault.ScriptFault.TheVariants.{Line, Read, TooLong, Write, Unbalanced}
+use Rattle.std.proofs.Common.{◌≡◌, ◌<◌, ◌≤◌, ℕ, ◌+◌, List, [], ◌⊎◌, Result, Ok, Err, Option, None, Some, IfSome, inl, inr, length, refl, subst, sym, arith, OnOk, IfErr}
+use Rattle.tc_cli.proofs.Names.{AreParted, IsBadLine, IsFirstLine, IsReadFault, IsReportFault, IsScriptFault, Leads, Line, NoMemory, Phase, Plan, Read, Reason, ScriptFault, Setup, TooLong, Unbalanced, Write, cases_lt, goes_on, none_parted, one_parted, phase_of, script_limit, starts}
+use Rattle.tc_cli.specs.Script.{AreFirstGood, IsReached, IsFirstBad, IsGood}
 
 -- a bad line after good ones is the first bad one; out of memory, the lines before are good
 pub first-bad : (script rest line after : List ℕ) (before : ℕ) (phase : Phase) (reason : Reason)
     → (reason ≡ NoMemory) ⊎ IsBadLine phase line reason → Leads script before phase rest → IsFirstLine rest line after → length script ≤ script_limit
     → ((reason ≡ NoMemory) × IsReached script (before + 1)) ⊎ ((length script ≤ script_limit) × IsFirstBad script (before + 1) reason)
 first-bad script rest line after before phase reason (inl memory) leads next within = inl (memory, inr (before, phase, rest, line, after, leads, next, refl))
-first-bad script rest line after before phase reason (inr bad) leads next within = inr (
-  within,
-  record {
-    before = before;
-    phase = phase;
-    rest = rest;
-    line = line;
-    after = after;
-    leads = leads;
-    next = next;
-    number_is = refl;
-    bad = bad;
-  },
-)
+first-bad script rest line after before phase reason (inr bad) leads next within =
+    inr (within, record { before = before; phase = phase; rest = rest; line = line; after = after; leads = leads; next = next; number_is = refl; bad = bad })
 
 -- where nothing is left each line is good, whatever comes of the report
 pub good-end : (reported : Result (Unit {0}) ScriptFault) (script rest : List ℕ) (count : ℕ) (phase : Phase) → Leads script count phase rest → rest ≡ []

@@ -1,16 +1,13 @@
 -- A configuration has none of the faults that settings of a station may have, but that it is empty. What is known of a new station.
-use Rattle.std.proofs.Common.{◌≡◌, ℕ, ◌<◌, List, length, get_or, sym, ap, ◌∙◌, subst, arith}
-use Rattle.std.proofs.lemmas.List.{get_or-map, get_or-take, get_or_default, length-map, length-take}
-use Rattle.std.proofs.lemmas.Option.{get_or_from_slice_get, slice_get_within}
-use Rattle.std.specs.Prelude.{All}
-use Rattle.tc_channel.specs.declared.settings.Settings.{Settings}
+use Rattle.std.proofs.Common.{◌≡◌, ℕ, ◌<◌, List, length, get_or, sym, ap, ◌∙◌, subst, arith, All}
+use Rattle.tc_cli.proofs.Names.{Roster, Settings, get_or_from_slice_get, length-map, slice_get_within}
+use Rattle.std.proofs.lemmas.List.{get_or-map, get_or-take, get_or_default, length-take}
 use Rattle.tc_channel.specs.declared.settings.SettingsFault.{SettingsFault}
 use Rattle.tc_channel.specs.Settings.{IsAllowed, IsFault}
-use Rattle.tc_station.specs.Roster.{Roster}
 use Rattle.tc_station.specs.StationSettings.{HaveDistinctVcids, IsFirstDouble, IsFirstRefused, vcids_of}
 use Rattle.tc_cli.specs.Parting.{IsNewStation}
 use Rattle.tc_cli.specs.Watched.{IsOrdered}
-use Rattle.tc_cli.proofs.Planned.{element}
+use Rattle.tc_cli.proofs.Lists.{element}
 
 -- no two entries of a list with distinct ids have one id
 pub no-double : (list : List Settings) (vcid : ℕ) → HaveDistinctVcids list → IsFirstDouble list vcid → ⊥

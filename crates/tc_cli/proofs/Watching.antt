@@ -1,24 +1,14 @@
 -- The watchers of a script's channels, each of the desk at its place.
-use Rattle.std.proofs.Common.{◌≡◌, ◌<◌, ◌+◌, ℕ, zero, suc, List, [], ◌∷◌, ◌++◌, ◌⊎◌, Some, Result, length, map, get_or, inl, inr, refl, sym, ap, ◌∙◌, subst, arith}
-use Rattle.std.specs.Prelude.{◌==◌, position, slice_get, slice_set}
-use Rattle.std.proofs.lemmas.Bool.Decides.{eqb_tells}
-use Rattle.std.proofs.lemmas.List.{length-map, length-set}
-use Rattle.std.proofs.lemmas.Option.{none-some, same_Some, slice_get-get_or, slice_get_read, slice_get_within}
-use Rattle.tc_channel.specs.declared.event.Event.{Event}
-use Rattle.tc_channel.specs.declared.settings.Settings.{Settings}
-use Rattle.tc_channel.specs.Reply.{clcw}
+use Rattle.std.proofs.Common.{◌≡◌, ◌<◌, ◌+◌, ℕ, suc, List, [], ◌∷◌, ◌++◌, Some, Result, length, map, get_or, inl, inr, refl, sym, ap, ◌∙◌, subst, arith, ◌==◌, position, slice_get, slice_set}
+use Rattle.tc_cli.proofs.Names.{AtStation, Event, HasMetAt, HaveMet, Identity, IsEarlier, IsMannedCall, IsPlace, IsWordAnswer, Manned, Moment, Roster, Settings, Watching, clcw, eqb_tells, length-map, length-set, no_flag, same_Some, slice_get-get_or, slice_get_within}
+use Rattle.std.proofs.lemmas.Option.{slice_get_read}
 use Rattle.tc_channel.specs.Run.{IsLawful}
-use Rattle.tc_desk.specs.Log.{Identity, Moment}
-use Rattle.tc_status.specs.Board.{IsEarlier, Watching, no_flag}
 use Rattle.tc_station.specs.Call.{IsMetAt, IsMetCallAt}
 use Rattle.tc_station.specs.Moments.{IsWatcherOf}
-use Rattle.tc_station.specs.Roster.{Roster, IsPlace}
-use Rattle.tc_station.specs.Tally.{AtStation}
-use Rattle.tc_cli.specs.Manned.{Manned, HasMetAt, HaveMet, IsMannedCall, IsWordAnswer}
 use Rattle.tc_cli.specs.Watched.{AreWatchersOf, AreWatching, IsOrdered, IsWatching}
 use Rattle.tc_rack.specs.declared.answer.Answer.TheVariants.{Clcw}
 use Rattle.tc_cli.proofs.Joined.{place-of}
-use Rattle.tc_cli.proofs.Planned.{element, set-elsewhere, set-there}
+use Rattle.tc_cli.proofs.Lists.{element, push-cases, set-at, set-else}
 
 -- as many desks as ids
 pub as-many : (station : Roster) → IsOrdered station → length station.heads ≡ length station.vcids
@@ -48,10 +38,10 @@ one-watcher-set station watchers place head early late all known was one = (
   length-set watchers place late ∙ all.0,
   λ k h w at here. elim (eqb_tells k place) [
     | inl same ↦
-        let w-is : late ≡ w = same_Some late w (sym (set-there watchers place early late was) ∙ (ap (λ (j : ℕ). slice_get (slice_set watchers place late) j) (sym same.1) ∙ here)) in
+        let w-is = set-at watchers (slice_set watchers place late) place k early late w refl was same.1 here in
         let h-is : head ≡ h = same_Some head h (sym known ∙ (ap (λ (j : ℕ). slice_get station.heads j) (sym same.1) ∙ at)) in
         subst (λ (x : Identity × Watching). IsWatching x.0 x.1) (λ i. (h-is i, w-is i)) one
-    | inr apart ↦ all.1 k h w at (sym (set-elsewhere watchers place k late apart.1) ∙ here)
+    | inr apart ↦ all.1 k h w at (set-else watchers (slice_set watchers place late) place k late w refl apart.1 here)
   ],
 )
 
@@ -60,16 +50,6 @@ pub watcher-set : (station : Roster) (watchers : List Watching) (vcid place : �
 watcher-set station watchers vcid place early late all here was of =
     let at = at-place station vcid place late here of in
     one-watcher-set station watchers place at.0 early late all at.1 was at.2
-
--- one element more
-push-cases : {X : Type 0} (xs : List X) (x y : X) (k : ℕ) → slice_get (xs ++ x ∷ []) k ≡ Some y → (slice_get xs k ≡ Some y) ⊎ ((k ≡ length xs) × (x ≡ y))
-push-cases [] x y zero at = inr (refl, same_Some x y at)
-push-cases [] x y (suc k) at = absurd (none-some y at)
-push-cases (z ∷ xs) x y zero at = inl at
-push-cases (z ∷ xs) x y (suc k) at = elim (push-cases xs x y k at) [
-  | inl h ↦ inl h
-  | inr h ↦ inr (ap suc h.0, h.1)
-]
 
 -- one watcher more
 pub one-watcher-more : (station : Roster) (vcids : List ℕ) (items next : List Watching) (w : Watching) (i vcid : ℕ) → IsOrdered station → vcids ≡ station.vcids → next ≡ items ++ w ∷ [] → length items ≡ i → i < length vcids
@@ -138,18 +118,7 @@ word-answered station operator items place vcid word early late here seat (head,
     inl (
       place,
       here,
-      record {
-        head = head;
-        early = early;
-        late = late;
-        desk = desk;
-        watched = seat;
-        later = later;
-        settings = later.0 ∙ settings;
-        lawful = lawful;
-        word = ap (λ (w : ℕ). Clcw vcid w) of;
-        change = refl;
-      },
+      record { head = head; early = early; late = late; desk = desk; watched = seat; later = later; settings = later.0 ∙ settings; lawful = lawful; word = ap (λ (w : ℕ). Clcw vcid w) of; change = refl },
     )
 
 -- one meeting more

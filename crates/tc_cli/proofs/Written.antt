@@ -1,30 +1,13 @@
 -- What a script writes, line by line.
-use Rattle.std.proofs.Common.{◌≡◌, ℕ, ◌+◌, List, [], ◌∷◌, ◌++◌, ◌⊎◌, Option, None, Some, Result, Ok, Err, IfSome, All, inl, inr, length, refl, sym, ap, ◌∙◌, subst, arith}
+use Rattle.std.proofs.Common.{◌≡◌, ℕ, ◌+◌, List, [], ◌∷◌, ◌++◌, ◌⊎◌, Option, None, Some, Result, Ok, Err, IfSome, All, inl, inr, length, refl, sym, ap, ◌∙◌, subst, arith, OnOk, IfErr, is_ok}
+use Rattle.tc_cli.proofs.Names.{AllHaveMet, Answer, AreAnswers, AreRising, AreWorkedChannels, AtStation, History, IsBadLine, IsClosedReport, IsFirstLine, IsLawfulHistory, IsLineAnswered, IsMannedFound, IsMannedOperated, IsNumberTold, IsPerformed, IsReadFault, IsReportFault, IsReportOf, IsScriptReport, Leads, Line, Manned, NoMemory, Progress, Read, Reason, Roster, ScriptFault, Session, TooLong, Unbalanced, Write, at_first, goes_on, one_more, phase_of, report_text, starts}
 use Rattle.std.proofs.lemmas.Grind.{common_steps}
 use Rattle.std.proofs.lemmas.List.{flat_map_more}
 use Rattle.std.proofs.KnownBytes.{Appends-nil, Appends-trans, Appends-kept, Keeps-refl, Keeps-trans}
-use Rattle.std.specs.Prelude.{OnOk, IfErr, is_ok}
 use Rattle.std.specs.Io.KnownBytes.{Appends, Keeps}
-use Rattle.tc_channel.specs.Journal.{History, IsNumberTold}
-use Rattle.tc_station.specs.Roster.{Roster}
-use Rattle.tc_station.specs.Tally.{AtStation, IsOurs}
-use Rattle.tc_setup.specs.Phase.{Setup}
-use Rattle.tc_text.specs.Reading.{IsFirstLine, IsReadFault}
-use Rattle.tc_text.specs.declared.fault.Reason.{Reason}
-use Rattle.tc_text.specs.declared.fault.Reason.TheVariants.{NoMemory}
-use Rattle.tc_text.specs.declared.fault.ScriptFault.{ScriptFault}
-use Rattle.tc_text.specs.declared.fault.ScriptFault.TheVariants.{Line, Read, TooLong, Write, Unbalanced}
-use Rattle.tc_cli.specs.Manned.{Manned, AllHaveMet}
-use Rattle.tc_cli.specs.Parallel.{AreWorkedChannels}
+use Rattle.tc_station.specs.Tally.{IsOurs}
 use Rattle.tc_rack.specs.Printed.{answer_line}
-use Rattle.tc_rack.specs.Progress.{Progress, IsPerformed}
-use Rattle.tc_cli.specs.Report.{IsClosedReport}
-use Rattle.tc_rack.specs.Report.{AreRising, IsLawfulHistory, IsReportOf, report_text}
-use Rattle.tc_cli.specs.Script.{Leads, starts, goes_on, IsBadLine, IsReportFault}
-use Rattle.tc_cli.specs.Session.{Session, IsMannedFound, IsMannedOperated}
-use Rattle.tc_rack.specs.Stage.{phase_of}
-use Rattle.tc_cli.specs.Written.{AreAnswers, at_first, one_more, IsLineAnswered, IsScriptReport, IsSessionReportWritten, IsScriptUnreported, IsScriptWritten, IsWrittenInParallel, IsScriptCutShort, answers_text}
-use Rattle.tc_rack.specs.declared.answer.Answer.{Answer}
+use Rattle.tc_cli.specs.Written.{IsSessionReportWritten, IsScriptUnreported, IsScriptWritten, IsWrittenInParallel, IsScriptCutShort, answers_text}
 use Rattle.tc_cli.proofs.Alone.{AloneLaws}
 use Rattle.tc_cli.proofs.Sessions.{progress_of, reported-alone}
 
@@ -126,20 +109,15 @@ IsReportInOrder = (scid : ℕ) (script : List ℕ) (channels : List History) (te
     → (answers : List (Option Answer)) × (progress : Progress) × AreAnswers (IsPerformed scid) script answers progress [] × IsScriptReport scid progress text
 
 -- what was read is the script, where the octets of the reader are known, and the report is that of its lines in order
-pub parallel-written : IsReportInOrder → (flushed : Result (Unit {0}) ScriptFault) (known : Option (List ℕ)) (scid : ℕ) (script read : List ℕ) (channels shown : List History) (a b c : Option (List ℕ))
+pub parallel-written : IsReportInOrder → (known : Option (List ℕ)) (scid : ℕ) (script read : List ℕ) (channels shown : List History) (a b c : Option (List ℕ))
     → script ≡ read → IfSome known (λ octets. read ≡ octets) → shown ≡ channels → AreWorkedChannels scid script channels → AreRising channels → All IsNumberTold channels
-    → All IsLawfulHistory shown → Appends a b (report_text shown) → Keeps b c → OnOk flushed (IfSome known (λ octets. IsWrittenInParallel scid octets a c))
-parallel-written in-order (Err fault) known scid script read channels shown a b c whole is lent worked rising told lawful text kept = tt
-parallel-written in-order (Ok done) None scid script read channels shown a b c whole is lent worked rising told lawful text kept = tt
-parallel-written in-order (Ok done) (Some octets) scid script read channels shown a b c whole is lent worked rising told lawful text kept =
+    → All IsLawfulHistory shown → Appends a b (report_text shown) → Keeps b c → IfSome known (λ octets. IsWrittenInParallel scid octets a c)
+parallel-written in-order None scid script read channels shown a b c whole is lent worked rising told lawful text kept = tt
+parallel-written in-order (Some octets) scid script read channels shown a b c whole is lent worked rising told lawful text kept =
     let of-script = subst (λ s. AreWorkedChannels scid s channels) (whole ∙ is) worked in
     let of : IsReportOf channels (report_text shown) = record { rising = rising; told = told; lawful = subst (All IsLawfulHistory) lent lawful; written = ap report_text lent } in
     let one = in-order scid octets channels (report_text shown) of-script of in
     (one.0, one.1, report_text shown, one.2, one.3, Appends-kept a b c _ text kept)
-
--- no channel was set up
-pub not-reported : (scid : ℕ) (session : Session) (a : Option (List ℕ)) → phase_of session ≡ Setup [] → IsSessionReportWritten scid session a a
-not-reported scid session a none = ([], inl (none, refl), Appends-nil a)
 
 -- what was written stays
 written-kept : (scid : ℕ) (script : List ℕ) (a b c : Option (List ℕ)) → IsScriptWritten scid script a b → Keeps b c → IsScriptWritten scid script a c

@@ -5,7 +5,7 @@ ghost use Rattle.tc_rack.specs.Linked.{IsReleaseAnswered, IsTakeAnswered, IsUnit
 ghost use Rattle.tc_cli.specs.Manned.{AllHaveMet, AreAsCounted, HasMetAt, IsBringAnswer, IsDeskAnswer, IsMannedAnswer, IsMannedCall, IsNewlyManned, IsWordAnswer};
 ghost use Rattle.tc_station.specs.Roster.{IsPlace, settings_in};
 ghost use Rattle.tc_cli.specs.Watched.{IsOrdered};
-ghost use Rattle.tc_station.specs.Tally.{HasMadeNothing, IsOurs, KnowsDesks, tally};
+ghost use Rattle.tc_station.specs.Tally.{HasMadeNothing, IsOurs, KnowsDesks};
 
 use crate::watchers::{NO_FLAGS, place_of, watch_each};
 use std::alloc::Global;

@@ -1,6 +1,5 @@
 use Rattle.std.proofs.Common.{arith}
-use Rattle.tc_cli.specs.Parallel.{none_parted, one_parted}
-use Rattle.tc_rack.specs.Stage.{phase_of}
+use Rattle.tc_cli.proofs.Names.{none_parted, one_parted, phase_of}
 use Rattle.tc_cli.proofs.Scripts.{first-bad, parted-leads}
 use Rattle.tc_cli.proofs.parallel.part_lines.Goals as goal
 

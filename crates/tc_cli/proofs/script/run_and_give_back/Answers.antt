@@ -1,7 +1,7 @@
 use Rattle.std.proofs.Common.{rules, Err}
 use Rattle.std.proofs.KnownBytes.{Keeps-refl}
 use Rattle.tc_cli.proofs.Scripts.{read-fault}
-use Rattle.tc_cli.proofs.Written.{read-cut-short, whole-written, whole-cut-short}
+use Rattle.tc_cli.proofs.Written.{read-cut-short, whole-cut-short}
 use Rattle.tc_cli.proofs.script.run_and_give_back.Goals as goal
 
 pub returns-in_err-script-clause-fault : goal.returns-in_err-script-clause-fault

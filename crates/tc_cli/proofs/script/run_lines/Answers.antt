@@ -1,6 +1,5 @@
 use Rattle.std.proofs.Common.{arith}
-use Rattle.tc_rack.specs.Stage.{phase_of}
-use Rattle.tc_cli.specs.Written.{at_first}
+use Rattle.tc_cli.proofs.Names.{at_first, phase_of}
 use Rattle.tc_cli.proofs.Alone.{AloneLaws}
 use Rattle.tc_cli.proofs.Scripts.{first-bad, good-end, end-fault}
 use Rattle.tc_cli.proofs.Written.{none-so-far, one-more-so-far, so-far-good, cut-short, end-written, end-cut-short}

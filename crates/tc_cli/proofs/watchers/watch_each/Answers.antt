@@ -1,4 +1,4 @@
-use Rattle.std.proofs.Common.{◌∙◌, rules}
+use Rattle.std.proofs.Common.{rules}
 use Rattle.tc_cli.proofs.Watching.{one-watcher-more}
 use Rattle.tc_cli.proofs.watchers.watch_each.Goals as goal
 

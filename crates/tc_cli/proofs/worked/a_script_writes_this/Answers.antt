@@ -1,37 +1,28 @@
-use Rattle.std.proofs.Common.{take, ◌≡◌, ◌≢◌, ℕ, zero, suc, ◌<◌, ◌≤◌, Bool, true, false, eqb, ltb, ◌&&◌, List, [], ◌∷◌, ◌++◌, Option, Some, None, refl, inl, inr, lit<, lit≤, arith}
-use Rattle.std.specs.Prelude.{All, AllPairs, codes, not}
+use Rattle.std.proofs.Common.{take, drop, get_or, ◌≡◌, ◌≢◌, ℕ, zero, suc, ◌+◌, ◌<◌, ◌≤◌, Bool, true, false, eqb, ltb, ◌&&◌, List, [], ◌∷◌, ◌++◌, Option, Some, None, refl, sym, ◌∙◌, subst, inl, inr, lit<, lit≤, arith, All, AllPairs, codes, not}
+use Rattle.tc_cli.proofs.Names.{Answer, AreAnswers, AreRising, Empty, Event, History, IsFirstLine, IsLawfulHistory, IsLineAnswered, IsNumberTold, IsPerformed, IsScriptReport, Linked, NoMap, NoQueue, Operating, Progress, Racked, SettingUp, Settings, at_first, length-append, one_more}
 use Rattle.std.specs.Fmt.{digits}
+use Rattle.std.specs.List.{flat_map}
 use Rattle.std.proofs.lemmas.Bool.{eq-eqb}
 use Rattle.std.proofs.lemmas.Bool.Decides.{nat_tests}
-use Rattle.std.proofs.lemmas.List.{length-append}
+use Rattle.std.proofs.lemmas.List.{append_assoc, at_drop_more, take_more}
+use Rattle.std.proofs.lemmas.List.Elements.{All-cons, All-nil}
 use Rattle.hex.specs.Hex.{encode_with}
 use Rattle.hex.proofs.OnLiterals.{hex_on_literals}
 use Rattle.tc_link.specs.Frame.{IsOctets, IsWhole}
 use Rattle.tc_link.specs.Window.{some_of_first}
 use Rattle.tc_channel.specs.declared.settings.MapSetting.{MapSetting}
 use Rattle.tc_channel.specs.declared.settings.QueueSetting.{QueueSetting}
-use Rattle.tc_channel.specs.declared.settings.Settings.{Settings}
-use Rattle.tc_channel.specs.declared.event.Event.{Event}
 use Rattle.tc_channel.specs.declared.event.Event.TheVariants as events
 use Rattle.tc_channel.specs.ChannelState.{Queue, no_limits}
-use Rattle.tc_channel.specs.Journal.{History, IsNumberTold}
 use Rattle.tc_channel.specs.Reply.{frame_reply_within, release_reply_within, waiting_packets_within, waiting_units_within, buffered_fields_within, clcw_within}
 use Rattle.tc_channel.specs.Run.{IsLawful, IsLawfulWithin, run_within, passed_on}
 use Rattle.tc_channel.specs.Settings.{IsAllowed}
 use Rattle.tc_text.specs.Line.{line_of}
-use Rattle.tc_text.specs.Reading.{IsFirstLine}
 use Rattle.tc_text.specs.Word.{words}
 use Rattle.tc_text.specs.declared.line.Line.TheVariants as said
-use Rattle.tc_rack.specs.Linked.{Linked, no_flag}
-use Rattle.tc_rack.specs.Rack.{Racked}
-use Rattle.tc_rack.specs.Report.{AreRising, IsLawfulHistory}
-use Rattle.tc_rack.specs.declared.answer.Answer.{Answer}
+use Rattle.tc_rack.specs.Linked.{no_flag}
 use Rattle.tc_rack.specs.declared.answer.Answer.TheVariants as answers
-use Rattle.tc_rack.specs.declared.answer.Refusal.TheVariants.{NoQueue, NoMap, Empty}
-use Rattle.tc_rack.specs.declared.stage.Stage.TheVariants.{SettingUp, Operating}
 use Rattle.tc_cli.specs.Examples as example
-use Rattle.tc_rack.specs.Progress.{Progress, IsPerformed}
-use Rattle.tc_cli.specs.Written.{AreAnswers, at_first, one_more, IsLineAnswered, IsScriptReport}
 use Rattle.tc_cli.proofs.worked.a_script_writes_this.Goals as goal
 
 -- the channel as it is set up, and after events
@@ -59,12 +50,8 @@ at journal = Operating (rack journal)
 
 -- facts on short lists
 
-none-of : {A : Type 0} (P : A → Type 0) → All P []
-none-of P k d inside = absurd (omega arith)
-
 one-of : {A : Type 0} (P : A → Type 0) (one : A) → P one → All P (one ∷ [])
-one-of P one p zero d inside = p
-one-of P one p (suc k) d inside = absurd (omega arith)
+one-of P one p = All-cons P one [] p (All-nil P)
 
 none-apart : {A : Type 0} (R : A → A → Type 0) → AllPairs R []
 none-apart R i j d before inside = absurd (omega arith)
@@ -112,10 +99,10 @@ allowed-with queues maps apids apart capacities ids ids_apart units = record {
 }
 
 allowed-none : IsAllowed (settings [] [])
-allowed-none = allowed-with [] [] (none-of has_apid) (none-apart are_apart) (none-of has_room) (none-of has_map) (none-apart are_maps_apart) (none-of has_units)
+allowed-none = allowed-with [] [] (All-nil has_apid) (none-apart are_apart) (All-nil has_room) (All-nil has_map) (none-apart are_maps_apart) (All-nil has_units)
 
 allowed-queue : IsAllowed (settings (queue ∷ []) [])
-allowed-queue = allowed-with (queue ∷ []) [] (one-of has_apid queue (lit≤ tt)) (one-apart are_apart queue) (one-of has_room queue (lit≤ tt, lit≤ tt)) (none-of has_map) (none-apart are_maps_apart) (none-of has_units)
+allowed-queue = allowed-with (queue ∷ []) [] (one-of has_apid queue (lit≤ tt)) (one-apart are_apart queue) (one-of has_room queue (lit≤ tt, lit≤ tt)) (All-nil has_map) (none-apart are_maps_apart) (All-nil has_units)
 
 allowed-all : IsAllowed all
 allowed-all = allowed-with (queue ∷ []) (chosen ∷ []) (one-of has_apid queue (lit≤ tt)) (one-apart are_apart queue) (one-of has_room queue (lit≤ tt, lit≤ tt)) (one-of has_map chosen (lit≤ tt)) (one-apart are_maps_apart chosen) (one-of has_units chosen (lit≤ tt, lit≤ tt))
@@ -262,37 +249,18 @@ reported =
       },
     )
 
--- what is left of the script behind each line
+-- the lines, and what is left of the script behind so many of them
 
-abbrev from_second : List ℕ
-from_second = codes "frame 002a040c01c01005c0000000aa\n"
+abbrev lines : List (List ℕ)
+lines =
+    codes "channel 1 10 2 0" ∷ codes "queue 1 5 1" ∷ codes "map 1 3 1" ∷ codes "release 1" ∷ codes "frame 002a040c00c01005c0000000aa" ∷ codes "release 1"
+    ∷ codes "take 1 5" ∷ codes "take 1 6" ∷ codes "unit 1 4" ∷ codes "frame 202a040700c3aabb" ∷ codes "frame 002a040c01c01005c0000000aa" ∷ []
 
-abbrev from_bypass : List ℕ
-from_bypass = codes "frame 202a040700c3aabb\n" ++ from_second
+abbrev ended : List ℕ → List ℕ
+ended octets = octets ++ 10 ∷ []
 
-abbrev from_no_map : List ℕ
-from_no_map = codes "unit 1 4\n" ++ from_bypass
-
-abbrev from_no_queue : List ℕ
-from_no_queue = codes "take 1 6\n" ++ from_no_map
-
-abbrev from_take : List ℕ
-from_take = codes "take 1 5\n" ++ from_no_queue
-
-abbrev from_release : List ℕ
-from_release = codes "release 1\n" ++ from_take
-
-abbrev from_first : List ℕ
-from_first = codes "frame 002a040c00c01005c0000000aa\n" ++ from_release
-
-abbrev from_empty : List ℕ
-from_empty = codes "release 1\n" ++ from_first
-
-abbrev from_map : List ℕ
-from_map = codes "map 1 3 1\n" ++ from_empty
-
-abbrev from_queue : List ℕ
-from_queue = codes "queue 1 5 1\n" ++ from_map
+abbrev from : ℕ → List ℕ
+from count = flat_map ended (drop count lines)
 
 abbrev all_answers : List (Option Answer)
 all_answers =
@@ -301,41 +269,31 @@ all_answers =
 
 -- so many first lines are answered
 
-abbrev AreDone : ℕ → Progress → List ℕ → Type 0
-AreDone count stage after = AreAnswers (IsPerformed 42) example.script (take count all_answers) stage after
+abbrev AreDone : ℕ → Progress → Type 0
+AreDone count stage = AreAnswers (IsPerformed 42) example.script (take count all_answers) stage (from count)
 
-channelled : AreDone 1 (SettingUp (settings [] [] ∷ [])) from_queue
-channelled = one_more {answers = take 0 all_answers} {answer = None} at_first (line (codes "channel 1 10 2 0") from_queue refl) channel-line
+one-more-done : (count : ℕ) (old new : Progress) → count < 11 → no_feed (get_or lines count []) ≡ true → AreDone count old → IsDone old (get_or lines count []) new (get_or all_answers count None) → AreDone (count + 1) new
+one-more-done count old new lt plain before answered =
+    let after = from (count + 1) in
+    let left : from count ≡ get_or lines count [] ++ 10 ∷ from (count + 1) = at_drop_more (flat_map ended) lines count [] lt ∙ append_assoc (get_or lines count []) (10 ∷ []) after in
+    let next : IsFirstLine (from count) (get_or lines count []) (from (count + 1)) = subst (λ (rest : List ℕ). IsFirstLine rest (get_or lines count []) after) (sym left) (line (get_or lines count []) after plain) in
+    subst (λ (told : List (Option Answer)). AreAnswers (IsPerformed 42) example.script told new after) (sym (take_more all_answers count None lt))
+    (one_more {answers = take count all_answers} {answer = get_or all_answers count None} before next answered)
 
-queued : AreDone 2 (SettingUp (settings (queue ∷ []) [] ∷ [])) from_map
-queued = one_more {answers = take 1 all_answers} {answer = None} channelled (line (codes "queue 1 5 1") from_map refl) queue-line
-
-mapped : AreDone 3 (SettingUp (all ∷ [])) from_empty
-mapped = one_more {answers = take 2 all_answers} {answer = None} queued (line (codes "map 1 3 1") from_empty refl) map-line
-
-emptied : AreDone 4 (at []) from_first
-emptied = one_more {answers = take 3 all_answers} {answer = Some (answers.Refused Empty)} mapped (line (codes "release 1") from_first refl) empty-line
-
-framed-first : AreDone 5 (at first) from_release
-framed-first = one_more {answers = take 4 all_answers} {answer = Some (framed 1 0)} emptied (line (codes "frame 002a040c00c01005c0000000aa") from_release refl) first-line
-
-released-first : AreDone 6 (at released) from_take
-released-first = one_more {answers = take 5 all_answers} {answer = Some release} framed-first (line (codes "release 1") from_take refl) release-line
-
-taken-first : AreDone 7 (at taken) from_no_queue
-taken-first = one_more {answers = take 6 all_answers} {answer = Some (answers.Take 1 5 packet)} released-first (line (codes "take 1 5") from_no_queue refl) take-line
-
-no-queue : AreDone 8 (at taken) from_no_map
-no-queue = one_more {answers = take 7 all_answers} {answer = Some (answers.Refused NoQueue)} taken-first (line (codes "take 1 6") from_no_map refl) no-queue-line
-
-no-map : AreDone 9 (at taken) from_bypass
-no-map = one_more {answers = take 8 all_answers} {answer = Some (answers.Refused NoMap)} no-queue (line (codes "unit 1 4") from_bypass refl) no-map-line
-
-framed-bypass : AreDone 10 (at bypassed) from_second
-framed-bypass = one_more {answers = take 9 all_answers} {answer = Some (framed 6 1)} no-map (line (codes "frame 202a040700c3aabb") from_second refl) bypass-line
-
-done : AreDone 11 (at last) []
-done = one_more {answers = take 10 all_answers} {answer = Some (framed 1 0)} framed-bypass (line (codes "frame 002a040c01c01005c0000000aa") [] refl) second-line
+done : AreDone 11 (at last)
+done =
+    one-more-done 10 (at bypassed) (at last) (lit< tt) refl
+    (one-more-done 9 (at taken) (at bypassed) (lit< tt) refl
+    (one-more-done 8 (at taken) (at taken) (lit< tt) refl
+    (one-more-done 7 (at taken) (at taken) (lit< tt) refl
+    (one-more-done 6 (at released) (at taken) (lit< tt) refl
+    (one-more-done 5 (at first) (at released) (lit< tt) refl
+    (one-more-done 4 (at []) (at first) (lit< tt) refl
+    (one-more-done 3 (SettingUp (all ∷ [])) (at []) (lit< tt) refl
+    (one-more-done 2 (SettingUp (settings (queue ∷ []) [] ∷ [])) (SettingUp (all ∷ [])) (lit< tt) refl
+    (one-more-done 1 (SettingUp (settings [] [] ∷ [])) (SettingUp (settings (queue ∷ []) [] ∷ [])) (lit< tt) refl
+    (one-more-done 0 (SettingUp []) (SettingUp (settings [] [] ∷ [])) (lit< tt) refl at_first channel-line)
+    queue-line) map-line) empty-line) first-line) release-line) take-line) no-queue-line) no-map-line) bypass-line) second-line
 
 pub returns : goal.returns
 unfolding digits encode_with

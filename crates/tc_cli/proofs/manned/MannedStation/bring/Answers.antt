@@ -1,6 +1,5 @@
 use Rattle.std.proofs.Common.{inr, refl, subst}
-use Rattle.tc_station.specs.Location.{IsLocated, IsLocateFault}
-use Rattle.tc_cli.specs.Manned.{Manned}
+use Rattle.tc_cli.proofs.Names.{IsLocateFault, IsLocated, Manned}
 use Rattle.tc_cli.proofs.Answered.{brought}
 use Rattle.tc_cli.proofs.manned.MannedStation.bring.Goals as goal
 

@@ -1,6 +1,5 @@
 use Rattle.std.proofs.Common.{◌∙◌, ℕ, set, subst, sym}
-use Rattle.tc_station.specs.Roster.{IsPlace}
-use Rattle.tc_cli.specs.Manned.{Manned, IsMannedCall}
+use Rattle.tc_cli.proofs.Names.{IsMannedCall, IsPlace, Manned}
 use Rattle.tc_cli.proofs.Watching.{manned-call, meets-of, watcher-set}
 use Rattle.tc_cli.proofs.manned.MannedStation.operate_at.Goals as goal
 

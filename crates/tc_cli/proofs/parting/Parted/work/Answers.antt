@@ -1,14 +1,8 @@
-use Rattle.std.proofs.Common.{◌≡◌, ℕ, ◌+◌, List, Option, None, Some, Result, All, length, ap, ◌∙◌, subst, zero-add, inr, arith}
-use Rattle.std.specs.Prelude.{MatchResult}
+use Rattle.std.proofs.Common.{◌≡◌, ℕ, ◌+◌, List, Option, None, Some, Result, All, length, ap, ◌∙◌, subst, zero-add, inr, arith, MatchResult}
+use Rattle.tc_cli.proofs.Names.{AtStation, HasMadeNothing, History, IsClosedReport, IsJobLine, IsWorkedOut, KnowsDesks, Roster, WorkList}
 use Rattle.std.proofs.lemmas.Result.{IfOk-weaker}
-use Rattle.tc_channel.specs.Journal.{History}
-use Rattle.tc_station.specs.Roster.{Roster}
-use Rattle.tc_station.specs.Tally.{AtStation, HasMadeNothing, KnowsDesks}
 use Rattle.tc_station.specs.Work.{AreWorked, line_of_fault}
 use Rattle.tc_station.specs.declared.faults.WorkFault.{WorkFault}
-use Rattle.tc_station.specs.declared.work.WorkList.{WorkList}
-use Rattle.tc_cli.specs.Parting.{IsJobLine, IsWorkedOut}
-use Rattle.tc_cli.specs.Report.{IsClosedReport}
 use Rattle.tc_cli.proofs.Numbered.{refused-line}
 use Rattle.tc_cli.proofs.parting.Parted.work.Goals as goal
 
@@ -16,16 +10,10 @@ use Rattle.tc_cli.proofs.parting.Parted.work.Goals as goal
 worked-out : (station after : Roster) (lists given : List WorkList) (n : ℕ) (line : Option ℕ) (befores operators : List AtStation) (channels : List History)
     → station.issued ≡ 0 → n ≡ length lists → given ≡ lists → after ≡ record station { issued = station.issued + n } → All HasMadeNothing befores → All (KnowsDesks after) befores → line ≡ None
     → AreWorked after given line befores operators → IsClosedReport after operators channels → IsWorkedOut (record { station = station; lists = lists }) channels
-worked-out station after lists given n line befores operators channels none count same issued nothing knows all worked closed = record {
-  station = after;
-  befores = befores;
-  operators = operators;
-  issued = issued ∙ ap (λ (k : ℕ). record station { issued = k }) (ap (λ (m : ℕ). m + n) none ∙ (zero-add n ∙ count));
-  nothing = nothing;
-  knows = knows;
-  worked = subst (λ (x : List WorkList × Option ℕ). AreWorked after x.0 x.1 befores operators) (λ i. (same i, all i)) worked;
-  closed = closed;
-}
+worked-out station after lists given n line befores operators channels none count same issued nothing knows all worked closed =
+    let so-many : after ≡ record station { issued = length lists } = issued ∙ ap (λ (k : ℕ). record station { issued = k }) (ap (λ (m : ℕ). m + n) none ∙ (zero-add n ∙ count)) in
+    let each = subst (λ (x : List WorkList × Option ℕ). AreWorked after x.0 x.1 befores operators) (λ i. (same i, all i)) worked in
+    record { station = after; befores = befores; operators = operators; issued = so-many; nothing = nothing; knows = knows; worked = each; closed = closed }
 
 pub close-requires : goal.close-requires
 close-requires g c = record { ours = c.work.ensures.ours }
