@@ -97,10 +97,7 @@ frame-determined : (frame : List ℕ) → IsDetermined (IsFrameAnswered frame)
 frame-determined frame old new other answer another (is, next) (too, then) = (is ∙ sym too, next ∙ sym then)
 
 release-determined : IsDetermined IsReleaseAnswered
-release-determined old new other answer another (inl (some, is, next)) (inl (more, too, then)) = (is ∙ sym too, next ∙ sym then)
-release-determined old new other answer another (inl (some, is, next)) (inr (none, too, still)) = absurd (some none)
-release-determined old new other answer another (inr (none, is, still)) (inl (some, too, next)) = absurd (some none)
-release-determined old new other answer another (inr (none, is, still)) (inr (nothing, too, rests)) = (is ∙ sym too, still ∙ sym rests)
+release-determined old new other answer another one two = grind arith
 
 -- nothing waits: there is no queue, or it is empty
 abbrev IsNoneThere : Option (List (List ℕ)) → Answer → Answer → Type 0
@@ -113,16 +110,10 @@ IsOldestTaken waiting told without next old answer new =
     ⊎ (IsNoneThere waiting without answer × (new ≡ old))
 
 not-both : (waiting : Option (List (List ℕ))) (without answer : Answer) (item : List ℕ) → option_and_then (λ items. slice_get items 0) waiting ≡ Some item → IsNoneThere waiting without answer → ⊥
-not-both None without answer item there none = none-some item there
-not-both (Some []) without answer item there none = none-some item there
-not-both (Some (first ∷ items)) without answer item there (inl (none, is)) = absurd cc
-not-both (Some (first ∷ items)) without answer item there (inr (none, is)) = absurd cc
+not-both waiting without answer item there none = grind arith
 
 none-determined : (waiting : Option (List (List ℕ))) (without answer another : Answer) → IsNoneThere waiting without answer → IsNoneThere waiting without another → answer ≡ another
-none-determined waiting without answer another (inl (none, is)) (inl (nothing, too)) = is ∙ sym too
-none-determined waiting without answer another (inl (none, is)) (inr (empty, too)) = absurd (none-some [] (sym none ∙ empty))
-none-determined waiting without answer another (inr (empty, is)) (inl (none, too)) = absurd (none-some [] (sym none ∙ empty))
-none-determined waiting without answer another (inr (empty, is)) (inr (nothing, too)) = is ∙ sym too
+none-determined waiting without answer another one two = grind arith
 
 oldest-determined : (waiting : Option (List (List ℕ))) (told : List ℕ → Answer) (without : Answer) (next old new other : Linked) (answer another : Answer)
     → IsOldestTaken waiting told without next old answer new → IsOldestTaken waiting told without next old another other → (answer ≡ another) × (new ≡ other)
@@ -149,16 +140,13 @@ frame-kept : (frame : List ℕ) → IsIdKept (IsFrameAnswered frame)
 frame-kept frame old new answer (is, next) = ap vcid_of next
 
 release-kept : IsIdKept IsReleaseAnswered
-release-kept old new answer (inl (some, is, next)) = ap vcid_of next
-release-kept old new answer (inr (none, is, still)) = ap vcid_of still
+release-kept old new answer a = grind arith
 
 take-kept : (apid : ℕ) → IsIdKept (IsTakeAnswered apid)
-take-kept apid old new answer (inl (packet, there, is, next)) = ap vcid_of next
-take-kept apid old new answer (inr (none, still)) = ap vcid_of still
+take-kept apid old new answer a = grind arith
 
 unit-kept : (map_id : ℕ) → IsIdKept (IsUnitAnswered map_id)
-unit-kept map_id old new answer (inl (unit, there, is, next)) = ap vcid_of next
-unit-kept map_id old new answer (inr (none, still)) = ap vcid_of still
+unit-kept map_id old new answer a = grind arith
 
 -- ---- what an operation is answered, and what it leaves
 

@@ -39,9 +39,7 @@ place-of station k v distinct at =
 
 -- no list was refused, so each was made in full
 first-none : (a b : Option ℕ) → lower a b ≡ None → (a ≡ None) × (b ≡ None)
-first-none None b is = (refl, is)
-first-none (Some x) None is = absurd cc
-first-none (Some x) (Some y) is = absurd cc
+first-none a b is = grind arith
 
 all-made : (station : Roster) (shifts : List Shift) → AllByRecursion (IsShift station) shifts → lowest shifts ≡ None → (k : ℕ) (x : Shift) → slice_get shifts k ≡ Some x
     → AreMade station x.list.vcid x.list.jobs x.before x.after

@@ -1,6 +1,6 @@
 -- Jobs have the numbers of lines of their script, so where memory runs out at one of them a line was reached.
-use Rattle.std.proofs.Common.{◌≡◌, ◌≤◌, ℕ, suc, ◌+◌, List, [], ◌∷◌, ◌⊎◌, Option, None, Some, map, length, inl, inr, refl, sym, ap, ◌∙◌, subst, arith, Any, min, slice_get, slice_set}
-use Rattle.tc_cli.proofs.Names.{Add, AreParted, ArePartedFor, AtStation, Channel, Clcw, Does, Frame, GivesToFound, Instruction, IsFrameGiven, IsGiven, IsJobLine, IsParted, IsScriptFault, Job, Nothing, Operating, Parted, Plan, Release, Roster, ScriptFault, SettingUp, Settings, Setup, Take, TakeUnit, WorkList, cases_lt, empty_list, eqb_tells, instruction_of, lower, none-some, none_parted, one_parted, phase_of, same_Some, script_limit, with_job}
+use Rattle.std.proofs.Common.{◌≡◌, ◌≤◌, ℕ, suc, ◌+◌, List, [], ◌∷◌, ◌⊎◌, Option, None, Some, map, length, inl, inr, refl, sym, ap, ◌∙◌, subst, arith, Any, slice_get, slice_set}
+use Rattle.tc_cli.proofs.Names.{Add, AreParted, ArePartedFor, AtStation, Channel, Clcw, Does, Frame, GivesToFound, Instruction, IsFrameGiven, IsGiven, IsJobLine, IsParted, IsScriptFault, Job, Nothing, Operating, Parted, Plan, Release, Roster, ScriptFault, SettingUp, Settings, Setup, Take, TakeUnit, WorkList, empty_list, eqb_tells, instruction_of, lower, none-some, none_parted, one_parted, phase_of, same_Some, script_limit, with_job}
 use Rattle.std.specs.List.{AllByRecursion}
 use Rattle.tc_station.specs.Tally.{Tally}
 use Rattle.tc_station.specs.Work.{AreWorked, IsShift, IsWorked, Shift, lowest}
@@ -12,14 +12,7 @@ use Rattle.tc_cli.proofs.Scripts.{first-good, parted-leads}
 -- ---- a job that was refused for memory
 
 lower-either : (a b : Option ℕ) (n : ℕ) → lower a b ≡ Some n → (a ≡ Some n) ⊎ (b ≡ Some n)
-lower-either None b n is = inr is
-lower-either (Some a) None n is = inl is
-lower-either (Some a) (Some b) n is =
-    let least : min a b ≡ n = same_Some (min a b) n is in
-    elim (cases_lt a b) [
-      | inl lt ↦ let same : a ≡ n = omega (arith, lt, least) in inl (ap Some same)
-      | inr ge ↦ let same : b ≡ n = omega (arith, ge, least) in inr (ap Some same)
-    ]
+lower-either a b n is = grind arith
 
 worked-line : (station : Roster) (l : WorkList) (refused : Option ℕ) (before after : Tally) (n : ℕ) → IsWorked station l refused before after → refused ≡ Some n
     → Any (λ (job : Job). job.line ≡ n) l.jobs

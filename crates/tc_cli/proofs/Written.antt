@@ -3,6 +3,8 @@ use Rattle.std.proofs.Common.{◌≡◌, ℕ, ◌+◌, List, [], ◌∷◌, ◌+
 use Rattle.tc_cli.proofs.Names.{AllHaveMet, Answer, AreAnswers, AreRising, AreWorkedChannels, AtStation, History, IsBadLine, IsClosedReport, IsFirstLine, IsLawfulHistory, IsLineAnswered, IsMannedFound, IsMannedOperated, IsNumberTold, IsPerformed, IsReadFault, IsReportFault, IsReportOf, IsScriptReport, Leads, Line, Manned, NoMemory, Progress, Read, Reason, Roster, ScriptFault, Session, TooLong, Unbalanced, Write, at_first, goes_on, one_more, phase_of, report_text, starts}
 use Rattle.std.proofs.lemmas.Grind.{common_steps}
 use Rattle.std.proofs.lemmas.List.{flat_map_more}
+use Rattle.std.proofs.lemmas.Option.{IfSome_then}
+use Rattle.std.proofs.lemmas.Result.{IfErr-weaker, on_ok_weaker}
 use Rattle.std.proofs.KnownBytes.{Appends-nil, Appends-trans, Appends-kept, Keeps-refl, Keeps-trans}
 use Rattle.std.specs.Io.KnownBytes.{Appends, Keeps}
 use Rattle.tc_station.specs.Tally.{IsOurs}
@@ -150,15 +152,11 @@ read-cut-short (Some script) scid a Unbalanced why = absurd why
 -- what was read is the script, where the octets of the reader are known
 pub whole-written : (done : Result (Unit {0}) ScriptFault) (known : Option (List ℕ)) (scid : ℕ) (script read : List ℕ) (a b c : Option (List ℕ))
     → script ≡ read → IfSome known (λ octets. read ≡ octets) → OnOk done (IsScriptWritten scid script a b) → Keeps b c → OnOk done (IfSome known (λ octets. IsScriptWritten scid octets a c))
-whole-written (Err fault) known scid script read a b c whole is written kept = tt
-whole-written (Ok done) None scid script read a b c whole is written kept = tt
-whole-written (Ok done) (Some octets) scid script read a b c whole is written kept =
-    subst (λ s. IsScriptWritten scid s a c) (whole ∙ is) (written-kept scid script a b c written kept)
+whole-written done known scid script read a b c whole is written kept =
+    on_ok_weaker done (λ text. IfSome_then known is (λ octets same. subst (λ s. IsScriptWritten scid s a c) (whole ∙ same) (written-kept scid script a b c text kept))) written
 
 pub whole-cut-short : (done : Result (Unit {0}) ScriptFault) (known : Option (List ℕ)) (scid : ℕ) (script read : List ℕ) (a b c : Option (List ℕ))
     → script ≡ read → IfSome known (λ octets. read ≡ octets) → IfErr done (IsScriptCutShort scid script a b) → Keeps b c
     → IfErr done (λ fault. IfSome known (λ octets. IsScriptCutShort scid octets a c fault))
-whole-cut-short (Ok done) known scid script read a b c whole is short kept = tt
-whole-cut-short (Err fault) None scid script read a b c whole is short kept = tt
-whole-cut-short (Err fault) (Some octets) scid script read a b c whole is short kept =
-    subst (λ s. IsScriptCutShort scid s a c fault) (whole ∙ is) (cut-short-kept scid script a b c fault short kept)
+whole-cut-short done known scid script read a b c whole is short kept =
+    IfErr-weaker done _ _ (λ fault why. IfSome_then known is (λ octets same. subst (λ s. IsScriptCutShort scid s a c fault) (whole ∙ same) (cut-short-kept scid script a b c fault why kept))) short

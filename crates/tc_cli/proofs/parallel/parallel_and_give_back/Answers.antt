@@ -1,4 +1,4 @@
-use Rattle.std.proofs.Common.{rules, Ok}
+use Rattle.std.proofs.Common.{rules}
 use Rattle.tc_cli.proofs.Scripts.{read-fault}
 use Rattle.tc_cli.proofs.Written.{parallel-written}
 use Rattle.tc_cli.proofs.parallel.parallel_and_give_back.Goals as goal
