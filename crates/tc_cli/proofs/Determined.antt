@@ -67,12 +67,10 @@ same-at id xs apart vcid one other x y at is to too =
 
 -- one id more, which is that of no other
 apart-push : (ids : List ℕ) (new : ℕ) → AreApart ids → ((place : ℕ) → slice_get ids place ≡ Some new → ⊥) → AreApart (ids ++ new ∷ [])
-apart-push ids new apart none one other vcid at to = cases (push-cases ids new vcid one at) (push-cases ids new vcid other to) where
-  cases : (slice_get ids one ≡ Some vcid) ⊎ ((one ≡ length ids) × (new ≡ vcid)) → (slice_get ids other ≡ Some vcid) ⊎ ((other ≡ length ids) × (new ≡ vcid)) → one ≡ other
-  cases (inl h) (inl k) = apart one other vcid h k
-  cases (inl h) (inr (end, is)) = absurd (none one (h ∙ ap (λ (z : ℕ). Some z) (sym is)))
-  cases (inr (end, is)) (inl k) = absurd (none other (k ∙ ap (λ (z : ℕ). Some z) (sym is)))
-  cases (inr (end, is)) (inr (stop, too)) = end ∙ sym stop
+apart-push ids new apart none one other vcid at to =
+    let first = push-cases ids new vcid one at in
+    let second = push-cases ids new vcid other to in
+    grind (arith, apart one other vcid, none one, none other)
 
 -- the ids of the channels that are set up so far
 abbrev ids_of : Progress → List ℕ
@@ -109,22 +107,9 @@ IsOldestTaken waiting told without next old answer new =
     ((item : List ℕ) × (option_and_then (λ items. slice_get items 0) waiting ≡ Some item) × (answer ≡ told item) × (new ≡ next))
     ⊎ (IsNoneThere waiting without answer × (new ≡ old))
 
-not-both : (waiting : Option (List (List ℕ))) (without answer : Answer) (item : List ℕ) → option_and_then (λ items. slice_get items 0) waiting ≡ Some item → IsNoneThere waiting without answer → ⊥
-not-both waiting without answer item there none = grind arith
-
-none-determined : (waiting : Option (List (List ℕ))) (without answer another : Answer) → IsNoneThere waiting without answer → IsNoneThere waiting without another → answer ≡ another
-none-determined waiting without answer another one two = grind arith
-
 oldest-determined : (waiting : Option (List (List ℕ))) (told : List ℕ → Answer) (without : Answer) (next old new other : Linked) (answer another : Answer)
     → IsOldestTaken waiting told without next old answer new → IsOldestTaken waiting told without next old another other → (answer ≡ another) × (new ≡ other)
-oldest-determined waiting told without next old new other answer another (inl (item, there, is, moved)) (inl (second, here, too, went)) =
-    (is ∙ (ap told (same_Some item second (sym there ∙ here)) ∙ sym too), moved ∙ sym went)
-oldest-determined waiting told without next old new other answer another (inl (item, there, is, moved)) (inr (none, still)) =
-    absurd (not-both waiting without another item there none)
-oldest-determined waiting told without next old new other answer another (inr (none, still)) (inl (item, there, is, moved)) =
-    absurd (not-both waiting without answer item there none)
-oldest-determined waiting told without next old new other answer another (inr (none, still)) (inr (nothing, rests)) =
-    (none-determined waiting without answer another none nothing, still ∙ sym rests)
+oldest-determined waiting told without next old new other answer another one two = grind arith
 
 take-determined : (apid : ℕ) → IsDetermined (IsTakeAnswered apid)
 take-determined apid old new other answer another one two =
@@ -253,9 +238,6 @@ module _ (only : IsOneAtMost) where
 
 -- ---- what a line is answered, and what it leaves
 
-abbrev setting_up : List Settings → Progress
-setting_up list = SettingUp list
-
 set-up : (progress : Progress) (list : List Settings) → phase_of progress ≡ Setup list → progress ≡ SettingUp list
 set-up (SettingUp settings) list is = cc
 set-up (Operating rack) list is = absurd cc
@@ -324,12 +306,12 @@ module _ (only : IsOneAtMost) (scid : ℕ) where
   line-determined (Channel settings) old new other answer another apart (list, longer, was, adds, is) a (first, long, before, added, too) b =
       let same : first ≡ list = same-setup old list first was before in
       let grown : longer ≡ long = adds.2 ∙ (ap (λ (l : List Settings). l ++ settings ∷ []) (sym same) ∙ sym added.2) in
-      (set-up new longer is ∙ (ap setting_up grown ∙ sym (set-up other long too)), a ∙ sym b)
+      (cc (set-up new longer is, set-up other long too, grown), a ∙ sym b)
   line-determined (Add vcid addition) old new other answer another apart (list, longer, was, adds, is) a (first, long, before, added, too) b =
       let same : first ≡ list = same-setup old list first was before in
       let ids : AreApart (vcids_of list) = subst (λ (p : Progress). AreApart (ids_of p)) (set-up old list was) apart in
       let grown : longer ≡ long = addition-determined list longer long vcid addition ids adds (subst (λ (l : List Settings). AddsToChannel l vcid addition long) same added) in
-      (set-up new longer is ∙ (ap setting_up grown ∙ sym (set-up other long too)), a ∙ sym b)
+      (cc (set-up new longer is, set-up other long too, grown), a ∙ sym b)
   line-determined (Frame octets) old new other answer another apart does a did b = done-determined (operations.Frame octets) old new other answer another apart a b
   line-determined (Release vcid) old new other answer another apart does a did b = done-determined (operations.Release vcid) old new other answer another apart a b
   line-determined (Take vcid apid) old new other answer another apart does a did b = done-determined (operations.Take vcid apid) old new other answer another apart a b

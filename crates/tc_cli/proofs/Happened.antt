@@ -1,8 +1,7 @@
 -- What the jobs of one channel make of its journal, and what the worker of its list made of them.
-use Rattle.std.proofs.Common.{◌≡◌, ℕ, List, [], ◌∷◌, ◌++◌, ◌⊎◌, Result, Ok, Err, None, get_or, inl, inr, refl, sym, ap, ◌∙◌, subst, ◌≢◌, ◌==◌, Contains, slice_index_or, slice_get}
-use Rattle.tc_cli.proofs.Names.{AtLock, AtStation, BeginsWith, Event, HasMadeAll, HasSeenItsOwn, IsBeginning, IsCall, IsLocateFault, IsMergeOf, IsPlace, Job, LocateFault, Moment, Order, Own, Roster, Settings, eqb-true, get_or_from_slice_get, header_of, looked, made, made_by, no-fault, nobody, none-some, option_and_then, position-Some, same_Some, slice_get_within, Identity}
+use Rattle.std.proofs.Common.{◌≡◌, ℕ, List, [], ◌∷◌, ◌++◌, ◌⊎◌, Result, Ok, Err, get_or, inl, inr, refl, sym, ap, ◌∙◌, subst, ◌≢◌, ◌==◌, Contains, slice_index_or, arith}
+use Rattle.tc_cli.proofs.Names.{AtLock, AtStation, BeginsWith, Event, HasMadeAll, HasSeenItsOwn, IsBeginning, IsCall, IsLocateFault, IsMergeOf, IsPlace, Job, LocateFault, Moment, Order, Own, Roster, Settings, eqb-true, get_or_from_slice_get, header_of, looked, made, made_by, no-fault, nobody, none-some, position-Some, same_Some, slice_get_within, Identity}
 use Rattle.std.proofs.lemmas.List.{get_or-set_other, get_or-set_same}
-use Rattle.tc_channel.specs.Reply.{take_reply, unit_reply}
 use Rattle.tc_channel.specs.declared.event.Event.TheVariants as events
 use Rattle.tc_desk.specs.Log.{nowhere}
 use Rattle.tc_station.specs.Tried.{CanBeMade, CannotBeMade, IsTriedAt, IsTriedOn, IsJobMade, AreMade}
@@ -53,12 +52,7 @@ one-more-happens scid vcid s [] job old mid new all one = (new, subst (λ (j : L
 one-more-happens scid vcid s (first ∷ jobs) job old mid new (next, happens, rest) one = (next, happens, one-more-happens scid vcid s jobs job next mid new rest one)
 
 not-both : (e : Event) (m : Moment) → CanBeMade e m → CannotBeMade e m → ⊥
-not-both (events.Frame octets) m can cannot = cannot
-not-both events.Release m can cannot = can cannot
-not-both (events.Take apid) m (packet, is) (inl none) = let e : take_reply m.head.settings m.entries apid ≡ None = ap (option_and_then (λ packets. slice_get packets 0)) none in none-some packet (sym e ∙ is)
-not-both (events.Take apid) m (packet, is) (inr empty) = let e : take_reply m.head.settings m.entries apid ≡ None = ap (option_and_then (λ packets. slice_get packets 0)) empty in none-some packet (sym e ∙ is)
-not-both (events.TakeUnit map_id) m (unit, is) (inl none) = let e : unit_reply m.head.settings m.entries map_id ≡ None = ap (option_and_then (λ units. slice_get units 0)) none in none-some unit (sym e ∙ is)
-not-both (events.TakeUnit map_id) m (unit, is) (inr empty) = let e : unit_reply m.head.settings m.entries map_id ≡ None = ap (option_and_then (λ units. slice_get units 0)) empty in none-some unit (sym e ∙ is)
+not-both e m can cannot = grind arith
 
 -- what can be made depends on the settings and the journal alone
 moved-can : (e : Event) (m : Moment) (s : Settings) (j : List Event) → m.head.settings ≡ s → m.entries ≡ j → CanBeMade e m → CanBeMade e (moment s j)

@@ -14,11 +14,8 @@ one_of vcid c = cond (vcid_of c == vcid) 1 0
 abbrev count : ℕ → List History → ℕ
 count vcid channels = sum_by (one_of vcid) channels
 
-count-cons : (vcid : ℕ) (c : History) (cs : List History) → count vcid (c ∷ cs) ≡ one_of vcid c + count vcid cs
-count-cons vcid c cs = sum_by-cons (one_of vcid) c cs
-
 count-own : (c : History) (cs : List History) → count (vcid_of c) (c ∷ cs) ≡ 1 + count (vcid_of c) cs
-count-own c cs = count-cons (vcid_of c) c cs ∙ ap (λ (b : Bool). cond b 1 0 + count (vcid_of c) cs) (eq-eqb (vcid_of c) (vcid_of c) refl)
+count-own c cs = sum_by-cons (one_of (vcid_of c)) c cs ∙ ap (λ (b : Bool). cond b 1 0 + count (vcid_of c) cs) (eq-eqb (vcid_of c) (vcid_of c) refl)
 
 -- where there are some, there is one at a place
 placed : (vcid : ℕ) (cs : List History) → 0 < count vcid cs → (place : ℕ) × (c : History) × (slice_get cs place ≡ Some c) × (vcid_of c ≡ vcid)
@@ -26,7 +23,7 @@ placed vcid [] some = absurd (omega (arith, some))
 placed vcid (c ∷ cs) some = elim (eqb_tells (vcid_of c) vcid) [
   | inl h ↦ (0, c, refl, h.1)
   | inr h ↦
-      let more : count vcid (c ∷ cs) ≡ 0 + count vcid cs = count-cons vcid c cs ∙ ap (λ (b : Bool). cond b 1 0 + count vcid cs) h.0 in
+      let more : count vcid (c ∷ cs) ≡ 0 + count vcid cs = sum_by-cons (one_of vcid) c cs ∙ ap (λ (b : Bool). cond b 1 0 + count vcid cs) h.0 in
       let rest : 0 < count vcid cs = omega (arith, some, more) in
       let one = placed vcid cs rest in
       (suc one.0, one.1, one.2, one.3)
@@ -53,8 +50,8 @@ below c cs d ds rising same =
 
 rest-counts : (c : History) (cs : List History) (d : History) (ds : List History) → vcid_of c ≡ vcid_of d → ((vcid : ℕ) → count vcid (c ∷ cs) ≡ count vcid (d ∷ ds)) → (vcid : ℕ) → count vcid cs ≡ count vcid ds
 rest-counts c cs d ds head same vcid =
-    let one = count-cons vcid c cs in
-    let two = count-cons vcid d ds in
+    let one = sum_by-cons (one_of vcid) c cs in
+    let two = sum_by-cons (one_of vcid) d ds in
     let first : one_of vcid c ≡ one_of vcid d = ap (λ (v : ℕ). cond (v == vcid) 1 0) head in
     omega (arith, one, two, first, same vcid)
 

@@ -1,4 +1,3 @@
-use Rattle.std.proofs.Common.{rules}
 use Rattle.tc_cli.proofs.Stations.{no-double, no-refusal}
 use Rattle.tc_cli.proofs.founding.found.Goals as goal
 
@@ -9,6 +8,3 @@ unreachable-requires-in-Err-DoubleVcid c =
 pub unreachable-requires-in-Err-Settings : goal.unreachable-requires-in-Err-Settings
 unreachable-requires-in-Err-Settings c =
     no-refusal c.allowed_settings_have_no_fault.ensures c.into_channels.result.items c.in-Err-Settings.field-0-0 c.in-Err-Settings.field-0-1 c.into_channels.ensures.configuration.allowed (rw c.in-Err-Settings.field-0-is at c.in-Err-Settings.ensures.fault).3
-
-pub returns-in-Err-NoChannel-clause-reason : goal.returns-in-Err-NoChannel-clause-reason
-returns-in-Err-NoChannel-clause-reason c = search rules
