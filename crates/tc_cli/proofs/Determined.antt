@@ -13,6 +13,7 @@ use Rattle.tc_text.specs.declared.line.Line.{Line as Said}
 use Rattle.tc_cli.proofs.Happened.{IsOneAtMost}
 use Rattle.tc_cli.proofs.Lists.{any-here, any-mapped, mapped-at, push-cases, same-set}
 use Rattle.tc_cli.proofs.Reported.{one-order}
+use Rattle.tc_cli.proofs.Scripts.{set-up}
 use Rattle.tc_rack.proofs.Performed.{performed-at}
 use Rattle.tc_rack.specs.declared.answer.Answer.TheVariants as answers
 use Rattle.tc_rack.specs.declared.operation.Operation.TheVariants as operations
@@ -237,10 +238,6 @@ module _ (only : IsOneAtMost) where
       (word-determined vcid old answer another apart read again, still ∙ sym rests)
 
 -- ---- what a line is answered, and what it leaves
-
-set-up : (progress : Progress) (list : List Settings) → phase_of progress ≡ Setup list → progress ≡ SettingUp list
-set-up (SettingUp settings) list is = cc
-set-up (Operating rack) list is = absurd cc
 
 same-setup : (progress : Progress) (list other : List Settings) → phase_of progress ≡ Setup list → phase_of progress ≡ Setup other → other ≡ list
 same-setup progress list other is too = cc

@@ -1,13 +1,13 @@
 -- Jobs have the numbers of lines of their script, so where memory runs out at one of them a line was reached.
 use Rattle.std.proofs.Common.{◌≡◌, ◌≤◌, ℕ, suc, ◌+◌, List, [], ◌∷◌, ◌⊎◌, Option, None, Some, map, length, inl, inr, refl, sym, ap, ◌∙◌, subst, arith, Any, slice_get, slice_set}
-use Rattle.tc_cli.proofs.Names.{Add, AreParted, ArePartedFor, AtStation, Channel, Clcw, Does, Frame, GivesToFound, Instruction, IsFrameGiven, IsGiven, IsJobLine, IsParted, IsScriptFault, Job, Nothing, Operating, Parted, Plan, Release, Roster, ScriptFault, SettingUp, Settings, Setup, Take, TakeUnit, WorkList, empty_list, eqb_tells, instruction_of, lower, none-some, none_parted, one_parted, phase_of, same_Some, script_limit, with_job}
+use Rattle.tc_cli.proofs.Names.{Add, AreParted, ArePartedFor, AtStation, Channel, Clcw, Does, Frame, GivesToFound, Instruction, IsFrameGiven, IsGiven, IsJobLine, IsParted, IsScriptFault, Job, Nothing, Operating, Parted, Plan, Release, Roster, ScriptFault, SettingUp, Settings, Take, TakeUnit, WorkList, empty_list, eqb_tells, instruction_of, lower, none-some, none_parted, one_parted, phase_of, same_Some, script_limit, with_job}
 use Rattle.std.specs.List.{AllByRecursion}
 use Rattle.tc_station.specs.Tally.{Tally}
 use Rattle.tc_station.specs.Work.{AreWorked, IsShift, IsWorked, Shift, lowest}
 use Rattle.tc_station.specs.declared.work.Order.TheVariants as orders
 use Rattle.tc_cli.specs.Parting.{IsWorkFault}
 use Rattle.tc_cli.proofs.Lists.{any-at, any-here, push-cases, set-at, set-else, unmapped}
-use Rattle.tc_cli.proofs.Scripts.{first-good, parted-leads}
+use Rattle.tc_cli.proofs.Scripts.{first-good, parted-leads, set-up}
 
 -- ---- a job that was refused for memory
 
@@ -89,15 +89,11 @@ order-numbered : (scid count vcid : ℕ) (given : Job) (old new : Plan) → give
 order-numbered scid count vcid given old new number numbered parts =
     parts-numbered scid count (IsGiven vcid given) old new numbered parts (λ found parted. given-numbered count vcid given found parted number)
 
-setup-numbered : (count : ℕ) (new : Plan) (list : List Settings) → phase_of new ≡ Setup list → IsNumbered count new
-setup-numbered count (SettingUp there) list is = tt
-setup-numbered count (Operating parted) list is = absurd cc
-
 line-numbered : (scid count : ℕ) (instruction : Instruction) (old new : Plan) → IsNumbered count old → Does (phase_of old) instruction (phase_of new)
     → IsParted scid (count + 1) old instruction new → IsNumbered (count + 1) new
 line-numbered scid count Nothing old new numbered does same = subst (IsNumbered (count + 1)) (sym same) (one-more count old numbered)
-line-numbered scid count (Channel settings) old new numbered (before, list, was, adds, is) parted = setup-numbered (count + 1) new list is
-line-numbered scid count (Add vcid addition) old new numbered (before, list, was, adds, is) parted = setup-numbered (count + 1) new list is
+line-numbered scid count (Channel settings) old new numbered (before, list, was, adds, is) parted = subst (IsNumbered (count + 1)) (sym (set-up new list is)) tt
+line-numbered scid count (Add vcid addition) old new numbered (before, list, was, adds, is) parted = subst (IsNumbered (count + 1)) (sym (set-up new list is)) tt
 line-numbered scid count (Frame octets) old new numbered does parts =
     parts-numbered scid count (IsFrameGiven (count + 1) octets) old new numbered parts (frame-numbered count octets)
 line-numbered scid count (Release vcid) old new numbered does parts =

@@ -1,7 +1,7 @@
 -- The jobs of a script, parted by their channels, and how far its lines alone have come: each list has just the jobs that make the
 -- journal of its channel.
 use Rattle.std.proofs.Common.{◌≡◌, ℕ, zero, suc, ◌+◌, List, [], ◌∷◌, ◌++◌, ◌⊎◌, Option, None, Some, map, length, inl, inr, refl, sym, ap, ◌∙◌, subst, arith, ◌≢◌, AllPairs, Contains, slice_get, slice_set}
-use Rattle.tc_cli.proofs.Names.{Add, Answer, AreAnswers, AreParted, ArePartedFor, Channel, Clcw, Does, Empty, Event, Frame, GivesToFound, HasChannel, Instruction, IsAnswerOf, IsChannelAnswer, IsClcwAnswer, IsDoneSo, IsFrameAnswer, IsFrameAnswered, IsFrameGiven, IsGiven, IsInstructionAnswered, IsParted, IsPerformed, IsRackLocateFault, IsReleaseAnswered, IsTakeAnswered, IsUnitAnswered, Job, Linked, LocateFault, NoMap, NoQueue, Nothing, Operating, Operation, Order, Parted, Phase, Plan, Progress, Racked, Release, SettingUp, Settings, Setup, Take, TakeUnit, Unlocated, WorkList, at_first, buffered_fields, empty_list, eqb_tells, header_of, instruction_of, later, length-map, map-map, new_linked, new_rack, none_parted, one_more, one_parted, option_and_then, phase_of, rack-found, rack_for, settings_in, slice_get-get_or, slice_get_within, told_word, vcid_of, waiting_packets, waiting_units, with_job}
+use Rattle.tc_cli.proofs.Names.{Add, Answer, AreAnswers, AreParted, ArePartedFor, Channel, Clcw, Does, Empty, Event, Frame, GivesToFound, HasChannel, Instruction, IsAnswerOf, IsChannelAnswer, IsClcwAnswer, IsDoneSo, IsFrameAnswer, IsFrameAnswered, IsFrameGiven, IsGiven, IsInstructionAnswered, IsParted, IsPerformed, IsRackLocateFault, IsReleaseAnswered, IsTakeAnswered, IsUnitAnswered, Job, Linked, LocateFault, NoMap, NoQueue, Nothing, Operating, Operation, Order, Parted, Phase, Plan, Progress, Racked, Release, SettingUp, Settings, Take, TakeUnit, Unlocated, WorkList, at_first, buffered_fields, empty_list, eqb_tells, header_of, instruction_of, later, length-map, map-map, new_linked, new_rack, none_parted, one_more, one_parted, option_and_then, phase_of, rack-found, rack_for, settings_in, slice_get-get_or, slice_get_within, told_word, vcid_of, waiting_packets, waiting_units, with_job}
 use Rattle.std.proofs.lemmas.List.{map-id}
 use Rattle.tc_channel.specs.Reply.{frame_reply, release_reply}
 use Rattle.tc_channel.specs.declared.event.Event.TheVariants as events
@@ -15,6 +15,7 @@ use Rattle.tc_rack.specs.declared.answer.Refusal.TheVariants.{UnknownChannel}
 use Rattle.tc_rack.specs.declared.operation.Operation.TheVariants as operations
 use Rattle.tc_cli.proofs.Happened.{AllHappen, Happens, one-more-happens}
 use Rattle.tc_cli.proofs.Lists.{any-contains, any-mapped, element, same-at, same-set, set-at, set-elsewhere, unmapped}
+use Rattle.tc_cli.proofs.Scripts.{set-up}
 use Rattle.tc_cli.proofs.Stations.{new-ordered}
 
 -- ---- lists
@@ -243,10 +244,6 @@ found-planned scid (SettingUp list) progress found is new = subst (λ (p : Progr
 found-planned scid (Operating parted) progress found (rack, is, planned) same =
     subst (λ (x : Parted × Progress). IsPlanned x.0 (rack_for scid x.1)) (λ i. (sym same i, sym is i)) planned
 
-setup-matched : (new : Plan) (list : List Settings) → phase_of new ≡ Setup list → AreMatched new (SettingUp list)
-setup-matched (SettingUp there) list is = cc
-setup-matched (Operating parted) list is = absurd cc
-
 abbrev IsLineMatched : ℕ → Progress → Instruction → Plan → Type 0
 IsLineMatched scid progress instruction new =
     (answer : Option Answer) × (next : Progress) × IsInstructionAnswered (IsPerformed scid) progress instruction next answer × AreMatched new next
@@ -265,8 +262,8 @@ parts-planned scid operation Gives plan new progress matched (found, parted, for
 line-planned : (scid number : ℕ) (instruction : Instruction) (plan new : Plan) (progress : Progress) → AreMatched plan progress → Does (phase_of plan) instruction (phase_of new)
     → IsParted scid number plan instruction new → IsLineMatched scid progress instruction new
 line-planned scid number Nothing plan new progress matched does same = (None, progress, (refl, refl), subst (λ (p : Plan). AreMatched p progress) (sym same) matched)
-line-planned scid number (Channel settings) plan new progress matched (old, list, was, adds, is) parted = (None, SettingUp list, refl, setup-matched new list is)
-line-planned scid number (Add vcid addition) plan new progress matched (old, list, was, adds, is) parted = (None, SettingUp list, refl, setup-matched new list is)
+line-planned scid number (Channel settings) plan new progress matched (old, list, was, adds, is) parted = (None, SettingUp list, refl, subst (λ (p : Plan). AreMatched p (SettingUp list)) (sym (set-up new list is)) refl)
+line-planned scid number (Add vcid addition) plan new progress matched (old, list, was, adds, is) parted = (None, SettingUp list, refl, subst (λ (p : Plan). AreMatched p (SettingUp list)) (sym (set-up new list is)) refl)
 line-planned scid number (Frame octets) plan new progress matched does parts =
     parts-planned scid (operations.Frame octets) (IsFrameGiven number octets) plan new progress matched parts (frame-planned number octets)
 line-planned scid number (Release vcid) plan new progress matched does parts =

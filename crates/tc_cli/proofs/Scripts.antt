@@ -1,7 +1,13 @@
 -- A script, line by line.
 use Rattle.std.proofs.Common.{◌≡◌, ◌<◌, ◌≤◌, ℕ, ◌+◌, List, [], ◌⊎◌, Result, Ok, Err, Option, None, Some, IfSome, inl, inr, length, refl, subst, sym, arith, OnOk, IfErr}
-use Rattle.tc_cli.proofs.Names.{AreParted, IsBadLine, IsFirstLine, IsReadFault, IsReportFault, IsScriptFault, Leads, Line, NoMemory, Phase, Plan, Read, Reason, ScriptFault, Setup, TooLong, Unbalanced, Write, cases_lt, goes_on, none_parted, one_parted, phase_of, script_limit, starts}
+use Rattle.tc_cli.proofs.Names.{AreParted, IsBadLine, IsFirstLine, IsReadFault, IsReportFault, IsScriptFault, Leads, Line, NoMemory, Phase, Plan, Read, Reason, ScriptFault, Setup, TooLong, Unbalanced, Write, cases_lt, goes_on, none_parted, one_parted, phase_of, script_limit, starts, Operating, SettingUp, Settings}
+use Rattle.tc_rack.specs.declared.stage.Stage.{Stage}
 use Rattle.tc_cli.specs.Script.{AreFirstGood, IsReached, IsFirstBad, IsGood}
+
+-- while channels are set up nothing operates
+pub set-up : {O : Type 0} (stage : Stage O) (list : List Settings) → phase_of stage ≡ Setup list → stage ≡ SettingUp list
+set-up (SettingUp settings) list is = cc
+set-up (Operating there) list is = absurd cc
 
 -- a bad line after good ones is the first bad one; out of memory, the lines before are good
 pub first-bad : (script rest line after : List ℕ) (before : ℕ) (phase : Phase) (reason : Reason)

@@ -1,8 +1,9 @@
 -- A session whose station was closed together with its one operator: its answers are what the lines before them make them.
 use Rattle.std.proofs.Common.{◌≡◌, ◌<◌, ℕ, List, [], Option, All, length, get_or, inl, inr, refl, sym, ap, ◌∙◌, subst, arith, IsPermutation}
-use Rattle.tc_cli.proofs.Names.{Add, Answer, AreAnswers, AreClosedTogether, AtStation, Channel, Clcw, Does, Frame, History, Instruction, IsAnswerOf, IsClosed, IsDoneSo, IsInstructionAnswered, IsMannedFound, IsMannedOperated, IsNumberTold, IsPerformed, IsScriptReport, Manned, Nothing, Operating, Operation, Phase, Progress, Racked, Release, Roster, Session, SettingUp, Settings, Setup, Take, TakeUnit, at_first, column, crews_of, histories, instruction_of, nobody, one_more, phase_of, rack-found, rack_for, slice_get-get_or}
+use Rattle.tc_cli.proofs.Names.{Add, Answer, AreAnswers, AreClosedTogether, AtStation, Channel, Clcw, Does, Frame, History, Instruction, IsAnswerOf, IsClosed, IsDoneSo, IsInstructionAnswered, IsMannedFound, IsMannedOperated, IsNumberTold, IsPerformed, IsScriptReport, Manned, Nothing, Operating, Operation, Phase, Progress, Racked, Release, Roster, Session, SettingUp, Take, TakeUnit, at_first, column, crews_of, histories, instruction_of, nobody, one_more, phase_of, rack-found, rack_for, slice_get-get_or}
 use Rattle.tc_cli.specs.Written.{IsSessionReport}
 use Rattle.tc_rack.specs.declared.operation.Operation.TheVariants as operations
+use Rattle.tc_cli.proofs.Scripts.{set-up}
 use Rattle.tc_cli.proofs.Alone.{AloneLaws, IsAlone, IsSound, all-level, all-met-alone, answered-alone, closed-alone, new-rack, new-sound, rack_of}
 
 -- how far the session has come, by the lines alone
@@ -21,15 +22,6 @@ IsAloneSession (Operating m) = IsAlone m
 phase-of : (s : Session) → phase_of s ≡ phase_of (progress_of s)
 phase-of (SettingUp list) = refl
 phase-of (Operating m) = refl
-
--- while channels are set up there is no operator
-setup-sound : (s : Session) (list : List Settings) → phase_of s ≡ Setup list → IsSoundSession s
-setup-sound (SettingUp set) list is = tt
-setup-sound (Operating m) list is = absurd cc
-
-setup-alone : (s : Session) (list : List Settings) → phase_of s ≡ Setup list → IsAloneSession s
-setup-alone (SettingUp set) list is = tt
-setup-alone (Operating m) list is = absurd cc
 
 -- a step from the one to the other keeps what is sound; and where the operator is alone in the end, it was before, and this is so
 abbrev GoesOn : Session → Session → Type 0 → Type 0
@@ -57,8 +49,8 @@ module _ (laws : AloneLaws) (scid : ℕ) where
   line-alone : (instruction : Instruction) (s new : Session) (answer : Option Answer) → IsSoundSession s → Does (phase_of s) instruction (phase_of new) → IsInstructionAnswered (IsMannedOperated scid) s instruction new answer
       → GoesOn s new (IsInstructionAnswered (IsPerformed scid) (progress_of s) instruction (progress_of new) answer)
   line-alone Nothing s new answer sound does a = (subst IsSoundSession (sym a.1) sound, λ alone. (subst IsAloneSession a.1 alone, (a.0, ap progress_of a.1)))
-  line-alone (Channel settings) s new answer sound (old, list, was, adds, is) a = (setup-sound new list is, λ alone. (setup-alone s old was, a))
-  line-alone (Add vcid addition) s new answer sound (old, list, was, adds, is) a = (setup-sound new list is, λ alone. (setup-alone s old was, a))
+  line-alone (Channel settings) s new answer sound (old, list, was, adds, is) a = (subst IsSoundSession (sym (set-up new list is)) tt, λ alone. (subst IsAloneSession (sym (set-up s old was)) tt, a))
+  line-alone (Add vcid addition) s new answer sound (old, list, was, adds, is) a = (subst IsSoundSession (sym (set-up new list is)) tt, λ alone. (subst IsAloneSession (sym (set-up s old was)) tt, a))
   line-alone (Frame octets) s new answer sound does a = done-alone (operations.Frame octets) s new answer sound a
   line-alone (Release vcid) s new answer sound does a = done-alone (operations.Release vcid) s new answer sound a
   line-alone (Take vcid apid) s new answer sound does a = done-alone (operations.Take vcid apid) s new answer sound a
@@ -82,7 +74,7 @@ module _ (laws : AloneLaws) (scid : ℕ) where
   pub reported-alone : (script : List ℕ) (answers : List (Option Answer)) (s : Session) (text : List ℕ) → AreAnswers (IsMannedOperated scid) script answers s [] → IsSessionReport scid s text
       → AreAnswers (IsPerformed scid) script answers (progress_of s) [] × IsScriptReport scid (progress_of s) text
   reported-alone script answers s text leads (inl (none, empty)) =
-      ((all-alone script answers s [] leads).1 (setup-alone s [] none), inl (sym (phase-of s) ∙ none, empty))
+      ((all-alone script answers s [] leads).1 (subst IsAloneSession (sym (set-up s [] none)) tt), inl (sym (phase-of s) ∙ none, empty))
   reported-alone script answers s text leads (inr (m, met, channels, found, have, ours, closed, of)) =
       let lines = all-alone script answers s [] leads in
       let start = found-alone scid s m found lines.0 in

@@ -1,5 +1,5 @@
 -- The watchers of a script's channels, each of the desk at its place.
-use Rattle.std.proofs.Common.{◌≡◌, ◌<◌, ◌+◌, ℕ, suc, List, [], ◌∷◌, ◌++◌, Some, Result, length, map, get_or, inl, inr, refl, sym, ap, ◌∙◌, subst, arith, ◌==◌, position, slice_get, slice_set}
+use Rattle.std.proofs.Common.{◌≡◌, ◌<◌, ◌+◌, ℕ, List, [], ◌∷◌, ◌++◌, Some, Result, length, map, get_or, inl, inr, refl, sym, ap, ◌∙◌, subst, arith, ◌==◌, position, slice_get, slice_set, add-one}
 use Rattle.tc_cli.proofs.Names.{AtStation, Event, HasMetAt, HaveMet, Identity, IsEarlier, IsMannedCall, IsPlace, IsWordAnswer, Manned, Moment, Roster, Settings, Watching, clcw, eqb_tells, length-map, length-set, no_flag, same_Some, slice_get-get_or, slice_get_within}
 use Rattle.std.proofs.lemmas.Option.{slice_get_read}
 use Rattle.tc_channel.specs.Run.{IsLawful}
@@ -123,7 +123,4 @@ word-answered station operator items place vcid word early late here seat (head,
 
 -- one meeting more
 pub one-more-met : (n : ℕ) (m mid met : Manned) → HaveMet n m mid → HasMetAt n mid met → HaveMet (n + 1) m met
-one-more-met n m mid met have at =
-    let more : HaveMet (suc n) m met = (mid, have, at) in
-    let same : suc n ≡ n + 1 = omega arith in
-    subst (λ (k : ℕ). HaveMet k m met) same more
+one-more-met n m mid met have at = rw add-one (mid, have, at)

@@ -1,8 +1,7 @@
 -- What a script writes, line by line.
-use Rattle.std.proofs.Common.{◌≡◌, ℕ, ◌+◌, List, [], ◌∷◌, ◌++◌, ◌⊎◌, Option, None, Some, Result, Ok, Err, IfSome, All, inl, inr, length, refl, sym, ap, ◌∙◌, subst, arith, OnOk, IfErr, is_ok}
+use Rattle.std.proofs.Common.{◌≡◌, ℕ, ◌+◌, List, [], ◌∷◌, ◌++◌, ◌⊎◌, Option, None, Some, Result, Ok, Err, IfSome, All, inl, inr, length, refl, sym, ap, ◌∙◌, subst, OnOk, IfErr, is_ok}
 use Rattle.tc_cli.proofs.Names.{AllHaveMet, Answer, AreAnswers, AreRising, AreWorkedChannels, AtStation, History, IsBadLine, IsClosedReport, IsFirstLine, IsLawfulHistory, IsLineAnswered, IsMannedFound, IsMannedOperated, IsNumberTold, IsPerformed, IsReadFault, IsReportFault, IsReportOf, IsScriptReport, Leads, Line, Manned, NoMemory, Progress, Read, Reason, Roster, ScriptFault, Session, TooLong, Unbalanced, Write, at_first, goes_on, one_more, phase_of, report_text, starts}
-use Rattle.std.proofs.lemmas.Grind.{common_steps}
-use Rattle.std.proofs.lemmas.List.{flat_map_more}
+use Rattle.std.proofs.lemmas.List.{flat_map_more, length_push}
 use Rattle.std.proofs.lemmas.Option.{IfSome_then}
 use Rattle.std.proofs.lemmas.Result.{IfErr-weaker, on_ok_weaker}
 use Rattle.std.proofs.KnownBytes.{Appends-nil, Appends-trans, Appends-kept, Keeps-refl, Keeps-trans}
@@ -25,16 +24,13 @@ pub on-ok-both : {T E : Type 0} (r : Result T E) (A B C : Type 0) → (A → B �
 on-ok-both (Ok x) A B C follows a b = follows a b
 on-ok-both (Err e) A B C follows a b = tt
 
-length-one-more : {X : Type 0} (xs : List X) (x : X) → length xs + 1 ≡ length (xs ++ x ∷ [])
-length-one-more xs x = grind (arith, common_steps)
-
 -- lines that are answered are good
 pub answered-leads : (scid : ℕ) (script : List ℕ) (answers : List (Option Answer)) (session : Session) (rest : List ℕ) → AreAnswers (IsMannedOperated scid) script answers session rest
     → Leads script (length answers) (phase_of session) rest
 answered-leads scid script answers session rest at_first = starts
 answered-leads scid script answers session rest (one_more {answers = before} {stage = old} {answer = answer} leads next answered) =
     let good = answered-leads scid script before old _ leads in
-    subst (λ n. Leads script n (phase_of session) rest) (length-one-more before answer) (goes_on good next (answered.0, answered.1, answered.2))
+    subst (λ n. Leads script n (phase_of session) rest) (sym (length_push before answer)) (goes_on good next (answered.0, answered.1, answered.2))
 
 -- so many first lines were answered, and their answers written
 abbrev pub IsSoFar : ℕ → List ℕ → ℕ → Session → List ℕ → Option (List ℕ) → Option (List ℕ) → Type 0
@@ -57,7 +53,7 @@ pub one-more-so-far : (scid : ℕ) (script : List ℕ) (count : ℕ) (session ne
 one-more-so-far scid script count session new rest line after answer a b c (answers, leads, is, text) next answered more = (
   answers ++ answer ∷ [],
   one_more leads next answered,
-  ap (λ n. n + 1) is ∙ length-one-more answers answer,
+  ap (λ n. n + 1) is ∙ sym (length_push answers answer),
   subst (Appends a c) (flat_map_more answer_line [] answers answer) (Appends-trans a b c _ _ text more),
 )
 
