@@ -1,5 +1,6 @@
 -- Where those that were told have made as many events as the journal has, it is a merge of what they made.
 use Rattle.std.proofs.Common.{◌≡◌, ◌≢◌, ℕ, zero, suc, ◌+◌, ◌/◌, ◌<◌, ◌≤◌, ◌==◌, cond, Bool, List, [], ◌∷◌, length, map, refl, sym, ap, ◌∙◌, subst, arith, eq-eqb, ne_eqb, lt_of_not-le}
+use Rattle.std.proofs.lemmas.Bool.Decides.{nat_tests}
 use Rattle.std.proofs.lemmas.List.{length-map}
 use mathlib.Core.Logic.{dite}
 use native.Mathlib.Decide.{ℕ_discrete, dec_le}
@@ -151,8 +152,8 @@ made-whole now owners told long are none =
 abbrev number_of : ℕ → ℕ
 number_of o = o / 2
 
-number-of-tag : (k : ℕ) → number_of (told_tag k) ≡ k
-number-of-tag k = omega arith
+numbered : (o j k : ℕ) → o ≡ told_tag j → (number_of o == k) ≡ (o == told_tag k)
+numbered o j k tag = grind (arith, nat_tests)
 
 owned-numbered : {E : Type 0} (n k at : ℕ) (os : List ℕ) (es : List E) → all_tagged n os ≡ length os → owned k at (map number_of os) es ≡ owned (told_tag k) at os es
 unfolding all_tagged
@@ -160,11 +161,7 @@ owned-numbered n k at (o ∷ os) (e ∷ es) all =
     let one : tagged n o ≡ 1 = omega (arith, tagged-one n o, all-at-most n os, all) in
     let more = owned-numbered n k (suc at) os es (omega (arith, tagged-one n o, all-at-most n os, all)) in
     let j = tagged-there n o one in
-    let number : number_of o ≡ j.0 = ap number_of j.1 ∙ number-of-tag j.0 in
-    dite (ℕ_discrete j.0 k)
-    (λ same. owned-own k at (number_of o) (map number_of os) e es (number ∙ same) ∙ (ap (λ l. (at, e) ∷ l) more ∙ sym (owned-own (told_tag k) at o os e es (j.1 ∙ ap told_tag same))))
-    (λ apart. owned-other k at (number_of o) (map number_of os) e es (λ h. apart (sym number ∙ h))
-    ∙ (more ∙ sym (owned-other (told_tag k) at o os e es (λ h. apart (sym (number-of-tag j.0) ∙ (ap number_of (sym j.1 ∙ h) ∙ number-of-tag k))))))
+    λ i. cond (numbered o j.0 k j.1 i) ((at, e) ∷ more i) (more i)
 owned-numbered n k at _ _ all = refl
 
 pub merges : {D E : Type 0} (now : Log D E) (owners : List ℕ) (told : List (Account D E)) → length owners ≡ length now.entries → AreTold now owners told → total_made told ≡ length now.entries → IsMergeOf now.entries told

@@ -29,13 +29,13 @@ off e = true≢false (sym e)
 prefix-self : {A : Type 0} (xs : List A) → IsPrefix xs xs
 prefix-self xs = ([], append-nil xs)
 
-prefix-trans : {A : Type 0} (xs ys zs : List A) → IsPrefix xs ys → IsPrefix ys zs → IsPrefix xs zs
+pub prefix-trans : {A : Type 0} (xs ys zs : List A) → IsPrefix xs ys → IsPrefix ys zs → IsPrefix xs zs
 prefix-trans xs ys zs p q = (p.0 ++ q.0, sym (append_assoc xs p.0 q.0) ∙ (ap (λ l. l ++ q.0) p.1 ∙ q.1))
 
 beginning-self : {D E : Type 0} (h : Log D E) → IsBeginning h h
 beginning-self h = (refl, prefix-self h.entries)
 
-beginning-trans : {D E : Type 0} (a b c : Log D E) → IsBeginning a b → IsBeginning b c → IsBeginning a c
+pub beginning-trans : {D E : Type 0} (a b c : Log D E) → IsBeginning a b → IsBeginning b c → IsBeginning a c
 beginning-trans a b c p q = (q.0 ∙ p.0, prefix-trans a.entries b.entries c.entries p.1 q.1)
 
 beginning-with_entry : {D E : Type 0} (h : Log D E) (e : E) → IsBeginning h (with_entry h e)
