@@ -1,23 +1,12 @@
 -- What one operator makes alone is all that there is.
-use Rattle.std.proofs.Common.{◌≡◌, ◌≢◌, ℕ, zero, suc, ◌+◌, ◌≤◌, cond, Bool, List, [], ◌∷◌, ◌++◌, length, inl, inr, refl, sym, ap, ◌∙◌, arith, eq-eqb, ne_eqb}
+use Rattle.tc_desk.proofs.Names.{◌≡◌, ◌≢◌, ℕ, zero, suc, ◌+◌, ◌≤◌, List, [], ◌∷◌, ◌++◌, length, inl, inr, refl, sym, ap, ◌∙◌, arith, Event, IsBeginning, IsMergeOf, Moment, Own, made}
 use Rattle.std.proofs.lemmas.Bool.Decides.{eqb_tells}
-use Rattle.std.proofs.lemmas.List.{length-append, nil_from_length, append-nil}
+use Rattle.std.proofs.lemmas.List.{length-append, nil_from_length, append-nil, same_from_push}
 use mathlib.Core.List.{IsPrefix}
-use Rattle.tc_channel.specs.declared.event.Event.{Event}
-use Rattle.logged_lock.specs.Log.{owned, made_by, IsBeginning, IsMergeOf}
-use Rattle.tc_desk.specs.Log.{Moment, Own}
-use Rattle.tc_desk.specs.Call.{made, looked}
+use Rattle.logged_lock.specs.Log.{owned, made_by}
+use Rattle.logged_lock.proofs.Owned.{owned-own, owned-other}
+use Rattle.tc_desk.specs.Call.{looked}
 use Rattle.tc_desk.specs.Alone.{with_places, HasMadeAll, HasSeenItsOwn}
-
-cons-not-nil : {A : Type 0} (x : A) (xs : List A) → x ∷ xs ≡ [] → ⊥
-cons-not-nil x xs e = absurd cc
-
--- the step of `owned`
-owned-own : (t at o : ℕ) (os : List ℕ) (e : Event) (es : List Event) → o ≡ t → owned t at (o ∷ os) (e ∷ es) ≡ (at, e) ∷ owned t (suc at) os es
-owned-own t at o os e es same = ap (λ (b : Bool). cond b ((at, e) ∷ owned t (suc at) os es) (owned t (suc at) os es)) (eq-eqb o t same)
-
-owned-other : (t at o : ℕ) (os : List ℕ) (e : Event) (es : List Event) → o ≢ t → owned t at (o ∷ os) (e ∷ es) ≡ owned t (suc at) os es
-owned-other t at o os e es apart = ap (λ (b : Bool). cond b ((at, e) ∷ owned t (suc at) os es) (owned t (suc at) os es)) (ne_eqb o t apart)
 
 -- one place, where nobody but the k-th owns any
 own-step : (k at o : ℕ) (os : List ℕ) (e : Event) (es : List Event) → ((j : ℕ) → j ≢ k → owned j at (o ∷ os) (e ∷ es) ≡ [])
@@ -26,7 +15,7 @@ own-step k at o os e es none rest = elim (eqb_tells o k) [
   | inl h ↦
       let others : (j : ℕ) → j ≢ k → owned j (suc at) os es ≡ [] = λ j apart. sym (owned-other j at o os e es (λ same. apart (sym same ∙ h.1))) ∙ none j apart in
       owned-own k at o os e es h.1 ∙ ap (λ l. (at, e) ∷ l) (rest others)
-  | inr h ↦ absurd (cons-not-nil (at, e) (owned o (suc at) os es) (sym (owned-own o at o os e es refl) ∙ none o h.1))
+  | inr h ↦ absurd (let nothing : (at, e) ∷ owned o (suc at) os es ≡ [] = sym (owned-own o at o os e es refl) ∙ none o h.1 in cc)
 ]
 
 -- where nobody but the k-th owns a place, the k-th owns all of them
@@ -42,17 +31,6 @@ length-placed at (e ∷ es) = omega (arith, length-placed (suc at) es)
 placed-last : (at : ℕ) (es : List Event) (e : Event) → with_places at (es ++ e ∷ []) ≡ with_places at es ++ (at + length es, e) ∷ []
 placed-last at [] e = ap (λ (n : ℕ). (n, e) ∷ []) (omega arith)
 placed-last at (x ∷ es) e = ap (λ l. (at, x) ∷ l) (placed-last (suc at) es e) ∙ ap (λ (n : ℕ). (at, x) ∷ (with_places (suc at) es ++ (n, e) ∷ [])) (omega arith)
-
--- lists that agree with one more at the end agree before it
-last-cancel : {A : Type 0} (xs ys : List A) (x y : A) → xs ++ x ∷ [] ≡ ys ++ y ∷ [] → xs ≡ ys
-last-cancel [] [] x y e = refl
-last-cancel [] (b ∷ []) x y e = absurd cc
-last-cancel (a ∷ []) [] x y e = absurd cc
-last-cancel (a ∷ xs) (b ∷ ys) x y e =
-    let rest : xs ≡ ys = last-cancel xs ys x y cc in
-    let first : a ≡ b = cc in
-    λ i. first i ∷ rest i
-last-cancel _ _ x y e = absurd cc
 
 -- a beginning that is as long as the whole is the whole
 whole-prefix : {A : Type 0} (xs ys : List A) → IsPrefix xs ys → length ys ≤ length xs → xs ≡ ys
@@ -87,7 +65,7 @@ same-moment before now its later all =
 
 pub alone-event : (before : Own) (now : Moment) (e : Event) → HasSeenItsOwn before → IsBeginning before.seen now → HasMadeAll (made e now before) → HasMadeAll before × (now ≡ before.seen)
 alone-event before now e its later all =
-    same-moment before now its later (last-cancel before.made (with_places 0 now.entries) (length now.entries, e) (0 + length now.entries, e) (all ∙ placed-last 0 now.entries e))
+    same-moment before now its later (same_from_push before.made (with_places 0 now.entries) (length now.entries, e) (0 + length now.entries, e) (all ∙ placed-last 0 now.entries e)).0
 
 pub alone-look : (before : Own) (now : Moment) → HasSeenItsOwn before → IsBeginning before.seen now → HasMadeAll (looked now before) → HasMadeAll before × (now ≡ before.seen)
 alone-look before now its later all = same-moment before now its later all

@@ -1,11 +1,8 @@
 -- Whether operators can close a desk, by the numbers of these and of their events.
-use Rattle.std.proofs.Common.{◌≡◌, ◌≢◌, ◌⊎◌, inl, inr, ⊎_elim, ℕ, ◌<◌, ◌≤◌, ◌-◌, ◌^◌, List, length, min, arith, lt_of_not-le}
+use Rattle.tc_desk.proofs.Names.{◌≡◌, ◌≢◌, inl, inr, ℕ, ◌<◌, ◌≤◌, ◌-◌, ◌^◌, List, length, min, arith, Event, total_made, Own, CanClose, IsBalanced, IsCause}
+use Rattle.std.proofs.Common.{◌⊎◌, ⊎_elim, lt_of_not-le}
 use native.Mathlib.Decide.{ℕ_discrete, dec_le}
 use mathlib.Core.Logic.{dite}
-use Rattle.tc_channel.specs.declared.event.Event.{Event}
-use Rattle.logged_lock.specs.Log.{total_made}
-use Rattle.tc_desk.specs.Log.{Own}
-use Rattle.tc_desk.specs.Closing.{CanClose, IsBalanced, IsCause}
 
 -- what all operators have made is the whole journal
 pub as-balanced : (issued : ℕ) (makers : List Own) (journal : List Event) → CanClose issued makers journal → (issued ≤ length makers → total_made makers ≡ length journal) → IsBalanced makers journal

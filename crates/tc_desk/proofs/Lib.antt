@@ -1,3 +1,4 @@
+pub mod Names
 pub mod Told
 pub mod Counted
 pub mod Alone

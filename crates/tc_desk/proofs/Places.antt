@@ -1,10 +1,5 @@
 -- An event is at its place in each later journal.
-use Rattle.std.proofs.Common.{◌≡◌, List, [], ◌∷◌, ◌++◌, length, take, Some, refl, sym, ap}
-use Rattle.std.specs.Prelude.{slice_get}
-use Rattle.tc_channel.specs.declared.event.Event.{Event}
-use Rattle.logged_lock.specs.Log.{IsBeginning}
-use Rattle.tc_desk.specs.Log.{Moment, Own}
-use Rattle.tc_desk.specs.Call.{made}
+use Rattle.tc_desk.proofs.Names.{◌≡◌, List, [], ◌∷◌, ◌++◌, length, take, Some, refl, sym, ap, slice_get, Event, IsBeginning, Moment, Own, made}
 
 at-place : (xs : List Event) (e : Event) (ts : List Event) → slice_get ((xs ++ e ∷ []) ++ ts) (length xs) ≡ Some e
 at-place [] e ts = refl

@@ -1,21 +1,20 @@
 -- Desks that are held, told and taken out, list by list.
-use Rattle.std.proofs.Common.{◌≡◌, ◌<◌, ◌≤◌, ◌+◌, ◌-◌, ◌^◌, ℕ, zero, suc, List, [], ◌∷◌, ◌++◌, length, take, drop, get_or, set, min, map, reverse, Some, slice_get, refl, sym, ap, subst, ◌∙◌, append_assoc, append-nil, arith, All, Vec}
-use Rattle.std.specs.List.{sum_by, AllZip}
+use Rattle.tc_desk.proofs.Names.{◌≡◌, ◌<◌, ◌≤◌, ◌-◌, ℕ, zero, suc, List, [], ◌∷◌, ◌++◌, length, get_or, map, reverse, Some, slice_get, refl, sym, ap, subst, ◌∙◌, append_assoc, arith, All, length-map, slice_get_within, get_or_from_slice_get, total_made, IsBeginning, IsMergeOf, Event, Own, Moment, AtLock, AtHand, accounts_of, told_at, CanClose, IsBalanced, IsClosed, AreOurs, AreSame, CanCloseEach, CannotCloseOne, IsFresh, IsOut, column, keepers_of, nobody, settings_of_desks, told_row, told_rows}
+use Rattle.std.proofs.Common.{drop, set, append-nil, Vec}
+use Rattle.std.specs.List.{AllZip}
 use Rattle.std.specs.Vec.{with_items}
-use Rattle.std.proofs.lemmas.List.{map-append, reverse-append, reverse-reverse, take_all, length-map, length-reverse, get_or-reverse, with_items_is}
-use Rattle.std.proofs.lemmas.List.Sums.{sum_by_more, sum_by-cons}
+use Rattle.std.specs.Option.{option_map}
+use Rattle.std.proofs.lemmas.List.{map-append, reverse-append, reverse-reverse, length-reverse, get_or-reverse, with_items_is}
 use Rattle.std.proofs.lemmas.List.Elements.{All-tail, All-head}
-use Rattle.std.proofs.lemmas.Option.{none-some, same_Some, slice_get_within, get_or_from_slice_get}
-use Rattle.logged_lock.specs.Log.{total_made, AreBehind, IsBeginning, IsMergeOf}
-use Rattle.tc_channel.specs.declared.event.Event.{Event}
+use Rattle.std.proofs.lemmas.Option.{none-some, same_Some, slice_get-map}
+use Rattle.logged_lock.specs.Log.{AreBehind}
 use Rattle.tc_channel.specs.Journal.{History}
 use Rattle.tc_desk.specs.{TableId}
-use Rattle.tc_desk.specs.Log.{Own, Sight, Moment, AtLock, AtHand, accounts_of, told_at}
-use Rattle.tc_desk.specs.Closing.{CanClose, IsBalanced, IsClosed}
+use Rattle.tc_desk.specs.Log.{Sight}
 use Rattle.tc_desk.proofs.Counted.{as-balanced, cause-of, not-balanced}
 use Rattle.tc_desk.specs.declared.together.Refusal.{Refusal}
 use Rattle.tc_desk.specs.declared.together.Refusal.TheVariants.{Unbalanced}
-use Rattle.tc_desk.specs.Together.{IsClosingRefusal, AreOurs, AreClosed, AreMoments, AreSame, CanCloseEach, CannotCloseOne, HasCause, IsFresh, IsOut, column, heads_of, issued_of, keepers_of, locks_of, nobody, settings_of_desks, told_one, told_row, told_rows}
+use Rattle.tc_desk.specs.Together.{IsClosingRefusal, AreClosed, AreMoments, HasCause, heads_of, issued_of, locks_of, told_one}
 
 -- ---- locks that are taken and given back
 
@@ -28,8 +27,7 @@ one_held ps hs p h is =
     ∙ sym (append_assoc ps (p ∷ []) (reverse (keepers_of hs)))
 
 same_map : {Y : Type 0} (f : AtLock → Y) (ps rest : List AtLock) (p q : AtLock) → f p ≡ f q → map f ((ps ++ p ∷ []) ++ rest) ≡ map f ((ps ++ q ∷ []) ++ rest)
-same_map {Y} f [] rest p q is = ap (λ (s : Y). s ∷ map f rest) is
-same_map {Y} f (x ∷ ps) rest p q is = ap (λ (l : List Y). f x ∷ l) (same_map f ps rest p q is)
+same_map f ps rest p q is = simp (map-append, is)
 
 -- one desk is let go
 pub one_let_go : (old ps : List AtLock) (hs : List AtHand) (p : AtLock) (h : AtHand) → p.lock ≡ h.keeper.lock → p.own.seen.head ≡ h.keeper.own.seen.head → p.own.issued ≡ h.keeper.own.issued
@@ -54,10 +52,9 @@ let_go_step old ps next held hs p h popped grown lock head issued same =
     (one_let_go old ps hs p h lock head issued (subst (λ (l : List AtHand). AreSame old (ps ++ reverse (keepers_of l))) popped same))
 
 pub keepers-reverse : (hs : List AtHand) → keepers_of (reverse hs) ≡ reverse (keepers_of hs)
-keepers-reverse hs = reverse-map hs where
-  reverse-map : (l : List AtHand) → keepers_of (reverse l) ≡ reverse (keepers_of l)
-  reverse-map [] = refl
-  reverse-map (h ∷ l) = ap keepers_of (reverse-append (h ∷ []) l) ∙ map-append (λ (x : AtHand). x.keeper) (reverse l) (h ∷ []) ∙ ap (λ (k : List AtLock). k ++ h.keeper ∷ []) (reverse-map l) ∙ sym (reverse-append (h.keeper ∷ []) (keepers_of l))
+keepers-reverse [] = refl
+keepers-reverse (h ∷ hs) =
+    ap keepers_of (reverse-append (h ∷ []) hs) ∙ map-append (λ (x : AtHand). x.keeper) (reverse hs) (h ∷ []) ∙ ap (λ (k : List AtLock). k ++ h.keeper ∷ []) (keepers-reverse hs) ∙ sym (reverse-append (h.keeper ∷ []) (keepers_of hs))
 
 pub fresh-reverse : (hs : List AtHand) → All IsFresh hs → All IsFresh (reverse hs)
 fresh-reverse hs all = λ k d lt.
@@ -77,31 +74,7 @@ given_back posts next held back none is same =
     subst (λ (l : List AtLock). AreSame l next)
     (ap (λ (l : List AtLock). l ++ reverse (keepers_of back)) none ∙ ap (λ (l : List AtHand). reverse (keepers_of l)) is ∙ ap reverse (keepers-reverse held) ∙ reverse-reverse (keepers_of held)) same
 
--- ---- counts
-
-abbrev most : ℕ
-most = 2 ^ 64 - 1
-
-module _ {X : Type 0} where
-  pub more_counted : (f : X → ℕ) (xs : List X) (i : ℕ) (x : X) (total count next : ℕ) → x ≡ get_or xs i x → i < length xs → total ≡ min (sum_by f (take i xs)) most
-      → count ≡ min (f x) most → next ≡ min (total + count) most → next ≡ min (sum_by f (take (i + 1) xs)) most
-  more_counted f xs i x total count next here inside so one is =
-      let more = sum_by_more f xs i x inside in
-      let this : f x ≡ f (get_or xs i x) = ap f here in
-      omega (arith, more, this, so, one, is)
-
-  pub total-column : (at : X → List AtLock) (place : ℕ) (xs : List X) → total_made (accounts_of (column place (map at xs))) ≡ sum_by (λ (x : X). length (get_or (at x) place nobody).own.made) xs
-  total-column at place [] = refl
-  total-column at place (x ∷ xs) = ap (λ (m : ℕ). length (get_or (at x) place nobody).own.made + m) (total-column at place xs) ∙ sym (sum_by-cons (λ (y : X). length (get_or (at y) place nobody).own.made) x xs)
-
-  pub all_counted_at : (at : X → List AtLock) (place : ℕ) (xs : List X) (i total : ℕ) → length xs ≤ i → total ≡ min (sum_by (λ (x : X). length (get_or (at x) place nobody).own.made) (take i xs)) most
-      → total ≡ min (total_made (accounts_of (column place (map at xs)))) most
-  all_counted_at at place xs i total end so = so ∙ ap (λ (m : ℕ). min m most) (ap (λ (l : List X). sum_by (λ (x : X). length (get_or (at x) place nobody).own.made) l) (take_all i xs end) ∙ sym (total-column at place xs))
-
--- as many at each desk as there are crews
-pub many-column : {X : Type 0} (at : X → List AtLock) (place : ℕ) (xs : List X) → length xs ≡ length (accounts_of (column place (map at xs)))
-many-column at place [] = refl
-many-column at place (x ∷ xs) = ap suc (many-column at place xs)
+-- ---- operators and desks
 
 same_long : (os : List AtLock) (hs : List AtHand) (place : ℕ) → locks_of os ≡ locks_of (keepers_of hs) → place < length hs → place < length os
 same_long os hs place is inside =
@@ -206,9 +179,7 @@ keeper_at (h ∷ hs) zero post at = (h, refl, same_Some h.keeper post at)
 keeper_at (h ∷ hs) (suc place) post at = keeper_at hs place post at
 
 keeper_there : (hs : List AtHand) (place : ℕ) (h : AtHand) → slice_get hs place ≡ Some h → slice_get (keepers_of hs) place ≡ Some h.keeper
-keeper_there [] place h at = absurd (none-some h at)
-keeper_there (g ∷ hs) zero h at = ap (λ (x : AtHand). Some x.keeper) (same_Some g h at)
-keeper_there (g ∷ hs) (suc place) h at = keeper_there hs place h at
+keeper_there hs place h at = slice_get-map (λ (x : AtHand). x.keeper) hs place ∙ ap (λ o. option_map (λ (x : AtHand). x.keeper) o) at
 
 -- ---- channels that are taken out
 

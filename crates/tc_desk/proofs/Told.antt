@@ -1,41 +1,39 @@
--- What a keeper learns of operators, one after the other.
-use Rattle.std.proofs.Common.{◌≡◌, ◌<◌, ◌≤◌, ◌+◌, ℕ, suc, List, [], ◌∷◌, ◌++◌, length, take, get_or, min, refl, sym, ap, subst, ◌∙◌, append_assoc, arith}
-use Rattle.std.specs.Prelude.{◌^◌, ◌-◌, All}
-use Rattle.tc_desk.specs.{TableId}
+-- What a keeper learns of operators, one after the other, and how many events they have made in all.
+use Rattle.tc_desk.proofs.Names.{◌≡◌, ◌<◌, ◌≤◌, ◌+◌, ℕ, List, [], ◌∷◌, ◌++◌, length, map, take, get_or, min, refl, sym, ap, ◌∙◌, append_assoc, arith, ◌^◌, ◌-◌, length-map, total_made, Own, AtLock, AtHand, accounts_of, told_at, column, nobody}
 use Rattle.std.specs.List.{sum_by}
-use Rattle.std.proofs.lemmas.List.{take_all}
+use Rattle.std.proofs.lemmas.List.{map_push, take_all}
 use Rattle.std.proofs.lemmas.List.Sums.{sum_by_more, sum_by-cons}
-use Rattle.logged_lock.specs.Log.{total_made}
-use Rattle.tc_desk.specs.Log.{Own, AtLock, AtHand, accounts_of, told_at}
-
-pub accounts-more : (os : List AtLock) (o : AtLock) → accounts_of (os ++ o ∷ []) ≡ accounts_of os ++ o.own ∷ []
-accounts-more [] o = refl
-accounts-more (x ∷ os) o = ap (λ (l : List Own). x.own ∷ l) (accounts-more os o)
+use Rattle.std.proofs.lemmas.Simd.{map-map}
 
 -- the keeper was told of one more
 pub told_next : (h : AtHand) (os : List AtLock) (o : AtLock) → told_at (told_at h (accounts_of os)) (o.own ∷ []) ≡ told_at h (accounts_of (os ++ o ∷ []))
-told_next h os o = ap (λ (t : List Own). record { desk = h.desk; keeper = h.keeper; now = h.now; told = t }) (append_assoc h.told (accounts_of os) (o.own ∷ []) ∙ ap (λ (l : List Own). h.told ++ l) (sym (accounts-more os o)))
-
--- how many events they have made in all
-pub total-sum : (os : List AtLock) → total_made (accounts_of os) ≡ sum_by (λ (o : AtLock). length o.own.made) os
-total-sum [] = refl
-total-sum (o ∷ os) = ap (λ (m : ℕ). length o.own.made + m) (total-sum os) ∙ sym (sum_by-cons (λ (x : AtLock). length x.own.made) o os)
+told_next h os o =
+    let more : accounts_of (os ++ o ∷ []) ≡ accounts_of os ++ o.own ∷ [] = map_push (λ (x : AtLock). x.own) os o in
+    ap (λ (t : List Own). record { desk = h.desk; keeper = h.keeper; now = h.now; told = t }) (append_assoc h.told (accounts_of os) (o.own ∷ []) ∙ ap (λ (l : List Own). h.told ++ l) (sym more))
 
 abbrev most : ℕ
 most = 2 ^ 64 - 1
 
--- one more was counted
-pub one_more : (os : List AtLock) (i : ℕ) (o : AtLock) (total count next : ℕ) → o ≡ get_or os i o → i < length os → total ≡ min (sum_by (λ (x : AtLock). length x.own.made) (take i os)) most
-    → count ≡ min (length o.own.made) most → next ≡ min (total + count) most → next ≡ min (sum_by (λ (x : AtLock). length x.own.made) (take (i + 1) os)) most
-one_more os i o total count next here inside so one is =
-    let more = sum_by_more (λ (x : AtLock). length x.own.made) os i o inside in
-    let this : length o.own.made ≡ length (get_or os i o).own.made = ap (λ (x : AtLock). length x.own.made) here in
-    omega (arith, more, this, so, one, is)
+module _ {X : Type 0} where
+  -- one more was counted
+  pub more_counted : (f : X → ℕ) (xs : List X) (i : ℕ) (x : X) (total count next : ℕ) → x ≡ get_or xs i x → i < length xs → total ≡ min (sum_by f (take i xs)) most
+      → count ≡ min (f x) most → next ≡ min (total + count) most → next ≡ min (sum_by f (take (i + 1) xs)) most
+  more_counted f xs i x total count next here inside so one is =
+      let more = sum_by_more f xs i x inside in
+      let this : f x ≡ f (get_or xs i x) = ap f here in
+      omega (arith, more, this, so, one, is)
 
--- all were counted
-pub all_counted : (os : List AtLock) (i total : ℕ) → length os ≤ i → total ≡ min (sum_by (λ (x : AtLock). length x.own.made) (take i os)) most → total ≡ min (total_made (accounts_of os)) most
-all_counted os i total end so = so ∙ ap (λ (m : ℕ). min m most) (ap (λ (l : List AtLock). sum_by (λ (x : AtLock). length x.own.made) l) (take_all i os end) ∙ sym (total-sum os))
+  total-sum : (own : X → Own) (xs : List X) → total_made (map own xs) ≡ sum_by (λ (x : X). length (own x).made) xs
+  total-sum own [] = refl
+  total-sum own (x ∷ xs) = ap (λ (m : ℕ). length (own x).made + m) (total-sum own xs) ∙ sym (sum_by-cons (λ (y : X). length (own y).made) x xs)
 
--- what is so of all is so of the rest
-pub all_of_rest : (lock : TableId) (l : List AtLock) (o : AtLock) (rest : List AtLock) → l ≡ o ∷ rest → All (λ (x : AtLock). x.lock ≡ lock) l → All (λ (x : AtLock). x.lock ≡ lock) rest
-all_of_rest lock l o rest is all = λ k d lt. subst (All (λ (x : AtLock). x.lock ≡ lock)) is all (suc k) d (omega arith)
+  -- all were counted
+  pub all_counted : (own : X → Own) (xs : List X) (i total : ℕ) → length xs ≤ i → total ≡ min (sum_by (λ (x : X). length (own x).made) (take i xs)) most → total ≡ min (total_made (map own xs)) most
+  all_counted own xs i total end so = so ∙ ap (λ (m : ℕ). min m most) (ap (λ (l : List X). sum_by (λ (x : X). length (own x).made) l) (take_all i xs end) ∙ sym (total-sum own xs))
+
+  -- what those at the desk of a place have made, one of each crew
+  pub own-column : (at : X → List AtLock) (place : ℕ) (xs : List X) → accounts_of (column place (map at xs)) ≡ map (λ (x : X). (get_or (at x) place nobody).own) xs
+  own-column at place xs = map-map (λ (o : AtLock). o.own) (λ (crew : List AtLock). get_or crew place nobody) (map at xs) ∙ map-map (λ (crew : List AtLock). (get_or crew place nobody).own) at xs
+
+  pub many-column : (at : X → List AtLock) (place : ℕ) (xs : List X) → length xs ≡ length (accounts_of (column place (map at xs)))
+  many-column at place xs = sym (ap (length {A = Own}) (own-column at place xs) ∙ length-map xs (λ (x : X). (get_or (at x) place nobody).own))

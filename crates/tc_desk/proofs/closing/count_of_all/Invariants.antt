@@ -1,7 +1,5 @@
-use Rattle.std.proofs.Common.{◌≡◌, take}
-use Rattle.std.specs.Prelude.{min, length, ◌^◌, ◌-◌}
+use Rattle.tc_desk.proofs.Names.{◌≡◌, take, min, length, ◌^◌, ◌-◌, AtLock}
 use Rattle.std.specs.List.{sum_by}
-use Rattle.tc_desk.specs.Log.{AtLock}
 use Rattle.tc_desk.proofs.closing.count_of_all.Given as goal
 
 abbrev pub invariant-loop-operator : goal.invariant-loop-operator

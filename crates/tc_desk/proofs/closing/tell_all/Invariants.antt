@@ -1,6 +1,4 @@
-use Rattle.std.proofs.Common.{◌≡◌}
-use Rattle.std.specs.Prelude.{All}
-use Rattle.tc_desk.specs.Log.{AtLock, accounts_of, told_at}
+use Rattle.tc_desk.proofs.Names.{◌≡◌, All, AtLock, accounts_of, told_at}
 use Rattle.tc_desk.proofs.closing.tell_all.Given as goal
 
 abbrev pub invariant-loop-operator : goal.invariant-loop-operator

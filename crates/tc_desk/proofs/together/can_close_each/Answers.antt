@@ -1,9 +1,8 @@
-use Rattle.std.proofs.Common.{◌∙◌, ◌<◌, ◌≡◌, ap, length, map, subst, below_more, arith, rules, refl, true≢false, true, false, sym}
-use Rattle.std.proofs.lemmas.Option.{get_or_from_slice_get, slice_get_read, slice_get_within}
-use Rattle.tc_desk.specs.Log.{AtHand, accounts_of}
-use Rattle.tc_desk.specs.Closing.{CanClose}
-use Rattle.tc_desk.specs.Together.{column}
-use Rattle.tc_desk.proofs.Rows.{inside_all, many-column}
+use Rattle.tc_desk.proofs.Names.{◌∙◌, ◌<◌, ◌≡◌, ap, length, map, subst, arith, rules, refl, true≢false, true, false, sym, get_or_from_slice_get, slice_get_within, AtHand, accounts_of, CanClose, column}
+use Rattle.std.proofs.Common.{below_more}
+use Rattle.std.proofs.lemmas.Option.{slice_get_read}
+use Rattle.tc_desk.proofs.Told.{many-column}
+use Rattle.tc_desk.proofs.Rows.{inside_all}
 use Rattle.tc_desk.proofs.together.can_close_each.Goals as goal
 
 pub count_at-requires : goal.count_at-requires

@@ -1,7 +1,4 @@
-use Rattle.std.proofs.Common.{◌≡◌, ◌<◌, ℕ, Some, slice_get, map}
-use Rattle.tc_desk.specs.Log.{AtHand, accounts_of}
-use Rattle.tc_desk.specs.Closing.{CanClose}
-use Rattle.tc_desk.specs.Together.{column}
+use Rattle.tc_desk.proofs.Names.{◌≡◌, ◌<◌, ℕ, Some, slice_get, map, AtHand, accounts_of, CanClose, column}
 use Rattle.tc_desk.proofs.together.can_close_each.Given as goal
 
 abbrev pub invariant-loop-place : goal.invariant-loop-place

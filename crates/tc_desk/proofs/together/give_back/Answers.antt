@@ -1,5 +1,4 @@
-use Rattle.std.proofs.Common.{All, subst, sym}
-use Rattle.tc_desk.specs.Together.{IsFresh}
+use Rattle.tc_desk.proofs.Names.{All, subst, sym, IsFresh}
 use Rattle.tc_desk.proofs.Rows.{fresh-reverse, given_back}
 use Rattle.tc_desk.proofs.together.give_back.Goals as goal
 

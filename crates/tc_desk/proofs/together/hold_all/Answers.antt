@@ -1,6 +1,5 @@
-use Rattle.std.proofs.Common.{All, subst, sym, arith}
+use Rattle.tc_desk.proofs.Names.{All, subst, sym, arith, IsFresh}
 use Rattle.std.proofs.lemmas.List.Elements.{All-push}
-use Rattle.tc_desk.specs.Together.{IsFresh}
 use Rattle.tc_desk.proofs.Rows.{held_step}
 use Rattle.tc_desk.proofs.together.hold_all.Goals as goal
 

@@ -1,5 +1,4 @@
-use Rattle.std.proofs.Common.{◌≡◌, ◌≤◌, ◌+◌, ◌++◌, reverse, All, vec_len, vec_capacity}
-use Rattle.tc_desk.specs.Together.{keepers_of, IsFresh}
+use Rattle.tc_desk.proofs.Names.{◌≡◌, ◌≤◌, ◌+◌, ◌++◌, reverse, All, vec_len, vec_capacity, keepers_of, IsFresh}
 use Rattle.tc_desk.proofs.together.hold_all.Given as goal
 
 abbrev pub invariant-loop-post : goal.invariant-loop-post

@@ -1,6 +1,5 @@
-use Rattle.std.proofs.Common.{Some, arith}
+use Rattle.tc_desk.proofs.Names.{Some, arith, IsFresh}
 use Rattle.std.proofs.lemmas.List.Elements.{All-pop}
-use Rattle.tc_desk.specs.Together.{IsFresh}
 use Rattle.tc_desk.proofs.Rows.{let_go_step}
 use Rattle.tc_desk.proofs.together.let_all_go.Goals as goal
 

@@ -1,5 +1,4 @@
-use Rattle.std.proofs.Common.{◌≤◌, ◌+◌, ◌++◌, reverse, All, vec_len, vec_capacity}
-use Rattle.tc_desk.specs.Together.{keepers_of, AreSame, IsFresh}
+use Rattle.tc_desk.proofs.Names.{◌≤◌, ◌+◌, ◌++◌, reverse, All, vec_len, vec_capacity, keepers_of, AreSame, IsFresh}
 use Rattle.tc_desk.proofs.together.let_all_go.Given as goal
 
 abbrev pub invariant-loop-desk : goal.invariant-loop-desk

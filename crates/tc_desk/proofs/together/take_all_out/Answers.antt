@@ -1,5 +1,4 @@
-use Rattle.std.proofs.Common.{◌∙◌, length, ap, arith}
-use Rattle.tc_desk.specs.Together.{IsOut}
+use Rattle.tc_desk.proofs.Names.{◌∙◌, length, ap, arith, IsOut}
 use Rattle.tc_desk.proofs.Rows.{out_step}
 use Rattle.tc_desk.proofs.together.take_all_out.Goals as goal
 

@@ -1,4 +1,4 @@
-use Rattle.std.proofs.Common.{◌≡◌, ◌+◌, vec_len, vec_capacity}
+use Rattle.tc_desk.proofs.Names.{◌≡◌, ◌+◌, vec_len, vec_capacity}
 use Rattle.tc_desk.specs.Together.{AreOut}
 use Rattle.tc_desk.proofs.together.take_all_out.Given as goal
 

@@ -1,4 +1,4 @@
-use Rattle.std.proofs.Common.{rules}
+use Rattle.tc_desk.proofs.Names.{rules}
 use Rattle.tc_desk.proofs.Rows.{all_held}
 use Rattle.tc_desk.proofs.together.take_locks.Goals as goal
 

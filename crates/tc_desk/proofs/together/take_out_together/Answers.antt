@@ -1,5 +1,4 @@
-use Rattle.std.proofs.Common.{◌∙◌, ap}
-use Rattle.tc_desk.specs.Together.{settings_of_desks}
+use Rattle.tc_desk.proofs.Names.{◌∙◌, ap, settings_of_desks}
 use Rattle.tc_desk.proofs.Rows.{settings_out}
 use Rattle.tc_desk.proofs.together.take_out_together.Goals as goal
 

@@ -1,6 +1,5 @@
-use Rattle.std.proofs.Common.{◌<◌, ◌∙◌, [], ◌≡◌, length, sym, refl, rules}
+use Rattle.tc_desk.proofs.Names.{◌<◌, ◌∙◌, [], ◌≡◌, length, sym, refl, rules, AtLock, AtHand}
 use Rattle.tc_desk.proofs.Rows.{are_at, all_told, last_told, told_step}
-use Rattle.tc_desk.specs.Log.{AtLock, AtHand}
 use Rattle.tc_desk.proofs.together.tell_row.Goals as goal
 
 some_desk : AtLock → AtHand

@@ -1,5 +1,4 @@
-use Rattle.std.proofs.Common.{◌≡◌, vec_len}
-use Rattle.tc_desk.specs.Together.{told_row}
+use Rattle.tc_desk.proofs.Names.{◌≡◌, vec_len, told_row}
 use Rattle.tc_desk.proofs.Rows.{AreAt}
 use Rattle.tc_desk.proofs.together.tell_row.Given as goal
 

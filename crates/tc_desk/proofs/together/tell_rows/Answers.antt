@@ -1,4 +1,4 @@
-use Rattle.std.proofs.Common.{map}
+use Rattle.tc_desk.proofs.Names.{map}
 use Rattle.tc_desk.proofs.Rows.{row_step}
 use Rattle.tc_desk.proofs.together.tell_rows.Goals as goal
 

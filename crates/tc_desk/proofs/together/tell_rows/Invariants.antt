@@ -1,5 +1,4 @@
-use Rattle.std.proofs.Common.{◌≡◌, map}
-use Rattle.tc_desk.specs.Together.{AreOurs, keepers_of, told_rows}
+use Rattle.tc_desk.proofs.Names.{◌≡◌, map, AreOurs, keepers_of, told_rows}
 use Rattle.tc_desk.proofs.together.tell_rows.Given as goal
 
 abbrev pub invariant-loop-crew : goal.invariant-loop-crew

@@ -1,5 +1,4 @@
-use Rattle.std.proofs.Common.{◌≡◌, sym, ap, ◌∙◌, subst, rules}
-use Rattle.logged_lock.specs.Log.{IsMergeOf}
+use Rattle.tc_desk.proofs.Names.{◌≡◌, sym, ap, ◌∙◌, subst, rules, IsMergeOf}
 use Rattle.tc_desk.proofs.Rows.{behind_at}
 use Rattle.tc_desk.proofs.held.HeldDesk.take_out.Goals as goal
 

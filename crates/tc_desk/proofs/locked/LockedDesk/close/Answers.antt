@@ -1,35 +1,25 @@
-use Rattle.std.proofs.Common.{◌≡◌, ◌∙◌, ◌+◌, List, length, min, ap, subst, sym, rules, true≢false}
-use Rattle.std.specs.Prelude.{◌-◌, ◌^◌}
-use Rattle.std.proofs.lemmas.List.{length-map}
-use Rattle.logged_lock.specs.Log.{total_made, IsBeginning}
-use Rattle.tc_desk.specs.Log.{AtLock, AtHand, accounts_of}
-use Rattle.tc_desk.specs.Closing.{CanClose, IsCause, IsClosed, IsObstacle}
-use Rattle.tc_desk.specs.Together.{IsOut}
+use Rattle.tc_desk.proofs.Names.{◌≡◌, ◌∙◌, ◌+◌, List, length, min, ap, subst, sym, arith, rules, true≢false, common_steps, ◌-◌, ◌^◌, length-map, total_made, IsBeginning, AtLock, AtHand, accounts_of, CanClose, IsCause, IsClosed, IsOut}
+use Rattle.tc_desk.specs.Closing.{IsObstacle}
 use Rattle.tc_desk.specs.declared.closing.Obstacle.{Obstacle}
 use Rattle.tc_desk.proofs.Counted.{cause-of, not-balanced}
 use Rattle.tc_desk.proofs.Rows.{closed_one}
 use Rattle.tc_desk.proofs.locked.LockedDesk.close.Goals as goal
 
-pub returns-then-not-can_close-clause-obstacle : goal.returns-then-not-can_close-clause-obstacle
-returns-then-not-can_close-clause-obstacle g c =
+pub returns-then-not-can_close : goal.returns-then-not-can_close
+returns-then-not-can_close g c =
     let operators = c.args.operators.items in
     let accounts = accounts_of operators in
     let held = c.in-Ok.held in
     let counted = c.count_of_all.ensures ∙ ap (λ (l : List AtLock). min (total_made (accounts_of l)) (2 ^ 64 - 1)) c.deref.ensures.value in
     let many = sym (length-map operators (λ (o : AtLock). o.own)) in
     let cannot : ¬ CanClose held.keeper.own.issued accounts held.now.entries = λ can. true≢false (sym ((c.can_close.ensures accounts (search (rules, many)) counted).1 can) ∙ search rules) in
-    subst (λ (o : Obstacle). IsObstacle c.args.keeper operators o) (sym c.left_open-then-not-can_close.ensures.3)
-    (held.now, subst (λ (k : AtLock). IsBeginning k.own.seen held.now) c.in-Ok.ensures.keeper c.in-Ok.ensures.later, not-balanced held.keeper.own.issued accounts held.now.entries cannot)
-
-pub returns-then-not-can_close-clause-cause : goal.returns-then-not-can_close-clause-cause
-returns-then-not-can_close-clause-cause g c =
-    let operators = c.args.operators.items in
-    let accounts = accounts_of operators in
-    let held = c.in-Ok.held in
-    let counted = c.count_of_all.ensures ∙ ap (λ (l : List AtLock). min (total_made (accounts_of l)) (2 ^ 64 - 1)) c.deref.ensures.value in
-    let many = sym (length-map operators (λ (o : AtLock). o.own)) in
-    let cannot : ¬ CanClose held.keeper.own.issued accounts held.now.entries = λ can. true≢false (sym ((c.can_close.ensures accounts (search (rules, many)) counted).1 can) ∙ search rules) in
-    λ _. subst (λ (k : AtLock). IsCause k.own.issued accounts) c.in-Ok.ensures.keeper (cause-of held.keeper.own.issued accounts held.now.entries cannot)
+    record {
+      closed = search rules;
+      kept = first_of (search rules, grind (arith, common_steps));
+      obstacle = subst (λ (o : Obstacle). IsObstacle c.args.keeper operators o) (sym c.left_open-then-not-can_close.ensures.3)
+          (held.now, subst (λ (k : AtLock). IsBeginning k.own.seen held.now) c.in-Ok.ensures.keeper c.in-Ok.ensures.later, not-balanced held.keeper.own.issued accounts held.now.entries cannot);
+      cause = λ _. subst (λ (k : AtLock). IsCause k.own.issued accounts) c.in-Ok.ensures.keeper (cause-of held.keeper.own.issued accounts held.now.entries cannot);
+    }
 
 pub returns-clause-closed : goal.returns-clause-closed
 returns-clause-closed g c =
