@@ -1,11 +1,8 @@
 -- What a call at one desk makes of the operator's list of desks.
-use Rattle.std.proofs.Common.{◌≡◌, ℕ, ◌+◌, ◌<◌, List, [], ◌∷◌, length, map, get_or, set, Option, Some, Result, Ok, Err, refl, sym, ap, ◌∙◌, subst, arith}
-use Rattle.std.specs.Prelude.{◌==◌, position, slice_index, IsErrAnd, OnOk, OnErr}
-use Rattle.std.proofs.lemmas.Bool.{eqb-true}
-use Rattle.std.proofs.lemmas.List.{map-set, get_or-map, length-map, length-append, set-get_or}
-use Rattle.std.proofs.lemmas.List.Quantifiers.{position-Some}
-use Rattle.std.proofs.lemmas.Option.{slice_get_read}
-use Rattle.tc_station.proofs.Names.{Event, Settings, Moment, Own, AtLock, count_of, IsCall, made, locks_of, settings_of_desks, vcids_of, AtStation, at_station, counts_of, tallied, tally, raised, raised_at, IsCallAt}
+use Rattle.tc_station.proofs.Names.{◌≡◌, ℕ, ◌+◌, ◌<◌, List, [], ◌∷◌, length, map, get_or, set, Option, Some, Result, Ok, Err, refl, sym, ap, ◌∙◌, subst, arith, ◌==◌, position, slice_get, slice_index, eqb-true, map-map, get_or-map, length-map, length-append, position-Some, slice_get_read, TableId, Event, Settings, Moment, Own, AtLock, count_of, IsCall, made, heads_of, locks_of, settings_of_desks, vcids_of, AtStation, IsOurs, IsPlace, Roster, at_station, counts_of, tallied, tally, raised, raised_at, IsCallAt, IsCounted}
+use Rattle.std.specs.Prelude.{IsErrAnd, MatchResult, OnOk, OnErr}
+use Rattle.std.proofs.lemmas.List.{map-set, set-get_or}
+use Rattle.tc_desk.specs.Call.{looked}
 use Rattle.tc_station.proofs.Counts.{raised-is}
 
 -- a list of what is read of each desk, with one desk in another's place
@@ -15,18 +12,10 @@ same-set f desks place there next is same =
     ∙ (ap (λ x. set (map f desks) place x) (same ∙ ap f is)
     ∙ (sym (map-set f desks place (get_or desks place there)) ∙ ap (map f) (set-get_or desks place there)))
 
--- the settings of the desk are as they were
+-- what never changes of the desk is as it was
 pub head-kept : {R F : Type 0} (e : Event) (ok : Moment → R → Type 0) (err : Moment → F → Type 0) (there next : AtLock) (r : Result R F) → IsCall e ok err there r next → next.own.seen.head ≡ there.own.seen.head
 head-kept e ok err there next (Ok a) c = ap (λ (o : Own). o.seen.head) c.answer.1 ∙ c.later.0
 head-kept e ok err there next (Err f) c = ap (λ (o : Own). o.seen.head) c.answer.1 ∙ c.later.0
-
-pub settings-kept : {R F : Type 0} (e : Event) (ok : Moment → R → Type 0) (err : Moment → F → Type 0) (desks : List AtLock) (place : ℕ) (there next : AtLock) (r : Result R F) → there ≡ get_or desks place there → IsCall e ok err there r next
-    → settings_of_desks (set desks place next) ≡ settings_of_desks desks
-settings-kept e ok err desks place there next r is c = same-set (λ (o : AtLock). o.own.seen.head.settings) desks place there next is (ap (λ h. h.settings) (head-kept e ok err there next r c))
-
-pub locks-kept : {R F : Type 0} (e : Event) (ok : Moment → R → Type 0) (err : Moment → F → Type 0) (desks : List AtLock) (place : ℕ) (there next : AtLock) (r : Result R F) → there ≡ get_or desks place there → IsCall e ok err there r next
-    → locks_of (set desks place next) ≡ locks_of desks
-locks-kept e ok err desks place there next r is c = same-set (λ (o : AtLock). o.lock) desks place there next is c.lock
 
 -- an event more is counted, and no more
 count-made : (e : Event) (now : Moment) (own : Own) → count_of (made e now own) ≡ raised (count_of own)
@@ -43,19 +32,6 @@ counts-made e now vcids desks place vcid there next is inside at own =
     ∙ (ap (λ x. set (counts_of desks) place x) (ap count_of own ∙ (count-made e now there.own ∙ ap raised (sym here)))
     ∙ ap (λ (o : Option ℕ). raised_at o (counts_of desks)) (sym at))
 
-pub counted-by : {R F : Type 0} (e : Event) (ok : Moment → R → Type 0) (err : Moment → F → Type 0) (vcids : List ℕ) (desks : List AtLock) (place vcid : ℕ) (there next : AtLock) (r : Result R F) → there ≡ get_or desks place there
-    → place < length desks → position (λ v. v == vcid) vcids ≡ Some place → IsCall e ok err there r next
-    → OnOk r (tally (at_station vcids (set desks place next)) ≡ tallied vcid (tally (at_station vcids desks)))
-counted-by e ok err vcids desks place vcid there next (Ok a) is inside at c =
-    ap (λ cs. record { vcids = vcids; counts = cs }) (counts-made e c.now vcids desks place vcid there next is inside at c.answer.1)
-counted-by e ok err vcids desks place vcid there next (Err f) is inside at c = tt
-
-pub refused-by : {R F : Type 0} (e : Event) (ok : Moment → R → Type 0) (err : Moment → F → Type 0) (vcids : List ℕ) (desks : List AtLock) (place : ℕ) (there next : AtLock) (r : Result R F) → there ≡ get_or desks place there → IsCall e ok err there r next
-    → OnErr r (tally (at_station vcids (set desks place next)) ≡ tally (at_station vcids desks))
-refused-by e ok err vcids desks place there next (Ok a) is c = tt
-refused-by e ok err vcids desks place there next (Err f) is c =
-    ap (λ cs. record { vcids = vcids; counts = cs }) (same-set (λ (d : AtLock). count_of d.own) desks place there next is (ap (λ (o : Own). count_of o) c.answer.1))
-
 -- as many desks as ids
 pub as-many : (vcids : List ℕ) (desks : List AtLock) → vcids_of (settings_of_desks desks) ≡ vcids → length desks ≡ length vcids
 as-many vcids desks ids =
@@ -67,49 +43,94 @@ pub id-of : (vcids : List ℕ) (desks : List AtLock) (place vcid : ℕ) (there :
 id-of vcids desks place vcid there ids is at =
     let found = position-Some (λ v. v == vcid) vcids place 0 at in
     let inside : place < length desks = omega (arith, found.0, as-many vcids desks ids) in
-    let within : place < length (settings_of_desks desks) = omega (arith, inside, length-map desks (λ (o : AtLock). o.own.seen.head.settings)) in
-    let here : get_or vcids place 0 ≡ there.own.seen.head.settings.vcid =
-    ap (λ vs. get_or vs place 0) (sym ids)
-    ∙ (get_or-map (λ (s : Settings). s.vcid) (settings_of_desks desks) place there.own.seen.head.settings 0 within
-    ∙ (ap (λ (s : Settings). s.vcid) (get_or-map (λ (o : AtLock). o.own.seen.head.settings) desks place there there.own.seen.head.settings inside)
-    ∙ ap (λ (o : AtLock). o.own.seen.head.settings.vcid) (sym is))) in
-    (inside, sym here ∙ eqb-true (get_or vcids place 0) vcid found.1)
+    let id : AtLock → ℕ = λ d. d.own.seen.head.settings.vcid in
+    let all : map id desks ≡ vcids = sym (map-map (λ (s : Settings). s.vcid) (λ (d : AtLock). d.own.seen.head.settings) desks) ∙ ids in
+    let here : id there ≡ get_or vcids place 0 = ap id is ∙ (sym (get_or-map id desks place there 0 inside) ∙ ap (λ vs. get_or vs place 0) all) in
+    (inside, here ∙ eqb-true (get_or vcids place 0) vcid found.1)
 
-pub call-at : {R F : Type 0} (e : Event) (ok : Moment → R → Type 0) (err : Moment → F → Type 0) (vcids : List ℕ) (desks : List AtLock) (place vcid : ℕ) (there next : AtLock) (r : Result R F) → vcids_of (settings_of_desks desks) ≡ vcids
-    → there ≡ get_or desks place there → position (λ v. v == vcid) vcids ≡ Some place → IsCall e ok err there r next
-    → IsCallAt place vcid e ok err (at_station vcids desks) r (at_station vcids (set desks place next))
-call-at e ok err vcids desks place vcid there next r ids is at c =
-    let id = id-of vcids desks place vcid there ids is at in
-    record { there = there; next = next; was = slice_get_read desks (length desks) place there refl id.0 is; named = id.1; call = c; others = refl; vcids = refl }
+-- what is seen of a station with these posts
+abbrev pub at_posts : ℕ → List ℕ → ℕ → List AtLock → Roster
+at_posts scid vcids issued posts = record { scid = scid; vcids = vcids; issued = issued; locks = locks_of posts; heads = heads_of posts }
+
+-- the operator's desk at the place of a channel, where a call is made
+module _ {R F : Type 0} (e : Event) (ok : Moment → R → Type 0) (err : Moment → F → Type 0) (station : Roster) (o : AtStation) (vcids : List ℕ) (desks : List AtLock) (place vcid : ℕ) (there next : AtLock) (r : Result R F)
+    (view : at_station vcids desks ≡ o) (ids : vcids_of (settings_of_desks desks) ≡ vcids) (ours : IsOurs station o) (place_is : IsPlace station vcid place) (is : there ≡ get_or desks place there) (c : IsCall e ok err there r next) where
+  abbrev changed : AtStation
+  changed = at_station vcids (set desks place next)
+
+  abbrev at : position (λ v. v == vcid) vcids ≡ Some place
+  at = ap (λ vs. position (λ v. v == vcid) vs) (ap (λ (x : AtStation). x.vcids) view ∙ ours.0) ∙ place_is
+
+  pub ids-kept : vcids_of (settings_of_desks (set desks place next)) ≡ vcids
+  ids-kept = ap vcids_of (same-set (λ (d : AtLock). d.own.seen.head.settings) desks place there next is (ap (λ h. h.settings) (head-kept e ok err there next r c))) ∙ ids
+
+  abbrev pub call-at : IsCallAt place vcid e ok err o r changed
+  call-at = record {
+    there = there;
+    next = next;
+    was = ap (λ (x : AtStation). slice_get x.desks place) (sym view) ∙ slice_get_read desks (length desks) place there refl (id-of vcids desks place vcid there ids is at).0 is;
+    named = (id-of vcids desks place vcid there ids is at).1;
+    call = c;
+    others = ap (λ (x : AtStation). set x.desks place next) view;
+    vcids = ap (λ (x : AtStation). x.vcids) view;
+  }
+
+  counted : (q : Result R F) → IsCall e ok err there q next → OnOk q (tally changed ≡ tallied vcid (tally (at_station vcids desks)))
+  counted (Ok a) d = ap (λ cs. record { vcids = vcids; counts = cs }) (counts-made e d.now vcids desks place vcid there next is (id-of vcids desks place vcid there ids is at).0 at d.answer.1)
+  counted (Err f) d = tt
+
+  refused : (q : Result R F) → IsCall e ok err there q next → OnErr q (tally changed ≡ tally (at_station vcids desks))
+  refused (Ok a) d = tt
+  refused (Err f) d = ap (λ cs. record { vcids = vcids; counts = cs }) (same-set (λ (x : AtLock). count_of x.own) desks place there next is (ap (λ (x : Own). count_of x) d.answer.1))
+
+  pub called : IsCounted station place vcid e ok err o r changed
+  called = record {
+    call = call-at;
+    counted = subst (λ (x : AtStation). OnOk r (tally changed ≡ tallied vcid (tally x))) view (counted r c);
+    refused = subst (λ (x : AtStation). OnErr r (tally changed ≡ tally x)) view (refused r c);
+    ours = (ap (λ (x : AtStation). x.vcids) view ∙ ours.0, same-set (λ (d : AtLock). d.lock) desks place there next is c.lock ∙ (ap (λ (x : AtStation). locks_of x.desks) view ∙ ours.1));
+  }
+
+  pub heads-kept : heads_of (set desks place next) ≡ heads_of o.desks
+  heads-kept = same-set (λ (d : AtLock). d.own.seen.head) desks place there next is (head-kept e ok err there next r c) ∙ ap (λ (x : AtStation). heads_of x.desks) view
+
+-- the operator's desk of a place and the station's have one lock
+pub same-lock : (station : Roster) (o : AtStation) (vcids posted : List ℕ) (scid issued : ℕ) (desks posts : List AtLock) (place vcid : ℕ) (there post : AtLock) → at_station vcids desks ≡ o → vcids_of (settings_of_desks desks) ≡ vcids → IsOurs station o
+    → at_posts scid posted issued posts ≡ station → vcids_of (settings_of_desks posts) ≡ posted → IsPlace station vcid place → there ≡ get_or desks place there → post ≡ get_or posts place post → there.lock ≡ post.lock
+same-lock station o vcids posted scid issued desks posts place vcid there post view ids ours seen posted_ids place_is is post_is =
+    let lock : AtLock → TableId = λ d. d.lock in
+    let at : position (λ v. v == vcid) vcids ≡ Some place = ap (λ vs. position (λ v. v == vcid) vs) (ap (λ (x : AtStation). x.vcids) view ∙ ours.0) ∙ place_is in
+    let at_post : position (λ v. v == vcid) posted ≡ Some place = ap (λ (x : Roster). position (λ v. v == vcid) x.vcids) seen ∙ place_is in
+    let mine = get_or-map lock desks place there post.lock (id-of vcids desks place vcid there ids is at).0 in
+    let theirs = get_or-map lock posts place post post.lock (id-of posted posts place vcid post posted_ids post_is at_post).0 in
+    let same : locks_of desks ≡ locks_of posts = ap (λ (x : AtStation). locks_of x.desks) view ∙ (ours.1 ∙ sym (ap (λ (x : Roster). x.locks) seen)) in
+    ap lock is ∙ (sym mine ∙ (ap (λ (l : List TableId). get_or l place post.lock) same ∙ (theirs ∙ ap lock (sym post_is))))
+
+-- the same call at the same moment, with another answer
+abbrev pub answered-so : {R F S G : Type 0} (place vcid : ℕ) (e : Event) (ok : Moment → R → Type 0) (err : Moment → F → Type 0) (ok2 : Moment → S → Type 0) (err2 : Moment → G → Type 0) (before after : AtStation) (r : Result R F) (r2 : Result S G)
+    (c : IsCallAt place vcid e ok err before r after) → MatchResult r2 (λ a. ok2 c.call.now a × (c.next.own ≡ made e c.call.now c.there.own)) (λ f. err2 c.call.now f × (c.next.own ≡ looked c.call.now c.there.own)) → IsCallAt place vcid e ok2 err2 before r2 after
+answered-so place vcid e ok err ok2 err2 before after r r2 c answer = record {
+  there = c.there;
+  next = c.next;
+  was = c.was;
+  named = c.named;
+  call = record { now = c.call.now; later = c.call.later; moment = c.call.moment; lock = c.call.lock; answer = answer };
+  others = c.others;
+  vcids = c.vcids;
+}
 
 -- the same call, answered or refused in other words
 pub ok-call : {R F S G : Type 0} (place vcid : ℕ) (e : Event) (ok : Moment → R → Type 0) (err : Moment → F → Type 0) (ok2 : Moment → S → Type 0) (err2 : Moment → G → Type 0) (before after : AtStation) (r : Result R F) (a : R) (b : S)
     → IsCallAt place vcid e ok err before r after → r ≡ Ok a → ((m : Moment) → ok m a → ok2 m b) → IsCallAt place vcid e ok2 err2 before (Ok b) after
 ok-call place vcid e ok err ok2 err2 before after r a b c is weaker =
     let was : IsCallAt place vcid e ok err before (Ok a) after = subst (λ x. IsCallAt place vcid e ok err before x after) is c in
-    record {
-      there = was.there;
-      next = was.next;
-      was = was.was;
-      named = was.named;
-      call = record { now = was.call.now; later = was.call.later; moment = was.call.moment; lock = was.call.lock; answer = (weaker was.call.now was.call.answer.0, was.call.answer.1) };
-      others = was.others;
-      vcids = was.vcids;
-    }
+    answered-so place vcid e ok err ok2 err2 before after (Ok a) (Ok b) was (weaker was.call.now was.call.answer.0, was.call.answer.1)
 
 pub err-call : {R F S G : Type 0} (place vcid : ℕ) (e : Event) (ok : Moment → R → Type 0) (err : Moment → F → Type 0) (ok2 : Moment → S → Type 0) (err2 : Moment → G → Type 0) (before after : AtStation) (r : Result R F) (f : F) (h : G)
     → IsCallAt place vcid e ok err before r after → r ≡ Err f → ((m : Moment) → err m f → err2 m h) → IsCallAt place vcid e ok2 err2 before (Err h) after
 err-call place vcid e ok err ok2 err2 before after r f h c is weaker =
     let was : IsCallAt place vcid e ok err before (Err f) after = subst (λ x. IsCallAt place vcid e ok err before x after) is c in
-    record {
-      there = was.there;
-      next = was.next;
-      was = was.was;
-      named = was.named;
-      call = record { now = was.call.now; later = was.call.later; moment = was.call.moment; lock = was.call.lock; answer = (weaker was.call.now was.call.answer.0, was.call.answer.1) };
-      others = was.others;
-      vcids = was.vcids;
-    }
+    answered-so place vcid e ok err ok2 err2 before after (Err f) (Err h) was (weaker was.call.now was.call.answer.0, was.call.answer.1)
 
 -- the fault in the station's words, as `?` gives it
 pub refused-call : {R F S G : Type 0} (place vcid : ℕ) (e : Event) (ok : Moment → R → Type 0) (err : Moment → F → Type 0) (ok2 : Moment → S → Type 0) (err2 : Moment → G → Type 0) (before after : AtStation) (r : Result R F) (f : F) (words : F → G)

@@ -1,45 +1,28 @@
 -- A call at a desk is at its place of the journal that the station's close gives out.
-use Rattle.std.proofs.Common.{◌≡◌, ◌<◌, ℕ, zero, suc, List, [], ◌∷◌, ◌++◌, length, take, Ok, Some, refl, sym, ap, subst, ◌∙◌, append_assoc, arith}
-use mathlib.Core.List.{IsPrefix}
+use Rattle.tc_station.proofs.Names.{◌≡◌, ◌<◌, ℕ, zero, suc, List, [], ◌∷◌, ◌++◌, length, get_or, take, Ok, Some, refl, sym, ap, subst, ◌∙◌, arith, slice_get, get_or-set_same, length-append, length-set, take_at, get_or_from_slice_get, none-some, same_Some, slice_get-get_or, slice_get_within, Event, History, made, AtLock, Identity, Moment, Own, accounts_of, column, nobody, IsCallAt, IsMetAt, Roster, AtStation, crews_of, Watching}
 use mathlib.Core.Option.{some}
 use lib.ListN.{get_elem?}
-use Rattle.std.specs.Prelude.{slice_get, slice_index_or, slice_set}
-use Rattle.std.proofs.lemmas.List.{length-append}
-use Rattle.std.proofs.lemmas.Option.{none-some, same_Some, slice_get_within}
+use Rattle.std.specs.Prelude.{slice_index_or, slice_set}
 use Rattle.logged_lock.specs.Log.{IsBeginning}
-use Rattle.tc_station.proofs.Names.{Event, History, made, AtLock, Identity, Moment, Own, accounts_of, column, nobody, IsCallAt, IsMetAt, Roster, AtStation, crews_of}
+use Rattle.logged_lock.proofs.Steps.{beginning-trans, prefix-trans}
 use Rattle.tc_channel.specs.Reply.{clcw}
 use Rattle.tc_link.specs.declared.Link.{Link}
-use Rattle.tc_status.specs.Board.{Watching}
 use Rattle.tc_station.specs.Through.{IsClosedSince, IsItsLast, IsWordRead, IsShownIn}
 
-prefix-trans : (es fs gs : List Event) → IsPrefix es fs → IsPrefix fs gs → IsPrefix es gs
-prefix-trans es fs gs p q = (p.0 ++ q.0, sym (append_assoc es p.0 q.0) ∙ (ap (λ w. w ++ q.0) p.1 ∙ q.1))
-
-goes-on : (a b c : Moment) → IsBeginning a b → IsBeginning b c → IsBeginning a c
-goes-on a b c p q = (q.0 ∙ p.0, prefix-trans a.entries b.entries c.entries p.1 q.1)
-
-desk-there : (desks : List AtLock) (place : ℕ) (d : AtLock) → slice_get desks place ≡ Some d → slice_index_or desks place nobody ≡ d
-desk-there [] place d at = absurd (none-some d at)
-desk-there (x ∷ desks) zero d at = same_Some x d at
-desk-there (x ∷ desks) (suc k) d at = desk-there desks k d at
-
 set-there : (desks : List AtLock) (place : ℕ) (d next : AtLock) → slice_get desks place ≡ Some d → slice_get (slice_set desks place next) place ≡ Some next
-set-there [] place d next at = absurd (none-some d at)
-set-there (x ∷ desks) zero d next at = refl
-set-there (x ∷ desks) (suc k) d next at = set-there desks k d next at
+set-there desks place d next at =
+    let inside : place < length (slice_set desks place next) = omega (arith, slice_get_within desks place d at, length-set desks place next) in
+    slice_get-get_or (slice_set desks place next) place next inside ∙ ap (λ (x : AtLock). Some x) (get_or-set_same desks place next next (slice_get_within desks place d at))
 
 pub post-there : (posts : List AtLock) (n : ℕ) → n < length posts → (post : AtLock) × (slice_get posts n ≡ Some post)
-post-there [] n lt = absurd (omega arith)
-post-there (x ∷ posts) zero lt = (x, refl)
-post-there (x ∷ posts) (suc n) lt = post-there posts n (omega (arith, lt))
+post-there posts n lt = (get_or posts n nobody, slice_get-get_or posts n nobody lt)
 
 -- the k-th operator's account at the desk of a place
 account-there : (ops : List AtStation) (place k : ℕ) (o : AtStation) (d : AtLock) → slice_get ops k ≡ Some o → slice_get o.desks place ≡ Some d
     → get_elem? (accounts_of (column place (crews_of ops))) k ≡ some d.own
 account-there [] place k o d at there = absurd (none-some o at)
 account-there (p ∷ ops) place zero o d at there =
-    ap (λ (x : AtStation). some (slice_index_or x.desks place nobody).own) (same_Some p o at) ∙ ap (λ (x : AtLock). some x.own) (desk-there o.desks place d there)
+    ap (λ (x : AtStation). some (slice_index_or x.desks place nobody).own) (same_Some p o at) ∙ ap (λ (x : AtLock). some x.own) (get_or_from_slice_get o.desks place d nobody there)
 account-there (p ∷ ops) place (suc k) o d at there = account-there ops place k o d at there
 
 -- what an operator had seen of a desk is a beginning of what was given out
@@ -57,7 +40,7 @@ seen-in-closed station place o channel there at since =
     let account = account-there since.operators place since.number since.last on.after since.among on.is in
     let begun : IsBeginning on.after.own.seen closed = one.seen since.number on.after.own account in
     let longer = subst (λ (d : AtLock). IsBeginning d.own.seen on.after.own.seen) same on.longer in
-    (post.0.own.seen.head, sym one.settings, goes-on there.own.seen on.after.own.seen closed longer begun)
+    (post.0.own.seen.head, sym one.settings, beginning-trans there.own.seen on.after.own.seen closed longer begun)
 
 -- the law of the desk on which this rests
 abbrev pub Stands : Type 0
@@ -77,15 +60,6 @@ answered stands station place vcid e ok err before after r channel c since =
     let stood = stands c.there.own now e closed begun in
     (seen.0, length now.entries, seen.1, stood.0, subst (λ (m : Moment). ok m r) stood.1 answer.0, (c.next, at, (c.there.own.made, ap (λ (o : Own). o.made) answer.1)))
 
--- the beginning of a journal, by its length
-taken-front : (es fs gs : List Event) → es ++ fs ≡ gs → take (length es) gs ≡ es
-taken-front [] fs gs is = refl
-taken-front (e ∷ es) fs [] is = absurd cc
-taken-front (e ∷ es) fs (g ∷ gs) is =
-    let first : e ≡ g = cc in
-    let rest : es ++ fs ≡ gs = cc in
-    λ i. sym first i ∷ taken-front es fs gs rest i
-
 -- a CLCW that was read before a meeting is that of a place in what was given out
 pub shown : (station : Roster) (place vcid : ℕ) (link : Link) (early late met : Watching) (word : ℕ) (before after : AtStation) (channel : History)
     → IsWordRead link early word late → IsMetAt place vcid late before met after → IsClosedSince station place after channel → IsShownIn channel early link word
@@ -97,7 +71,7 @@ shown station place vcid link early late met word before after channel (later, o
     let begun : IsBeginning look.now closed = subst (λ (o : Own). IsBeginning o.seen closed) look.looked seen.2 in
     let front = prefix-trans late.seen.journal look.now.entries channel.journal look.answer.1 begun.1 in
     let settings : late.seen.settings ≡ channel.settings = sym look.answer.0 ∙ (sym (ap (λ (h : Identity). h.settings) begun.0) ∙ seen.1) in
-    let journal : late.seen.journal ≡ take (length late.seen.journal) channel.journal = sym (taken-front late.seen.journal front.0 channel.journal front.1) in
+    let journal : late.seen.journal ≡ take (length late.seen.journal) channel.journal = sym (ap (take (length late.seen.journal)) (sym front.1) ∙ take_at late.seen.journal front.0 (length late.seen.journal) refl) in
     let n = length late.seen.journal in (
       n,
       omega (arith, length-append early.seen.journal later.1.0, ap (length {A = Event}) later.1.1),

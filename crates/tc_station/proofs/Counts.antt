@@ -1,12 +1,11 @@
 -- What one job does to the count of a channel.
-use Rattle.std.proofs.Common.{◌≡◌, ℕ, zero, suc, ◌+◌, ◌<◌, ◌≤◌, List, ◌∷◌, length, take, get_or, set, min, max, cond, Bool, true, false, Option, Some, None, refl, sym, ap, ◌∙◌, subst, eq-eqb, arith}
-use Rattle.std.specs.Prelude.{◌==◌, ◌&&◌, nat_lt, is_none, slice_index, Contains}
+use Rattle.tc_station.proofs.Names.{◌≡◌, ℕ, zero, suc, ◌+◌, ◌<◌, ◌≤◌, List, ◌∷◌, length, take, get_or, set, min, cond, Bool, true, false, Option, Some, None, refl, sym, ap, ◌∙◌, subst, arith, ◌==◌, slice_index, Contains, get_or-take, get_or-set_same, get_or-set_other, length-set, length-take, Roster, raised, raised_at, is_frame_for, raised_by}
+use Rattle.std.proofs.Common.{max, eq-eqb, ne_eqb}
+use Rattle.std.specs.Prelude.{◌&&◌, nat_lt, is_none}
 use Rattle.std.proofs.lemmas.Bool.{le-ltb}
 use Rattle.std.proofs.lemmas.Bool.Decides.{nat_tests}
-use Rattle.std.proofs.lemmas.List.{get_or-take, get_or-set_same, get_or-set_other, length-set, length-take}
 use Rattle.tc_link.specs.declared.frame.FrameFault.{FrameFault}
 use Rattle.tc_link.specs.Frame.{BeginsWith, header_of, fault_of, version_of, spare_of, named_length}
-use Rattle.tc_station.proofs.Names.{Roster, raised, raised_at, is_frame_for, raised_by}
 use Rattle.tc_station.specs.Location.{IsLocated, IsLocateFault}
 use Rattle.tc_link.specs.declared.location.LocateFault.{LocateFault}
 use Rattle.tc_link.specs.declared.location.LocateFault.TheVariants.{Frame, OtherSpacecraft, UnknownChannel}
@@ -55,9 +54,6 @@ for-located station octets frame u v l =
     let h = same-header octets frame l.0.0 in
     both (fault_of octets) (header_of octets).scid station.scid (header_of octets).vcid u v (no-fault octets frame l.0.0) (ap (λ x. x.scid) h ∙ l.0.1) (ap (λ x. x.vcid) h ∙ l.1)
 
-differ : (a b : ℕ) → (a ≡ b → ⊥) → (a == b) ≡ false
-differ a b n = grind (arith, nat_tests)
-
 and-false : (a b : Bool) → b ≡ false → (a && b) ≡ false
 and-false true b e = e
 and-false false b e = refl
@@ -66,11 +62,11 @@ pub for-nobody : (station : Roster) (octets : List ℕ) (f : LocateFault) (v : �
 for-nobody station octets (Frame f) v there fault = ap (λ x. is_none x && ((header_of octets).scid == station.scid && (header_of octets).vcid == v)) fault
 for-nobody station octets OtherSpacecraft v there fault =
     let h = same-header octets fault.0 fault.1 in
-    let other : ((header_of octets).scid == station.scid) ≡ false = differ _ _ (λ e. fault.2 (ap (λ x. x.scid) (sym h) ∙ e)) in
+    let other : ((header_of octets).scid == station.scid) ≡ false = ne_eqb _ _ (λ e. fault.2 (ap (λ x. x.scid) (sym h) ∙ e)) in
     and-false (is_none (fault_of octets)) _ (ap (λ t. t && ((header_of octets).vcid == v)) other)
 for-nobody station octets UnknownChannel v there fault =
     let h = same-header octets fault.0 fault.1.0 in
-    let other : ((header_of octets).vcid == v) ≡ false = differ _ _ (λ e. fault.2 (subst (Contains station.vcids) (sym e ∙ ap (λ x. x.vcid) h) there)) in
+    let other : ((header_of octets).vcid == v) ≡ false = ne_eqb _ _ (λ e. fault.2 (subst (Contains station.vcids) (sym e ∙ ap (λ x. x.vcid) h) there)) in
     and-false (is_none (fault_of octets)) _ (and-false ((header_of octets).scid == station.scid) _ other)
 
 -- one job more

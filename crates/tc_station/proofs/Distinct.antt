@@ -1,10 +1,7 @@
 -- Settings looked at one after the other.
-use Rattle.std.proofs.Common.{◌≡◌, ◌≢◌, ℕ, ◌+◌, ◌<◌, List, length, take, get_or, sym, ap, ◌∙◌, inl, inr, arith}
+use Rattle.tc_station.proofs.Names.{◌≡◌, ◌≢◌, ℕ, ◌+◌, ◌<◌, List, length, take, get_or, sym, ap, ◌∙◌, inl, inr, arith, get_or-take, get_or_default, length-take, Settings, IsAllowed}
 use Rattle.std.specs.Prelude.{Any}
 use Rattle.std.proofs.lemmas.Bool.{cases_eq}
-use Rattle.std.proofs.lemmas.List.{get_or-take, get_or_default, length-take}
-use Rattle.tc_channel.specs.declared.settings.Settings.{Settings}
-use Rattle.tc_channel.specs.Settings.{IsAllowed}
 
 -- the first i entries have distinct ids
 abbrev pub DistinctBelow : List Settings → ℕ → Type 0

@@ -1,7 +1,5 @@
 -- Channels that have the ids of their places.
-use Rattle.std.proofs.Common.{◌≡◌, ℕ, zero, suc, List, [], ◌∷◌, length, map, Some, refl, arith}
-use Rattle.std.specs.Prelude.{slice_get, slice_index}
-use Rattle.tc_channel.specs.Journal.{History}
+use Rattle.tc_station.proofs.Names.{◌≡◌, ℕ, zero, suc, List, [], ◌∷◌, length, map, Some, refl, arith, slice_get, slice_index, History}
 
 pub in-order : (vcids : List ℕ) (channels : List History) → length channels ≡ length vcids → ((place : ℕ) (h : History) → slice_get channels place ≡ Some h → h.settings.vcid ≡ slice_index vcids place)
     → map (λ (h : History). h.settings.vcid) channels ≡ vcids

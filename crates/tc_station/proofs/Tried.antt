@@ -1,25 +1,21 @@
 -- What the jobs of a list make at the desks of a station.
-use Rattle.std.proofs.Common.{◌≡◌, ℕ, ◌+◌, ◌<◌, Bool, List, [], ◌∷◌, ◌++◌, length, map, take, get_or, Result, Ok, Err, refl, sym, ap, ◌∙◌, subst, inl, inr}
-use Rattle.std.proofs.lemmas.List.{take_more}
-use Rattle.std.proofs.lemmas.Option.{get_or_from_slice_get}
-use Rattle.tc_station.proofs.Names.{Event, Moment, Own, AtLock, IsReleaseFault, IsTakeFault, IsTakeUnitFault, Roster, AtStation, release_refused, take_refused, take_unit_refused, IsCallAt, IsCallOn, IsBringCall, IsNotReleased, IsNotTaken, IsUnitNotTaken, CanBeMade, CannotBeMade, IsTriedAt, IsTriedOn, IsJobMade, AreMade, HasMadeTheSame}
-use Rattle.tc_channel.specs.declared.event.Event.TheVariants as events
+use Rattle.tc_station.proofs.Names.{◌≡◌, ℕ, ◌+◌, ◌<◌, Bool, List, [], ◌∷◌, ◌++◌, length, map, take, get_or, Result, Ok, Err, refl, sym, ap, ◌∙◌, subst, inl, inr, take_more, get_or_from_slice_get, Event, Moment, Own, AtLock, IsReleaseFault, IsTakeFault, IsTakeUnitFault, Roster, AtStation, release_refused, take_refused, take_unit_refused, IsCallAt, IsCallOn, IsBringCall, IsNotReleased, IsNotTaken, IsUnitNotTaken, CanBeMade, CannotBeMade, IsTriedAt, IsTriedOn, IsJobMade, AreMade, HasMadeTheSame, Job}
 use Rattle.tc_channel.specs.declared.reply.ReleaseFault.{ReleaseFault}
-use Rattle.tc_channel.specs.declared.reply.ReleaseFault.TheVariants as release_faults
 use Rattle.tc_channel.specs.declared.reply.TakeFault.{TakeFault}
-use Rattle.tc_channel.specs.declared.reply.TakeFault.TheVariants as take_faults
 use Rattle.tc_channel.specs.declared.reply.TakeUnitFault.{TakeUnitFault}
-use Rattle.tc_channel.specs.declared.reply.TakeUnitFault.TheVariants as unit_faults
 use Rattle.tc_station.specs.declared.faults.BringFault.{BringFault}
 use Rattle.tc_station.specs.declared.faults.ReleaseRefused.{ReleaseRefused}
-use Rattle.tc_station.specs.declared.faults.ReleaseRefused.TheVariants as release_refusals
 use Rattle.tc_station.specs.declared.faults.TakeRefused.{TakeRefused}
-use Rattle.tc_station.specs.declared.faults.TakeRefused.TheVariants as take_refusals
 use Rattle.tc_station.specs.declared.faults.TakeUnitRefused.{TakeUnitRefused}
+use Rattle.tc_station.proofs.Called.{ok-call, err-call, same-set}
+use Rattle.tc_channel.specs.declared.event.Event.TheVariants as events
+use Rattle.tc_channel.specs.declared.reply.ReleaseFault.TheVariants as release_faults
+use Rattle.tc_channel.specs.declared.reply.TakeFault.TheVariants as take_faults
+use Rattle.tc_channel.specs.declared.reply.TakeUnitFault.TheVariants as unit_faults
+use Rattle.tc_station.specs.declared.faults.ReleaseRefused.TheVariants as release_refusals
+use Rattle.tc_station.specs.declared.faults.TakeRefused.TheVariants as take_refusals
 use Rattle.tc_station.specs.declared.faults.TakeUnitRefused.TheVariants as unit_refusals
 use Rattle.tc_station.specs.declared.work.Order.TheVariants as orders
-use Rattle.tc_station.specs.declared.work.Job.{Job}
-use Rattle.tc_station.proofs.Called.{ok-call, err-call, same-set}
 
 -- a call at one desk that memory didn't refuse: its event was made where it could be
 pub tried-at : {R F : Type 0} (place vcid : ℕ) (e : Event) (ok : Moment → R → Type 0) (err : Moment → F → Type 0) (before after : AtStation) (r : Result R F) → ((m : Moment) (a : R) → ok m a → CanBeMade e m)

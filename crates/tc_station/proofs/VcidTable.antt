@@ -1,18 +1,15 @@
 -- How the table of the places of virtual channel ids is filled, and what it then tells.
-use Rattle.std.proofs.Common.{◌≡◌, ◌≢◌, ℕ, zero, suc, ◌+◌, ◌<◌, ◌≤◌, Bool, true, false, true≢false, cond, ltb, eqb, List, [], ◌∷◌, length, get_or, set, replicate, map, Option, Some, None, ◌⊎◌, inl, inr, refl, sym, ap, ◌∙◌, subst, arith}
-use Rattle.std.specs.Prelude.{◌==◌, All, AllPairs, Contains, MatchOption, position, slice_index}
+use Rattle.tc_station.proofs.Names.{◌≡◌, ◌≢◌, ℕ, zero, suc, ◌+◌, ◌<◌, ◌≤◌, Bool, true, false, cond, List, [], ◌∷◌, length, get_or, set, replicate, map, Option, Some, None, inl, inr, refl, sym, ap, ◌∙◌, subst, arith, ◌==◌, All, AllPairs, Contains, position, slice_index, eqb-true, get_or-set_same, get_or-set_other, get_or-map, get_or_default, length-map, length-set, position-Some, none-some, IsAllowed, Settings, vcids_of}
+use Rattle.std.proofs.Common.{true≢false, ltb, eqb, ◌⊎◌}
+use Rattle.std.specs.Prelude.{MatchOption}
 use Rattle.std.specs.List.{list_any, position_or_len}
-use Rattle.std.proofs.lemmas.Bool.{eqb-true, eq-eqb, ltb-false, ltb-true, lt-ltb}
+use Rattle.std.proofs.lemmas.Bool.{eq-eqb, ltb-false, ltb-true, lt-ltb}
 use Rattle.std.proofs.lemmas.Bool.Decides.{Decides-eqb}
-use Rattle.std.proofs.lemmas.List.{get_or-set_same, get_or-set_other, get_or-map, get_or_default, get_or_past, length-map, length-replicate, length-set}
+use Rattle.std.proofs.lemmas.List.{get_or_past, length-replicate}
 use Rattle.std.proofs.lemmas.List.Folds.{Any-from_list_any}
-use Rattle.std.proofs.lemmas.List.Quantifiers.{position-Some}
 use Rattle.std.proofs.lemmas.List.Sums.{fails_before_first, passes_at_first, prefix_len-le-length}
-use Rattle.std.proofs.lemmas.Option.{none-some}
 use Rattle.std.proofs.lemmas.Map.Made.{IsDistinct-from_AllPairs}
 use Rattle.std.proofs.lemmas.Map.Steps.{length-le_from_distinct_below}
-use Rattle.tc_channel.specs.Settings.{IsAllowed}
-use Rattle.tc_station.proofs.Names.{Settings, vcids_of}
 use Rattle.tc_station.specs.StationSettings.{HaveDistinctVcids}
 use Rattle.tc_station.specs.VcidTable.{IsVcidTable, place_told}
 
@@ -23,10 +20,8 @@ pub record AreTold (ids : List ℕ) (n : ℕ) (table : List ℕ) : Type 0 where
   pub apart : (v : ℕ) → ((k : ℕ) → k < n → get_or ids k 0 ≢ v) → get_or table v 64 ≡ 64
 
 all-alike : (n v x : ℕ) → get_or (replicate n x) v x ≡ x
-all-alike zero zero x = refl
-all-alike zero (suc v) x = refl
-all-alike (suc n) zero x = refl
 all-alike (suc n) (suc v) x = all-alike n v x
+all-alike _ _ x = refl
 
 pub none-told : (ids table : List ℕ) → table ≡ replicate 64 64 → AreTold ids 0 table
 none-told ids table is = record {
@@ -34,22 +29,6 @@ none-told ids table is = record {
   here = λ k lt. absurd (omega (arith, lt));
   apart = λ v none. ap (λ (t : List ℕ). get_or t v 64) is ∙ all-alike 64 v 64;
 }
-
-last-or-before : (k i : ℕ) → k < i + 1 → (k ≡ i) ⊎ (k < i)
-last-or-before k i lt = grind arith
-
-pub one-more-told : (ids table : List ℕ) (i b : ℕ) → AllPairs (λ x y. x ≢ y) ids → i < length ids → get_or ids i 0 ≡ b → b ≤ 63 → AreTold ids i table → AreTold ids (i + 1) (set table b i)
-one-more-told ids table i b distinct lt is small t = record {
-  size = length-set table b i ∙ t.size;
-  here = λ k le. here k (last-or-before k i le);
-  apart = λ v none. get_or-set_other table b v i 64 (λ e. none i (omega arith) (is ∙ sym e)) ∙ t.apart v (λ k le. none k (omega (arith, le)));
-}
-  where
-    here : (k : ℕ) → (k ≡ i) ⊎ (k < i) → get_or (set table b i) (get_or ids k 0) 64 ≡ k
-    here k (inl same) =
-        ap (λ j. get_or (set table b i) (get_or ids j 0) 64) same
-        ∙ (ap (λ j. get_or (set table b i) j 64) is ∙ (get_or-set_same table b i 64 (let s = t.size in omega (arith, s, small)) ∙ sym same))
-    here k (inr before) = get_or-set_other table b (get_or ids k 0) i 64 (λ e. distinct k i 0 before lt (e ∙ sym is)) ∙ t.here k before
 
 told : (k : ℕ) → k ≢ 64 → place_told k ≡ Some k
 told k some = grind (arith, some)
@@ -116,10 +95,3 @@ not-there ids v is (k, lt, e) = by (ltb n (length ids)) refl is where
 pub found-there : (ids : List ℕ) (v : ℕ) (place : Option ℕ) → place ≡ position (λ x. x == v) ids → MatchOption place (¬ Contains ids v) (λ k. (k < length ids) × (slice_index ids k ≡ v))
 found-there ids v None is = not-there ids v is
 found-there ids v (Some k) is = let at = position-Some (λ x. x == v) ids k 0 (sym is) in (at.0, eqb-true (get_or ids k 0) v at.1)
-
--- what an entry tells
-pub nowhere-told : (ids table : List ℕ) (v : ℕ) → IsVcidTable ids table → get_or table v 64 ≡ 64 → None ≡ position (λ x. x == v) ids
-nowhere-told ids table v t is = sym (t v ∙ ap place_told is)
-
-pub somewhere-told : (ids table : List ℕ) (v place : ℕ) → IsVcidTable ids table → get_or table v 64 ≡ place → place ≢ 64 → Some place ≡ position (λ x. x == v) ids
-somewhere-told ids table v place t is some = sym (t v ∙ (ap place_told is ∙ told place some))

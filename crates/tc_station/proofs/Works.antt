@@ -1,18 +1,14 @@
 -- Lists of jobs, and the counts of their operators.
-use Rattle.std.proofs.Common.{◌≡◌, ℕ, zero, suc, ◌+◌, ◌<◌, ◌≤◌, List, [], ◌∷◌, ◌++◌, length, map, take, drop, get_or, set, min, cond, Option, Some, None, refl, sym, ap, ◌∙◌, subst, inl, inr, arith}
-use Rattle.std.specs.Prelude.{◌==◌, All, position, slice_index, Contains, count_by}
+use Rattle.tc_station.proofs.Names.{◌≡◌, ℕ, zero, suc, ◌+◌, ◌<◌, ◌≤◌, List, [], ◌∷◌, ◌++◌, length, map, take, drop, get_or, set, min, cond, Option, Some, None, refl, sym, ap, ◌∙◌, subst, inl, inr, arith, ◌==◌, All, position, slice_index, Contains, eqb-true, take_more, length-map, All-map, All-weaker, position-Some, Roster, IsPlace, Tally, AtStation, IsOurs, tally, tallied, raised, IsListMade, IsTried, IsDone, AreDone, IsWorked, Shift, IsShift, IsTallyOf, AreWorked, lowest, brings_to, is_other, IsRaised, NoCountFalls, Job}
+use Rattle.std.specs.Prelude.{count_by}
 use Rattle.std.specs.List.{AllByRecursion}
-use Rattle.std.proofs.lemmas.Bool.{eqb-true}
 use Rattle.std.proofs.lemmas.Bool.Decides.{eqb_tells}
-use Rattle.std.proofs.lemmas.List.{take_more, map-append, length-map}
+use Rattle.std.proofs.lemmas.List.{map-append}
+use Rattle.std.proofs.lemmas.List.Elements.{All-from_recursion}
 use Rattle.std.proofs.lemmas.List.Sums.{sum_by-cons}
-use Rattle.std.proofs.lemmas.List.Quantifiers.{position-Some}
-use Rattle.std.proofs.lemmas.Grind.{common_steps}
-use Rattle.tc_station.proofs.Names.{Roster, IsPlace, Tally, AtStation, IsOurs, tally, tallied, raised, IsListMade, IsTried, IsDone, AreDone, IsWorked, Shift, IsShift, IsTallyOf, AreWorked, lowest, brings_to, is_other, IsRaised, NoCountFalls}
 use Rattle.tc_station.specs.Lowest.{lower}
 use Rattle.tc_station.specs.declared.work.Order.{Order}
 use Rattle.tc_station.specs.declared.work.Order.TheVariants.{Bring, Release, Take, TakeUnit}
-use Rattle.tc_station.specs.declared.work.Job.{Job}
 use Rattle.tc_station.specs.declared.work.WorkList.{WorkList}
 use Rattle.tc_station.proofs.Counts.{Between, between-both, between-none, between-one, between-other, raised-length, raised-here, raised-else, rises, for-located, for-nobody}
 
@@ -34,9 +30,7 @@ tried-vcids vcid a b (inr d) = ap (λ t. t.vcids) d
 pub same-vcids : (station : Roster) (vcid : ℕ) (order : Order) (a b : Tally) → IsDone station vcid order a b → b.vcids ≡ a.vcids
 same-vcids station vcid (Bring octets) a b (inl d) = ap (λ t. t.vcids) d.3
 same-vcids station vcid (Bring octets) a b (inr d) = ap (λ t. t.vcids) d.2
-same-vcids station vcid Release a b d = tried-vcids vcid a b d
-same-vcids station vcid (Take apid) a b d = tried-vcids vcid a b d
-same-vcids station vcid (TakeUnit map_id) a b d = tried-vcids vcid a b d
+same-vcids station vcid _ a b d = tried-vcids vcid a b d
 
 -- two parts of the lists
 lower-three : (a b c : Option ℕ) → lower a (lower b c) ≡ lower (lower a b) c
@@ -87,9 +81,7 @@ tried-kept station vcid a b (inr d) f = subst (IsTallyOf station) (sym d) f
 tally-kept : (station : Roster) (vcid : ℕ) (order : Order) (a b : Tally) → IsDone station vcid order a b → IsTallyOf station a → IsTallyOf station b
 tally-kept station vcid (Bring octets) a b (inl d) f = subst (IsTallyOf station) (sym d.3) (tally-counted station d.0 a f)
 tally-kept station vcid (Bring octets) a b (inr d) f = subst (IsTallyOf station) (sym d.2) f
-tally-kept station vcid Release a b d f = tried-kept station vcid a b d f
-tally-kept station vcid (Take apid) a b d f = tried-kept station vcid a b d f
-tally-kept station vcid (TakeUnit map_id) a b d f = tried-kept station vcid a b d f
+tally-kept station vcid _ a b d f = tried-kept station vcid a b d f
 
 counted-here : (station : Roster) (u v place : ℕ) (a : Tally) → IsTallyOf station a → IsPlace station v place → u ≡ v → slice_index (tallied u a).counts place ≡ raised (slice_index a.counts place)
 counted-here station u v place a f at same =
@@ -106,18 +98,14 @@ counted-else station u v place a f at other =
 
 bring-step : (station : Roster) (u v place : ℕ) (a : Tally) → IsTallyOf station a → IsPlace station v place → Between (cond (u == v) 1 0) 0 (slice_index a.counts place) (slice_index (tallied u a).counts place)
 bring-step station u v place a f at = elim (eqb_tells u v) [
-  | inl h ↦ subst (λ t. Between (cond t 1 0) 0 (slice_index a.counts place) (slice_index (tallied u a).counts place)) (sym h.0)
-      (subst (Between 1 0 (slice_index a.counts place)) (sym (counted-here station u v place a f at h.1)) (between-one (slice_index a.counts place)))
-  | inr h ↦ subst (λ t. Between (cond t 1 0) 0 (slice_index a.counts place) (slice_index (tallied u a).counts place)) (sym h.0)
-      (subst (Between 0 0 (slice_index a.counts place)) (sym (counted-else station u v place a f at h.1)) (between-none 0 (slice_index a.counts place)))
+  | inl h ↦ rw (h.0, counted-here station u v place a f at h.1) (between-one (slice_index a.counts place))
+  | inr h ↦ rw (h.0, counted-else station u v place a f at h.1) (between-none 0 (slice_index a.counts place))
 ]
 
 other-step : (station : Roster) (u v place : ℕ) (a : Tally) → IsTallyOf station a → IsPlace station v place → Between 0 (cond (u == v) 1 0) (slice_index a.counts place) (slice_index (tallied u a).counts place)
 other-step station u v place a f at = elim (eqb_tells u v) [
-  | inl h ↦ subst (λ t. Between 0 (cond t 1 0) (slice_index a.counts place) (slice_index (tallied u a).counts place)) (sym h.0)
-      (subst (Between 0 1 (slice_index a.counts place)) (sym (counted-here station u v place a f at h.1)) (between-other (slice_index a.counts place)))
-  | inr h ↦ subst (λ t. Between 0 (cond t 1 0) (slice_index a.counts place) (slice_index (tallied u a).counts place)) (sym h.0)
-      (subst (Between 0 0 (slice_index a.counts place)) (sym (counted-else station u v place a f at h.1)) (between-none 0 (slice_index a.counts place)))
+  | inl h ↦ rw (h.0, counted-here station u v place a f at h.1) (between-other (slice_index a.counts place))
+  | inr h ↦ rw (h.0, counted-else station u v place a f at h.1) (between-none 0 (slice_index a.counts place))
 ]
 
 is-there : (station : Roster) (v place : ℕ) → IsPlace station v place → Contains station.vcids v
@@ -130,47 +118,35 @@ JobRaises station own v order c d = Between (cond (brings_to station v order) 1 
 -- a job for the list's own channel may raise its count by one, and no other
 tried-step : (station : Roster) (own : ℕ) (a b : Tally) → IsTried own a b → IsTallyOf station a → (v place : ℕ) → IsPlace station v place
     → Between 0 (cond (own == v) 1 0) (slice_index a.counts place) (slice_index b.counts place)
-tried-step station own a b (inl d) f v place at =
-    subst (λ t. Between 0 (cond (own == v) 1 0) (slice_index a.counts place) (slice_index t.counts place)) (sym d) (other-step station own v place a f at)
-tried-step station own a b (inr d) f v place at =
-    subst (λ t. Between 0 (cond (own == v) 1 0) (slice_index a.counts place) (slice_index t.counts place)) (sym d) (between-none (cond (own == v) 1 0) (slice_index a.counts place))
+tried-step station own a b (inl d) f v place at = rw d (other-step station own v place a f at)
+tried-step station own a b (inr d) f v place at = rw d (between-none (cond (own == v) 1 0) (slice_index a.counts place))
 
 step : (station : Roster) (own : ℕ) (order : Order) (a b : Tally) → IsDone station own order a b → IsTallyOf station a → (v place : ℕ) → IsPlace station v place
     → JobRaises station own v order (slice_index a.counts place) (slice_index b.counts place)
-step station own (Bring octets) a b (inl d) f v place at =
-    subst (λ t. JobRaises station own v (Bring octets) (slice_index a.counts place) (slice_index t.counts place)) (sym d.3)
-    (subst (λ t. Between (cond t 1 0) 0 (slice_index a.counts place) (slice_index (tallied d.0 a).counts place)) (sym (for-located station octets d.1 d.0 v d.2)) (bring-step station d.0 v place a f at))
-step station own (Bring octets) a b (inr d) f v place at =
-    subst (λ t. JobRaises station own v (Bring octets) (slice_index a.counts place) (slice_index t.counts place)) (sym d.2)
-    (subst (λ t. Between (cond t 1 0) 0 (slice_index a.counts place) (slice_index a.counts place)) (sym (for-nobody station octets d.0 v (is-there station v place at) d.1)) (between-none 0 (slice_index a.counts place)))
-step station own Release a b d f v place at = tried-step station own a b d f v place at
-step station own (Take apid) a b d f v place at = tried-step station own a b d f v place at
-step station own (TakeUnit map_id) a b d f v place at = tried-step station own a b d f v place at
+step station own (Bring octets) a b (inl d) f v place at = rw (d.3, for-located station octets d.1 d.0 v d.2) (bring-step station d.0 v place a f at)
+step station own (Bring octets) a b (inr d) f v place at = rw (d.2, for-nobody station octets d.0 v (is-there station v place at) d.1) (between-none 0 (slice_index a.counts place))
+step station own _ a b d f v place at = tried-step station own a b d f v place at
 
 steps : (station : Roster) (own : ℕ) (jobs : List Job) (a b : Tally) → AreDone station own jobs a b → IsTallyOf station a → (v place : ℕ) → IsPlace station v place
     → Between (count_by (λ (j : Job). brings_to station v j.order) jobs) (count_by (λ (j : Job). is_other own v j.order) jobs) (slice_index a.counts place) (slice_index b.counts place)
-steps station own [] a b done f v place at = subst (λ t. Between 0 0 (slice_index a.counts place) (slice_index t.counts place)) (sym done) (between-none 0 (slice_index a.counts place))
+steps station own [] a b done f v place at = rw done (between-none 0 (slice_index a.counts place))
 steps station own (j ∷ js) a b done f v place at =
     let first = step station own j.order a done.0 done.1 f v place at in
     let rest = steps station own js done.0 b done.2 (tally-kept station own j.order a done.0 done.1 f) v place at in
-    let all = between-both _ _ _ _ _ _ _ first rest in
-    subst (λ n. Between n (count_by (λ (i : Job). is_other own v i.order) (j ∷ js)) (slice_index a.counts place) (slice_index b.counts place)) (sym (sum_by-cons (λ (i : Job). cond (brings_to station v i.order) 1 0) j js))
-    (subst (λ n. Between (cond (brings_to station v j.order) 1 0 + count_by (λ (i : Job). brings_to station v i.order) js) n (slice_index a.counts place) (slice_index b.counts place)) (sym (sum_by-cons (λ (i : Job). cond (is_other own v i.order) 1 0) j js)) all)
+    rw (sum_by-cons (λ (i : Job). cond (brings_to station v i.order) 1 0) j js, sum_by-cons (λ (i : Job). cond (is_other own v i.order) 1 0) j js) (between-both _ _ _ _ _ _ _ first rest)
 
 -- no count falls
 tried-rises : (own : ℕ) (a b : Tally) → IsTried own a b → NoCountFalls a b
-tried-rises own a b (inl d) place = subst (λ t. slice_index a.counts place ≤ slice_index t.counts place) (sym d) (rises (position (λ w. w == own) a.vcids) a.counts place)
-tried-rises own a b (inr d) place = subst (λ t. slice_index a.counts place ≤ slice_index t.counts place) (sym d) (omega arith)
+tried-rises own a b (inl d) place = rw d (rises (position (λ w. w == own) a.vcids) a.counts place)
+tried-rises own a b (inr d) place = rw d (omega arith)
 
 one-rises : (station : Roster) (own : ℕ) (order : Order) (a b : Tally) → IsDone station own order a b → NoCountFalls a b
-one-rises station own (Bring octets) a b (inl d) place = subst (λ t. slice_index a.counts place ≤ slice_index t.counts place) (sym d.3) (rises (position (λ w. w == d.0) a.vcids) a.counts place)
-one-rises station own (Bring octets) a b (inr d) place = subst (λ t. slice_index a.counts place ≤ slice_index t.counts place) (sym d.2) (omega arith)
-one-rises station own Release a b d place = tried-rises own a b d place
-one-rises station own (Take apid) a b d place = tried-rises own a b d place
-one-rises station own (TakeUnit map_id) a b d place = tried-rises own a b d place
+one-rises station own (Bring octets) a b (inl d) place = rw d.3 (rises (position (λ w. w == d.0) a.vcids) a.counts place)
+one-rises station own (Bring octets) a b (inr d) place = rw d.2 (omega arith)
+one-rises station own _ a b d place = tried-rises own a b d place
 
 jobs-rise : (station : Roster) (own : ℕ) (jobs : List Job) (a b : Tally) → AreDone station own jobs a b → NoCountFalls a b
-jobs-rise station own [] a b done place = subst (λ t. slice_index a.counts place ≤ slice_index t.counts place) (sym done) (omega arith)
+jobs-rise station own [] a b done place = rw done (omega arith)
 jobs-rise station own (j ∷ js) a b done place =
     let first = one-rises station own j.order a done.0 done.1 place in
     let rest = jobs-rise station own js done.0 b done.2 place in
@@ -224,31 +200,20 @@ work-keeps station lists line os ps w = ap (map (λ (t : AtStation). t.vcids)) (
 pub work-rises : (station : Roster) (lists : List WorkList) (line : Option ℕ) (os ps : List AtStation) → AreWorked station lists line os ps → (k : ℕ) (o : AtStation) → k < length lists → NoCountFalls (tally (get_or os k o)) (tally (get_or ps k o))
 work-rises station lists line os ps w k o lt =
     let inside : k < length w.0 = omega (arith, ap (length {A = WorkList}) w.1, length-map w.0 (λ (s : Shift). s.list)) in
-    subst (λ (x : List AtStation). NoCountFalls (tally (get_or x k o)) (tally (get_or ps k o))) w.2
-    (subst (λ (x : List AtStation). NoCountFalls (tally (get_or (map (λ (s : Shift). s.before) w.0) k o)) (tally (get_or x k o))) w.3 (shifts-rise station w.0 w.4 k o inside))
+    rw (← w.2, ← w.3) (shifts-rise station w.0 w.4 k o inside)
 
 pub work-raises : (station : Roster) (lists : List WorkList) (line : Option ℕ) (os ps : List AtStation) → line ≡ None → AreWorked station lists line os ps → (k : ℕ) (l : WorkList) (o : AtStation) → k < length lists
     → IsRaised station (get_or lists k l) (tally (get_or os k o)) (tally (get_or ps k o))
 work-raises station lists line os ps none w k l o lt =
     let inside : k < length w.0 = omega (arith, ap (length {A = WorkList}) w.1, length-map w.0 (λ (s : Shift). s.list)) in
-    subst (λ (x : List WorkList). IsRaised station (get_or x k l) (tally (get_or os k o)) (tally (get_or ps k o))) w.1
-    (subst (λ (x : List AtStation). IsRaised station (get_or (map (λ (s : Shift). s.list) w.0) k l) (tally (get_or x k o)) (tally (get_or ps k o))) w.2
-    (subst (λ (x : List AtStation). IsRaised station (get_or (map (λ (s : Shift). s.list) w.0) k l) (tally (get_or (map (λ (s : Shift). s.before) w.0) k o)) (tally (get_or x k o))) w.3
-    (shifts-raise station w.0 w.4 (w.5 ∙ none) k l o inside)))
+    rw (← w.1, ← w.2, ← w.3) (shifts-raise station w.0 w.4 (w.5 ∙ none) k l o inside)
 
 -- all operators are still the station's
-shifts-ours : (station : Roster) (shifts : List Shift) → AllByRecursion (IsShift station) shifts → All (IsOurs station) (map (λ (s : Shift). s.after) shifts)
-shifts-ours station [] all k o lt = absurd (omega arith)
-shifts-ours station (s ∷ ss) all zero o lt = all.0.kept
-shifts-ours station (s ∷ ss) all (suc k) o lt = shifts-ours station ss all.1 k o (omega arith)
-
 pub work-ours : (station : Roster) (lists : List WorkList) (line : Option ℕ) (os ps : List AtStation) → AreWorked station lists line os ps → All (IsOurs station) ps
-work-ours station lists line os ps w = subst (All (IsOurs station)) w.3 (shifts-ours station w.0 w.4)
+work-ours station lists line os ps w =
+    let each = All-weaker (IsShift station) (λ (s : Shift). IsOurs station s.after) (λ s x. x.kept) w.0 (All-from_recursion (IsShift station) w.0 w.4) in
+    subst (All (IsOurs station)) w.3 (All-map (IsOurs station) (λ (s : Shift). s.after) w.0 each)
 
 pub work-length : (station : Roster) (lists : List WorkList) (line : Option ℕ) (os ps : List AtStation) → AreWorked station lists line os ps → length ps ≡ length os
 work-length station lists line os ps w =
     omega (arith, ap (length {A = AtStation}) w.2, ap (length {A = AtStation}) w.3, length-map w.0 (λ (s : Shift). s.before), length-map w.0 (λ (s : Shift). s.after))
-
--- a list that was written through a slice over all of it
-pub written : (n : ℕ) (new old : List AtStation) → length new ≡ length old → n ≡ length old → take n (new ++ drop (length new) old) ≡ new
-written n new old e f = grind (arith, common_steps)

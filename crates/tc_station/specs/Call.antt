@@ -1,5 +1,5 @@
 -- What the calls of operators do at the desks of a station.
-use Rattle.std.specs.Prelude.{◌≡◌, ◌⊎◌, ℕ, Bool, false, List, Contains, Some, Result, Err, slice_get, slice_set}
+use Rattle.std.specs.Prelude.{◌≡◌, ◌⊎◌, ℕ, Bool, false, List, Contains, OnErr, OnOk, Some, Result, Err, slice_get, slice_set}
 use Rattle.tc_channel.specs.declared.event.Event.{Event}
 use Rattle.tc_channel.specs.declared.event.Event.TheVariants.{Frame}
 use Rattle.tc_channel.specs.declared.reply.ReleaseFault.{ReleaseFault}
@@ -10,7 +10,7 @@ use Rattle.tc_status.specs.Board.{Watching}
 use Rattle.tc_desk.specs.Log.{Moment, AtLock}
 use Rattle.tc_desk.specs.Call.{IsCall, IsMeeting, HasMet, HasSeenNoMore, IsFramed, IsFramedWatched, IsReleaseFault, IsTakeFault, IsTakeUnitFault}
 use Rattle.tc_station.specs.Roster.{Roster, IsPlace}
-use Rattle.tc_station.specs.Tally.{AtStation}
+use Rattle.tc_station.specs.Tally.{AtStation, IsOurs, tally, tallied}
 use Rattle.tc_station.specs.Location.{IsPlaced, IsLocateFault}
 use Rattle.tc_station.specs.Faults.{release_refused, take_refused, take_unit_refused}
 use Rattle.tc_link.specs.declared.location.LocateFault.{LocateFault}
@@ -31,7 +31,14 @@ pub record IsCallAt {R F : Type 0} (place vcid : ℕ) (e : Event) (ok : Moment �
   pub others : after.desks ≡ slice_set before.desks place next
   pub vcids : after.vcids ≡ before.vcids
 
--- The same, where a watcher met the desk before the call and behind it, all under one hold of the desk's lock: it had seen no more than
+-- The same, and an answer is counted for that channel, and a refusal isn't. It stays the station's operator.
+pub record IsCounted {R F : Type 0} (station : Roster) (place vcid : ℕ) (e : Event) (ok : Moment → R → Type 0) (err : Moment → F → Type 0) (before : AtStation) (result : Result R F) (after : AtStation) : Type 0 where
+  pub call : IsCallAt place vcid e ok err before result after
+  pub counted : OnOk result (tally after ≡ tallied vcid (tally before))
+  pub refused : OnErr result (tally after ≡ tally before)
+  pub ours : IsOurs station after
+
+-- A call, where a watcher met the desk before the call and behind it, all under one hold of the desk's lock: it had seen no more than
 -- what was there at the moment of the call, and then it has seen all that the operator has.
 pub record IsMetCallAt {R F : Type 0} (place vcid : ℕ) (e : Event) (ok : Moment → R → Type 0) (err : Moment → F → Type 0) (early : Watching) (before : AtStation) (result : Result R F) (late : Watching) (after : AtStation) : Type 0 where
   pub at : IsCallAt place vcid e (λ m r. ok m r × HasSeenNoMore early m) (λ m f. err m f × HasSeenNoMore early m) before result after

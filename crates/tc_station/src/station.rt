@@ -10,7 +10,7 @@ ghost use Rattle.tc_desk.specs.Together.{settings_of_desks};
 ghost use Rattle.tc_station.specs.Roster.{IsDeskOf, IsPlace, settings_in};
 ghost use Rattle.tc_station.specs.Room.{IsRoomFor};
 ghost use Rattle.tc_station.specs.Tally.{HasMadeNothing, KnowsDesks, IsOurs, tallied, fresh, issued_more, newcomer_at_desks, tally};
-ghost use Rattle.tc_station.specs.Call.{IsBringCall, IsCallAt, IsCallOn, IsMetAt, IsMetCallAt, IsNotBrought, IsNotBroughtWatched, IsNotReleased, IsNotTaken, IsReplied, IsRepliedWatched, IsUnitNotTaken};
+ghost use Rattle.tc_station.specs.Call.{IsBringCall, IsCallOn, IsCounted, IsMetAt, IsMetCallAt, IsNotBrought, IsNotBroughtWatched, IsNotReleased, IsNotTaken, IsReplied, IsRepliedWatched, IsUnitNotTaken};
 ghost use Rattle.tc_station.specs.Balance.{AreInBalance};
 ghost use Rattle.tc_channel.specs.Journal.{IsNumberTold};
 ghost use Rattle.tc_station.specs.StationSettings.{vcids_of, HaveDistinctVcids, IsFirstDouble, IsFirstRefused, AreStationSettings, IsStationFault};
@@ -381,10 +381,7 @@ impl<J: Journal> StationOf<J> {
     ) -> Result<O::Answer, O::Fault>
         requires ours { IsOurs self.now operator.old }
         requires place { IsPlace self.now vcid place }
-        ensures call { IsCallAt place vcid (O.event operation.now) (O.answers operation.now) (O.refuses operation.now) operator.old result operator.new }
-        ensures counted { OnOk result (tally operator.new ≡ tallied vcid (tally operator.old)) }
-        ensures refused { OnErr result (tally operator.new ≡ tally operator.old) }
-        ensures ours { IsOurs self.now operator.new }
+        ensures { IsCounted self.now place vcid (O.event operation.now) (O.answers operation.now) (O.refuses operation.now) operator.old result operator.new }
     {
         let desk = self.desks[place].desk();
         operator.desks[place].operate(desk, rt, operation)

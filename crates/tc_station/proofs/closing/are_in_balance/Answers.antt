@@ -1,6 +1,4 @@
-use Rattle.std.proofs.Common.{◌∙◌, subst, below_more, arith, rules, refl}
-use Rattle.std.proofs.lemmas.Option.{get_or_from_slice_get, slice_get_within}
-use Rattle.tc_station.specs.Balance.{IsInBalance}
+use Rattle.tc_station.proofs.Names.{◌∙◌, subst, below_more, arith, rules, refl, get_or_from_slice_get, slice_get_within, IsInBalance}
 use Rattle.tc_station.proofs.closing.are_in_balance.Goals as goal
 
 pub loop-place-preserved : goal.loop-place-preserved

@@ -1,6 +1,4 @@
-use Rattle.std.proofs.Common.{◌∙◌, subst, below_more, arith, rules, refl}
-use Rattle.std.proofs.lemmas.Option.{get_or_from_slice_get, slice_get_within}
-use Rattle.tc_station.proofs.Names.{History, IsNumberTold, IsInBalance}
+use Rattle.tc_station.proofs.Names.{◌∙◌, subst, below_more, arith, rules, refl, get_or_from_slice_get, slice_get_within, History, IsNumberTold, IsInBalance}
 use Rattle.tc_station.proofs.closing.are_in_told_balance.Goals as goal
 
 pub loop-place-preserved : goal.loop-place-preserved

@@ -1,6 +1,4 @@
-use Rattle.std.proofs.Common.{◌≡◌, ◌<◌, ℕ, Some}
-use Rattle.std.specs.Prelude.{slice_get}
-use Rattle.tc_station.proofs.Names.{History, IsNumberTold, IsInBalance}
+use Rattle.tc_station.proofs.Names.{◌≡◌, ◌<◌, ℕ, Some, slice_get, History, IsNumberTold, IsInBalance}
 use Rattle.tc_station.proofs.closing.are_in_told_balance.Given as goal
 
 abbrev pub invariant-loop-place : goal.invariant-loop-place

@@ -1,4 +1,4 @@
-use Rattle.std.proofs.Common.{◌≡◌, ◌≤◌, ◌*◌, take}
+use Rattle.tc_station.proofs.Names.{◌≡◌, ◌≤◌, ◌*◌, take}
 use Rattle.tc_station.specs.Balance.{counted_by_all}
 use Rattle.tc_station.proofs.closing.count_of_all.Given as goal
 

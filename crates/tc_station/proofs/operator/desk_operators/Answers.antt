@@ -1,10 +1,7 @@
-use Rattle.std.proofs.Common.{◌<◌, ◌≤◌, ◌∙◌, ap, get_or, length, sym, rules}
-use Rattle.tc_station.proofs.Names.{with_one_issued, arrival}
-use Rattle.tc_station.proofs.Posts.{arrival-step, arrives, below-all, below-none, station-step}
+use Rattle.tc_station.proofs.Names.{◌<◌, ◌≤◌, ◌∙◌, ap, arith, get_or, length, set, sym, rules, common_steps, with_one_issued, arrival}
+use Rattle.std.proofs.lemmas.List.Edits.{map_over_more}
+use Rattle.tc_station.proofs.Posts.{arrival-step, arrives}
 use Rattle.tc_station.proofs.operator.desk_operators.Goals as goal
-
-pub loop-place-init : goal.loop-place-init
-loop-place-init g c = (sym (below-none c.args.posts.now), search rules, search rules)
 
 pub loop-place-preserved : goal.loop-place-preserved
 loop-place-preserved g c =
@@ -15,7 +12,7 @@ loop-place-preserved g c =
     let is = c.index-posts-place.is in
     let read = get_or c.loop-place.posts c.loop-place.place here in
     let one = arrives read c.operator.result c.operator.ensures.lock c.operator.ensures.seen c.operator.ensures.new c.operator.ensures.none in (
-      station-step old c.loop-place.posts c.loop-place.place here c.operator.new.self i.0 lt is (c.operator.ensures.issued ∙ ap with_one_issued (sym is)),
+      ap (set c.loop-place.posts c.loop-place.place) (c.operator.ensures.issued ∙ ap with_one_issued (sym is)) ∙ map_over_more with_one_issued old c.loop-place.posts c.loop-place.place here lt i.0 is,
       arrival-step old c.loop-place.posts c.loop-place.operators.items c.push_reserved.new.self.items c.loop-place.place here c.operator.result i.0 lt is (one ∙ ap arrival (sym is)) i.1 c.push_reserved.ensures.items,
       search rules,
     )
@@ -23,4 +20,5 @@ loop-place-preserved g c =
 pub returns-clause-issued : goal.returns-clause-issued
 returns-clause-issued g c =
     let past : length c.args.posts.now ≤ c.loop-place.place = search rules in
-    c.loop-place.invariant.0 ∙ below-all c.loop-place.place c.args.posts.now past
+    let all = c.loop-place.invariant.0 in
+    grind (arith, common_steps)

@@ -1,5 +1,4 @@
-use Rattle.std.proofs.Common.{◌≡◌, ◌≤◌, length, map, take, vec_capacity}
-use Rattle.tc_station.specs.Tally.{arrival}
+use Rattle.tc_station.proofs.Names.{◌≡◌, ◌≤◌, length, map, take, vec_capacity, arrival}
 use Rattle.tc_station.proofs.Posts.{issued_below}
 use Rattle.tc_station.proofs.operator.desk_operators.Given as goal
 

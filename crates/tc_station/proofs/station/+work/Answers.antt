@@ -1,4 +1,4 @@
-use Rattle.std.proofs.Common.{sym}
+use Rattle.tc_station.proofs.Names.{sym}
 use Rattle.tc_station.proofs.Works.{all-worked, moved-worked}
 use Rattle.tc_station.proofs.station.+work.Goals as goal
 

@@ -1,4 +1,4 @@
-use Rattle.std.proofs.Common.{length, ◌+◌, ◌-◌, ◌*◌}
+use Rattle.tc_station.proofs.Names.{length, ◌+◌, ◌-◌, ◌*◌}
 use Rattle.tc_station.proofs.station.+work.Given as goal
 
 abbrev pub decreases-StationOf::work_all : goal.decreases-StationOf::work_all

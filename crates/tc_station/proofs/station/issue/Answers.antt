@@ -1,6 +1,5 @@
-use Rattle.std.proofs.Common.{◌≡◌, ◌∙◌, ℕ, List, Some, vec_len, ap, subst, sym, rules, arith}
+use Rattle.tc_station.proofs.Names.{◌≡◌, ◌∙◌, ℕ, List, Some, vec_len, ap, subst, sym, rules, arith, settings_of_desks, IsRoomFor, vcids_of}
 use Rattle.std.proofs.lemmas.List.Elements.{All-pop}
-use Rattle.tc_station.proofs.Names.{settings_of_desks, IsRoomFor, vcids_of}
 use Rattle.tc_station.proofs.Posts.{issue-first, issue-step, settings-more}
 use Rattle.tc_station.proofs.station.issue.Goals as goal
 

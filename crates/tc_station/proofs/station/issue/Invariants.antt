@@ -1,5 +1,4 @@
-use Rattle.std.proofs.Common.{◌≡◌, ◌≤◌, ◌+◌, All, replicate, vec_len, vec_capacity}
-use Rattle.tc_station.proofs.Names.{IsRoomFor, issued_more, newcomer_at_desks}
+use Rattle.tc_station.proofs.Names.{◌≡◌, ◌≤◌, ◌+◌, All, replicate, vec_len, vec_capacity, IsRoomFor, issued_more, newcomer_at_desks}
 use Rattle.tc_station.proofs.station.issue.Given as goal
 
 abbrev pub invariant-loop-room : goal.invariant-loop-room

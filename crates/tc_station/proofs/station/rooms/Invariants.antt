@@ -1,5 +1,4 @@
-use Rattle.std.proofs.Common.{◌≡◌, ◌≤◌, All, vec_len, vec_capacity}
-use Rattle.tc_station.specs.Room.{IsRoomFor}
+use Rattle.tc_station.proofs.Names.{◌≡◌, ◌≤◌, All, vec_len, vec_capacity, IsRoomFor}
 use Rattle.tc_station.proofs.station.rooms.Given as goal
 
 abbrev pub invariant-loop : goal.invariant-loop

@@ -1,5 +1,4 @@
-use Rattle.std.proofs.Common.{◌≡◌, ◌≤◌, ◌+◌, map, vec_len, vec_capacity}
-use Rattle.tc_station.proofs.Names.{Identity, heads_of, settings_of_desks, HaveIssued, vcids_of}
+use Rattle.tc_station.proofs.Names.{◌≡◌, ◌≤◌, ◌+◌, map, vec_len, vec_capacity, Identity, heads_of, settings_of_desks, HaveIssued, vcids_of}
 use Rattle.tc_station.proofs.station.start.Given as goal
 
 abbrev pub invariant-loop-settings : goal.invariant-loop-settings

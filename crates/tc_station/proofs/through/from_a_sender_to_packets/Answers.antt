@@ -1,9 +1,6 @@
-use Rattle.std.proofs.Common.{◌≡◌, ◌≢◌, ℕ, [], take, Some, ap, subst, ◌∙◌, arith}
+use Rattle.tc_station.proofs.Names.{◌≡◌, ◌≢◌, ℕ, [], take, Some, ap, subst, ◌∙◌, arith, slice_get_within, Settings, IsReleased, IsOldestPacket, IsOldestUnit, Moment, IsReplied, IsNotBrought, IsNotReleased, IsNotTaken, IsUnitNotTaken, no_limits}
 use Rattle.std.specs.Global.{Vec}
-use Rattle.std.proofs.lemmas.Option.{slice_get_within}
-use Rattle.tc_station.proofs.Names.{Settings, IsReleased, IsOldestPacket, IsOldestUnit, Moment, IsReplied, IsNotBrought, IsNotReleased, IsNotTaken, IsUnitNotTaken}
 use Rattle.tc_channel.specs.declared.event.Event.TheVariants.{Frame, Release, Take, TakeUnit}
-use Rattle.tc_channel.specs.ChannelState.{no_limits}
 use Rattle.tc_channel.specs.Reply.{buffered_fields, frame_reply, release_reply, take_reply, unit_reply}
 use Rattle.tc_station.proofs.ClosedSince.{answered, post-there, shown}
 use Rattle.tc_station.proofs.through.from_a_sender_to_packets.Goals as goal

@@ -1,5 +1,4 @@
-use Rattle.std.proofs.Common.{arith}
-use Rattle.std.proofs.lemmas.Grind.{common_steps}
+use Rattle.tc_station.proofs.Names.{arith, common_steps}
 use Rattle.tc_station.proofs.operator.Operator.count.Goals as goal
 
 pub returns : goal.returns

@@ -1,5 +1,4 @@
-use Rattle.std.proofs.Common.{◌∙◌, sym, ap}
-use Rattle.tc_station.proofs.Names.{settings_of_desks, vcids_of}
+use Rattle.tc_station.proofs.Names.{◌∙◌, sym, ap, settings_of_desks, vcids_of}
 use Rattle.tc_station.proofs.Posts.{arrival-settings}
 use Rattle.tc_station.proofs.operator.Operator.new.Goals as goal
 

@@ -1,29 +1,21 @@
-use Rattle.std.proofs.Common.{◌≡◌, ◌∙◌, ℕ, List, get_or, sym, ap, subst, rules, refl}
-use Rattle.std.proofs.lemmas.Option.{slice_get-get_or}
-use Rattle.tc_station.proofs.Names.{History, AtStation, AreInToldBalance}
+use Rattle.tc_station.proofs.Names.{◌≡◌, ◌∙◌, ℕ, List, get_or, sym, ap, subst, rules, refl, slice_get-get_or, History, AtStation, AreInToldBalance}
 use Rattle.tc_station.proofs.Ordered.{in-order}
 use Rattle.tc_station.proofs.station.StationOf+Unkept.close.Goals as goal
 
 moved : (a b : List ℕ) (o p : List AtStation) (d e : List History) → a ≡ b → o ≡ p → d ≡ e → AreInToldBalance a o d → AreInToldBalance b p e
 moved a b o p d e s t u h = subst (λ (x : List ℕ × List AtStation × List History). AreInToldBalance x.0 x.1 x.2) (λ i. (s i, t i, u i)) h
 
-pub returns-then-are_in_told_balance-clause-balanced : goal.returns-then-are_in_told_balance-clause-balanced
-returns-then-are_in_told_balance-clause-balanced c =
+pub returns-then-are_in_told_balance : goal.returns-then-are_in_told_balance
+returns-then-are_in_told_balance c =
     let own : c.in-Ok.vcids.items ≡ c.args.self.vcids = search rules in
     let good = moved _ _ _ _ _ _ (c.deref.ensures.value ∙ own) c.deref-in-Ok.ensures.value c.deref-in-Ok-2.ensures.value (c.if-are_in_told_balance.ensures.0 (search rules)) in
-    λ place h at. (good place h at).0
-
-pub returns-then-are_in_told_balance-clause-told : goal.returns-then-are_in_told_balance-clause-told
-returns-then-are_in_told_balance-clause-told c =
-    let own : c.in-Ok.vcids.items ≡ c.args.self.vcids = search rules in
-    let good = moved _ _ _ _ _ _ (c.deref.ensures.value ∙ own) c.deref-in-Ok.ensures.value c.deref-in-Ok-2.ensures.value (c.if-are_in_told_balance.ensures.0 (search rules)) in
-    λ k d lt. (good k (get_or c.in-Ok.channels.items k d) (slice_get-get_or c.in-Ok.channels.items k d lt)).1
-
-pub returns-then-are_in_told_balance-clause-channels : goal.returns-then-are_in_told_balance-clause-channels
-returns-then-are_in_told_balance-clause-channels c =
-    let own : c.in-Ok.vcids.items ≡ c.args.self.vcids = search rules in
-    let good = moved _ _ _ _ _ _ (c.deref.ensures.value ∙ own) c.deref-in-Ok.ensures.value c.deref-in-Ok-2.ensures.value (c.if-are_in_told_balance.ensures.0 (search rules)) in
-    in-order c.args.self.vcids c.in-Ok.channels.items (search rules) (λ place h at. (good place h at).0.0)
+    record {
+      all = search (rules, ap (λ s. s.issued) c.self.view_is);
+      balanced = λ place h at. (good place h at).0;
+      told = λ k d lt. (good k (get_or c.in-Ok.channels.items k d) (slice_get-get_or c.in-Ok.channels.items k d lt)).1;
+      channels = in-order c.args.self.vcids c.in-Ok.channels.items (search rules) (λ place h at. (good place h at).0.0);
+      fault = search rules;
+    }
 
 pub returns-else-are_in_told_balance-clause-fault : goal.returns-else-are_in_told_balance-clause-fault
 returns-else-are_in_told_balance-clause-fault c = (

@@ -1,5 +1,4 @@
-use Rattle.std.proofs.Common.{◌∙◌, sym, ap, subst}
-use Rattle.tc_station.proofs.Names.{Identity, Roster, IsDeskOf}
+use Rattle.tc_station.proofs.Names.{◌∙◌, sym, ap, subst, Identity, Roster, IsDeskOf}
 use Rattle.tc_station.proofs.Posts.{desk-of}
 use Rattle.tc_station.proofs.station.StationOf.ask.Goals as goal
 

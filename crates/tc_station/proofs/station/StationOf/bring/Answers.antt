@@ -1,9 +1,6 @@
-use Rattle.std.proofs.Common.{inl, refl, rules}
+use Rattle.tc_station.proofs.Names.{inl, refl, rules}
 use Rattle.tc_station.proofs.Called.{err-call, ok-call}
 use Rattle.tc_station.proofs.station.StationOf.bring.Goals as goal
-
-pub returns-clause-counted : goal.returns-clause-counted
-returns-clause-counted g c = search rules
 
 pub returns-in_default-clause-call : goal.returns-in_default-clause-call
 returns-in_default-clause-call g c =

@@ -1,5 +1,4 @@
-use Rattle.std.proofs.Common.{◌∙◌, ℕ, sym, ap, subst, arith}
-use Rattle.tc_station.proofs.Names.{Roster, HaveIssued, settings_in, crews_of}
+use Rattle.tc_station.proofs.Names.{◌∙◌, ℕ, sym, ap, subst, arith, Roster, HaveIssued, settings_in, crews_of}
 use Rattle.tc_station.proofs.Posts.{are-ours, closed-settings, ids-same, issued-same, length-same, settings-heads, station-cause}
 use Rattle.tc_station.proofs.station.StationOf.close_together.Goals as goal
 

@@ -1,5 +1,4 @@
-use Rattle.std.proofs.Common.{rules}
-use Rattle.tc_station.specs.Tally.{tally}
+use Rattle.tc_station.proofs.Names.{rules, tally}
 use Rattle.tc_station.proofs.Works.{one-more}
 use Rattle.tc_station.proofs.Tried.{one-more-made}
 use Rattle.tc_station.proofs.station.StationOf.do_list.Goals as goal

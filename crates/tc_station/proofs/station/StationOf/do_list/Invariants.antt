@@ -1,5 +1,4 @@
-use Rattle.std.proofs.Common.{take}
-use Rattle.tc_station.proofs.Names.{IsOurs, tally, AreMade, AreDone}
+use Rattle.tc_station.proofs.Names.{take, IsOurs, tally, AreMade, AreDone}
 use Rattle.tc_station.proofs.station.StationOf.do_list.Given as goal
 
 abbrev pub invariant-loop-job : goal.invariant-loop-job

@@ -1,4 +1,4 @@
-use Rattle.std.proofs.Common.{arith}
+use Rattle.tc_station.proofs.Names.{arith}
 use Rattle.tc_station.proofs.Posts.{ids-same, issued-same, length-same}
 use Rattle.tc_station.proofs.station.StationOf.into_channels.Goals as goal
 

@@ -1,10 +1,6 @@
-use Rattle.std.proofs.Common.{inl, rules}
-use Rattle.tc_station.specs.Faults.{release_refused}
+use Rattle.tc_station.proofs.Names.{inl, rules, release_refused}
 use Rattle.tc_station.proofs.Called.{ok-call, refused-call}
 use Rattle.tc_station.proofs.station.StationOf.release.Goals as goal
-
-pub returns-clause-counted : goal.returns-clause-counted
-returns-clause-counted g c = search rules
 
 pub returns-in_err-delivery-clause-call : goal.returns-in_err-delivery-clause-call
 returns-in_err-delivery-clause-call g c =

@@ -1,10 +1,6 @@
-use Rattle.std.proofs.Common.{inl, rules}
-use Rattle.tc_station.specs.Faults.{take_unit_refused}
+use Rattle.tc_station.proofs.Names.{inl, rules, take_unit_refused}
 use Rattle.tc_station.proofs.Called.{ok-call, refused-call}
 use Rattle.tc_station.proofs.station.StationOf.take_unit.Goals as goal
-
-pub returns-clause-answer : goal.returns-clause-answer
-returns-clause-answer g c = search rules
 
 pub returns-in_err-unit-clause-call : goal.returns-in_err-unit-clause-call
 returns-in_err-unit-clause-call g c =

@@ -1,6 +1,5 @@
-use Rattle.std.proofs.Common.{◌≡◌, rules, arith}
+use Rattle.tc_station.proofs.Names.{◌≡◌, rules, arith, no_limits}
 use Rattle.tc_link.specs.Bits.{bit}
-use Rattle.tc_channel.specs.ChannelState.{no_limits}
 use Rattle.tc_station.proofs.station.StationOf.watch.Goals as goal
 
 pub overflow_add-result : goal.overflow_add-result

@@ -1,5 +1,4 @@
-use Rattle.std.proofs.Common.{sym, subst, rules}
-use Rattle.tc_station.proofs.Names.{tally, IsListMade, IsTallyOf, IsWorked}
+use Rattle.tc_station.proofs.Names.{sym, subst, rules, tally, IsListMade, IsTallyOf, IsWorked}
 use Rattle.tc_station.proofs.Works.{one-worked}
 use Rattle.tc_station.proofs.station.StationOf.work_one.Goals as goal
 

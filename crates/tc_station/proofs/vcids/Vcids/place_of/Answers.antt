@@ -1,4 +1,4 @@
-use Rattle.std.proofs.Common.{None, Some, rules}
+use Rattle.tc_station.proofs.Names.{None, Some, rules}
 use Rattle.tc_station.proofs.VcidTable.{found-there}
 use Rattle.tc_station.proofs.vcids.Vcids.place_of.Goals as goal
 
