@@ -1,5 +1,5 @@
 -- A call at a desk is at its place of the journal that the station's close gives out.
-use Rattle.tc_station.proofs.Names.{◌≡◌, ◌<◌, ℕ, zero, suc, List, [], ◌∷◌, ◌++◌, length, get_or, take, Ok, Some, refl, sym, ap, subst, ◌∙◌, arith, slice_get, get_or-set_same, length-append, length-set, take_at, get_or_from_slice_get, none-some, same_Some, slice_get-get_or, slice_get_within, Event, History, made, AtLock, Identity, Moment, Own, accounts_of, column, nobody, IsCallAt, IsMetAt, Roster, AtStation, crews_of, Watching}
+use Rattle.tc_station.proofs.Names.{◌≡◌, ◌<◌, ℕ, zero, suc, List, [], ◌∷◌, length, get_or, take, Ok, Some, refl, sym, ap, subst, ◌∙◌, arith, slice_get, get_or-set_same, length-append, length-set, take_at, get_or_from_slice_get, none-some, same_Some, slice_get-get_or, slice_get_within, Event, History, made, AtLock, Identity, Moment, Own, accounts_of, column, nobody, IsCallAt, IsMetAt, Roster, AtStation, crews_of, Watching}
 use mathlib.Core.Option.{some}
 use lib.ListN.{get_elem?}
 use Rattle.std.specs.Prelude.{slice_index_or, slice_set}

@@ -1,8 +1,5 @@
 -- What the jobs of a list make at the desks of a station.
-use Rattle.tc_station.proofs.Names.{◌≡◌, ℕ, ◌+◌, ◌<◌, Bool, List, [], ◌∷◌, ◌++◌, length, map, take, get_or, Result, Ok, Err, refl, sym, ap, ◌∙◌, subst, inl, inr, take_more, get_or_from_slice_get, Event, Moment, Own, AtLock, IsReleaseFault, IsTakeFault, IsTakeUnitFault, Roster, AtStation, release_refused, take_refused, take_unit_refused, IsCallAt, IsCallOn, IsBringCall, IsNotReleased, IsNotTaken, IsUnitNotTaken, CanBeMade, CannotBeMade, IsTriedAt, IsTriedOn, IsJobMade, AreMade, HasMadeTheSame, Job}
-use Rattle.tc_channel.specs.declared.reply.ReleaseFault.{ReleaseFault}
-use Rattle.tc_channel.specs.declared.reply.TakeFault.{TakeFault}
-use Rattle.tc_channel.specs.declared.reply.TakeUnitFault.{TakeUnitFault}
+use Rattle.tc_station.proofs.Names.{◌≡◌, ℕ, ◌+◌, ◌<◌, Bool, List, [], ◌∷◌, ◌++◌, length, map, take, get_or, Result, Ok, Err, refl, sym, ap, ◌∙◌, subst, inl, inr, take_more, get_or_from_slice_get, Event, Moment, Own, AtLock, Roster, AtStation, IsCallAt, IsCallOn, IsBringCall, IsNotReleased, IsNotTaken, IsUnitNotTaken, CanBeMade, CannotBeMade, IsTriedAt, IsTriedOn, IsJobMade, AreMade, HasMadeTheSame, Job}
 use Rattle.tc_station.specs.declared.faults.BringFault.{BringFault}
 use Rattle.tc_station.specs.declared.faults.ReleaseRefused.{ReleaseRefused}
 use Rattle.tc_station.specs.declared.faults.TakeRefused.{TakeRefused}
@@ -39,29 +36,19 @@ brought station own octets ok err before after r cannot (inl c) =
 brought station own octets ok err before after r cannot (inr c) = inr (c.0, c.1, c.3)
 
 -- what the station refuses otherwise than for memory can't be made
-release-empty : (m : Moment) (said : ReleaseRefused) (fault : ReleaseFault) → (said ≡ release_refusals.NoMemory → ⊥) → said ≡ release_refused fault → IsReleaseFault m fault → CannotBeMade events.Release m
-release-empty m said release_faults.Empty other is p = p
-release-empty m said release_faults.NoMemory other is p = absurd (other is)
-
 pub not-released : (m : Moment) (said : ReleaseRefused) → (said ≡ release_refusals.NoMemory → ⊥) → IsNotReleased m said → CannotBeMade events.Release m
-not-released m said other p = release-empty m said p.0 other p.1 p.2
-
-take-empty : (grows : Bool) (apid : ℕ) (m : Moment) (said : TakeRefused) (fault : TakeFault) → (said ≡ take_refusals.NoMemory → ⊥) → said ≡ take_refused fault → IsTakeFault grows apid m fault → CannotBeMade (events.Take apid) m
-take-empty grows apid m said take_faults.NoQueue other is p = inl p
-take-empty grows apid m said take_faults.Empty other is p = inr p
-take-empty grows apid m said take_faults.NoMemory other is p = absurd (other is)
+not-released m said other (release_faults.Empty, is, p) = p
+not-released m said other (release_faults.NoMemory, is, p) = absurd (other is)
 
 pub not-taken : (grows : Bool) (apid : ℕ) (m : Moment) (said : TakeRefused) → (said ≡ take_refusals.NoMemory → ⊥) → IsNotTaken grows apid m said → CannotBeMade (events.Take apid) m
-not-taken grows apid m said other p = take-empty grows apid m said p.0 other p.1 p.2
-
-unit-empty : (grows : Bool) (map_id : ℕ) (m : Moment) (said : TakeUnitRefused) (fault : TakeUnitFault) → (said ≡ unit_refusals.NoMemory → ⊥) → said ≡ take_unit_refused fault → IsTakeUnitFault grows map_id m fault
-    → CannotBeMade (events.TakeUnit map_id) m
-unit-empty grows map_id m said unit_faults.NoMap other is p = inl p
-unit-empty grows map_id m said unit_faults.Empty other is p = inr p
-unit-empty grows map_id m said unit_faults.NoMemory other is p = absurd (other is)
+not-taken grows apid m said other (take_faults.NoQueue, is, p) = inl p
+not-taken grows apid m said other (take_faults.Empty, is, p) = inr p
+not-taken grows apid m said other (take_faults.NoMemory, is, p) = absurd (other is)
 
 pub unit-not-taken : (grows : Bool) (map_id : ℕ) (m : Moment) (said : TakeUnitRefused) → (said ≡ unit_refusals.NoMemory → ⊥) → IsUnitNotTaken grows map_id m said → CannotBeMade (events.TakeUnit map_id) m
-unit-not-taken grows map_id m said other p = unit-empty grows map_id m said p.0 other p.1 p.2
+unit-not-taken grows map_id m said other (unit_faults.NoMap, is, p) = inl p
+unit-not-taken grows map_id m said other (unit_faults.Empty, is, p) = inr p
+unit-not-taken grows map_id m said other (unit_faults.NoMemory, is, p) = absurd (other is)
 
 -- what was refused made nothing
 refused-at : {R F : Type 0} (place vcid : ℕ) (e : Event) (ok : Moment → R → Type 0) (err : Moment → F → Type 0) (before after : AtStation) (f : F) → IsCallAt place vcid e ok err before (Err f) after → HasMadeTheSame before after

@@ -1,13 +1,13 @@
 -- How the table of the places of virtual channel ids is filled, and what it then tells.
-use Rattle.tc_station.proofs.Names.{◌≡◌, ◌≢◌, ℕ, zero, suc, ◌+◌, ◌<◌, ◌≤◌, Bool, true, false, cond, List, [], ◌∷◌, length, get_or, set, replicate, map, Option, Some, None, inl, inr, refl, sym, ap, ◌∙◌, subst, arith, ◌==◌, All, AllPairs, Contains, position, slice_index, eqb-true, get_or-set_same, get_or-set_other, get_or-map, get_or_default, length-map, length-set, position-Some, none-some, IsAllowed, Settings, vcids_of}
-use Rattle.std.proofs.Common.{true≢false, ltb, eqb, ◌⊎◌}
+use Rattle.tc_station.proofs.Names.{◌≡◌, ◌≢◌, ℕ, suc, ◌<◌, ◌≤◌, Bool, true, false, cond, List, [], ◌∷◌, length, get_or, replicate, Option, Some, None, refl, sym, ap, ◌∙◌, arith, ◌==◌, All, AllPairs, Contains, position, slice_index, eqb-true, get_or-map, length-map, position-Some, none-some, IsAllowed, Settings, vcids_of}
+use Rattle.std.proofs.Common.{true≢false, ltb, eqb}
 use Rattle.std.specs.Prelude.{MatchOption}
 use Rattle.std.specs.List.{list_any, position_or_len}
-use Rattle.std.proofs.lemmas.Bool.{eq-eqb, ltb-false, ltb-true, lt-ltb}
+use Rattle.std.proofs.lemmas.Bool.{eq-eqb, ltb-false, ltb-true}
 use Rattle.std.proofs.lemmas.Bool.Decides.{Decides-eqb}
-use Rattle.std.proofs.lemmas.List.{get_or_past, length-replicate}
+use Rattle.std.proofs.lemmas.List.{length-replicate}
 use Rattle.std.proofs.lemmas.List.Folds.{Any-from_list_any}
-use Rattle.std.proofs.lemmas.List.Sums.{fails_before_first, passes_at_first, prefix_len-le-length}
+use Rattle.std.proofs.lemmas.List.Sums.{fails_before_first, passes_at_first}
 use Rattle.std.proofs.lemmas.Map.Made.{IsDistinct-from_AllPairs}
 use Rattle.std.proofs.lemmas.Map.Steps.{length-le_from_distinct_below}
 use Rattle.tc_station.specs.StationSettings.{HaveDistinctVcids}

@@ -1,5 +1,5 @@
 -- Lists of jobs, and the counts of their operators.
-use Rattle.tc_station.proofs.Names.{◌≡◌, ℕ, zero, suc, ◌+◌, ◌<◌, ◌≤◌, List, [], ◌∷◌, ◌++◌, length, map, take, drop, get_or, set, min, cond, Option, Some, None, refl, sym, ap, ◌∙◌, subst, inl, inr, arith, ◌==◌, All, position, slice_index, Contains, eqb-true, take_more, length-map, All-map, All-weaker, position-Some, Roster, IsPlace, Tally, AtStation, IsOurs, tally, tallied, raised, IsListMade, IsTried, IsDone, AreDone, IsWorked, Shift, IsShift, IsTallyOf, AreWorked, lowest, brings_to, is_other, IsRaised, NoCountFalls, Job}
+use Rattle.tc_station.proofs.Names.{◌≡◌, ℕ, zero, suc, ◌+◌, ◌<◌, List, [], ◌∷◌, ◌++◌, length, map, take, get_or, set, min, cond, Option, Some, None, refl, sym, ap, ◌∙◌, subst, inl, inr, arith, ◌==◌, All, position, slice_index, Contains, eqb-true, take_more, length-map, All-map, All-weaker, position-Some, Roster, IsPlace, Tally, AtStation, IsOurs, tally, tallied, raised, IsListMade, IsTried, IsDone, AreDone, IsWorked, Shift, IsShift, IsTallyOf, AreWorked, lowest, brings_to, is_other, IsRaised, NoCountFalls, Job}
 use Rattle.std.specs.Prelude.{count_by}
 use Rattle.std.specs.List.{AllByRecursion}
 use Rattle.std.proofs.lemmas.Bool.Decides.{eqb_tells}
@@ -8,7 +8,7 @@ use Rattle.std.proofs.lemmas.List.Elements.{All-from_recursion}
 use Rattle.std.proofs.lemmas.List.Sums.{sum_by-cons}
 use Rattle.tc_station.specs.Lowest.{lower}
 use Rattle.tc_station.specs.declared.work.Order.{Order}
-use Rattle.tc_station.specs.declared.work.Order.TheVariants.{Bring, Release, Take, TakeUnit}
+use Rattle.tc_station.specs.declared.work.Order.TheVariants.{Bring}
 use Rattle.tc_station.specs.declared.work.WorkList.{WorkList}
 use Rattle.tc_station.proofs.Counts.{Between, between-both, between-none, between-one, between-other, raised-length, raised-here, raised-else, rises, for-located, for-nobody}
 
@@ -22,15 +22,6 @@ pub one-more : (station : Roster) (vcid : ℕ) (jobs : List Job) (i : ℕ) (job 
 one-more station vcid jobs i job a b c lt is done here =
     let more : take (i + 1) jobs ≡ take i jobs ++ job ∷ [] = take_more jobs i job lt ∙ ap (λ x. take i jobs ++ x ∷ []) (sym is) in
     subst (λ js. AreDone station vcid js a c) (sym more) (snoc station vcid (take i jobs) job a b c done here)
-
-tried-vcids : (vcid : ℕ) (a b : Tally) → IsTried vcid a b → b.vcids ≡ a.vcids
-tried-vcids vcid a b (inl d) = ap (λ t. t.vcids) d
-tried-vcids vcid a b (inr d) = ap (λ t. t.vcids) d
-
-pub same-vcids : (station : Roster) (vcid : ℕ) (order : Order) (a b : Tally) → IsDone station vcid order a b → b.vcids ≡ a.vcids
-same-vcids station vcid (Bring octets) a b (inl d) = ap (λ t. t.vcids) d.3
-same-vcids station vcid (Bring octets) a b (inr d) = ap (λ t. t.vcids) d.2
-same-vcids station vcid _ a b d = tried-vcids vcid a b d
 
 -- two parts of the lists
 lower-three : (a b c : Option ℕ) → lower a (lower b c) ≡ lower (lower a b) c
@@ -152,18 +143,10 @@ jobs-rise station own (j ∷ js) a b done place =
     let rest = jobs-rise station own js done.0 b done.2 place in
     omega (arith, first, rest)
 
-jobs-keep : (station : Roster) (own : ℕ) (jobs : List Job) (a b : Tally) → AreDone station own jobs a b → b.vcids ≡ a.vcids
-jobs-keep station own [] a b done = ap (λ t. t.vcids) done
-jobs-keep station own (j ∷ js) a b done = jobs-keep station own js done.0 b done.2 ∙ same-vcids station own j.order a done.0 done.1
-
 -- of one list
 list-rises : (station : Roster) (list : WorkList) (line : Option ℕ) (a b : Tally) → IsWorked station list line a b → NoCountFalls a b
 list-rises station list None a b w = jobs-rise station list.vcid list.jobs a b w
 list-rises station list (Some line) a b w = jobs-rise station list.vcid (take w.0 list.jobs) a b w.5
-
-list-keeps : (station : Roster) (list : WorkList) (line : Option ℕ) (a b : Tally) → IsWorked station list line a b → b.vcids ≡ a.vcids
-list-keeps station list None a b w = jobs-keep station list.vcid list.jobs a b w
-list-keeps station list (Some line) a b w = jobs-keep station list.vcid (take w.0 list.jobs) a b w.5
 
 list-raises : (station : Roster) (list : WorkList) (line : Option ℕ) (a b : Tally) → line ≡ None → IsTallyOf station a → IsWorked station list line a b → IsRaised station list a b
 list-raises station list None a b none f w = λ v place at. let r = steps station list.vcid list.jobs a b w f v place at in (r.low, r.high)
@@ -178,7 +161,7 @@ none-first (Some x) (Some y) e = absurd cc
 shifts-keep : (station : Roster) (shifts : List Shift) → AllByRecursion (IsShift station) shifts → map (λ (t : AtStation). t.vcids) (map (λ (s : Shift). s.after) shifts) ≡ map (λ (t : AtStation). t.vcids) (map (λ (s : Shift). s.before) shifts)
 shifts-keep station [] all = refl
 shifts-keep station (s ∷ ss) all =
-    let here = list-keeps station s.list s.refused (tally s.before) (tally s.after) all.0.worked in
+    let here = all.0.kept.0 ∙ sym all.0.ours.vcids in
     let rest = shifts-keep station ss all.1 in
     cc
 

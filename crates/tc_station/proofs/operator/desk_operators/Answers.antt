@@ -1,4 +1,4 @@
-use Rattle.tc_station.proofs.Names.{◌<◌, ◌≤◌, ◌∙◌, ap, arith, get_or, length, set, sym, rules, common_steps, with_one_issued, arrival}
+use Rattle.tc_station.proofs.Names.{◌<◌, ◌∙◌, ap, get_or, length, set, sym, rules, with_one_issued, arrival}
 use Rattle.std.proofs.lemmas.List.Edits.{map_over_more}
 use Rattle.tc_station.proofs.Posts.{arrival-step, arrives}
 use Rattle.tc_station.proofs.operator.desk_operators.Goals as goal
@@ -16,9 +16,3 @@ loop-place-preserved g c =
       arrival-step old c.loop-place.posts c.loop-place.operators.items c.push_reserved.new.self.items c.loop-place.place here c.operator.result i.0 lt is (one ∙ ap arrival (sym is)) i.1 c.push_reserved.ensures.items,
       search rules,
     )
-
-pub returns-clause-issued : goal.returns-clause-issued
-returns-clause-issued g c =
-    let past : length c.args.posts.now ≤ c.loop-place.place = search rules in
-    let all = c.loop-place.invariant.0 in
-    grind (arith, common_steps)

@@ -12,14 +12,11 @@ loop-settings-preserved g c =
     let have : HaveIssued 0 c.push_reserved-in-loop-settings.new.self.items = have-end 0 c.loop-settings.desks.items c.push_reserved-in-loop-settings.new.self.items c.in-Ok.post c.push_reserved-in-loop-settings.ensures.items i.2 (search rules) in
     (grind (arith, common_steps), grind (arith, common_steps), have, grind (arith, common_steps), grind (arith, common_steps), grind (arith, common_steps), grind (arith, common_steps), grind (arith, common_steps))
 
-pub new-requires-2-clause-distinct : goal.new-requires-2-clause-distinct
-new-requires-2-clause-distinct g c =
+pub new-requires-2 : goal.new-requires-2
+new-requires-2 g c =
     let seen = YieldsList-end (YieldsList-from_vec c.args.list.items (search rules) (search rules)) c.loop-settings.yielded c.loop-settings.settings-iterator c.loop-settings.yielded_by c.next.result c.next.new.self c.in-None.is c.next.ensures.steps in
     let is : c.loop-settings.vcids.items ≡ vcids_of c.args.list.items = c.loop-settings.invariant.0 ∙ ap vcids_of (sym (map-id c.loop-settings.yielded) ∙ seen.0) in
-    subst (AllPairs (λ x y. x ≢ y)) (sym is) (distinct-ids c.args.list.items c.requires.distinct)
-
-pub new-requires-2-clause-allowed : goal.new-requires-2-clause-allowed
-new-requires-2-clause-allowed g c =
-    let seen = YieldsList-end (YieldsList-from_vec c.args.list.items (search rules) (search rules)) c.loop-settings.yielded c.loop-settings.settings-iterator c.loop-settings.yielded_by c.next.result c.next.new.self c.in-None.is c.next.ensures.steps in
-    let is : c.loop-settings.vcids.items ≡ vcids_of c.args.list.items = c.loop-settings.invariant.0 ∙ ap vcids_of (sym (map-id c.loop-settings.yielded) ∙ seen.0) in
-    subst (All (λ v. v ≤ 63)) (sym is) (small-ids c.args.list.items c.requires.allowed)
+    record {
+      distinct = subst (AllPairs (λ x y. x ≢ y)) (sym is) (distinct-ids c.args.list.items c.requires.distinct);
+      allowed = subst (All (λ v. v ≤ 63)) (sym is) (small-ids c.args.list.items c.requires.allowed);
+    }

@@ -1,14 +1,11 @@
-use Rattle.tc_station.proofs.Names.{◌≡◌, ◌∙◌, ℕ, List, get_or, sym, ap, subst, rules, refl, slice_get-get_or, History, AtStation, AreInToldBalance}
-use Rattle.tc_station.proofs.Ordered.{in-order}
+use Rattle.tc_station.proofs.Names.{◌≡◌, ◌∙◌, get_or, sym, ap, rules, refl, slice_get-get_or, AreInToldBalance}
+use Rattle.tc_station.proofs.Ordered.{in-order, moved}
 use Rattle.tc_station.proofs.station.StationOf+Unkept.close.Goals as goal
-
-moved : (a b : List ℕ) (o p : List AtStation) (d e : List History) → a ≡ b → o ≡ p → d ≡ e → AreInToldBalance a o d → AreInToldBalance b p e
-moved a b o p d e s t u h = subst (λ (x : List ℕ × List AtStation × List History). AreInToldBalance x.0 x.1 x.2) (λ i. (s i, t i, u i)) h
 
 pub returns-then-are_in_told_balance : goal.returns-then-are_in_told_balance
 returns-then-are_in_told_balance c =
     let own : c.in-Ok.vcids.items ≡ c.args.self.vcids = search rules in
-    let good = moved _ _ _ _ _ _ (c.deref.ensures.value ∙ own) c.deref-in-Ok.ensures.value c.deref-in-Ok-2.ensures.value (c.if-are_in_told_balance.ensures.0 (search rules)) in
+    let good = moved AreInToldBalance _ _ _ _ _ _ (c.deref.ensures.value ∙ own) c.deref-in-Ok.ensures.value c.deref-in-Ok-2.ensures.value (c.if-are_in_told_balance.ensures.0 (search rules)) in
     record {
       all = search (rules, ap (λ s. s.issued) c.self.view_is);
       balanced = λ place h at. (good place h at).0;
@@ -24,6 +21,6 @@ returns-else-are_in_told_balance-clause-fault c = (
   search rules,
   λ h.
       let own : c.in-Ok.vcids.items ≡ c.args.self.vcids = search rules in
-      let e = c.if-are_in_told_balance.ensures.1 (moved _ _ _ _ _ _ (sym (c.deref.ensures.value ∙ own)) (sym c.deref-in-Ok.ensures.value) (sym c.deref-in-Ok-2.ensures.value) h) in
+      let e = c.if-are_in_told_balance.ensures.1 (moved AreInToldBalance _ _ _ _ _ _ (sym (c.deref.ensures.value ∙ own)) (sym c.deref-in-Ok.ensures.value) (sym c.deref-in-Ok-2.ensures.value) h) in
       absurd cc,
 )

@@ -1,4 +1,4 @@
-use Rattle.tc_station.proofs.Names.{◌≡◌, ◌∙◌, ◌≤◌, ℕ, length, ap, sym, subst, refl, arith}
+use Rattle.tc_station.proofs.Names.{◌≡◌, ℕ, length, ap, subst, refl, arith}
 use Rattle.tc_station.proofs.VcidTable.{AreTold, few-ids, none-told, table-of}
 use Rattle.tc_station.proofs.vcids.Vcids.new.Goals as goal
 
