@@ -1,7 +1,7 @@
 -- Whether operators can close a desk, by the numbers of these and of their events.
-use Rattle.tc_desk.proofs.Names.{◌≡◌, ◌≢◌, inl, inr, ℕ, ◌<◌, ◌≤◌, ◌-◌, ◌^◌, List, length, min, arith, Event, total_made, Own, CanClose, IsBalanced, IsCause}
-use Rattle.std.proofs.Common.{◌⊎◌, ⊎_elim, lt_of_not-le}
-use native.Mathlib.Decide.{ℕ_discrete, dec_le}
+use Rattle.tc_desk.proofs.Names.{◌≡◌, inl, inr, ℕ, ◌≤◌, ◌-◌, ◌^◌, List, length, arith, Event, total_made, Own, CanClose, IsBalanced, IsCause}
+use Rattle.std.proofs.Common.{⊎_elim, lt_of_not-le}
+use native.Mathlib.Decide.{dec_le}
 use mathlib.Core.Logic.{dite}
 
 -- what all operators have made is the whole journal

@@ -8,4 +8,4 @@ pub use Rattle.tc_channel.specs.declared.event.Event.{Event}
 pub use Rattle.tc_desk.specs.Call.{made}
 pub use Rattle.tc_desk.specs.Closing.{CanClose, IsBalanced, IsCause, IsClosed}
 pub use Rattle.tc_desk.specs.Log.{AtHand, AtLock, Moment, Own, accounts_of, told_at}
-pub use Rattle.tc_desk.specs.Together.{AreOurs, AreSame, CanCloseEach, CannotCloseOne, IsFresh, IsOut, column, keepers_of, nobody, settings_of_desks, told_row, told_rows}
+pub use Rattle.tc_desk.specs.Together.{AreOurs, AreOut, AreSame, CanCloseEach, CannotCloseOne, IsFresh, IsOut, column, keepers_of, nobody, settings_of_desks, told_row, told_rows}

@@ -10,7 +10,6 @@ use Rattle.std.proofs.lemmas.Option.{none-some, same_Some, slice_get-map}
 use Rattle.logged_lock.specs.Log.{AreBehind}
 use Rattle.tc_channel.specs.Journal.{History}
 use Rattle.tc_desk.specs.{TableId}
-use Rattle.tc_desk.specs.Log.{Sight}
 use Rattle.tc_desk.proofs.Counted.{as-balanced, cause-of, not-balanced}
 use Rattle.tc_desk.specs.declared.together.Refusal.{Refusal}
 use Rattle.tc_desk.specs.declared.together.Refusal.TheVariants.{Unbalanced}
@@ -29,27 +28,22 @@ one_held ps hs p h is =
 same_map : {Y : Type 0} (f : AtLock → Y) (ps rest : List AtLock) (p q : AtLock) → f p ≡ f q → map f ((ps ++ p ∷ []) ++ rest) ≡ map f ((ps ++ q ∷ []) ++ rest)
 same_map f ps rest p q is = simp (map-append, is)
 
--- one desk is let go
-pub one_let_go : (old ps : List AtLock) (hs : List AtHand) (p : AtLock) (h : AtHand) → p.lock ≡ h.keeper.lock → p.own.seen.head ≡ h.keeper.own.seen.head → p.own.issued ≡ h.keeper.own.issued
-    → AreSame old (ps ++ reverse (keepers_of (hs ++ h ∷ []))) → AreSame old ((ps ++ p ∷ []) ++ reverse (keepers_of hs))
-one_let_go old ps hs p h lock head issued same =
-    let before = one_held ps hs h.keeper h refl in
-    let rest = reverse (keepers_of hs) in (
-      same_map (λ (o : AtLock). o.lock) ps rest p h.keeper lock ∙ ap locks_of (sym before) ∙ same.0,
-      same_map (λ (o : AtLock). o.own.seen.head) ps rest p h.keeper head ∙ ap heads_of (sym before) ∙ same.1,
-      same_map (λ (o : AtLock). o.own.issued) ps rest p h.keeper issued ∙ ap issued_of (sym before) ∙ same.2,
-    )
-
 pub held_step : (all posts ps : List AtLock) (hs next : List AtHand) (p : AtLock) (h : AtHand) → posts ≡ ps ++ p ∷ [] → next ≡ hs ++ h ∷ [] → h.keeper ≡ p
     → posts ++ reverse (keepers_of hs) ≡ all → ps ++ reverse (keepers_of next) ≡ all
 held_step all posts ps hs next p h popped grown is before =
     ap (λ (l : List AtHand). ps ++ reverse (keepers_of l)) grown ∙ one_held ps hs p h is ∙ sym (ap (λ (l : List AtLock). l ++ reverse (keepers_of hs)) popped) ∙ before
 
+-- one desk is let go
 pub let_go_step : (old ps next : List AtLock) (held hs : List AtHand) (p : AtLock) (h : AtHand) → held ≡ hs ++ h ∷ [] → next ≡ ps ++ p ∷ [] → p.lock ≡ h.keeper.lock → p.own.seen.head ≡ h.keeper.own.seen.head → p.own.issued ≡ h.keeper.own.issued
     → AreSame old (ps ++ reverse (keepers_of held)) → AreSame old (next ++ reverse (keepers_of hs))
 let_go_step old ps next held hs p h popped grown lock head issued same =
-    subst (λ (l : List AtLock). AreSame old (l ++ reverse (keepers_of hs))) (sym grown)
-    (one_let_go old ps hs p h lock head issued (subst (λ (l : List AtHand). AreSame old (ps ++ reverse (keepers_of l))) popped same))
+    let rest = reverse (keepers_of hs) in
+    let before : ps ++ reverse (keepers_of held) ≡ (ps ++ h.keeper ∷ []) ++ rest = ap (λ (l : List AtHand). ps ++ reverse (keepers_of l)) popped ∙ one_held ps hs h.keeper h refl in
+    subst (λ (l : List AtLock). AreSame old (l ++ rest)) (sym grown) (
+      same_map (λ (o : AtLock). o.lock) ps rest p h.keeper lock ∙ ap locks_of (sym before) ∙ same.0,
+      same_map (λ (o : AtLock). o.own.seen.head) ps rest p h.keeper head ∙ ap heads_of (sym before) ∙ same.1,
+      same_map (λ (o : AtLock). o.own.issued) ps rest p h.keeper issued ∙ ap issued_of (sym before) ∙ same.2,
+    )
 
 pub keepers-reverse : (hs : List AtHand) → keepers_of (reverse hs) ≡ reverse (keepers_of hs)
 keepers-reverse [] = refl
@@ -187,13 +181,6 @@ pub one_out : (hs : List AtHand) (cs : List History) (h : AtHand) (c : History) 
 one_out [] [] h c all one = (one, tt)
 one_out (g ∷ hs) (d ∷ cs) h c all one = (all.0, one_out hs cs h c all.1 one)
 one_out _ _ h c all one = absurd all
-
-pub out_step : (hs : List AtHand) (cs next : List History) (h : AtHand) (c : History) → next ≡ cs ++ c ∷ [] → AllZip IsOut hs cs → IsOut h c → AllZip IsOut (hs ++ h ∷ []) next
-out_step hs cs next h c is all one = subst (λ (l : List History). AllZip IsOut (hs ++ h ∷ []) l) (sym is) (one_out hs cs h c all one)
-
--- what the keeper was told is behind what it has seen
-pub behind_at : (h : AtHand) (v : Sight) → h.told ≡ v.told → h.now ≡ v.own.seen → AreBehind v.told v.own.seen → AreBehind h.told h.now
-behind_at h v told now behind = subst (λ (x : List Own × Moment). AreBehind x.0 x.1) (λ i. (sym told i, sym now i)) behind
 
 out_at : (hs : List AtHand) (cs : List History) (place : ℕ) (h : AtHand) (c : History) → AllZip IsOut hs cs → slice_get hs place ≡ Some h → slice_get cs place ≡ Some c → IsOut h c
 out_at [] cs place h c all here there = absurd (none-some _ here)

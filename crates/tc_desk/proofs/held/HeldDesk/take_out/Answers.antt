@@ -1,9 +1,8 @@
 use Rattle.tc_desk.proofs.Names.{◌≡◌, sym, ap, ◌∙◌, subst, rules, IsMergeOf}
-use Rattle.tc_desk.proofs.Rows.{behind_at}
 use Rattle.tc_desk.proofs.held.HeldDesk.take_out.Goals as goal
 
 pub returns-clause-seen : goal.returns-clause-seen
-returns-clause-seen g c = behind_at c.args.self c.self.inside.first.me.0 (search rules) (search rules) c.settle.ensures.behind
+returns-clause-seen g c = rw (← c.self.view_is) c.settle.ensures.behind
 
 pub replace-kept-requires-clause-locks : goal.replace-kept-requires-clause-locks
 replace-kept-requires-clause-locks g c =

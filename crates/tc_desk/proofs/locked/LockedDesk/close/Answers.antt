@@ -1,4 +1,4 @@
-use Rattle.tc_desk.proofs.Names.{◌≡◌, ◌∙◌, ◌+◌, List, length, min, ap, subst, sym, arith, rules, true≢false, common_steps, ◌-◌, ◌^◌, length-map, total_made, IsBeginning, AtLock, AtHand, accounts_of, CanClose, IsCause, IsClosed, IsOut}
+use Rattle.tc_desk.proofs.Names.{◌∙◌, List, min, ap, subst, sym, arith, rules, true≢false, common_steps, ◌-◌, ◌^◌, length-map, total_made, IsBeginning, AtLock, AtHand, accounts_of, CanClose, IsCause, IsClosed, IsOut}
 use Rattle.tc_desk.specs.Closing.{IsObstacle}
 use Rattle.tc_desk.specs.declared.closing.Obstacle.{Obstacle}
 use Rattle.tc_desk.proofs.Counted.{cause-of, not-balanced}
