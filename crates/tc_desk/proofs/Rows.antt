@@ -48,7 +48,8 @@ let_go_step old ps next held hs p h popped grown lock head issued same =
 pub keepers-reverse : (hs : List AtHand) → keepers_of (reverse hs) ≡ reverse (keepers_of hs)
 keepers-reverse [] = refl
 keepers-reverse (h ∷ hs) =
-    ap keepers_of (reverse-append (h ∷ []) hs) ∙ map-append (λ (x : AtHand). x.keeper) (reverse hs) (h ∷ []) ∙ ap (λ (k : List AtLock). k ++ h.keeper ∷ []) (keepers-reverse hs) ∙ sym (reverse-append (h.keeper ∷ []) (keepers_of hs))
+    ap keepers_of (reverse-append (h ∷ []) hs) ∙ map-append (λ (x : AtHand). x.keeper) (reverse hs) (h ∷ [])
+    ∙ ap (λ (k : List AtLock). k ++ h.keeper ∷ []) (keepers-reverse hs) ∙ sym (reverse-append (h.keeper ∷ []) (keepers_of hs))
 
 pub fresh-reverse : (hs : List AtHand) → All IsFresh hs → All IsFresh (reverse hs)
 fresh-reverse hs all = λ k d lt.

@@ -54,7 +54,8 @@ at_posts scid vcids issued posts = record { scid = scid; vcids = vcids; issued =
 
 -- the operator's desk at the place of a channel, where a call is made
 module _ {R F : Type 0} (e : Event) (ok : Moment → R → Type 0) (err : Moment → F → Type 0) (station : Roster) (o : AtStation) (vcids : List ℕ) (desks : List AtLock) (place vcid : ℕ) (there next : AtLock) (r : Result R F)
-    (view : at_station vcids desks ≡ o) (ids : vcids_of (settings_of_desks desks) ≡ vcids) (ours : IsOurs station o) (place_is : IsPlace station vcid place) (is : there ≡ get_or desks place there) (c : IsCall e ok err there r next) where
+    (view : at_station vcids desks ≡ o) (ids : vcids_of (settings_of_desks desks) ≡ vcids) (ours : IsOurs station o) (place_is : IsPlace station vcid place)
+    (is : there ≡ get_or desks place there) (c : IsCall e ok err there r next) where
   abbrev changed : AtStation
   changed = at_station vcids (set desks place next)
 
@@ -95,8 +96,9 @@ module _ {R F : Type 0} (e : Event) (ok : Moment → R → Type 0) (err : Moment
   heads-kept = same-set (λ (d : AtLock). d.own.seen.head) desks place there next is (head-kept e ok err there next r c) ∙ ap (λ (x : AtStation). heads_of x.desks) view
 
 -- the operator's desk of a place and the station's have one lock
-pub same-lock : (station : Roster) (o : AtStation) (vcids posted : List ℕ) (scid issued : ℕ) (desks posts : List AtLock) (place vcid : ℕ) (there post : AtLock) → at_station vcids desks ≡ o → vcids_of (settings_of_desks desks) ≡ vcids → IsOurs station o
-    → at_posts scid posted issued posts ≡ station → vcids_of (settings_of_desks posts) ≡ posted → IsPlace station vcid place → there ≡ get_or desks place there → post ≡ get_or posts place post → there.lock ≡ post.lock
+pub same-lock : (station : Roster) (o : AtStation) (vcids posted : List ℕ) (scid issued : ℕ) (desks posts : List AtLock) (place vcid : ℕ) (there post : AtLock)
+    → at_station vcids desks ≡ o → vcids_of (settings_of_desks desks) ≡ vcids → IsOurs station o → at_posts scid posted issued posts ≡ station → vcids_of (settings_of_desks posts) ≡ posted → IsPlace station vcid place
+    → there ≡ get_or desks place there → post ≡ get_or posts place post → there.lock ≡ post.lock
 same-lock station o vcids posted scid issued desks posts place vcid there post view ids ours seen posted_ids place_is is post_is =
     let lock : AtLock → TableId = λ d. d.lock in
     let at : position (λ v. v == vcid) vcids ≡ Some place = ap (λ vs. position (λ v. v == vcid) vs) (ap (λ (x : AtStation). x.vcids) view ∙ ours.0) ∙ place_is in
@@ -107,8 +109,9 @@ same-lock station o vcids posted scid issued desks posts place vcid there post v
     ap lock is ∙ (sym mine ∙ (ap (λ (l : List TableId). get_or l place post.lock) same ∙ (theirs ∙ ap lock (sym post_is))))
 
 -- the same call at the same moment, with another answer
-abbrev pub answered-so : {R F S G : Type 0} (place vcid : ℕ) (e : Event) (ok : Moment → R → Type 0) (err : Moment → F → Type 0) (ok2 : Moment → S → Type 0) (err2 : Moment → G → Type 0) (before after : AtStation) (r : Result R F) (r2 : Result S G)
-    (c : IsCallAt place vcid e ok err before r after) → MatchResult r2 (λ a. ok2 c.call.now a × (c.next.own ≡ made e c.call.now c.there.own)) (λ f. err2 c.call.now f × (c.next.own ≡ looked c.call.now c.there.own)) → IsCallAt place vcid e ok2 err2 before r2 after
+answered-so : {R F S G : Type 0} (place vcid : ℕ) (e : Event) (ok : Moment → R → Type 0) (err : Moment → F → Type 0) (ok2 : Moment → S → Type 0) (err2 : Moment → G → Type 0) (before after : AtStation) (r : Result R F) (r2 : Result S G)
+    (c : IsCallAt place vcid e ok err before r after) → MatchResult r2 (λ a. ok2 c.call.now a × (c.next.own ≡ made e c.call.now c.there.own)) (λ f. err2 c.call.now f × (c.next.own ≡ looked c.call.now c.there.own))
+    → IsCallAt place vcid e ok2 err2 before r2 after
 answered-so place vcid e ok err ok2 err2 before after r r2 c answer = record {
   there = c.there;
   next = c.next;

@@ -57,7 +57,8 @@ have-more n i (p ∷ ps) have (suc k) d lt = have-more n i ps (λ j e inside. ha
 -- one post more, which has issued as many
 pub have-end : (n : ℕ) (posts next : List AtLock) (p : AtLock) → next ≡ posts ++ p ∷ [] → HaveIssued n posts → p.own.issued ≡ n → HaveIssued n next
 have-end n posts next p is have one =
-    All-same (λ (i : ℕ). i ≡ n) (issued_of next) (issued_of posts ++ p.own.issued ∷ []) (ap issued_of is ∙ map_push (λ (o : AtLock). o.own.issued) posts p) (All-push (λ (i : ℕ). i ≡ n) (issued_of posts) p.own.issued have one)
+    All-same (λ (i : ℕ). i ≡ n) (issued_of next) (issued_of posts ++ p.own.issued ∷ []) (ap issued_of is ∙ map_push (λ (o : AtLock). o.own.issued) posts p)
+    (All-push (λ (i : ℕ). i ≡ n) (issued_of posts) p.own.issued have one)
 
 -- the first posts have issued one operator more
 abbrev pub issued_below : ℕ → List AtLock → List AtLock
@@ -71,7 +72,8 @@ pub arrival-step : (old now : List AtLock) (before after : List AtLock) (n : ℕ
     → after ≡ before ++ o ∷ [] → after ≡ map arrival (take (n + 1) old)
 arrival-step old now before after n d o is lt here one so pushed =
     let front : length (map with_one_issued (take n old)) ≡ n = omega (arith, length-map (take n old) with_one_issued, length-take n old, lt) in
-    let read : get_or (issued_below n old) n d ≡ get_or old n d = ap (λ l. get_or (map with_one_issued (take n old) ++ l) n d) (drop_more old n d lt) ∙ get_or_at (map with_one_issued (take n old)) (get_or old n d) (drop (n + 1) old) d n front in
+    let read : get_or (issued_below n old) n d ≡ get_or old n d = ap (λ l. get_or (map with_one_issued (take n old) ++ l) n d) (drop_more old n d lt)
+    ∙ get_or_at (map with_one_issued (take n old)) (get_or old n d) (drop (n + 1) old) d n front in
     let there : d ≡ get_or old n d = here ∙ (ap (λ l. get_or l n d) is ∙ read) in
     pushed ∙ ((λ i. so i ++ (one ∙ ap arrival there) i ∷ []) ∙ sym (map_more arrival old n d lt))
 
@@ -92,7 +94,8 @@ issue-step vcids first now after k next before operators o ids is count issued o
 -- operators of the station are a crew of its desks
 pub are-ours : (station : Roster) (posts : List AtLock) (operators : List AtStation) → station.locks ≡ locks_of posts → All (IsOurs station) operators → AreOurs posts (crews_of operators)
 are-ours station posts operators locks all =
-    All-map (λ (crew : List AtLock). locks_of crew ≡ locks_of posts) (λ (o : AtStation). o.desks) operators (All-weaker (IsOurs station) (λ (o : AtStation). locks_of o.desks ≡ locks_of posts) (λ o ours. ours.1 ∙ locks) operators all)
+    All-map (λ (crew : List AtLock). locks_of crew ≡ locks_of posts) (λ (o : AtStation). o.desks) operators
+    (All-weaker (IsOurs station) (λ (o : AtStation). locks_of o.desks ≡ locks_of posts) (λ o ours. ours.1 ∙ locks) operators all)
 
 -- who arrives at the desks
 pub arrival-settings : (posts : List AtLock) → settings_of_desks (map arrival posts) ≡ settings_of_desks posts

@@ -1,5 +1,4 @@
-use Rattle.tc_desk.proofs.Names.{◌≡◌, ◌+◌, vec_len, vec_capacity}
-use Rattle.tc_desk.specs.Together.{AreOut}
+use Rattle.tc_desk.proofs.Names.{◌≡◌, ◌+◌, vec_len, vec_capacity, AreOut}
 use Rattle.tc_desk.proofs.together.take_all_out.Given as goal
 
 abbrev pub invariant-loop-desk : goal.invariant-loop-desk

@@ -27,7 +27,8 @@ pub returns-after-take-clause-made : goal.returns-after-take-clause-made
 returns-after-take-clause-made g c = elim c.match-take.branch [
   | in-Err-NoMemory-take w ↦ rw w.result-is tt
   | in_default-take w ↦ let other : (w.in_default-take.field-0 ≡ take_refusals.NoMemory) → ⊥ = search rules in
-      rw (w.result-is, c.in-Take.is) (tried-on c.args.self.now _ _ _ _ _ _ _ _ (λ m a p. (a.items, p)) (λ m f is p. not-taken g.J.Journal.grows c.in-Take.apid m f (λ e. other (cc (w.in_default-take.is, is, e))) p) c.take.ensures.call)
+      rw (w.result-is, c.in-Take.is) (tried-on c.args.self.now _ _ _ _ _ _ _ _ (λ m a p. (a.items, p))
+      (λ m f is p. not-taken g.J.Journal.grows c.in-Take.apid m f (λ e. other (cc (w.in_default-take.is, is, e))) p) c.take.ensures.call)
   | in_default-take-2 w ↦ rw (w.result-is, c.in-Take.is) (tried-on c.args.self.now _ _ _ _ _ _ _ _ (λ m a p. (a.items, p)) (λ m f is p. absurd (cc (w.in_default-take.is, is))) c.take.ensures.call)
 ]
 
@@ -42,7 +43,8 @@ pub returns-after-take_unit-clause-made : goal.returns-after-take_unit-clause-ma
 returns-after-take_unit-clause-made g c = elim c.match-take_unit.branch [
   | in-Err-NoMemory-take_unit w ↦ rw w.result-is tt
   | in_default-take_unit w ↦ let other : (w.in_default-take_unit.field-0 ≡ unit_refusals.NoMemory) → ⊥ = search rules in
-      rw (w.result-is, c.in-TakeUnit.is) (tried-on c.args.self.now _ _ _ _ _ _ _ _ (λ m a p. (a.items, p)) (λ m f is p. unit-not-taken g.J.Journal.grows c.in-TakeUnit.map m f (λ e. other (cc (w.in_default-take_unit.is, is, e))) p) c.take_unit.ensures.call)
+      rw (w.result-is, c.in-TakeUnit.is) (tried-on c.args.self.now _ _ _ _ _ _ _ _ (λ m a p. (a.items, p))
+      (λ m f is p. unit-not-taken g.J.Journal.grows c.in-TakeUnit.map m f (λ e. other (cc (w.in_default-take_unit.is, is, e))) p) c.take_unit.ensures.call)
   | in_default-take_unit-2 w ↦ rw (w.result-is, c.in-TakeUnit.is) (tried-on c.args.self.now _ _ _ _ _ _ _ _ (λ m a p. (a.items, p)) (λ m f is p. absurd (cc (w.in_default-take_unit.is, is))) c.take_unit.ensures.call)
 ]
 

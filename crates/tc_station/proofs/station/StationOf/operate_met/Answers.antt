@@ -23,9 +23,10 @@ returns g c =
     let at : IsPlace c.args.self.now c.args.vcid c.in-Some.place = search rules in
     let call = c.operate_met.ensures.call.call in
     let all = called _ _ _ c.args.self.now _ _ _ _ _ _ _ _ c.operator.view_is c.operator.invariant c.requires.ours at c.index_mut.ensures.value call in
+    let here = call-at _ _ _ c.args.self.now _ _ _ _ _ _ _ _ c.operator.view_is c.operator.invariant c.requires.ours at c.index_mut.ensures.value call in
     let known = head-known c.args.self.now _ _ _ _ c.args.vcid _ c.args.watcher.now c.operator.view_is c.operator.invariant c.requires.ours c.requires.knows at c.index_mut.ensures.value c.requires.watcher in
     record {
-      call = (c.in-Some.place, at, record { at = call-at _ _ _ c.args.self.now _ _ _ _ _ _ _ _ c.operator.view_is c.operator.invariant c.requires.ours at c.index_mut.ensures.value call; met = c.operate_met.ensures.call.met });
+      call = (c.in-Some.place, at, record { at = here; met = c.operate_met.ensures.call.met });
       counted = all.counted;
       refused = all.refused;
       ours = all.ours;

@@ -17,7 +17,8 @@ returns g c =
       fresh = issued-fresh c.args.n c.as_slice.result.now c.deref_mut.result.now c.in-Ok.operators.items (as-many c.as_slice.result.now c.deref_mut.result.now ids) c.in-Ok.ensures.operators
           ∙ ap (λ l. replicate c.args.n (fresh l)) (c.as_slice.ensures ∙ ap (λ (r : Roster). r.vcids) c.self.view_is);
       new = issued-all HasMadeNothing _ _ _ c.in-Ok.ensures.operators (arrival-new c.deref_mut.result.now);
-      ours = issued-all (IsOurs station) _ _ _ c.in-Ok.ensures.operators (c.as_slice.ensures, map-map _ _ c.deref_mut.result.now ∙ (ap locks_of c.deref_mut.ensures.value ∙ sym (ap locks_of now ∙ locks-more c.args.n old.items)));
+      ours = issued-all (IsOurs station) _ _ _ c.in-Ok.ensures.operators
+          (c.as_slice.ensures, map-map _ _ c.deref_mut.result.now ∙ (ap locks_of c.deref_mut.ensures.value ∙ sym (ap locks_of now ∙ locks-more c.args.n old.items)));
       heads = issued-all (KnowsDesks station) _ _ _ c.in-Ok.ensures.operators (map-map _ _ c.deref_mut.result.now ∙ (ap heads_of c.deref_mut.ensures.value ∙ sym (ap heads_of now ∙ heads-more c.args.n old.items)));
       issued = more-issued c.args.self.now c.self.inside.scid c.self.inside.issued c.args.n c.in-Some.issued c.self.inside.vcids old.items _ c.self.view_is now sum;
       many = first_of (search rules, grind (arith, common_steps));
