@@ -1,10 +1,11 @@
 -- What the receiving end gives.
-use Rattle.std.proofs.Common.{◌≡◌, ℕ, zero, suc, ◌+◌, ◌*◌, ◌/◌, ◌<◌, ◌≤◌, Bool, true, false, List, [], ◌∷◌, ◌++◌, Option, Some, None, bit_xor, length, length-append, append_assoc, add_assoc, get_or, take, set, drop, drop-cons, add-one, is_some, nat_lt, if◌then◌else◌, subst, refl, ap, sym, ◌∙◌, arith, inl, inr}
+use Rattle.std.proofs.Common.{◌≡◌, ℕ, zero, suc, ◌+◌, ◌*◌, ◌/◌, ◌<◌, ◌≤◌, Bool, true, false, List, [], ◌∷◌, ◌++◌, Option, Some, None, bit_xor, length, length-append, append_assoc, add_assoc, get_or, take, set, drop, is_some, nat_lt, if◌then◌else◌, subst, refl, ap, sym, ◌∙◌, arith, inl, inr}
 use Rattle.std.proofs.lemmas.Bool.{le-ltb, lt-ltb, cases_lt}
 use Rattle.std.proofs.lemmas.Bool.Decides.{nat_tests}
-use Rattle.std.proofs.lemmas.List.{append-nil, append_cancel_right, drop_all, length-take-le, take_more, take-append-drop}
+use Rattle.std.proofs.lemmas.List.{append-nil, at_drop_more, append_cancel_right, drop_all, length-take-le, take_more, take-append-drop}
 use lib.Bits.{xor_self}
-use Rattle.tc_cltu.specs.Bits.{AreOctetValues, bits_of_octet}
+use Rattle.tc_link.specs.Frame.{IsOctets}
+use Rattle.tc_fecf.specs.Checksum.{octet_bits}
 use Rattle.tc_cltu.specs.CodeBlock.{IsInformation, parity_of, block_times_x, code_block, decoded, flipped}
 use Rattle.tc_cltu.specs.Cltu.{cltu, start_sequence, tail_sequence, code_blocks, fill, filled, cltu_fault_of}
 use Rattle.tc_cltu.specs.Reception.{Receiver, Reception, Searching, Decoding, Step, is_start, reception_step, after_block, rejected_as, fate_in, fate_of, corrections_of, rejections_of, counted_in, state_after, frames_of, HasNoStart, IsSearching, IsReception, idle}
@@ -12,7 +13,9 @@ use Rattle.tc_cltu.specs.declared.block.Fate.{Fate}
 use Rattle.tc_cltu.specs.declared.block.Fate.TheVariants.{Right, Corrected, Tail, Rejected}
 use Rattle.tc_cltu.specs.declared.block.Mode.{Mode}
 use Rattle.tc_cltu.specs.declared.block.Mode.TheVariants.{Detect, Correct}
-use Rattle.tc_cltu.proofs.Words.{AreOctets, are-octets, is-octets, parity-fits}
+use Rattle.tc_link.proofs.Frames.{octets-append}
+use Rattle.tc_fecf.proofs.Plain.{octets-take}
+use Rattle.tc_cltu.proofs.Words.{parity-fits}
 use Rattle.tc_cltu.proofs.Distance.{placed}
 use Rattle.tc_cltu.proofs.Starting.{start-far, start-same, first-far, idle-far, one-off}
 use Rattle.tc_cltu.proofs.Taking.{syndrome, none-wrong, some-wrong, more-wrong}
@@ -57,17 +60,6 @@ filled-sevens : (fs : List ℕ) → AreSevens (filled fs)
 filled-sevens (a ∷ b ∷ c ∷ d ∷ e ∷ f ∷ g ∷ rest) = filled-sevens rest
 filled-sevens _ = tt
 
-filled-octets : (fs : List ℕ) → AreOctets fs → AreOctets (filled fs)
-filled-octets [] p = tt
-filled-octets (a ∷ []) p = (p.0, (omega arith, (omega arith, (omega arith, (omega arith, (omega arith, (omega arith, tt)))))))
-filled-octets (a ∷ b ∷ []) p = (p.0, (p.1.0, (omega arith, (omega arith, (omega arith, (omega arith, (omega arith, tt)))))))
-filled-octets (a ∷ b ∷ c ∷ []) p = (p.0, (p.1.0, (p.1.1.0, (omega arith, (omega arith, (omega arith, (omega arith, tt)))))))
-filled-octets (a ∷ b ∷ c ∷ d ∷ []) p = (p.0, (p.1.0, (p.1.1.0, (p.1.1.1.0, (omega arith, (omega arith, (omega arith, tt)))))))
-filled-octets (a ∷ b ∷ c ∷ d ∷ e ∷ []) p = (p.0, (p.1.0, (p.1.1.0, (p.1.1.1.0, (p.1.1.1.1.0, (omega arith, (omega arith, tt)))))))
-filled-octets (a ∷ b ∷ c ∷ d ∷ e ∷ f ∷ []) p = (p.0, (p.1.0, (p.1.1.0, (p.1.1.1.0, (p.1.1.1.1.0, (p.1.1.1.1.1.0, (omega arith, tt)))))))
-filled-octets (a ∷ b ∷ c ∷ d ∷ e ∷ f ∷ g ∷ rest) p =
-    (p.0, (p.1.0, (p.1.1.0, (p.1.1.1.0, (p.1.1.1.1.0, (p.1.1.1.1.1.0, (p.1.1.1.1.1.1.0, filled-octets rest p.1.1.1.1.1.1.1)))))))
-
 -- the frame stands in front, and at most six octets of fill after it
 pub filled-front : (fs : List ℕ) → (k : ℕ) × (k < 7) × (filled fs ≡ fs ++ take k fill)
 filled-front [] = (0, omega arith, refl)
@@ -79,6 +71,19 @@ filled-front (a ∷ b ∷ c ∷ d ∷ e ∷ []) = (2, omega arith, refl)
 filled-front (a ∷ b ∷ c ∷ d ∷ e ∷ f ∷ []) = (1, omega arith, refl)
 filled-front (a ∷ b ∷ c ∷ d ∷ e ∷ f ∷ g ∷ rest) =
     let more = filled-front rest in (more.0, more.1, ap (λ (x : List ℕ). a ∷ b ∷ c ∷ d ∷ e ∷ f ∷ g ∷ x) more.2)
+
+abbrev alike : ℕ → List ℕ
+alike o = o ∷ o ∷ o ∷ o ∷ o ∷ o ∷ o ∷ []
+
+alike-octets : (o : ℕ) → o < 256 → IsOctets (alike o)
+alike-octets o fits (suc (suc (suc (suc (suc (suc (suc i))))))) = omega arith
+alike-octets o fits _ = omega arith
+
+filled-octets : (fs : List ℕ) → IsOctets fs → IsOctets (filled fs)
+filled-octets fs each =
+    let f = filled-front fs in
+    let fills : IsOctets fill = octets-take 6 (alike 0x55) (alike-octets 0x55 (omega arith)) in
+    subst IsOctets (sym f.2) (octets-append fs (take f.0 fill) each (octets-take f.0 fill fills))
 
 -- what has no fault is within what a CLTU carries, with its fill
 pub some-octets : (fs : List ℕ) → cltu_fault_of fs ≡ None → 0 < length fs
@@ -112,41 +117,31 @@ after-over room frame information over =
     ap (λ (t : Bool). if t then (Searching 0, []) else (Decoding (frame ++ information) [], [])) (lt-ltb room (length frame + 7) over)
 
 -- each block is taken, while there is room
-blocks-taken : (mode : Mode) (room : ℕ) (fs frame rest : List ℕ) → AreOctets fs → AreSevens fs → length frame + length fs ≤ room
+blocks-taken : (mode : Mode) (room : ℕ) (fs frame rest : List ℕ) → IsOctets fs → AreSevens fs → length frame + length fs ≤ room
     → frames_of mode room (Decoding frame []) (code_blocks fs ++ rest) ≡ frames_of mode room (Decoding (frame ++ fs) []) rest
 blocks-taken mode room [] frame rest p q fits = ap (λ (x : List ℕ). frames_of mode room (Decoding x []) rest) (sym (append-nil frame))
 blocks-taken mode room (a ∷ b ∷ c ∷ d ∷ e ∷ f ∷ g ∷ fs) frame rest p q fits =
     let information = a ∷ b ∷ c ∷ d ∷ e ∷ f ∷ g ∷ [] in
-    let is : IsInformation information = record {
-      each = is-octets information (p.0, (p.1.0, (p.1.1.0, (p.1.1.1.0, (p.1.1.1.1.0, (p.1.1.1.1.1.0, (p.1.1.1.1.1.1.0, tt)))))));
-      seven = refl;
-    } in
-    let h = parity_of information * 2 in
+    let is : IsInformation information = record { each = octets-take 7 (a ∷ b ∷ c ∷ d ∷ e ∷ f ∷ g ∷ fs) p; seven = refl } in
     let more = code_blocks fs ++ rest in
     let long : length (frame ++ information) ≡ length frame + 7 = length-append frame information in
-    frames-block mode room frame a b c d e f g h more
+    frames-block mode room frame a b c d e f g (parity_of information * 2) more
     ∙ ap (λ (o : Option (List ℕ)). (after_block room frame o).1 ++ frames_of mode room (after_block room frame o).0 more) (own-decoded mode information is)
     ∙ ap (λ (s : Step). s.1 ++ frames_of mode room s.0 more) (after-fits room frame information (omega arith))
-    ∙ blocks-taken mode room fs (frame ++ information) rest p.1.1.1.1.1.1.1 q (omega arith)
+    ∙ blocks-taken mode room fs (frame ++ information) rest (λ i. p (suc (suc (suc (suc (suc (suc (suc i)))))))) q (omega arith)
     ∙ ap (λ (x : List ℕ). frames_of mode room (Decoding x []) rest) (append_assoc frame information fs)
 blocks-taken mode room _ frame rest p q fits = absurd q
 
-abbrev alike : ℕ → List ℕ
-alike o = o ∷ o ∷ o ∷ o ∷ o ∷ o ∷ o ∷ []
-
-alike-good : (o : ℕ) → o < 256 → IsInformation (alike o)
-alike-good o fits = record { each = is-octets (alike o) (fits, (fits, (fits, (fits, (fits, (fits, (fits, tt))))))); seven = refl }
-
 -- seven octets that are alike, where nothing near them is a code block
 alike-rejected : (mode : Mode) (o last s : ℕ) → o < 256 → last < 256 → syndrome (alike o) last ≡ s → 0 < s → placed s ≡ 63 → decoded mode (alike o ++ last ∷ []) ≡ None
-alike-rejected Detect o last s fits small is some place = some-wrong (alike o) last (alike-good o fits) small (λ z. omega arith)
+alike-rejected Detect o last s fits small is some place = some-wrong (alike o) last (record { each = alike-octets o fits; seven = refl }) small (λ z. omega arith)
 alike-rejected Correct o last s fits small is some place =
     let p : placed (syndrome (alike o) last) ≡ 63 = ap placed is ∙ place in
-    more-wrong (alike o) last (alike-good o fits) small (λ z. omega arith) (omega arith)
+    more-wrong (alike o) last (record { each = alike-octets o fits; seven = refl }) small (λ z. omega arith) (omega arith)
 
 -- the tail sequence is no code block
 tail-syndrome : syndrome (alike 0xC5) 0x79 ≡ 67
-unfolding syndrome bits_of_octet block_times_x
+unfolding syndrome octet_bits block_times_x
 tail-syndrome = refl
 
 tail-rejected : (mode : Mode) → decoded mode tail_sequence ≡ None
@@ -186,21 +181,21 @@ filled-some frame some =
     omega arith
 
 -- what follows a start sequence gives what it carries, and the search goes on behind it
-body-given : (mode : Mode) (room : ℕ) (frame rest : List ℕ) → AreOctetValues frame → 0 < length frame → length (filled frame) ≤ room
+body-given : (mode : Mode) (room : ℕ) (frame rest : List ℕ) → IsOctets frame → 0 < length frame → length (filled frame) ≤ room
     → frames_of mode room (Decoding [] []) ((code_blocks (filled frame) ++ tail_sequence) ++ rest) ≡ filled frame ∷ frames_of mode room (Searching 0) rest
 body-given mode room frame rest each some fits =
     ap (frames_of mode room (Decoding [] [])) (append_assoc (code_blocks (filled frame)) tail_sequence rest)
-    ∙ blocks-taken mode room (filled frame) [] (tail_sequence ++ rest) (filled-octets frame (are-octets frame each)) (filled-sevens frame) (omega arith)
+    ∙ blocks-taken mode room (filled frame) [] (tail_sequence ++ rest) (filled-octets frame each) (filled-sevens frame) (omega arith)
     ∙ tail-ends-some mode room (filled frame) rest (filled-some frame some)
 
 -- so a CLTU does, whatever came last before it
-pub cltu-given : (mode : Mode) (room last : ℕ) (frame rest : List ℕ) → AreOctetValues frame → 0 < length frame → length (filled frame) ≤ room
+pub cltu-given : (mode : Mode) (room last : ℕ) (frame rest : List ℕ) → IsOctets frame → 0 < length frame → length (filled frame) ≤ room
     → frames_of mode room (Searching last) (cltu frame ++ rest) ≡ filled frame ∷ frames_of mode room (Searching 0) rest
 cltu-given mode room last frame rest each some fits =
     start-found mode room last ((code_blocks (filled frame) ++ tail_sequence) ++ rest) ∙ body-given mode room frame rest each some fits
 
 -- and with correction also one with a wrong bit in its start sequence
-pub cltu-begun : (room last k : ℕ) (frame rest : List ℕ) → k < 16 → AreOctetValues frame → 0 < length frame → length (filled frame) ≤ room
+pub cltu-begun : (room last k : ℕ) (frame rest : List ℕ) → k < 16 → IsOctets frame → 0 < length frame → length (filled frame) ≤ room
     → frames_of Correct room (Searching last) (flipped (cltu frame) k ++ rest) ≡ filled frame ∷ frames_of Correct room (Searching 0) rest
 cltu-begun room last k frame rest less each some fits =
     let body = code_blocks (filled frame) ++ tail_sequence in
@@ -218,7 +213,7 @@ quiet mode room last (o ∷ os) rest h =
     (more.0, ap (λ (s : Step). s.1 ++ frames_of mode room s.0 (os ++ rest)) (quiet-step mode room last o h.0) ∙ more.1)
 
 -- octets before a CLTU: all that is asked of them is that no start sequence stands in them
-pub found-after : (mode : Mode) (room last : ℕ) (before frame rest : List ℕ) → HasNoStart mode last before → AreOctetValues frame → 0 < length frame → length (filled frame) ≤ room
+pub found-after : (mode : Mode) (room last : ℕ) (before frame rest : List ℕ) → HasNoStart mode last before → IsOctets frame → 0 < length frame → length (filled frame) ≤ room
     → frames_of mode room (Searching last) (before ++ (cltu frame ++ rest)) ≡ filled frame ∷ frames_of mode room (Searching 0) rest
 found-after mode room last before frame rest quietly each some fits =
     let q = quiet mode room last before (cltu frame ++ rest) quietly in
@@ -226,7 +221,7 @@ found-after mode room last before frame rest quietly each some fits =
 
 -- ---- the idle sequence leads back to the search, from any state
 idle-syndrome : syndrome (alike 0x55) 0x55 ≡ 65
-unfolding syndrome bits_of_octet block_times_x
+unfolding syndrome octet_bits block_times_x
 idle-syndrome = refl
 
 idle-rejected : (mode : Mode) → decoded mode (alike 0x55 ++ 0x55 ∷ []) ≡ None
@@ -316,12 +311,12 @@ state-kept mode room [] state short = short
 state-kept mode room (o ∷ os) state short = state-kept mode room os (reception_step mode room state o).0 (step-kept mode room o state short)
 
 -- so the idle sequence leads to the next CLTU from any of them
-search-given : (mode : Mode) (room : ℕ) (state : Reception) (frame rest : List ℕ) → IsSearching state → AreOctetValues frame → 0 < length frame → length (filled frame) ≤ room
+search-given : (mode : Mode) (room : ℕ) (state : Reception) (frame rest : List ℕ) → IsSearching state → IsOctets frame → 0 < length frame → length (filled frame) ≤ room
     → frames_of mode room state (cltu frame ++ rest) ≡ filled frame ∷ frames_of mode room (Searching 0) rest
 search-given mode room (Searching last) frame rest searching each some fits = cltu-given mode room last frame rest each some fits
 search-given mode room (Decoding got block) frame rest searching each some fits = absurd searching
 
-pub found-after-idle : (mode : Mode) (room : ℕ) (state : Reception) (before frame rest : List ℕ) → IsReception state → AreOctetValues frame → 0 < length frame → length (filled frame) ≤ room
+pub found-after-idle : (mode : Mode) (room : ℕ) (state : Reception) (before frame rest : List ℕ) → IsReception state → IsOctets frame → 0 < length frame → length (filled frame) ≤ room
     → frames_of mode room state (before ++ idle 15 ++ (cltu frame ++ rest)) ≡ frames_of mode room state (before ++ idle 15) ++ filled frame ∷ frames_of mode room (Searching 0) rest
 found-after-idle mode room state before frame rest short each some fits =
     let back : IsSearching (state_after mode room state (before ++ idle 15)) =
@@ -382,14 +377,11 @@ given-none room n [] l = ap (λ (x : ℕ). if nat_lt 0 x then [] ∷ [] else [])
 given-none room n (f ∷ fs) l = ap (λ (t : Bool). if t then (f ∷ fs) ∷ [] else []) (lt-ltb 0 n (omega arith))
 
 -- ---- a loop over octets: one is taken
-more-drop : (os : List ℕ) (i : ℕ) → i < length os → drop i os ≡ get_or os i 0 ∷ drop (i + 1) os
-more-drop os i less = drop-cons os i 0 less ∙ ap (λ (n : ℕ). get_or os i 0 ∷ drop n os) (sym (add-one i))
-
 pub fed-state : (mode was : Mode) (room i : ℕ) (os : List ℕ) (state next target : Reception) → i < length os → mode ≡ was
     → next ≡ (reception_step mode room state (get_or os i 0)).0 → state_after was room state (drop i os) ≡ target → state_after was room next (drop (i + 1) os) ≡ target
 fed-state mode was room i os state next target less same_mode is h =
     ap (λ (s : Reception). state_after was room s (drop (i + 1) os)) (is ∙ ap (λ (m : Mode). (reception_step m room state (get_or os i 0)).0) same_mode)
-    ∙ sym (ap (state_after was room state) (more-drop os i less)) ∙ h
+    ∙ sym (at_drop_more (state_after was room state) os i 0 less) ∙ h
 
 pub fed-frames : (mode was : Mode) (room i : ℕ) (os : List ℕ) (state next : Reception) (out more target : List (List ℕ)) → i < length os → mode ≡ was
     → next ≡ (reception_step mode room state (get_or os i 0)).0 → more ≡ out ++ (reception_step mode room state (get_or os i 0)).1
@@ -399,7 +391,7 @@ fed-frames mode was room i os state next out more target less same_mode is given
     ap (λ (x : List (List ℕ)). x ++ frames_of was room next (drop (i + 1) os)) (given ∙ ap (λ (m : Mode). out ++ (reception_step m room state o).1) same_mode)
     ∙ ap (λ (s : Reception). out ++ (reception_step was room state o).1 ++ frames_of was room s (drop (i + 1) os)) (is ∙ ap (λ (m : Mode). (reception_step m room state o).0) same_mode)
     ∙ append_assoc out (reception_step was room state o).1 (frames_of was room (reception_step was room state o).0 (drop (i + 1) os))
-    ∙ sym (ap (λ (x : List ℕ). out ++ frames_of was room state x) (more-drop os i less)) ∙ h
+    ∙ sym (at_drop_more (λ (x : List ℕ). out ++ frames_of was room state x) os i 0 less) ∙ h
 
 -- one code block is counted once at most
 pub one-counted : (fate : Option Fate) → (corrections_of fate ≤ 1) × (rejections_of fate ≤ 1)
@@ -419,7 +411,7 @@ fed-counted count mode was room i os state next n k target less same is now h =
     ap (λ (x : ℕ). n + x + counted_in count was room next rest) (now ∙ ap (λ (m : Mode). count (fate_of m state o)) same)
     ∙ ap (λ (s : Reception). n + count (fate_of was state o) + counted_in count was room s rest) (is ∙ ap (λ (m : Mode). (reception_step m room state o).0) same)
     ∙ add_assoc n (count (fate_of was state o)) (counted_in count was room (reception_step was room state o).0 rest)
-    ∙ sym (ap (λ (x : List ℕ). n + counted_in count was room state x) (more-drop os i less)) ∙ h
+    ∙ sym (at_drop_more (λ (x : List ℕ). n + counted_in count was room state x) os i 0 less) ∙ h
 
 pub fed-all-counted : (count : Option Fate → ℕ) (was : Mode) (room i : ℕ) (os : List ℕ) (state : Reception) (n target : ℕ) → length os ≤ i
     → n + counted_in count was room state (drop i os) ≡ target → n ≡ target

@@ -1,4 +1,3 @@
-pub mod Each
 pub mod Linear
 pub mod Patterns
 pub mod Words

@@ -1,9 +1,9 @@
 -- Lists of bits, their sums place by place, and how many ones they have.
 use Rattle.std.proofs.Common.{◌≡◌, ℕ, zero, suc, ◌+◌, ◌<◌, ◌≤◌, ◌==◌, if◌then◌else◌, List, [], ◌∷◌, ◌++◌, bit_xor, length, take, refl, ap, sym, ◌∙◌, arith}
 use Rattle.std.proofs.lemmas.Nat.{xor_lt}
-use lib.Bits.{xor_assoc, xor_self, xor_zero_r, xor_zero_l}
-use Rattle.tc_cltu.specs.Bits.{block_differences}
-use Rattle.tc_cltu.proofs.Linear.{same}
+use lib.Bits.{xor_zero_r, xor_zero_l}
+use Rattle.tc_fecf.specs.Changes.{differences}
+use Rattle.tc_fecf.proofs.Polynomials.{same, again}
 
 -- every one is 0 or 1
 abbrev pub AreBits : List ℕ → Type 0
@@ -98,14 +98,14 @@ place (suc (suc b)) c p q = absurd (omega arith)
 place b (suc (suc c)) p q = absurd (omega arith)
 place _ _ p q = refl
 
-pub differences-weight : (bs cs : List ℕ) → AreBits bs → AreBits cs → block_differences bs cs ≡ weight (xors bs cs)
+pub differences-weight : (bs cs : List ℕ) → AreBits bs → AreBits cs → differences bs cs ≡ weight (xors bs cs)
 unfolding xors weight
 differences-weight (b ∷ bs) (c ∷ cs) p q =
     let first = place b c p.0 q.0 in let rest = differences-weight bs cs p.1 q.1 in omega arith
 differences-weight _ _ p q = refl
 
 -- no difference: the same
-pub none-same : (bs cs : List ℕ) → length bs ≡ length cs → AreBits bs → AreBits cs → block_differences bs cs ≡ 0 → bs ≡ cs
+pub none-same : (bs cs : List ℕ) → length bs ≡ length cs → AreBits bs → AreBits cs → differences bs cs ≡ 0 → bs ≡ cs
 none-same [] [] l p q h = refl
 none-same (b ∷ bs) (c ∷ cs) l p q h =
     let first = place b c p.0 q.0 in
@@ -122,7 +122,7 @@ triple b c (suc (suc d)) p q r = absurd (omega arith)
 triple _ _ _ p q r = omega arith
 
 pub by-way : (bs cs ds : List ℕ) → length bs ≡ length cs → length cs ≡ length ds → AreBits bs → AreBits cs → AreBits ds
-    → block_differences bs ds ≤ block_differences cs bs + block_differences cs ds
+    → differences bs ds ≤ differences cs bs + differences cs ds
 by-way [] [] [] l m p q r = omega arith
 by-way (b ∷ bs) (c ∷ cs) (d ∷ ds) l m p q r =
     let first = triple b c d p.0 q.0 r.0 in let rest = by-way bs cs ds (omega arith) (omega arith) p.1 q.1 r.1 in omega arith
@@ -133,8 +133,7 @@ pub xors-back : (bs cs : List ℕ) → length bs ≡ length cs → xors bs (xors
 unfolding xors
 xors-back [] [] l = refl
 xors-back (b ∷ bs) (c ∷ cs) l =
-    ap (λ (x : ℕ). x ∷ xors bs (xors bs cs)) (sym (xor_assoc b b c) ∙ ap (λ (x : ℕ). bit_xor x c) (xor_self b) ∙ xor_zero_l c)
-    ∙ ap (λ (x : List ℕ). c ∷ x) (xors-back bs cs (omega arith))
+    ap (λ (x : ℕ). x ∷ xors bs (xors bs cs)) (again b c) ∙ ap (λ (x : List ℕ). c ∷ x) (xors-back bs cs (omega arith))
 xors-back _ _ l = absurd (omega arith)
 
 pub xors-append : (bs cs ds es : List ℕ) → length bs ≡ length ds → xors (bs ++ cs) (ds ++ es) ≡ xors bs ds ++ xors cs es

@@ -1,37 +1,32 @@
 -- What counts as the start sequence.
-use Rattle.std.proofs.Common.{◌≡◌, ℕ, zero, suc, ◌+◌, ◌<◌, ◌≤◌, Bool, true, false, eqb, List, ◌∷◌, ◌++◌, bit_xor, nat_eq, nat_lt, nat_le, if◌then◌else◌, refl, ap, sym, ◌∙◌, arith}
-use Rattle.std.proofs.lemmas.Bool.{eqb-true, lt-ltb}
+use Rattle.std.proofs.Common.{◌≡◌, ℕ, zero, suc, ◌+◌, ◌<◌, ◌≤◌, Bool, true, false, List, ◌∷◌, ◌++◌, bit_xor, nat_eq, nat_lt, nat_le, if◌then◌else◌, refl, ap, sym, ◌∙◌, arith}
+use Rattle.std.proofs.lemmas.Bool.{lt-ltb}
 use Rattle.std.proofs.lemmas.Bool.Decides.{nat_tests}
 use lib.Count.{ones, ones_in}
-use Rattle.tc_cltu.specs.Bits.{bits_of_octet, block_differences}
+use Rattle.tc_fecf.specs.Checksum.{octet_bits}
+use Rattle.tc_fecf.specs.Changes.{differences}
 use Rattle.tc_cltu.specs.CodeBlock.{most_errors, flipped}
 use Rattle.tc_cltu.specs.Cltu.{start_sequence}
 use Rattle.tc_cltu.specs.Reception.{start_errors, is_start}
 use Rattle.tc_cltu.specs.declared.block.Mode.{Mode}
 use Rattle.tc_cltu.specs.declared.block.Mode.TheVariants.{Detect, Correct}
-use Rattle.tc_cltu.proofs.Each.{both, each, each-holds}
+use Rattle.tc_fecf.proofs.Below.{same_below}
 
 -- wrong bits of the first octet, and of the second
-firsts : each (λ o. eqb (ones (bit_xor o 0xEB)) (block_differences (bits_of_octet o) (bits_of_octet 0xEB))) 256 ≡ true
-unfolding each both bits_of_octet ones ones_in
-firsts = refl
+firsts : (o : ℕ) → o < 256 → ones (bit_xor o 0xEB) ≡ differences (octet_bits o) (octet_bits 0xEB)
+unfolding octet_bits ones ones_in
+firsts = same_below (λ o. ones (bit_xor o 0xEB)) (λ o. differences (octet_bits o) (octet_bits 0xEB)) 256 refl
 
-seconds : each (λ o. eqb (ones (bit_xor o 0x90)) (block_differences (bits_of_octet o) (bits_of_octet 0x90))) 256 ≡ true
-unfolding each both bits_of_octet ones ones_in
-seconds = refl
+seconds : (o : ℕ) → o < 256 → ones (bit_xor o 0x90) ≡ differences (octet_bits o) (octet_bits 0x90)
+unfolding octet_bits ones ones_in
+seconds = same_below (λ o. ones (bit_xor o 0x90)) (λ o. differences (octet_bits o) (octet_bits 0x90)) 256 refl
 
-split : (last octet : ℕ) → start_errors last octet ≡ block_differences (bits_of_octet last) (bits_of_octet 0xEB) + block_differences (bits_of_octet octet) (bits_of_octet 0x90)
-unfolding start_errors bits_of_octet
+split : (last octet : ℕ) → start_errors last octet ≡ differences (octet_bits last) (octet_bits 0xEB) + differences (octet_bits octet) (octet_bits 0x90)
+unfolding start_errors octet_bits
 split last octet = omega arith
 
 pub counted : (last octet : ℕ) → last < 256 → octet < 256 → ones (bit_xor last 0xEB) + ones (bit_xor octet 0x90) ≡ start_errors last octet
-counted last octet p q =
-    let a : ones (bit_xor last 0xEB) ≡ block_differences (bits_of_octet last) (bits_of_octet 0xEB) =
-    eqb-true _ _ (each-holds (λ o. eqb (ones (bit_xor o 0xEB)) (block_differences (bits_of_octet o) (bits_of_octet 0xEB))) 256 firsts last p) in
-    let b : ones (bit_xor octet 0x90) ≡ block_differences (bits_of_octet octet) (bits_of_octet 0x90) =
-    eqb-true _ _ (each-holds (λ o. eqb (ones (bit_xor o 0x90)) (block_differences (bits_of_octet o) (bits_of_octet 0x90))) 256 seconds octet q) in
-    let s = split last octet in
-    omega arith
+counted last octet p q = let a = firsts last p in let b = seconds octet q in let s = split last octet in omega arith
 
 -- what the code asks of the number of wrong bits
 none-wrong : (n : ℕ) → nat_eq n 0 ≡ (if nat_lt 0 n then false else true)
@@ -49,39 +44,39 @@ pub corrects : (mode : Mode) (n last octet : ℕ) → mode ≡ Correct → n ≡
 unfolding is_start
 corrects mode n last octet m e = one-at-most n ∙ ap (λ (x : ℕ). if nat_lt 1 x then false else true) e ∙ sym (ap (λ (d : Mode). is_start d last octet) m)
 
-few : (mode : Mode) → most_errors mode ≤ 1
+pub few : (mode : Mode) → most_errors mode ≤ 1
 few Detect = omega arith
 few Correct = omega arith
 
 -- an octet that is far from the second one of the start sequence doesn't end one
-pub start-far : (mode : Mode) (last octet : ℕ) → 1 < block_differences (bits_of_octet octet) (bits_of_octet 0x90) → is_start mode last octet ≡ false
+pub start-far : (mode : Mode) (last octet : ℕ) → 1 < differences (octet_bits octet) (octet_bits 0x90) → is_start mode last octet ≡ false
 unfolding is_start
 start-far mode last octet far =
     let s = split last octet in let f = few mode in
     ap (λ (t : Bool). if t then false else true) (lt-ltb (most_errors mode) (start_errors last octet) (omega arith))
 
 pub start-same : (mode : Mode) → is_start mode 0xEB 0x90 ≡ true
-unfolding is_start start_errors bits_of_octet
+unfolding is_start start_errors octet_bits
 start-same Detect = refl
 start-same Correct = refl
 
-far-by : (octet n : ℕ) → block_differences (bits_of_octet octet) (bits_of_octet 0x90) ≡ suc (suc n) → 1 < block_differences (bits_of_octet octet) (bits_of_octet 0x90)
+far-by : (octet n : ℕ) → differences (octet_bits octet) (octet_bits 0x90) ≡ suc (suc n) → 1 < differences (octet_bits octet) (octet_bits 0x90)
 far-by octet n e = omega arith
 
-pub first-far : 1 < block_differences (bits_of_octet 0xEB) (bits_of_octet 0x90)
-unfolding bits_of_octet
+pub first-far : 1 < differences (octet_bits 0xEB) (octet_bits 0x90)
+unfolding octet_bits
 first-far = far-by 0xEB 4 refl
 
-pub idle-far : 1 < block_differences (bits_of_octet 0x55) (bits_of_octet 0x90)
-unfolding bits_of_octet
+pub idle-far : 1 < differences (octet_bits 0x55) (octet_bits 0x90)
+unfolding octet_bits
 idle-far = far-by 0x55 2 refl
 
 -- the start sequence with one bit the other way round: two octets that count as it with correction, the first of which ends none
 abbrev pub IsOneOff : ℕ → List ℕ → Type 0
-IsOneOff k body = (a b : ℕ) × (flipped (start_sequence ++ body) k ≡ a ∷ b ∷ body) × (1 < block_differences (bits_of_octet a) (bits_of_octet 0x90)) × (is_start Correct a b ≡ true)
+IsOneOff k body = (a b : ℕ) × (flipped (start_sequence ++ body) k ≡ a ∷ b ∷ body) × (1 < differences (octet_bits a) (octet_bits 0x90)) × (is_start Correct a b ≡ true)
 
 pub one-off : (k : ℕ) (body : List ℕ) → k < 16 → IsOneOff k body
-unfolding is_start start_errors bits_of_octet
+unfolding is_start start_errors octet_bits
 one-off zero body less = (0x6B, 0x90, refl, far-by 0x6B 5 refl, refl)
 one-off (suc zero) body less = (0xAB, 0x90, refl, far-by 0xAB 3 refl, refl)
 one-off (suc (suc zero)) body less = (0xCB, 0x90, refl, far-by 0xCB 3 refl, refl)

@@ -1,179 +1,176 @@
 -- What is decoded, and which errors that tells or corrects.
-use Rattle.std.proofs.Common.{◌≡◌, ◌≢◌, ◌⊎◌, ℕ, zero, suc, ◌+◌, ◌-◌, ◌*◌, ◌/◌, ◌%◌, ◌^◌, ◌<◌, ◌≤◌, Bool, List, [], ◌∷◌, ◌++◌, Option, Some, None, IfSome, bit_xor, length, length-append, get_or, take, set, if◌then◌else◌, subst, refl, ap, sym, ◌∙◌, arith, inl, inr}
+use Rattle.std.proofs.Common.{◌≡◌, ◌≢◌, ◌⊎◌, ℕ, zero, suc, ◌+◌, ◌-◌, ◌*◌, ◌/◌, ◌%◌, ◌^◌, ◌<◌, ◌≤◌, Bool, List, [], ◌∷◌, ◌++◌, Option, Some, None, IfSome, bit_xor, length, length-append, get_or, set, if◌then◌else◌, subst, refl, ap, sym, ◌∙◌, arith, inl, inr}
 use Rattle.std.proofs.lemmas.Bool.{cases_lt, cases_eq, lt-ltb, le-ltb}
-use Rattle.std.proofs.lemmas.Nat.{xor_lt, pow_below, xor_comm}
-use Rattle.std.proofs.lemmas.List.{take-append-le, take_all}
-use lib.Bits.{xor_self, xor_assoc, xor_zero_l}
-use Rattle.tc_cltu.specs.Bits.{bits_of_octets, block_differences}
+use Rattle.std.proofs.lemmas.Nat.{shr_le, xor_lt, xor_comm}
+use Rattle.std.proofs.lemmas.List.{get_or_append_left, get_or_at, length-set, set-append_left, set_at, set_past, take_at}
+use lib.Bits.{xor_self, xor_assoc}
+use Rattle.tc_link.specs.Frame.{IsOctets}
+use Rattle.tc_fecf.specs.Checksum.{bits_of}
+use Rattle.tc_fecf.specs.Changes.{differences}
 use Rattle.tc_cltu.specs.CodeBlock.{IsInformation, parity_of, block_remainder, code_block, word, errors, most_errors, flipped, near, first_within, decoded}
 use Rattle.tc_cltu.specs.declared.block.Mode.{Mode}
 use Rattle.tc_cltu.specs.declared.block.Mode.TheVariants.{Detect, Correct}
-use Rattle.tc_cltu.proofs.Linear.{twice}
+use Rattle.tc_fecf.proofs.Changes.{bits-same}
+use Rattle.tc_fecf.proofs.Polynomials.{again, twice}
 use Rattle.tc_cltu.proofs.Patterns.{AreBits, xors, weight, single, xors-bits, xors-length, one-is, differences-weight, none-same, xors-back, single-weight, single-length}
-use Rattle.tc_cltu.proofs.Words.{AreOctets, are-octets, is-octets, are-bits, bits-length, left, left-linear, block-left, left-block, word-left, word-parts, word-turned, bits-turned, seven}
-use Rattle.tc_cltu.proofs.Distance.{placed, place-of, placed-is, word-bits, octets-same, code-length, between}
+use Rattle.tc_cltu.proofs.Words.{are-bits, fifty-six, left, left-linear, block-left, left-block, word-left, word-parts, word-turned, bits-turned, seven}
+use Rattle.tc_cltu.proofs.Starting.{few}
+use Rattle.tc_cltu.proofs.Distance.{placed, place-of, placed-is, word-bits, code-length, between}
 
 -- ---- octets with one bit the other way round
-power-fits : (k : ℕ) → 2 ^ (7 - k) < 2 ^ 8
-power-fits k = pow_below (7 - k) 8 (omega arith)
+power : (m : ℕ) → m < 8 → 2 ^ (7 - m) ≡ 128 / 2 ^ m
+power (suc (suc (suc (suc (suc (suc (suc (suc m)))))))) less = absurd (omega arith)
+power _ less = refl
 
-turned-octets : (os : List ℕ) (k : ℕ) → AreOctets os → AreOctets (flipped os k)
-turned-octets [] k p = tt
-turned-octets (o ∷ os) k p =
+-- at one index
+pub turned-set : (os : List ℕ) (k : ℕ) → flipped os k ≡ set os (k / 8) (bit_xor (get_or os (k / 8) 0) (128 / 2 ^ (k % 8)))
+turned-set [] k = refl
+turned-set (o ∷ os) k =
     elim (cases_lt k 8) [
-      | inl low ↦ subst (λ (t : Bool). AreOctets (if t then bit_xor o (2 ^ (7 - k)) ∷ os else o ∷ flipped os (k - 8))) (sym (lt-ltb k 8 low))
-          (xor_lt 8 o (2 ^ (7 - k)) p.0 (power-fits k), p.1)
-      | inr high ↦ subst (λ (t : Bool). AreOctets (if t then bit_xor o (2 ^ (7 - k)) ∷ os else o ∷ flipped os (k - 8))) (sym (le-ltb k 8 high))
-          (p.0, turned-octets os (k - 8) p.1)
+      | inl low ↦
+          let q : 0 ≡ k / 8 = omega arith in
+          let m : k ≡ k % 8 = omega arith in
+          ap (λ (t : Bool). if t then bit_xor o (2 ^ (7 - k)) ∷ os else o ∷ flipped os (k - 8)) (lt-ltb k 8 low)
+          ∙ ap (λ (x : ℕ). bit_xor o x ∷ os) (power k low ∙ ap (λ (x : ℕ). 128 / 2 ^ x) m)
+          ∙ ap (λ (x : ℕ). set (o ∷ os) x (bit_xor (get_or (o ∷ os) x 0) (128 / 2 ^ (k % 8)))) q
+      | inr high ↦
+          let q : suc ((k - 8) / 8) ≡ k / 8 = omega arith in
+          let m : (k - 8) % 8 ≡ k % 8 = omega arith in
+          ap (λ (t : Bool). if t then bit_xor o (2 ^ (7 - k)) ∷ os else o ∷ flipped os (k - 8)) (le-ltb k 8 high)
+          ∙ ap (λ (x : List ℕ). o ∷ x) (turned-set os (k - 8))
+          ∙ ap (λ (x : ℕ). o ∷ set os ((k - 8) / 8) (bit_xor (get_or os ((k - 8) / 8) 0) (128 / 2 ^ x))) m
+          ∙ ap (λ (x : ℕ). set (o ∷ os) x (bit_xor (get_or (o ∷ os) x 0) (128 / 2 ^ (k % 8)))) q
     ]
 
 pub turned-length : (os : List ℕ) (k : ℕ) → length (flipped os k) ≡ length os
-turned-length [] k = refl
-turned-length (o ∷ os) k =
-    elim (cases_lt k 8) [
-      | inl low ↦ ap (λ (t : Bool). length (if t then bit_xor o (2 ^ (7 - k)) ∷ os else o ∷ flipped os (k - 8))) (lt-ltb k 8 low)
-      | inr high ↦ ap (λ (t : Bool). length (if t then bit_xor o (2 ^ (7 - k)) ∷ os else o ∷ flipped os (k - 8))) (le-ltb k 8 high)
-          ∙ (let rest = turned-length os (k - 8) in let e : length (o ∷ flipped os (k - 8)) ≡ length (o ∷ os) = omega arith in e)
-    ]
+turned-length os k = ap length (turned-set os k) ∙ length-set os (k / 8) _
+
+set-octets : (os : List ℕ) (i v : ℕ) → IsOctets os → v < 256 → IsOctets (set os i v)
+set-octets [] i v each fits j = each j
+set-octets (o ∷ os) zero v each fits zero = fits
+set-octets (o ∷ os) zero v each fits (suc j) = each (suc j)
+set-octets (o ∷ os) (suc i) v each fits zero = each 0
+set-octets (o ∷ os) (suc i) v each fits (suc j) = set-octets os i v (λ n. each (suc n)) fits j
+
+turned-fits : (o m : ℕ) → o < 256 → bit_xor o (128 / 2 ^ m) < 256
+turned-fits o m fits = let small = shr_le 128 m in xor_lt 8 o (128 / 2 ^ m) fits (omega arith)
 
 turned-good : (information : List ℕ) (k : ℕ) → IsInformation information → IsInformation (flipped information k)
 turned-good information k is = record {
-  each = is-octets (flipped information k) (turned-octets information k (are-octets information is.each));
+  each = subst IsOctets (sym (turned-set information k)) (set-octets information (k / 8) _ is.each (turned-fits _ (k % 8) (is.each (k / 8))));
   seven = turned-length information k ∙ is.seven;
 }
 
-turned-front : (os ps : List ℕ) (k : ℕ) → k < 8 * length os → flipped (os ++ ps) k ≡ flipped os k ++ ps
-turned-front [] ps k less = absurd (omega arith)
-turned-front (o ∷ os) ps k less =
-    elim (cases_lt k 8) [
-      | inl low ↦
-          ap (λ (t : Bool). if t then bit_xor o (2 ^ (7 - k)) ∷ (os ++ ps) else o ∷ flipped (os ++ ps) (k - 8)) (lt-ltb k 8 low)
-          ∙ sym (ap (λ (t : Bool). (if t then bit_xor o (2 ^ (7 - k)) ∷ os else o ∷ flipped os (k - 8)) ++ ps) (lt-ltb k 8 low))
-      | inr high ↦
-          ap (λ (t : Bool). if t then bit_xor o (2 ^ (7 - k)) ∷ (os ++ ps) else o ∷ flipped (os ++ ps) (k - 8)) (le-ltb k 8 high)
-          ∙ ap (λ (x : List ℕ). o ∷ x) (turned-front os ps (k - 8) (omega arith))
-          ∙ sym (ap (λ (t : Bool). (if t then bit_xor o (2 ^ (7 - k)) ∷ os else o ∷ flipped os (k - 8)) ++ ps) (le-ltb k 8 high))
-    ]
+turned-front : (os ps : List ℕ) (k : ℕ) → k / 8 < length os → flipped (os ++ ps) k ≡ flipped os k ++ ps
+turned-front os ps k less =
+    turned-set (os ++ ps) k ∙ ap (λ (x : ℕ). set (os ++ ps) (k / 8) (bit_xor x (128 / 2 ^ (k % 8)))) (get_or_append_left os ps 0 (k / 8) less)
+    ∙ set-append_left os ps (k / 8) _ less ∙ sym (ap (λ (x : List ℕ). x ++ ps) (turned-set os k))
 
-turned-back : (os ps : List ℕ) (k : ℕ) → 8 * length os ≤ k → flipped (os ++ ps) k ≡ os ++ flipped ps (k - 8 * length os)
-turned-back [] ps k less = let e : k ≡ k - 8 * 0 = omega arith in ap (flipped ps) e
-turned-back (o ∷ os) ps k less =
-    let high : 8 ≤ k = omega arith in
-    let e : k - 8 - 8 * length os ≡ k - 8 * length (o ∷ os) = omega arith in
-    ap (λ (t : Bool). if t then bit_xor o (2 ^ (7 - k)) ∷ (os ++ ps) else o ∷ flipped (os ++ ps) (k - 8)) (le-ltb k 8 high)
-    ∙ ap (λ (x : List ℕ). o ∷ x) (turned-back os ps (k - 8) (omega arith))
-    ∙ ap (λ (n : ℕ). o ∷ (os ++ flipped ps n)) e
+turned-last : (os : List ℕ) (last k : ℕ) → length os ≡ k / 8 → flipped (os ++ last ∷ []) k ≡ os ++ bit_xor last (128 / 2 ^ (k % 8)) ∷ []
+turned-last os last k l =
+    turned-set (os ++ last ∷ []) k ∙ ap (λ (x : ℕ). set (os ++ last ∷ []) (k / 8) (bit_xor x (128 / 2 ^ (k % 8)))) (get_or_at os last [] 0 (k / 8) l)
+    ∙ set_at os last [] _ (k / 8) l
+
+-- past the octets, nothing is turned
+pub turned-past : (os : List ℕ) (k : ℕ) → 8 * length os ≤ k → flipped os k ≡ os
+turned-past os k past = turned-set os k ∙ set_past os (k / 8) _ (omega arith)
 
 -- ---- the first within a limit
-first-is : (limit : ℕ) (block : List ℕ) (xs : List (List ℕ)) (y : List ℕ) → first_within limit block xs ≡ Some y → errors block y ≤ limit
-first-is limit block [] y h = absurd (cc)
-first-is limit block (x ∷ xs) y h =
+first-more : (limit : ℕ) (block x : List ℕ) (xs : List (List ℕ)) → limit < errors block x → first_within limit block (x ∷ xs) ≡ first_within limit block xs
+first-more limit block x xs over = ap (λ (t : Bool). if t then first_within limit block xs else Some x) (lt-ltb limit (errors block x) over)
+
+first-here : (limit : ℕ) (block x : List ℕ) (xs : List (List ℕ)) → errors block x ≤ limit → first_within limit block (x ∷ xs) ≡ Some x
+first-here limit block x xs within = ap (λ (t : Bool). if t then first_within limit block xs else Some x) (le-ltb limit (errors block x) within)
+
+-- it is one of them, and within it
+abbrev IsWithin : ℕ → List ℕ → List ℕ → Type 0
+IsWithin limit block y = IsInformation y × (errors block y ≤ limit)
+
+first-next : (limit : ℕ) (block x : List ℕ) (xs : List (List ℕ)) (y : List ℕ) → IsInformation x → (first_within limit block xs ≡ Some y → IsWithin limit block y)
+    → first_within limit block (x ∷ xs) ≡ Some y → IsWithin limit block y
+first-next limit block x xs y good later h =
     elim (cases_lt limit (errors block x)) [
-      | inl over ↦ first-is limit block xs y (sym (ap (λ (t : Bool). if t then first_within limit block xs else Some x) (lt-ltb limit (errors block x) over)) ∙ h)
+      | inl over ↦ later (sym (first-more limit block x xs over) ∙ h)
       | inr within ↦
-          let e : Some x ≡ Some y = sym (ap (λ (t : Bool). if t then first_within limit block xs else Some x) (le-ltb limit (errors block x) within)) ∙ h in
+          let e : Some x ≡ Some y = sym (first-here limit block x xs within) ∙ h in
           let is : x ≡ y = cc in
-          subst (λ (z : List ℕ). errors block z ≤ limit) is within
+          subst (IsWithin limit block) is (good, within)
     ]
 
-first-good : (limit : ℕ) (block information : List ℕ) (n : ℕ) (y : List ℕ) → IsInformation information → first_within limit block (near information n) ≡ Some y → IsInformation y
-first-good limit block information zero y good h =
-    elim (cases_lt limit (errors block information)) [
-      | inl over ↦ let e : None ≡ Some y = sym (ap (λ (t : Bool). if t then None else Some information) (lt-ltb limit (errors block information) over)) ∙ h in absurd (cc)
-      | inr within ↦
-          let e : Some information ≡ Some y = sym (ap (λ (t : Bool). if t then None else Some information) (le-ltb limit (errors block information) within)) ∙ h in
-          let is : information ≡ y = cc in subst IsInformation is good
-    ]
+first-good : (limit : ℕ) (block information : List ℕ) (n : ℕ) (y : List ℕ) → IsInformation information → first_within limit block (near information n) ≡ Some y → IsWithin limit block y
+first-good limit block information zero y good h = first-next limit block information [] y good (λ none. absurd (cc)) h
 first-good limit block information (suc n) y good h =
-    let x = flipped information n in let more = first_within limit block (near information n) in
+    first-next limit block (flipped information n) (near information n) y (turned-good information n good) (first-good limit block information n y good) h
+
+-- there is one
+abbrev IsFound : ℕ → List ℕ → List (List ℕ) → Type 0
+IsFound limit block xs = (y : List ℕ) × (first_within limit block xs ≡ Some y)
+
+found-next : (limit : ℕ) (block x : List ℕ) (xs : List (List ℕ)) → (limit < errors block x → IsFound limit block xs) → IsFound limit block (x ∷ xs)
+found-next limit block x xs later =
     elim (cases_lt limit (errors block x)) [
-      | inl over ↦ first-good limit block information n y good (sym (ap (λ (t : Bool). if t then more else Some x) (lt-ltb limit (errors block x) over)) ∙ h)
-      | inr within ↦
-          let e : Some x ≡ Some y = sym (ap (λ (t : Bool). if t then more else Some x) (le-ltb limit (errors block x) within)) ∙ h in
-          let is : x ≡ y = cc in subst IsInformation is (turned-good information n good)
+      | inl over ↦ let rest = later over in (rest.0, first-more limit block x xs over ∙ rest.1)
+      | inr within ↦ (x, first-here limit block x xs within)
     ]
 
-first-own : (limit : ℕ) (block information : List ℕ) (n : ℕ) → errors block information ≤ limit → (y : List ℕ) × (first_within limit block (near information n) ≡ Some y)
-first-own limit block information zero within = (information, ap (λ (t : Bool). if t then None else Some information) (le-ltb limit (errors block information) within))
-first-own limit block information (suc n) within =
-    let x = flipped information n in let more = first_within limit block (near information n) in
-    elim (cases_lt limit (errors block x)) [
-      | inl over ↦ let rest = first-own limit block information n within in (rest.0, ap (λ (t : Bool). if t then more else Some x) (lt-ltb limit (errors block x) over) ∙ rest.1)
-      | inr here ↦ (x, ap (λ (t : Bool). if t then more else Some x) (le-ltb limit (errors block x) here))
-    ]
+first-own : (limit : ℕ) (block information : List ℕ) (n : ℕ) → errors block information ≤ limit → IsFound limit block (near information n)
+first-own limit block information zero within = found-next limit block information [] (λ over. absurd (omega arith))
+first-own limit block information (suc n) within = found-next limit block (flipped information n) (near information n) (λ _. first-own limit block information n within)
 
-first-turned : (limit : ℕ) (block information : List ℕ) (n k : ℕ) → k < n → errors block (flipped information k) ≤ limit
-    → (y : List ℕ) × (first_within limit block (near information n) ≡ Some y)
+first-turned : (limit : ℕ) (block information : List ℕ) (n k : ℕ) → k < n → errors block (flipped information k) ≤ limit → IsFound limit block (near information n)
 first-turned limit block information zero k less within = absurd (omega arith)
 first-turned limit block information (suc n) k less within =
-    let x = flipped information n in let more = first_within limit block (near information n) in
-    elim (cases_lt limit (errors block x)) [
-      | inl over ↦
-          let other : k ≢ n = λ (e : k ≡ n). let w : errors block x ≤ limit = subst (λ (m : ℕ). errors block (flipped information m) ≤ limit) e within in omega arith in
-          let rest = first-turned limit block information n k (omega arith) within in
-          (rest.0, ap (λ (t : Bool). if t then more else Some x) (lt-ltb limit (errors block x) over) ∙ rest.1)
-      | inr here ↦ (x, ap (λ (t : Bool). if t then more else Some x) (le-ltb limit (errors block x) here))
-    ]
+    found-next limit block (flipped information n) (near information n) (λ over.
+    let other : k ≢ n = λ (e : k ≡ n). let w : errors block (flipped information n) ≤ limit = subst (λ (m : ℕ). errors block (flipped information m) ≤ limit) e within in omega arith in
+    first-turned limit block information n k (omega arith) within)
 
 -- ---- what is decoded
-take-front : (os ps : List ℕ) (n : ℕ) → length os ≡ n → take n (os ++ ps) ≡ os
-take-front os ps n l = take-append-le n os ps (omega arith) ∙ take_all n os (omega arith)
-
-differences-append : (xs bs cs ds : List ℕ) → length xs ≡ length cs → block_differences (xs ++ bs) (cs ++ ds) ≡ block_differences xs cs + block_differences bs ds
+differences-append : (xs bs cs ds : List ℕ) → length xs ≡ length cs → differences (xs ++ bs) (cs ++ ds) ≡ differences xs cs + differences bs ds
 differences-append [] bs [] ds l = omega arith
 differences-append (x ∷ xs) bs (c ∷ cs) ds l = let rest = differences-append xs bs cs ds (omega arith) in omega arith
 differences-append _ bs _ ds l = absurd (omega arith)
 
-few : (mode : Mode) → most_errors mode ≤ 1
-few Detect = omega arith
-few Correct = omega arith
-
 block-length : (own : List ℕ) (last : ℕ) → length own ≡ 7 → length (own ++ last ∷ []) ≡ 8
 block-length own last l = length-append own (last ∷ []) ∙ omega arith
 
-fifty-six : (own : List ℕ) → length own ≡ 7 → length (bits_of_octets own) ≡ 56
-fifty-six own l = bits-length own ∙ ap (λ (n : ℕ). 8 * n) l
-
 -- a candidate is found
 some-found : (own information : List ℕ) (last limit : ℕ) → IsInformation own → IsInformation information → limit ≤ 1 → errors (own ++ last ∷ []) information ≤ limit
-    → (y : List ℕ) × (first_within limit (own ++ last ∷ []) (near own 56) ≡ Some y)
+    → IsFound limit (own ++ last ∷ []) (near own 56)
 some-found own information last limit good is low within =
     let block = own ++ last ∷ [] in
-    let long : length (bits_of_octets own) ≡ length (bits_of_octets information) = fifty-six own good.seven ∙ sym (fifty-six information is.seven) in
-    let split : errors block information ≡ block_differences (bits_of_octets own) (bits_of_octets information) + block_differences (seven last) (seven (parity_of information * 2)) =
-    ap (λ (x : List ℕ). block_differences x (word (code_block information))) (word-parts own last good.seven)
-    ∙ ap (block_differences (bits_of_octets own ++ seven last)) (word-parts information (parity_of information * 2) is.seven)
-    ∙ differences-append (bits_of_octets own) (seven last) (bits_of_octets information) (seven (parity_of information * 2)) long in
-    elim (cases_eq (block_differences (bits_of_octets own) (bits_of_octets information)) 0) [
+    let long : length (bits_of own) ≡ length (bits_of information) = fifty-six own good.seven ∙ sym (fifty-six information is.seven) in
+    let split : errors block information ≡ differences (bits_of own) (bits_of information) + differences (seven last) (seven (parity_of information * 2)) =
+    ap (λ (x : List ℕ). differences x (word (code_block information))) (word-parts own last good.seven)
+    ∙ ap (differences (bits_of own ++ seven last)) (word-parts information (parity_of information * 2) is.seven)
+    ∙ differences-append (bits_of own) (seven last) (bits_of information) (seven (parity_of information * 2)) long in
+    elim (cases_eq (differences (bits_of own) (bits_of information)) 0) [
       | inl none ↦
-          let same_bits : bits_of_octets own ≡ bits_of_octets information = none-same (bits_of_octets own) (bits_of_octets information) long (are-bits own) (are-bits information) none in
-          let is_own : information ≡ own =
-          sym (octets-same own information [] [] (good.seven ∙ sym is.seven) (are-octets own good.each) (are-octets information is.each) (ap (λ (x : List ℕ). x ++ []) same_bits)) in
+          let same_bits : bits_of own ≡ bits_of information = none-same (bits_of own) (bits_of information) long (are-bits own) (are-bits information) none in
+          let is_own : information ≡ own = sym (bits-same own information good.each is.each (good.seven ∙ sym is.seven) same_bits) in
           first-own limit block own 56 (subst (λ (z : List ℕ). errors block z ≤ limit) is_own within)
       | inr some ↦
-          let e = xors (bits_of_octets own) (bits_of_octets information) in
-          let one : weight e ≡ 1 = sym (differences-weight (bits_of_octets own) (bits_of_octets information) (are-bits own) (are-bits information)) ∙ omega arith in
-          let s = one-is e (xors-bits (bits_of_octets own) (bits_of_octets information) (are-bits own) (are-bits information)) one in
-          let e_long : length e ≡ 56 = xors-length (bits_of_octets own) (bits_of_octets information) long ∙ fifty-six own good.seven in
+          let e = xors (bits_of own) (bits_of information) in
+          let one : weight e ≡ 1 = sym (differences-weight (bits_of own) (bits_of information) (are-bits own) (are-bits information)) ∙ omega arith in
+          let s = one-is e (xors-bits (bits_of own) (bits_of information) (are-bits own) (are-bits information)) one in
+          let e_long : length e ≡ 56 = xors-length (bits_of own) (bits_of information) long ∙ fifty-six own good.seven in
           let k = s.0 in
           let k_less : k < 56 = let a = s.1 in omega arith in
-          let is_bits : bits_of_octets (flipped own k) ≡ bits_of_octets information =
-          bits-turned own k 56 (fifty-six own good.seven) k_less ∙ ap (xors (bits_of_octets own)) (ap (single k) (sym e_long) ∙ sym s.2) ∙ xors-back (bits_of_octets own) (bits_of_octets information) long in
+          let is_bits : bits_of (flipped own k) ≡ bits_of information =
+          bits-turned own k 56 (fifty-six own good.seven) k_less ∙ ap (xors (bits_of own)) (ap (single k) (sym e_long) ∙ sym s.2) ∙ xors-back (bits_of own) (bits_of information) long in
           let good' = turned-good own k good in
-          let is_turned : information ≡ flipped own k =
-          sym (octets-same (flipped own k) information [] [] (good'.seven ∙ sym is.seven) (are-octets (flipped own k) good'.each) (are-octets information is.each) (ap (λ (x : List ℕ). x ++ []) is_bits)) in
+          let is_turned : information ≡ flipped own k = sym (bits-same (flipped own k) information good'.each is.each (good'.seven ∙ sym is.seven) is_bits) in
           first-turned limit block own 56 k k_less (subst (λ (z : List ℕ). errors block z ≤ limit) is_turned within)
     ]
 
 decoded-is : (mode : Mode) (own : List ℕ) (last : ℕ) → length own ≡ 7 → decoded mode (own ++ last ∷ []) ≡ first_within (most_errors mode) (own ++ last ∷ []) (near own 56)
 unfolding decoded
-decoded-is mode own last l = ap (λ (x : List ℕ). first_within (most_errors mode) (own ++ last ∷ []) (near x 56)) (take-front own (last ∷ []) 7 l)
+decoded-is mode own last l = ap (λ (x : List ℕ). first_within (most_errors mode) (own ++ last ∷ []) (near x 56)) (take_at own (last ∷ []) 7 l)
 
 pub found : (mode : Mode) (own : List ℕ) (last : ℕ) (y : List ℕ) → IsInformation own → decoded mode (own ++ last ∷ []) ≡ Some y
     → IsInformation y × (errors (own ++ last ∷ []) y ≤ most_errors mode)
 found mode own last y good h =
     let f : first_within (most_errors mode) (own ++ last ∷ []) (near own 56) ≡ Some y = sym (decoded-is mode own last good.seven) ∙ h in
-    (first-good (most_errors mode) (own ++ last ∷ []) own 56 y good f, first-is (most_errors mode) (own ++ last ∷ []) (near own 56) y f)
+    first-good (most_errors mode) (own ++ last ∷ []) own 56 y good f
 
 pub taken : (mode : Mode) (own : List ℕ) (last : ℕ) (information : List ℕ) → IsInformation own → IsInformation information → errors (own ++ last ∷ []) information ≤ most_errors mode
     → decoded mode (own ++ last ∷ []) ≡ Some information
@@ -209,12 +206,10 @@ syndrome own last = bit_xor (parity_of own) (last / 2)
 left-syndrome : (own : List ℕ) (last : ℕ) → IsInformation own → last < 256 → left 0 (word (own ++ last ∷ [])) ≡ bit_xor 127 (syndrome own last)
 unfolding syndrome
 left-syndrome own last good fits =
-    let r = block_remainder 0 (bits_of_octets own) in
-    word-left own last good.seven fits
-    ∙ sym (xor_zero_l (bit_xor r (last / 2))) ∙ ap (λ (x : ℕ). bit_xor x (bit_xor r (last / 2))) (sym (xor_self 127)) ∙ xor_assoc 127 127 (bit_xor r (last / 2))
-    ∙ ap (bit_xor 127) (sym (xor_assoc 127 r (last / 2)))
+    let r = block_remainder 0 (bits_of own) in
+    word-left own last good.seven fits ∙ sym (again 127 (bit_xor r (last / 2))) ∙ ap (bit_xor 127) (sym (xor_assoc 127 r (last / 2)))
 
-differences-self : (bs : List ℕ) → AreBits bs → block_differences bs bs ≡ 0
+differences-self : (bs : List ℕ) → AreBits bs → differences bs bs ≡ 0
 differences-self [] p = refl
 differences-self (zero ∷ bs) p = let rest = differences-self bs p.1 in omega arith
 differences-self (suc zero ∷ bs) p = let rest = differences-self bs p.1 in omega arith
@@ -225,7 +220,7 @@ none-wrong mode own last good fits s =
     let l : left 0 (word (own ++ last ∷ [])) ≡ 127 = left-syndrome own last good fits ∙ ap (bit_xor 127) s in
     let w = left-block own last good.seven fits l in
     let own_bits = word-bits (own ++ last ∷ []) (block-length own last good.seven) in
-    let e : errors (own ++ last ∷ []) own ≡ 0 = sym (ap (block_differences (word (own ++ last ∷ []))) w) ∙ differences-self (word (own ++ last ∷ [])) own_bits.1 in
+    let e : errors (own ++ last ∷ []) own ≡ 0 = sym (ap (differences (word (own ++ last ∷ []))) w) ∙ differences-self (word (own ++ last ∷ [])) own_bits.1 in
     taken mode own last own good good (omega arith)
 
 -- the block with bit k the other way round is a code block
@@ -259,20 +254,8 @@ parity-wrong : (own : List ℕ) (last : ℕ) → IsInformation own → last < 25
 parity-wrong own last good fits small more less =
     let k = placed (syndrome own last) in
     let seven_long = good.seven in
-    let at : k - 8 * length own ≡ k - 56 = omega arith in
-    let low : k - 56 < 8 = omega arith in
-    let last' = bit_xor last (2 ^ (7 - (k - 56))) in
-    one-turned own last k own last' good fits less (placed-is (syndrome own last) small less) good (xor_lt 8 last (2 ^ (7 - (k - 56))) fits (power-fits (k - 56)))
-    (turned-back own (last ∷ []) k (omega arith) ∙ ap (λ (n : ℕ). own ++ flipped (last ∷ []) n) at
-    ∙ ap (λ (t : Bool). own ++ (if t then last' ∷ [] else last ∷ flipped [] (k - 56 - 8))) (lt-ltb (k - 56) 8 low))
-
--- past the octets, nothing is turned
-pub turned-past : (os : List ℕ) (k : ℕ) → 8 * length os ≤ k → flipped os k ≡ os
-turned-past [] k less = refl
-turned-past (o ∷ os) k less =
-    let high : 8 ≤ k = omega arith in
-    ap (λ (t : Bool). if t then bit_xor o (2 ^ (7 - k)) ∷ os else o ∷ flipped os (k - 8)) (le-ltb k 8 high)
-    ∙ ap (λ (x : List ℕ). o ∷ x) (turned-past os (k - 8) (omega arith))
+    one-turned own last k own (bit_xor last (128 / 2 ^ (k % 8))) good fits less (placed-is (syndrome own last) small less) good (turned-fits last (k % 8) fits)
+    (turned-last own last k (omega arith))
 
 pub one-wrong : (own : List ℕ) (last : ℕ) → IsInformation own → last < 256 → syndrome own last < 128 → placed (syndrome own last) < 63
     → decoded Correct (own ++ last ∷ []) ≡ Some (flipped own (placed (syndrome own last)))
@@ -284,37 +267,13 @@ one-wrong own last good fits small less =
           parity-wrong own last good fits small high less ∙ ap (λ (x : List ℕ). Some x) (sym (turned-past own (placed (syndrome own last)) (omega arith)))
     ]
 
--- at one index
-power : (m : ℕ) → m < 8 → 2 ^ (7 - m) ≡ 128 / 2 ^ m
-power (suc (suc (suc (suc (suc (suc (suc (suc m)))))))) less = absurd (omega arith)
-power _ less = refl
-
-pub turned-set : (os : List ℕ) (k : ℕ) → k / 8 < length os → flipped os k ≡ set os (k / 8) (bit_xor (get_or os (k / 8) 0) (128 / 2 ^ (k % 8)))
-turned-set [] k less = absurd (omega arith)
-turned-set (o ∷ os) k less =
-    elim (cases_lt k 8) [
-      | inl low ↦
-          let q : 0 ≡ k / 8 = omega arith in
-          let m : k ≡ k % 8 = omega arith in
-          ap (λ (t : Bool). if t then bit_xor o (2 ^ (7 - k)) ∷ os else o ∷ flipped os (k - 8)) (lt-ltb k 8 low)
-          ∙ ap (λ (x : ℕ). bit_xor o x ∷ os) (power k low ∙ ap (λ (x : ℕ). 128 / 2 ^ x) m)
-          ∙ ap (λ (x : ℕ). set (o ∷ os) x (bit_xor (get_or (o ∷ os) x 0) (128 / 2 ^ (k % 8)))) q
-      | inr high ↦
-          let q : suc ((k - 8) / 8) ≡ k / 8 = omega arith in
-          let m : (k - 8) % 8 ≡ k % 8 = omega arith in
-          ap (λ (t : Bool). if t then bit_xor o (2 ^ (7 - k)) ∷ os else o ∷ flipped os (k - 8)) (le-ltb k 8 high)
-          ∙ ap (λ (x : List ℕ). o ∷ x) (turned-set os (k - 8) (omega arith))
-          ∙ ap (λ (x : ℕ). o ∷ set os ((k - 8) / 8) (bit_xor (get_or os ((k - 8) / 8) 0) (128 / 2 ^ x))) m
-          ∙ ap (λ (x : ℕ). set (o ∷ os) x (bit_xor (get_or (o ∷ os) x 0) (128 / 2 ^ (k % 8)))) q
-    ]
-
 -- what a code block with no error leaves, and one with one
 syndrome-none : (own : List ℕ) (last : ℕ) (y : List ℕ) → IsInformation own → last < 256 → IsInformation y → errors (own ++ last ∷ []) y ≡ 0 → syndrome own last ≡ 0
 syndrome-none own last y good fits is h =
     let a = word-bits (own ++ last ∷ []) (block-length own last good.seven) in let b = word-bits (code_block y) (code-length y is) in
     let w = none-same (word (own ++ last ∷ [])) (word (code_block y)) (a.0 ∙ sym b.0) a.1 b.1 h in
     let l : bit_xor 127 (syndrome own last) ≡ 127 = sym (left-syndrome own last good fits) ∙ ap (left 0) w ∙ block-left y is.seven in
-    sym (xor_zero_l (syndrome own last)) ∙ ap (λ (x : ℕ). bit_xor x (syndrome own last)) (sym (xor_self 127)) ∙ xor_assoc 127 127 (syndrome own last) ∙ ap (bit_xor 127) l ∙ xor_self 127
+    sym (again 127 (syndrome own last)) ∙ ap (bit_xor 127) l ∙ xor_self 127
 
 pub some-wrong : (own : List ℕ) (last : ℕ) → IsInformation own → last < 256 → syndrome own last ≢ 0 → decoded Detect (own ++ last ∷ []) ≡ None
 some-wrong own last good fits wrong =

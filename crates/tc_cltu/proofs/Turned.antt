@@ -1,7 +1,7 @@
 -- Code blocks with some bits the other way round.
 use Rattle.std.proofs.Common.{◌≡◌, ℕ, zero, suc, ◌<◌, ◌==◌, if◌then◌else◌, List, [], ◌∷◌, bit_xor, length, refl, ap, sym, ◌∙◌, arith}
 use lib.Bits.{xor_assoc}
-use Rattle.tc_cltu.specs.Bits.{block_differences}
+use Rattle.tc_fecf.specs.Changes.{differences}
 use Rattle.tc_cltu.specs.CodeBlock.{IsInformation, code_block, word, errors, flipped}
 use Rattle.tc_cltu.proofs.Patterns.{AreBits, xors, weight, zeros, single, xors-bits, xors-length, zeros-xors, single-length, single-weight}
 use Rattle.tc_cltu.proofs.Words.{word-turned}
@@ -20,7 +20,7 @@ place-sum (suc (suc c)) e p q = absurd (omega arith)
 place-sum c (suc (suc e)) p q = absurd (omega arith)
 place-sum _ _ p q = refl
 
-differences-sum : (cs es : List ℕ) → length cs ≡ length es → AreBits cs → AreBits es → block_differences (xors cs es) cs ≡ weight es
+differences-sum : (cs es : List ℕ) → length cs ≡ length es → AreBits cs → AreBits es → differences (xors cs es) cs ≡ weight es
 unfolding xors weight
 differences-sum [] [] l p q = refl
 differences-sum (c ∷ cs) (e ∷ es) l p q =
@@ -65,7 +65,7 @@ length-single : (i j : ℕ) → length (single i 63) ≡ length (single j 63)
 length-single i j = single-length i 63 ∙ sym (single-length j 63)
 
 added : (information es : List ℕ) → IsInformation information → length es ≡ 63 → AreBits es
-    → block_differences (xors (word (code_block information)) es) (word (code_block information)) ≡ weight es
+    → differences (xors (word (code_block information)) es) (word (code_block information)) ≡ weight es
 added information es is l bits =
     let w = word-bits (code_block information) (code-length information is) in
     differences-sum (word (code_block information)) es (w.0 ∙ sym l) w.1 bits
@@ -73,7 +73,7 @@ added information es is l bits =
 pub one-error : (information : List ℕ) (i : ℕ) → IsInformation information → i < 63 → errors (flipped (code_block information) i) information ≡ 1
 one-error information i is less =
     let w = word (code_block information) in
-    ap (λ (x : List ℕ). block_differences x w) (word-turned (code_block information) i (code-length information is) less)
+    ap (λ (x : List ℕ). differences x w) (word-turned (code_block information) i (code-length information is) less)
     ∙ added information (single i 63) is (single-length i 63) (single-bits i 63) ∙ single-weight i 63 less
 
 word-twice : (block : List ℕ) (i j : ℕ) → length block ≡ 8 → i < 63 → j < 63 → word (flipped (flipped block i) j) ≡ xors (word block) (xors (single i 63) (single j 63))
@@ -85,7 +85,7 @@ word-twice block i j l i_less j_less =
 pub two-errors : (information : List ℕ) (i j : ℕ) → IsInformation information → i < j → j < 63 → errors (flipped (flipped (code_block information) i) j) information ≡ 2
 two-errors information i j is before less =
     let w = word (code_block information) in let es = xors (single i 63) (single j 63) in
-    ap (λ (x : List ℕ). block_differences x w) (word-twice (code_block information) i j (code-length information is) (omega arith) less)
+    ap (λ (x : List ℕ). differences x w) (word-twice (code_block information) i j (code-length information is) (omega arith) less)
     ∙ added information es is (xors-length (single i 63) (single j 63) (length-single i j) ∙ single-length i 63)
     (xors-bits (single i 63) (single j 63) (single-bits i 63) (single-bits j 63))
     ∙ two-ones i j 63 before less
@@ -101,7 +101,7 @@ three-errors information i j k is before next less =
     word-turned (flipped (flipped block i) j) k (turned-length (flipped block i) j ∙ turned-length block i ∙ l) less
     ∙ ap (λ (x : List ℕ). xors x (single k 63)) (word-twice block i j l (omega arith) (omega arith))
     ∙ xors-assoc (word block) two (single k 63) in
-    ap (λ (x : List ℕ). block_differences x (word block)) whole
+    ap (λ (x : List ℕ). differences x (word block)) whole
     ∙ added information es is (xors-length two (single k 63) (two_long ∙ sym (single-length k 63)) ∙ two_long)
     (xors-bits two (single k 63) two_bits (single-bits k 63))
     ∙ three-ones i j k 63 before next less

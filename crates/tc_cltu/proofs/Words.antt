@@ -1,42 +1,33 @@
 -- Blocks as words of 63 bits, and what is left of them by the generator.
-use Rattle.std.proofs.Common.{◌≡◌, ℕ, zero, suc, ◌+◌, ◌-◌, ◌*◌, ◌/◌, ◌^◌, ◌<◌, ◌≤◌, Bool, true, eqb, List, [], ◌∷◌, ◌++◌, bit_xor, length, take, if◌then◌else◌, length-append, refl, ap, sym, ◌∙◌, arith, inl, inr}
-use Rattle.std.proofs.lemmas.Bool.{eqb-true, cases_lt, lt-ltb, le-ltb}
+use Rattle.std.proofs.Common.{◌≡◌, ℕ, zero, suc, ◌+◌, ◌-◌, ◌*◌, ◌/◌, ◌^◌, ◌<◌, ◌≤◌, Bool, List, [], ◌∷◌, ◌++◌, bit_xor, length, take, if◌then◌else◌, length-append, refl, ap, sym, ◌∙◌, arith, inl, inr}
+use Rattle.std.proofs.lemmas.Bool.{cases_lt, lt-ltb, le-ltb}
 use Rattle.std.proofs.lemmas.Nat.{xor_lt, xor_comm}
-use lib.Bits.{xor_assoc, xor_self, xor_zero_r, xor_zero_l}
-use Rattle.tc_cltu.specs.Bits.{bit_at, bits_of_octet, bits_of_octets, AreOctetValues}
+use lib.Bits.{xor_zero_r}
+use Rattle.std.specs.Int.{bit_at}
+use Rattle.tc_fecf.specs.Checksum.{octet_bits, bits_of}
 use Rattle.tc_cltu.specs.CodeBlock.{block_times_x, block_with_bit, block_remainder, parity_of, code_block, word, flipped}
-use Rattle.tc_cltu.proofs.Each.{both, each, each-holds}
-use Rattle.tc_cltu.proofs.Linear.{exchange, bit_of_sum, times_x-linear, remainder-fits}
-use Rattle.tc_cltu.proofs.Patterns.{AreBits, xors, zeros, single, xors-append, xors-zeros, xors-take, zeros-length, single-length, single-take}
-
--- ---- octets by recursion
-abbrev pub AreOctets : List ℕ → Type 0
-AreOctets [] = Unit {0}
-AreOctets (o ∷ os) = (o < 256) × AreOctets os
-
-pub are-octets : (os : List ℕ) → AreOctetValues os → AreOctets os
-are-octets [] h = tt
-are-octets (o ∷ os) h = (h 0, are-octets os (λ i. h (suc i)))
-
-pub is-octets : (os : List ℕ) → AreOctets os → AreOctetValues os
-is-octets [] h i = omega arith
-is-octets (o ∷ os) h zero = h.0
-is-octets (o ∷ os) h (suc i) = is-octets os h.1 i
+use Rattle.tc_fecf.proofs.Below.{same_below}
+use Rattle.tc_fecf.proofs.Polynomials.{exchange, bit_of_sum, again}
+use Rattle.tc_cltu.proofs.Linear.{times_x-linear, remainder-fits}
+use Rattle.tc_cltu.proofs.Patterns.{AreBits, xors, zeros, single, xors-append, xors-zeros, zeros-xors, xors-take, zeros-length, single-length, single-take}
 
 -- ---- bits
 pub bits-append : (bs cs : List ℕ) → AreBits bs → AreBits cs → AreBits (bs ++ cs)
 bits-append [] cs p q = q
 bits-append (b ∷ bs) cs p q = (p.0, bits-append bs cs p.1 q)
 
-pub are-bits : (os : List ℕ) → AreBits (bits_of_octets os)
-unfolding bits_of_octet
+pub are-bits : (os : List ℕ) → AreBits (bits_of os)
+unfolding octet_bits
 are-bits [] = tt
 are-bits (o ∷ os) = (omega arith, (omega arith, (omega arith, (omega arith, (omega arith, (omega arith, (omega arith, (omega arith, are-bits os))))))))
 
-pub bits-length : (os : List ℕ) → length (bits_of_octets os) ≡ 8 * length os
-unfolding bits_of_octet
+pub bits-length : (os : List ℕ) → length (bits_of os) ≡ 8 * length os
+unfolding octet_bits
 bits-length [] = refl
 bits-length (o ∷ os) = let rest = bits-length os in omega arith
+
+pub fifty-six : (os : List ℕ) → length os ≡ 7 → length (bits_of os) ≡ 56
+fifty-six os l = bits-length os ∙ ap (λ (n : ℕ). 8 * n) l
 
 abbrev pub seven : ℕ → List ℕ
 seven o = bit_at o 7 ∷ bit_at o 6 ∷ bit_at o 5 ∷ bit_at o 4 ∷ bit_at o 3 ∷ bit_at o 2 ∷ bit_at o 1 ∷ []
@@ -47,12 +38,9 @@ sevens h = bit_at h 6 ∷ bit_at h 5 ∷ bit_at h 4 ∷ bit_at h 3 ∷ bit_at h 
 seven-half : (o : ℕ) → seven o ≡ sevens (o / 2)
 unfolding sevens
 seven-half o =
-    let a : bit_at o 7 ≡ bit_at (o / 2) 6 = omega arith in
-    let b : bit_at o 6 ≡ bit_at (o / 2) 5 = omega arith in
-    let c : bit_at o 5 ≡ bit_at (o / 2) 4 = omega arith in
-    let d : bit_at o 4 ≡ bit_at (o / 2) 3 = omega arith in
-    let e : bit_at o 3 ≡ bit_at (o / 2) 2 = omega arith in
-    let f : bit_at o 2 ≡ bit_at (o / 2) 1 = omega arith in
+    let a : bit_at o 7 ≡ bit_at (o / 2) 6 = omega arith in let b : bit_at o 6 ≡ bit_at (o / 2) 5 = omega arith in
+    let c : bit_at o 5 ≡ bit_at (o / 2) 4 = omega arith in let d : bit_at o 4 ≡ bit_at (o / 2) 3 = omega arith in
+    let e : bit_at o 3 ≡ bit_at (o / 2) 2 = omega arith in let f : bit_at o 2 ≡ bit_at (o / 2) 1 = omega arith in
     let g : bit_at o 1 ≡ bit_at (o / 2) 0 = omega arith in
     cc
 
@@ -114,31 +102,23 @@ up (b ∷ bs) q p =
     ∙ sym (steps-linear 7 (block_times_x q) b) in
     ap (λ (x : ℕ). block_remainder x bs) one ∙ up bs (bit_xor (block_times_x q) b) p.1
 
-halves : each (λ o. eqb (left 0 (seven o)) (o / 2)) 256 ≡ true
-unfolding each both left block_times_x
-halves = refl
-
-xors-front : (o : ℕ) → xors (zeros 7) (seven o) ≡ seven o
-unfolding xors zeros
-xors-front o =
-    let a = xor_zero_l (bit_at o 7) in let b = xor_zero_l (bit_at o 6) in let c = xor_zero_l (bit_at o 5) in let d = xor_zero_l (bit_at o 4) in
-    let e = xor_zero_l (bit_at o 3) in let f = xor_zero_l (bit_at o 2) in let g = xor_zero_l (bit_at o 1) in
-    cc
+halves : (o : ℕ) → o < 256 → left 0 (seven o) ≡ o / 2
+unfolding left block_times_x
+halves = same_below (λ o. left 0 (seven o)) (λ o. o / 2) 256 refl
 
 left-seven : (o r : ℕ) → o < 256 → left r (seven o) ≡ bit_xor (steps 7 r) (o / 2)
 left-seven o r fits =
-    let z : xors (zeros 7) (seven o) ≡ seven o = xors-front o in
-    ap (λ (x : ℕ). left x (seven o)) (sym (xor_zero_r r)) ∙ ap (left (bit_xor r 0)) (sym z)
+    ap (λ (x : ℕ). left x (seven o)) (sym (xor_zero_r r)) ∙ ap (left (bit_xor r 0)) (sym (zeros-xors (seven o)))
     ∙ left-linear (zeros 7) (seven o) r 0 (zeros-length 7)
     ∙ ap (λ (x : ℕ). bit_xor x (left 0 (seven o))) (left-zeros 7 r)
-    ∙ ap (bit_xor (steps 7 r)) (eqb-true _ _ (each-holds (λ o. eqb (left 0 (seven o)) (o / 2)) 256 halves o fits))
+    ∙ ap (bit_xor (steps 7 r)) (halves o fits)
 
 -- ---- words
-pub word-is : (a b c d e f g last : ℕ) → word (a ∷ b ∷ c ∷ d ∷ e ∷ f ∷ g ∷ last ∷ []) ≡ bits_of_octets (a ∷ b ∷ c ∷ d ∷ e ∷ f ∷ g ∷ []) ++ seven last
-unfolding bits_of_octet
+pub word-is : (a b c d e f g last : ℕ) → word (a ∷ b ∷ c ∷ d ∷ e ∷ f ∷ g ∷ last ∷ []) ≡ bits_of (a ∷ b ∷ c ∷ d ∷ e ∷ f ∷ g ∷ []) ++ seven last
+unfolding octet_bits
 word-is a b c d e f g last = refl
 
-pub word-parts : (information : List ℕ) (last : ℕ) → length information ≡ 7 → word (information ++ last ∷ []) ≡ bits_of_octets information ++ seven last
+pub word-parts : (information : List ℕ) (last : ℕ) → length information ≡ 7 → word (information ++ last ∷ []) ≡ bits_of information ++ seven last
 word-parts (a ∷ b ∷ c ∷ d ∷ e ∷ f ∷ g ∷ []) last l = word-is a b c d e f g last
 word-parts _ last l = absurd (omega arith)
 
@@ -148,48 +128,46 @@ steps-none = refl
 
 -- what is left of a block's word
 pub word-left : (information : List ℕ) (last : ℕ) → length information ≡ 7 → last < 256
-    → left 0 (word (information ++ last ∷ [])) ≡ bit_xor (block_remainder 0 (bits_of_octets information)) (last / 2)
+    → left 0 (word (information ++ last ∷ [])) ≡ bit_xor (block_remainder 0 (bits_of information)) (last / 2)
 word-left information last l fits =
-    ap (left 0) (word-parts information last l) ∙ left-onward (bits_of_octets information) (seven last) 0 ∙ left-seven last (left 0 (bits_of_octets information)) fits
-    ∙ ap (λ (x : ℕ). bit_xor x (last / 2)) (sym (up (bits_of_octets information) 0 (are-bits information)) ∙ ap (λ (x : ℕ). block_remainder x (bits_of_octets information)) steps-none)
+    ap (left 0) (word-parts information last l) ∙ left-onward (bits_of information) (seven last) 0 ∙ left-seven last (left 0 (bits_of information)) fits
+    ∙ ap (λ (x : ℕ). bit_xor x (last / 2)) (sym (up (bits_of information) 0 (are-bits information)) ∙ ap (λ (x : ℕ). block_remainder x (bits_of information)) steps-none)
 
 -- the same seven octets, and last octets that differ in the filler bit alone
 word-alike : (information : List ℕ) (o p : ℕ) → length information ≡ 7 → o / 2 ≡ p / 2 → word (information ++ o ∷ []) ≡ word (information ++ p ∷ [])
 word-alike information o p l h =
-    word-parts information o l ∙ ap (λ (x : List ℕ). bits_of_octets information ++ x) (seven-alike o p h) ∙ sym (word-parts information p l)
+    word-parts information o l ∙ ap (λ (x : List ℕ). bits_of information ++ x) (seven-alike o p h) ∙ sym (word-parts information p l)
 
 pub parity-fits : (information : List ℕ) → parity_of information < 2 ^ 7
-parity-fits information = xor_lt 7 127 (block_remainder 0 (bits_of_octets information)) (omega arith) (remainder-fits (bits_of_octets information) 0 (omega arith))
+parity-fits information = xor_lt 7 127 (block_remainder 0 (bits_of information)) (omega arith) (remainder-fits (bits_of information) 0 (omega arith))
 
 -- 127 is left of a code block, and of no other block with its information
 pub block-left : (information : List ℕ) → length information ≡ 7 → left 0 (word (code_block information)) ≡ 127
 block-left information l =
     let fits = parity-fits information in
-    let r = block_remainder 0 (bits_of_octets information) in
+    let r = block_remainder 0 (bits_of information) in
     let half : parity_of information * 2 / 2 ≡ parity_of information = omega arith in
-    word-left information (parity_of information * 2) l (omega arith) ∙ ap (bit_xor r) half
-    ∙ ap (bit_xor r) (xor_comm 127 r) ∙ sym (xor_assoc r r 127) ∙ ap (λ (x : ℕ). bit_xor x 127) (xor_self r) ∙ xor_zero_l 127
+    word-left information (parity_of information * 2) l (omega arith) ∙ ap (bit_xor r) (half ∙ xor_comm 127 r) ∙ again r 127
 
 pub left-block : (information : List ℕ) (last : ℕ) → length information ≡ 7 → last < 256 → left 0 (word (information ++ last ∷ [])) ≡ 127
     → word (information ++ last ∷ []) ≡ word (code_block information)
 left-block information last l fits h =
-    let r = block_remainder 0 (bits_of_octets information) in
+    let r = block_remainder 0 (bits_of information) in
     let e : bit_xor r (last / 2) ≡ 127 = sym (word-left information last l fits) ∙ h in
-    let half : last / 2 ≡ parity_of information =
-    sym (xor_zero_l (last / 2)) ∙ ap (λ (x : ℕ). bit_xor x (last / 2)) (sym (xor_self r)) ∙ xor_assoc r r (last / 2) ∙ ap (bit_xor r) e ∙ xor_comm r 127 in
+    let half : last / 2 ≡ parity_of information = sym (again r (last / 2)) ∙ ap (bit_xor r) e ∙ xor_comm r 127 in
     let fits' = parity-fits information in
     word-alike information last (parity_of information * 2) l (omega arith)
 
 -- ---- one bit the other way round
-pub octet-sum : (a b : ℕ) → bits_of_octet (bit_xor a b) ≡ xors (bits_of_octet a) (bits_of_octet b)
-unfolding bits_of_octet xors
+pub octet-sum : (a b : ℕ) → octet_bits (bit_xor a b) ≡ xors (octet_bits a) (octet_bits b)
+unfolding octet_bits xors
 octet-sum a b =
     let a0 = bit_of_sum a b 0 in let a1 = bit_of_sum a b 1 in let a2 = bit_of_sum a b 2 in let a3 = bit_of_sum a b 3 in
     let a4 = bit_of_sum a b 4 in let a5 = bit_of_sum a b 5 in let a6 = bit_of_sum a b 6 in let a7 = bit_of_sum a b 7 in
     cc
 
-octet-one : (k : ℕ) → k < 8 → bits_of_octet (2 ^ (7 - k)) ≡ single k 8
-unfolding bits_of_octet single zeros
+octet-one : (k : ℕ) → k < 8 → octet_bits (2 ^ (7 - k)) ≡ single k 8
+unfolding octet_bits single zeros
 octet-one (suc (suc (suc (suc (suc (suc (suc (suc k)))))))) less = absurd (omega arith)
 octet-one _ less = refl
 
@@ -216,36 +194,36 @@ single-back (suc k) (suc m) n less =
     let f : k - m ≡ suc k - suc m = omega arith in
     ap (single (suc k)) e ∙ ap (λ (x : List ℕ). 0 ∷ x) (single-back k m n (omega arith)) ∙ ap (λ (x : ℕ). 0 ∷ (zeros m ++ single x n)) f
 
-eight : (o : ℕ) → length (bits_of_octet o) ≡ 8
-unfolding bits_of_octet
+pub eight : (o : ℕ) → length (octet_bits o) ≡ 8
+unfolding octet_bits
 eight o = refl
 
-octet-same : (o : ℕ) → xors (bits_of_octet o) (zeros 8) ≡ bits_of_octet o
-octet-same o = ap (λ (n : ℕ). xors (bits_of_octet o) (zeros n)) (sym (eight o)) ∙ xors-zeros (bits_of_octet o)
+octet-same : (o : ℕ) → xors (octet_bits o) (zeros 8) ≡ octet_bits o
+octet-same o = ap (λ (n : ℕ). xors (octet_bits o) (zeros n)) (sym (eight o)) ∙ xors-zeros (octet_bits o)
 
-pub bits-turned : (os : List ℕ) (k n : ℕ) → length (bits_of_octets os) ≡ n → k < n → bits_of_octets (flipped os k) ≡ xors (bits_of_octets os) (single k n)
+pub bits-turned : (os : List ℕ) (k n : ℕ) → length (bits_of os) ≡ n → k < n → bits_of (flipped os k) ≡ xors (bits_of os) (single k n)
 bits-turned [] k n l less = absurd (omega arith)
 bits-turned (o ∷ os) k n l less =
-    let m = length (bits_of_octets os) in
-    let total : n ≡ 8 + m = sym l ∙ length-append (bits_of_octet o) (bits_of_octets os) ∙ ap (λ (x : ℕ). x + m) (eight o) in
+    let m = length (bits_of os) in
+    let total : n ≡ 8 + m = sym l ∙ length-append (octet_bits o) (bits_of os) ∙ ap (λ (x : ℕ). x + m) (eight o) in
     elim (cases_lt k 8) [
       | inl low ↦
-          ap (λ (t : Bool). bits_of_octets (if t then bit_xor o (2 ^ (7 - k)) ∷ os else o ∷ flipped os (k - 8))) (lt-ltb k 8 low)
-          ∙ ap (λ (x : List ℕ). x ++ bits_of_octets os) (octet-sum o (2 ^ (7 - k)) ∙ ap (xors (bits_of_octet o)) (octet-one k low))
-          ∙ ap (λ (x : List ℕ). xors (bits_of_octet o) (single k 8) ++ x) (sym (xors-zeros (bits_of_octets os)))
-          ∙ sym (xors-append (bits_of_octet o) (bits_of_octets os) (single k 8) (zeros m) (eight o ∙ sym (single-length k 8)))
-          ∙ ap (xors (bits_of_octet o ++ bits_of_octets os)) (sym (ap (single k) total ∙ single-front k 8 m low))
+          ap (λ (t : Bool). bits_of (if t then bit_xor o (2 ^ (7 - k)) ∷ os else o ∷ flipped os (k - 8))) (lt-ltb k 8 low)
+          ∙ ap (λ (x : List ℕ). x ++ bits_of os) (octet-sum o (2 ^ (7 - k)) ∙ ap (xors (octet_bits o)) (octet-one k low))
+          ∙ ap (λ (x : List ℕ). xors (octet_bits o) (single k 8) ++ x) (sym (xors-zeros (bits_of os)))
+          ∙ sym (xors-append (octet_bits o) (bits_of os) (single k 8) (zeros m) (eight o ∙ sym (single-length k 8)))
+          ∙ ap (xors (octet_bits o ++ bits_of os)) (sym (ap (single k) total ∙ single-front k 8 m low))
       | inr high ↦
-          ap (λ (t : Bool). bits_of_octets (if t then bit_xor o (2 ^ (7 - k)) ∷ os else o ∷ flipped os (k - 8))) (le-ltb k 8 high)
-          ∙ ap (λ (x : List ℕ). bits_of_octet o ++ x) (bits-turned os (k - 8) m refl (omega arith))
-          ∙ ap (λ (x : List ℕ). x ++ xors (bits_of_octets os) (single (k - 8) m)) (sym (octet-same o))
-          ∙ sym (xors-append (bits_of_octet o) (bits_of_octets os) (zeros 8) (single (k - 8) m) (eight o ∙ sym (zeros-length 8)))
-          ∙ ap (xors (bits_of_octet o ++ bits_of_octets os)) (sym (ap (single k) total ∙ single-back k 8 m high))
+          ap (λ (t : Bool). bits_of (if t then bit_xor o (2 ^ (7 - k)) ∷ os else o ∷ flipped os (k - 8))) (le-ltb k 8 high)
+          ∙ ap (λ (x : List ℕ). octet_bits o ++ x) (bits-turned os (k - 8) m refl (omega arith))
+          ∙ ap (λ (x : List ℕ). x ++ xors (bits_of os) (single (k - 8) m)) (sym (octet-same o))
+          ∙ sym (xors-append (octet_bits o) (bits_of os) (zeros 8) (single (k - 8) m) (eight o ∙ sym (zeros-length 8)))
+          ∙ ap (xors (octet_bits o ++ bits_of os)) (sym (ap (single k) total ∙ single-back k 8 m high))
     ]
 
 -- of a whole block
 pub word-turned : (block : List ℕ) (k : ℕ) → length block ≡ 8 → k < 63 → word (flipped block k) ≡ xors (word block) (single k 63)
 word-turned block k l less =
-    let n : length (bits_of_octets block) ≡ 64 = bits-length block ∙ ap (λ (x : ℕ). 8 * x) l in
-    ap (take 63) (bits-turned block k 64 n (omega arith)) ∙ xors-take 63 (bits_of_octets block) (single k 64)
+    let n : length (bits_of block) ≡ 64 = bits-length block ∙ ap (λ (x : ℕ). 8 * x) l in
+    ap (take 63) (bits-turned block k 64 n (omega arith)) ∙ xors-take 63 (bits_of block) (single k 64)
     ∙ ap (xors (word block)) (single-take k 63 64 (omega arith))

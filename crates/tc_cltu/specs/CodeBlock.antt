@@ -3,7 +3,10 @@
 -- A polynomial over GF(2) is the number whose binary digits are its coefficients: x ^ i is 2 ^ i, and a sum is `bit_xor`.
 -- The generator G is x ^ 7 + x ^ 6 + x ^ 2 + 1.
 use Rattle.std.specs.Prelude.{◌≡◌, ℕ, zero, suc, ◌+◌, ◌*◌, ◌-◌, ◌%◌, ◌^◌, List, [], ◌∷◌, ◌++◌, bit_xor, length, take, Option, Some, None, nat_lt, if◌then◌else◌}
-use Rattle.tc_cltu.specs.Bits.{bit_at, bits_of_octets, AreOctetValues, block_differences}
+use Rattle.std.specs.Int.{bit_at}
+use Rattle.tc_link.specs.Frame.{IsOctets}
+use Rattle.tc_fecf.specs.Checksum.{bits_of}
+use Rattle.tc_fecf.specs.Changes.{differences}
 use Rattle.tc_cltu.specs.declared.block.Mode.{Mode}
 use Rattle.tc_cltu.specs.declared.block.Mode.TheVariants.{Detect, Correct}
 
@@ -22,11 +25,11 @@ block_remainder r (b ∷ bs) = block_remainder (block_with_bit r b) bs
 
 -- the seven parity bits: the remainder, complemented
 abbrev pub parity_of : List ℕ → ℕ
-parity_of information = bit_xor (2 ^ 7 - 1) (block_remainder 0 (bits_of_octets information))
+parity_of information = bit_xor (2 ^ 7 - 1) (block_remainder 0 (bits_of information))
 
 -- seven octets, as many as a code block carries
 pub record IsInformation (information : List ℕ) : Type 0 where
-  pub each : AreOctetValues information
+  pub each : IsOctets information
   pub seven : length information ≡ 7
 
 -- the code block: the seven octets, the parity bits, and a filler bit 0
@@ -35,11 +38,11 @@ code_block information = information ++ parity_of information * 2 ∷ []
 
 -- the 63 bits before the filler bit
 abbrev pub word : List ℕ → List ℕ
-word block = take 63 (bits_of_octets block)
+word block = take 63 (bits_of block)
 
 -- at how many of these a block differs from the code block of the information
 abbrev pub errors : List ℕ → List ℕ → ℕ
-errors block information = block_differences (word block) (word (code_block information))
+errors block information = differences (word block) (word (code_block information))
 
 -- how many errors a block may have and still be taken
 abbrev pub most_errors : Mode → ℕ

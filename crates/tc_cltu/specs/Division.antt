@@ -1,10 +1,6 @@
 -- The division that the parity bits come from (CCSDS 231.0-B).
-use Rattle.std.specs.Prelude.{◌≡◌, ℕ, ◌*◌, ◌^◌, ◌<◌, List, [], ◌∷◌, bit_xor, length}
-
--- the polynomial with these coefficients, the highest first
-abbrev pub block_polynomial : List ℕ → ℕ
-block_polynomial [] = 0
-block_polynomial (b ∷ bs) = bit_xor (b * 2 ^ length bs) (block_polynomial bs)
+use Rattle.std.specs.Prelude.{◌≡◌, ℕ, ◌*◌, ◌^◌, ◌<◌, List, bit_xor}
+use Rattle.tc_fecf.specs.Division.{polynomial}
 
 -- Q G, as Q x ^ 7 + Q x ^ 6 + Q x ^ 2 + Q
 unfoldable pub times_block_generator : ℕ → ℕ
@@ -14,4 +10,4 @@ times_block_generator q = bit_xor (bit_xor (q * 2 ^ 7) (q * 2 ^ 6)) (bit_xor (q 
 pub record IsBlockRemainder (r : ℕ) (m : List ℕ) : Type 0 where
   pub degree : r < 2 ^ 7
   pub quotient : ℕ
-  pub divides : block_polynomial m * 2 ^ 7 ≡ bit_xor (times_block_generator quotient) r
+  pub divides : polynomial m * 2 ^ 7 ≡ bit_xor (times_block_generator quotient) r

@@ -1,6 +1,6 @@
 -- The randomiser (CCSDS 231.0-B): h(x) = x ^ 8 + x ^ 6 + x ^ 4 + x ^ 3 + x ^ 2 + x + 1, and all ones at the start.
 use Rattle.std.specs.Prelude.{ℕ, zero, suc, ◌+◌, ◌*◌, ◌%◌, ◌^◌, List, [], ◌∷◌, bit_xor}
-use Rattle.tc_cltu.specs.Bits.{bit_at}
+use Rattle.std.specs.Int.{bit_at}
 
 -- The register is the next eight bits of the sequence, the first as its most significant bit. Bit n + 8 of the sequence is the
 -- sum of bits n + 6, n + 4, n + 3, n + 2, n + 1 and n.

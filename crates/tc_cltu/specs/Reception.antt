@@ -1,7 +1,8 @@
 -- The receiving end (CCSDS 231.0-B): it searches for a start sequence, and then decodes code blocks until it rejects one.
 use Rattle.std.specs.Prelude.{◌≡◌, ℕ, zero, suc, ◌+◌, ◌<◌, ◌≤◌, Bool, true, false, List, [], ◌∷◌, ◌++◌, length, take, Option, Some, None, is_some, nat_eq, nat_lt, if◌then◌else◌}
 use Rattle.std.specs.Cmp.Lexicographic.{pointwise}
-use Rattle.tc_cltu.specs.Bits.{bits_of_octets, block_differences}
+use Rattle.tc_fecf.specs.Checksum.{bits_of}
+use Rattle.tc_fecf.specs.Changes.{differences}
 use Rattle.tc_cltu.specs.CodeBlock.{decoded, most_errors}
 use Rattle.tc_cltu.specs.Cltu.{start_sequence, tail_sequence}
 use Rattle.tc_cltu.specs.declared.block.Fate.{Fate}
@@ -28,7 +29,7 @@ after_block room (o ∷ frame) None = (Searching 0, (o ∷ frame) ∷ [])
 
 -- at how many of their sixteen bits two octets differ from the start sequence
 unfoldable pub start_errors : ℕ → ℕ → ℕ
-start_errors last octet = block_differences (bits_of_octets (last ∷ octet ∷ [])) (bits_of_octets start_sequence)
+start_errors last octet = differences (bits_of (last ∷ octet ∷ [])) (bits_of start_sequence)
 
 -- whether two octets count as the start sequence: with as many wrong bits as the mode allows a code block
 unfoldable pub is_start : Mode → ℕ → ℕ → Bool

@@ -1,7 +1,7 @@
 //! Code blocks.
 
 ghost use Rattle.std.specs.Prelude.{◌≡◌, ◌≢◌, ◌+◌, ◌^◌, ◌<◌, ◌≤◌, ◌++◌, ◌∷◌, [], ℕ, List, Some, None, length, IfSome, MatchOption};
-ghost use Rattle.tc_cltu.specs.Bits.{AreOctetValues};
+ghost use Rattle.tc_link.specs.Frame.{IsOctets};
 ghost use Rattle.tc_cltu.specs.CodeBlock.{parity_of, code_block, decoded, errors, most_errors, flipped, IsInformation};
 ghost use Rattle.tc_cltu.specs.Reception.{fate_in, rejected_as, corrections_of, rejections_of};
 ghost use Rattle.tc_cltu.specs.declared.block.Mode.TheVariants.{Detect};
@@ -43,7 +43,7 @@ pub struct Judged {
 pub(crate) fn parity(octets: &[u8]) -> u8
     ensures bits { result ≡ parity_of octets.now }
     ensures fits { result < 128 }
-    ensures each { AreOctetValues octets.now }
+    ensures each { IsOctets octets.now }
 {
     let mut rest: u8 = 0;
     for octet in octets {

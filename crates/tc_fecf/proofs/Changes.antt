@@ -1,23 +1,15 @@
 -- Which changes of bits the remainder tells.
-use Rattle.std.proofs.Common.{◌≡◌, ◌≢◌, ◌⊎◌, ℕ, zero, suc, ◌+◌, ◌-◌, ◌*◌, ◌%◌, ◌^◌, ◌<◌, ◌≤◌, Bool, true, eqb, not, List, [], ◌∷◌, bit_xor, length, get_or, drop, refl, ap, sym, ◌∙◌, arith, inl, inr}
+use Rattle.std.proofs.Common.{◌≡◌, ◌≢◌, ◌⊎◌, ℕ, zero, suc, ◌+◌, ◌-◌, ◌*◌, ◌%◌, ◌^◌, ◌<◌, ◌≤◌, Bool, true, eqb, not, ◌&&◌, List, [], ◌∷◌, bit_xor, length, get_or, drop, refl, ap, sym, ◌∙◌, arith, inl, inr}
 use Rattle.std.proofs.lemmas.Nat.{pow-add, xor_lt, xor_mod, xor_comm}
 use Rattle.std.proofs.Math.Nat.{pow-suc, add-mul, mul_assoc}
-use lib.Bits.{xor_assoc, xor_self, xor_zero_r, xor_zero_l, xor_shifted}
+use lib.Bits.{xor_self, xor_zero_r, xor_zero_l, xor_shifted}
 use Rattle.tc_link.specs.Bits.{bits}
 use Rattle.tc_fecf.specs.Checksum.{times_x, with_bit, remainder, octet_bits, bits_of}
 use Rattle.tc_fecf.specs.Changes.{SameOctets, SameBits, Passes}
-use Rattle.std.proofs.lemmas.Bool.{cases_eq, cases_order}
+use Rattle.std.proofs.lemmas.Bool.{and_from, and_parts, cases_eq, cases_order}
 use Rattle.tc_link.specs.Frame.{IsOctets}
-use Rattle.tc_fecf.proofs.Linear.{exchange, scaled, times_x-linear, times_x-fits}
-use Rattle.tc_fecf.proofs.Octets.{both, both-first, both-second}
-
--- ---- sums that are 0
-pub same : (a b : ℕ) → bit_xor a b ≡ 0 → a ≡ b
-same a b none =
-    sym (xor_zero_r a) ∙ ap (bit_xor a) (sym (xor_self b)) ∙ sym (xor_assoc a b b) ∙ ap (λ (x : ℕ). bit_xor x b) none ∙ xor_zero_l b
-
-twice : (a b : ℕ) → bit_xor (bit_xor a b) b ≡ a
-twice a b = xor_assoc a b b ∙ ap (bit_xor a) (xor_self b) ∙ xor_zero_r a
+use Rattle.tc_fecf.proofs.Linear.{times_x-linear, times_x-fits}
+use Rattle.tc_fecf.proofs.Polynomials.{AreBits, exchange, scaled, same, twice}
 
 -- ---- times x
 times_x-odd : (y : ℕ) → times_x y % 2 ≡ bits y 15 1
@@ -58,9 +50,6 @@ back-one r s b c r_fits s_fits b_fits c_fits e =
     same (bit_xor r s) (bit_xor b c * 2 ^ 15)
     (times_x-zero (bit_xor (bit_xor r s) (bit_xor b c * 2 ^ 15)) (fits-with (bit_xor r s) (bit_xor b c) (xor_lt 16 r s r_fits s_fits) (xor_lt 1 b c b_fits c_fits))
     (sym (apart r s b c) ∙ ap (λ (x : ℕ). bit_xor x (with_bit s c)) e ∙ xor_self (with_bit s c)))
-
-unfoldable pub AreBits : List ℕ → Type 0
-AreBits bs = (k : ℕ) → get_or bs k 0 < 2
 
 unfoldable pub Alike : List ℕ → List ℕ → ℕ → Type 0
 Alike bs cs k = get_or bs k 0 ≡ get_or cs k 0
@@ -135,28 +124,28 @@ burst (suc i) _ _ lengths bits_b bits_c r r_fits alike e = absurd (omega arith)
 -- ---- two bits
 -- a sum of registers that a second bit can't undo
 open_sum : ℕ → Bool
-open_sum d = both (not (eqb d 0)) (not (eqb d 32768))
+open_sum d = not (eqb d 0) && not (eqb d 32768)
 
 -- that, and the same of the next n - 1 multiples by x
 stays : ℕ → ℕ → Bool
 stays zero d = true
-stays (suc n) d = both (open_sum d) (stays n (times_x d))
+stays (suc n) d = open_sum d && stays n (times_x d)
 
 -- x ^ k isn't 1 modulo G for 0 < k < 32767: by computation
 long : stays 32766 (times_x 32768) ≡ true
-unfolding stays open_sum both times_x
+unfolding stays open_sum times_x
 long = refl
 
 stays-less : (n m d : ℕ) → n ≤ m → stays m d ≡ true → stays n d ≡ true
-unfolding stays both
+unfolding stays
 stays-less zero m d less h = refl
 stays-less (suc n) zero d less h = absurd (omega arith)
 stays-less (suc n) (suc m) d less h =
-    ap (λ (x : Bool). both x (stays n (times_x d))) (both-first (open_sum d) (stays m (times_x d)) h)
-    ∙ stays-less n m (times_x d) (omega arith) (both-second (open_sum d) (stays m (times_x d)) h)
+    let parts = and_parts (open_sum d) (stays m (times_x d)) h in
+    and_from (open_sum d) (stays n (times_x d)) parts.0 (stays-less n m (times_x d) (omega arith) parts.1)
 
 shut : (d e : ℕ) → e < 2 → d ≡ e * 2 ^ 15 → open_sum d ≡ true → ⊥
-unfolding open_sum both
+unfolding open_sum
 shut d zero fits is h = let f : open_sum d ≡ open_sum 0 = ap open_sum is in cc
 shut d (suc zero) fits is h = let f : open_sum d ≡ open_sum 32768 = ap open_sum is in cc
 shut d (suc (suc e)) fits is h = omega arith
@@ -166,11 +155,11 @@ later : (n : ℕ) (bs cs : List ℕ) → length bs ≡ length cs → AreBits bs 
     → ((k : ℕ) → k ≢ n → Alike bs cs k) → stays (suc n) (bit_xor r s) ≡ true → remainder r bs ≡ remainder s cs → ⊥
 unfolding AreBits Alike stays
 later n [] [] lengths bits_b bits_c r s r_fits s_fits alike h e =
-    shut (bit_xor r s) 0 (omega arith) (ap (λ (x : ℕ). bit_xor x s) e ∙ xor_self s) (both-first (open_sum (bit_xor r s)) _ h)
+    shut (bit_xor r s) 0 (omega arith) (ap (λ (x : ℕ). bit_xor x s) e ∙ xor_self s) (and_parts (open_sum (bit_xor r s)) _ h).0
 later zero (b ∷ bs) (c ∷ cs) lengths bits_b bits_c r s r_fits s_fits alike h e =
     let rest = back bs cs (omega arith) (λ k. bits_b (suc k)) (λ k. bits_c (suc k)) (with_bit r b) (with_bit s c) (times_x-fits _) (times_x-fits _)
     (λ k. alike (suc k) (λ z. omega arith)) e in
-    shut (bit_xor r s) (bit_xor b c) (xor_lt 1 b c (bits_b 0) (bits_c 0)) (back-one r s b c r_fits s_fits (bits_b 0) (bits_c 0) rest.0) (both-first (open_sum (bit_xor r s)) _ h)
+    shut (bit_xor r s) (bit_xor b c) (xor_lt 1 b c (bits_b 0) (bits_c 0)) (back-one r s b c r_fits s_fits (bits_b 0) (bits_c 0) rest.0) (and_parts (open_sum (bit_xor r s)) _ h).0
 later (suc n) (b ∷ bs) (c ∷ cs) lengths bits_b bits_c r s r_fits s_fits alike h e =
     let head : b ≡ c = alike 0 (λ z. omega arith) in
     let none : bit_xor b c * 2 ^ 15 ≡ 0 = ap (λ (x : ℕ). x * 2 ^ 15) (ap (λ (x : ℕ). bit_xor x c) head ∙ xor_self c) in
@@ -178,7 +167,7 @@ later (suc n) (b ∷ bs) (c ∷ cs) lengths bits_b bits_c r s r_fits s_fits alik
     apart r s b c ∙ ap times_x (ap (bit_xor (bit_xor r s)) none ∙ xor_zero_r (bit_xor r s)) in
     later n bs cs (omega arith) (λ k. bits_b (suc k)) (λ k. bits_c (suc k)) (with_bit r b) (with_bit s c) (times_x-fits _) (times_x-fits _)
     (λ k other. alike (suc k) (λ z. other (omega arith)))
-    (ap (stays (suc n)) next ∙ both-second (open_sum (bit_xor r s)) (stays (suc n) (times_x (bit_xor r s))) h) e
+    (ap (stays (suc n)) next ∙ (and_parts (open_sum (bit_xor r s)) (stays (suc n) (times_x (bit_xor r s))) h).1) e
 later n _ _ lengths bits_b bits_c r s r_fits s_fits alike h e = omega arith
 
 -- the same, after one bit that differs

@@ -5,7 +5,8 @@ use Rattle.tc_fecf.specs.Checksum.{remainder, octet_bits, bits_of, checksum_of, 
 use Rattle.tc_fecf.specs.FrameWithField.{spelled}
 use Rattle.tc_fecf.proofs.Linear.{onward, times_x-fits, shifted}
 use Rattle.tc_fecf.proofs.Octets.{octet_more, table}
-use Rattle.tc_fecf.proofs.Changes.{AreBits, Alike, back, bits-bits}
+use Rattle.tc_fecf.proofs.Changes.{Alike, back, bits-bits}
+use Rattle.tc_fecf.proofs.Polynomials.{AreBits}
 
 bits-append : (xs ys : List ℕ) → bits_of (xs ++ ys) ≡ bits_of xs ++ bits_of ys
 bits-append [] ys = refl

@@ -1,10 +1,8 @@
 -- Just one frame has no fault.
-use Rattle.std.proofs.Common.{◌≡◌, ℕ, ◌+◌, ◌<◌, ◌≤◌, ◌↔◌, Bool, true, false, cond, List, length, Some, None, nat_lt, refl, arith}
+use Rattle.std.proofs.Common.{◌≡◌, ℕ, ◌↔◌, List, None, arith}
 use Rattle.std.proofs.lemmas.Bool.Decides.{nat_tests}
-use Rattle.tc_link.specs.Frame.{IsOctets, IsWhole, named_length, version_of, spare_of}
-use Rattle.tc_fecf.specs.Checksum.{checksum_of}
-use Rattle.tc_fecf.specs.Changes.{Passes}
-use Rattle.tc_fecf.specs.FrameWithField.{frame_fault_of, adding_fault_of, taking_fault_of}
+use Rattle.tc_link.specs.Frame.{IsOctets, IsWhole}
+use Rattle.tc_fecf.specs.FrameWithField.{frame_fault_of}
 
 whole-of : (octets : List ℕ) → IsOctets octets → frame_fault_of octets ≡ None → IsWhole octets
 whole-of octets each none = record {

@@ -1,3 +1,5 @@
+pub mod Below
+pub mod Polynomials
 pub mod Linear
 pub mod Octets
 pub mod Changes

@@ -1,15 +1,15 @@
 -- Octets that pass have an even number of ones, so an odd number of changes is told.
-use Rattle.std.proofs.Common.{◌≡◌, ℕ, suc, ◌+◌, ◌*◌, ◌/◌, ◌%◌, ◌^◌, ◌<◌, ◌==◌, if◌then◌else◌, true, eqb, List, [], ◌∷◌, bit_xor, length, sum, refl, ap, sym, ◌∙◌, arith}
-use Rattle.std.proofs.lemmas.Bool.{eqb-true}
+use Rattle.std.proofs.Common.{◌≡◌, ℕ, suc, ◌+◌, ◌*◌, ◌/◌, ◌%◌, ◌^◌, ◌<◌, ◌==◌, if◌then◌else◌, List, [], ◌∷◌, bit_xor, length, sum, refl, ap, sym, ◌∙◌, arith}
 use Rattle.std.proofs.lemmas.List.Sums.{sum_by-cons}
 use Rattle.std.proofs.lemmas.Nat.{xor_lt, xor_shr}
 use lib.Bits.{xor_shifted}
 use Rattle.tc_link.specs.Bits.{bits}
 use Rattle.tc_fecf.specs.Checksum.{times_x, with_bit, remainder, bits_of, checksum_of}
 use Rattle.tc_fecf.specs.Changes.{SameOctets, Passes, differences}
-use Rattle.tc_fecf.proofs.Linear.{exchange, bit_of_sum, times_x-linear, times_x-fits}
-use Rattle.tc_fecf.proofs.Octets.{each, each-holds, both}
-use Rattle.tc_fecf.proofs.Changes.{AreBits, bits-bits, bits-length}
+use Rattle.tc_fecf.proofs.Linear.{times_x-linear, times_x-fits}
+use Rattle.tc_fecf.proofs.Below.{same_below}
+use Rattle.tc_fecf.proofs.Changes.{bits-bits, bits-length}
+use Rattle.tc_fecf.proofs.Polynomials.{AreBits, exchange, bit_of_sum}
 
 unfoldable pub half : ℕ → ℕ → ℕ
 half k y = bit_xor y (y / 2 ^ k)
@@ -30,23 +30,21 @@ parity-linear a b =
     ∙ ap (half 1) (half-linear 2 (half 4 (half 8 a)) (half 4 (half 8 b))) ∙ half-linear 1 (half 2 (half 4 (half 8 a))) (half 2 (half 4 (half 8 b))))
     ∙ bit_of_sum (half 1 (half 2 (half 4 (half 8 a)))) (half 1 (half 2 (half 4 (half 8 b)))) 0
 
-lows : each (λ x. eqb (parity (times_x x)) (parity x)) 256 ≡ true
-unfolding each both parity half times_x
-lows = refl
+lows : (x : ℕ) → x < 256 → parity (times_x x) ≡ parity x
+unfolding parity half times_x
+lows = same_below (λ x. parity (times_x x)) parity 256 refl
 
-highs : each (λ x. eqb (parity (times_x (x * 256))) (parity (x * 256))) 256 ≡ true
-unfolding each both parity half times_x
-highs = refl
+highs : (x : ℕ) → x < 256 → parity (times_x (x * 256)) ≡ parity (x * 256)
+unfolding parity half times_x
+highs = same_below (λ x. parity (times_x (x * 256))) (λ x. parity (x * 256)) 256 refl
 
 parity-kept : (y : ℕ) → y < 2 ^ 16 → parity (times_x y) ≡ parity y
 parity-kept y fits =
     let h = y / 256 in let l = y % 256 in
     let split : y ≡ bit_xor (h * 256) l = sym (xor_shifted h 8 l (omega arith) ∙ omega arith) in
-    let high : parity (times_x (h * 256)) ≡ parity (h * 256) = eqb-true _ _ (each-holds (λ x. eqb (parity (times_x (x * 256))) (parity (x * 256))) 256 highs h (omega arith)) in
-    let low : parity (times_x l) ≡ parity l = eqb-true _ _ (each-holds (λ x. eqb (parity (times_x x)) (parity x)) 256 lows l (omega arith)) in
     ap (λ (x : ℕ). parity (times_x x)) split
     ∙ ap parity (times_x-linear (h * 256) l) ∙ parity-linear (times_x (h * 256)) (times_x l)
-    ∙ ap (λ (x : ℕ). bit_xor x (parity (times_x l))) high ∙ ap (bit_xor (parity (h * 256))) low
+    ∙ ap (λ (x : ℕ). bit_xor x (parity (times_x l))) (highs h (omega arith)) ∙ ap (bit_xor (parity (h * 256))) (lows l (omega arith))
     ∙ sym (parity-linear (h * 256) l) ∙ ap parity (sym split)
 
 bit-parity : (b : ℕ) → b < 2 → parity (b * 2 ^ 15) ≡ b

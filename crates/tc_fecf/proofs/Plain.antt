@@ -70,7 +70,7 @@ plain-right (a ∷ b ∷ c ∷ d ∷ rest) p w least none is =
     parts ∙ ap (λ (x : List ℕ). front ++ x) ends ∙ ap (λ (x : List ℕ). x ++ spelled (checksum_of x)) (sym r)
 plain-right _ p w least none is = absurd (omega arith)
 
-octets-take : (m : ℕ) (xs : List ℕ) → IsOctets xs → IsOctets (take m xs)
+pub octets-take : (m : ℕ) (xs : List ℕ) → IsOctets xs → IsOctets (take m xs)
 octets-take zero xs each zero = omega arith
 octets-take zero xs each (suc i) = omega arith
 octets-take (suc m) [] each i = each i

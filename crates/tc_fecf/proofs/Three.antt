@@ -6,7 +6,8 @@ use lib.Bits.{xor_self}
 use Rattle.tc_fecf.specs.Checksum.{times_x, with_bit, remainder, bits_of}
 use Rattle.tc_fecf.specs.Changes.{SameOctets, SameBits, Passes}
 use Rattle.tc_fecf.proofs.Linear.{times_x-fits}
-use Rattle.tc_fecf.proofs.Changes.{AreBits, Alike, apart, different, later-near, two, bits-bits, bits-length, bits-same}
+use Rattle.tc_fecf.proofs.Polynomials.{AreBits}
+use Rattle.tc_fecf.proofs.Changes.{Alike, apart, different, later-near, two, bits-bits, bits-length, bits-same}
 use Rattle.tc_fecf.proofs.Ones.{parity, half, parity-linear, parity-fits, counted, added}
 
 total : (b : ℕ) (bs : List ℕ) → sum (b ∷ bs) ≡ b + sum bs

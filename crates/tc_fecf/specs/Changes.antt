@@ -1,5 +1,5 @@
 -- Octets that were changed on their way.
-use Rattle.std.specs.Prelude.{◌≡◌, ℕ, ◌+◌, ◌==◌, List, [], ◌∷◌, length, slice_index, if◌then◌else◌}
+use Rattle.std.specs.Prelude.{◌≡◌, ℕ, ◌+◌, ◌==◌, List, ◌∷◌, length, slice_index, if◌then◌else◌}
 use Rattle.tc_link.specs.Frame.{IsOctets}
 use Rattle.tc_fecf.specs.Checksum.{bits_of, checksum_of}
 
