@@ -2,6 +2,7 @@
 use Rattle.std.proofs.Common.{◌≡◌, ◌≢◌, ℕ, zero, suc, ◌<◌, ◌≤◌, true, get_or, drop, subst, List, [], ◌∷◌, ◌++◌, length, map, Option, Some, None, refl, sym, ap, ◌∙◌, arith}
 use Rattle.std.specs.Prelude.{set, slice_get, option_map, if◌then◌else◌}
 use Rattle.std.proofs.lemmas.List.{length-map, map-set, get_or-map, get_or-set_same, get_or-set_other, set-get_or}
+use Rattle.circular_buffer.proofs.Places.{slice_get-set_same, slice_get-set_other}
 use Rattle.tc_packet.specs.declared.segment.Part.{Part}
 use Rattle.tc_packet.specs.Segment.{header_of, body_of}
 use Rattle.tc_packet.specs.Reassembly.{at_most, run_at, run_left, open_run, unit_at, unit_ended, ended_by}
@@ -33,16 +34,6 @@ pub same-sizes : (runs : List OpenRun) (i : ℕ) (run next : OpenRun) → i < le
 same-sizes runs i run next inside is same =
     map-set (λ (r : OpenRun). r.room.size) runs i next ∙ ap (λ (n : ℕ). set (sizes_of runs) i n) (same ∙ sym (read-size runs i run inside is)) ∙ set-get_or (sizes_of runs) i 0
 
-pub here : (runs : List OpenRun) (i : ℕ) (next : OpenRun) → i < length runs → slice_get (set runs i next) i ≡ Some next
-here [] i next inside = absurd (omega arith)
-here (r ∷ runs) zero next inside = refl
-here (r ∷ runs) (suc i) next inside = here runs i next (omega arith)
-
-pub elsewhere : (runs : List OpenRun) (i other : ℕ) (next : OpenRun) → other ≢ i → slice_get (set runs i next) other ≡ slice_get runs other
-elsewhere (r ∷ runs) zero zero next apart = absurd (apart refl)
-elsewhere (r ∷ runs) (suc i) (suc other) next apart = elsewhere runs i other next (λ e. apart (ap suc e))
-elsewhere _ _ _ next apart = refl
-
 -- what one more field leaves of a stream, as the law of tc_packet says it
 abbrev pub MovesOn : Type 0
 MovesOn = (fields : List (List ℕ)) (field : List ℕ) → open_run (fields ++ field ∷ []) ≡ next_run (header_of field).part (open_run fields) (body_of field)
@@ -67,7 +58,7 @@ with_run store i next = record store { runs = set store.runs i next }
 
 -- what is told of the unit is what lies there
 told-there : (store : Store) (i : ℕ) (next : OpenRun) (t : Told) (field : List ℕ) → i < length store.runs → unit_in (ended_by_stream t i) (with_run store i next) field ≡ told t next (drop 1 field)
-told-there store i next tolds.Whole field inside = ap (option_map (λ (r : OpenRun). r.room.octets)) (here store.runs i next inside)
+told-there store i next tolds.Whole field inside = ap (option_map (λ (r : OpenRun). r.room.octets)) (slice_get-set_same store.runs i next inside)
 told-there store i next _ field inside = refl
 
 -- a run that is behind its segment has the same room
@@ -188,4 +179,4 @@ pub written-others : (store : Store) (i place other : ℕ) (later : List OpenRun
 written-others store i place other later w at apart = ap (λ (xs : List OpenRun). run_at (map open_in xs) other) w.is ∙ others-open store.runs i other w.next (λ e. apart (e ∙ at))
 
 pub written-rooms : (store : Store) (i place other : ℕ) (later : List OpenRun) → IsWritten i store.runs later → i ≡ place → (other ≡ place → ⊥) → slice_get later other ≡ slice_get store.runs other
-written-rooms store i place other later w at apart = ap (λ (xs : List OpenRun). slice_get xs other) w.is ∙ elsewhere store.runs i other w.next (λ e. apart (e ∙ at))
+written-rooms store i place other later w at apart = ap (λ (xs : List OpenRun). slice_get xs other) w.is ∙ slice_get-set_other store.runs i other w.next (λ e. apart (e ∙ at))

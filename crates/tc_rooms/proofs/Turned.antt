@@ -2,7 +2,8 @@
 use Rattle.std.proofs.Common.{◌≡◌, ℕ, zero, suc, ◌+◌, ◌-◌, ◌≤◌, ◌<◌, Bool, true, false, nat_lt, cond, get_or, List, [], ◌∷◌, ◌++◌, length, map, take, drop, Some, refl, sym, ap, ◌∙◌, append_assoc, arith}
 use Rattle.std.specs.Prelude.{set, slice_get, if◌then◌else◌}
 use Rattle.std.proofs.lemmas.Bool.Decides.{nat_tests}
-use Rattle.std.proofs.lemmas.List.{append-nil, length-append, length-map, length-take, length-drop, length-take-le, length-set, map-append, get_or-map, set-append_left, set-append_right, take-set, take-set-le, take_more, take_more_set, take_all, take-append-le, take-take, take-append-drop, drop_more, drop-take, drop-set-lt, drop-set-add, drop-append-le, drop_all}
+use Rattle.std.proofs.Math.Seq.{take-set-lt}
+use Rattle.std.proofs.lemmas.List.{append-nil, get_or_default, length-append, length-map, length-take, length-drop, length-take-le, length-set, map-append, get_or-map, set-append_left, set-append_right, take-set, take-set-le, take_more, take_more_set, take_all, take-append-le, take-take, take-append-drop, drop_more, drop-take, drop-set-lt, drop-set-add, drop-append-le, drop_all}
 use Rattle.tc_rooms.specs.Rooms.{Laid, laid, octets_of, HaveSize, AreSlots, Slotted, slotted, seen, turned, IsLaidBehind, IsPut}
 
 -- sizes
@@ -22,11 +23,6 @@ size-set n (suc i) (r ∷ rooms) x all one = (all.0, size-set n i rooms x all.1 
 pub length-turned : (first : ℕ) (rooms : List Laid) → length (turned first rooms) ≡ length rooms
 length-turned first rooms = omega (arith, length-append (drop first rooms) (take first rooms), length-drop first rooms, length-take first rooms)
 
-take-of-set : (n i : ℕ) (xs : List Laid) (x : Laid) → take n (set xs i x) ≡ set (take n xs) i x
-take-of-set (suc n) i [] x = refl
-take-of-set (suc n) (suc i) (y ∷ xs) x = ap (λ (ys : List Laid). y ∷ ys) (take-of-set n i xs x)
-take-of-set _ _ _ x = refl
-
 -- a room that is written so many places behind the first one
 pub turned-set : (first count places : ℕ) (rooms : List Laid) (x : Laid) → length rooms ≡ places → first < places → count < places
     → turned first (set rooms (if nat_lt count (places - first) then first + count else count - (places - first)) x) ≡ set (turned first rooms) count x
@@ -40,7 +36,7 @@ turned-set first count places rooms x long inside lt = by (nat_lt count (places 
       rw (drop-set-add first rooms count x, take-set-le first rooms (first + count) x (omega arith)) (sym (set-append_left (drop first rooms) (take first rooms) count x (let a = after in omega arith)))
   by false e =
       let far : places - first ≤ count = grind (arith, nat_tests) in
-      rw (drop-set-lt first rooms (count - (places - first)) x (omega arith), take-of-set first (count - (places - first)) rooms x)
+      rw (drop-set-lt first rooms (count - (places - first)) x (omega arith), take-set-lt first rooms (count - (places - first)) x (omega arith))
       (sym (set-append_right (drop first rooms) (take first rooms) (places - first) count x after far))
 
 -- what waits, and what is laid
@@ -180,10 +176,5 @@ first-item f first waiting xs x inside is some =
     first-seen first waiting (map f xs) (f x) (omega (arith, length-map xs f)) (ap f is ∙ sym (get_or-map f xs first x (f x) inside)) some
 
 -- the same by the place, for rooms that are what lies in them
-at-place : {A : Type 0} (xs : List A) (i : ℕ) (d : A) → i < length xs → get_or xs i d ≡ get_or xs i (get_or xs i d)
-at-place [] i d inside = absurd (omega arith)
-at-place (x ∷ xs) zero d inside = refl
-at-place (x ∷ xs) (suc i) d inside = at-place xs i d (omega arith)
-
 pub first-at : (f : Laid → Laid) (first waiting : ℕ) (xs : List Laid) (d : Laid) → first < length xs → 0 < waiting → Some (f (get_or xs first d)).octets ≡ slice_get (map octets_of (take waiting (turned first (map f xs)))) 0
-first-at f first waiting xs d inside some = first-item f first waiting xs (get_or xs first d) inside (at-place xs first d inside) some
+first-at f first waiting xs d inside some = first-item f first waiting xs (get_or xs first d) inside (get_or_default xs first d (get_or xs first d) inside) some
