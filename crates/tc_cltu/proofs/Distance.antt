@@ -1,5 +1,5 @@
 -- Code blocks differ in four places at least.
-use Rattle.std.proofs.Common.{◌≡◌, ℕ, zero, suc, ◌+◌, ◌%◌, ◌<◌, ◌≤◌, Bool, true, eqb, List, [], ◌∷◌, ◌++◌, bit_xor, length, get_or, take, nat_lt, if◌then◌else◌, length-append, subst, refl, ap, sym, ◌∙◌, arith, inl, inr}
+use Rattle.std.proofs.Common.{◌≡◌, ℕ, ◌^◌, ◌/◌, ◌*◌, zero, suc, ◌+◌, ◌%◌, ◌<◌, ◌≤◌, Bool, true, eqb, List, [], ◌∷◌, ◌++◌, bit_xor, length, get_or, take, nat_lt, if◌then◌else◌, length-append, subst, refl, ap, sym, ◌∙◌, arith, inl, inr}
 use Rattle.std.proofs.lemmas.Bool.{eqb-true, agree_below_at, cases_eq, lt-ltb}
 use Rattle.std.proofs.lemmas.List.{take_at}
 use Rattle.std.proofs.lemmas.Nat.{xor_lt}
@@ -10,10 +10,10 @@ use Rattle.tc_fecf.specs.Changes.{differences}
 use Rattle.tc_fecf.proofs.Below.{same_below}
 use Rattle.tc_fecf.proofs.Changes.{bits-same}
 use Rattle.tc_fecf.proofs.Polynomials.{same}
-use Rattle.tc_cltu.specs.CodeBlock.{block_times_x, IsInformation, code_block, word, errors}
+use Rattle.tc_cltu.specs.CodeBlock.{block_times_x, block_with_bit, block_remainder, IsInformation, code_block, word, errors}
 use Rattle.tc_cltu.specs.declared.tables.TheConstants.{PLACES}
-use Rattle.tc_cltu.proofs.Linear.{times_x-fits}
-use Rattle.tc_cltu.proofs.Patterns.{AreBits, xors, weight, zeros, single, xors-bits, xors-length, two-is, differences-weight, none-same, by-way, single-length}
+use Rattle.tc_cltu.proofs.Linear.{times_x-fits, remainder-fits}
+use Rattle.tc_cltu.proofs.Patterns.{AreBits, xors, weight, zeros, single, xors-bits, xors-length, zeros-bits, zeros-weight, two-is, differences-weight, none-same, by-way, single-length}
 use Rattle.tc_cltu.proofs.Words.{are-bits, bits-append, fifty-six, left, left-linear, block-left, seven, seven-bits, word-is, word-parts}
 
 -- ---- the number of ones is even in what leaves nothing
@@ -24,49 +24,61 @@ kept : (y : ℕ) → y < 128 → parity (block_times_x y) ≡ parity y
 unfolding parity block_times_x
 kept = same_below (λ y. parity (block_times_x y)) parity 128 refl
 
-turns : (y : ℕ) → y < 128 → parity (bit_xor y 1) ≡ (parity y + 1) % 2
+turns : (y : ℕ) → y < 128 → parity (bit_xor y 64) ≡ (parity y + 1) % 2
 unfolding parity
-turns = same_below (λ y. parity (bit_xor y 1)) (λ y. (parity y + 1) % 2) 128 refl
+turns = same_below (λ y. parity (bit_xor y 64)) (λ y. (parity y + 1) % 2) 128 refl
 
 parity-low : (y : ℕ) → parity y < 2
 unfolding parity
 parity-low y = omega arith
 
-with-one : (y b : ℕ) → y < 128 → b < 2 → parity (bit_xor y b) ≡ (parity y + b) % 2
+with-one : (y b : ℕ) → y < 128 → b < 2 → parity (bit_xor y (b * 2 ^ 6)) ≡ (parity y + b) % 2
 with-one y zero fits less = let low = parity-low y in ap parity (xor_zero_r y) ∙ omega arith
 with-one y (suc zero) fits less = turns y fits
 with-one y (suc (suc b)) fits less = absurd (omega arith)
 
-counted : (bs : List ℕ) (r : ℕ) → AreBits bs → r < 128 → parity (left r bs) ≡ (parity r + weight bs) % 2
-unfolding left weight
+counted : (bs : List ℕ) (r : ℕ) → AreBits bs → r < 128 → parity (block_remainder r bs) ≡ (parity r + weight bs) % 2
+unfolding weight
 counted [] r p fits = let low = parity-low r in omega arith
 counted (b ∷ bs) r p fits =
-    let k = kept r fits in
-    let one = with-one (block_times_x r) b (times_x-fits r) p.0 in
     let b_fits = p.0 in
-    let rest = counted bs (bit_xor (block_times_x r) b) p.1 (xor_lt 7 (block_times_x r) b (times_x-fits r) (omega arith)) in
+    let one : parity (block_with_bit r b) ≡ (parity r + b) % 2 = kept (bit_xor r (b * 2 ^ 6)) (xor_lt 7 r (b * 2 ^ 6) fits (omega arith)) ∙ with-one r b fits b_fits in
+    let rest = counted bs (block_with_bit r b) p.1 (times_x-fits _) in
+    omega arith
+
+parity-none : parity 0 ≡ 0
+unfolding parity
+parity-none = refl
+
+left-even : (e : List ℕ) → AreBits e → left e ≡ 0 → weight e % 2 ≡ 0
+unfolding left
+left-even e bits none =
+    let a = counted e 0 bits (omega arith) in
+    let b = counted (zeros 56) (block_remainder 0 e) (zeros-bits 56) (remainder-fits e 0 (omega arith)) in
+    let zero_weight = zeros-weight 56 in let start = parity-none in
+    let end : parity (block_remainder (block_remainder 0 e) (zeros 56)) ≡ 0 = ap parity none ∙ parity-none in
     omega arith
 
 -- ---- each single error leaves something of its own
 abbrev pub placed : ℕ → ℕ
 placed s = get_or PLACES s 0
 
-pub place-of : (k : ℕ) → k < 63 → placed (left 0 (single k 63)) ≡ k
+pub place-of : (k : ℕ) → k < 63 → placed (left (single k 63)) ≡ k
 unfolding left single zeros block_times_x
-place-of = same_below (λ k. placed (left 0 (single k 63))) (λ k. k) 63 refl
+place-of = same_below (λ k. placed (left (single k 63))) (λ k. k) 63 refl
 
 -- the test, at a number below 63 alone
 right_place : ℕ → Bool
-right_place s = if nat_lt (placed s) 63 then eqb (left 0 (single (placed s) 63)) s else true
+right_place s = if nat_lt (placed s) 63 then eqb (left (single (placed s) 63)) s else true
 
 rights : (s : ℕ) → s < 128 → right_place s ≡ true
 unfolding right_place left single zeros block_times_x
 rights s less = agree_below_at right_place (λ _. true) 128 s refl less
 
-pub placed-is : (s : ℕ) → s < 128 → placed s < 63 → left 0 (single (placed s) 63) ≡ s
+pub placed-is : (s : ℕ) → s < 128 → placed s < 63 → left (single (placed s) 63) ≡ s
 unfolding right_place
 placed-is s fits less =
-    eqb-true _ _ (sym (ap (λ (t : Bool). if t then eqb (left 0 (single (placed s) 63)) s else true) (lt-ltb (placed s) 63 less)) ∙ rights s fits)
+    eqb-true _ _ (sym (ap (λ (t : Bool). if t then eqb (left (single (placed s) 63)) s else true) (lt-ltb (placed s) 63 less)) ∙ rights s fits)
 
 -- ---- words
 word-length : (a b c d e f g h : ℕ) → length (word (a ∷ b ∷ c ∷ d ∷ e ∷ f ∷ g ∷ h ∷ [])) ≡ 63
@@ -75,26 +87,21 @@ word-length a b c d e f g h = refl
 
 word-are : (a b c d e f g h : ℕ) → AreBits (word (a ∷ b ∷ c ∷ d ∷ e ∷ f ∷ g ∷ h ∷ []))
 word-are a b c d e f g h =
-    subst AreBits (sym (word-is a b c d e f g h)) (bits-append (bits_of (a ∷ b ∷ c ∷ d ∷ e ∷ f ∷ g ∷ [])) (seven h) (are-bits (a ∷ b ∷ c ∷ d ∷ e ∷ f ∷ g ∷ [])) (seven-bits h))
+    subst AreBits (sym (word-is a b c d e f g h)) (bits-append (bits_of (a ∷ b ∷ c ∷ d ∷ e ∷ f ∷ g ∷ [])) (seven (h / 2)) (are-bits (a ∷ b ∷ c ∷ d ∷ e ∷ f ∷ g ∷ [])) (seven-bits (h / 2)))
 
 pub word-bits : (block : List ℕ) → length block ≡ 8 → (length (word block) ≡ 63) × AreBits (word block)
 word-bits (a ∷ b ∷ c ∷ d ∷ e ∷ f ∷ g ∷ h ∷ []) l = (word-length a b c d e f g h, word-are a b c d e f g h)
 word-bits _ l = absurd (omega arith)
 
-parity-none : parity 0 ≡ 0
-unfolding parity
-parity-none = refl
-
 -- two words of which the same is left, with at most three differences, are one
-near-words : (v w : List ℕ) → length v ≡ 63 → length w ≡ 63 → AreBits v → AreBits w → left 0 v ≡ left 0 w → differences v w ≤ 3 → v ≡ w
+near-words : (v w : List ℕ) → length v ≡ 63 → length w ≡ 63 → AreBits v → AreBits w → left v ≡ left w → differences v w ≤ 3 → v ≡ w
 near-words v w lv lw pv pw alike few =
     let e = xors v w in
     let e_long : length e ≡ 63 = xors-length v w (lv ∙ sym lw) ∙ lv in
     let e_bits = xors-bits v w pv pw in
     let d : differences v w ≡ weight e = differences-weight v w pv pw in
-    let none : left 0 e ≡ 0 = left-linear v w 0 0 (lv ∙ sym lw) ∙ ap (λ (x : ℕ). bit_xor x (left 0 w)) alike ∙ xor_self (left 0 w) in
-    let even : (parity 0 + weight e) % 2 ≡ 0 = sym (counted e 0 e_bits (omega arith)) ∙ ap parity none ∙ parity-none in
-    let start = parity-none in
+    let none : left e ≡ 0 = left-linear v w (lv ∙ sym lw) ∙ ap (λ (x : ℕ). bit_xor x (left w)) alike ∙ xor_self (left w) in
+    let even = left-even e e_bits none in
     elim (cases_eq (weight e) 2) [
       | inl two ↦
           let t = two-is e e_bits two in
@@ -102,9 +109,9 @@ near-words v w lv lw pv pw alike few =
           let shape : e ≡ xors (single i 63) (single j 63) = t.4 ∙ ap (λ (n : ℕ). xors (single i n) (single j n)) e_long in
           let i_less : i < 63 = let a = t.2 in let b = t.3 in omega arith in
           let j_less : j < 63 = let b = t.3 in omega arith in
-          let sum : bit_xor (left 0 (single i 63)) (left 0 (single j 63)) ≡ 0 =
-          sym (left-linear (single i 63) (single j 63) 0 0 (single-length i 63 ∙ sym (single-length j 63))) ∙ ap (left 0) (sym shape) ∙ none in
-          let alike_left : left 0 (single i 63) ≡ left 0 (single j 63) = same (left 0 (single i 63)) (left 0 (single j 63)) sum in
+          let sum : bit_xor (left (single i 63)) (left (single j 63)) ≡ 0 =
+          sym (left-linear (single i 63) (single j 63) (single-length i 63 ∙ sym (single-length j 63))) ∙ ap left (sym shape) ∙ none in
+          let alike_left : left (single i 63) ≡ left (single j 63) = same (left (single i 63)) (left (single j 63)) sum in
           let is : i ≡ j = sym (place-of i i_less) ∙ ap (λ (s : ℕ). placed s) alike_left ∙ place-of j j_less in
           let a = t.2 in absurd (omega arith)
       | inr other ↦ none-same v w (lv ∙ sym lw) pv pw (omega arith)
@@ -113,8 +120,8 @@ near-words v w lv lw pv pw alike few =
 -- blocks with one word carry the same
 words-same : (one other : List ℕ) (o p : ℕ) → IsInformation one → IsInformation other → word (one ++ o ∷ []) ≡ word (other ++ p ∷ []) → one ≡ other
 words-same one other o p is is' h =
-    bits-same one other is.each is'.each (is.seven ∙ sym is'.seven) (sym (take_at (bits_of one) (seven o) 56 (fifty-six one is.seven))
-    ∙ ap (take 56) (sym (word-parts one o is.seven) ∙ h ∙ word-parts other p is'.seven) ∙ take_at (bits_of other) (seven p) 56 (fifty-six other is'.seven))
+    bits-same one other is.each is'.each (is.seven ∙ sym is'.seven) (sym (take_at (bits_of one) (seven (o / 2)) 56 (fifty-six one is.seven))
+    ∙ ap (take 56) (sym (word-parts one o is.seven) ∙ h ∙ word-parts other p is'.seven) ∙ take_at (bits_of other) (seven (p / 2)) 56 (fifty-six other is'.seven))
 
 pub code-length : (information : List ℕ) → IsInformation information → length (code_block information) ≡ 8
 code-length information is = let l = is.seven in length-append information _ ∙ omega arith

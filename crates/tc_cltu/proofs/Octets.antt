@@ -11,16 +11,7 @@ use Rattle.tc_fecf.proofs.Below.{same_below}
 use Rattle.tc_fecf.proofs.Polynomials.{exchange, scaled, twice}
 use Rattle.tc_cltu.proofs.Linear.{times_x-linear, onward}
 use Rattle.tc_cltu.proofs.Patterns.{xors, zeros, zeros-length, zeros-xors}
-use Rattle.tc_cltu.proofs.Words.{octet-sum, eight}
-
-remainder-linear : (bs cs : List ℕ) (r s : ℕ) → length bs ≡ length cs → block_remainder (bit_xor r s) (xors bs cs) ≡ bit_xor (block_remainder r bs) (block_remainder s cs)
-unfolding xors
-remainder-linear [] [] r s l = refl
-remainder-linear (b ∷ bs) (c ∷ cs) r s l =
-    let one : block_with_bit (bit_xor r s) (bit_xor b c) ≡ bit_xor (block_with_bit r b) (block_with_bit s c) =
-    ap block_times_x (ap (bit_xor (bit_xor r s)) (scaled 6 b c) ∙ exchange r s (b * 2 ^ 6) (c * 2 ^ 6)) ∙ times_x-linear (bit_xor r (b * 2 ^ 6)) (bit_xor s (c * 2 ^ 6)) in
-    ap (λ (x : ℕ). block_remainder x (xors bs cs)) one ∙ remainder-linear bs cs (block_with_bit r b) (block_with_bit s c) (omega arith)
-remainder-linear _ _ r s l = absurd (omega arith)
+use Rattle.tc_cltu.proofs.Words.{octet-sum, eight, remainder-linear}
 
 rows : (y : ℕ) → y < 256 → get_or REMAINDERS y 0 ≡ block_remainder 0 (octet_bits y)
 unfolding octet_bits block_times_x

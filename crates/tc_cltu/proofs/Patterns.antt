@@ -40,6 +40,11 @@ unfolding xors
 xors-bits (b ∷ bs) (c ∷ cs) p q = (xor_lt 1 b c p.0 q.0, xors-bits bs cs p.1 q.1)
 xors-bits _ _ p q = tt
 
+pub zeros-bits : (n : ℕ) → AreBits (zeros n)
+unfolding zeros
+zeros-bits zero = tt
+zeros-bits (suc n) = (omega arith, zeros-bits n)
+
 pub zeros-length : (n : ℕ) → length (zeros n) ≡ n
 unfolding zeros
 zeros-length zero = refl
@@ -51,7 +56,7 @@ single-length k zero = refl
 single-length zero (suc n) = let rest = zeros-length n in omega arith
 single-length (suc k) (suc n) = let rest = single-length k n in omega arith
 
-zeros-weight : (n : ℕ) → weight (zeros n) ≡ 0
+pub zeros-weight : (n : ℕ) → weight (zeros n) ≡ 0
 unfolding zeros weight
 zeros-weight zero = refl
 zeros-weight (suc n) = let rest = zeros-weight n in omega arith

@@ -139,10 +139,10 @@ some-found : (own information : List ℕ) (last limit : ℕ) → IsInformation o
 some-found own information last limit good is low within =
     let block = own ++ last ∷ [] in
     let long : length (bits_of own) ≡ length (bits_of information) = fifty-six own good.seven ∙ sym (fifty-six information is.seven) in
-    let split : errors block information ≡ differences (bits_of own) (bits_of information) + differences (seven last) (seven (parity_of information * 2)) =
+    let split : errors block information ≡ differences (bits_of own) (bits_of information) + differences (seven (last / 2)) (seven (parity_of information * 2 / 2)) =
     ap (λ (x : List ℕ). differences x (word (code_block information))) (word-parts own last good.seven)
-    ∙ ap (differences (bits_of own ++ seven last)) (word-parts information (parity_of information * 2) is.seven)
-    ∙ differences-append (bits_of own) (seven last) (bits_of information) (seven (parity_of information * 2)) long in
+    ∙ ap (differences (bits_of own ++ seven (last / 2))) (word-parts information (parity_of information * 2) is.seven)
+    ∙ differences-append (bits_of own) (seven (last / 2)) (bits_of information) (seven (parity_of information * 2 / 2)) long in
     elim (cases_eq (differences (bits_of own) (bits_of information)) 0) [
       | inl none ↦
           let same_bits : bits_of own ≡ bits_of information = none-same (bits_of own) (bits_of information) long (are-bits own) (are-bits information) none in
@@ -203,7 +203,7 @@ refused mode own last information good is over under =
 unfoldable pub syndrome : List ℕ → ℕ → ℕ
 syndrome own last = bit_xor (parity_of own) (last / 2)
 
-left-syndrome : (own : List ℕ) (last : ℕ) → IsInformation own → last < 256 → left 0 (word (own ++ last ∷ [])) ≡ bit_xor 127 (syndrome own last)
+left-syndrome : (own : List ℕ) (last : ℕ) → IsInformation own → last < 256 → left (word (own ++ last ∷ [])) ≡ bit_xor 127 (syndrome own last)
 unfolding syndrome
 left-syndrome own last good fits =
     let r = block_remainder 0 (bits_of own) in
@@ -217,23 +217,23 @@ differences-self (suc (suc b) ∷ bs) p = absurd (omega arith)
 
 pub none-wrong : (mode : Mode) (own : List ℕ) (last : ℕ) → IsInformation own → last < 256 → syndrome own last ≡ 0 → decoded mode (own ++ last ∷ []) ≡ Some own
 none-wrong mode own last good fits s =
-    let l : left 0 (word (own ++ last ∷ [])) ≡ 127 = left-syndrome own last good fits ∙ ap (bit_xor 127) s in
+    let l : left (word (own ++ last ∷ [])) ≡ 127 = left-syndrome own last good fits ∙ ap (bit_xor 127) s in
     let w = left-block own last good.seven fits l in
     let own_bits = word-bits (own ++ last ∷ []) (block-length own last good.seven) in
     let e : errors (own ++ last ∷ []) own ≡ 0 = sym (ap (differences (word (own ++ last ∷ []))) w) ∙ differences-self (word (own ++ last ∷ [])) own_bits.1 in
     taken mode own last own good good (omega arith)
 
 -- the block with bit k the other way round is a code block
-one-turned : (own : List ℕ) (last k : ℕ) (own' : List ℕ) (last' : ℕ) → IsInformation own → last < 256 → k < 63 → left 0 (single k 63) ≡ syndrome own last
+one-turned : (own : List ℕ) (last k : ℕ) (own' : List ℕ) (last' : ℕ) → IsInformation own → last < 256 → k < 63 → left (single k 63) ≡ syndrome own last
     → IsInformation own' → last' < 256 → flipped (own ++ last ∷ []) k ≡ own' ++ last' ∷ [] → decoded Correct (own ++ last ∷ []) ≡ Some own'
 one-turned own last k own' last' good fits less s good' fits' is =
     let block = own ++ last ∷ [] in
     let l = block-length own last good.seven in
     let wb = word-bits block l in
     let w : word (own' ++ last' ∷ []) ≡ xors (word block) (single k 63) = ap word (sym is) ∙ word-turned block k l less in
-    let c : left 0 (word (own' ++ last' ∷ [])) ≡ 127 =
-    ap (left 0) w ∙ left-linear (word block) (single k 63) 0 0 (wb.0 ∙ sym (single-length k 63))
-    ∙ ap (λ (x : ℕ). bit_xor x (left 0 (single k 63))) (left-syndrome own last good fits) ∙ ap (bit_xor (bit_xor 127 (syndrome own last))) s ∙ twice 127 (syndrome own last) in
+    let c : left (word (own' ++ last' ∷ [])) ≡ 127 =
+    ap left w ∙ left-linear (word block) (single k 63) (wb.0 ∙ sym (single-length k 63))
+    ∙ ap (λ (x : ℕ). bit_xor x (left (single k 63))) (left-syndrome own last good fits) ∙ ap (bit_xor (bit_xor 127 (syndrome own last))) s ∙ twice 127 (syndrome own last) in
     let code : xors (word block) (single k 63) ≡ word (code_block own') = sym w ∙ left-block own' last' good'.seven fits' c in
     let cb = word-bits (code_block own') (code-length own' good') in
     let e : errors block own' ≡ 1 =
@@ -272,7 +272,7 @@ syndrome-none : (own : List ℕ) (last : ℕ) (y : List ℕ) → IsInformation o
 syndrome-none own last y good fits is h =
     let a = word-bits (own ++ last ∷ []) (block-length own last good.seven) in let b = word-bits (code_block y) (code-length y is) in
     let w = none-same (word (own ++ last ∷ [])) (word (code_block y)) (a.0 ∙ sym b.0) a.1 b.1 h in
-    let l : bit_xor 127 (syndrome own last) ≡ 127 = sym (left-syndrome own last good fits) ∙ ap (left 0) w ∙ block-left y is.seven in
+    let l : bit_xor 127 (syndrome own last) ≡ 127 = sym (left-syndrome own last good fits) ∙ ap left w ∙ block-left y is.seven in
     sym (again 127 (syndrome own last)) ∙ ap (bit_xor 127) l ∙ xor_self 127
 
 pub some-wrong : (own : List ℕ) (last : ℕ) → IsInformation own → last < 256 → syndrome own last ≢ 0 → decoded Detect (own ++ last ∷ []) ≡ None
@@ -300,9 +300,9 @@ more-wrong own last good fits wrong far =
                 let s = one-is e (xors-bits (word block) (word (code_block y)) a.1 b.1) one in
                 let e_long : length e ≡ 63 = xors-length (word block) (word (code_block y)) (a.0 ∙ sym b.0) ∙ a.0 in
                 let k_less : s.0 < 63 = let t = s.1 in omega arith in
-                let l : left 0 (single s.0 63) ≡ syndrome own last =
-                ap (λ (n : ℕ). left 0 (single s.0 n)) (sym e_long) ∙ ap (left 0) (sym s.2) ∙ left-linear (word block) (word (code_block y)) 0 0 (a.0 ∙ sym b.0)
-                ∙ ap (λ (x : ℕ). bit_xor x (left 0 (word (code_block y)))) (left-syndrome own last good fits) ∙ ap (bit_xor (bit_xor 127 (syndrome own last))) (block-left y f.0.seven)
+                let l : left (single s.0 63) ≡ syndrome own last =
+                ap (λ (n : ℕ). left (single s.0 n)) (sym e_long) ∙ ap left (sym s.2) ∙ left-linear (word block) (word (code_block y)) (a.0 ∙ sym b.0)
+                ∙ ap (λ (x : ℕ). bit_xor x (left (word (code_block y)))) (left-syndrome own last good fits) ∙ ap (bit_xor (bit_xor 127 (syndrome own last))) (block-left y f.0.seven)
                 ∙ ap (λ (x : ℕ). bit_xor x 127) (xor_comm 127 (syndrome own last)) ∙ twice (syndrome own last) 127 in
                 let p : placed (syndrome own last) ≡ s.0 = ap placed (sym l) ∙ place-of s.0 k_less in
                 omega arith

@@ -3,7 +3,7 @@ use Rattle.std.proofs.Common.{◌≡◌, ℕ, zero, suc, ◌<◌, ◌==◌, if�
 use lib.Bits.{xor_assoc}
 use Rattle.tc_fecf.specs.Changes.{differences}
 use Rattle.tc_cltu.specs.CodeBlock.{IsInformation, code_block, word, errors, flipped}
-use Rattle.tc_cltu.proofs.Patterns.{AreBits, xors, weight, zeros, single, xors-bits, xors-length, zeros-xors, single-length, single-weight}
+use Rattle.tc_cltu.proofs.Patterns.{AreBits, xors, weight, zeros, single, xors-bits, xors-length, zeros-bits, zeros-xors, single-length, single-weight}
 use Rattle.tc_cltu.proofs.Words.{word-turned}
 use Rattle.tc_cltu.proofs.Distance.{word-bits, code-length}
 use Rattle.tc_cltu.proofs.Taking.{turned-length}
@@ -28,11 +28,6 @@ differences-sum (c ∷ cs) (e ∷ es) l p q =
 differences-sum _ _ l p q = absurd (omega arith)
 
 -- ---- one bit, two and three
-zeros-bits : (n : ℕ) → AreBits (zeros n)
-unfolding zeros
-zeros-bits zero = tt
-zeros-bits (suc n) = (omega arith, zeros-bits n)
-
 single-bits : (k n : ℕ) → AreBits (single k n)
 unfolding single
 single-bits k zero = tt

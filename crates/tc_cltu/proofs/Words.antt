@@ -7,8 +7,8 @@ use Rattle.std.specs.Int.{bit_at}
 use Rattle.tc_fecf.specs.Checksum.{octet_bits, bits_of}
 use Rattle.tc_cltu.specs.CodeBlock.{block_times_x, block_with_bit, block_remainder, parity_of, code_block, word, flipped}
 use Rattle.tc_fecf.proofs.Below.{same_below}
-use Rattle.tc_fecf.proofs.Polynomials.{exchange, bit_of_sum, again}
-use Rattle.tc_cltu.proofs.Linear.{times_x-linear, remainder-fits}
+use Rattle.tc_fecf.proofs.Polynomials.{exchange, scaled, bit_of_sum, again}
+use Rattle.tc_cltu.proofs.Linear.{times_x-linear, remainder-fits, onward}
 use Rattle.tc_cltu.proofs.Patterns.{AreBits, xors, zeros, single, xors-append, xors-zeros, zeros-xors, xors-take, zeros-length, single-length, single-take}
 
 -- ---- bits
@@ -30,13 +30,10 @@ pub fifty-six : (os : List ℕ) → length os ≡ 7 → length (bits_of os) ≡ 
 fifty-six os l = bits-length os ∙ ap (λ (n : ℕ). 8 * n) l
 
 abbrev pub seven : ℕ → List ℕ
-seven o = bit_at o 7 ∷ bit_at o 6 ∷ bit_at o 5 ∷ bit_at o 4 ∷ bit_at o 3 ∷ bit_at o 2 ∷ bit_at o 1 ∷ []
+seven h = bit_at h 6 ∷ bit_at h 5 ∷ bit_at h 4 ∷ bit_at h 3 ∷ bit_at h 2 ∷ bit_at h 1 ∷ bit_at h 0 ∷ []
 
-sevens : ℕ → List ℕ
-sevens h = bit_at h 6 ∷ bit_at h 5 ∷ bit_at h 4 ∷ bit_at h 3 ∷ bit_at h 2 ∷ bit_at h 1 ∷ bit_at h 0 ∷ []
-
-seven-half : (o : ℕ) → seven o ≡ sevens (o / 2)
-unfolding sevens
+-- the bits of an octet but for its last one
+seven-half : (o : ℕ) → bit_at o 7 ∷ bit_at o 6 ∷ bit_at o 5 ∷ bit_at o 4 ∷ bit_at o 3 ∷ bit_at o 2 ∷ bit_at o 1 ∷ [] ≡ seven (o / 2)
 seven-half o =
     let a : bit_at o 7 ≡ bit_at (o / 2) 6 = omega arith in let b : bit_at o 6 ≡ bit_at (o / 2) 5 = omega arith in
     let c : bit_at o 5 ≡ bit_at (o / 2) 4 = omega arith in let d : bit_at o 4 ≡ bit_at (o / 2) 3 = omega arith in
@@ -44,112 +41,83 @@ seven-half o =
     let g : bit_at o 1 ≡ bit_at (o / 2) 0 = omega arith in
     cc
 
-seven-alike : (o p : ℕ) → o / 2 ≡ p / 2 → seven o ≡ seven p
-seven-alike o p h = seven-half o ∙ ap sevens h ∙ sym (seven-half p)
-
 pub seven-bits : (o : ℕ) → AreBits (seven o)
 seven-bits o = (omega arith, (omega arith, (omega arith, (omega arith, (omega arith, (omega arith, (omega arith, tt)))))))
 
--- ---- division, as the bits come
-unfoldable pub left : ℕ → List ℕ → ℕ
-left r [] = r
-left r (b ∷ bs) = left (bit_xor (block_times_x r) b) bs
+-- ---- division
+pub remainder-linear : (bs cs : List ℕ) (r s : ℕ) → length bs ≡ length cs → block_remainder (bit_xor r s) (xors bs cs) ≡ bit_xor (block_remainder r bs) (block_remainder s cs)
+unfolding xors
+remainder-linear [] [] r s l = refl
+remainder-linear (b ∷ bs) (c ∷ cs) r s l =
+    let one : block_with_bit (bit_xor r s) (bit_xor b c) ≡ bit_xor (block_with_bit r b) (block_with_bit s c) =
+    ap block_times_x (ap (bit_xor (bit_xor r s)) (scaled 6 b c) ∙ exchange r s (b * 2 ^ 6) (c * 2 ^ 6)) ∙ times_x-linear (bit_xor r (b * 2 ^ 6)) (bit_xor s (c * 2 ^ 6)) in
+    ap (λ (x : ℕ). block_remainder x (xors bs cs)) one ∙ remainder-linear bs cs (block_with_bit r b) (block_with_bit s c) (omega arith)
+remainder-linear _ _ r s l = absurd (omega arith)
 
-unfoldable pub steps : ℕ → ℕ → ℕ
-steps zero r = r
-steps (suc n) r = steps n (block_times_x r)
+zeros-twice : (n : ℕ) → xors (zeros n) (zeros n) ≡ zeros n
+zeros-twice n = ap (λ (m : ℕ). xors (zeros m) (zeros n)) (sym (zeros-length n)) ∙ zeros-xors (zeros n)
 
-pub left-linear : (bs cs : List ℕ) (r s : ℕ) → length bs ≡ length cs → left (bit_xor r s) (xors bs cs) ≡ bit_xor (left r bs) (left s cs)
-unfolding left xors
-left-linear [] [] r s l = refl
-left-linear (b ∷ bs) (c ∷ cs) r s l =
-    ap (λ (x : ℕ). left x (xors bs cs)) (ap (λ (x : ℕ). bit_xor x (bit_xor b c)) (times_x-linear r s) ∙ exchange (block_times_x r) (block_times_x s) b c)
-    ∙ left-linear bs cs (bit_xor (block_times_x r) b) (bit_xor (block_times_x s) c) (omega arith)
-left-linear _ _ r s l = absurd (omega arith)
+-- what is left of a word by the generator: the register has x ^ 7 times it, and x ^ 63 leaves 1
+unfoldable pub left : List ℕ → ℕ
+left bs = block_remainder (block_remainder 0 bs) (zeros 56)
 
-left-onward : (cs bs : List ℕ) (r : ℕ) → left r (cs ++ bs) ≡ left (left r cs) bs
+around : (s : ℕ) → s < 128 → block_remainder (block_remainder s (zeros 7)) (zeros 56) ≡ s
+unfolding block_times_x zeros
+around = same_below (λ s. block_remainder (block_remainder s (zeros 7)) (zeros 56)) (λ s. s) 128 refl
+
+pub left-linear : (bs cs : List ℕ) → length bs ≡ length cs → left (xors bs cs) ≡ bit_xor (left bs) (left cs)
 unfolding left
-left-onward [] bs r = refl
-left-onward (c ∷ cs) bs r = left-onward cs bs (bit_xor (block_times_x r) c)
+left-linear bs cs l =
+    let one = block_remainder 0 bs in let other = block_remainder 0 cs in
+    ap (λ (x : ℕ). block_remainder x (zeros 56)) (remainder-linear bs cs 0 0 l)
+    ∙ ap (block_remainder (bit_xor one other)) (sym (zeros-twice 56)) ∙ remainder-linear (zeros 56) (zeros 56) one other refl
 
-steps-linear : (n a b : ℕ) → steps n (bit_xor a b) ≡ bit_xor (steps n a) (steps n b)
-unfolding steps
-steps-linear zero a b = refl
-steps-linear (suc n) a b = ap (steps n) (times_x-linear a b) ∙ steps-linear n (block_times_x a) (block_times_x b)
+halves : (h : ℕ) → h < 128 → block_remainder 0 (seven h) ≡ block_remainder h (zeros 7)
+unfolding block_times_x zeros
+halves = same_below (λ h. block_remainder 0 (seven h)) (λ h. block_remainder h (zeros 7)) 128 refl
 
-steps-turn : (n r : ℕ) → steps n (block_times_x r) ≡ block_times_x (steps n r)
-unfolding steps
-steps-turn zero r = refl
-steps-turn (suc n) r = steps-turn n (block_times_x r)
-
-left-zeros : (n r : ℕ) → left r (zeros n) ≡ steps n r
-unfolding left zeros steps
-left-zeros zero r = refl
-left-zeros (suc n) r = ap (λ (x : ℕ). left x (zeros n)) (xor_zero_r (block_times_x r)) ∙ left-zeros n (block_times_x r)
-
-once : (b : ℕ) → b < 2 → block_times_x (b * 2 ^ 6) ≡ steps 7 b
-unfolding block_times_x steps
-once (suc (suc b)) less = absurd (omega arith)
-once _ less = refl
-
--- seven places up
-up : (bs : List ℕ) (q : ℕ) → AreBits bs → block_remainder (steps 7 q) bs ≡ steps 7 (left q bs)
-unfolding left
-up [] q p = refl
-up (b ∷ bs) q p =
-    let one : block_with_bit (steps 7 q) b ≡ steps 7 (bit_xor (block_times_x q) b) =
-    times_x-linear (steps 7 q) (b * 2 ^ 6) ∙ ap (λ (x : ℕ). bit_xor x (block_times_x (b * 2 ^ 6))) (sym (steps-turn 7 q)) ∙ ap (bit_xor (steps 7 (block_times_x q))) (once b p.0)
-    ∙ sym (steps-linear 7 (block_times_x q) b) in
-    ap (λ (x : ℕ). block_remainder x bs) one ∙ up bs (bit_xor (block_times_x q) b) p.1
-
-halves : (o : ℕ) → o < 256 → left 0 (seven o) ≡ o / 2
-unfolding left block_times_x
-halves = same_below (λ o. left 0 (seven o)) (λ o. o / 2) 256 refl
-
-left-seven : (o r : ℕ) → o < 256 → left r (seven o) ≡ bit_xor (steps 7 r) (o / 2)
-left-seven o r fits =
-    ap (λ (x : ℕ). left x (seven o)) (sym (xor_zero_r r)) ∙ ap (left (bit_xor r 0)) (sym (zeros-xors (seven o)))
-    ∙ left-linear (zeros 7) (seven o) r 0 (zeros-length 7)
-    ∙ ap (λ (x : ℕ). bit_xor x (left 0 (seven o))) (left-zeros 7 r)
-    ∙ ap (bit_xor (steps 7 r)) (halves o fits)
+more-seven : (r h : ℕ) → h < 128 → block_remainder r (seven h) ≡ block_remainder (bit_xor r h) (zeros 7)
+more-seven r h fits =
+    ap (λ (x : ℕ). block_remainder x (seven h)) (sym (xor_zero_r r)) ∙ ap (block_remainder (bit_xor r 0)) (sym (zeros-xors (seven h)))
+    ∙ remainder-linear (zeros 7) (seven h) r 0 (zeros-length 7) ∙ ap (bit_xor (block_remainder r (zeros 7))) (halves h fits)
+    ∙ sym (remainder-linear (zeros 7) (zeros 7) r h refl) ∙ ap (block_remainder (bit_xor r h)) (zeros-twice 7)
 
 -- ---- words
-pub word-is : (a b c d e f g last : ℕ) → word (a ∷ b ∷ c ∷ d ∷ e ∷ f ∷ g ∷ last ∷ []) ≡ bits_of (a ∷ b ∷ c ∷ d ∷ e ∷ f ∷ g ∷ []) ++ seven last
+pub word-is : (a b c d e f g last : ℕ) → word (a ∷ b ∷ c ∷ d ∷ e ∷ f ∷ g ∷ last ∷ []) ≡ bits_of (a ∷ b ∷ c ∷ d ∷ e ∷ f ∷ g ∷ []) ++ seven (last / 2)
 unfolding octet_bits
-word-is a b c d e f g last = refl
+word-is a b c d e f g last = ap (λ (x : List ℕ). bits_of (a ∷ b ∷ c ∷ d ∷ e ∷ f ∷ g ∷ []) ++ x) (seven-half last)
 
-pub word-parts : (information : List ℕ) (last : ℕ) → length information ≡ 7 → word (information ++ last ∷ []) ≡ bits_of information ++ seven last
+pub word-parts : (information : List ℕ) (last : ℕ) → length information ≡ 7 → word (information ++ last ∷ []) ≡ bits_of information ++ seven (last / 2)
 word-parts (a ∷ b ∷ c ∷ d ∷ e ∷ f ∷ g ∷ []) last l = word-is a b c d e f g last
 word-parts _ last l = absurd (omega arith)
 
-steps-none : steps 7 0 ≡ 0
-unfolding steps block_times_x
-steps-none = refl
-
 -- what is left of a block's word
 pub word-left : (information : List ℕ) (last : ℕ) → length information ≡ 7 → last < 256
-    → left 0 (word (information ++ last ∷ [])) ≡ bit_xor (block_remainder 0 (bits_of information)) (last / 2)
+    → left (word (information ++ last ∷ [])) ≡ bit_xor (block_remainder 0 (bits_of information)) (last / 2)
+unfolding left
 word-left information last l fits =
-    ap (left 0) (word-parts information last l) ∙ left-onward (bits_of information) (seven last) 0 ∙ left-seven last (left 0 (bits_of information)) fits
-    ∙ ap (λ (x : ℕ). bit_xor x (last / 2)) (sym (up (bits_of information) 0 (are-bits information)) ∙ ap (λ (x : ℕ). block_remainder x (bits_of information)) steps-none)
+    let r = block_remainder 0 (bits_of information) in
+    ap (λ (x : List ℕ). block_remainder (block_remainder 0 x) (zeros 56)) (word-parts information last l)
+    ∙ ap (λ (x : ℕ). block_remainder x (zeros 56)) (onward (bits_of information) (seven (last / 2)) 0 ∙ more-seven r (last / 2) (omega arith))
+    ∙ around (bit_xor r (last / 2)) (xor_lt 7 r (last / 2) (remainder-fits (bits_of information) 0 (omega arith)) (omega arith))
 
 -- the same seven octets, and last octets that differ in the filler bit alone
 word-alike : (information : List ℕ) (o p : ℕ) → length information ≡ 7 → o / 2 ≡ p / 2 → word (information ++ o ∷ []) ≡ word (information ++ p ∷ [])
 word-alike information o p l h =
-    word-parts information o l ∙ ap (λ (x : List ℕ). bits_of information ++ x) (seven-alike o p h) ∙ sym (word-parts information p l)
+    word-parts information o l ∙ ap (λ (x : ℕ). bits_of information ++ seven x) h ∙ sym (word-parts information p l)
 
 pub parity-fits : (information : List ℕ) → parity_of information < 2 ^ 7
 parity-fits information = xor_lt 7 127 (block_remainder 0 (bits_of information)) (omega arith) (remainder-fits (bits_of information) 0 (omega arith))
 
 -- 127 is left of a code block, and of no other block with its information
-pub block-left : (information : List ℕ) → length information ≡ 7 → left 0 (word (code_block information)) ≡ 127
+pub block-left : (information : List ℕ) → length information ≡ 7 → left (word (code_block information)) ≡ 127
 block-left information l =
     let fits = parity-fits information in
     let r = block_remainder 0 (bits_of information) in
     let half : parity_of information * 2 / 2 ≡ parity_of information = omega arith in
     word-left information (parity_of information * 2) l (omega arith) ∙ ap (bit_xor r) (half ∙ xor_comm 127 r) ∙ again r 127
 
-pub left-block : (information : List ℕ) (last : ℕ) → length information ≡ 7 → last < 256 → left 0 (word (information ++ last ∷ [])) ≡ 127
+pub left-block : (information : List ℕ) (last : ℕ) → length information ≡ 7 → last < 256 → left (word (information ++ last ∷ [])) ≡ 127
     → word (information ++ last ∷ []) ≡ word (code_block information)
 left-block information last l fits h =
     let r = block_remainder 0 (bits_of information) in

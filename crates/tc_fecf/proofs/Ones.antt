@@ -61,6 +61,9 @@ pub parity-fits : (y : ℕ) → parity y < 2
 unfolding parity
 parity-fits y = omega arith
 
+pub total : (b : ℕ) (bs : List ℕ) → sum (b ∷ bs) ≡ b + sum bs
+total b bs = sum_by-cons (λ (x : ℕ). x) b bs
+
 pub counted : (bs : List ℕ) (r : ℕ) → AreBits bs → r < 2 ^ 16 → parity (remainder r bs) ≡ (parity r + sum bs) % 2
 unfolding AreBits
 counted [] r each_bit fits = let p = parity-fits r in omega arith
@@ -70,7 +73,7 @@ counted (b ∷ bs) r each_bit fits =
     parity-kept (bit_xor r (b * 2 ^ 15)) (xor_lt 16 r (b * 2 ^ 15) fits (omega arith)) ∙ parity-linear r (b * 2 ^ 15)
     ∙ ap (bit_xor (parity r)) (bit-parity b b_fits) ∙ added (parity r) b (parity-fits r) b_fits in
     let rest : parity (remainder (with_bit r b) bs) ≡ (parity (with_bit r b) + sum bs) % 2 = counted bs (with_bit r b) (λ k. each_bit (suc k)) (times_x-fits _) in
-    let total = sum_by-cons (λ (x : ℕ). x) b bs in
+    let sums = total b bs in
     omega arith
 
 parity-start : parity 65535 ≡ 0
@@ -87,9 +90,6 @@ even-ones octets passes =
     let e : parity (checksum_of octets) ≡ (parity 65535 + sum (bits_of octets)) % 2 = counted (bits_of octets) 65535 (bits-bits octets) (omega arith) in
     let end : parity (checksum_of octets) ≡ 0 = ap parity passes ∙ parity-end in
     omega arith
-
-total : (b : ℕ) (bs : List ℕ) → sum (b ∷ bs) ≡ b + sum bs
-total b bs = sum_by-cons (λ (x : ℕ). x) b bs
 
 -- a place where two bits differ has one 1, and any other place none or two
 one-place : (b c : ℕ) → b < 2 → c < 2 → (b + c + (if b == c then 0 else 1)) % 2 ≡ 0

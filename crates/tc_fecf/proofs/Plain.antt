@@ -1,6 +1,7 @@
 -- A frame with its field, octet by octet.
 use Rattle.std.proofs.Common.{◌≡◌, ℕ, zero, suc, ◌+◌, ◌-◌, ◌*◌, ◌/◌, ◌%◌, ◌^◌, ◌<◌, ◌≤◌, List, [], ◌∷◌, ◌++◌, length, get_or, drop, take, refl, ap, sym, ◌∙◌, subst, arith, length-append, length-take-le}
 use Rattle.std.proofs.lemmas.Grind.{common_steps}
+use Rattle.std.proofs.lemmas.List.{drop_all, drop_more, take_at, take-append-drop}
 use Rattle.tc_link.specs.Frame.{IsOctets, IsWhole, IsFrame, header_of}
 use Rattle.tc_link.proofs.Frames.{octets-cons, octets-append}
 use Rattle.tc_fecf.specs.Checksum.{checksum_of}
@@ -21,10 +22,7 @@ octets_before_field-is (a ∷ b ∷ c ∷ d ∷ rest) w most =
     let high : (c * 256 + d + 2) / 256 % 256 ≡ (256 * c + d + 2) / 256 = omega arith in
     let low : (c * 256 + d + 2) % 256 ≡ (256 * c + d + 2) % 256 = omega arith in
     ap (λ (x : ℕ). a ∷ b ∷ x ∷ (c * 256 + d + 2) % 256 ∷ rest) high ∙ ap (λ (x : ℕ). a ∷ b ∷ (256 * c + d + 2) / 256 ∷ x ∷ rest) low
-octets_before_field-is [] w most = let l = w.least in absurd (omega arith)
-octets_before_field-is (a ∷ []) w most = let l = w.least in absurd (omega arith)
-octets_before_field-is (a ∷ b ∷ []) w most = let l = w.least in absurd (omega arith)
-octets_before_field-is (a ∷ b ∷ c ∷ []) w most = let l = w.least in absurd (omega arith)
+octets_before_field-is _ w most = let l = w.least in absurd (omega arith)
 
 pub frame_with_field-is : (f front : List ℕ) (s : ℕ) → front ≡ octets_before_field f → s ≡ checksum_of front → front ++ (s / 256 % 256 ∷ s % 256 ∷ []) ≡ frame_with_field f
 unfolding frame_with_field
@@ -35,15 +33,9 @@ frame_with_field-is f front s is summed =
     ap (λ (x : ℕ). front ++ (x ∷ s % 256 ∷ [])) high ∙ ap (λ (x : ℕ). front ++ (checksum_of front / 256 ∷ x ∷ [])) low ∙ ap (λ (x : List ℕ). x ++ spelled (checksum_of x)) is
 
 last-two : (rest : List ℕ) (m : ℕ) → length rest ≡ m + 2 → rest ≡ take m rest ++ (get_or rest m 0 ∷ get_or rest (m + 1) 0 ∷ [])
-last-two (h ∷ l ∷ []) zero e = refl
-last-two (x ∷ rest) (suc m) e =
-    let tail = last-two rest m (omega arith) in
-    let place : suc m + 1 ≡ suc (m + 1) = omega arith in
-    ap (λ (xs : List ℕ). x ∷ xs) tail ∙ ap (λ (n : ℕ). x ∷ (take m rest ++ (get_or rest m 0 ∷ get_or (x ∷ rest) n 0 ∷ []))) (sym place)
-last-two _ _ e = absurd (omega arith)
-
-plain : List ℕ → List ℕ
-plain f = head f (get_or f 2 0 * 256 + get_or f 3 0 - 2) ++ take (length f - 2 - 4) (drop 4 f)
+last-two rest m e =
+    sym (take-append-drop m rest) ∙ ap (λ (x : List ℕ). take m rest ++ x) (drop_more rest m 0 (omega arith)
+    ∙ ap (λ (x : List ℕ). get_or rest m 0 ∷ x) (drop_more rest (m + 1) 0 (omega arith) ∙ ap (λ (x : List ℕ). get_or rest (m + 1) 0 ∷ x) (drop_all (m + 1 + 1) rest (omega arith))))
 
 octets_before_field-plain : (a b c d m : ℕ) (rest : List ℕ) → c < 256 → d < 256 → 2 ≤ 256 * c + d
     → octets_before_field (a ∷ b ∷ (c * 256 + d - 2) / 256 % 256 ∷ (c * 256 + d - 2) % 256 ∷ take m rest) ≡ a ∷ b ∷ c ∷ d ∷ take m rest
@@ -104,13 +96,7 @@ rest-of f = grind (arith, common_steps)
 
 -- one frame has this field
 ends-alike : (xs ys us vs : List ℕ) → length xs ≡ length ys → xs ++ us ≡ ys ++ vs → xs ≡ ys
-ends-alike [] [] us vs lengths e = refl
-ends-alike (x ∷ xs) (y ∷ ys) us vs lengths e =
-    let head_alike : x ≡ y = cc in
-    let tails : xs ++ us ≡ ys ++ vs = cc in
-    let rest : xs ≡ ys = ends-alike xs ys us vs (omega arith) tails in
-    cc
-ends-alike _ _ us vs lengths e = absurd (omega arith)
+ends-alike xs ys us vs lengths e = sym (take_at xs us (length xs) refl) ∙ ap (take (length xs)) e ∙ take_at ys vs (length xs) (sym lengths)
 
 octets_before_field-alike : (f g : List ℕ) → IsWhole f → IsWhole g → octets_before_field f ≡ octets_before_field g → f ≡ g
 unfolding octets_before_field
@@ -169,8 +155,4 @@ frame_with_field-frame (a ∷ b ∷ c ∷ d ∷ e ∷ rest) w most =
       header_bits = cc;
       rest = refl;
     }
-frame_with_field-frame [] w most = let l = w.least in absurd (omega arith)
-frame_with_field-frame (a ∷ []) w most = let l = w.least in absurd (omega arith)
-frame_with_field-frame (a ∷ b ∷ []) w most = let l = w.least in absurd (omega arith)
-frame_with_field-frame (a ∷ b ∷ c ∷ []) w most = let l = w.least in absurd (omega arith)
-frame_with_field-frame (a ∷ b ∷ c ∷ d ∷ []) w most = let l = w.least in absurd (omega arith)
+frame_with_field-frame _ w most = let l = w.least in absurd (omega arith)

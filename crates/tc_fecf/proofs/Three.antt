@@ -1,17 +1,13 @@
 -- A change of three bits.
 use Rattle.std.proofs.Common.{◌≡◌, ◌≢◌, ℕ, zero, suc, ◌+◌, ◌-◌, ◌*◌, ◌%◌, ◌^◌, ◌<◌, List, [], ◌∷◌, bit_xor, length, get_or, sum, refl, ap, sym, ◌∙◌, arith, inl, inr}
 use Rattle.std.proofs.lemmas.Bool.{cases_eq}
-use Rattle.std.proofs.lemmas.List.Sums.{sum_by-cons}
 use lib.Bits.{xor_self}
 use Rattle.tc_fecf.specs.Checksum.{times_x, with_bit, remainder, bits_of}
 use Rattle.tc_fecf.specs.Changes.{SameOctets, SameBits, Passes}
 use Rattle.tc_fecf.proofs.Linear.{times_x-fits}
 use Rattle.tc_fecf.proofs.Polynomials.{AreBits}
 use Rattle.tc_fecf.proofs.Changes.{Alike, apart, different, later-near, two, bits-bits, bits-length, bits-same}
-use Rattle.tc_fecf.proofs.Ones.{parity, half, parity-linear, parity-fits, counted, added}
-
-total : (b : ℕ) (bs : List ℕ) → sum (b ∷ bs) ≡ b + sum bs
-total b bs = sum_by-cons (λ (x : ℕ). x) b bs
+use Rattle.tc_fecf.proofs.Ones.{total, parity, half, parity-linear, parity-fits, counted, added}
 
 sums-alike : (bs cs : List ℕ) → length bs ≡ length cs → ((k : ℕ) → Alike bs cs k) → sum bs ≡ sum cs
 unfolding Alike
