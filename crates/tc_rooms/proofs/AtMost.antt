@@ -1,12 +1,9 @@
 -- Runs and units within a limit that is not over the largest unit.
 use Rattle.std.proofs.Common.{◌≡◌, ℕ, ◌<◌, ◌≤◌, Bool, true, false, leb, List, ◌++◌, length, Option, Some, None, refl, sym, ◌∙◌, arith}
 use Rattle.std.proofs.lemmas.Bool.{le-leb, lt-leb, leb-true, leb-false}
-use Rattle.std.proofs.lemmas.List.{length-append}
-use Rattle.tc_packet.specs.declared.segment.Part.{Part}
+use Rattle.tc_rooms.proofs.Names.{IsAtMost, Part, length-append, next_run}
 use Rattle.tc_packet.specs.declared.segment.Part.TheVariants.{Continuing, Last}
 use Rattle.tc_packet.specs.Reassembly.{at_most, bounded, extended, ended_by}
-use Rattle.tc_packet.specs.Runs.{next_run}
-use Rattle.tc_rooms.specs.Runs.{IsAtMost}
 
 pub at_most-some : (n : ℕ) (octets : List ℕ) → length octets ≤ n → at_most n (Some octets) ≡ Some octets
 at_most-some n octets h = rw (le-leb (length octets) n h) refl

@@ -3,11 +3,9 @@ use Rattle.std.proofs.Common.{◌≡◌, ◌≢◌, ℕ, zero, suc, ◌<◌, ◌
 use Rattle.std.specs.Prelude.{set, slice_get, option_map, if◌then◌else◌}
 use Rattle.std.proofs.lemmas.List.{length-map, map-set, get_or-map, get_or-set_same, get_or-set_other, set-get_or}
 use Rattle.circular_buffer.proofs.Places.{slice_get-set_same, slice_get-set_other}
-use Rattle.tc_packet.specs.declared.segment.Part.{Part}
+use Rattle.tc_rooms.proofs.Names.{Laid, Part, next_run}
 use Rattle.tc_packet.specs.Segment.{header_of, body_of}
 use Rattle.tc_packet.specs.Reassembly.{at_most, run_at, run_left, open_run, unit_at, unit_ended, ended_by}
-use Rattle.tc_packet.specs.Runs.{next_run}
-use Rattle.tc_rooms.specs.Rooms.{Laid}
 use Rattle.tc_rooms.specs.OpenRun.{OpenRun, open_in, closed}
 use Rattle.tc_rooms.specs.Runs.{open_runs, sizes_of, limit_at, told, behind, over_at, settled, ended_by_stream, unit_in, Store, LeaveWithin, IsAtMost, IsWritten, IsFollowed}
 use Rattle.tc_rooms.specs.declared.runs.Told.{Told}

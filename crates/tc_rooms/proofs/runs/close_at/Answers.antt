@@ -1,6 +1,5 @@
 use Rattle.std.proofs.Common.{arith}
-use Rattle.std.specs.Box.{boxed_slice_items}
-use Rattle.std.proofs.lemmas.Grind.{common_steps}
+use Rattle.tc_rooms.proofs.Names.{boxed_slice_items, common_steps}
 use Rattle.tc_rooms.proofs.Rooms.{closed-set, none-over}
 use Rattle.tc_rooms.proofs.runs.close_at.Goals as goal
 

@@ -1,7 +1,5 @@
 use Rattle.std.proofs.Common.{refl, ap, ◌∙◌}
-use Rattle.std.specs.Box.{boxed_slice_items}
-use Rattle.std.proofs.Math.Seq.{map-set_same}
-use Rattle.tc_rooms.specs.OpenRun.{open_in}
+use Rattle.tc_rooms.proofs.Names.{boxed_slice_items, map-set_same, open_in}
 use Rattle.tc_rooms.proofs.Rooms.{same-sizes}
 use Rattle.tc_rooms.proofs.Sizes.{on-err}
 use Rattle.tc_rooms.proofs.runs.follow_at.Goals as goal

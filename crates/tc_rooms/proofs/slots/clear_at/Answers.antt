@@ -1,8 +1,6 @@
 use Rattle.std.proofs.Common.{[], map, ap, ◌∙◌}
-use Rattle.std.specs.Box.{boxed_slice_items}
+use Rattle.tc_rooms.proofs.Names.{Laid, boxed_slice_items, laid, map-set}
 use Rattle.std.specs.Prelude.{set}
-use Rattle.std.proofs.lemmas.List.{map-set}
-use Rattle.tc_rooms.specs.Rooms.{Laid, laid}
 use Rattle.tc_rooms.proofs.Turned.{size-at}
 use Rattle.tc_rooms.proofs.slots.clear_at.Goals as goal
 

@@ -1,7 +1,5 @@
 use Rattle.std.proofs.Common.{◌≡◌, ◌<◌, [], length, map, ap, ◌∙◌, Some, arith}
-use Rattle.std.specs.Box.{boxed_slice_items}
-use Rattle.std.proofs.lemmas.Grind.{common_steps}
-use Rattle.std.proofs.lemmas.List.{length-map}
+use Rattle.tc_rooms.proofs.Names.{boxed_slice_items, common_steps, length-map}
 use Rattle.tc_rooms.specs.Rooms.{held_room, laid}
 use Rattle.tc_rooms.proofs.Turned.{first-at, popped-seen}
 use Rattle.tc_rooms.proofs.slots.Slots+GrowingRoom.take_front.Goals as goal

@@ -1,6 +1,5 @@
 use Rattle.std.proofs.Common.{◌<◌, length, arith}
-use Rattle.std.specs.Box.{boxed_slice_items}
-use Rattle.std.proofs.lemmas.Grind.{common_steps}
+use Rattle.tc_rooms.proofs.Names.{boxed_slice_items, common_steps}
 use Rattle.tc_rooms.proofs.Turned.{first-item, size-at}
 use Rattle.tc_rooms.proofs.slots.Slots.front.Goals as goal
 

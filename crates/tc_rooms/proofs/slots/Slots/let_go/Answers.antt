@@ -1,7 +1,5 @@
 use Rattle.std.proofs.Common.{◌≡◌, ◌-◌, length, map, ◌∙◌, subst, sym, ap}
-use Rattle.std.specs.Box.{boxed_slice_items}
-use Rattle.std.proofs.lemmas.List.{length-map}
-use Rattle.tc_rooms.specs.Rooms.{AreSlots}
+use Rattle.tc_rooms.proofs.Names.{AreSlots, boxed_slice_items, length-map}
 use Rattle.tc_rooms.proofs.Turned.{cleared-slots}
 use Rattle.tc_rooms.proofs.slots.Slots.let_go.Goals as goal
 

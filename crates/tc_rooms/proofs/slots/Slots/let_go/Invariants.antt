@@ -1,6 +1,5 @@
 use Rattle.std.proofs.Common.{◌≡◌, length, map, take}
-use Rattle.std.specs.Box.{boxed_slice_items}
-use Rattle.tc_rooms.specs.Rooms.{AreSlots, turned}
+use Rattle.tc_rooms.proofs.Names.{AreSlots, boxed_slice_items, turned}
 use Rattle.tc_rooms.proofs.slots.Slots.let_go.Given as goal
 
 -- what waits stays

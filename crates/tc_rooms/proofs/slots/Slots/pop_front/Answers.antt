@@ -1,8 +1,5 @@
 use Rattle.std.proofs.Common.{◌≡◌, ◌<◌, [], length, map, ap, arith}
-use Rattle.std.specs.Box.{boxed_slice_items}
-use Rattle.std.proofs.lemmas.Grind.{common_steps}
-use Rattle.std.proofs.lemmas.List.{length-map}
-use Rattle.tc_rooms.specs.Rooms.{laid}
+use Rattle.tc_rooms.proofs.Names.{boxed_slice_items, common_steps, laid, length-map}
 use Rattle.tc_rooms.proofs.Turned.{popped-seen}
 use Rattle.tc_rooms.proofs.slots.Slots.pop_front.Goals as goal
 

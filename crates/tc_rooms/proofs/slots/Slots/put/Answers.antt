@@ -1,7 +1,5 @@
 use Rattle.std.proofs.Common.{◌≡◌, ◌<◌, length, map, ap, refl, arith}
-use Rattle.std.specs.Box.{boxed_slice_items}
-use Rattle.std.proofs.lemmas.Grind.{common_steps}
-use Rattle.std.proofs.lemmas.List.{length-map}
+use Rattle.tc_rooms.proofs.Names.{boxed_slice_items, common_steps, length-map}
 use Rattle.tc_rooms.proofs.Turned.{none-laid, put-behind}
 use Rattle.tc_rooms.proofs.slots.Slots.put.Goals as goal
 
