@@ -2,12 +2,8 @@
 use Rattle.std.proofs.Common.{◌≡◌, ◌≢◌, ◌⊎◌, ℕ, zero, suc, ◌+◌, ◌-◌, ◌*◌, ◌%◌, ◌^◌, ◌<◌, ◌≤◌, Bool, true, eqb, not, ◌&&◌, List, [], ◌∷◌, bit_xor, length, get_or, drop, refl, ap, sym, ◌∙◌, arith, inl, inr}
 use Rattle.std.proofs.lemmas.Nat.{pow-add, xor_lt, xor_mod, xor_comm}
 use Rattle.std.proofs.Math.Nat.{pow-suc, add-mul, mul_assoc}
-use lib.Bits.{xor_self, xor_zero_r, xor_zero_l, xor_shifted}
-use Rattle.tc_link.specs.Bits.{bits}
-use Rattle.tc_fecf.specs.Checksum.{times_x, with_bit, remainder, octet_bits, bits_of}
-use Rattle.tc_fecf.specs.Changes.{SameOctets, SameBits, Passes}
+use Rattle.tc_fecf.proofs.Names.{IsOctets, Passes, SameBits, SameOctets, bits, bits_of, octet_bits, remainder, times_x, with_bit, xor_self, xor_shifted, xor_zero_l, xor_zero_r}
 use Rattle.std.proofs.lemmas.Bool.{and_from, and_parts, cases_eq, cases_order}
-use Rattle.tc_link.specs.Frame.{IsOctets}
 use Rattle.tc_fecf.proofs.Linear.{times_x-linear, times_x-fits}
 use Rattle.tc_fecf.proofs.Polynomials.{AreBits, exchange, scaled, same, twice}
 

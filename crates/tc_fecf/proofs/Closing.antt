@@ -1,7 +1,6 @@
 -- Frames with and without their field.
 use Rattle.std.proofs.Common.{◌≡◌, ℕ, ◌+◌, ◌*◌, ◌/◌, ◌%◌, ◌^◌, ◌<◌, List, [], ◌∷◌, ◌++◌, bit_xor, refl, ap, sym, ◌∙◌, append_assoc, arith}
-use lib.Bits.{xor_self, xor_zero_r}
-use Rattle.tc_fecf.specs.Checksum.{remainder, octet_bits, bits_of, checksum_of, times_x}
+use Rattle.tc_fecf.proofs.Names.{bits_of, checksum_of, octet_bits, remainder, times_x, xor_self, xor_zero_r}
 use Rattle.tc_fecf.specs.FrameWithField.{spelled}
 use Rattle.tc_fecf.proofs.Linear.{onward, times_x-fits, shifted}
 use Rattle.tc_fecf.proofs.Octets.{octet_more, table}

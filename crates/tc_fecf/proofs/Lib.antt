@@ -1,3 +1,4 @@
+pub mod Names
 pub mod Below
 pub mod Polynomials
 pub mod Linear

@@ -1,9 +1,6 @@
 -- The remainder is linear: what it is of a sum is the sum of what it is of each.
 use Rattle.std.proofs.Common.{◌≡◌, ℕ, ◌*◌, ◌%◌, ◌^◌, ◌<◌, List, [], ◌∷◌, ◌++◌, bit_xor, refl, ap, sym, ◌∙◌, arith}
-use Rattle.std.proofs.lemmas.Nat.{xor_lt}
-use lib.Bits.{xor_assoc, xor_zero_r}
-use Rattle.tc_link.specs.Bits.{bits}
-use Rattle.tc_fecf.specs.Checksum.{times_x, with_bit, remainder}
+use Rattle.tc_fecf.proofs.Names.{bits, remainder, times_x, with_bit, xor_assoc, xor_lt, xor_zero_r}
 use Rattle.tc_fecf.proofs.Polynomials.{times-linear}
 
 pub times_x-linear : (a b : ℕ) → times_x (bit_xor a b) ≡ bit_xor (times_x a) (times_x b)

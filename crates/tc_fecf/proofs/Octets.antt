@@ -1,12 +1,10 @@
 -- Eight bits at once.
 use Rattle.std.proofs.Common.{◌≡◌, ℕ, ◌+◌, ◌*◌, ◌/◌, ◌%◌, ◌^◌, ◌<◌, List, [], ◌∷◌, length, get_or, drop, bit_xor, refl, ap, sym, ◌∙◌, arith}
 use Rattle.std.proofs.lemmas.List.{at_drop_more}
-use Rattle.tc_fecf.specs.Checksum.{times_x, remainder, octet_bits, bits_of}
+use Rattle.tc_fecf.proofs.Names.{bits_of, octet_bits, remainder, times_x, xor_assoc, xor_comm, xor_lt, xor_shifted}
 use Rattle.tc_fecf.proofs.Below.{same_below}
 use Rattle.tc_fecf.proofs.Linear.{shifted, shifted-linear, from_register, onward}
 use Rattle.tc_fecf.proofs.Polynomials.{scaled}
-use Rattle.std.proofs.lemmas.Nat.{xor_comm, xor_lt}
-use lib.Bits.{xor_assoc, xor_shifted}
 
 -- ---- the register's high octet
 abbrev eight : List ℕ

@@ -1,10 +1,7 @@
 -- Octets that pass have an even number of ones, so an odd number of changes is told.
 use Rattle.std.proofs.Common.{◌≡◌, ℕ, suc, ◌+◌, ◌*◌, ◌/◌, ◌%◌, ◌^◌, ◌<◌, ◌==◌, if◌then◌else◌, List, [], ◌∷◌, bit_xor, length, sum, refl, ap, sym, ◌∙◌, arith}
 use Rattle.std.proofs.lemmas.List.Sums.{sum_by-cons}
-use Rattle.std.proofs.lemmas.Nat.{xor_lt, xor_shr}
-use lib.Bits.{xor_shifted}
-use Rattle.tc_link.specs.Bits.{bits}
-use Rattle.tc_fecf.specs.Checksum.{times_x, with_bit, remainder, bits_of, checksum_of}
+use Rattle.tc_fecf.proofs.Names.{bits, bits_of, checksum_of, remainder, times_x, with_bit, xor_lt, xor_shifted, xor_shr}
 use Rattle.tc_fecf.specs.Changes.{SameOctets, Passes, differences}
 use Rattle.tc_fecf.proofs.Linear.{times_x-linear, times_x-fits}
 use Rattle.tc_fecf.proofs.Below.{same_below}

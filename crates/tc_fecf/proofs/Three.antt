@@ -1,9 +1,7 @@
 -- A change of three bits.
 use Rattle.std.proofs.Common.{◌≡◌, ◌≢◌, ℕ, zero, suc, ◌+◌, ◌-◌, ◌*◌, ◌%◌, ◌^◌, ◌<◌, List, [], ◌∷◌, bit_xor, length, get_or, sum, refl, ap, sym, ◌∙◌, arith, inl, inr}
 use Rattle.std.proofs.lemmas.Bool.{cases_eq}
-use lib.Bits.{xor_self}
-use Rattle.tc_fecf.specs.Checksum.{times_x, with_bit, remainder, bits_of}
-use Rattle.tc_fecf.specs.Changes.{SameOctets, SameBits, Passes}
+use Rattle.tc_fecf.proofs.Names.{Passes, SameBits, SameOctets, bits_of, remainder, times_x, with_bit, xor_self}
 use Rattle.tc_fecf.proofs.Linear.{times_x-fits}
 use Rattle.tc_fecf.proofs.Polynomials.{AreBits}
 use Rattle.tc_fecf.proofs.Changes.{Alike, apart, different, later-near, two, bits-bits, bits-length, bits-same}
