@@ -1,18 +1,11 @@
 -- What the receiving end gives.
 use Rattle.std.proofs.Common.{◌≡◌, ℕ, zero, suc, ◌+◌, ◌*◌, ◌/◌, ◌<◌, ◌≤◌, Bool, true, false, List, [], ◌∷◌, ◌++◌, Option, Some, None, bit_xor, length, length-append, append_assoc, add_assoc, get_or, take, set, drop, is_some, nat_lt, if◌then◌else◌, subst, refl, ap, sym, ◌∙◌, arith, inl, inr}
-use Rattle.std.proofs.lemmas.Bool.{le-ltb, lt-ltb, cases_lt}
-use Rattle.std.proofs.lemmas.Bool.Decides.{nat_tests}
+use Rattle.tc_cltu.proofs.Names.{Correct, Detect, IsInformation, IsOctets, Mode, block_times_x, cases_lt, code_block, decoded, flipped, le-ltb, lt-ltb, nat_tests, octet_bits, parity_of, xor_self}
 use Rattle.std.proofs.lemmas.List.{append-nil, at_drop_more, append_cancel_right, drop_all, length-take-le, take_more, take-append-drop}
-use lib.Bits.{xor_self}
-use Rattle.tc_link.specs.Frame.{IsOctets}
-use Rattle.tc_fecf.specs.Checksum.{octet_bits}
-use Rattle.tc_cltu.specs.CodeBlock.{IsInformation, parity_of, block_times_x, code_block, decoded, flipped}
 use Rattle.tc_cltu.specs.Cltu.{cltu, start_sequence, tail_sequence, code_blocks, fill, filled, cltu_fault_of}
 use Rattle.tc_cltu.specs.Reception.{Receiver, Reception, Searching, Decoding, Step, is_start, reception_step, after_block, rejected_as, fate_in, fate_of, corrections_of, rejections_of, counted_in, state_after, frames_of, HasNoStart, IsSearching, IsReception, idle}
 use Rattle.tc_cltu.specs.declared.block.Fate.{Fate}
 use Rattle.tc_cltu.specs.declared.block.Fate.TheVariants.{Right, Corrected, Tail, Rejected}
-use Rattle.tc_cltu.specs.declared.block.Mode.{Mode}
-use Rattle.tc_cltu.specs.declared.block.Mode.TheVariants.{Detect, Correct}
 use Rattle.tc_link.proofs.Frames.{octets-append}
 use Rattle.tc_fecf.proofs.Plain.{octets-take}
 use Rattle.tc_cltu.proofs.Words.{parity-fits}

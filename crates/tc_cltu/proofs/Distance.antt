@@ -1,16 +1,7 @@
 -- Code blocks differ in four places at least.
 use Rattle.std.proofs.Common.{◌≡◌, ℕ, ◌^◌, ◌/◌, ◌*◌, zero, suc, ◌+◌, ◌%◌, ◌<◌, ◌≤◌, Bool, true, eqb, List, [], ◌∷◌, ◌++◌, bit_xor, length, get_or, take, nat_lt, if◌then◌else◌, length-append, subst, refl, ap, sym, ◌∙◌, arith, inl, inr}
 use Rattle.std.proofs.lemmas.Bool.{eqb-true, agree_below_at, cases_eq, lt-ltb}
-use Rattle.std.proofs.lemmas.List.{take_at}
-use Rattle.std.proofs.lemmas.Nat.{xor_lt}
-use lib.Bits.{xor_self, xor_zero_r}
-use Rattle.std.specs.Int.{bit_at}
-use Rattle.tc_fecf.specs.Checksum.{octet_bits, bits_of}
-use Rattle.tc_fecf.specs.Changes.{differences}
-use Rattle.tc_fecf.proofs.Below.{same_below}
-use Rattle.tc_fecf.proofs.Changes.{bits-same}
-use Rattle.tc_fecf.proofs.Polynomials.{same}
-use Rattle.tc_cltu.specs.CodeBlock.{block_times_x, block_with_bit, block_remainder, IsInformation, code_block, word, errors}
+use Rattle.tc_cltu.proofs.Names.{IsInformation, bit_at, bits-same, bits_of, block_remainder, block_times_x, block_with_bit, code_block, differences, errors, octet_bits, same, same_below, take_at, word, xor_lt, xor_self, xor_zero_r}
 use Rattle.tc_cltu.specs.declared.tables.TheConstants.{PLACES}
 use Rattle.tc_cltu.proofs.Linear.{times_x-fits, remainder-fits}
 use Rattle.tc_cltu.proofs.Patterns.{AreBits, xors, weight, zeros, single, xors-bits, xors-length, zeros-bits, zeros-weight, two-is, differences-weight, none-same, by-way, single-length}
@@ -64,7 +55,7 @@ abbrev pub placed : ℕ → ℕ
 placed s = get_or PLACES s 0
 
 pub place-of : (k : ℕ) → k < 63 → placed (left (single k 63)) ≡ k
-unfolding left single zeros block_times_x
+unfolding left single block_times_x
 place-of = same_below (λ k. placed (left (single k 63))) (λ k. k) 63 refl
 
 -- the test, at a number below 63 alone
@@ -72,7 +63,7 @@ right_place : ℕ → Bool
 right_place s = if nat_lt (placed s) 63 then eqb (left (single (placed s) 63)) s else true
 
 rights : (s : ℕ) → s < 128 → right_place s ≡ true
-unfolding right_place left single zeros block_times_x
+unfolding right_place left single block_times_x
 rights s less = agree_below_at right_place (λ _. true) 128 s refl less
 
 pub placed-is : (s : ℕ) → s < 128 → placed s < 63 → left (single (placed s) 63) ≡ s

@@ -1,7 +1,6 @@
 -- Octets with their fill, and the code blocks of them.
 use Rattle.std.proofs.Common.{◌≡◌, ℕ, ◌<◌, ◌≤◌, List, [], ◌∷◌, ◌++◌, length, drop, take, refl, arith}
-use Rattle.tc_cltu.specs.CodeBlock.{code_block}
-use Rattle.tc_cltu.specs.Cltu.{filled, code_blocks}
+use Rattle.tc_cltu.proofs.Names.{code_block, code_blocks, filled}
 
 pub filled-few : (os : List ℕ) → 0 < length os → length os < 7 → os ++ drop (length os) (0x55 ∷ 0x55 ∷ 0x55 ∷ 0x55 ∷ 0x55 ∷ 0x55 ∷ 0x55 ∷ []) ≡ filled os
 filled-few [] some few = absurd (omega arith)

@@ -1,3 +1,4 @@
+pub mod Names
 pub mod Linear
 pub mod Patterns
 pub mod Words

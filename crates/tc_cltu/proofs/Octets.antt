@@ -1,16 +1,9 @@
 -- Eight bits at once.
-use Rattle.std.proofs.Common.{◌≡◌, ℕ, ◌+◌, ◌*◌, ◌^◌, ◌<◌, ◌≤◌, List, [], ◌∷◌, ◌++◌, length, get_or, take, set, append_assoc, drop, bit_xor, refl, ap, sym, ◌∙◌, arith}
-use Rattle.std.proofs.lemmas.Nat.{xor_lt}
+use Rattle.std.proofs.Common.{◌≡◌, ℕ, ◌+◌, ◌*◌, ◌<◌, ◌≤◌, List, [], ◌∷◌, ◌++◌, length, get_or, take, set, append_assoc, drop, bit_xor, refl, ap, sym, ◌∙◌, arith}
+use Rattle.tc_cltu.proofs.Names.{NEXT_OCTETS, REMAINDERS, bits_of, block_remainder, block_times_x, moved_on, next_bit, octet_bits, octet_on, randomised_from, same_below, twice, xor_lt, xor_zero_r}
 use Rattle.std.proofs.lemmas.List.{take_more_set, drop-set-lt, at_drop_more, at_drop_all, take_all, append-nil}
-use lib.Bits.{xor_zero_r}
-use Rattle.tc_fecf.specs.Checksum.{octet_bits, bits_of}
-use Rattle.tc_cltu.specs.CodeBlock.{block_times_x, block_with_bit, block_remainder}
-use Rattle.tc_cltu.specs.Randomiser.{next_bit, moved_on, octet_on, randomised_from}
-use Rattle.tc_cltu.specs.declared.tables.TheConstants.{REMAINDERS, NEXT_OCTETS}
-use Rattle.tc_fecf.proofs.Below.{same_below}
-use Rattle.tc_fecf.proofs.Polynomials.{exchange, scaled, twice}
-use Rattle.tc_cltu.proofs.Linear.{times_x-linear, onward}
-use Rattle.tc_cltu.proofs.Patterns.{xors, zeros, zeros-length, zeros-xors}
+use Rattle.tc_cltu.proofs.Linear.{onward}
+use Rattle.tc_cltu.proofs.Patterns.{zeros-length, xors, zeros, zeros-xors}
 use Rattle.tc_cltu.proofs.Words.{octet-sum, eight, remainder-linear}
 
 rows : (y : ℕ) → y < 256 → get_or REMAINDERS y 0 ≡ block_remainder 0 (octet_bits y)
@@ -18,7 +11,7 @@ unfolding octet_bits block_times_x
 rows = same_below (λ y. get_or REMAINDERS y 0) (λ y. block_remainder 0 (octet_bits y)) 256 refl
 
 aligned : (r : ℕ) → r < 128 → block_remainder 0 (octet_bits (r * 2)) ≡ block_remainder r (zeros 8)
-unfolding octet_bits block_times_x zeros
+unfolding octet_bits block_times_x
 aligned = same_below (λ r. block_remainder 0 (octet_bits (r * 2))) (λ r. block_remainder r (zeros 8)) 128 refl
 
 -- eight bits are one look at the table

@@ -1,9 +1,8 @@
 -- Lists of bits, their sums place by place, and how many ones they have.
-use Rattle.std.proofs.Common.{◌≡◌, ℕ, zero, suc, ◌+◌, ◌<◌, ◌≤◌, ◌==◌, if◌then◌else◌, List, [], ◌∷◌, ◌++◌, bit_xor, length, take, refl, ap, sym, ◌∙◌, arith}
-use Rattle.std.proofs.lemmas.Nat.{xor_lt}
+use Rattle.std.proofs.Common.{◌≡◌, ℕ, zero, suc, ◌+◌, ◌<◌, ◌≤◌, ◌==◌, if◌then◌else◌, List, [], ◌∷◌, ◌++◌, bit_xor, length, take, refl, ap, sym, ◌∙◌, arith, replicate}
+use Rattle.std.proofs.lemmas.List.{length-replicate, take-replicate}
+use Rattle.tc_cltu.proofs.Names.{again, differences, same, xor_lt}
 use lib.Bits.{xor_zero_r, xor_zero_l}
-use Rattle.tc_fecf.specs.Changes.{differences}
-use Rattle.tc_fecf.proofs.Polynomials.{same, again}
 
 -- every one is 0 or 1
 abbrev pub AreBits : List ℕ → Type 0
@@ -19,9 +18,8 @@ unfoldable pub weight : List ℕ → ℕ
 weight [] = 0
 weight (b ∷ bs) = b + weight bs
 
-unfoldable pub zeros : ℕ → List ℕ
-zeros zero = []
-zeros (suc n) = 0 ∷ zeros n
+abbrev pub zeros : ℕ → List ℕ
+zeros n = replicate n 0
 
 -- n bits, of which bit k is one
 unfoldable pub single : ℕ → ℕ → List ℕ
@@ -41,14 +39,11 @@ xors-bits (b ∷ bs) (c ∷ cs) p q = (xor_lt 1 b c p.0 q.0, xors-bits bs cs p.1
 xors-bits _ _ p q = tt
 
 pub zeros-bits : (n : ℕ) → AreBits (zeros n)
-unfolding zeros
 zeros-bits zero = tt
 zeros-bits (suc n) = (omega arith, zeros-bits n)
 
 pub zeros-length : (n : ℕ) → length (zeros n) ≡ n
-unfolding zeros
-zeros-length zero = refl
-zeros-length (suc n) = let rest = zeros-length n in omega arith
+zeros-length n = length-replicate n 0
 
 pub single-length : (k n : ℕ) → length (single k n) ≡ n
 unfolding single
@@ -57,7 +52,7 @@ single-length zero (suc n) = let rest = zeros-length n in omega arith
 single-length (suc k) (suc n) = let rest = single-length k n in omega arith
 
 pub zeros-weight : (n : ℕ) → weight (zeros n) ≡ 0
-unfolding zeros weight
+unfolding weight
 zeros-weight zero = refl
 zeros-weight (suc n) = let rest = zeros-weight n in omega arith
 
@@ -69,7 +64,7 @@ single-weight (suc k) (suc n) less = let rest = single-weight k n (omega arith) 
 
 -- a list with no one, with one, and with two
 none-is : (e : List ℕ) → AreBits e → weight e ≡ 0 → e ≡ zeros (length e)
-unfolding zeros weight
+unfolding weight
 none-is [] p h = refl
 none-is (b ∷ bs) p h =
     let head : b ≡ 0 = omega arith in
@@ -83,7 +78,7 @@ one-is (suc zero ∷ bs) p h = let rest = none-is bs p.1 (omega arith) in (0, om
 one-is _ p h = absurd (omega arith)
 
 pub zeros-xors : (e : List ℕ) → xors (zeros (length e)) e ≡ e
-unfolding zeros xors
+unfolding xors
 zeros-xors [] = refl
 zeros-xors (b ∷ bs) = ap (λ (x : ℕ). x ∷ xors (zeros (length bs)) bs) (xor_zero_l b) ∙ ap (λ (x : List ℕ). b ∷ x) (zeros-xors bs)
 
@@ -148,7 +143,7 @@ xors-append (b ∷ bs) cs (d ∷ ds) es l = ap (λ (x : List ℕ). bit_xor b d �
 xors-append _ cs _ es l = absurd (omega arith)
 
 pub xors-zeros : (e : List ℕ) → xors e (zeros (length e)) ≡ e
-unfolding zeros xors
+unfolding xors
 xors-zeros [] = refl
 xors-zeros (b ∷ bs) = ap (λ (x : ℕ). x ∷ xors bs (zeros (length bs))) (xor_zero_r b) ∙ ap (λ (x : List ℕ). b ∷ x) (xors-zeros bs)
 
@@ -157,15 +152,9 @@ unfolding xors
 xors-take (suc n) (b ∷ bs) (c ∷ cs) = ap (λ (x : List ℕ). bit_xor b c ∷ x) (xors-take n bs cs)
 xors-take _ _ _ = refl
 
-zeros-take : (m n : ℕ) → m ≤ n → take m (zeros n) ≡ zeros m
-unfolding zeros
-zeros-take zero n less = refl
-zeros-take (suc m) zero less = absurd (omega arith)
-zeros-take (suc m) (suc n) less = ap (λ (x : List ℕ). 0 ∷ x) (zeros-take m n (omega arith))
-
 pub single-take : (k m n : ℕ) → m ≤ n → take m (single k n) ≡ single k m
 unfolding single
 single-take k zero n less = refl
 single-take k (suc m) zero less = absurd (omega arith)
-single-take zero (suc m) (suc n) less = ap (λ (x : List ℕ). 1 ∷ x) (zeros-take m n (omega arith))
+single-take zero (suc m) (suc n) less = ap (λ (x : List ℕ). 1 ∷ x) (take-replicate m n 0 (omega arith))
 single-take (suc k) (suc m) (suc n) less = ap (λ (x : List ℕ). 0 ∷ x) (single-take k m n (omega arith))

@@ -1,7 +1,6 @@
 -- The sequence of the randomiser, bit by bit.
 use Rattle.std.proofs.Common.{◌≡◌, ℕ, zero, suc, ◌*◌, List, ◌++◌, refl, ap, ◌∙◌, arith}
-use Rattle.std.specs.Int.{bit_at}
-use Rattle.tc_fecf.specs.Checksum.{octet_bits, bits_of}
+use Rattle.tc_cltu.proofs.Names.{bit_at, bits_of, octet_bits}
 use Rattle.tc_cltu.specs.Randomiser.{moved_on, octet_on, random_octets, random_bits}
 use Rattle.tc_cltu.proofs.Octets.{bit-fits}
 

@@ -1,16 +1,8 @@
 -- What counts as the start sequence.
 use Rattle.std.proofs.Common.{◌≡◌, ℕ, zero, suc, ◌+◌, ◌<◌, ◌≤◌, Bool, true, false, List, ◌∷◌, ◌++◌, bit_xor, nat_eq, nat_lt, nat_le, if◌then◌else◌, refl, ap, sym, ◌∙◌, arith}
-use Rattle.std.proofs.lemmas.Bool.{lt-ltb}
-use Rattle.std.proofs.lemmas.Bool.Decides.{nat_tests}
+use Rattle.tc_cltu.proofs.Names.{Correct, Detect, Mode, differences, flipped, lt-ltb, most_errors, nat_tests, octet_bits, same_below, start_sequence}
 use lib.Count.{ones, ones_in}
-use Rattle.tc_fecf.specs.Checksum.{octet_bits}
-use Rattle.tc_fecf.specs.Changes.{differences}
-use Rattle.tc_cltu.specs.CodeBlock.{most_errors, flipped}
-use Rattle.tc_cltu.specs.Cltu.{start_sequence}
 use Rattle.tc_cltu.specs.Reception.{start_errors, is_start}
-use Rattle.tc_cltu.specs.declared.block.Mode.{Mode}
-use Rattle.tc_cltu.specs.declared.block.Mode.TheVariants.{Detect, Correct}
-use Rattle.tc_fecf.proofs.Below.{same_below}
 
 -- wrong bits of the first octet, and of the second
 firsts : (o : ℕ) → o < 256 → ones (bit_xor o 0xEB) ≡ differences (octet_bits o) (octet_bits 0xEB)

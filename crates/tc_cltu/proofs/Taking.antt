@@ -1,17 +1,9 @@
 -- What is decoded, and which errors that tells or corrects.
 use Rattle.std.proofs.Common.{◌≡◌, ◌≢◌, ◌⊎◌, ℕ, zero, suc, ◌+◌, ◌-◌, ◌*◌, ◌/◌, ◌%◌, ◌^◌, ◌<◌, ◌≤◌, Bool, List, [], ◌∷◌, ◌++◌, Option, Some, None, IfSome, bit_xor, length, length-append, get_or, set, if◌then◌else◌, subst, refl, ap, sym, ◌∙◌, arith, inl, inr}
-use Rattle.std.proofs.lemmas.Bool.{cases_lt, cases_eq, lt-ltb, le-ltb}
+use Rattle.tc_cltu.proofs.Names.{Correct, Detect, IsOctets, Mode, again, bits-same, bits_of, cases_eq, cases_lt, differences, le-ltb, lt-ltb, twice, xor_assoc, xor_self}
 use Rattle.std.proofs.lemmas.Nat.{shr_le, xor_lt, xor_comm}
 use Rattle.std.proofs.lemmas.List.{get_or_append_left, get_or_at, length-set, set-append_left, set_at, set_past, take_at}
-use lib.Bits.{xor_self, xor_assoc}
-use Rattle.tc_link.specs.Frame.{IsOctets}
-use Rattle.tc_fecf.specs.Checksum.{bits_of}
-use Rattle.tc_fecf.specs.Changes.{differences}
 use Rattle.tc_cltu.specs.CodeBlock.{IsInformation, parity_of, block_remainder, code_block, word, errors, most_errors, flipped, near, first_within, decoded}
-use Rattle.tc_cltu.specs.declared.block.Mode.{Mode}
-use Rattle.tc_cltu.specs.declared.block.Mode.TheVariants.{Detect, Correct}
-use Rattle.tc_fecf.proofs.Changes.{bits-same}
-use Rattle.tc_fecf.proofs.Polynomials.{again, twice}
 use Rattle.tc_cltu.proofs.Patterns.{AreBits, xors, weight, single, xors-bits, xors-length, one-is, differences-weight, none-same, xors-back, single-weight, single-length}
 use Rattle.tc_cltu.proofs.Words.{are-bits, fifty-six, left, left-linear, block-left, left-block, word-left, word-parts, word-turned, bits-turned, seven}
 use Rattle.tc_cltu.proofs.Starting.{few}

@@ -1,8 +1,6 @@
 -- Code blocks with some bits the other way round.
 use Rattle.std.proofs.Common.{◌≡◌, ℕ, zero, suc, ◌<◌, ◌==◌, if◌then◌else◌, List, [], ◌∷◌, bit_xor, length, refl, ap, sym, ◌∙◌, arith}
-use lib.Bits.{xor_assoc}
-use Rattle.tc_fecf.specs.Changes.{differences}
-use Rattle.tc_cltu.specs.CodeBlock.{IsInformation, code_block, word, errors, flipped}
+use Rattle.tc_cltu.proofs.Names.{IsInformation, code_block, differences, errors, flipped, word, xor_assoc}
 use Rattle.tc_cltu.proofs.Patterns.{AreBits, xors, weight, zeros, single, xors-bits, xors-length, zeros-bits, zeros-xors, single-length, single-weight}
 use Rattle.tc_cltu.proofs.Words.{word-turned}
 use Rattle.tc_cltu.proofs.Distance.{word-bits, code-length}

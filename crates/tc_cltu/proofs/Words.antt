@@ -1,15 +1,10 @@
 -- Blocks as words of 63 bits, and what is left of them by the generator.
 use Rattle.std.proofs.Common.{◌≡◌, ℕ, zero, suc, ◌+◌, ◌-◌, ◌*◌, ◌/◌, ◌^◌, ◌<◌, ◌≤◌, Bool, List, [], ◌∷◌, ◌++◌, bit_xor, length, take, if◌then◌else◌, length-append, refl, ap, sym, ◌∙◌, arith, inl, inr}
-use Rattle.std.proofs.lemmas.Bool.{cases_lt, lt-ltb, le-ltb}
-use Rattle.std.proofs.lemmas.Nat.{xor_lt, xor_comm}
-use lib.Bits.{xor_zero_r}
-use Rattle.std.specs.Int.{bit_at}
-use Rattle.tc_fecf.specs.Checksum.{octet_bits, bits_of}
-use Rattle.tc_cltu.specs.CodeBlock.{block_times_x, block_with_bit, block_remainder, parity_of, code_block, word, flipped}
-use Rattle.tc_fecf.proofs.Below.{same_below}
+use Rattle.std.proofs.lemmas.List.{replicate-append-replicate}
+use Rattle.tc_cltu.proofs.Names.{bit_at, bits_of, block_remainder, block_times_x, block_with_bit, cases_lt, code_block, flipped, le-ltb, lt-ltb, octet_bits, parity_of, same_below, word, xor_comm, xor_lt, xor_zero_r}
 use Rattle.tc_fecf.proofs.Polynomials.{exchange, scaled, bit_of_sum, again}
 use Rattle.tc_cltu.proofs.Linear.{times_x-linear, remainder-fits, onward}
-use Rattle.tc_cltu.proofs.Patterns.{AreBits, xors, zeros, single, xors-append, xors-zeros, zeros-xors, xors-take, zeros-length, single-length, single-take}
+use Rattle.tc_cltu.proofs.Patterns.{zeros-length, AreBits, xors, zeros, single, xors-append, xors-zeros, zeros-xors, xors-take, single-length, single-take}
 
 -- ---- bits
 pub bits-append : (bs cs : List ℕ) → AreBits bs → AreBits cs → AreBits (bs ++ cs)
@@ -62,7 +57,7 @@ unfoldable pub left : List ℕ → ℕ
 left bs = block_remainder (block_remainder 0 bs) (zeros 56)
 
 around : (s : ℕ) → s < 128 → block_remainder (block_remainder s (zeros 7)) (zeros 56) ≡ s
-unfolding block_times_x zeros
+unfolding block_times_x
 around = same_below (λ s. block_remainder (block_remainder s (zeros 7)) (zeros 56)) (λ s. s) 128 refl
 
 pub left-linear : (bs cs : List ℕ) → length bs ≡ length cs → left (xors bs cs) ≡ bit_xor (left bs) (left cs)
@@ -73,7 +68,7 @@ left-linear bs cs l =
     ∙ ap (block_remainder (bit_xor one other)) (sym (zeros-twice 56)) ∙ remainder-linear (zeros 56) (zeros 56) one other refl
 
 halves : (h : ℕ) → h < 128 → block_remainder 0 (seven h) ≡ block_remainder h (zeros 7)
-unfolding block_times_x zeros
+unfolding block_times_x
 halves = same_below (λ h. block_remainder 0 (seven h)) (λ h. block_remainder h (zeros 7)) 128 refl
 
 more-seven : (r h : ℕ) → h < 128 → block_remainder r (seven h) ≡ block_remainder (bit_xor r h) (zeros 7)
@@ -135,25 +130,20 @@ octet-sum a b =
     cc
 
 octet-one : (k : ℕ) → k < 8 → octet_bits (2 ^ (7 - k)) ≡ single k 8
-unfolding octet_bits single zeros
+unfolding octet_bits single
 octet-one (suc (suc (suc (suc (suc (suc (suc (suc k)))))))) less = absurd (omega arith)
 octet-one _ less = refl
-
-zeros-front : (m n : ℕ) → zeros (m + n) ≡ zeros m ++ zeros n
-unfolding zeros
-zeros-front zero n = let e : 0 + n ≡ n = omega arith in ap zeros e
-zeros-front (suc m) n = let e : suc m + n ≡ suc (m + n) = omega arith in ap zeros e ∙ ap (λ (x : List ℕ). 0 ∷ x) (zeros-front m n)
 
 single-front : (k m n : ℕ) → k < m → single k (m + n) ≡ single k m ++ zeros n
 unfolding single
 single-front k zero n less = absurd (omega arith)
 single-front zero (suc m) n less =
-    let e : suc m + n ≡ suc (m + n) = omega arith in ap (single 0) e ∙ ap (λ (x : List ℕ). 1 ∷ x) (zeros-front m n)
+    let e : suc m + n ≡ suc (m + n) = omega arith in ap (single 0) e ∙ ap (λ (x : List ℕ). 1 ∷ x) (sym (replicate-append-replicate m n 0))
 single-front (suc k) (suc m) n less =
     let e : suc m + n ≡ suc (m + n) = omega arith in ap (single (suc k)) e ∙ ap (λ (x : List ℕ). 0 ∷ x) (single-front k m n (omega arith))
 
 single-back : (k m n : ℕ) → m ≤ k → single k (m + n) ≡ zeros m ++ single (k - m) n
-unfolding single zeros
+unfolding single
 single-back k zero n less =
     let e : 0 + n ≡ n = omega arith in let f : k ≡ k - 0 = omega arith in ap (single k) e ∙ ap (λ (x : ℕ). single x n) f
 single-back zero (suc m) n less = absurd (omega arith)

@@ -1,6 +1,5 @@
 use Rattle.std.proofs.Common.{◌≡◌, ℕ, List, ◌++◌, take, drop, append_assoc, ap, sym, ◌∙◌, arith}
-use Rattle.tc_cltu.specs.CodeBlock.{code_block}
-use Rattle.tc_cltu.specs.Cltu.{filled, code_blocks}
+use Rattle.tc_cltu.proofs.Names.{code_block, code_blocks, filled}
 use Rattle.tc_cltu.proofs.Fill.{first-block}
 use Rattle.tc_cltu.proofs.writer.coded.Goals as goal
 
