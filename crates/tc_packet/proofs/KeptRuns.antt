@@ -4,9 +4,7 @@ use Rattle.std.specs.Global.{Vec}
 use Rattle.std.proofs.Math.ListN.{set, get_or-map}
 use Rattle.std.proofs.lemmas.Bool.{cases_eq, cases_lt, leb-true}
 use Rattle.std.proofs.lemmas.List.{length-map, length-set, length-replicate, map-set, get_or-replicate, get_or-set_same, get_or-set_other, get_or_default, get_or_past, set-get_or}
-use Rattle.tc_packet.specs.declared.segment.Part.{Part}
-use Rattle.tc_packet.specs.declared.segment.Part.TheVariants.{First, Continuing}
-use Rattle.tc_packet.specs.Segment.{header_of, body_of}
+use Rattle.tc_packet.proofs.Names.{Continuing, First, Part, body_of, header_of}
 use Rattle.tc_packet.specs.Reassembly.{AreOpenRuns, IsWithinLimit, OpenRuns, bounded, extended, open_run, run_at, run_left}
 use Rattle.tc_packet.specs.Runs.{next_run, octets_in, runs_of}
 use Rattle.tc_packet.proofs.OpenRuns.{open_run-push}

@@ -1,3 +1,4 @@
+pub mod Names
 pub mod Cuts
 pub mod KeptRuns
 pub mod OpenRuns

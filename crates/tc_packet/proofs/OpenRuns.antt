@@ -2,15 +2,10 @@
 use Rattle.std.proofs.Common.{◌≡◌, ℕ, Bool, true, false, cond, leb, ◌&&◌, List, [], ◌∷◌, ◌++◌, length, Option, Some, None, refl, ap, ◌∙◌, arith}
 use Rattle.std.specs.Option.{option_and_then, option_map, option_or}
 use Rattle.std.specs.List.{flat_map}
-use Rattle.std.proofs.lemmas.Bool.Decides.{nat_tests}
+use Rattle.tc_packet.proofs.Names.{Continuing, First, Last, Part, Unsegmented, all_continue, body_of, bounded, extended, from_last_first, header_of, is_continuing, is_first, nat_tests, next_run, open_run, run_of}
 use Rattle.std.proofs.lemmas.Grind.{common_steps, flat_map-append}
 use Rattle.std.proofs.lemmas.List.{append-nil, length-append}
 use Rattle.std.proofs.Math.Bool.{and-true}
-use Rattle.tc_packet.specs.declared.segment.Part.{Part}
-use Rattle.tc_packet.specs.declared.segment.Part.TheVariants.{First, Continuing, Last, Unsegmented}
-use Rattle.tc_packet.specs.Segment.{header_of, body_of}
-use Rattle.tc_packet.specs.Reassembly.{bounded, is_first, is_continuing, from_last_first, all_continue, run_of, extended, open_run}
-use Rattle.tc_packet.specs.Runs.{next_run}
 
 abbrev Split : Type 0
 Split = List ℕ × List (List ℕ)

@@ -1,12 +1,9 @@
 -- The open run and the unit as relations are those that the functions compute.
 use Rattle.std.proofs.Common.{◌≡◌, ℕ, ◌+◌, ◌/◌, ◌%◌, ◌<◌, ◌≤◌, Bool, true, false, cond, leb, List, [], ◌∷◌, ◌++◌, length, Option, Some, None, inl, inr, refl, sym, ap, subst, ◌∙◌, arith}
 use Rattle.std.specs.Option.{option_and_then, option_or}
-use Rattle.std.specs.List.{AllByRecursion}
+use Rattle.tc_packet.proofs.Names.{AllByRecursion, Continuing, First, Last, Part, Unsegmented, body_of, header_of}
 use Rattle.std.proofs.lemmas.Bool.{and_parts, leb-true, le-leb}
 use Rattle.std.proofs.lemmas.Option.{some_pair_parts}
-use Rattle.tc_packet.specs.declared.segment.Part.{Part}
-use Rattle.tc_packet.specs.declared.segment.Part.TheVariants.{First, Continuing, Last, Unsegmented}
-use Rattle.tc_packet.specs.Segment.{header_of, body_of}
 use Rattle.tc_packet.specs.Reassembly.{IsPart, IsWithinLimit, IsOpenRun, IsUnit, IsLeftByFields, joined_bodies, bounded, extended, is_first, is_continuing, from_last_first, all_continue, run_of, open_run, ended_by, unit_at}
 use Rattle.tc_packet.proofs.KeptRuns.{bounded-within}
 use Rattle.tc_packet.proofs.OpenRuns.{open_run-push}

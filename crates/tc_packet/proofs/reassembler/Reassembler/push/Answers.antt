@@ -1,9 +1,5 @@
 use Rattle.std.proofs.Common.{◌≡◌, ◌<◌, true, length, sym, ap, ◌∙◌, arith}
-use Rattle.std.proofs.lemmas.Grind.{common_steps}
-use Rattle.std.proofs.lemmas.List.{length-map}
-use Rattle.std.proofs.lemmas.Result.{on_ok_weaker, on_err_weaker}
-use Rattle.tc_packet.specs.Reassembly.{OpenRuns, run_at, stream_place}
-use Rattle.tc_packet.specs.Runs.{octets_in}
+use Rattle.tc_packet.proofs.Names.{OpenRuns, common_steps, length-map, octets_in, on_err_weaker, on_ok_weaker, run_at, stream_place}
 use Rattle.tc_packet.proofs.KeptRuns.{went_on-within, read_within, others-stay, same-runs, written-within, pushed, left-on}
 use Rattle.tc_packet.proofs.reassembler.Reassembler.push.Goals as goal
 
