@@ -3,7 +3,7 @@ use Rattle.std.proofs.Common.{◌≡◌, ℕ, ◌^◌, ◌/◌, ◌*◌, zero, s
 use Rattle.std.proofs.lemmas.Bool.{eqb-true, agree_below_at, cases_eq, lt-ltb}
 use Rattle.tc_cltu.proofs.Names.{IsInformation, bit_at, bits-same, bits_of, block_remainder, block_times_x, block_with_bit, code_block, differences, errors, octet_bits, same, same_below, take_at, word, xor_lt, xor_self, xor_zero_r}
 use Rattle.tc_cltu.specs.declared.tables.TheConstants.{PLACES}
-use Rattle.tc_cltu.proofs.Linear.{times_x-fits, remainder-fits}
+use Rattle.tc_cltu.proofs.Division.{times_x-fits, remainder-fits}
 use Rattle.tc_cltu.proofs.Patterns.{AreBits, xors, weight, zeros, single, xors-bits, xors-length, zeros-bits, zeros-weight, two-is, differences-weight, none-same, by-way, single-length}
 use Rattle.tc_cltu.proofs.Words.{are-bits, bits-append, fifty-six, left, left-linear, block-left, seven, seven-bits, word-is, word-parts}
 

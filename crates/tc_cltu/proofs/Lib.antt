@@ -1,5 +1,4 @@
 pub mod Names
-pub mod Linear
 pub mod Patterns
 pub mod Words
 pub mod Distance
@@ -10,4 +9,3 @@ pub mod Fill
 pub mod Starting
 pub mod Decoding
 pub mod Division
-pub mod Random

@@ -1,10 +1,11 @@
--- Eight bits at once.
-use Rattle.std.proofs.Common.{◌≡◌, ℕ, ◌+◌, ◌*◌, ◌<◌, ◌≤◌, List, [], ◌∷◌, ◌++◌, length, get_or, take, set, append_assoc, drop, bit_xor, refl, ap, sym, ◌∙◌, arith}
-use Rattle.tc_cltu.proofs.Names.{NEXT_OCTETS, REMAINDERS, bits_of, block_remainder, block_times_x, moved_on, next_bit, octet_bits, octet_on, randomised_from, same_below, twice, xor_lt, xor_zero_r}
+-- Eight bits at once, and the sequence of the randomiser.
+use Rattle.std.proofs.Common.{◌≡◌, ℕ, ◌+◌, ◌*◌, ◌<◌, ◌≤◌, List, [], ◌∷◌, ◌++◌, length, get_or, take, set, append_assoc, drop, bit_xor, refl, ap, sym, ◌∙◌, arith, zero, suc}
+use Rattle.tc_cltu.proofs.Names.{NEXT_OCTETS, REMAINDERS, bit_at, bits_of, block_remainder, block_times_x, moved_on, next_bit, octet_bits, octet_on, randomised_from, same_below, twice, xor_lt, xor_zero_r}
 use Rattle.std.proofs.lemmas.List.{take_more_set, drop-set-lt, at_drop_more, at_drop_all, take_all, append-nil}
-use Rattle.tc_cltu.proofs.Linear.{onward}
+use Rattle.tc_cltu.proofs.Division.{onward}
 use Rattle.tc_cltu.proofs.Patterns.{zeros-length, xors, zeros, zeros-xors}
 use Rattle.tc_cltu.proofs.Words.{octet-sum, eight, remainder-linear}
+use Rattle.tc_cltu.specs.Randomiser.{random_octets, random_bits}
 
 rows : (y : ℕ) → y < 256 → get_or REMAINDERS y 0 ≡ block_remainder 0 (octet_bits y)
 unfolding octet_bits block_times_x
@@ -36,7 +37,7 @@ pub next_octet : (r : ℕ) → r < 256 → get_or NEXT_OCTETS r 0 ≡ octet_on r
 unfolding octet_on moved_on next_bit
 next_octet = same_below (λ r. get_or NEXT_OCTETS r 0) octet_on 256 refl
 
-pub bit-fits : (r : ℕ) → next_bit r < 2
+bit-fits : (r : ℕ) → next_bit r < 2
 unfolding next_bit
 bit-fits r = omega arith
 
@@ -60,3 +61,25 @@ random-end os target i r past h =
 pub random-twice : (os : List ℕ) (r : ℕ) → randomised_from r (randomised_from r os) ≡ os
 random-twice [] r = refl
 random-twice (o ∷ os) r = ap (λ (x : ℕ). x ∷ randomised_from (octet_on r) (randomised_from (octet_on r) os)) (twice o r) ∙ ap (λ (x : List ℕ). o ∷ x) (random-twice os (octet_on r))
+
+-- ---- its sequence, bit by bit
+-- after a move each bit of the register is the one below it
+abbrev IsMoved : ℕ → ℕ → Type 0
+IsMoved r k = bit_at (moved_on r) (suc k) ≡ bit_at r k
+
+moved : (r : ℕ) → IsMoved r 0 × IsMoved r 1 × IsMoved r 2 × IsMoved r 3 × IsMoved r 4 × IsMoved r 5 × IsMoved r 6
+unfolding moved_on
+moved r = let n = bit-fits r in (omega arith, omega arith, omega arith, omega arith, omega arith, omega arith, omega arith)
+
+first-bits : (r n : ℕ) → octet_bits r ++ random_bits (octet_on r) n ≡ random_bits r (suc (suc (suc (suc (suc (suc (suc (suc n))))))))
+unfolding octet_bits octet_on
+first-bits r n =
+    let r1 = moved_on r in let r2 = moved_on r1 in let r3 = moved_on r2 in let r4 = moved_on r3 in let r5 = moved_on r4 in let r6 = moved_on r5 in
+    let a = moved r in let b = moved r1 in let c = moved r2 in let d = moved r3 in let e = moved r4 in let f = moved r5 in let g = moved r6 in
+    cc
+
+pub bits-are : (n r : ℕ) → bits_of (random_octets r n) ≡ random_bits r (8 * n)
+bits-are zero r = refl
+bits-are (suc n) r =
+    let count : suc (suc (suc (suc (suc (suc (suc (suc (8 * n)))))))) ≡ 8 * suc n = omega arith in
+    ap (λ (x : List ℕ). octet_bits r ++ x) (bits-are n (octet_on r)) ∙ first-bits r (8 * n) ∙ ap (random_bits r) count

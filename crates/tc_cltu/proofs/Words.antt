@@ -3,7 +3,7 @@ use Rattle.std.proofs.Common.{◌≡◌, ℕ, zero, suc, ◌+◌, ◌-◌, ◌*�
 use Rattle.std.proofs.lemmas.List.{replicate-append-replicate}
 use Rattle.tc_cltu.proofs.Names.{bit_at, bits_of, block_remainder, block_times_x, block_with_bit, cases_lt, code_block, flipped, le-ltb, lt-ltb, octet_bits, parity_of, same_below, word, xor_comm, xor_lt, xor_zero_r}
 use Rattle.tc_fecf.proofs.Polynomials.{exchange, scaled, bit_of_sum, again}
-use Rattle.tc_cltu.proofs.Linear.{times_x-linear, remainder-fits, onward}
+use Rattle.tc_cltu.proofs.Division.{times_x-linear, remainder-fits, onward}
 use Rattle.tc_cltu.proofs.Patterns.{zeros-length, AreBits, xors, zeros, single, xors-append, xors-zeros, zeros-xors, xors-take, single-length, single-take}
 
 -- ---- bits
