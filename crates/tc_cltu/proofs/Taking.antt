@@ -305,6 +305,13 @@ pub syndrome-is : (own : List ℕ) (last p : ℕ) → p ≡ parity_of own → bi
 unfolding syndrome
 syndrome-is own last p h = ap (λ (x : ℕ). bit_xor x (last / 2)) h
 
+-- by the parity bits p, as the code has them
+pub right_by : (mode : Mode) (own : List ℕ) (last p : ℕ) → IsOctets own → length own ≡ 7 → last < 256 → p ≡ parity_of own → bit_xor p (last / 2) ≡ 0 → decoded mode (own ++ last ∷ []) ≡ Some own
+right_by mode own last p each seven fits is none = none-wrong mode own last (record { each = each; seven = seven }) fits (sym (syndrome-is own last p is) ∙ none)
+
+pub wrong_by : (own : List ℕ) (last p : ℕ) → IsOctets own → length own ≡ 7 → last < 256 → p ≡ parity_of own → bit_xor p (last / 2) ≢ 0 → decoded Detect (own ++ last ∷ []) ≡ None
+wrong_by own last p each seven fits is some = some-wrong own last (record { each = each; seven = seven }) fits (λ z. some (syndrome-is own last p is ∙ z))
+
 -- ---- of a block in two parts
 pub found-option : (mode : Mode) (block own : List ℕ) (last : ℕ) (o : Option (List ℕ)) → IsInformation own → block ≡ own ++ last ∷ [] → o ≡ decoded mode block
     → IfSome o (λ y. IsInformation y × (errors block y ≤ most_errors mode))

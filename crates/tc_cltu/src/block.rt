@@ -112,6 +112,7 @@ fn rejection(block: [u8; 8]) -> Fate
 }
 
 // Which bit of the seven octets and the last one of a block is to be turned: one past the 63 where none is.
+#[tactic(auto, using(crate::proofs::Taking::right_by, crate::proofs::Taking::wrong_by))]
 fn place_of_error(own: &[u8], last: u8, mode: Mode) -> Option<u8>
     requires { length own.now ≡ 7 }
     ensures place { MatchOption result (decoded mode (own.now ++ last ∷ []) ≡ None) (λ place. decoded mode (own.now ++ last ∷ []) ≡ Some (flipped own.now place)) }
