@@ -1,9 +1,9 @@
 -- What the receiving end gives.
-use Rattle.std.proofs.Common.{◌≡◌, ℕ, zero, suc, ◌+◌, ◌*◌, ◌/◌, ◌<◌, ◌≤◌, Bool, true, false, List, [], ◌∷◌, ◌++◌, Option, Some, None, bit_xor, length, length-append, append_assoc, add_assoc, get_or, take, set, drop, is_some, nat_lt, if◌then◌else◌, subst, refl, ap, sym, ◌∙◌, arith, inl, inr}
+use Rattle.std.proofs.Common.{◌≡◌, ℕ, zero, suc, ◌+◌, ◌*◌, ◌/◌, ◌<◌, ◌≤◌, Bool, true, false, List, [], ◌∷◌, ◌++◌, Option, Some, None, bit_xor, length, length-append, append_assoc, add_assoc, get_or, take, set, drop, nat_lt, if◌then◌else◌, subst, refl, ap, sym, ◌∙◌, arith, inl, inr}
 use Rattle.tc_cltu.proofs.Names.{Correct, Detect, IsInformation, IsOctets, Mode, block_times_x, cases_lt, code_block, decoded, flipped, le-ltb, lt-ltb, nat_tests, octet_bits, parity_of, xor_self}
 use Rattle.std.proofs.lemmas.List.{append-nil, at_drop_more, append_cancel_right, drop_all, length-take-le, take_more, take-append-drop}
 use Rattle.tc_cltu.specs.Cltu.{cltu, start_sequence, tail_sequence, code_blocks, fill, filled, cltu_fault_of}
-use Rattle.tc_cltu.specs.Reception.{Receiver, Reception, Searching, Decoding, Step, is_start, reception_step, after_block, rejected_as, fate_in, fate_of, corrections_of, rejections_of, counted_in, state_after, frames_of, HasNoStart, IsSearching, IsReception, idle}
+use Rattle.tc_cltu.specs.Reception.{Receiver, Reception, Searching, Decoding, Step, is_start, reception_step, after_block, fate_in, fate_of, corrections_of, rejections_of, counted_in, state_after, frames_of, HasNoStart, IsSearching, IsReception, idle}
 use Rattle.tc_cltu.specs.declared.block.Fate.{Fate}
 use Rattle.tc_cltu.specs.declared.block.Fate.TheVariants.{Right, Corrected, Tail, Rejected}
 use Rattle.tc_link.proofs.Frames.{octets-append}
@@ -318,20 +318,6 @@ found-after-idle mode room state before frame rest short each some fits =
     ∙ ap (λ (fs : List (List ℕ)). frames_of mode room state (before ++ idle 15) ++ fs) (search-given mode room (state_after mode room state (before ++ idle 15)) frame rest back each some fits)
 
 -- ---- the decoder's own step
-pub corrected-fate : (mode : Mode) (block information : List ℕ) → decoded Detect block ≡ None → decoded mode block ≡ Some information → Corrected ≡ fate_in mode block
-corrected-fate mode block information wrong taken =
-    sym (ap (λ (o : Option (List ℕ)). if is_some o then Right else if is_some (decoded mode block) then Corrected else rejected_as block) wrong
-    ∙ ap (λ (o : Option (List ℕ)). if is_some o then Corrected else rejected_as block) taken)
-
-pub right-fate : (mode : Mode) (block information : List ℕ) → decoded Detect block ≡ Some information → Right ≡ fate_in mode block
-right-fate mode block information right =
-    sym (ap (λ (o : Option (List ℕ)). if is_some o then Right else if is_some (decoded mode block) then Corrected else rejected_as block) right)
-
-pub rejected-fate : (mode : Mode) (block : List ℕ) → decoded Detect block ≡ None → decoded mode block ≡ None → rejected_as block ≡ fate_in mode block
-rejected-fate mode block wrong none =
-    sym (ap (λ (o : Option (List ℕ)). if is_some o then Right else if is_some (decoded mode block) then Corrected else rejected_as block) wrong
-    ∙ ap (λ (o : Option (List ℕ)). if is_some o then Corrected else rejected_as block) none)
-
 set-last : (block : List ℕ) (octet : ℕ) → length block ≡ 8 → (set block 7 octet ≡ take 7 block ++ octet ∷ []) × (length (take 7 block) ≡ 7)
 set-last (a ∷ b ∷ c ∷ d ∷ e ∷ f ∷ g ∷ h ∷ []) octet l = (refl, refl)
 set-last _ octet l = absurd (omega arith)

@@ -336,7 +336,7 @@ pub seven-list : (xs : List ℕ) → length xs ≡ 7
 seven-list (a ∷ b ∷ c ∷ d ∷ e ∷ f ∷ g ∷ []) l = refl
 seven-list _ l = absurd (omega arith)
 
-pub eight-list : (xs : List ℕ) → length xs ≡ 8
+pub eight_list : (xs : List ℕ) → length xs ≡ 8
     → xs ≡ get_or xs 0 0 ∷ get_or xs 1 0 ∷ get_or xs 2 0 ∷ get_or xs 3 0 ∷ get_or xs 4 0 ∷ get_or xs 5 0 ∷ get_or xs 6 0 ∷ get_or xs 7 0 ∷ []
-eight-list [] l = absurd (omega arith)
-eight-list (a ∷ xs) l = ap (λ (x : List ℕ). a ∷ x) (seven-list xs (omega arith))
+eight_list [] l = absurd (omega arith)
+eight_list (a ∷ xs) l = ap (λ (x : List ℕ). a ∷ x) (seven-list xs (omega arith))

@@ -74,6 +74,7 @@ pub fn decode_block(block: [u8; 8], mode: Mode) -> Option<[u8; 7]>
 }
 
 /// What becomes of a code block, which is seven octets and one more, and the seven octets that it carries where it is taken.
+#[tactic(auto, using(crate::proofs::Taking::eight_list))]
 pub fn judge(block: [u8; 8], mode: Mode) -> Judged
     ensures fate { result.fate ≡ fate_in mode block }
     ensures information { result.information ≡ decoded mode block }
