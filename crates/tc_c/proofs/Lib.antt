@@ -3,7 +3,6 @@ mod Buffers
 mod Places
 mod Records
 mod Farms
-mod Faults
 mod Racks
 mod Blocks
 mod Receiving

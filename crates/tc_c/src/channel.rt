@@ -9,7 +9,7 @@ ghost use Rattle.tc_fixed.specs.Limits.{limit_of};
 ghost use Rattle.tc_c.specs.Status.{code_of, frame_status};
 ghost use Rattle.tc_c.specs.Channel.{reply_record, no_reply, delivery_record, no_delivery};
 
-use crate::seat::Seat;
+use crate::seat::{Seat, asked};
 use crate::status::{Status, code, frame_fault};
 use tc_channel::{Delivery, FrameReply};
 use tc_fixed::{FixedChannel, NothingReleased};
@@ -117,14 +117,7 @@ pub extern "C" fn tcrx_channel_frame_at(seat: &mut Seat, octets: &[u8]) -> Reply
     ensures refused { 0 < result.status → seat.new.place.channel ≡ seat.old.place.channel }
     ensures no_channel { IfNone seat.old.place.channel (result ≡ no_reply Status.NoChannel) }
 {
-    match seat.take() {
-        Some(mut held) => {
-            let reply = bring(&mut held, octets);
-            seat.put(held);
-            reply
-        }
-        None => reply_refused(Status::NoChannel),
-    }
+    asked!(seat, held, bring(&mut held, octets), reply_refused)
 }
 
 fn let_out(channel: &mut FixedChannel) -> DeliveryRecord
@@ -149,14 +142,7 @@ pub extern "C" fn tcrx_channel_release_at(seat: &mut Seat) -> DeliveryRecord
     ensures refused { 0 < result.status → seat.new.place.channel ≡ seat.old.place.channel }
     ensures no_channel { IfNone seat.old.place.channel (result ≡ no_delivery Status.NoChannel) }
 {
-    match seat.take() {
-        Some(mut held) => {
-            let delivery = let_out(&mut held);
-            seat.put(held);
-            delivery
-        }
-        None => delivery_refused(Status::NoChannel),
-    }
+    asked!(seat, held, let_out(&mut held), delivery_refused)
 }
 
 /// Frees the channel with all that it holds. Refused is a seat with no channel by NoChannel. The seat then holds none.

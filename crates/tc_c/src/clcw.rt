@@ -3,6 +3,7 @@
 ghost use Rattle.std.specs.Prelude.{◌≡◌, ◌↔◌, IfOk, IfErr};
 ghost use Rattle.tc_link.specs.Clcw.{IsClcw, fields_of};
 ghost use Rattle.tc_c.specs.Status.{code_of};
+ghost use Rattle.tc_c.specs.Channel.{link_of};
 ghost use Rattle.tc_c.specs.Clcw.{clcw_or_status, fields_record, no_clcw};
 
 use crate::farm::{FarmRecord, farm, flag};
@@ -52,10 +53,17 @@ pub extern "C" fn tcrx_clcw(kept: FarmRecord, vcid: u8, no_rf: u8, no_bit_lock: 
             status: code(Status::Done),
             word,
         },
-        Err(fault) => ClcwRecord {
-            status: code(fault),
-            word: 0,
-        },
+        Err(fault) => no_word(fault),
+    }
+}
+
+/// The answer of a call that is refused.
+pub(crate) fn no_word(fault: Status) -> ClcwRecord
+    ensures { result ≡ record { status = code_of fault; word = 0 } }
+{
+    ClcwRecord {
+        status: code(fault),
+        word: 0,
     }
 }
 
@@ -66,11 +74,17 @@ fn word(kept: FarmRecord, vcid: u8, no_rf: u8, no_bit_lock: u8) -> Result<u32, S
     if vcid > 63 {
         return Err(Status::BadVcid);
     }
-    let link = Link {
+    Ok(clcw_word(&report, vcid, link(no_rf, no_bit_lock)?))
+}
+
+/// The link with these flags.
+pub(crate) fn link(no_rf: u8, no_bit_lock: u8) -> Result<Link, Status>
+    ensures { result ≡ link_of no_rf no_bit_lock }
+{
+    Ok(Link {
         no_rf: flag(no_rf)?,
         no_bit_lock: flag(no_bit_lock)?,
-    };
-    Ok(clcw_word(&report, vcid, link))
+    })
 }
 
 /// Reads a word, if it is a CLCW of COP-1: type and version 0, COP 1, and both spares 0.

@@ -1,6 +1,6 @@
 //! CLTUs, and what they are randomised by, into the caller's buffer.
 
-ghost use Rattle.std.specs.Prelude.{◌≡◌, ◌<◌, ◌≤◌, ◌+◌, ◌*◌, ◌/◌, ◌++◌, Some, None, length, take, drop, IfSome, IfNone, IfOk, MatchResult};
+ghost use Rattle.std.specs.Prelude.{◌≡◌, ◌<◌, ◌≤◌, ◌+◌, ◌*◌, ◌/◌, ◌++◌, Some, None, length, take, drop, IfSome, IfNone, IfOk, MatchResult, option_map};
 ghost use Rattle.tc_cltu.specs.CodeBlock.{code_block};
 ghost use Rattle.tc_cltu.specs.Cltu.{cltu, filled, code_blocks, most_octets, cltu_fault_of};
 ghost use Rattle.tc_cltu.specs.Randomiser.{randomised};
@@ -9,7 +9,7 @@ ghost use Rattle.tc_c.specs.Cltus.{cltu_status};
 
 use crate::buffer::{WrittenRecord, no_room, not_written, written};
 use crate::status::Status;
-use tc_cltu::{CltuFault, MOST_OCTETS, START, TAIL, encode_block, randomise};
+use tc_cltu::{MOST_OCTETS, START, TAIL, encode_block, randomise};
 
 /// Writes the CLTU that carries a frame, or other octets, to the front of a buffer: the start sequence, the code blocks, with fill in
 /// the last one where it needs some, and the tail sequence (CCSDS 231.0-B).
@@ -25,9 +25,8 @@ pub extern "C" fn tcrx_write_cltu_at(frame: &[u8], octets: &mut [u8]) -> Written
     ensures no_room { IfNone (cltu_fault_of frame.now) (length octets.old < length (cltu frame.now) → (result ≡ too_short (length (cltu frame.now))) × (octets.new ≡ octets.old)) }
     ensures refused { IfSome (cltu_fault_of frame.now) (λ fault. (result ≡ no_octets (cltu_status fault)) × (octets.new ≡ octets.old)) }
 {
-    match check_carried(frame) {
-        Ok(()) => {}
-        Err(fault) => return not_written(cltu_fault(fault)),
+    if let Err(fault) = check_carried(frame) {
+        return not_written(fault);
     }
     let needed = cltu_length(frame);
     if octets.len() < needed {
@@ -39,27 +38,17 @@ pub extern "C" fn tcrx_write_cltu_at(frame: &[u8], octets: &mut [u8]) -> Written
 }
 
 // That a CLTU can carry as many octets.
-fn check_carried(octets: &[u8]) -> Result<(), CltuFault>
-    ensures fault { MatchResult result (λ _. cltu_fault_of octets.now ≡ None) (λ fault. cltu_fault_of octets.now ≡ Some fault) }
+fn check_carried(octets: &[u8]) -> Result<(), Status>
+    ensures fault { MatchResult result (λ _. cltu_fault_of octets.now ≡ None) (λ status. option_map cltu_status (cltu_fault_of octets.now) ≡ Some status) }
     ensures most { IfOk result (λ _. length octets.now ≤ most_octets) }
 {
     if octets.is_empty() {
-        return Err(CltuFault::Empty);
+        return Err(Status::EmptyData);
     }
     if octets.len() > MOST_OCTETS {
-        return Err(CltuFault::TooLong);
+        return Err(Status::LongCltu);
     }
     Ok(())
-}
-
-fn cltu_fault(fault: CltuFault) -> Status
-    ensures { result ≡ cltu_status fault }
-{
-    match fault {
-        CltuFault::Empty => Status::EmptyData,
-        CltuFault::TooLong => Status::LongCltu,
-        CltuFault::NoMemory => Status::NoMemory,
-    }
 }
 
 // How many octets the CLTU has.
@@ -151,9 +140,8 @@ pub extern "C" fn tcrx_randomise_at(given: &[u8], octets: &mut [u8]) -> WrittenR
     ensures no_room { IfNone (cltu_fault_of given.now) (length octets.old < length given.now → (result ≡ too_short (length given.now)) × (octets.new ≡ octets.old)) }
     ensures refused { IfSome (cltu_fault_of given.now) (λ fault. (result ≡ no_octets (cltu_status fault)) × (octets.new ≡ octets.old)) }
 {
-    match check_carried(given) {
-        Ok(()) => {}
-        Err(fault) => return not_written(cltu_fault(fault)),
+    if let Err(fault) = check_carried(given) {
+        return not_written(fault);
     }
     if octets.len() < given.len() {
         return no_room(given.len());

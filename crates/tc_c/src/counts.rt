@@ -10,12 +10,11 @@ ghost use Rattle.tc_c.specs.Status.{code_of};
 ghost use Rattle.tc_c.specs.Farm.{record_of, no_record};
 ghost use Rattle.tc_c.specs.Channel.{link_of, count_record, no_count};
 
-use crate::clcw::ClcwRecord;
-use crate::farm::{FarmAnswer, FarmRecord, flag, record};
-use crate::seat::Seat;
+use crate::clcw::{ClcwRecord, link, no_word};
+use crate::farm::{FarmAnswer, no_farm, record};
+use crate::seat::{Seat, asked};
 use crate::status::{Status, code};
 use tc_fixed::FixedChannel;
-use tc_link::Link;
 
 /// A status with a count.
 #[repr(C)]
@@ -44,15 +43,6 @@ pub(crate) fn not_counted(fault: Status) -> CountRecord
     }
 }
 
-fn link(no_rf: u8, no_bit_lock: u8) -> Result<Link, Status>
-    ensures { result ≡ link_of no_rf no_bit_lock }
-{
-    Ok(Link {
-        no_rf: flag(no_rf)?,
-        no_bit_lock: flag(no_bit_lock)?,
-    })
-}
-
 fn clcw(channel: &FixedChannel, no_rf: u8, no_bit_lock: u8) -> ClcwRecord
     ensures word { IfOk (link_of no_rf no_bit_lock) (λ link. result ≡ record { status = code_of Status.Done; word = clcw_within (limit_of channel.now.limits) channel.now.settings channel.now.journal link }) }
     ensures refused { IfErr (link_of no_rf no_bit_lock) (λ fault. result ≡ record { status = code_of fault; word = 0 }) }
@@ -62,10 +52,7 @@ fn clcw(channel: &FixedChannel, no_rf: u8, no_bit_lock: u8) -> ClcwRecord
             status: code(Status::Done),
             word: channel.clcw(link),
         },
-        Err(fault) => ClcwRecord {
-            status: code(fault),
-            word: 0,
-        },
+        Err(fault) => no_word(fault),
     }
 }
 
@@ -79,17 +66,7 @@ pub extern "C" fn tcrx_channel_clcw_at(seat: &mut Seat, no_rf: u8, no_bit_lock: 
     ensures no_channel { IfNone seat.old.place.channel (result ≡ record { status = code_of Status.NoChannel; word = 0 }) }
     ensures unchanged { seat.new.place.channel ≡ seat.old.place.channel }
 {
-    match seat.take() {
-        Some(held) => {
-            let answer = clcw(&held, no_rf, no_bit_lock);
-            seat.put(held);
-            answer
-        }
-        None => ClcwRecord {
-            status: code(Status::NoChannel),
-            word: 0,
-        },
-    }
+    asked!(seat, held, clcw(&held, no_rf, no_bit_lock), no_word)
 }
 
 fn farm_of(channel: &FixedChannel) -> FarmAnswer
@@ -116,25 +93,7 @@ pub extern "C" fn tcrx_channel_report_at(seat: &mut Seat) -> FarmAnswer
     ensures lawful { IfSome seat.old.place.channel (λ h. IsLawfulWithin (limit_of h.limits) h.settings h.journal) }
     ensures era { IfSome seat.old.place.channel (λ h. CountsUpInItsEraWithin (limit_of h.limits) h.settings h.journal) }
 {
-    match seat.take() {
-        Some(held) => {
-            let answer = farm_of(&held);
-            seat.put(held);
-            answer
-        }
-        None => FarmAnswer {
-            status: code(Status::NoChannel),
-            farm: FarmRecord {
-                width: 0,
-                state: 0,
-                vr: 0,
-                farm_b: 0,
-                lockout: 0,
-                wait: 0,
-                retransmit: 0,
-            },
-        },
-    }
+    asked!(seat, held, farm_of(&held), no_farm)
 }
 
 /// How many data fields wait in the buffer. Refused is a seat with no channel by NoChannel. The channel stays as it was.
@@ -144,14 +103,7 @@ pub extern "C" fn tcrx_channel_buffered_at(seat: &mut Seat) -> CountRecord
     ensures no_channel { IfNone seat.old.place.channel (result ≡ no_count Status.NoChannel) }
     ensures unchanged { seat.new.place.channel ≡ seat.old.place.channel }
 {
-    match seat.take() {
-        Some(held) => {
-            let answer = counted(held.buffered() as u64);
-            seat.put(held);
-            answer
-        }
-        None => not_counted(Status::NoChannel),
-    }
+    asked!(seat, held, counted(held.buffered() as u64), not_counted)
 }
 
 fn packets(channel: &FixedChannel, apid: u16) -> CountRecord
@@ -173,14 +125,7 @@ pub extern "C" fn tcrx_channel_queued_at(seat: &mut Seat, apid: u16) -> CountRec
     ensures no_channel { IfNone seat.old.place.channel (result ≡ no_count Status.NoChannel) }
     ensures unchanged { seat.new.place.channel ≡ seat.old.place.channel }
 {
-    match seat.take() {
-        Some(held) => {
-            let answer = packets(&held, apid);
-            seat.put(held);
-            answer
-        }
-        None => not_counted(Status::NoChannel),
-    }
+    asked!(seat, held, packets(&held, apid), not_counted)
 }
 
 fn units(channel: &FixedChannel, map: u8) -> CountRecord
@@ -202,14 +147,7 @@ pub extern "C" fn tcrx_channel_units_at(seat: &mut Seat, map: u8) -> CountRecord
     ensures no_channel { IfNone seat.old.place.channel (result ≡ no_count Status.NoChannel) }
     ensures unchanged { seat.new.place.channel ≡ seat.old.place.channel }
 {
-    match seat.take() {
-        Some(held) => {
-            let answer = units(&held, map);
-            seat.put(held);
-            answer
-        }
-        None => not_counted(Status::NoChannel),
-    }
+    asked!(seat, held, units(&held, map), not_counted)
 }
 
 /// How many frames, releases and takes there were; where they are more than 2^64 - 1, that number. Refused is a seat with no
@@ -220,12 +158,5 @@ pub extern "C" fn tcrx_channel_events_at(seat: &mut Seat) -> CountRecord
     ensures no_channel { IfNone seat.old.place.channel (result ≡ no_count Status.NoChannel) }
     ensures unchanged { seat.new.place.channel ≡ seat.old.place.channel }
 {
-    match seat.take() {
-        Some(held) => {
-            let answer = counted(held.events());
-            seat.put(held);
-            answer
-        }
-        None => not_counted(Status::NoChannel),
-    }
+    asked!(seat, held, counted(held.events()), not_counted)
 }

@@ -60,17 +60,24 @@ pub extern "C" fn tcrx_farm_start(width: u8, first: u8) -> FarmAnswer
             status: code(Status::Done),
             farm: record(width, Farm::new(window, first).report()),
         },
-        None => FarmAnswer {
-            status: code(Status::BadWidth),
-            farm: FarmRecord {
-                width: 0,
-                state: 0,
-                vr: 0,
-                farm_b: 0,
-                lockout: 0,
-                wait: 0,
-                retransmit: 0,
-            },
+        None => no_farm(Status::BadWidth),
+    }
+}
+
+/// The answer of a call that is refused.
+pub(crate) fn no_farm(fault: Status) -> FarmAnswer
+    ensures { result ≡ record { status = code_of fault; farm = no_record } }
+{
+    FarmAnswer {
+        status: code(fault),
+        farm: FarmRecord {
+            width: 0,
+            state: 0,
+            vr: 0,
+            farm_b: 0,
+            lockout: 0,
+            wait: 0,
+            retransmit: 0,
         },
     }
 }

@@ -140,9 +140,8 @@ fn bring_checked(seats: &mut [Seat], scid: u16, octets: &[u8]) -> RackReplyRecor
     ensures right { IfNone (taking_fault_of octets.now) ((frame : List ℕ) × IsWhole frame × (octets.now ≡ frame_with_field frame) × IsRackReplied (channels_in seats.old) scid frame result (channels_in seats.new)) }
     ensures wrong { IfSome (taking_fault_of octets.now) (λ fault. (result ≡ no_rack_reply (field_status fault)) × (channels_in seats.new ≡ channels_in seats.old)) }
 {
-    match check_taking(octets) {
-        Ok(()) => {}
-        Err(fault) => return reply_refused(field_fault(fault)),
+    if let Err(fault) = check_taking(octets) {
+        return reply_refused(field_fault(fault));
     }
     let mut room = [0; 1022];
     let (plain, _) = room.split_at_mut(octets.len() - 2);

@@ -75,3 +75,19 @@ impl Seat {
         self.held
     }
 }
+
+/// What is asked of the channel that a seat holds, in which it stays; the refusal where none is held.
+macro_rules! asked {
+    ($seat:ident, $held:ident, $answer:expr, $refused:ident) => {
+        match $seat.take() {
+            Some(mut $held) => {
+                let answer = $answer;
+                $seat.put($held);
+                answer
+            }
+            None => $refused(Status::NoChannel),
+        }
+    };
+}
+
+pub(crate) use asked;

@@ -101,12 +101,8 @@ fn channel(
     ensures refusal { IfErr result (λ fault. 0 < code_of fault) }
 {
     let lent = checked(given, queues, maps)?;
-    let Ok(settings) = lent.copied(alloc) else {
-        return Err(Status::NoMemory);
-    };
-    let Ok(channel) = FixedChannel::new(alloc, settings) else {
-        return Err(Status::NoMemory);
-    };
+    let settings = lent.copied(alloc).map_err(|_| Status::NoMemory)?;
+    let channel = FixedChannel::new(alloc, settings).map_err(|_| Status::NoMemory)?;
     match Box::new(alloc, channel) {
         Ok(held) => Ok(held),
         Err(_) => Err(Status::NoMemory),

@@ -8,7 +8,7 @@ ghost use Rattle.tc_fixed.specs.Limits.{limit_of};
 ghost use Rattle.tc_c.specs.Channel.{no_octets, too_short, taken, IsCopied};
 
 use crate::buffer::{WrittenRecord, not_written, written};
-use crate::seat::Seat;
+use crate::seat::{Seat, asked};
 use crate::status::{Status, code};
 use tc_fixed::{FixedChannel, NoUnitTaken, NothingTaken};
 
@@ -65,14 +65,12 @@ pub extern "C" fn tcrx_channel_take_at(
     ensures refused { 0 < result.status → (buffer.new ≡ buffer.old) × (seat.new.place.channel ≡ seat.old.place.channel) }
     ensures no_channel { IfNone seat.old.place.channel (result ≡ no_octets Status.NoChannel) }
 {
-    match seat.take() {
-        Some(mut held) => {
-            let written = take_packet(&mut held, apid, buffer);
-            seat.put(held);
-            written
-        }
-        None => not_written(Status::NoChannel),
-    }
+    asked!(
+        seat,
+        held,
+        take_packet(&mut held, apid, buffer),
+        not_written
+    )
 }
 
 // How long the unit is that would be taken next.
@@ -117,12 +115,5 @@ pub extern "C" fn tcrx_channel_take_unit_at(
     ensures refused { 0 < result.status → (buffer.new ≡ buffer.old) × (seat.new.place.channel ≡ seat.old.place.channel) }
     ensures no_channel { IfNone seat.old.place.channel (result ≡ no_octets Status.NoChannel) }
 {
-    match seat.take() {
-        Some(mut held) => {
-            let written = take_unit(&mut held, map, buffer);
-            seat.put(held);
-            written
-        }
-        None => not_written(Status::NoChannel),
-    }
+    asked!(seat, held, take_unit(&mut held, map, buffer), not_written)
 }

@@ -232,9 +232,8 @@ pub extern "C" fn tcrx_add_fecf_at(frame: &[u8], octets: &mut [u8]) -> WrittenRe
     ensures no_room { IfNone (adding_fault_of frame.now) (length octets.old < length frame.now + 2 → (result ≡ too_short (length frame.now + 2)) × (octets.new ≡ octets.old)) }
     ensures refused { IfSome (adding_fault_of frame.now) (λ fault. (result ≡ no_octets (field_status fault)) × (octets.new ≡ octets.old)) }
 {
-    match check_adding(frame) {
-        Ok(()) => {}
-        Err(fault) => return not_written(field_fault(fault)),
+    if let Err(fault) = check_adding(frame) {
+        return not_written(field_fault(fault));
     }
     let needed = frame.len() + 2;
     if octets.len() < needed {
@@ -260,9 +259,8 @@ pub extern "C" fn tcrx_check_fecf_at(frame: &[u8], octets: &mut [u8]) -> Written
     ensures no_room { IfNone (taking_fault_of frame.now) (length octets.old + 2 < length frame.now → (result ≡ too_short (length frame.now - 2)) × (octets.new ≡ octets.old)) }
     ensures refused { IfSome (taking_fault_of frame.now) (λ fault. (result ≡ no_octets (field_status fault)) × (octets.new ≡ octets.old)) }
 {
-    match check_taking(frame) {
-        Ok(()) => {}
-        Err(fault) => return not_written(field_fault(fault)),
+    if let Err(fault) = check_taking(frame) {
+        return not_written(field_fault(fault));
     }
     let needed = frame.len() - 2;
     if octets.len() < needed {
