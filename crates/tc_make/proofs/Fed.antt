@@ -1,16 +1,12 @@
 -- Octets that a decoder is given, one after the other.
 use Rattle.std.proofs.Common.{◌≡◌, ℕ, ◌+◌, ◌<◌, ◌≤◌, List, [], ◌∷◌, ◌++◌, length, get_or, drop, Option, refl, ap, sym, subst, ◌∙◌, arith, Some, None, slice_index_or, slice_set}
-use Rattle.std.specs.Io.KnownBytes.{Appends}
-use Rattle.std.proofs.KnownBytes.{Appends-nil}
-use Rattle.std.proofs.lemmas.Grind.{flat_map-append}
+use Rattle.tc_make.proofs.Names.{Appends, Appends-nil, Writes, flat_map-append, named_text}
 use Rattle.std.proofs.lemmas.Option.{get_or_from_slice_get}
 use Rattle.std.specs.Prelude.{codes, slice_get}
-use Rattle.tc_lines.specs.Answering.{Writes}
 use Rattle.tc_cltu.specs.Reception.{Receiver, Reception, reception_step, frames_of, corrected_in, rejected_in}
 use Rattle.tc_cltu.specs.declared.block.Mode.{Mode}
 use Rattle.tc_cltu.proofs.Decoding.{fed-frames, fed-all-frames}
 use Rattle.tc_make.specs.Decoders.{IsFed, IsPieceSaid, candidates_text, blocks_text}
-use Rattle.tc_make.specs.Printed.{named_text}
 use Rattle.tc_make.proofs.Written.{joined}
 
 -- the candidate frames that were written, and then those that are to come, are all of them

@@ -1,3 +1,4 @@
+pub mod Names
 mod Fed
 mod Lines
 pub mod Written

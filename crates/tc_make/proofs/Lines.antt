@@ -1,11 +1,7 @@
 -- What a line is answered, and what it does.
-use Rattle.std.proofs.Common.{◌≡◌, ◌⊎◌, inl, inr, ℕ, List, Option, refl, ap, sym, subst}
+use Rattle.tc_make.proofs.Names.{Appends, List, Option, Reason, Writes, ap, bad_text, inl, inr, refl, subst, sym, ℕ, ◌≡◌, ◌⊎◌}
 use Rattle.std.specs.Prelude.{Result, Ok, Err}
-use Rattle.std.specs.Io.KnownBytes.{Appends}
-use Rattle.tc_lines.specs.Answering.{Writes}
 use Rattle.tc_make.specs.Answer.{OrNoMemory, IsSaid, IsKept, IsReadingSaid, IsAnswer}
-use Rattle.tc_make.specs.Printed.{bad_text}
-use Rattle.tc_make.specs.declared.fault.Reason.{Reason}
 use Rattle.tc_make.specs.declared.fault.Reason.TheVariants.{NoMemory}
 use Rattle.tc_make.specs.LinkAnswer.{IsTelemetrySaid}
 use Rattle.tc_make.specs.declared.line.Line.{Line}

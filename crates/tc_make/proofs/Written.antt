@@ -1,10 +1,9 @@
 -- What was written, one text after the other.
 use Rattle.std.proofs.Common.{◌≡◌, Bool, ◌⊎◌, inl, inr, ℕ, suc, ◌+◌, ◌<◌, List, [], ◌∷◌, ◌++◌, length, Option, Some, None, refl, sym, ap, subst, ◌∙◌, append_assoc, append-nil, arith, length-append}
 use Rattle.std.specs.Prelude.{unwrap_or, codes}
-use Rattle.std.specs.Io.KnownBytes.{Appends}
+use Rattle.tc_make.proofs.Names.{Appends, Parting, Reason, Writes, flat_map-append}
 use Rattle.std.specs.List.{flat_map}
 use Rattle.std.proofs.KnownBytes.{Appends-trans, Appends-nil}
-use Rattle.std.proofs.lemmas.Grind.{flat_map-append}
 use Rattle.tc_packet.specs.PacketFields.{HasFields}
 use Rattle.tc_packet.specs.Bits.{word_at, bits}
 use Rattle.tc_packet.specs.SpacePacket.{apid_of, is_telecommand, packets_of, rest_of}
@@ -12,13 +11,10 @@ use Rattle.tc_packet.specs.declared.packet.Packet.{Packet}
 use Rattle.tc_fecf.specs.FrameWithField.{taking_fault_of}
 use Rattle.tc_fecf.specs.declared.frames.FieldFault.{FieldFault}
 use Rattle.tc_fecf.specs.declared.frames.FieldFault.TheVariants as fields
-use Rattle.tc_lines.specs.Answering.{Writes}
 use Rattle.tc_make.specs.Answer.{OrNoMemory, Unless, IsSentAt, IsStopAt, AreSent, IsPartSaid, IsFramesSaid, IsPartingOf, IsUnitSaid, IsExplained, frames_text, parts_of, field_fault_text}
 use Rattle.tc_make.specs.Printed.{bad_text, named_text, some_text, unit_packets_text, packet_text, held_text, holds_text, whole_text}
 use Rattle.tc_make.specs.declared.ending.Ending.{Ending}
 use Rattle.tc_make.specs.declared.ending.Ending.TheVariants.{ErrorControl}
-use Rattle.tc_make.specs.declared.fault.Reason.{Reason}
-use Rattle.tc_make.specs.declared.parting.Parting.{Parting}
 use Rattle.tc_make.specs.Parting.{parting_reason_of}
 use Rattle.tc_make.specs.declared.line.Sizing.{Sizing}
 use Rattle.tc_make.specs.declared.line.Stream.{Stream}

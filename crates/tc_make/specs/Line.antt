@@ -24,11 +24,12 @@ Words = List (List ℕ)
 abbrev pub Said : Type 0
 Said = Result Line Reason
 
--- what is said by as many words as a form takes
-abbrev pub with_one : Form → Words → (List ℕ → Said) → Said
-with_one form (a ∷ []) says = says a
-with_one form _ says = Err (WordCount form)
+-- the octets that the one word of a form spells
+abbrev pub alone_of : Form → Words → Result (List ℕ) Reason
+alone_of form (word ∷ []) = elim (decode_of word) [ Ok octets ↦ Ok octets | Err fault ↦ Err BadHex ]
+alone_of form _ = Err (WordCount form)
 
+-- what is said by as many words as a form takes
 abbrev pub with_two : Form → Words → (List ℕ → List ℕ → Said) → Said
 with_two form (a ∷ b ∷ []) says = says a b
 with_two form _ says = Err (WordCount form)
@@ -128,16 +129,16 @@ abbrev pub segments_of : Words → Said
 segments_of words = with_six forms.Segments words (λ s v n m z o. after_ok (stream_of s v n) (λ stream. sized_of stream m z o))
 
 abbrev pub explain_of : Words → Said
-explain_of words = with_one forms.Explain words (λ o. with_octets o (λ octets. Ok (Explain octets)))
+explain_of words = after_ok (alone_of forms.Explain words) (λ octets. Ok (Explain octets))
 
 abbrev pub clcw_of : Words → Said
-clcw_of words = with_one forms.Clcw words (λ o. with_octets o (λ octets. Ok (Clcw octets)))
+clcw_of words = after_ok (alone_of forms.Clcw words) (λ octets. Ok (Clcw octets))
 
 abbrev pub cltu_of : Words → Said
-cltu_of words = with_one forms.Cltu words (λ o. with_octets o (λ octets. Ok (Cltu octets)))
+cltu_of words = after_ok (alone_of forms.Cltu words) (λ octets. Ok (Cltu octets))
 
 abbrev pub random_of : Words → Said
-random_of words = with_one forms.Random words (λ o. with_octets o (λ octets. Ok (Random octets)))
+random_of words = after_ok (alone_of forms.Random words) (λ octets. Ok (Random octets))
 
 -- the four octets of a CLCW
 abbrev pub four_of : List ℕ → Result (List ℕ) Reason
@@ -148,7 +149,7 @@ tm_of words = with_four forms.Tm words (λ s v z o. if_number 65535 s (λ scid. 
     after_ok (four_of o) (λ control. Ok (Tm (record { scid = scid; vcid = vcid; size = size; control = control })))))))
 
 abbrev pub telemetry_of : Words → Said
-telemetry_of words = with_one forms.Telemetry words (λ o. with_octets o (λ octets. Ok (Telemetry octets)))
+telemetry_of words = after_ok (alone_of forms.Telemetry words) (λ octets. Ok (Telemetry octets))
 
 abbrev pub mode_word : List ℕ → Result Mode Reason
 mode_word word =

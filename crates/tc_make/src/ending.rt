@@ -32,10 +32,7 @@ impl Ending {
                 Ok(made) => Ok(made),
                 Err(FieldFault::TooLong) => Err(Reason::TooMuchData),
                 Err(FieldFault::NoMemory) => Err(Reason::NoMemory),
-                Err(FieldFault::NoFrame(_)) => unreachable!(),
-                Err(FieldFault::Fill) => unreachable!(),
-                Err(FieldFault::TooShort) => unreachable!(),
-                Err(FieldFault::WrongSum) => unreachable!(),
+                Err(_) => unreachable!(),
             },
         }
     }

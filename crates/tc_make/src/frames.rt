@@ -57,9 +57,7 @@ fn segmented(
     if octets.len() > 1018 {
         return Err(Reason::TooMuchData);
     }
-    let Ok(mut field) = Vec::with_capacity(alloc, octets.len() + 1) else {
-        return Err(Reason::NoMemory);
-    };
+    let mut field = Vec::with_capacity(alloc, octets.len() + 1).map_err(|_| Reason::NoMemory)?;
     field.push(segment_octet(segment)).unwrap();
     field.extend_from_slice(octets).unwrap();
     framed(alloc, header, &field)

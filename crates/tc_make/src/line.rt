@@ -3,7 +3,7 @@
 ghost use Rattle.std.specs.Prelude.{◌≡◌, ◌⊎◌, map, IfOk, IfErr, IsErr, MatchResult};
 ghost use Rattle.hex.specs.Hex.{decode_of};
 ghost use Rattle.tc_lines.specs.Word.{words as words_of};
-ghost use Rattle.tc_make.specs.Line.{maker_line_of, link_line_of, packet_of, ad_of, bd_of, unlock_of, setvr_of, segments_of, explain_of, clcw_of, cltu_of, random_of, tm_of, telemetry_of, decoder_of, piece_of, four_of, mode_word, segment_word, stream_of, sizing_of, framed_of, parted_of, sized_of, ad_header as ad_header_of, bd_header as bd_header_of};
+ghost use Rattle.tc_make.specs.Line.{maker_line_of, link_line_of, packet_of, ad_of, bd_of, unlock_of, setvr_of, segments_of, tm_of, decoder_of, piece_of, four_of, mode_word, segment_word, stream_of, sizing_of, framed_of, parted_of, sized_of, alone_of};
 ghost use Rattle.tc_lines.specs.Word.{is_comment as is_comment_word};
 
 use crate::fault::Reason;
@@ -99,9 +99,7 @@ pub fn parse_line(alloc: Global, octets: &[u8]) -> Result<Line, Reason>
     ensures line { IfOk result (λ line. maker_line_of (words_of octets.now) ≡ Ok line) }
     ensures reason { IfErr result (λ reason. (reason ≡ Reason.NoMemory) ⊎ (maker_line_of (words_of octets.now) ≡ Err reason)) }
 {
-    let Ok(words) = words(alloc, octets) else {
-        return Err(Reason::NoMemory);
-    };
+    let words = words(alloc, octets).map_err(|_| Reason::NoMemory)?;
     let Some((command, arguments)) = words.split_first() else {
         return Ok(Line::Blank);
     };
@@ -120,9 +118,9 @@ pub fn parse_line(alloc: Global, octets: &[u8]) -> Result<Line, Reason>
     } else if *command == b"segments".as_slice() {
         segments(alloc, arguments)
     } else if *command == b"explain".as_slice() {
-        explain(alloc, arguments)
+        Ok(Line::Explain(alone(alloc, Form::Explain, arguments)?))
     } else if *command == b"clcw".as_slice() {
-        clcw(alloc, arguments)
+        Ok(Line::Clcw(alone(alloc, Form::Clcw, arguments)?))
     } else {
         link_line(alloc, command, arguments)
     }
@@ -135,13 +133,13 @@ fn link_line(alloc: Global, command: &[u8], arguments: &[&[u8]]) -> Result<Line,
     ensures reason { IfErr result (λ reason. (reason ≡ Reason.NoMemory) ⊎ (link_line_of command.now (map (λ word. word.now) arguments.now) ≡ Err reason)) }
 {
     if command == b"cltu".as_slice() {
-        cltu(alloc, arguments)
+        Ok(Line::Cltu(alone(alloc, Form::Cltu, arguments)?))
     } else if command == b"random".as_slice() {
-        random(alloc, arguments)
+        Ok(Line::Random(alone(alloc, Form::Random, arguments)?))
     } else if command == b"tm".as_slice() {
         tm(alloc, arguments)
     } else if command == b"telemetry".as_slice() {
-        telemetry(alloc, arguments)
+        Ok(Line::Telemetry(alone(alloc, Form::Telemetry, arguments)?))
     } else if command == b"decoder".as_slice() {
         decoder(arguments)
     } else if command == b"octets".as_slice() {
@@ -189,7 +187,14 @@ fn ad(alloc: Global, words: &[&[u8]]) -> Result<Line, Reason>
     };
     let stream = read_stream(scid, vcid, ns)?;
     let segment = segment(map)?;
-    frame(alloc, ad_header(stream), segment, digits)
+    let header = Header {
+        bypass: false,
+        control: false,
+        scid: stream.scid,
+        vcid: stream.vcid,
+        ns: stream.ns,
+    };
+    frame(alloc, header, segment, digits)
 }
 
 fn bd(alloc: Global, words: &[&[u8]]) -> Result<Line, Reason>
@@ -202,7 +207,14 @@ fn bd(alloc: Global, words: &[&[u8]]) -> Result<Line, Reason>
     let scid = large_number(scid)?;
     let vcid = small_number(vcid)?;
     let segment = segment(map)?;
-    frame(alloc, bd_header(scid, vcid), segment, digits)
+    let header = Header {
+        bypass: true,
+        control: false,
+        scid,
+        vcid,
+        ns: 0,
+    };
+    frame(alloc, header, segment, digits)
 }
 
 fn unlock(words: &[&[u8]]) -> Result<Line, Reason>
@@ -288,54 +300,15 @@ fn parted(alloc: Global, stream: Stream, sizing: Sizing, digits: &[u8]) -> Resul
     })
 }
 
-fn explain(alloc: Global, words: &[&[u8]]) -> Result<Line, Reason>
-    ensures line { IfOk result (λ line. explain_of (map (λ word. word.now) words.now) ≡ Ok line) }
-    ensures reason { IfErr result (λ reason. (reason ≡ Reason.NoMemory) ⊎ (explain_of (map (λ word. word.now) words.now) ≡ Err reason)) }
+// The octets that are the one word of a form.
+fn alone(alloc: Global, form: Form, words: &[&[u8]]) -> Result<Octets, Reason>
+    ensures octets { IfOk result (λ octets. alone_of form (map (λ word. word.now) words.now) ≡ Ok octets) }
+    ensures reason { IfErr result (λ reason. (reason ≡ Reason.NoMemory) ⊎ (alone_of form (map (λ word. word.now) words.now) ≡ Err reason)) }
 {
     let [digits] = words else {
-        return Err(Reason::WordCount(Form::Explain));
+        return Err(Reason::WordCount(form));
     };
-    Ok(Line::Explain(octets(alloc, digits)?))
-}
-
-fn clcw(alloc: Global, words: &[&[u8]]) -> Result<Line, Reason>
-    ensures line { IfOk result (λ line. clcw_of (map (λ word. word.now) words.now) ≡ Ok line) }
-    ensures reason { IfErr result (λ reason. (reason ≡ Reason.NoMemory) ⊎ (clcw_of (map (λ word. word.now) words.now) ≡ Err reason)) }
-{
-    let [digits] = words else {
-        return Err(Reason::WordCount(Form::Clcw));
-    };
-    Ok(Line::Clcw(octets(alloc, digits)?))
-}
-
-fn cltu(alloc: Global, words: &[&[u8]]) -> Result<Line, Reason>
-    ensures line { IfOk result (λ line. cltu_of (map (λ word. word.now) words.now) ≡ Ok line) }
-    ensures reason { IfErr result (λ reason. (reason ≡ Reason.NoMemory) ⊎ (cltu_of (map (λ word. word.now) words.now) ≡ Err reason)) }
-{
-    let [digits] = words else {
-        return Err(Reason::WordCount(Form::Cltu));
-    };
-    Ok(Line::Cltu(octets(alloc, digits)?))
-}
-
-fn random(alloc: Global, words: &[&[u8]]) -> Result<Line, Reason>
-    ensures line { IfOk result (λ line. random_of (map (λ word. word.now) words.now) ≡ Ok line) }
-    ensures reason { IfErr result (λ reason. (reason ≡ Reason.NoMemory) ⊎ (random_of (map (λ word. word.now) words.now) ≡ Err reason)) }
-{
-    let [digits] = words else {
-        return Err(Reason::WordCount(Form::Random));
-    };
-    Ok(Line::Random(octets(alloc, digits)?))
-}
-
-fn telemetry(alloc: Global, words: &[&[u8]]) -> Result<Line, Reason>
-    ensures line { IfOk result (λ line. telemetry_of (map (λ word. word.now) words.now) ≡ Ok line) }
-    ensures reason { IfErr result (λ reason. (reason ≡ Reason.NoMemory) ⊎ (telemetry_of (map (λ word. word.now) words.now) ≡ Err reason)) }
-{
-    let [digits] = words else {
-        return Err(Reason::WordCount(Form::Telemetry));
-    };
-    Ok(Line::Telemetry(octets(alloc, digits)?))
+    octets(alloc, digits)
 }
 
 fn tm(alloc: Global, words: &[&[u8]]) -> Result<Line, Reason>
@@ -377,30 +350,6 @@ fn piece(alloc: Global, words: &[&[u8]]) -> Result<Line, Reason>
         id: small_number(id)?,
         octets: octets(alloc, digits)?,
     })
-}
-
-fn ad_header(stream: Stream) -> Header
-    ensures { result ≡ ad_header_of stream }
-{
-    Header {
-        bypass: false,
-        control: false,
-        scid: stream.scid,
-        vcid: stream.vcid,
-        ns: stream.ns,
-    }
-}
-
-fn bd_header(scid: u16, vcid: u8) -> Header
-    ensures { result ≡ bd_header_of scid vcid }
-{
-    Header {
-        bypass: true,
-        control: false,
-        scid,
-        vcid,
-        ns: 0,
-    }
 }
 
 // The Type-AD frames that three words name.

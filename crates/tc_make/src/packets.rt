@@ -28,9 +28,7 @@ pub fn make_packet(alloc: Global, apid: u16, count: u16, octets: &[u8]) -> Resul
     if octets.len() > 65_536 {
         return Err(Reason::TooMuchData);
     }
-    let Ok(mut packet) = Vec::with_capacity(alloc, octets.len() + 6) else {
-        return Err(Reason::NoMemory);
-    };
+    let mut packet = Vec::with_capacity(alloc, octets.len() + 6).map_err(|_| Reason::NoMemory)?;
     let header = PacketHeader {
         telecommand: true,
         secondary: false,

@@ -1,5 +1,4 @@
-use Rattle.std.proofs.lemmas.Result.{on_ok_weaker}
-use Rattle.tc_make.specs.Answer.{IsEnded}
+use Rattle.tc_make.proofs.Names.{IsEnded, on_ok_weaker}
 use Rattle.tc_make.specs.Frames.{IsMadeFrame}
 use Rattle.tc_make.proofs.Written.{made-on}
 use Rattle.tc_make.proofs.answer.write_frame.Goals as goal

@@ -1,6 +1,4 @@
-use Rattle.std.proofs.Common.{refl}
-use Rattle.std.proofs.lemmas.Result.{on_ok_weaker}
-use Rattle.tc_make.specs.declared.parting.Parting.{Parting}
+use Rattle.tc_make.proofs.Names.{Parting, on_ok_weaker, refl}
 use Rattle.tc_make.proofs.Written.{unit-parted, unit-refused}
 use Rattle.tc_make.proofs.answer.write_segments.Goals as goal
 

@@ -1,6 +1,4 @@
-use Rattle.std.proofs.Common.{◌+◌, ◌<◌, ◌≤◌, ℕ, List, length, drop, subst, ap, ◌∙◌, arith}
-use Rattle.std.specs.Io.KnownBytes.{Appends}
-use Rattle.std.proofs.lemmas.Result.{on_ok_weaker}
+use Rattle.tc_make.proofs.Names.{Appends, List, ap, arith, drop, length, on_ok_weaker, subst, ℕ, ◌+◌, ◌<◌, ◌∙◌, ◌≤◌}
 use Rattle.tc_cltu.specs.Reception.{state_after, corrections_of, rejections_of, corrected_in, rejected_in}
 use Rattle.tc_cltu.proofs.Decoding.{fed-state, fed-counted, fed-all-counted, one-counted}
 use Rattle.tc_make.specs.Decoders.{candidates_text}

@@ -1,6 +1,4 @@
-use Rattle.std.proofs.Common.{[], refl}
-use Rattle.std.proofs.KnownBytes.{Appends-nil}
-use Rattle.std.proofs.lemmas.Result.{on_ok_weaker}
+use Rattle.tc_make.proofs.Names.{Appends-nil, [], on_ok_weaker, refl}
 use Rattle.tc_make.proofs.Written.{packet-on, packets-end}
 use Rattle.tc_make.proofs.explained.write_unit.Goals as goal
 

@@ -1,6 +1,4 @@
-use Rattle.std.proofs.Common.{◌≡◌, ℕ, List, ◌++◌, length}
-use Rattle.std.specs.Io.KnownBytes.{Appends}
-use Rattle.tc_make.specs.Printed.{unit_packets_text}
+use Rattle.tc_make.proofs.Names.{Appends, List, length, unit_packets_text, ℕ, ◌++◌, ◌≡◌}
 use Rattle.tc_make.proofs.explained.write_unit.Given as goal
 
 -- what was written so far, and then what is left

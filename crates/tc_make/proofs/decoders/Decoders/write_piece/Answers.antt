@@ -1,6 +1,5 @@
-use Rattle.std.proofs.Common.{◌<◌, sym, arith}
+use Rattle.tc_make.proofs.Names.{arith, on_ok_weaker, sym, ◌<◌}
 use Rattle.std.proofs.lemmas.Option.{slice_get_read}
-use Rattle.std.proofs.lemmas.Result.{on_ok_weaker}
 use Rattle.tc_make.proofs.Fed.{piece-fed}
 use Rattle.tc_make.proofs.decoders.Decoders.write_piece.Goals as goal
 
