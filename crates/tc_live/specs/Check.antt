@@ -3,7 +3,7 @@ use Rattle.std.specs.Prelude.{◌≡◌, ◌≢◌, ℕ, List, None}
 use Rattle.tc_link.specs.Frame.{IsWhole}
 use Rattle.tc_fecf.specs.FrameWithField.{frame_with_field, taking_fault_of}
 use Rattle.tc_text.specs.declared.line.Line.{Line}
-use Rattle.tc_text.specs.declared.line.Line.TheVariants.{Blank, Channel, Queue, Map, Frame, Release, Take, Unit as TakeUnit, Clcw}
+use Rattle.tc_text.specs.declared.line.Line.TheVariants.{Frame}
 use Rattle.tc_live.specs.declared.check.FrameCheck.{FrameCheck}
 use Rattle.tc_live.specs.declared.check.FrameCheck.TheVariants.{Nothing, ErrorControl}
 
@@ -19,23 +19,8 @@ HasWrongField octets = taking_fault_of octets ≢ None
 abbrev pub IsPassed : FrameCheck → Line → Line → Type 0
 IsPassed Nothing line passed = passed ≡ line
 IsPassed ErrorControl (Frame octets) passed = IsFieldOff octets passed
-IsPassed ErrorControl Blank passed = passed ≡ Blank
-IsPassed ErrorControl (Channel vcid width buffer first segmented) passed = passed ≡ Channel vcid width buffer first segmented
-IsPassed ErrorControl (Queue vcid apid capacity) passed = passed ≡ Queue vcid apid capacity
-IsPassed ErrorControl (Map vcid map_id capacity) passed = passed ≡ Map vcid map_id capacity
-IsPassed ErrorControl (Release vcid) passed = passed ≡ Release vcid
-IsPassed ErrorControl (Take vcid apid) passed = passed ≡ Take vcid apid
-IsPassed ErrorControl (TakeUnit vcid map_id) passed = passed ≡ TakeUnit vcid map_id
-IsPassed ErrorControl (Clcw vcid) passed = passed ≡ Clcw vcid
+IsPassed ErrorControl line passed = passed ≡ line
 
 abbrev pub FailsCheck : FrameCheck → Line → Type 0
-FailsCheck Nothing line = ⊥
 FailsCheck ErrorControl (Frame octets) = HasWrongField octets
-FailsCheck ErrorControl Blank = ⊥
-FailsCheck ErrorControl (Channel vcid width buffer first segmented) = ⊥
-FailsCheck ErrorControl (Queue vcid apid capacity) = ⊥
-FailsCheck ErrorControl (Map vcid map_id capacity) = ⊥
-FailsCheck ErrorControl (Release vcid) = ⊥
-FailsCheck ErrorControl (Take vcid apid) = ⊥
-FailsCheck ErrorControl (TakeUnit vcid map_id) = ⊥
-FailsCheck ErrorControl (Clcw vcid) = ⊥
+FailsCheck _ line = ⊥

@@ -122,9 +122,7 @@ IsBadScript old line reason = (passed : Line) × IsPassed old.check line passed 
 -- why a line is bad, by what it says, memory aside
 abbrev pub IsBadSaying : Receiving → LiveLine → Reason → Type 0
 IsBadSaying old (Script line) reason = IsBadScript old line reason
-IsBadSaying old (LinkOf vcid link) reason = IsBadOperation (phase_of old.stage) reason
-IsBadSaying old (Report vcid) reason = IsBadOperation (phase_of old.stage) reason
-IsBadSaying old (Deliver vcid) reason = IsBadOperation (phase_of old.stage) reason
+IsBadSaying old _ reason = IsBadOperation (phase_of old.stage) reason
 
 abbrev pub IsBadLiveLine : Receiving → List ℕ → Reason → Type 0
 IsBadLiveLine old octets reason =
@@ -132,10 +130,5 @@ IsBadLiveLine old octets reason =
 
 -- a delivery that was begun can be ended, since the channels are in operation
 abbrev pub IsReady : LiveAnswer → Receiving → Type 0
-IsReady told.Nothing receiver = Unit {0}
-IsReady (told.Operation a) receiver = Unit {0}
 IsReady (told.Delivery vcid a) receiver = phase_of receiver.stage ≡ InOperation
-IsReady told.Unchecked receiver = Unit {0}
-IsReady (told.Link vcid link) receiver = Unit {0}
-IsReady (told.Report vcid holding) receiver = Unit {0}
-IsReady told.UnknownChannel receiver = Unit {0}
+IsReady _ receiver = Unit {0}

@@ -29,13 +29,8 @@ IsClosingFault receiver fault = (fault ≡ Write) ⊎ (fault ≡ NoMemory) ⊎ (
 
 -- what follows the answer of a line: of a delivery the answers of what is handed on, of any other line nothing
 abbrev pub IsFollowedBy : LiveAnswer → Receiving → Receiving → List Answer → Type 0
-IsFollowedBy told.Nothing old new answers = (answers ≡ []) × (new ≡ old)
-IsFollowedBy (told.Operation a) old new answers = (answers ≡ []) × (new ≡ old)
 IsFollowedBy (told.Delivery vcid a) old new answers = IsDeliveryDone old vcid new answers
-IsFollowedBy told.Unchecked old new answers = (answers ≡ []) × (new ≡ old)
-IsFollowedBy (told.Link vcid link) old new answers = (answers ≡ []) × (new ≡ old)
-IsFollowedBy (told.Report vcid holding) old new answers = (answers ≡ []) × (new ≡ old)
-IsFollowedBy told.UnknownChannel old new answers = (answers ≡ []) × (new ≡ old)
+IsFollowedBy _ old new answers = (answers ≡ []) × (new ≡ old)
 
 -- an answer is told, and then what follows it
 abbrev pub IsTold : LiveAnswer → Receiving → Receiving → List ℕ → Type 0

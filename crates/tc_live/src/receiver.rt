@@ -190,10 +190,7 @@ impl Receiver {
         ensures kept { IfErr result (λ fault. (fault ≡ ServingFault.Write) ⊎ Keeps (W.contents writer.old) (W.contents writer.new)) }
     {
         let channels = self.into_channels(alloc)?;
-        match write_report(&channels, writer) {
-            Ok(()) => Ok(()),
-            Err(_) => Err(ServingFault::Write),
-        }
+        write_report(&channels, writer).map_err(|_| ServingFault::Write)
     }
 
     // The channels in rising order of their ids, as an operation would find them.
@@ -204,9 +201,9 @@ impl Receiver {
         ensures fault { IfErr result (IsClosingFault self) }
     {
         let rack = self.into_rack(alloc)?;
-        let Ok(mut channels) = rack.into_channels(alloc) else {
-            return Err(ServingFault::NoMemory);
-        };
+        let mut channels = rack
+            .into_channels(alloc)
+            .map_err(|_| ServingFault::NoMemory)?;
         channels.sort_unstable_by_key(|channel| channel.settings().vcid);
         if are_told(&channels) {
             Ok(channels)
@@ -226,10 +223,9 @@ impl Receiver {
         } = self;
         match stage {
             Stage::Operating(rack) => Ok(rack),
-            Stage::SettingUp(list) => match Rack::new(alloc, scid, list) {
-                Ok(rack) => Ok(rack),
-                Err(_) => Err(ServingFault::NoMemory),
-            },
+            Stage::SettingUp(list) => {
+                Rack::new(alloc, scid, list).map_err(|_| ServingFault::NoMemory)
+            }
         }
     }
 }
