@@ -6,5 +6,5 @@ pub use Rattle.std.specs.Box.{boxed_slice_items}
 pub use Rattle.tc_packet.specs.Runs.{next_run}
 pub use Rattle.tc_packet.specs.declared.segment.Part.{Part}
 pub use Rattle.tc_rooms.specs.OpenRun.{open_in}
-pub use Rattle.tc_rooms.specs.Rooms.{AreSlots, Laid, laid, turned}
+pub use Rattle.tc_rooms.specs.Rooms.{AreSlots, Laid, laid}
 pub use Rattle.tc_rooms.specs.Runs.{IsAtMost, LeaveWithin, Store, sizes_of}

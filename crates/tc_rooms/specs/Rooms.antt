@@ -1,5 +1,5 @@
 -- What a contract sees of rooms: what lies in them, and how large they are.
-use Rattle.std.specs.Prelude.{◌≡◌, ◌≤◌, ◌<◌, ◌+◌, ◌++◌, ◌∷◌, [], ℕ, Bool, true, false, List, length, map, take, drop}
+use Rattle.std.specs.Prelude.{◌≡◌, ◌≤◌, ◌<◌, ◌+◌, ◌^◌, ◌++◌, ◌∷◌, [], ℕ, Bool, true, false, List, length, map, take, drop}
 use Rattle.std.specs.List.{AllByRecursion}
 use Rattle.circular_buffer.specs.Buffer.{Buffer, buffer}
 
@@ -30,18 +30,20 @@ slotted items capacity behind size = record { ring = buffer items capacity; laid
 abbrev pub HaveSize : ℕ → List Laid → Type 0
 HaveSize size rooms = AllByRecursion (λ (r : Laid). r.size ≡ size) rooms
 
--- rooms in a ring, from the first one that is taken
-abbrev pub turned : ℕ → List Laid → List Laid
-turned first rooms = drop first rooms ++ take first rooms
+-- a ring with a room at each of its places
+pub record IsFull (capacity : ℕ) (rooms : List Laid) : Type 0 where
+  pub full : length rooms ≡ capacity
+  pub small : capacity < 2 ^ 63
 
--- so many rooms in a ring: from the first one on some are taken by items that wait, and some by items that are laid behind them
-pub record AreSlots (places first waiting count size : ℕ) (rooms : List Laid) : Type 0 where
-  pub inside : 0 < places → first < places
+-- so many rooms: the first ones are taken by items that wait, and the next by items that are laid behind them
+pub record AreSlots (places waiting count size : ℕ) (rooms : List Laid) : Type 0 where
+  pub full : length rooms ≡ places
+  pub small : places < 2 ^ 63
   pub within : waiting + count ≤ places
   pub sizes : HaveSize size rooms
 
-abbrev pub seen : ℕ → ℕ → ℕ → ℕ → ℕ → List Laid → Slotted
-seen places first waiting count size rooms = slotted (map octets_of (take waiting (turned first rooms))) places (map octets_of (take count (drop waiting (turned first rooms)))) size
+abbrev pub seen : ℕ → ℕ → ℕ → ℕ → List Laid → Slotted
+seen places waiting count size rooms = slotted (map octets_of (take waiting rooms)) places (map octets_of (take count (drop waiting rooms))) size
 
 -- an item is laid behind the others, or there is no place for it
 pub record IsLaidBehind (octets : List ℕ) (old new : Slotted) (place : Bool) : Type 0 where

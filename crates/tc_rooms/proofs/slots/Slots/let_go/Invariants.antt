@@ -1,5 +1,5 @@
-use Rattle.std.proofs.Common.{◌≡◌, length, map, take}
-use Rattle.tc_rooms.proofs.Names.{AreSlots, boxed_slice_items, turned}
+use Rattle.std.proofs.Common.{◌≡◌, length, take}
+use Rattle.tc_rooms.proofs.Names.{AreSlots}
 use Rattle.tc_rooms.proofs.slots.Slots.let_go.Given as goal
 
 -- what waits stays
@@ -8,12 +8,11 @@ invariant-loop-self g l =
     let s = l.self-inside in
     let old = l.initial.self-inside in
     record {
-      slots : AreSlots (length (boxed_slice_items s.rooms)) s.first s.waiting s.laid s.size (map g.R.Room.held (boxed_slice_items s.rooms));
-      places : length (boxed_slice_items s.rooms) ≡ length (boxed_slice_items old.rooms);
-      first : s.first ≡ old.first;
+      slots : AreSlots (length s.ring) s.waiting s.laid s.size s.ring;
+      places : length s.ring ≡ length old.ring;
       waiting : s.waiting ≡ old.waiting;
       size : s.size ≡ old.size;
-      items : take s.waiting (turned s.first (map g.R.Room.held (boxed_slice_items s.rooms))) ≡ take s.waiting (turned s.first (map g.R.Room.held (boxed_slice_items old.rooms)));
+      items : take s.waiting s.ring ≡ take s.waiting old.ring;
     }
 
 abbrev pub decreases-loop-self : goal.decreases-loop-self

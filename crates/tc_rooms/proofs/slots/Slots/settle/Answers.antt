@@ -1,9 +1,8 @@
-use Rattle.std.proofs.Common.{length, map}
-use Rattle.std.specs.Box.{boxed_slice_items}
-use Rattle.tc_rooms.proofs.Turned.{settled-seen}
+use Rattle.std.proofs.Common.{length}
+use Rattle.tc_rooms.proofs.Waiting.{settled-seen}
 use Rattle.tc_rooms.proofs.slots.Slots.settle.Goals as goal
 
 pub returns : goal.returns
 returns g c =
     let i = c.self.inside in
-    rw (← c.self.view_is) (settled-seen (length (boxed_slice_items i.rooms)) i.first i.waiting i.laid i.size (map g.R.Room.held (boxed_slice_items i.rooms)))
+    rw (← c.self.view_is) (settled-seen (length i.ring) i.waiting i.laid i.size i.ring)

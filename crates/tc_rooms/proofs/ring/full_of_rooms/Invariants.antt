@@ -1,11 +1,11 @@
-use Rattle.std.proofs.Common.{◌≡◌, ◌≤◌, length, map}
+use Rattle.std.proofs.Common.{◌≡◌, length, map}
 use Rattle.tc_rooms.specs.Rooms.{HaveSize}
-use Rattle.tc_rooms.proofs.slots.empty_rooms.Given as goal
+use Rattle.tc_rooms.proofs.ring.full_of_rooms.Given as goal
 
 -- so many rooms are made
 abbrev pub invariant-loop : goal.invariant-loop
 invariant-loop g l = record {
   count : length l.rooms.items ≡ l.counter;
-  room : l.count ≤ l.rooms.cap;
+  room : l.rooms.capacity ≡ l.count;
   sizes : HaveSize l.size (map g.R.Room.held l.rooms.items);
 }

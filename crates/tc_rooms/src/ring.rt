@@ -1,0 +1,170 @@
+//! Rooms of one size in a ring that is always full, of which the first one goes to the back when its item goes.
+
+ghost use Rattle.std.specs.Prelude.{◌≡◌, ◌≤◌, ◌<◌, ◌^◌, ◌++◌, ◌∷◌, [], length, map, drop, set, false, Some, IfOk, IsOk, OnOk, OnErr, slice_get};
+ghost use Rattle.circular_buffer.specs.Buffer.{buffer};
+ghost use Rattle.tc_rooms.specs.Rooms.{held_room, laid, HaveSize};
+
+use crate::room::{GrowingRoom, Room};
+use circular_buffer::HeapCircularBuffer;
+use std::alloc::{AllocError, Global};
+use std::marker::Model;
+
+/// Rooms, the front one first. A `HeapCircularBuffer` can be asked to grow, by `resize` and by its allocator: none of the calls here
+/// does so but `with_rooms`, which makes it, and none gives it out.
+#[derive(Drop)]
+pub struct Ring<R: Room> {
+    rooms: HeapCircularBuffer<R>,
+}
+
+impl<R: Room> Model for Ring<R> {
+    ghost use Rattle.std.specs.Prelude.{List, map};
+    ghost use Rattle.tc_rooms.specs.Rooms.{Laid, IsFull};
+
+    ghost Value = { List Laid };
+
+    ghost view = { λ r. map R.held r.rooms.items };
+
+    ghost invariant = { λ r. IsFull r.rooms.capacity (map R.held r.rooms.items) };
+}
+
+// Puts a room behind the others, where one is missing.
+#[inline(always)]
+fn put_back<R: Room>(rooms: &mut HeapCircularBuffer<R>, room: R)
+    requires { length rooms.old.items < rooms.old.capacity }
+    ensures { rooms.new ≡ buffer (rooms.old.items ++ room ∷ []) rooms.old.capacity }
+{
+    match rooms.try_push_back(room) {
+        Ok(()) => {}
+        Err(_room) => unreachable!(),
+    }
+}
+
+// Takes the first room out.
+#[inline(always)]
+fn take_first<R: Room>(rooms: &mut HeapCircularBuffer<R>) -> R
+    requires { 0 < length rooms.old.items }
+    ensures room { rooms.old.items ≡ result ∷ drop 1 rooms.old.items }
+    ensures rest { rooms.new ≡ buffer (drop 1 rooms.old.items) rooms.old.capacity }
+{
+    match rooms.pop_front() {
+        Some(room) => room,
+        None => unreachable!(),
+    }
+}
+
+// So many rooms of one size.
+fn full_of_rooms<R: Room>(
+    alloc: Global,
+    count: usize,
+    size: usize,
+) -> Result<HeapCircularBuffer<R>, AllocError>
+    ensures capacity { IfOk result (λ b. b.capacity ≡ count) }
+    ensures full { IfOk result (λ b. length b.items ≡ count) }
+    ensures small { IfOk result (λ b. b.capacity < 2 ^ 63) }
+    ensures sizes { IfOk result (λ b. HaveSize size (map R.held b.items)) }
+{
+    let mut rooms = HeapCircularBuffer::with_capacity(alloc, count)?;
+    for _ in 0..count {
+        let room: R = Room::with_size(alloc, size)?;
+        put_back(&mut rooms, room);
+    }
+    let _places = rooms.capacity();
+    Ok(rooms)
+}
+
+impl<R: Room> Ring<R> {
+    /// So many rooms of one size.
+    pub(crate) fn with_rooms(
+        alloc: Global,
+        count: usize,
+        size: usize,
+    ) -> Result<Ring<R>, AllocError>
+        ensures count { IfOk result (λ r. length r ≡ count) }
+        ensures sizes { IfOk result (λ r. HaveSize size r) }
+    {
+        let rooms = full_of_rooms(alloc, count, size)?;
+        Ok(Ring { rooms })
+    }
+
+    /// How many rooms there are.
+    #[inline(always)]
+    pub(crate) fn len(&self) -> usize
+        ensures len { result ≡ length self.now }
+        ensures small { result < 2 ^ 63 }
+    {
+        self.rooms.len()
+    }
+
+    /// The first room, lent.
+    #[inline(always)]
+    pub(crate) fn first(&self) -> &R
+        requires { 0 < length self.now }
+        ensures { Some (R.held result.now) ≡ slice_get self.now 0 }
+    {
+        match self.rooms.front() {
+            Some(room) => room,
+            None => unreachable!(),
+        }
+    }
+
+    /// Copies octets into the room at this place.
+    #[inline(always)]
+    pub(crate) fn fill(
+        &mut self,
+        place: usize,
+        size: usize,
+        octets: &[u8],
+    ) -> Result<(), AllocError>
+        requires place { place < length self.old }
+        requires sizes { HaveSize size self.old }
+        requires fits { length octets.now ≤ size }
+        ensures filled { OnOk result (self.new ≡ set self.old place (laid octets.now size)) }
+        ensures refused { OnErr result (self.new ≡ self.old) }
+        ensures answered { R.grows ≡ false → IsOk result }
+    {
+        match self.rooms.get_mut(place) {
+            Some(room) => room.fill(octets),
+            None => unreachable!(),
+        }
+    }
+
+    /// The room at this place has no octets in use.
+    pub(crate) fn clear(&mut self, place: usize, size: usize)
+        requires place { place < length self.old }
+        requires sizes { HaveSize size self.old }
+        ensures { self.new ≡ set self.old place (laid [] size) }
+    {
+        match self.rooms.get_mut(place) {
+            Some(room) => room.clear(),
+            None => unreachable!(),
+        }
+    }
+
+    /// The first room has no octets in use, and goes to the back.
+    #[inline(always)]
+    pub(crate) fn turn(&mut self, size: usize)
+        requires some { 0 < length self.old }
+        requires sizes { HaveSize size self.old }
+        ensures { self.new ≡ drop 1 self.old ++ laid [] size ∷ [] }
+    {
+        let mut room = take_first(&mut self.rooms);
+        room.clear();
+        put_back(&mut self.rooms, room);
+    }
+}
+
+impl Ring<GrowingRoom> {
+    /// Takes the octets out of the first room, in their block, and has it go to the back.
+    #[inline(always)]
+    pub(crate) fn turn_out(&mut self, size: usize) -> Vec<u8>
+        requires some { 0 < length self.old }
+        requires sizes { HaveSize size self.old }
+        ensures octets { Some (laid result.items size) ≡ slice_get self.old 0 }
+        ensures turned { self.new ≡ drop 1 self.old ++ laid [] size ∷ [] }
+    {
+        let mut room = take_first(&mut self.rooms);
+        let block = room.take_block();
+        put_back(&mut self.rooms, room);
+        block
+    }
+}
