@@ -36,3 +36,4 @@ pub mod Tables
 pub mod Laid
 pub mod Counts
 pub mod Closing
+pub mod Acknowledged

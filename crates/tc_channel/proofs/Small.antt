@@ -70,7 +70,7 @@ step-counter c b (Frame octets) h = counter-below (row_of c b octets) b.report.s
 step-counter c b Release h = counter-below E10 b.report.state b.report h
 step-counter c b _ h = h
 
-run-counter : (limits : ℕ → ℕ) (c : Settings) (journal : List Event) → (run_within limits c journal).report.farm_b < 4
+pub run-counter : (limits : ℕ → ℕ) (c : Settings) (journal : List Event) → (run_within limits c journal).report.farm_b < 4
 run-counter limits c journal = always (λ b. b.report.farm_b < 4) limits c journal (step-counter c) (omega arith)
 
 bit-most : (b : Bool) → bit b ≤ 1

@@ -1,16 +1,21 @@
 //! Laws on what leaves a channel: it is what came in, in order.
 #![tactic(auto, using(crate::proofs::Closing::flow))]
 
-ghost use Rattle.std.specs.Prelude.{◌≡◌, ◌≤◌, ◌∷◌, ℕ, true, List, [], Some, length, map, take};
+ghost use Rattle.std.specs.Prelude.{◌≡◌, ◌≤◌, ◌∷◌, ◌+◌, ◌%◌, ℕ, true, List, [], Some, length, map, take};
+ghost use Rattle.tc_link.specs.declared.Link.{Link};
+ghost use Rattle.tc_link.specs.Clcw.{fields_of};
+ghost use Rattle.tc_channel.specs.Settings.{IsAllowed};
 ghost use Rattle.tc_packet.specs.declared.Service.{Service};
 ghost use Rattle.tc_channel.specs.declared.settings.Settings.{Settings};
 ghost use Rattle.tc_channel.specs.declared.event.Event.{Event};
 ghost use Rattle.tc_channel.specs.ChannelState.{Accepted, Queue, first_state_within, no_limits, queue_of};
 ghost use Rattle.tc_channel.specs.Examples as example;
 ghost use Rattle.tc_channel.specs.Run.{run_within, IsLawfulWithin};
-ghost use Rattle.tc_channel.specs.Reply.{take_reply_within, unit_reply_within};
+ghost use Rattle.tc_channel.specs.Reply.{clcw_within, take_reply_within, unit_reply_within};
 ghost use Rattle.tc_channel.specs.Given.{oldest_in, packets_given, units_given, fields_passed};
-ghost use Rattle.tc_channel.specs.Era.{IsEraWithin, ComesFromWithin};
+ghost use Rattle.tc_channel.specs.Era.{IsEraWithin, ComesFromWithin, accepted_since_within};
+
+use tc_link::a_written_clcw_reads_back;
 ghost use Rattle.tc_channel.specs.Account.{Share, AccountFor};
 ghost use Rattle.tc_channel.specs.Through.{IsPartOf, packets_made, units_made, sent_from, passed_since, released_since};
 
@@ -85,3 +90,12 @@ pub fn passed_fields_make_so()
     ensures not_cut { packets_made no_limits example.map_3_chosen 5 (example.in_two_segments Service.Ad Service.Ad) ≡ [] }
     ensures plain_field { packets_made no_limits example.plain 5 (record { service = Service.Bd; field = example.joined_packet } ∷ []) ≡ example.joined_packet ∷ [] }
 {}
+
+/// What a CLCW tells the sender: its report value is the number with which the era began, and one more for each Type-AD frame that was
+/// accepted since, modulo 256.
+pub fn a_clcw_tells_how_many_were_accepted()
+    ensures { (limits : ℕ → ℕ) (s : Settings) (journal before later : List Event) (x : ℕ) (link : Link) → IsAllowed s → IsLawfulWithin limits s journal → IsEraWithin limits s journal before later x
+        → (fields_of (clcw_within limits s journal link)).vr ≡ (x + length (accepted_since_within limits s before journal)) % 256 }
+{
+    a_written_clcw_reads_back();
+}

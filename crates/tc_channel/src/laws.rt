@@ -15,9 +15,10 @@ ghost use Rattle.tc_channel.specs.declared.settings.Settings.{Settings};
 ghost use Rattle.tc_channel.specs.declared.event.Event.{Event};
 ghost use Rattle.tc_channel.specs.declared.settings.SettingsFault.{SettingsFault};
 ghost use Rattle.tc_channel.specs.Settings.{IsAllowed, IsFault};
-ghost use Rattle.tc_channel.specs.Run.{run, run_within, run_from, unit_of, passed_on, HasStep, IsLawfulWithin, AreSteps};
+ghost use Rattle.tc_channel.specs.Run.{field_of, run, run_within, run_from, unit_of, passed_on, HasStep, IsLawfulWithin, AreSteps};
 ghost use Rattle.tc_channel.specs.Laws.{IsSound, KeepsToItsCapacity, Grows, IsOfChosenMap, with_unit};
-ghost use Rattle.tc_channel.specs.Era.{IsEraWithin, CountsUpInItsEraWithin, ComesFromWithin, accepted_since_within};
+ghost use Rattle.tc_channel.specs.Examples as example;
+ghost use Rattle.tc_channel.specs.Era.{IsSent, IsEraWithin, CountsUpInItsEraWithin, ComesFromWithin, accepted_since_within};
 ghost use Rattle.tc_channel.specs.declared.settings.QueueSetting.{QueueSetting};
 ghost use Rattle.tc_channel.specs.declared.settings.MapSetting.{MapSetting};
 
@@ -139,4 +140,12 @@ pub fn a_unit_beyond_the_limit_of_its_map_is_none()
         ↔ ((unit_ended (run_within limits s journal).segmented (stream service (map_of field) (run_within limits s journal).passed) field ≡ Some octets) × (length octets ≤ limits (map_of field))) }
     ensures without { (s : Settings) (journal : List Event) (service : Service) (field : List ℕ)
         → unit_of (run s journal) service field ≡ unit_ended (run s journal).segmented (stream service (map_of field) (run s journal).passed) field }
+{}
+
+/// Frames of a sender that numbers from 0 on, worked out by hand: one that was accepted comes once more, also much later, and one comes
+/// behind two that got lost.
+pub fn a_sender_s_frames_may_come_so()
+    ensures repeated { IsSent 0 (λ i. field_of (example.packet_octets 0)) 1 (example.packet_octets 0) }
+    ensures late { IsSent 0 (λ i. field_of (example.packet_octets 0)) 255 (example.packet_octets 0) }
+    ensures behind_lost_ones { IsSent 0 (λ i. field_of (example.packet_octets 0)) 0 (example.packet_octets 2) }
 {}

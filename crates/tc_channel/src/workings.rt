@@ -146,6 +146,7 @@ impl<R: Room> Workings<R> {
         ensures bypass { OnErr result (IsBypassData frame.now) }
         ensures answered { R.grows ≡ false → IsOk result }
         ensures cost { steps.new ≤ steps.old + most_steps (length self.old.queues) (length self.old.units) }
+        ensures quiet { (IsBypassData frame.now → ⊥) → steps.new ≡ steps.old }
     {
         each_arrival_has_an_entry();
         let kind = kind(frame);
@@ -404,6 +405,7 @@ fn pass_bypass<R: Room, L: Ledger>(
     ensures units_settled { AreSettled units.new }
     ensures answered { R.grows ≡ false → IsOk result }
     ensures cost { steps.new ≤ steps.old + most_steps (length queues.old) (length units.old) }
+    ensures quiet { (kind ≡ Kind.Bd → ⊥) → steps.new ≡ steps.old }
 {
     match kind {
         Kind::Bd => pass(runs, queues, units, Service::Bd, field, steps),

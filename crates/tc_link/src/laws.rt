@@ -1,6 +1,6 @@
 //! Laws over the definitions of this layer.
 
-ghost use Rattle.std.specs.Prelude.{◌≡◌, ◌≢◌, ◌⊎◌, ◌<◌, ◌≤◌, ◌+◌, ◌%◌, ◌^◌, ◌++◌, ◌↔◌, ℕ, Bool, List, None, false, IsSome, IsTrue};
+ghost use Rattle.std.specs.Prelude.{◌≡◌, ◌≢◌, ◌⊎◌, ◌<◌, ◌≤◌, ◌+◌, ◌%◌, ◌^◌, ◌++◌, ◌↔◌, ℕ, Bool, List, None, true, false, IsSome, IsTrue};
 ghost use Rattle.tc_link.specs.declared.frame.Header.{Header};
 ghost use Rattle.tc_link.specs.declared.command.Kind.{Kind};
 ghost use Rattle.tc_link.specs.declared.farm.Report.{Report};
@@ -8,7 +8,7 @@ ghost use Rattle.tc_link.specs.declared.farm.State.TheVariants.{S1, S2, S3};
 ghost use Rattle.tc_link.specs.declared.clcw.Link.{Link};
 ghost use Rattle.tc_link.specs.Frame.{IsFrame, IsHeader, IsField, IsOctets, IsWhole, BeginsWith, write_fault_of};
 ghost use Rattle.tc_link.specs.Window.{some_of_first};
-ghost use Rattle.tc_link.specs.Farm.{Row, E1, E8, E10, entry, frame_row, after};
+ghost use Rattle.tc_link.specs.Farm.{Row, E1, E7, E8, E10, entry, frame_row, after};
 ghost use Rattle.tc_link.specs.Clcw.{IsClcw, word_of, fields_of, reported};
 
 /// No octets begin with two different frames.
@@ -60,4 +60,10 @@ pub fn a_written_clcw_reads_back()
     ensures fits { (r : Report) (vcid : ℕ) (link : Link) → vcid < 64 → r.farm_b < 4 → r.vr < 256 → word_of r vcid link < 2 ^ 32 }
     ensures clcw { (r : Report) (vcid : ℕ) (link : Link) → vcid < 64 → r.farm_b < 4 → r.vr < 256 → IsClcw (word_of r vcid link) }
     ensures fields { (r : Report) (vcid : ℕ) (link : Link) → vcid < 64 → r.farm_b < 4 → r.vr < 256 → fields_of (word_of r vcid link) ≡ reported r vcid link }
+{}
+
+/// Whatever state FARM-1 is in, an Unlock and then a Set V(R) to x lead to S1 with V(R) x and no flag set.
+pub fn unlock_and_set_v_r_open_it_again()
+    ensures { (r : Report) (x : ℕ) → (r.lockout ≡ true → r.state ≡ S3) → (r.wait ≡ true → r.state ≢ S1)
+        → after (E8 x) (after E7 r) ≡ record { state = S1; vr = x; lockout = false; wait = false; retransmit = false; farm_b = ((r.farm_b + 1) % 4 + 1) % 4 } }
 {}
