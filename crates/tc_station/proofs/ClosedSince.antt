@@ -9,7 +9,7 @@ use Rattle.tc_channel.specs.Reply.{clcw}
 use Rattle.tc_link.specs.declared.Link.{Link}
 use Rattle.tc_station.specs.Through.{IsClosedSince, IsItsLast, IsWordRead, IsShownIn}
 
-set-there : (desks : List AtLock) (place : ℕ) (d next : AtLock) → slice_get desks place ≡ Some d → slice_get (slice_set desks place next) place ≡ Some next
+pub set-there : (desks : List AtLock) (place : ℕ) (d next : AtLock) → slice_get desks place ≡ Some d → slice_get (slice_set desks place next) place ≡ Some next
 set-there desks place d next at =
     let inside : place < length (slice_set desks place next) = omega (arith, slice_get_within desks place d at, length-set desks place next) in
     slice_get-get_or (slice_set desks place next) place next inside ∙ ap (λ (x : AtLock). Some x) (get_or-set_same desks place next next (slice_get_within desks place d at))

@@ -9,3 +9,4 @@ pub mod Ordered
 pub mod ClosedSince
 pub mod Meetings
 pub mod VcidTable
+pub mod Used

@@ -1,7 +1,15 @@
 //! From a sender to packets, over any threads.
 
 ghost use Rattle.std.specs.Global.{Vec};
-ghost use Rattle.std.specs.Prelude.{◌≡◌, ◌≢◌, ◌≤◌, ℕ, Bool, List, [], Some, Ok, length, slice_get};
+ghost use Rattle.std.specs.Prelude.{◌≡◌, ◌≢◌, ◌≤◌, ℕ, Bool, List, [], Some, Ok, Result, length, slice_get, take};
+ghost use Rattle.tc_link.specs.Frame.{BeginsWith};
+ghost use Rattle.tc_station.specs.Tally.{IsOurs, KnowsDesks};
+ghost use Rattle.tc_desk.specs.Log.{Moment};
+ghost use Rattle.tc_station.specs.declared.faults.BringFault.{BringFault};
+ghost use Rattle.tc_station.specs.declared.faults.ReleaseRefused.{ReleaseRefused};
+ghost use Rattle.tc_station.specs.declared.faults.TakeRefused.{TakeRefused};
+ghost use Rattle.tc_station.specs.declared.faults.ReleaseRefused.TheVariants as ReleaseRefused;
+ghost use Rattle.tc_station.specs.declared.faults.TakeRefused.TheVariants as TakeRefused;
 ghost use Rattle.logged_lock.specs.Log.{IsMergeOf};
 ghost use Rattle.tc_channel.specs.declared.event.Event.{Event};
 ghost use Rattle.tc_channel.specs.declared.reply.Delivery.{Delivery};
@@ -17,8 +25,9 @@ ghost use Rattle.tc_desk.specs.Log.{accounts_of};
 ghost use Rattle.tc_desk.specs.Together.{column};
 ghost use Rattle.tc_station.specs.declared.station.Brought.{Brought};
 ghost use Rattle.tc_status.specs.Board.{Watching};
+ghost use Rattle.tc_status.specs.Board as board;
 ghost use Rattle.tc_link.specs.declared.Link.{Link};
-ghost use Rattle.tc_station.specs.Call.{IsCallAt, IsMetAt, IsReplied, IsNotBrought, IsNotReleased, IsNotTaken, IsUnitNotTaken};
+ghost use Rattle.tc_station.specs.Call.{IsBringCall, IsCallAt, IsCallOn, IsMetAt, IsReplied, IsNotBrought, IsNotReleased, IsNotTaken, IsUnitNotTaken};
 ghost use Rattle.tc_station.specs.Roster.{Roster};
 ghost use Rattle.tc_station.specs.Tally.{AtStation};
 ghost use Rattle.tc_station.specs.Through.{IsAnsweredIn, IsClosedSince, IsWordRead, IsShownIn};
@@ -83,3 +92,32 @@ pub fn from_a_sender_to_packets()
     what_was_passed_on_is_admitted_in_order();
     what_was_sent_is_given_in_order();
 }
+
+/// A frame that an operator brought stands in the journal of its channel once its station is closed together with that operator, and was
+/// answered as the model answers there. The premises are just what `bring` and `close_together` promise.
+pub fn a_frame_that_was_brought_stands_in_the_closed_journal()
+    ensures { (station : Roster) (octets : List ℕ) (grows : Bool) (before after : AtStation) (brought : Brought) (operators : List AtStation) (closed : List History) (number : ℕ)
+        → IsOurs station before → IsBringCall station octets IsReplied (IsNotBrought grows) before (Ok brought) after
+        → slice_get operators number ≡ Some after → AreClosedTogether station operators closed
+        → (place n : ℕ) × (frame : List ℕ) × (channel : History) × (slice_get closed place ≡ Some channel) × BeginsWith octets frame
+        × (slice_get channel.journal n ≡ Some (Event.Frame frame)) × (brought.reply ≡ frame_reply channel.settings (take n channel.journal) frame) }
+{
+    each_event_stands_at_its_place();
+}
+
+/// After a call an operator knows the settings and the boards of its desks as before.
+pub fn an_operator_goes_on_knowing_its_desks()
+    ensures brings { (station : Roster) (octets : List ℕ) (grows : Bool) (before after : AtStation) (r : Result Brought BringFault)
+        → IsBringCall station octets IsReplied (IsNotBrought grows) before r after → KnowsDesks station before → KnowsDesks station after }
+    ensures releases { (station : Roster) (vcid : ℕ) (before after : AtStation) (r : Result Delivery ReleaseRefused)
+        → IsCallOn station vcid Event.Release at_desk.IsReleased IsNotReleased ReleaseRefused.UnknownChannel before r after → KnowsDesks station before → KnowsDesks station after }
+    ensures takes { (station : Roster) (vcid apid : ℕ) (grows : Bool) (before after : AtStation) (r : Result (Vec ℕ) TakeRefused)
+        → IsCallOn station vcid (Event.Take apid) (λ m p. at_desk.IsOldestPacket apid m p.items) (IsNotTaken grows apid) TakeRefused.UnknownChannel before r after → KnowsDesks station before → KnowsDesks station after }
+{}
+
+/// Each CLCW that a watcher read before it met its channel is that of a place in the closed journal, however often it read in between.
+pub fn each_word_read_before_a_meeting_is_of_the_closed_journal()
+    ensures { (station : Roster) (place vcid : ℕ) (link : Link) (early mid late met : Watching) (word : ℕ) (before after : AtStation) (channel : History)
+        → IsWordRead link early word mid → board.IsEarlier mid.seen late.seen → IsMetAt place vcid late before met after → IsClosedSince station place after channel
+        → IsShownIn channel early link word }
+{}
