@@ -53,5 +53,5 @@ pub use Rattle.tc_packet.specs.declared.Service.{Service}
 pub use Rattle.tc_packet.specs.declared.Service.TheVariants.{Ad, Bd}
 pub use Rattle.tc_packet.specs.declared.segment.Part.{Part}
 pub use Rattle.tc_rooms.specs.Rooms.{Slotted, slotted}
-pub use Rattle.tc_rooms.specs.Runs.{IsAtMost, Store, limit_at, open_runs}
+pub use Rattle.tc_packet.specs.Store.{IsAtMost, Store, limit_at, open_runs}
 pub use mathlib.Core.List.{map-map}

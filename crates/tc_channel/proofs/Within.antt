@@ -1,9 +1,9 @@
 -- What is said of a stream by the limit of its room, said by the limit of its MAP.
 use Rattle.tc_channel.proofs.Names.{◌≡◌, ℕ, List, [], ◌∷◌, ◌++◌, Option, subst, ◌∙◌, arith, Kind, Service, Bd, OpenRuns, at_most, run_at, run_left, stream_place, map_of, FollowsWithin, FollowsKindWithin, EndsWithin, EndsAtOnceWithin, Store, limit_at, open_runs}
 use Rattle.tc_channel.specs.Workings.{HaveLimits}
-use Rattle.tc_rooms.proofs.Rooms.{settled-limits, settled-segmented, settled-others}
-use Rattle.tc_rooms.specs.Runs.{LeaveWithin, settled}
-use Rattle.tc_rooms.specs.declared.runs.Ended.{Ended}
+use Rattle.tc_packet.proofs.Stores.{settled-limits, settled-segmented, settled-others}
+use Rattle.tc_packet.specs.Store.{LeaveWithin, settled}
+use Rattle.tc_packet.specs.declared.runs.Ended.{Ended}
 
 limit-is : (limits : ℕ → ℕ) (store : Store) (service : Service) (field : List ℕ) → HaveLimits limits store → limit_at store (stream_place service field) ≡ limits (map_of field)
 limit-is limits store service field have = have service (map_of field) (omega arith)

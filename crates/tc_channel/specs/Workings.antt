@@ -5,7 +5,7 @@ use Rattle.tc_link.specs.Farm.{Machine}
 use Rattle.tc_packet.specs.declared.Service.{Service}
 use Rattle.tc_packet.specs.Reassembly.{largest_unit, place_of, stream_count}
 use Rattle.tc_rooms.specs.Rooms.{Slotted}
-use Rattle.tc_rooms.specs.Runs.{Store, open_runs, limit_at}
+use Rattle.tc_packet.specs.Store.{Store, open_runs, limit_at}
 use Rattle.tc_channel.specs.declared.settings.Settings.{Settings}
 use Rattle.tc_channel.specs.declared.event.Event.{Event}
 use Rattle.tc_channel.specs.Channel.{Inside, HoldsWithin}

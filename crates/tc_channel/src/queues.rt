@@ -4,8 +4,8 @@ ghost use Rattle.std.specs.Prelude.{ℕ, List, ◌≡◌, ◌≤◌, ◌↔◌, 
 ghost use Rattle.std.specs.Option.{option_copied};
 ghost use Rattle.tc_packet.specs.SpacePacket.{packets_of};
 ghost use Rattle.tc_channel.specs.HeldQueues.{keys_of, AreDistinct, queue_for, popped, HeldQueue, oldest_for};
-ghost use Rattle.tc_rooms.specs.declared.runs.Ended.TheVariants as Ended;
-ghost use Rattle.tc_rooms.specs.Runs.{unit_in, IsThere, IsAtMost};
+ghost use Rattle.tc_packet.specs.declared.runs.Ended.TheVariants as Ended;
+ghost use Rattle.tc_packet.specs.Store.{unit_in, IsThere, IsAtMost};
 ghost use Rattle.tc_channel.specs.Keyed.{ring_in, rings_in, room_sizes, Fit, FitsIn, AreSettled};
 ghost use Rattle.tc_channel.specs.Delivering.{IsDelivered};
 ghost use Rattle.tc_channel.specs.Steps.{most_looks, packet_count, unit_steps};

@@ -4,7 +4,7 @@ ghost use Rattle.std.specs.Prelude.{List, ℕ, ◌≡◌, false, [], ◌<◌, �
 ghost use Rattle.tc_packet.specs.declared.Service.{Service};
 ghost use Rattle.tc_packet.specs.declared.Service.TheVariants.{Bd};
 ghost use Rattle.tc_packet.specs.Reassembly.{run_at, stream_place};
-ghost use Rattle.tc_rooms.specs.Runs.{limit_at, open_runs};
+ghost use Rattle.tc_packet.specs.Store.{limit_at, open_runs};
 ghost use Rattle.tc_channel.specs.declared.event.Event.{Event};
 ghost use Rattle.tc_channel.specs.declared.event.Event.TheVariants as Event;
 ghost use Rattle.tc_channel.specs.declared.settings.Settings.{Settings};

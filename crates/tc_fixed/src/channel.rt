@@ -8,7 +8,7 @@ ghost use Rattle.tc_channel.specs.Reply.{frame_reply_within, release_reply_withi
 ghost use Rattle.tc_channel.specs.Era.{CountsUpInItsEraWithin};
 ghost use Rattle.tc_channel.specs.Workings.{HaveLimits};
 ghost use Rattle.tc_packet.specs.Reassembly.{run_at};
-ghost use Rattle.tc_rooms.specs.Runs.{open_runs};
+ghost use Rattle.tc_packet.specs.Store.{open_runs};
 ghost use Rattle.tc_fixed.specs.History.{with_limited_event};
 ghost use Rattle.tc_fixed.specs.Limits.{AreLimits, LimitsMapsByHeaders, HaveOctets, IsOthers, IsRefusalWithLimits, limit_of, none};
 ghost use Rattle.tc_fixed.specs.Taking.{IsOver, IsLaid, nothing_in};

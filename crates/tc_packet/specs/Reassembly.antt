@@ -4,8 +4,8 @@ use Rattle.std.specs.Option.{option_and_then, option_or}
 use Rattle.std.specs.List.{list_all, flat_map, AllByRecursion}
 use Rattle.tc_packet.specs.declared.segment.Part.{Part}
 use Rattle.tc_packet.specs.declared.segment.Part.TheVariants.{First, Continuing, Last, Unsegmented}
-use Rattle.tc_packet.specs.declared.reassembler.Service.{Service}
-use Rattle.tc_packet.specs.declared.reassembler.Service.TheVariants.{Ad, Bd}
+use Rattle.tc_packet.specs.declared.service.Service.{Service}
+use Rattle.tc_packet.specs.declared.service.Service.TheVariants.{Ad, Bd}
 use Rattle.tc_packet.specs.Segment.{header_of, body_of}
 use Rattle.tc_packet.specs.SpacePacket.{largest_packet}
 

@@ -1,7 +1,7 @@
 //! Laws over the definitions of this crate.
 
 ghost use Rattle.std.specs.Prelude.{◌≡◌, ◌<◌, ◌≤◌, ◌↔◌, ◌∷◌, [], ◌++◌, ℕ, false, List, length, Option, Some, None, take};
-ghost use Rattle.tc_packet.specs.declared.reassembler.Service.{Service};
+ghost use Rattle.tc_packet.specs.declared.service.Service.{Service};
 ghost use Rattle.tc_packet.specs.Reassembly.{IsLeftByFields, IsOpenRun, IsUnit, IsWithinLimit, largest_unit, open_run, place_of, run_left, stream_count, unit_at, unit_ended};
 ghost use Rattle.tc_packet.specs.Runs.{next_run};
 ghost use Rattle.tc_packet.specs.Segment.{header_of, body_of};

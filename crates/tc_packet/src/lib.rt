@@ -1,5 +1,14 @@
 //! Segments, reassembly and space packets of a telecommand link.
 //!
+//! A [`Room`] is a place for octets, up to a size: a block of that size ([`FixedRoom`]), or a block that grows ([`GrowingRoom`]).
+//! [`Runs`] have a room for the open run of each stream, and say where the unit lies that a data field ends ([`Ended`]), so that no
+//! unit is ever copied to be given out. A unit is laid behind what counts. Once it is delivered its run is over ([`Runs::settle`]);
+//! where memory runs out before, the runs are as they were.
+//!
+//! The rooms of the streams are a boxed slice, and so is the block of a [`FixedRoom`]: types that have no call that grows them. So with
+//! rooms that are made at the start only what makes them allocates, and no other call can run out of memory. The block of a
+//! [`GrowingRoom`] alone is a `Vec`.
+//!
 //! Laws over the definitions stand as contracts of functions with empty bodies:
 //! [`each_unit_has_one_cut`], [`each_input_begins_with_one_packet_at_most`],
 //! [`an_open_run_looks_back_over_its_stream`], [`a_unit_looks_back_over_its_stream`],
@@ -12,7 +21,10 @@ mod fault;
 mod laws;
 mod packet;
 mod reassembler;
+mod room;
+mod runs;
 mod segment;
+mod service;
 
 pub use cutting::{cut, next_packet};
 pub use fault::NoMemory;
@@ -23,5 +35,8 @@ pub use laws::{
     each_unit_has_one_cut, one_more_field_moves_its_run_on,
 };
 pub use packet::{Cut, Packet, read_packet};
-pub use reassembler::{LARGEST_UNIT, Reassembler, Service};
+pub use reassembler::Reassembler;
+pub use room::{FixedRoom, GrowingRoom, Room};
+pub use runs::{Ended, Run, Runs};
 pub use segment::{Part, Segment, read_segment};
+pub use service::{LARGEST_UNIT, Service};

@@ -6,21 +6,9 @@ ghost use Rattle.tc_packet.specs.Runs.{next_run, octets_in};
 
 use crate::fault::NoMemory;
 use crate::segment::{Part, read_segment};
+use crate::service::{LARGEST_UNIT, STREAMS, Service, place};
 use std::alloc::Global;
 use std::marker::Model;
-
-/// By which service a data field came.
-#[derive(Clone, Copy, Debug, PartialEq, Eq)]
-pub enum Service {
-    Ad,
-    Bd,
-}
-
-/// The most octets of a run or a unit.
-pub const LARGEST_UNIT: usize = 65_542;
-
-// Two services of 64 MAPs.
-const STREAMS: usize = 128;
 
 /// The open run of each stream: of the 64 MAPs of the AD service, and then of those of the BD service.
 /// Where data fields have no segment header, each is a unit by itself and no run is ever open.
@@ -121,17 +109,6 @@ impl Reassembler {
         let segment = read_segment(field[0]);
         let open = &mut self.runs[place(service, segment.map)];
         go_on(self.alloc, segment.part, open, &field[1..])
-    }
-}
-
-fn place(service: Service, map: u8) -> usize
-    requires { map < 64 }
-    ensures value { result ≡ place_of service map }
-    ensures within { result < STREAMS }
-{
-    match service {
-        Service::Ad => map as usize,
-        Service::Bd => 64 + map as usize,
     }
 }
 

@@ -3,7 +3,8 @@ use Rattle.std.proofs.Common.{◌≡◌, ℕ, zero, suc, ◌+◌, ◌-◌, ◌<�
 use Rattle.std.specs.Prelude.{set, slice_get, option_map}
 use Rattle.std.proofs.lemmas.List.{length-append, length-map, length-set, length-take-le, length-drop, map-append, take-set-le, take_more_set, take-take, take-append-drop, take-append-le, drop-take, drop-set-add, drop-append-le}
 use Rattle.std.proofs.lemmas.Option.{get_or_from_slice_get, slice_get_within}
-use Rattle.tc_rooms.specs.Rooms.{Laid, laid, octets_of, HaveSize, AreSlots, Slotted, slotted, seen, IsLaidBehind, IsPut}
+use Rattle.tc_packet.specs.Room.{Laid, laid}
+use Rattle.tc_rooms.specs.Rooms.{octets_of, HaveSize, AreSlots, Slotted, slotted, seen, IsLaidBehind, IsPut}
 
 -- sizes
 

@@ -1,15 +1,8 @@
--- What a contract sees of rooms: what lies in them, and how large they are.
+-- What a contract sees of items that wait in rooms.
 use Rattle.std.specs.Prelude.{◌≡◌, ◌≤◌, ◌<◌, ◌+◌, ◌^◌, ◌++◌, ◌∷◌, [], ℕ, Bool, true, false, List, length, map, take, drop}
 use Rattle.std.specs.List.{AllByRecursion}
 use Rattle.circular_buffer.specs.Buffer.{Buffer, buffer}
-
--- the octets that lie in a room, and how many there may be
-pub record Laid : Type 0 where
-  pub octets : List ℕ
-  pub size : ℕ
-
-abbrev pub laid : List ℕ → ℕ → Laid
-laid octets size = record { octets = octets; size = size }
+use Rattle.tc_packet.specs.Room.{Laid}
 
 abbrev pub octets_of : Laid → List ℕ
 octets_of room = room.octets

@@ -2,12 +2,13 @@
 
 ghost use Rattle.std.specs.Prelude.{◌≡◌, ◌≤◌, ◌<◌, ◌^◌, ◌++◌, ◌∷◌, [], length, map, drop, set, false, Some, IfOk, IsOk, OnOk, OnErr, slice_get};
 ghost use Rattle.circular_buffer.specs.Buffer.{buffer};
-ghost use Rattle.tc_rooms.specs.Rooms.{held_room, laid, HaveSize};
+ghost use Rattle.tc_packet.specs.Room.{laid};
+ghost use Rattle.tc_rooms.specs.Rooms.{held_room, HaveSize};
 
-use crate::room::{GrowingRoom, Room};
 use circular_buffer::HeapCircularBuffer;
 use std::alloc::{AllocError, Global};
 use std::marker::Model;
+use tc_packet::{GrowingRoom, Room};
 
 /// Rooms, the front one first. A `HeapCircularBuffer` can be asked to grow, by `resize` and by its allocator: none of the calls here
 /// does so but `with_rooms`, which makes it, and none gives it out.
@@ -18,7 +19,8 @@ pub struct Ring<R: Room> {
 
 impl<R: Room> Model for Ring<R> {
     ghost use Rattle.std.specs.Prelude.{List, map};
-    ghost use Rattle.tc_rooms.specs.Rooms.{Laid, IsFull};
+    ghost use Rattle.tc_packet.specs.Room.{Laid};
+    ghost use Rattle.tc_rooms.specs.Rooms.{IsFull};
 
     ghost Value = { List Laid };
 

@@ -4,9 +4,9 @@ ghost use Rattle.std.specs.Prelude.{◌≡◌, ◌≤◌, ◌==◌, ◌++◌, []
 ghost use Rattle.tc_rooms.specs.Rooms.{slotted, IsLaidBehind, IsPut};
 
 use crate::ring::Ring;
-use crate::room::{GrowingRoom, Room};
 use std::alloc::{AllocError, Global};
 use std::marker::Model;
+use tc_packet::{GrowingRoom, Room};
 
 /// Items that wait, the oldest first, each in a room of its own, and items that a call has laid behind them. The rooms are a ring that
 /// is always full: those of the items that wait, then those of what is laid, then empty ones. A room whose item goes is cleared and

@@ -1,5 +1,5 @@
 use Rattle.tc_channel.proofs.Names.{◌<◌, length, arith, boxed_slice_items, length-map, ring_in, rings_in}
-use Rattle.tc_rooms.proofs.Sizes.{if-ok}
+use Rattle.tc_packet.proofs.Sizes.{if-ok}
 use Rattle.tc_channel.proofs.Ways.{by-packets, by-unit}
 use Rattle.tc_channel.proofs.delivering.deliver.Goals as goal
 

@@ -1,5 +1,5 @@
 use Rattle.tc_channel.proofs.Names.{length, boxed_slice_items, packets_of}
-use Rattle.tc_rooms.proofs.Sizes.{if-ok, on-err}
+use Rattle.tc_packet.proofs.Sizes.{if-ok, on-err}
 use Rattle.tc_channel.proofs.Counts.{looks-most, unit-more, cost-more, cost-more-err}
 use Rattle.tc_channel.proofs.queues.deliver_unit.Goals as goal
 

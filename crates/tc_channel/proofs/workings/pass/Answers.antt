@@ -1,7 +1,7 @@
 use Rattle.tc_channel.proofs.Names.{◌≡◌, ◌∙◌, length, arith, common_steps, stream_place, map_of}
-use Rattle.tc_rooms.proofs.Rooms.{settled-limits, settled-segmented}
+use Rattle.tc_packet.proofs.Stores.{settled-limits, settled-segmented}
 use Rattle.tc_packet.specs.Reassembly.{place_of}
-use Rattle.tc_rooms.specs.Runs.{unit_in}
+use Rattle.tc_packet.specs.Store.{unit_in}
 use Rattle.tc_channel.proofs.Counts.{at-most, at-most-err}
 use Rattle.tc_channel.proofs.Sizes.{fits-unit, within-all, place-below}
 use Rattle.tc_channel.proofs.Within.{settled-follows}

@@ -2,7 +2,7 @@ use Rattle.std.proofs.Common.{◌≡◌, length, map, ap, ◌∙◌, arith}
 use Rattle.tc_rooms.proofs.Names.{Laid, laid, length-map, map-set, map-set_same}
 use Rattle.std.specs.Prelude.{set}
 use Rattle.tc_rooms.specs.Rooms.{HaveSize}
-use Rattle.tc_rooms.proofs.Sizes.{on-ok, on-err}
+use Rattle.tc_packet.proofs.Sizes.{on-ok, on-err}
 use Rattle.tc_rooms.proofs.Waiting.{got, is-there, size-got}
 use Rattle.tc_rooms.proofs.ring.Ring.fill.Goals as goal
 

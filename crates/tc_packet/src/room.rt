@@ -1,7 +1,7 @@
 //! Octets in a block of one size, and octets in a block that grows.
 
 ghost use Rattle.std.specs.Prelude.{◌≡◌, ◌≤◌, ◌+◌, ◌++◌, Bool, false, [], length, take, IfOk, IsOk, OnOk, OnErr};
-ghost use Rattle.tc_rooms.specs.Rooms.{Laid, laid};
+ghost use Rattle.tc_packet.specs.Room.{Laid, laid};
 
 use std::alloc::{AllocError, Global};
 use std::boxed::BoxedSlice;
@@ -67,7 +67,7 @@ pub struct FixedRoom {
 impl Model for FixedRoom {
     ghost use Rattle.std.specs.Prelude.{◌≤◌, take, length};
     ghost use Rattle.std.specs.Box.{boxed_slice_items};
-    ghost use Rattle.tc_rooms.specs.Rooms.{Laid, laid};
+    ghost use Rattle.tc_packet.specs.Room.{Laid, laid};
 
     ghost Value = { Laid };
 
@@ -144,7 +144,7 @@ pub struct GrowingRoom {
 
 impl Model for GrowingRoom {
     ghost use Rattle.std.specs.Prelude.{◌≤◌, length};
-    ghost use Rattle.tc_rooms.specs.Rooms.{Laid, laid};
+    ghost use Rattle.tc_packet.specs.Room.{Laid, laid};
 
     ghost Value = { Laid };
 

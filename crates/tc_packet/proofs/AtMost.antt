@@ -1,7 +1,7 @@
 -- Runs and units within a limit that is not over the largest unit.
 use Rattle.std.proofs.Common.{◌≡◌, ℕ, ◌<◌, ◌≤◌, Bool, true, false, leb, List, ◌++◌, length, Option, Some, None, refl, sym, ◌∙◌, arith}
 use Rattle.std.proofs.lemmas.Bool.{le-leb, lt-leb, leb-true, leb-false}
-use Rattle.tc_rooms.proofs.Names.{IsAtMost, Part, length-append, next_run}
+use Rattle.tc_packet.proofs.Names.{IsAtMost, Part, length-append, next_run}
 use Rattle.tc_packet.specs.declared.segment.Part.TheVariants.{Continuing, Last}
 use Rattle.tc_packet.specs.Reassembly.{at_most, bounded, extended, ended_by}
 

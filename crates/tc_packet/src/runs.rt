@@ -3,26 +3,22 @@
 ghost use Rattle.std.specs.Prelude.{◌≡◌, ◌<◌, ◌≤◌, ◌%◌, ◌∷◌, ◌++◌, ℕ, true, false, List, [], length, map, get_or, replicate, Some, None, IfOk, IsOk, OnErr, slice_get, option_map, if◌then◌else◌};
 ghost use Rattle.std.specs.Box.{boxed_slice_items};
 ghost use Rattle.std.specs.List.{AllByRecursion};
-ghost use Rattle.tc_packet.specs.declared.Service.{Service};
+ghost use Rattle.tc_packet.specs.declared.service.Service.{Service};
 ghost use Rattle.tc_packet.specs.Reassembly.{at_most, bounded, ended_by, place_of, run_at, stream_place, unit_ended, largest_unit, extended};
 ghost use Rattle.tc_packet.specs.Runs.{next_run};
-ghost use Rattle.tc_rooms.specs.Rooms.{laid};
-ghost use Rattle.tc_rooms.specs.OpenRun.{open_in};
-ghost use Rattle.tc_rooms.specs.Runs.{behind, open_runs, limit_at, over_at, settled, LeaveWithin, told, unit_in, sizes_of, ended_by_stream, IsFollowed, IsWritten, Store, IsThere, IsAtMost};
-ghost use Rattle.tc_rooms.specs.declared.runs.Told.TheVariants as Told;
-ghost use Rattle.tc_rooms.specs.declared.runs.Ended.TheVariants as Ended;
+ghost use Rattle.tc_packet.specs.Room.{laid};
+ghost use Rattle.tc_packet.specs.OpenRun.{open_in};
+ghost use Rattle.tc_packet.specs.Store.{behind, open_runs, limit_at, over_at, settled, LeaveWithin, told, unit_in, sizes_of, ended_by_stream, IsFollowed, IsWritten, Store, IsThere, IsAtMost};
+ghost use Rattle.tc_packet.specs.declared.runs.Told.TheVariants as Told;
+ghost use Rattle.tc_packet.specs.declared.runs.Ended.TheVariants as Ended;
 
+use crate::laws::one_more_field_moves_its_run_on;
 use crate::room::Room;
+use crate::segment::{Part, read_segment};
+use crate::service::{LARGEST_UNIT, MAPS, STREAMS, Service, place};
 use std::alloc::{AllocError, Global};
 use std::boxed::BoxedSlice;
 use std::marker::Model;
-use tc_packet::{LARGEST_UNIT, Part, Service, one_more_field_moves_its_run_on, read_segment};
-
-// How many MAPs there are.
-const MAPS: usize = 64;
-
-// Two services of 64 MAPs.
-const STREAMS: usize = 128;
 
 /// The run of a stream: the first octets in its room, while it is open. A last segment lays its octets behind them, so that the unit
 /// is one slice, and the run stays until that is delivered.
@@ -34,7 +30,7 @@ pub struct Run<R: Room> {
 }
 
 impl<R: Room> Model for Run<R> {
-    ghost use Rattle.tc_rooms.specs.OpenRun.{OpenRun, IsRun};
+    ghost use Rattle.tc_packet.specs.OpenRun.{OpenRun, IsRun};
 
     ghost Value = { OpenRun };
 
@@ -72,24 +68,13 @@ pub struct Runs<R: Room> {
 
 impl<R: Room> Model for Runs<R> {
     ghost use Rattle.std.specs.Box.{boxed_slice_items};
-    ghost use Rattle.tc_rooms.specs.Runs.{Store, IsStore};
+    ghost use Rattle.tc_packet.specs.Store.{Store, IsStore};
 
     ghost Value = { Store };
 
     ghost view = { λ r. record { segmented = r.segmented; plain_limit = r.plain_limit; runs = boxed_slice_items r.runs } };
 
     ghost invariant = { λ r. IsStore (record { segmented = r.segmented; plain_limit = r.plain_limit; runs = boxed_slice_items r.runs }) };
-}
-
-fn place(service: Service, map: u8) -> usize
-    requires { map < 64 }
-    ensures value { result ≡ place_of service map }
-    ensures within { result < STREAMS }
-{
-    match service {
-        Service::Ad => map as usize,
-        Service::Bd => 64 + map as usize,
-    }
 }
 
 impl<R: Room> Run<R> {

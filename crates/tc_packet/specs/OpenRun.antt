@@ -1,7 +1,7 @@
 -- The run of a stream in its room, and octets that a last segment laid behind it.
 use Rattle.std.specs.Prelude.{◌≤◌, ℕ, Bool, false, List, take, length, Option, Some, None, if◌then◌else◌}
 use Rattle.tc_packet.specs.Reassembly.{largest_unit}
-use Rattle.tc_rooms.specs.Rooms.{Laid}
+use Rattle.tc_packet.specs.Room.{Laid}
 
 -- whether a run is open, how many octets it has, and its room
 pub record OpenRun : Type 0 where

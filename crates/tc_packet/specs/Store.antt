@@ -3,11 +3,11 @@ use Rattle.std.specs.Prelude.{◌≡◌, ◌≤◌, ℕ, Bool, true, false, List
 use Rattle.tc_packet.specs.Reassembly.{OpenRuns, at_most, ended_by, largest_unit, stream_count, run_left, run_at}
 use Rattle.tc_packet.specs.declared.segment.Part.{Part}
 use Rattle.tc_packet.specs.Runs.{next_run}
-use Rattle.tc_rooms.specs.declared.runs.Told.{Told}
-use Rattle.tc_rooms.specs.declared.runs.Told.TheVariants as tolds
-use Rattle.tc_rooms.specs.declared.runs.Ended.{Ended}
-use Rattle.tc_rooms.specs.declared.runs.Ended.TheVariants.{Nothing, Lying, Joined}
-use Rattle.tc_rooms.specs.OpenRun.{OpenRun, open_in, closed}
+use Rattle.tc_packet.specs.declared.runs.Told.{Told}
+use Rattle.tc_packet.specs.declared.runs.Told.TheVariants as tolds
+use Rattle.tc_packet.specs.declared.runs.Ended.{Ended}
+use Rattle.tc_packet.specs.declared.runs.Ended.TheVariants.{Nothing, Lying, Joined}
+use Rattle.tc_packet.specs.OpenRun.{OpenRun, open_in, closed}
 
 abbrev pub sizes_of : List OpenRun → List ℕ
 sizes_of runs = map (λ (r : OpenRun). r.room.size) runs

@@ -1,18 +1,29 @@
 -- The rooms of runs, read and written at one place.
-use Rattle.std.proofs.Common.{◌≡◌, ◌≢◌, ℕ, zero, suc, ◌<◌, ◌≤◌, true, get_or, drop, subst, List, [], ◌∷◌, ◌++◌, length, map, Option, None, refl, sym, ap, ◌∙◌, arith}
+use Rattle.std.proofs.Common.{◌≡◌, ◌≢◌, ℕ, zero, suc, ◌<◌, ◌≤◌, true, get_or, drop, subst, List, [], ◌∷◌, ◌++◌, length, map, Option, Some, None, refl, sym, ap, ◌∙◌, arith}
 use Rattle.std.specs.Prelude.{set, slice_get, option_map, if◌then◌else◌}
 use Rattle.std.proofs.lemmas.List.{length-map, map-set, get_or-map, get_or-set_same, get_or-set_other, set-get_or}
-use Rattle.circular_buffer.proofs.Places.{slice_get-set_same, slice_get-set_other}
-use Rattle.tc_rooms.proofs.Names.{Laid, Part, next_run}
+use Rattle.tc_packet.proofs.Names.{Laid, Part, next_run}
 use Rattle.tc_packet.specs.Segment.{header_of, body_of}
 use Rattle.tc_packet.specs.Reassembly.{at_most, run_at, run_left, open_run, unit_at, unit_ended, ended_by}
-use Rattle.tc_rooms.specs.OpenRun.{OpenRun, open_in, closed}
-use Rattle.tc_rooms.specs.Runs.{open_runs, sizes_of, limit_at, told, behind, over_at, settled, ended_by_stream, unit_in, Store, LeaveWithin, IsAtMost, IsWritten, IsFollowed}
-use Rattle.tc_rooms.specs.declared.runs.Told.{Told}
-use Rattle.tc_rooms.specs.declared.runs.Ended.{Ended}
-use Rattle.tc_rooms.specs.declared.runs.Ended.TheVariants as ends
-use Rattle.tc_rooms.specs.declared.runs.Told.TheVariants as tolds
-use Rattle.tc_rooms.proofs.AtMost.{at_most-within, next-at_most, ended-at_most}
+use Rattle.tc_packet.specs.OpenRun.{OpenRun, open_in, closed}
+use Rattle.tc_packet.specs.Store.{open_runs, sizes_of, limit_at, told, behind, over_at, settled, ended_by_stream, unit_in, Store, LeaveWithin, IsAtMost, IsWritten, IsFollowed}
+use Rattle.tc_packet.specs.declared.runs.Told.{Told}
+use Rattle.tc_packet.specs.declared.runs.Ended.{Ended}
+use Rattle.tc_packet.specs.declared.runs.Ended.TheVariants as ends
+use Rattle.tc_packet.specs.declared.runs.Told.TheVariants as tolds
+use Rattle.tc_packet.proofs.AtMost.{at_most-within, next-at_most, ended-at_most}
+
+slice_get-set_same : {A : Type 0} (xs : List A) (i : ℕ) (x : A) → i < length xs → slice_get (set xs i x) i ≡ Some x
+slice_get-set_same [] i x inside = absurd (omega arith)
+slice_get-set_same (y ∷ xs) zero x inside = refl
+slice_get-set_same (y ∷ xs) (suc i) x inside = slice_get-set_same xs i x (omega arith)
+
+slice_get-set_other : {A : Type 0} (xs : List A) (i other : ℕ) (x : A) → other ≢ i → slice_get (set xs i x) other ≡ slice_get xs other
+slice_get-set_other [] i other x apart = refl
+slice_get-set_other (y ∷ xs) zero zero x apart = absurd (apart refl)
+slice_get-set_other (y ∷ xs) zero (suc other) x apart = refl
+slice_get-set_other (y ∷ xs) (suc i) zero x apart = refl
+slice_get-set_other (y ∷ xs) (suc i) (suc other) x apart = slice_get-set_other xs i other x (λ e. apart (ap suc e))
 
 pub read-open : (runs : List OpenRun) (i : ℕ) (run : OpenRun) → i < length runs → run ≡ get_or runs i run → run_at (map open_in runs) i ≡ open_in run
 read-open runs i run inside is = get_or-map open_in runs i run None inside ∙ ap open_in (sym is)

@@ -1,6 +1,6 @@
 use Rattle.std.proofs.Common.{length, ap, ◌∙◌}
-use Rattle.tc_rooms.proofs.runs.with_rooms.Goals as goal
-use Rattle.tc_rooms.proofs.runs.with_rooms.Goals.{then-segmented, else-segmented}
+use Rattle.tc_packet.proofs.runs.with_rooms.Goals as goal
+use Rattle.tc_packet.proofs.runs.with_rooms.Goals.{then-segmented, else-segmented}
 
 pub invariant_of-result : goal.invariant_of-result
 invariant_of-result g c =

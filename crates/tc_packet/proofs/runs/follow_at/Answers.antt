@@ -1,8 +1,8 @@
 use Rattle.std.proofs.Common.{refl, ap, ◌∙◌}
-use Rattle.tc_rooms.proofs.Names.{boxed_slice_items, map-set_same, open_in}
-use Rattle.tc_rooms.proofs.Rooms.{same-sizes}
-use Rattle.tc_rooms.proofs.Sizes.{on-err}
-use Rattle.tc_rooms.proofs.runs.follow_at.Goals as goal
+use Rattle.tc_packet.proofs.Names.{boxed_slice_items, map-set_same, open_in}
+use Rattle.tc_packet.proofs.Stores.{same-sizes}
+use Rattle.tc_packet.proofs.Sizes.{on-err}
+use Rattle.tc_packet.proofs.runs.follow_at.Goals as goal
 
 pub returns-clause-written : goal.returns-clause-written
 returns-clause-written g c = record {

@@ -1,10 +1,10 @@
 use Rattle.std.proofs.Common.{◌≡◌, ℕ, List, ◌<◌, ◌-◌, true, length, take, drop, subst, sym, ap, ◌∙◌, arith, rules}
-use Rattle.tc_rooms.proofs.Names.{LeaveWithin, Store, boxed_slice_items, common_steps}
+use Rattle.tc_packet.proofs.Names.{LeaveWithin, Store, boxed_slice_items, common_steps}
 use Rattle.std.proofs.lemmas.List.{take_rest}
 use Rattle.tc_packet.specs.Segment.{header_of}
 use Rattle.tc_packet.specs.Reassembly.{stream_place}
-use Rattle.tc_rooms.proofs.Rooms.{IsPassed, passed-unit, passed-run, passed-held, passed-within, told-nothing, written-others, written-rooms}
-use Rattle.tc_rooms.proofs.runs.Runs.lay.Goals as goal
+use Rattle.tc_packet.proofs.Stores.{IsPassed, passed-unit, passed-run, passed-held, passed-within, told-nothing, written-others, written-rooms}
+use Rattle.tc_packet.proofs.runs.Runs.lay.Goals as goal
 
 pub returns : goal.returns
 returns g c =
