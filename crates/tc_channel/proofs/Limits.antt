@@ -3,7 +3,7 @@ use Rattle.tc_channel.proofs.Names.{◌≡◌, ℕ, ◌≤◌, Bool, true, false
 use Rattle.tc_packet.specs.declared.segment.Part.TheVariants.{Last, Unsegmented}
 use Rattle.tc_packet.specs.Segment.{body_of, header_of}
 use Rattle.std.specs.Prelude.{nat_le}
-use Rattle.tc_packet.proofs.KeptRuns.{bounded-within}
+use Rattle.tc_packet.proofs.Streams.{bounded-within}
 
 -- a unit is within the limit
 

@@ -1,8 +1,8 @@
 pub mod Names
 pub mod AtMost
 pub mod Cuts
-pub mod KeptRuns
 pub mod OpenRuns
 pub mod Sizes
 pub mod Stores
 pub mod Streams
+pub mod Unlimited

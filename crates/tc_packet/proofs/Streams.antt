@@ -5,7 +5,6 @@ use Rattle.tc_packet.proofs.Names.{AllByRecursion, Continuing, First, Last, Part
 use Rattle.std.proofs.lemmas.Bool.{and_parts, leb-true, le-leb}
 use Rattle.std.proofs.lemmas.Option.{some_pair_parts}
 use Rattle.tc_packet.specs.Reassembly.{IsPart, IsWithinLimit, IsOpenRun, IsUnit, IsLeftByFields, joined_bodies, bounded, extended, is_first, is_continuing, from_last_first, all_continue, run_of, open_run, ended_by, unit_at}
-use Rattle.tc_packet.proofs.KeptRuns.{bounded-within}
 use Rattle.tc_packet.proofs.OpenRuns.{open_run-push}
 
 abbrev Split : Type 0
@@ -32,6 +31,12 @@ all-continues (f ∷ fs) h = rw (h.0, all-continues fs h.1) refl
 
 bounded-some : (octets : List ℕ) → length octets ≤ 65542 → bounded octets ≡ Some octets
 bounded-some octets within = rw (le-leb (length octets) 65542 within) refl
+
+pub bounded-within : (octets : List ℕ) → IsWithinLimit (bounded octets)
+bounded-within octets = by (leb (length octets) 65542) refl where
+  by : (t : Bool) → leb (length octets) 65542 ≡ t → IsWithinLimit (bounded octets)
+  by true h = rw h (leb-true (length octets) 65542 h)
+  by false h = rw h tt
 
 some-bounded : (octets whole : List ℕ) → bounded octets ≡ Some whole → (whole ≡ octets) × (length whole ≤ 65542)
 some-bounded octets whole h = by (leb (length octets) 65542) refl h where

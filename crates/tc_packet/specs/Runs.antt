@@ -1,5 +1,5 @@
--- The open runs as they are kept, and what one more field does to one.
-use Rattle.std.specs.Prelude.{ℕ, List, map, Option, Some, None}
+-- What one more field does to an open run, and the octets of a unit that may be there.
+use Rattle.std.specs.Prelude.{ℕ, List, Option, Some, None}
 use Rattle.std.specs.Global.{Vec}
 use Rattle.tc_packet.specs.declared.segment.Part.{Part}
 use Rattle.tc_packet.specs.declared.segment.Part.TheVariants.{First, Continuing, Last, Unsegmented}
@@ -14,6 +14,3 @@ next_run Unsegmented run body = None
 abbrev pub octets_in : Option (Vec ℕ) → Option (List ℕ)
 octets_in None = None
 octets_in (Some v) = Some v.items
-
-abbrev pub runs_of : List (Option (Vec ℕ)) → List (Option (List ℕ))
-runs_of runs = map octets_in runs

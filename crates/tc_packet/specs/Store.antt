@@ -1,6 +1,6 @@
 -- The open runs in their rooms, and the limit that each room is to its stream.
 use Rattle.std.specs.Prelude.{◌≡◌, ◌≤◌, ℕ, Bool, true, false, List, length, map, drop, get_or, set, zero, suc, [], ◌∷◌, Option, Some, None, option_map, slice_get, ◌<◌, IfSome, if◌then◌else◌}
-use Rattle.tc_packet.specs.Reassembly.{OpenRuns, at_most, ended_by, largest_unit, stream_count, run_left, run_at}
+use Rattle.tc_packet.specs.Reassembly.{AreOpenRuns, OpenRuns, at_most, ended_by, largest_unit, stream_count, run_left, run_at}
 use Rattle.tc_packet.specs.declared.segment.Part.{Part}
 use Rattle.tc_packet.specs.Runs.{next_run}
 use Rattle.tc_packet.specs.declared.runs.Told.{Told}
@@ -18,9 +18,19 @@ pub record Store : Type 0 where
   pub plain_limit : ℕ
   pub runs : List OpenRun
 
--- the same runs as a `Reassembler` of tc_packet has them
+-- whether data fields have segment headers, and the open runs
 abbrev pub open_runs : Store → OpenRuns
 open_runs store = record { segmented = store.segmented; runs = map open_in store.runs }
+
+-- the first runs, and where there are fewer, none
+abbrev pub first_runs : ℕ → List (Option (List ℕ)) → List (Option (List ℕ))
+first_runs zero runs = []
+first_runs (suc n) [] = None ∷ first_runs n []
+first_runs (suc n) (run ∷ runs) = run ∷ first_runs n runs
+
+-- the run of each of the 128 streams: where data fields have no segment headers there is no room, and none is open
+abbrev pub of_streams : OpenRuns → OpenRuns
+of_streams opened = record { segmented = opened.segmented; runs = first_runs stream_count opened.runs }
 
 -- the most octets of a unit of a stream
 abbrev pub limit_at : Store → ℕ → ℕ
@@ -31,6 +41,11 @@ pub record IsStore (store : Store) : Type 0 where
   pub streams : store.segmented ≡ true → length store.runs ≡ stream_count
   pub plain : store.segmented ≡ false → length store.runs ≡ 0
   pub plain_limit : store.plain_limit ≤ largest_unit
+
+-- the store of a `Reassembler`: each limit is the largest unit
+pub record IsUnlimited (store : Store) : Type 0 where
+  pub limits : (place : ℕ) → place < stream_count → limit_at store place ≡ largest_unit
+  pub runs : AreOpenRuns (of_streams (open_runs store))
 
 -- the fields leave the run in the room at this place, where it is within the limit
 abbrev pub LeaveWithin : List (List ℕ) → Store → ℕ → Type 0

@@ -211,4 +211,18 @@ impl GrowingRoom {
     {
         replace(&mut self.block, Vec::new(self.alloc))
     }
+
+    // A copy in a block of its own, with room for so many octets more as far as they may be in use.
+    pub(crate) fn copied(&self, more: usize) -> Result<GrowingRoom, AllocError>
+        ensures { IfOk result (λ r. r ≡ self.now) }
+    {
+        let free = self.size - self.block.len();
+        let mut block = Vec::with_capacity(self.alloc, self.block.len() + more.min(free))?;
+        block.extend_from_slice(&self.block)?;
+        Ok(GrowingRoom {
+            alloc: self.alloc,
+            block,
+            size: self.size,
+        })
+    }
 }

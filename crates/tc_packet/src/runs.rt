@@ -5,7 +5,7 @@ ghost use Rattle.std.specs.Box.{boxed_slice_items};
 ghost use Rattle.std.specs.List.{AllByRecursion};
 ghost use Rattle.tc_packet.specs.declared.service.Service.{Service};
 ghost use Rattle.tc_packet.specs.Reassembly.{at_most, bounded, ended_by, place_of, run_at, stream_place, unit_ended, largest_unit, extended};
-ghost use Rattle.tc_packet.specs.Runs.{next_run};
+ghost use Rattle.tc_packet.specs.Runs.{next_run, octets_in};
 ghost use Rattle.tc_packet.specs.Room.{laid};
 ghost use Rattle.tc_packet.specs.OpenRun.{open_in};
 ghost use Rattle.tc_packet.specs.Store.{behind, open_runs, limit_at, over_at, settled, LeaveWithin, told, unit_in, sizes_of, ended_by_stream, IsFollowed, IsWritten, Store, IsThere, IsAtMost};
@@ -13,7 +13,7 @@ ghost use Rattle.tc_packet.specs.declared.runs.Told.TheVariants as Told;
 ghost use Rattle.tc_packet.specs.declared.runs.Ended.TheVariants as Ended;
 
 use crate::laws::one_more_field_moves_its_run_on;
-use crate::room::Room;
+use crate::room::{GrowingRoom, Room};
 use crate::segment::{Part, read_segment};
 use crate::service::{LARGEST_UNIT, MAPS, STREAMS, Service, place};
 use std::alloc::{AllocError, Global};
@@ -195,6 +195,29 @@ impl<R: Room> Run<R> {
     }
 }
 
+impl Run<GrowingRoom> {
+    // The unit that a segment with this body would end: that of a copy which follows it. There is room for all of it in the copy's block,
+    // which is the one allocation.
+    fn unit_after(&self, part: Part, body: &[u8]) -> Result<Option<Vec<u8>>, AllocError>
+        ensures unit { IfOk result (λ unit. octets_in unit ≡ at_most self.now.room.size (ended_by part (open_in self.now) body.now)) }
+        ensures small { self.now.room.size ≤ largest_unit }
+    {
+        let mut copy = Run {
+            is_open: self.is_open,
+            count: self.count,
+            room: self.room.copied(body.len())?,
+        };
+        let told = copy.follow(part, body)?;
+        let Run { mut room, .. } = copy;
+        match told {
+            Told::Nothing => return Ok(None),
+            Told::Body => room.fill(body)?,
+            Told::Whole => {}
+        }
+        Ok(Some(room.take_block()))
+    }
+}
+
 // Where the unit lies that a segment of the stream with this place ended.
 fn ended_at(told: Told, place: usize) -> Ended
     ensures { result ≡ ended_by_stream told place }
@@ -367,5 +390,44 @@ impl<R: Room> Runs<R> {
         ensures { Some result.now ≡ option_map (λ r. r.room.octets) (slice_get self.now.runs place) }
     {
         self.runs[place].octets()
+    }
+}
+
+impl Runs<GrowingRoom> {
+    // A copy of the unit that this field ended, if it ended one.
+    pub(crate) fn copied(
+        &self,
+        alloc: Global,
+        ended: Ended,
+        field: &[u8],
+    ) -> Result<Option<Vec<u8>>, AllocError>
+        requires { IsThere ended self.now field.now }
+        ensures unit { IfOk result (λ unit. octets_in unit ≡ unit_in ended self.now field.now) }
+        ensures refused { OnErr result (ended ≡ Ended.Nothing → ⊥) }
+    {
+        match ended {
+            Ended::Nothing => Ok(None),
+            Ended::Lying(from) => Ok(Some(Vec::from_slice(alloc, &field[from..])?)),
+            Ended::Joined(at) => Ok(Some(Vec::from_slice(alloc, self.joined(at))?)),
+        }
+    }
+
+    // The unit that this field would end, in a block of its own, which is the one allocation.
+    pub(crate) fn unit_after(
+        &self,
+        alloc: Global,
+        service: Service,
+        field: &[u8],
+    ) -> Result<Option<Vec<u8>>, AllocError>
+        requires { 0 < length field.now }
+        ensures { (fields : List (List ℕ)) → LeaveWithin fields self.now (stream_place service field.now)
+            → IfOk result (λ unit. octets_in unit ≡ at_most (limit_at self.now (stream_place service field.now)) (unit_ended self.now.segmented fields field.now)) }
+    {
+        if !self.segmented {
+            return self.copied(alloc, whole_field(field, self.plain_limit), field);
+        }
+        let segment = read_segment(field[0]);
+        let run = &self.runs[place(service, segment.map)];
+        run.unit_after(segment.part, &field[1..])
     }
 }

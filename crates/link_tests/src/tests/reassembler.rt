@@ -30,57 +30,38 @@ fn push(
     reassembler.push(service, field)
 }
 
-// Takes a field, which isn't empty, without making the unit that it ends.
-fn advance(
-    rt: &impl Abort,
-    reassembler: &mut Reassembler,
-    service: Service,
-    field: &[u8],
-) -> Result<(), NoMemory> {
-    assert!(rt; !field.is_empty());
-    reassembler.advance(service, field)
-}
-
 // This unit was ended, or none; no memory was refused.
 fn check_unit(rt: &impl Abort, answer: Result<Option<Vec<u8>>, NoMemory>, expected: Option<&[u8]>) {
     let unit = answer.expect(rt, "an answer");
     assert_eq!(rt; unit.as_deref(), expected);
 }
 
-// A reassembler, one that goes on without making units, and all that was ever given to both.
+// A reassembler, and all that was ever given to it.
 #[derive(Drop)]
 struct Watched {
     alloc: Global,
     reassembler: Reassembler,
-    advanced: Reassembler,
     given: Vec<Given>,
 }
 
 impl Watched {
     fn new(rt: &impl Abort, alloc: Global) -> Watched {
         let reassembler = Reassembler::new(alloc, true).expect(rt, "a reassembler");
-        let advanced = Reassembler::new(alloc, true).expect(rt, "a reassembler");
         Watched {
             alloc,
             reassembler,
-            advanced,
             given: Vec::new(alloc),
         }
     }
 
-    // The unit that the field would end: the same of each reassembler and by the definition over the whole stream.
+    // The unit that the field would end: the same of the reassembler and by the definition over the whole stream.
     fn unit_after(&self, rt: &impl Abort, service: Service, field: &[u8]) -> Option<Vec<u8>> {
         let expected = definition::unit_after(self.alloc, &self.given, service, field).expect(
             rt,
             "an answer",
         );
-        for reassembler in [&self.reassembler, &self.advanced] {
-            check_unit(
-                rt,
-                ask(rt, reassembler, service, field),
-                expected.as_deref(),
-            );
-        }
+        let answer = ask(rt, &self.reassembler, service, field);
+        check_unit(rt, answer, expected.as_deref());
         expected
     }
 
@@ -94,7 +75,6 @@ impl Watched {
     // The field ends this unit, or none, by each call and by the definition.
     fn push(&mut self, rt: &impl Abort, service: Service, field: &[u8]) -> Option<Vec<u8>> {
         let expected = self.unit_after(rt, service, field);
-        advance(rt, &mut self.advanced, service, field).expect(rt, "an answer");
         let answer = push(rt, &mut self.reassembler, service, field);
         check_unit(rt, answer, expected.as_deref());
         self.note(rt, service, field);

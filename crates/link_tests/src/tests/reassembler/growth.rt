@@ -52,11 +52,11 @@ fn made(rt: &(impl Abort + Print), alloc: Global, segmented: bool) -> Reassemble
     made_again(rt, "Reassembler::new", NoMemory, &new).expect(rt, "an answer")
 }
 
-// A call of this name was refused memory for this field.
-fn tell_refused(rt: &(impl Abort + Print), call: &str, field: &[u8]) {
+// `push` was refused memory for this field.
+fn tell_refused(rt: &(impl Abort + Print), field: &[u8]) {
     assert!(rt; !field.is_empty());
     let part = read_segment(field[0]).part;
-    let _ = println!(rt; "refused: {call}, {part:?}");
+    let _ = println!(rt; "refused: push, {part:?}");
 }
 
 // A field, the unit that it ends, and the open run after it.
@@ -73,7 +73,7 @@ fn check_push(
     check_only_run(rt, reassembler, before);
     let mut answer = push(rt, reassembler, Service::Bd, field);
     if answer.is_err() {
-        tell_refused(rt, "push", field);
+        tell_refused(rt, field);
         check_only_run(rt, reassembler, before);
         answer = push(rt, reassembler, Service::Bd, field);
     }
@@ -140,32 +140,6 @@ fn growth_of_a_unit_that_a_segment_would_end(rt: HostRuntime) {
     }
 }
 
-// Takes a field without making a unit, and checks the open run before, where it is refused, and after.
-fn check_advance(
-    rt: &(impl Abort + Print),
-    reassembler: &mut Reassembler,
-    field: &[u8],
-    before: Option<&[u8]>,
-    after: Option<&[u8]>,
-) {
-    if advance(rt, reassembler, Service::Bd, field).is_err() {
-        tell_refused(rt, "advance", field);
-        check_only_run(rt, reassembler, before);
-        advance(rt, reassembler, Service::Bd, field).expect(rt, "an answer");
-    }
-    check_only_run(rt, reassembler, after);
-}
-
-#[test]
-fn growth_of_open_runs_without_their_units(rt: HostRuntime) {
-    let mut reassembler = made(&rt, rt.alloc(), true);
-    let mut before = None;
-    for (field, _, after) in &SEGMENTS {
-        check_advance(&rt, &mut reassembler, field, before, *after);
-        before = *after;
-    }
-}
-
 // A field without a segment header is the unit of both calls.
 fn check_plain(rt: &(impl Abort + Print), reassembler: &mut Reassembler, field: &[u8]) {
     let would_end = || ask(rt, reassembler, Service::Bd, field);
@@ -183,7 +157,6 @@ fn check_plain(rt: &(impl Abort + Print), reassembler: &mut Reassembler, field: 
 #[test]
 fn growth_of_units_of_a_plain_channel(rt: HostRuntime) {
     let mut reassembler = made(&rt, rt.alloc(), false);
-    assert!(rt; !reassembler.segmented());
     check_plain(&rt, &mut reassembler, &FIRST);
     check_plain(&rt, &mut reassembler, b"\x80")
 }

@@ -1,10 +1,9 @@
-use Rattle.std.proofs.lemmas.Grind.{common_steps}
-use Rattle.std.proofs.Common.{arith}
-use Rattle.tc_packet.proofs.KeptRuns.{none-open}
+use Rattle.std.proofs.Common.{refl}
+use Rattle.tc_packet.proofs.Unlimited.{begun, unlimited-begun}
 use Rattle.tc_packet.proofs.reassembler.Reassembler.new.Goals as goal
 
 pub invariant_of-result : goal.invariant_of-result
-invariant_of-result c = rw c.loop.invariant (none-open _ c.loop.counter (omega arith))
+invariant_of-result c = unlimited-begun c.in_ok-runs.runs c.in_ok-runs.ensures.none c.in_ok-runs.ensures.limits
 
-pub loop-preserved : goal.loop-preserved
-loop-preserved c = grind (arith, common_steps) steps 1000000
+pub returns : goal.returns
+returns c = rw (c.in_ok-runs.ensures.segmented, begun c.in_ok-runs.runs c.in_ok-runs.ensures.none) refl

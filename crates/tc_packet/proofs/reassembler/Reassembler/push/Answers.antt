@@ -1,41 +1,42 @@
-use Rattle.std.proofs.Common.{◌≡◌, ◌<◌, true, length, sym, ap, ◌∙◌, arith}
-use Rattle.tc_packet.proofs.Names.{OpenRuns, common_steps, length-map, octets_in, on_err_weaker, on_ok_weaker, run_at, stream_place}
-use Rattle.tc_packet.proofs.KeptRuns.{went_on-within, read_within, others-stay, same-runs, written-within, pushed, left-on}
+use Rattle.std.proofs.Common.{◌≡◌, subst, sym, ap, ◌∙◌, arith}
+use Rattle.tc_packet.proofs.Names.{OpenRuns, common_steps, run_at, stream_place}
+use Rattle.tc_packet.proofs.Unlimited.{leave-within, moved, others-stay, place-inside, taken, unlimited-moved, whole-unit}
+use Rattle.tc_packet.specs.Reassembly.{Leave}
+use Rattle.tc_packet.specs.Store.{settled}
 use Rattle.tc_packet.proofs.reassembler.Reassembler.push.Goals as goal
 
-pub invariant_of-self : goal.invariant_of-self
-invariant_of-self c =
-    let runs = c.self.inside.runs.items in
-    let inside : c.place.result < length runs = omega (arith, length-map runs octets_in, c.self.invariant.streams) in
-    let run = c.index_mut-run.result.now in
-    written-within runs c.place.result c.follow.new.run (grind (arith, common_steps)) inside c.self.invariant
-    (went_on-within c.follow.result c.read_segment-segment.result.part _ (octets_in run) (octets_in c.follow.new.run) c.follow.ensures.run c.follow.ensures.refused
-    (read_within runs c.place.result run c.self.invariant c.place.ensures.within c.index_mut-run.ensures.value))
+pub invariant_of-self-2 : goal.invariant_of-self-2
+invariant_of-self-2 c =
+    let e = c.in_ok-ended.ensures in
+    let place = stream_place c.args.service c.args.field.now in
+    let is : c.settle.new.self ≡ settled c.in_ok-ended.ended place c.lay.new.self = grind (arith, common_steps) in
+    unlimited-moved (place-inside c.args.service c.args.field.now) c.self.invariant (taken c.lay.new.self c.in_ok-ended.ended e.segmented e.limits e.others e.run is)
 
 pub returns-clause-limit : goal.returns-clause-limit
-returns-clause-limit c = invariant_of-self c
+returns-clause-limit c = (invariant_of-self-2 c).runs
+
+pub returns-clause-unit : goal.returns-clause-unit
+returns-clause-unit c = λ fields left.
+    let place = stream_place c.args.service c.args.field.now in
+    let store = c.self.inside.runs in
+    let inside = place-inside c.args.service c.args.field.now in
+    let limit = c.self.invariant.limits place inside in
+    let left' = subst (λ (x : OpenRuns). Leave fields x place) (sym c.self.view_is) left in
+    rw (← c.self.view_is) (c.in_ok-unit.ensures.unit ∙ c.in_ok-ended.ensures.unit fields (leave-within store place limit inside fields left')
+    ∙ whole-unit store place limit inside fields c.args.field.now)
 
 pub returns-clause-run : goal.returns-clause-run
-returns-clause-run c = λ fields opened.
-    let runs = c.self.inside.runs.items in
-    let inside : c.place.result < length runs = omega (arith, length-map runs octets_in, c.self.invariant.streams) in
+returns-clause-run c = λ fields left.
+    let e = c.in_ok-ended.ensures in
     let place = stream_place c.args.service c.args.field.now in
-    let on : c.self.inside.segmented ≡ true = grind (arith, common_steps) in
-    let left = (ap (λ (v : OpenRuns). v.segmented) (sym c.self.view_is)) ∙ on in
-    on_ok_weaker c.follow.result (λ next_is. left-on _ _ on ∙ pushed runs c.place.result place c.follow.new.run c.index_mut-run.result.now fields c.args.field.now _ c.read_segment-segment.result.part
-    (grind (arith, common_steps)) inside c.index_mut-run.ensures.value (grind (arith, common_steps)) (grind (arith, common_steps)) next_is
-    (sym (left-on _ fields left) ∙ opened ∙ ap (λ (v : OpenRuns). run_at v.runs place) (sym c.self.view_is))) c.follow.ensures.run
+    let is : c.settle.new.self ≡ settled c.in_ok-ended.ended place c.lay.new.self = grind (arith, common_steps) in
+    moved (place-inside c.args.service c.args.field.now) c.self.invariant (taken c.lay.new.self c.in_ok-ended.ended e.segmented e.limits e.others e.run is) fields
+    (subst (λ (x : OpenRuns). Leave fields x place) (sym c.self.view_is) left)
 
 pub returns-clause-others : goal.returns-clause-others
 returns-clause-others c = λ other apart.
-    let at_stream : c.place.result ≡ stream_place c.args.service c.args.field.now = grind (arith, common_steps) in
-    others-stay c.self.inside.runs.items c.place.result other c.follow.new.run (λ e. apart (e ∙ at_stream)) ∙ ap (λ (v : OpenRuns). run_at v.runs other) c.self.view_is
-
-pub returns-clause-refused : goal.returns-clause-refused
-returns-clause-refused c =
-    let runs = c.self.inside.runs.items in
-    let inside : c.place.result < length runs = omega (arith, length-map runs octets_in, c.self.invariant.streams) in
-    on_err_weaker c.follow.result (λ same. ap (λ runs. record { segmented = c.self.inside.segmented; runs = runs }) (same-runs runs c.place.result c.index_mut-run.result.now c.follow.new.run inside c.index_mut-run.ensures.value same) ∙ c.self.view_is) c.follow.ensures.refused
-
-pub follow-requires : goal.follow-requires
-follow-requires c = read_within c.self.inside.runs.items c.place.result _ c.self.invariant c.place.ensures.within c.index_mut-run.ensures.value
+    let e = c.in_ok-ended.ensures in
+    let place = stream_place c.args.service c.args.field.now in
+    let is : c.settle.new.self ≡ settled c.in_ok-ended.ended place c.lay.new.self = grind (arith, common_steps) in
+    others-stay c.self.inside.runs c.settle.new.self place (taken {field = c.args.field.now} c.lay.new.self c.in_ok-ended.ended e.segmented e.limits e.others e.run is).others other apart
+    ∙ ap (λ (v : OpenRuns). run_at v.runs other) c.self.view_is
