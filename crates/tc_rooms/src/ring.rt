@@ -10,8 +10,8 @@ use std::alloc::{AllocError, Global};
 use std::marker::Model;
 use tc_packet::{GrowingRoom, Room};
 
-/// Rooms, the front one first. A `HeapCircularBuffer` can be asked to grow, by `resize` and by its allocator: none of the calls here
-/// does so but `with_rooms`, which makes it, and none gives it out.
+/// Rooms, the front one first. A `HeapCircularBuffer` can be asked to grow, and gives out what asks for memory: none of the calls here
+/// does so but `with_rooms`, which makes it, and none gives the buffer out.
 #[derive(Drop)]
 pub struct Ring<R: Room> {
     rooms: HeapCircularBuffer<R>,

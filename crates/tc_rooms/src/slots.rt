@@ -10,7 +10,7 @@ use tc_packet::{GrowingRoom, Room};
 
 /// Items that wait, the oldest first, each in a room of its own, and items that a call has laid behind them. The rooms are a ring that
 /// is always full: those of the items that wait, then those of what is laid, then empty ones. A room whose item goes is cleared and
-/// goes to the back. What is laid counts once all of a call is ([`settle`](Slots::settle)), or is let go ([`let_go`](Slots::let_go)).
+/// goes to the back, unless nothing else is there. What is laid counts once all of a call is ([`settle`](Slots::settle)), or is let go ([`let_go`](Slots::let_go)).
 /// With rooms that are made at the start only `with_capacity` allocates.
 #[derive(Drop)]
 pub struct Slots<R: Room> {
@@ -153,6 +153,11 @@ impl<R: Room> Slots<R> {
         ensures { self.new ≡ slotted (drop 1 self.old.ring.items) self.old.ring.capacity self.old.laid self.old.size }
     {
         if self.waiting == 0 {
+            return;
+        }
+        if self.waiting + self.laid == 1 {
+            self.ring.clear(0, self.size);
+            self.waiting = 0;
             return;
         }
         self.ring.turn(self.size);
