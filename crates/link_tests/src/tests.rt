@@ -2,7 +2,6 @@ mod blocks;
 mod cltus;
 mod link;
 mod packets;
-mod random;
 mod reassembler;
 mod streams;
 mod telemetry;

@@ -1,6 +1,7 @@
 -- Eight bits at once, and the sequence of the randomiser.
-use Rattle.std.proofs.Common.{◌≡◌, ℕ, ◌+◌, ◌*◌, ◌<◌, ◌≤◌, List, [], ◌∷◌, ◌++◌, length, get_or, take, set, append_assoc, drop, bit_xor, refl, ap, sym, ◌∙◌, arith, zero, suc}
+use Rattle.std.proofs.Common.{◌≡◌, ℕ, ◌+◌, ◌*◌, ◌<◌, ◌≤◌, List, [], ◌∷◌, ◌++◌, length, get_or, take, set, append_assoc, drop, replicate, bit_xor, refl, ap, sym, ◌∙◌, arith, zero, suc}
 use Rattle.tc_cltu.proofs.Names.{NEXT_OCTETS, REMAINDERS, bit_at, bits_of, block_remainder, block_times_x, moved_on, next_bit, octet_bits, octet_on, randomised_from, same_below, twice, xor_lt, xor_zero_r}
+use Rattle.std.specs.Int.Bits.{xor_zero_l}
 use Rattle.std.proofs.lemmas.List.{take_more_set, drop-set-lt, at_drop_more, at_drop_all, take_all, append-nil}
 use Rattle.tc_cltu.proofs.Division.{onward}
 use Rattle.tc_cltu.proofs.Patterns.{zeros-length, xors, zeros, zeros-xors}
@@ -61,6 +62,11 @@ random-end os target i r past h =
 pub random-twice : (os : List ℕ) (r : ℕ) → randomised_from r (randomised_from r os) ≡ os
 random-twice [] r = refl
 random-twice (o ∷ os) r = ap (λ (x : ℕ). x ∷ randomised_from (octet_on r) (randomised_from (octet_on r) os)) (twice o r) ∙ ap (λ (x : List ℕ). o ∷ x) (random-twice os (octet_on r))
+
+-- zeros become the sequence itself
+pub random-zeros : (n r : ℕ) → randomised_from r (replicate n 0) ≡ random_octets r n
+random-zeros zero r = refl
+random-zeros (suc n) r = ap (λ (x : ℕ). x ∷ randomised_from (octet_on r) (replicate n 0)) (xor_zero_l r) ∙ ap (λ (x : List ℕ). r ∷ x) (random-zeros n (octet_on r))
 
 -- ---- its sequence, bit by bit
 -- after a move each bit of the register is the one below it

@@ -1,21 +1,49 @@
 //! What holds of the definitions.
 
-ghost use Rattle.std.specs.Prelude.{◌≡◌, ◌*◌, ◌<◌, ◌≤◌, ◌++◌, ◌∷◌, [], ℕ, List, None, take};
+ghost use Rattle.std.specs.Prelude.{◌≡◌, ◌*◌, ◌<◌, ◌≤◌, ◌++◌, ◌∷◌, [], ℕ, List, Some, None, replicate, take};
 ghost use Rattle.tc_link.specs.Frame.{IsOctets};
 ghost use Rattle.tc_fecf.specs.Checksum.{bits_of};
 ghost use Rattle.tc_fecf.specs.Changes.{differences};
 ghost use Rattle.tc_cltu.specs.Division.{IsBlockRemainder};
 ghost use Rattle.tc_cltu.specs.CodeBlock.{block_remainder, IsInformation, code_block, word, errors, flipped};
 ghost use Rattle.tc_cltu.specs.Cltu.{cltu, filled, fill, most_octets, cltu_fault_of};
-ghost use Rattle.tc_cltu.specs.Reception.{Reception, Searching, state_after, frames_of, HasNoStart, IsSearching, IsReception, idle};
+ghost use Rattle.tc_cltu.specs.Reception.{Reception, Searching, fate_in, state_after, frames_of, HasNoStart, IsSearching, IsReception, idle};
 ghost use Rattle.tc_cltu.specs.Randomiser.{randomised, random_octets, random_bits};
 ghost use Rattle.tc_cltu.specs.declared.block.Mode.{Mode};
-ghost use Rattle.tc_cltu.specs.declared.block.Mode.TheVariants.{Correct};
+ghost use Rattle.tc_cltu.specs.declared.block.Mode.TheVariants.{Detect, Correct};
+ghost use Rattle.tc_cltu.specs.declared.block.Fate.TheVariants.{Right, Tail, Rejected};
+ghost use Rattle.tc_cltu.specs.declared.writer.CltuFault.TheVariants.{Empty, TooLong};
 
 /// The parity bits are the complement of the remainder of the division of the polynomials, and there is no other remainder.
 pub fn the_parity_is_the_remainder()
     ensures remainder { (information : List ℕ) → IsBlockRemainder (block_remainder 0 (bits_of information)) (bits_of information) }
     ensures only { (r s : ℕ) (bits : List ℕ) → IsBlockRemainder r bits → IsBlockRemainder s bits → r ≡ s }
+{}
+
+/// Code blocks, worked out by hand or by a long division in another language: seven octets, the parity bits, and a filler bit 0, which
+/// isn't looked at. No mode takes the tail sequence, or the idle sequence.
+///
+/// G is x^7 + x^6 + x^2 + 1, and the octets are a polynomial M, which is divided:
+///
+/// - Of 0 nothing is left, 0000000; so the parity bits are 1111111, and the octet with the filler bit 0 is fe.
+/// - Of x^7, for M = 1, x^7 - G = x^6 + x^2 + 1 is left, 1000101; its complement is 0111010.
+/// - Of x^8 + x^7, for M = x + 1, x^8 + x^7 - x G = x^3 + x is left, 0001010; its complement is 1110101.
+/// - Of x^9, for M = x^2, x^9 - x^2 G = x^8 + x^4 + x^2, less x G = x^7 + x^4 + x^3 + x^2 + x, less G = x^6 + x^4 + x^3 + x + 1 is left,
+///   1011011; its complement is 0100100.
+#[tactic(auto, unfolding(crate::specs::CodeBlock::block_times_x, crate::specs::CodeBlock::decoded, tc_fecf::specs::Checksum::octet_bits))]
+pub fn code_blocks_are_so()
+    ensures zero { code_block (0x00 ∷ 0x00 ∷ 0x00 ∷ 0x00 ∷ 0x00 ∷ 0x00 ∷ 0x00 ∷ []) ≡ 0x00 ∷ 0x00 ∷ 0x00 ∷ 0x00 ∷ 0x00 ∷ 0x00 ∷ 0x00 ∷ 0xfe ∷ [] }
+    ensures one { code_block (0x00 ∷ 0x00 ∷ 0x00 ∷ 0x00 ∷ 0x00 ∷ 0x00 ∷ 0x01 ∷ []) ≡ 0x00 ∷ 0x00 ∷ 0x00 ∷ 0x00 ∷ 0x00 ∷ 0x00 ∷ 0x01 ∷ 0x74 ∷ [] }
+    ensures three { code_block (0x00 ∷ 0x00 ∷ 0x00 ∷ 0x00 ∷ 0x00 ∷ 0x00 ∷ 0x03 ∷ []) ≡ 0x00 ∷ 0x00 ∷ 0x00 ∷ 0x00 ∷ 0x00 ∷ 0x00 ∷ 0x03 ∷ 0xea ∷ [] }
+    ensures four { code_block (0x00 ∷ 0x00 ∷ 0x00 ∷ 0x00 ∷ 0x00 ∷ 0x00 ∷ 0x04 ∷ []) ≡ 0x00 ∷ 0x00 ∷ 0x00 ∷ 0x00 ∷ 0x00 ∷ 0x00 ∷ 0x04 ∷ 0x48 ∷ [] }
+    ensures first_bit { code_block (0x80 ∷ 0x00 ∷ 0x00 ∷ 0x00 ∷ 0x00 ∷ 0x00 ∷ 0x00 ∷ []) ≡ 0x80 ∷ 0x00 ∷ 0x00 ∷ 0x00 ∷ 0x00 ∷ 0x00 ∷ 0x00 ∷ 0x3a ∷ [] }
+    ensures ones { code_block (0xff ∷ 0xff ∷ 0xff ∷ 0xff ∷ 0xff ∷ 0xff ∷ 0xff ∷ []) ≡ 0xff ∷ 0xff ∷ 0xff ∷ 0xff ∷ 0xff ∷ 0xff ∷ 0xff ∷ 0x86 ∷ [] }
+    ensures idle { code_block (0x55 ∷ 0x55 ∷ 0x55 ∷ 0x55 ∷ 0x55 ∷ 0x55 ∷ 0x55 ∷ []) ≡ 0x55 ∷ 0x55 ∷ 0x55 ∷ 0x55 ∷ 0x55 ∷ 0x55 ∷ 0x55 ∷ 0xd6 ∷ [] }
+    ensures mixed { code_block (0x22 ∷ 0xf6 ∷ 0x00 ∷ 0xff ∷ 0x00 ∷ 0x42 ∷ 0x1a ∷ []) ≡ 0x22 ∷ 0xf6 ∷ 0x00 ∷ 0xff ∷ 0x00 ∷ 0x42 ∷ 0x1a ∷ 0x12 ∷ [] }
+    ensures filler_bit { fate_in Detect (0x22 ∷ 0xf6 ∷ 0x00 ∷ 0xff ∷ 0x00 ∷ 0x42 ∷ 0x1a ∷ 0x13 ∷ []) ≡ Right }
+    ensures tail { fate_in Detect (0xc5 ∷ 0xc5 ∷ 0xc5 ∷ 0xc5 ∷ 0xc5 ∷ 0xc5 ∷ 0xc5 ∷ 0x79 ∷ []) ≡ Tail }
+    ensures tail_in_correction { fate_in Correct (0xc5 ∷ 0xc5 ∷ 0xc5 ∷ 0xc5 ∷ 0xc5 ∷ 0xc5 ∷ 0xc5 ∷ 0x79 ∷ []) ≡ Tail }
+    ensures idle_sequence { fate_in Correct (0x55 ∷ 0x55 ∷ 0x55 ∷ 0x55 ∷ 0x55 ∷ 0x55 ∷ 0x55 ∷ 0x55 ∷ []) ≡ Rejected }
 {}
 
 /// Two code blocks that differ in three places at most carry the same.
@@ -30,6 +58,19 @@ pub fn each_turned_bit_is_an_error()
         → errors (flipped (flipped (code_block information) i) j) information ≡ 2 }
     ensures three { (information : List ℕ) (i j k : ℕ) → IsInformation information → i < j → j < k → k < 63
         → errors (flipped (flipped (flipped (code_block information) i) j) k) information ≡ 3 }
+{}
+
+/// CLTUs, worked out by hand: the start sequence, code blocks with their parity bits, in the last of them fill where it needs some, and
+/// the tail sequence. The frames are an Unlock, and one with a packet.
+#[tactic(auto, unfolding(crate::specs::CodeBlock::block_times_x, tc_fecf::specs::Checksum::octet_bits))]
+pub fn a_cltu_is_so()
+    ensures one_block { cltu (0x00 ∷ 0x00 ∷ 0x00 ∷ 0x00 ∷ 0x00 ∷ 0x00 ∷ 0x01 ∷ []) ≡ 0xeb ∷ 0x90 ∷ 0x00 ∷ 0x00 ∷ 0x00 ∷ 0x00 ∷ 0x00 ∷ 0x00 ∷ 0x01 ∷ 0x74 ∷ 0xc5 ∷ 0xc5 ∷ 0xc5 ∷ 0xc5 ∷ 0xc5 ∷ 0xc5 ∷ 0xc5 ∷ 0x79 ∷ [] }
+    ensures one_octet { cltu (0x00 ∷ []) ≡ 0xeb ∷ 0x90 ∷ 0x00 ∷ 0x55 ∷ 0x55 ∷ 0x55 ∷ 0x55 ∷ 0x55 ∷ 0x55 ∷ 0x68 ∷ 0xc5 ∷ 0xc5 ∷ 0xc5 ∷ 0xc5 ∷ 0xc5 ∷ 0xc5 ∷ 0xc5 ∷ 0x79 ∷ [] }
+    ensures unlock { cltu (0x30 ∷ 0x2a ∷ 0x04 ∷ 0x05 ∷ 0x00 ∷ 0x00 ∷ []) ≡ 0xeb ∷ 0x90 ∷ 0x30 ∷ 0x2a ∷ 0x04 ∷ 0x05 ∷ 0x00 ∷ 0x00 ∷ 0x55 ∷ 0x94 ∷ 0xc5 ∷ 0xc5 ∷ 0xc5 ∷ 0xc5 ∷ 0xc5 ∷ 0xc5 ∷ 0xc5 ∷ 0x79 ∷ [] }
+    ensures two_blocks { cltu (0x00 ∷ 0x2a ∷ 0x04 ∷ 0x0c ∷ 0x00 ∷ 0xc0 ∷ 0x10 ∷ 0x05 ∷ 0xc0 ∷ 0x00 ∷ 0x00 ∷ 0x00 ∷ 0xaa ∷ []) ≡ 0xeb ∷ 0x90 ∷ 0x00 ∷ 0x2a ∷ 0x04 ∷ 0x0c ∷ 0x00 ∷ 0xc0 ∷ 0x10 ∷ 0xaa ∷ 0x05 ∷ 0xc0 ∷ 0x00 ∷ 0x00 ∷ 0x00 ∷ 0xaa ∷ 0x55 ∷ 0xe0 ∷ 0xc5 ∷ 0xc5 ∷ 0xc5 ∷ 0xc5 ∷ 0xc5 ∷ 0xc5 ∷ 0xc5 ∷ 0x79 ∷ [] }
+    ensures longest { cltu_fault_of (replicate 1029 0) ≡ None }
+    ensures too_long { cltu_fault_of (replicate 1030 0) ≡ Some TooLong }
+    ensures empty { cltu_fault_of [] ≡ Some Empty }
 {}
 
 /// While a receiving end searches, a CLTU gives the frame that it carries, with its fill, and the search goes on behind it; with
@@ -56,10 +97,12 @@ pub fn the_next_cltu_is_found()
         ≡ frames_of mode most_octets state (before ++ idle 15) ++ filled frame ∷ frames_of mode most_octets (Searching 0) rest }
 {}
 
-/// The random sequence, added twice, changes nothing. Its octets are the bits of the register, one after the other.
+/// The random sequence, added twice, changes nothing. It is what zeros become, and its octets are the bits of the register, one after the
+/// other. The first 40 bits are as the standard prints them, the others by the register, bit by bit, in another language.
 pub fn the_random_sequence_comes_off_as_it_went_on()
     ensures twice { (octets : List ℕ) → randomised (randomised octets) ≡ octets }
+    ensures zeros { (n : ℕ) → randomised (replicate n 0) ≡ random_octets 0xff n }
     ensures bits { (n : ℕ) → bits_of (random_octets 0xff n) ≡ random_bits 0xff (8 * n) }
-    ensures first { random_octets 0xff 12
-        ≡ 0xff ∷ 0x39 ∷ 0x9e ∷ 0x5a ∷ 0x68 ∷ 0xe9 ∷ 0x06 ∷ 0xf5 ∷ 0x6c ∷ 0x89 ∷ 0x2f ∷ 0xa1 ∷ [] }
+    ensures first { random_octets 0xff 16
+        ≡ 0xff ∷ 0x39 ∷ 0x9e ∷ 0x5a ∷ 0x68 ∷ 0xe9 ∷ 0x06 ∷ 0xf5 ∷ 0x6c ∷ 0x89 ∷ 0x2f ∷ 0xa1 ∷ 0x31 ∷ 0x5e ∷ 0x08 ∷ 0xc0 ∷ [] }
 {}

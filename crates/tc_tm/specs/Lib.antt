@@ -1,2 +1,3 @@
 pub mod TmFrame
 pub mod Counting
+pub mod Examples

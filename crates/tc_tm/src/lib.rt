@@ -1,7 +1,8 @@
 //! Telemetry transfer frames that carry a CLCW and nothing else but idle data (CCSDS 132.0-B): the way back of a command link.
 //!
-//! [`write_tm`] writes a frame, [`Counts`] numbers frame after frame, and [`read_tm`] reads one. A law over the definitions stands as
-//! the contract of a function with an empty body: [`a_written_frame_reads_back`].
+//! [`write_tm`] writes a frame, [`Counts`] numbers frame after frame, and [`read_tm`] reads one. Laws over the definitions stand as
+//! contracts of functions with empty bodies: [`a_written_frame_reads_back`], [`a_telemetry_frame_is_so`],
+//! [`telemetry_frames_are_bounded_so`], [`telemetry_frames_are_counted_so`].
 #![tactic(auto)]
 
 mod counts;
@@ -11,5 +12,8 @@ mod reading;
 
 pub use counts::Counts;
 pub use frame::{ErrorControl, TmFault, TmHeader, write_tm};
-pub use laws::a_written_frame_reads_back;
+pub use laws::{
+    a_telemetry_frame_is_so, a_written_frame_reads_back, telemetry_frames_are_bounded_so,
+    telemetry_frames_are_counted_so,
+};
 pub use reading::{TmFields, TmReadFault, read_tm};

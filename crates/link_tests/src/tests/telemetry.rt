@@ -1,7 +1,7 @@
 //! Telemetry frames, worked out by hand. The sum is that of Python's `binascii.crc_hqx(.., 0xffff)`.
 
 use std::alloc::{AllocError, Global};
-use tc_tm::{Counts, ErrorControl, TmFault, TmFields, TmHeader, TmReadFault, read_tm, write_tm};
+use tc_tm::{Counts, ErrorControl, TmFault, TmHeader, write_tm};
 use test_parts::made_again;
 
 const HEADER: TmHeader = TmHeader {
@@ -13,12 +13,6 @@ const HEADER: TmHeader = TmHeader {
 
 const CLCW: [u8; 4] = [0x01, 0x04, 0x00, 0x01];
 
-const FIELDS: TmFields = TmFields {
-    header: HEADER,
-    pointer: 2046,
-    control: CLCW,
-};
-
 // 00 0000101010 001 1, the counts, 0 0 0 11 11111111110, an idle octet and the CLCW.
 const FRAME: [u8; 11] = [
     0x02, 0xa3, 0xff, 0x07, 0x1f, 0xfe, 0x55, 0x01, 0x04, 0x00, 0x01,
@@ -29,71 +23,15 @@ const WHOLE: [u8; 13] = [
     0x02, 0xa3, 0xff, 0x07, 0x1f, 0xfe, 0x55, 0x01, 0x04, 0x00, 0x01, 0x73, 0xd2,
 ];
 
-// A spacecraft, a virtual channel and a length, and the frame with the counts of `HEADER`, or why it isn't written.
-static WRITTEN: [(ErrorControl, u16, u8, usize, Result<&[u8], TmFault>); 6] = [
-    (ErrorControl::Absent, 42, 1, 11, Ok(&FRAME)),
-    (ErrorControl::Present, 42, 1, 13, Ok(&WHOLE)),
-    (ErrorControl::Present, 1024, 8, 10, Err(TmFault::BadScid)),
-    (ErrorControl::Present, 42, 8, 10, Err(TmFault::BadVcid)),
-    (ErrorControl::Present, 42, 7, 12, Err(TmFault::BadLength)),
-    (ErrorControl::Present, 42, 7, 2049, Err(TmFault::BadLength)),
-];
-
-// Whether a frame was written as expected, or refused so.
-fn are(made: &Result<Vec<u8>, TmFault>, expected: &Result<&[u8], TmFault>) -> bool {
-    match (made, expected) {
-        (Ok(made), Ok(frame)) => made.as_slice() == *frame,
-        (Err(fault), Err(other)) => fault == other,
-        _ => false,
-    }
-}
-
 #[test]
 fn growth_of_a_telemetry_frame_that_is_written(rt: HostRuntime) {
     let alloc = rt.alloc();
-    for (error, scid, vcid, length, expected) in &WRITTEN {
-        let header = TmHeader {
-            scid: *scid,
-            vcid: *vcid,
-            ..HEADER
-        };
-        let write = || write_tm(alloc, *error, &header, CLCW, *length);
-        let made = made_again(&rt, "write_tm", TmFault::NoMemory, &write);
-        assert!(rt; are(&made, expected));
-    }
-}
-
-// Octets, and what they say, or why they aren't read.
-static READ: [(ErrorControl, &[u8], Result<TmFields, TmReadFault>); 6] = [
-    (ErrorControl::Absent, &FRAME, Ok(FIELDS)),
-    (ErrorControl::Present, &WHOLE, Ok(FIELDS)),
-    (
-        ErrorControl::Present,
-        b"\x42\xa2\xff\x07\x1f\xfe\x55\x01\x04\x00\x01\x73",
-        Err(TmReadFault::Short),
-    ),
-    (
-        ErrorControl::Present,
-        b"\x42\xa2\xff\x07\x1f\xfe\x55\x01\x04\x00\x01\x73\xd2",
-        Err(TmReadFault::Version),
-    ),
-    (
-        ErrorControl::Present,
-        b"\x02\xa2\xff\x07\x1f\xfe\x55\x01\x04\x00\x01\x73\xd2",
-        Err(TmReadFault::NoControl),
-    ),
-    (
-        ErrorControl::Present,
-        b"\x02\xa3\xff\x07\x1f\xfe\x55\x01\x04\x00\x01\x73\xd3",
-        Err(TmReadFault::WrongSum),
-    ),
-];
-
-#[test]
-fn a_frame_is_read_or_refused(rt: HostRuntime) {
-    for (error, octets, expected) in &READ {
-        assert!(rt; read_tm(*error, octets) == *expected);
-    }
+    let write = || write_tm(alloc, ErrorControl::Absent, &HEADER, CLCW, 11);
+    let made = made_again(&rt, "write_tm", TmFault::NoMemory, &write);
+    assert!(rt; made.expect(&rt, "a frame").as_slice() == FRAME.as_slice());
+    let write = || write_tm(alloc, ErrorControl::Present, &HEADER, CLCW, 13);
+    let made = made_again(&rt, "write_tm", TmFault::NoMemory, &write);
+    assert!(rt; made.expect(&rt, "a frame").as_slice() == WHOLE.as_slice());
 }
 
 // Both counts of the next frame.

@@ -1,0 +1,25 @@
+-- Telemetry frames whose bits are worked out by hand, to be read with the definitions.
+use Rattle.std.specs.Prelude.{ℕ, List, [], ◌∷◌}
+use Rattle.tc_tm.specs.declared.frame.TmHeader.{TmHeader}
+use Rattle.tc_tm.specs.declared.reading.TmFields.{TmFields}
+
+-- spacecraft 42 and virtual channel 1, with these counts of their frames
+abbrev pub header : TmHeader
+header = record { scid = 42; vcid = 1; master_count = 255; channel_count = 7 }
+
+-- a CLCW: COP-1 in effect, virtual channel 1, no flag set, V(R) 1
+abbrev pub clcw : List ℕ
+clcw = 0x01 ∷ 0x04 ∷ 0x00 ∷ 0x01 ∷ []
+
+-- 00 0000101010 001 1: version, spacecraft, virtual channel, and a 1, since there is an operational control field. The two counts.
+-- 0 0 0 11 11111111110: no secondary header, packets in order, and the pointer of only idle data. An octet of these, and the CLCW
+abbrev pub frame : List ℕ
+frame = 0x02 ∷ 0xa3 ∷ 0xff ∷ 0x07 ∷ 0x1f ∷ 0xfe ∷ 0x55 ∷ 0x01 ∷ 0x04 ∷ 0x00 ∷ 0x01 ∷ []
+
+-- the same with its frame error control field, which is that of Python's `binascii.crc_hqx(.., 0xffff)`
+abbrev pub frame_with_sum : List ℕ
+frame_with_sum = 0x02 ∷ 0xa3 ∷ 0xff ∷ 0x07 ∷ 0x1f ∷ 0xfe ∷ 0x55 ∷ 0x01 ∷ 0x04 ∷ 0x00 ∷ 0x01 ∷ 0x73 ∷ 0xd2 ∷ []
+
+-- what both say
+abbrev pub fields : TmFields
+fields = record { header = header; pointer = 2046; control = clcw }
