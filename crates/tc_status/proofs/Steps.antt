@@ -54,13 +54,12 @@ opens word h is allowed law = record {
     one zero v e = subst (IsBehind h) (some-injective (view h) v e) (behind-self h)
     one (suc id) v e = absurd (some-ne-none v (sym e))
 
--- what is published by a step that leaves this word: by a store, or without one where the word is the same
-pub publishes : (slots id : ℕ) (me : Me (Unit {0}) View) (h : History) (f : ℕ → ℕ) → id ≡ 0 → f (status_word me.0.seen) ≡ status_word h → IsLawful h.settings h.journal → IsEarlier me.0.seen h
-    → Allows Kept slots id me 0 f (λ _ w. w ≡ (view h, me.1))
-publishes slots id me h f is_first is law later = rw is_first (λ s b len at small.
+-- what is published by a store of its word
+pub publishes : (slots id : ℕ) (me : Me (Unit {0}) View) (h : History) (word : ℕ) → id ≡ 0 → word ≡ status_word h → IsLawful h.settings h.journal → IsEarlier me.0.seen h
+    → Allows Kept slots id me 0 (λ _. word) (λ _ w. w ≡ (view h, me.1))
+publishes slots id me h word is_first is law later = rw is_first (λ s b len at small.
     let same : b.publisher ≡ me.0 = some-injective b.publisher me.0 (sym b.first ∙ at) in
-    let later' : IsEarlier b.publisher.seen h = subst (λ (v : View). IsEarlier v.seen h) (sym same) later in
-    let word : f (status_word b.publisher.seen) ≡ status_word h = ap (λ (v : View). f (status_word v.seen)) same ∙ is in (
+    let later' : IsEarlier b.publisher.seen h = subst (λ (v : View). IsEarlier v.seen h) (sym same) later in (
       view h,
       keeps,
       tt,
@@ -70,7 +69,7 @@ publishes slots id me h f is_first is law later = rw is_first (λ s b len at sma
         live = refl;
         allowed = subst IsAllowed (sym later'.0) b.allowed;
         lawful = law;
-        word = ap (λ ws. set ws 0 (f (slice_index ws 0))) b.word ∙ ap (λ n. n ∷ []) word;
+        word = ap (λ ws. set ws 0 word) b.word ∙ ap (λ n. n ∷ []) is;
         behind = all-behind-set h s.views 0 (view h) (λ j u e. behind-later b.publisher.seen h u later' (b.behind j u e)) (behind-self h);
       },
       refl,

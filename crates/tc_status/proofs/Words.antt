@@ -1,16 +1,12 @@
--- The two flags of the link stand in bits of their own, for a crate above that sets them in a word that was read; and a take leaves
--- the word as it is.
-use Rattle.std.proofs.Common.{◌≡◌, ℕ, ◌+◌, ◌*◌, ◌^◌, refl, ap, arith}
+-- The two flags of the link stand in bits of their own, for a crate above that sets them in a word that was read.
+use Rattle.std.proofs.Common.{◌≡◌, ℕ, ◌+◌, ◌*◌, ◌^◌, refl, arith}
 use Rattle.tc_link.specs.declared.farm.Report.{Report}
 use Rattle.tc_link.specs.declared.clcw.Link.{Link}
 use Rattle.tc_link.specs.Bits.{bit}
 use Rattle.tc_link.specs.Clcw.{word_of}
-use Rattle.tc_channel.specs.declared.event.Event.TheVariants.{Take, TakeUnit}
-use Rattle.tc_channel.specs.ChannelState.{ChannelState, no_limits}
-use Rattle.tc_channel.specs.Journal.{History, with_event}
+use Rattle.tc_channel.specs.Journal.{History}
 use Rattle.tc_channel.specs.Run.{run}
 use Rattle.tc_channel.specs.Reply.{clcw, clcw_within}
-use Rattle.tc_channel.proofs.Runs.{run-push}
 use Rattle.tc_status.specs.Board.{no_flag, status_word}
 
 word-flags : (r : Report) (vcid : ℕ) (link none : Link) → bit none.no_rf ≡ 0 → bit none.no_bit_lock ≡ 0 → word_of r vcid link ≡ word_of r vcid none + bit link.no_rf * 2 ^ 15 + bit link.no_bit_lock * 2 ^ 14
@@ -19,12 +15,3 @@ word-flags r vcid link none no_rf no_bit_lock = omega arith
 pub clcw-flags : (h : History) (link : Link) → clcw h.settings h.journal link ≡ status_word h + bit link.no_rf * 2 ^ 15 + bit link.no_bit_lock * 2 ^ 14
 unfolding clcw_within
 clcw-flags h link = word-flags (run h.settings h.journal).report h.settings.vcid link no_flag refl refl
-
--- what a take leaves of the components
-pub word-taken : (h : History) (apid : ℕ) → status_word (with_event h (Take apid)) ≡ status_word h
-unfolding clcw_within
-word-taken h apid = ap (λ (s : ChannelState). word_of s.report h.settings.vcid no_flag) (run-push no_limits h.settings h.journal (Take apid))
-
-pub word-unit-taken : (h : History) (map_id : ℕ) → status_word (with_event h (TakeUnit map_id)) ≡ status_word h
-unfolding clcw_within
-word-unit-taken h map_id = ap (λ (s : ChannelState). word_of s.report h.settings.vcid no_flag) (run-push no_limits h.settings h.journal (TakeUnit map_id))

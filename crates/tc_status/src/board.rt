@@ -39,7 +39,7 @@ impl Publication for Brand {
     ghost next = { no_history };
 }
 
-/// A step by the publisher, which publishes: a store, or a load where the word stays as it is.
+/// A store by the publisher, which publishes.
 pub struct Publishes<P> {
     marker: PhantomData<P>,
 }

@@ -114,7 +114,7 @@ impl<J: Journal> DeskOf<J> {
         ensures board { self.new.board ≡ self.old.board }
     {
         let packet = self.channel.take(apid)?;
-        self.publisher.publish_behind_same_word(&self.channel);
+        self.publisher.publish(&self.channel);
         Ok(packet)
     }
 
@@ -131,7 +131,7 @@ impl<J: Journal> DeskOf<J> {
         ensures board { self.new.board ≡ self.old.board }
     {
         let unit = self.channel.take_unit(map)?;
-        self.publisher.publish_behind_same_word(&self.channel);
+        self.publisher.publish(&self.channel);
         Ok(unit)
     }
 

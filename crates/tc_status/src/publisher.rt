@@ -2,7 +2,7 @@
 
 ghost use Rattle.std.specs.Prelude.{◌≡◌, [], IfOk};
 ghost use Rattle.std.specs.Arc.{arc_value};
-ghost use Rattle.tc_status.specs.Board.{IsEarlier, IsSeated, status_word, view};
+ghost use Rattle.tc_status.specs.Board.{IsEarlier, IsSeated, view};
 
 use crate::board::{Board, BoardSeat, Doubles, Publication, Publishes, WordTable};
 use crate::watcher::Watcher;
@@ -66,16 +66,6 @@ impl Publisher {
         store::<Brand, J>(&self.board, &mut self.seat, channel);
     }
 
-    /// Publishes the channel's journal where the word stays as it is: one load, which takes the place of the store.
-    pub(crate) fn publish_behind_same_word<J: Journal>(&mut self, channel: &ChannelWith<J>)
-        requires later { IsEarlier self.old.published channel.now }
-        requires same { status_word channel.now ≡ status_word self.old.published }
-        ensures board { self.new.board ≡ self.old.board }
-        ensures published { self.new.published ≡ channel.now }
-    {
-        keep::<Brand, J>(&self.board, &mut self.seat, channel);
-    }
-
     /// A watcher of this board, which has seen what was published. It is refused only where the board can count no more owners.
     pub fn watcher(&mut self) -> Result<Watcher, NoMemory>
         ensures board { IfOk result (λ watcher. watcher.board ≡ self.old.board) }
@@ -105,23 +95,4 @@ fn store<P: Publication, J: Journal>(
 {
     let word = u64::from(channel.clcw(NO_FLAG));
     board.table.shared.store::<Publishes<P>>(seat, 0, word);
-}
-
-// The load of a publication that leaves the word as it is.
-fn keep<P: Publication, J: Journal>(
-    board: &Arc<Board>,
-    seat: &mut BoardSeat,
-    channel: &ChannelWith<J>,
-)
-    requires publication { P.next ≡ channel.now }
-    requires seated { IsSeated (arc_value board.now).table.shared.table_id seat.old.table_id seat.old.me }
-    requires first { seat.old.id ≡ 0 }
-    requires later { IsEarlier seat.old.me.0.seen channel.now }
-    requires same { status_word channel.now ≡ status_word seat.old.me.0.seen }
-    ensures same { (seat.new.table_id ≡ seat.old.table_id) × (seat.new.id ≡ seat.old.id) }
-    ensures published { seat.new.me ≡ (view channel.now, []) }
-{
-    // It ensures that the journal is lawful.
-    let _ = channel.settings();
-    board.table.shared.load::<Publishes<P>>(seat, 0);
 }

@@ -12,7 +12,7 @@ store-requires g c =
     let word : c.from-word.result ≡ status_word c.args.channel.now = search rules in (
       search rules,
       search rules,
-      publishes _ _ _ _ (λ _. c.from-word.result) q.first
+      publishes _ _ _ _ c.from-word.result q.first
           (word ∙ ap status_word published)
           (subst (λ (h : History). IsLawful h.settings h.journal) published c.clcw.ensures.lawful)
           (subst (λ (h : History). IsEarlier c.args.seat.now.me.0.seen h) published q.later),

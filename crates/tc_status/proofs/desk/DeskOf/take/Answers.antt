@@ -1,7 +1,0 @@
-use Rattle.std.proofs.Common.{◌∙◌, sym, ap}
-use Rattle.tc_status.specs.Board.{status_word}
-use Rattle.tc_status.proofs.Words.{word-taken}
-use Rattle.tc_status.proofs.desk.DeskOf.take.Goals as goal
-
-pub publish_behind_same_word-requires-clause-same : goal.publish_behind_same_word-requires-clause-same
-publish_behind_same_word-requires-clause-same g c = ap status_word c.in_ok-packet.ensures.done ∙ (word-taken c.self.inside.channel c.args.apid ∙ ap status_word (sym c.self.invariant))
