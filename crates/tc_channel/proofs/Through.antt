@@ -191,20 +191,14 @@ passed-as-sent limits c journal before later x sent lawful era comes =
     ap (λ (l : List (List ℕ)). drop n l) (fields-in-order limits c journal lawful)
     ∙ (rest-released n r accepted ∙ sent-fields sent 0 (r - n) (drop n accepted) (λ i a is. all i a is ∙ ap sent (omega arith)) inside)
 
-pub packets-as-sent : (limits : ℕ → ℕ) (c : Settings) (journal before later : List Event) (x : ℕ) (sent : ℕ → List ℕ) (apid : ℕ) (q : Queue) → IsLawfulWithin limits c journal
-    → IsEraWithin limits c journal before later x → ComesFromWithin limits c before later x sent → queue_of apid (run_within limits c journal).queues ≡ Some q
-    → (passed_since limits c before (run_within limits c journal).passed ≡ sent_from sent 0 (released_since limits c before journal))
-    × IsPartOf (packets_given c apid (first_state_within limits c) journal) (packets_made limits c apid (run_within limits c journal).passed)
-packets-as-sent limits c journal before later x sent apid q lawful era comes has = (
-  passed-as-sent limits c journal before later x sent lawful era comes,
-  rw (packets-in-order limits c journal apid q has) (part-take q.taken q.admitted (packets_made limits c apid (run_within limits c journal).passed) (packets-are-made limits c journal apid q has)),
-)
+-- what takes gave
 
-pub units-as-sent : (limits : ℕ → ℕ) (c : Settings) (journal before later : List Event) (x : ℕ) (sent : ℕ → List ℕ) (map_id : ℕ) (q : Queue) → IsLawfulWithin limits c journal
-    → IsEraWithin limits c journal before later x → ComesFromWithin limits c before later x sent → queue_of map_id (run_within limits c journal).units ≡ Some q
-    → (passed_since limits c before (run_within limits c journal).passed ≡ sent_from sent 0 (released_since limits c before journal))
-    × IsPartOf (units_given c map_id (first_state_within limits c) journal) (units_made limits c map_id (run_within limits c journal).passed)
-units-as-sent limits c journal before later x sent map_id q lawful era comes has = (
-  passed-as-sent limits c journal before later x sent lawful era comes,
-  rw (units-in-order limits c journal map_id q has) (part-take q.taken q.admitted (units_made limits c map_id (run_within limits c journal).passed) (units-are-made limits c journal map_id q has)),
-)
+pub packets-given-of-made : (limits : ℕ → ℕ) (c : Settings) (journal : List Event) (apid : ℕ) (q : Queue) → queue_of apid (run_within limits c journal).queues ≡ Some q
+    → IsPartOf (packets_given c apid (first_state_within limits c) journal) (packets_made limits c apid (run_within limits c journal).passed)
+packets-given-of-made limits c journal apid q has =
+    rw (packets-in-order limits c journal apid q has) (part-take q.taken q.admitted (packets_made limits c apid (run_within limits c journal).passed) (packets-are-made limits c journal apid q has))
+
+pub units-given-of-made : (limits : ℕ → ℕ) (c : Settings) (journal : List Event) (map_id : ℕ) (q : Queue) → queue_of map_id (run_within limits c journal).units ≡ Some q
+    → IsPartOf (units_given c map_id (first_state_within limits c) journal) (units_made limits c map_id (run_within limits c journal).passed)
+units-given-of-made limits c journal map_id q has =
+    rw (units-in-order limits c journal map_id q has) (part-take q.taken q.admitted (units_made limits c map_id (run_within limits c journal).passed) (units-are-made limits c journal map_id q has))

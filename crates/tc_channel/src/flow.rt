@@ -14,10 +14,10 @@ ghost use Rattle.tc_channel.specs.Run.{run_within, IsLawfulWithin};
 ghost use Rattle.tc_channel.specs.Reply.{clcw_within, take_reply_within, unit_reply_within};
 ghost use Rattle.tc_channel.specs.Given.{oldest_in, packets_given, units_given, fields_passed};
 ghost use Rattle.tc_channel.specs.Era.{IsEraWithin, ComesFromWithin, accepted_since_within};
-
-use tc_link::a_written_clcw_reads_back;
 ghost use Rattle.tc_channel.specs.Account.{Share, AccountFor};
 ghost use Rattle.tc_channel.specs.Through.{IsPartOf, packets_made, units_made, sent_from, passed_since, released_since};
+
+use tc_link::a_written_clcw_reads_back;
 
 /// The data fields of Type-AD that were passed to reassembly are the accepted ones, each once and in order, as far as they were
 /// released.
@@ -51,20 +51,17 @@ pub fn what_was_passed_on_is_admitted_in_order()
 /// From a sender to what was taken. In an era a sender numbers its Type-AD frames on from the V(R) with which the era starts, with the
 /// data fields `sent`, and none comes 256 numbers or more early or late; frames may be lost, come several times and out of order. Then,
 /// after any lawful journal, the AD fields of the era that were passed to reassembly are the first that were sent, as many as were
-/// released; and all packets of an application that takes ever gave are, in their order, packets that the passed fields make, of which
-/// some may be left out. The same holds of the units of a chosen MAP. Where no Set V(R) was obeyed, the era is the whole journal.
+/// released. Where no Set V(R) was obeyed, the era is the whole journal. Whoever sent, all packets of an application that takes ever
+/// gave are, in their order, packets that the passed fields make, of which some may be left out. The same holds of the units of a chosen
+/// MAP.
 pub fn what_was_sent_is_given_in_order()
     ensures fields { (limits : ℕ → ℕ) (s : Settings) (journal before later : List Event) (x : ℕ) (sent : ℕ → List ℕ) → IsLawfulWithin limits s journal
         → IsEraWithin limits s journal before later x → ComesFromWithin limits s before later x sent
         → passed_since limits s before (run_within limits s journal).passed ≡ sent_from sent 0 (released_since limits s before journal) }
-    ensures packets { (limits : ℕ → ℕ) (s : Settings) (journal before later : List Event) (x : ℕ) (sent : ℕ → List ℕ) (apid : ℕ) (q : Queue) → IsLawfulWithin limits s journal
-        → IsEraWithin limits s journal before later x → ComesFromWithin limits s before later x sent → queue_of apid (run_within limits s journal).queues ≡ Some q
-        → (passed_since limits s before (run_within limits s journal).passed ≡ sent_from sent 0 (released_since limits s before journal))
-        × IsPartOf (packets_given s apid (first_state_within limits s) journal) (packets_made limits s apid (run_within limits s journal).passed) }
-    ensures units { (limits : ℕ → ℕ) (s : Settings) (journal before later : List Event) (x : ℕ) (sent : ℕ → List ℕ) (map_id : ℕ) (q : Queue) → IsLawfulWithin limits s journal
-        → IsEraWithin limits s journal before later x → ComesFromWithin limits s before later x sent → queue_of map_id (run_within limits s journal).units ≡ Some q
-        → (passed_since limits s before (run_within limits s journal).passed ≡ sent_from sent 0 (released_since limits s before journal))
-        × IsPartOf (units_given s map_id (first_state_within limits s) journal) (units_made limits s map_id (run_within limits s journal).passed) }
+    ensures packets { (limits : ℕ → ℕ) (s : Settings) (journal : List Event) (apid : ℕ) (q : Queue) → queue_of apid (run_within limits s journal).queues ≡ Some q
+        → IsPartOf (packets_given s apid (first_state_within limits s) journal) (packets_made limits s apid (run_within limits s journal).passed) }
+    ensures units { (limits : ℕ → ℕ) (s : Settings) (journal : List Event) (map_id : ℕ) (q : Queue) → queue_of map_id (run_within limits s journal).units ≡ Some q
+        → IsPartOf (units_given s map_id (first_state_within limits s) journal) (units_made limits s map_id (run_within limits s journal).passed) }
 {}
 
 /// Each data field that was passed to reassembly is accounted for. The fields of a service and a MAP part, each once and in order, into
