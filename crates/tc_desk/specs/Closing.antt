@@ -2,10 +2,8 @@
 use Rattle.std.specs.Prelude.{◌≡◌, ◌<◌, ◌≤◌, ◌⊎◌, ◌-◌, ◌^◌, ℕ, List, length}
 use Rattle.tc_channel.specs.declared.event.Event.{Event}
 use Rattle.tc_channel.specs.Journal.{History}
-use Rattle.logged_lock.specs.Log.{total_made, IsBeginning, IsMergeOf, AreBehind}
-use Rattle.tc_desk.specs.Log.{Moment, Own, AtLock, accounts_of}
-use Rattle.tc_desk.specs.declared.closing.Obstacle.{Obstacle}
-use Rattle.tc_desk.specs.declared.closing.Obstacle.TheVariants.{Held, Unbalanced}
+use Rattle.logged_lock.specs.Log.{total_made, IsMergeOf, AreBehind}
+use Rattle.tc_desk.specs.Log.{Own, AtLock, accounts_of}
 
 -- they have made as many events as the journal has, and these are fewer than a count of 64 bits shows
 abbrev pub IsBalanced : List Own → List Event → Type 0
@@ -27,8 +25,3 @@ pub record IsClosed (keeper : AtLock) (operators : List AtLock) (closed : Histor
   pub balanced : IsBalanced (accounts_of operators) closed.journal
   pub merge : IsMergeOf closed.journal (accounts_of operators)
   pub seen : AreBehind (accounts_of operators) (record { head = keeper.own.seen.head; entries = closed.journal })
-
--- a moment of the desk at which these operators hadn't made as many events as its journal had, or these were too many for a count
-abbrev pub IsObstacle : AtLock → List AtLock → Obstacle → Type 0
-IsObstacle keeper operators Held = Unit {0}
-IsObstacle keeper operators Unbalanced = (now : Moment) × IsBeginning keeper.own.seen now × ¬ IsBalanced (accounts_of operators) now.entries

@@ -3,7 +3,7 @@
 ghost use Rattle.std.specs.Prelude.{◌≡◌, All, min, ◌^◌, ◌-◌, IfOk, IfErr};
 ghost use Rattle.logged_lock.specs.Log.{total_made};
 ghost use Rattle.tc_desk.specs.Log.{accounts_of, told_at};
-ghost use Rattle.tc_desk.specs.Closing.{IsClosed, IsObstacle, IsCause};
+ghost use Rattle.tc_desk.specs.Closing.{IsClosed, IsCause};
 
 use crate::held::HeldDesk;
 use crate::locked::{DeskKeeper, DeskOperator, LockedDesk};
@@ -78,7 +78,6 @@ impl<J: Journal> LockedDesk<J> {
         requires ours { All (λ o. o.lock ≡ self.id) operators.items }
         ensures closed { IfOk result (IsClosed keeper operators.items) }
         ensures kept { IfErr result (λ left. (left.desk ≡ self) × (left.keeper.lock ≡ self.id) × (left.keeper.own.issued ≡ keeper.own.issued) × (left.operators.items ≡ operators.items)) }
-        ensures obstacle { IfErr result (λ left. IsObstacle keeper operators.items left.obstacle) }
         ensures cause { IfErr result (λ left. left.obstacle ≡ Obstacle.Unbalanced → IsCause keeper.own.issued (accounts_of operators.items)) }
     {
         let mut held = match HeldDesk::hold(self, keeper) {

@@ -1,7 +1,5 @@
-use Rattle.tc_desk.proofs.Names.{◌∙◌, List, min, ap, subst, sym, arith, rules, true≢false, common_steps, ◌-◌, ◌^◌, length-map, total_made, IsBeginning, AtLock, AtHand, accounts_of, CanClose, IsCause, IsClosed, IsOut}
-use Rattle.tc_desk.specs.Closing.{IsObstacle}
-use Rattle.tc_desk.specs.declared.closing.Obstacle.{Obstacle}
-use Rattle.tc_desk.proofs.Counted.{cause-of, not-balanced}
+use Rattle.tc_desk.proofs.Names.{◌∙◌, List, min, ap, subst, sym, arith, rules, true≢false, common_steps, ◌-◌, ◌^◌, length-map, total_made, AtLock, AtHand, accounts_of, CanClose, IsCause, IsClosed, IsOut}
+use Rattle.tc_desk.proofs.Counted.{cause-of}
 use Rattle.tc_desk.proofs.Rows.{closed_one}
 use Rattle.tc_desk.proofs.locked.LockedDesk.close.Goals as goal
 
@@ -16,8 +14,6 @@ returns-then-not-can_close g c =
     record {
       closed = search rules;
       kept = first_of (search rules, grind (arith, common_steps));
-      obstacle = subst (λ (o : Obstacle). IsObstacle c.args.keeper operators o) (sym c.left_open-then-not-can_close.ensures.3)
-          (held.now, subst (λ (k : AtLock). IsBeginning k.own.seen held.now) c.in-Ok.ensures.keeper c.in-Ok.ensures.later, not-balanced held.keeper.own.issued accounts held.now.entries cannot);
       cause = λ _. subst (λ (k : AtLock). IsCause k.own.issued accounts) c.in-Ok.ensures.keeper (cause-of held.keeper.own.issued accounts held.now.entries cannot);
     }
 
