@@ -84,16 +84,17 @@ module _ {R F : Type 0} (e : Event) (ok : Moment → R → Type 0) (err : Moment
   refused (Ok a) d = tt
   refused (Err f) d = ap (λ cs. record { vcids = vcids; counts = cs }) (same-set (λ (x : AtLock). count_of x.own) desks place there next is (ap (λ (x : Own). count_of x) d.answer.1))
 
+  heads-kept : heads_of (set desks place next) ≡ heads_of o.desks
+  heads-kept = same-set (λ (d : AtLock). d.own.seen.head) desks place there next is (head-kept e ok err there next r c) ∙ ap (λ (x : AtStation). heads_of x.desks) view
+
   pub called : IsCounted station place vcid e ok err o r changed
   called = record {
     call = call-at;
     counted = subst (λ (x : AtStation). OnOk r (tally changed ≡ tallied vcid (tally x))) view (counted r c);
     refused = subst (λ (x : AtStation). OnErr r (tally changed ≡ tally x)) view (refused r c);
     ours = (ap (λ (x : AtStation). x.vcids) view ∙ ours.0, same-set (λ (d : AtLock). d.lock) desks place there next is c.lock ∙ (ap (λ (x : AtStation). locks_of x.desks) view ∙ ours.1));
+    knows = λ known. heads-kept ∙ known;
   }
-
-  pub heads-kept : heads_of (set desks place next) ≡ heads_of o.desks
-  heads-kept = same-set (λ (d : AtLock). d.own.seen.head) desks place there next is (head-kept e ok err there next r c) ∙ ap (λ (x : AtStation). heads_of x.desks) view
 
 -- the operator's desk of a place and the station's have one lock
 pub same-lock : (station : Roster) (o : AtStation) (vcids posted : List ℕ) (scid issued : ℕ) (desks posts : List AtLock) (place vcid : ℕ) (there post : AtLock)

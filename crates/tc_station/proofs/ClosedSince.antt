@@ -7,6 +7,7 @@ use Rattle.logged_lock.specs.Log.{IsBeginning}
 use Rattle.logged_lock.proofs.Steps.{beginning-trans, prefix-trans}
 use Rattle.tc_channel.specs.Reply.{clcw}
 use Rattle.tc_link.specs.declared.Link.{Link}
+use Rattle.tc_status.specs.Board as board
 use Rattle.tc_station.specs.Through.{IsClosedSince, IsItsLast, IsWordRead, IsShownIn}
 
 pub set-there : (desks : List AtLock) (place : ℕ) (d next : AtLock) → slice_get desks place ≡ Some d → slice_get (slice_set desks place next) place ≡ Some next
@@ -60,21 +61,22 @@ answered stands station place vcid e ok err before after r channel c since =
     let stood = stands c.there.own now e closed begun in
     (seen.0, length now.entries, seen.1, stood.0, subst (λ (m : Moment). ok m r) stood.1 answer.0, (c.next, at, (c.there.own.made, ap (λ (o : Own). o.made) answer.1)))
 
--- a CLCW that was read before a meeting is that of a place in what was given out
-pub shown : (station : Roster) (place vcid : ℕ) (link : Link) (early late met : Watching) (word : ℕ) (before after : AtStation) (channel : History)
-    → IsWordRead link early word late → IsMetAt place vcid late before met after → IsClosedSince station place after channel → IsShownIn channel early link word
-shown station place vcid link early late met word before after channel (later, of) m since =
+-- a CLCW that was read before a meeting, with other reads between or none, is that of a place in what was given out
+pub shown : (station : Roster) (place vcid : ℕ) (link : Link) (early mid late met : Watching) (word : ℕ) (before after : AtStation) (channel : History)
+    → IsWordRead link early word mid → board.IsEarlier mid.seen late.seen → IsMetAt place vcid late before met after → IsClosedSince station place after channel → IsShownIn channel early link word
+shown station place vcid link early mid late met word before after channel (later, of) on m since =
     let at = ap (λ (l : List AtLock). slice_get l place) m.others ∙ set-there before.desks place m.there m.next m.was in
     let seen = seen-in-closed station place after channel m.next at since in
     let look = m.meeting.look in
     let closed : Moment = record { head = seen.0; entries = channel.journal } in
     let begun : IsBeginning look.now closed = subst (λ (o : Own). IsBeginning o.seen closed) look.looked seen.2 in
-    let front = prefix-trans late.seen.journal look.now.entries channel.journal look.answer.1 begun.1 in
-    let settings : late.seen.settings ≡ channel.settings = sym look.answer.0 ∙ (sym (ap (λ (h : Identity). h.settings) begun.0) ∙ seen.1) in
-    let journal : late.seen.journal ≡ take (length late.seen.journal) channel.journal = sym (ap (take (length late.seen.journal)) (sym front.1) ∙ take_at late.seen.journal front.0 (length late.seen.journal) refl) in
-    let n = length late.seen.journal in (
+    let whole = prefix-trans late.seen.journal look.now.entries channel.journal look.answer.1 begun.1 in
+    let front = prefix-trans mid.seen.journal late.seen.journal channel.journal on.1 whole in
+    let settings : mid.seen.settings ≡ channel.settings = sym on.0 ∙ (sym look.answer.0 ∙ (sym (ap (λ (h : Identity). h.settings) begun.0) ∙ seen.1)) in
+    let journal : mid.seen.journal ≡ take (length mid.seen.journal) channel.journal = sym (ap (take (length mid.seen.journal)) (sym front.1) ∙ take_at mid.seen.journal front.0 (length mid.seen.journal) refl) in
+    let n = length mid.seen.journal in (
       n,
       omega (arith, length-append early.seen.journal later.1.0, ap (length {A = Event}) later.1.1),
-      omega (arith, length-append late.seen.journal front.0, ap (length {A = Event}) front.1),
+      omega (arith, length-append mid.seen.journal front.0, ap (length {A = Event}) front.1),
       of ∙ (λ i. clcw (settings i) (journal i) link),
     )

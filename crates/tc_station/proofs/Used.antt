@@ -1,33 +1,29 @@
--- A frame that was brought stands in the journal that the close gives out: the premises of the statement follow from what the calls promise.
-use Rattle.tc_station.proofs.Names.{◌≡◌, ◌<◌, ℕ, List, [], length, get_or, take, Result, Ok, Err, Bool, Some, refl, sym, ap, subst, ◌∙◌, arith, length-map, slice_get, slice_get-get_or, slice_get_within, Event, History, Settings, TableId, AtLock, locks_of, Roster, AtStation, IsBringCall, IsReplied, IsNotBrought, IsOurs, inl, inr, IsCallAt, IsCallOn, KnowsDesks, Moment, heads_of, get_or_from_slice_get, IsMeeting, IsMetAt, Watching}
+-- What the calls of a station promise is what the statement asks for: an answered call stands in the journal that the close gives out.
+use Rattle.tc_station.proofs.Names.{◌≡◌, ◌<◌, ℕ, Bool, List, [], length, get_or, take, Result, Ok, Err, Some, refl, sym, ap, subst, ◌∙◌, arith, length-map, slice_get, slice_get-get_or, slice_get_within, Event, History, Settings, Moment, TableId, AtLock, locks_of, Roster, AtStation, IsPlace, IsBringCall, IsReplied, IsNotBrought, IsOurs, inl, inr, IsCallAt, IsCallOn, IsMetAt, Watching}
 use Rattle.std.proofs.lemmas.List.{append-nil}
+use Rattle.std.specs.Prelude.{slice_set}
 use Rattle.tc_channel.specs.declared.event.Event.TheVariants.{Frame}
 use Rattle.tc_channel.specs.Reply.{frame_reply}
-use Rattle.tc_link.specs.Frame.{BeginsWith}
-use Rattle.tc_status.specs.Board.{no_history}
-use Rattle.tc_station.specs.declared.station.Brought.{Brought}
-use Rattle.tc_station.specs.declared.faults.BringFault.{BringFault}
-use Rattle.tc_station.specs.Through.{IsClosedSince, HasGoneOn, IsWordRead, IsShownIn}
 use Rattle.tc_link.specs.declared.Link.{Link}
+use Rattle.tc_status.specs.Board.{no_history}
 use Rattle.tc_status.specs.Board as board
-use Rattle.tc_desk.specs.Log.{history_of}
-use Rattle.logged_lock.proofs.Steps.{prefix-trans}
+use Rattle.tc_station.specs.declared.station.Brought.{Brought}
+use Rattle.tc_station.specs.Location.{IsLocated}
+use Rattle.tc_station.specs.Through.{IsClosedSince, HasGoneOn, IsGivenOut, IsAnsweredAmong, IsWordRead, IsShownIn}
 use Rattle.tc_station.specs.Together.{AreClosedTogether}
 use Rattle.tc_station.proofs.ClosedSince.{Stands, answered, set-there, shown}
-use Rattle.tc_station.proofs.Called.{same-set, head-kept}
 
-abbrev is-ok : Result Brought BringFault → Type 0
+abbrev is-ok : {R F : Type 0} → Result R F → Type 0
 is-ok (Ok r) = Unit {0}
 is-ok (Err f) = ⊥
 
-pub brought-stands : Stands → (station : Roster) (octets : List ℕ) (grows : Bool) (before after : AtStation) (brought : Brought) (operators : List AtStation) (closed : List History) (number : ℕ)
-    → IsOurs station before → IsBringCall station octets IsReplied (IsNotBrought grows) before (Ok brought) after
+-- the channel at whose desk an operator did its last is given out, where it is among those with whom the station is closed
+given-out : (station : Roster) (place : ℕ) (before after : AtStation) (there next : AtLock) (operators : List AtStation) (closed : List History) (number : ℕ)
+    → IsOurs station before → slice_get before.desks place ≡ Some there → after.desks ≡ slice_set before.desks place next
     → slice_get operators number ≡ Some after → AreClosedTogether station operators closed
-    → (place n : ℕ) × (frame : List ℕ) × (channel : History) × (slice_get closed place ≡ Some channel) × BeginsWith octets frame
-      × (slice_get channel.journal n ≡ Some (Frame frame)) × (brought.reply ≡ frame_reply channel.settings (take n channel.journal) frame)
-brought-stands stands station octets grows before after brought operators closed number ours (inr (fault, is, wrong, same)) among together = absurd (subst is-ok wrong tt)
-brought-stands stands station octets grows before after brought operators closed number ours (inl (place, vcid, frame, placed, call)) among together =
-    let here : place < length before.desks = slice_get_within before.desks place call.there call.was in
+    → (channel : History) × (slice_get closed place ≡ Some channel) × IsClosedSince station place after channel
+given-out station place before after there next operators closed number ours was others among together =
+    let here : place < length before.desks = slice_get_within before.desks place there was in
     let posts = together.0 in
     let many = together.2.as_many in
     let mine = length-map before.desks (λ (o : AtLock). o.lock) in
@@ -36,40 +32,46 @@ brought-stands stands station octets grows before after brought operators closed
     let inside : place < length closed = omega (arith, here, many, mine, theirs, same) in
     let channel : History = get_or closed place no_history in
     let out : slice_get closed place ≡ Some channel = slice_get-get_or closed place no_history inside in
-    let at : slice_get after.desks place ≡ Some call.next = ap (λ (l : List AtLock). slice_get l place) call.others ∙ set-there before.desks place call.there call.next call.was in
-    let on : HasGoneOn place after after = record { before = call.next; after = call.next; was = at; is = at; longer = (refl, ([], append-nil call.next.own.seen.entries)) } in
-    let since : IsClosedSince station place after channel = record { operators = operators; closed = closed; together = together; out = out; number = number; last = after; among = among; on = on } in
-    let is = answered stands station place vcid (Frame frame) (IsReplied vcid frame) (IsNotBrought grows frame) before after brought channel call since in
-    (place, is.1, frame, channel, out, placed.0.0.0, is.3, is.4.1 ∙ ap (λ (s : Settings). frame_reply s (take is.1 channel.journal) frame) is.2)
+    let at : slice_get after.desks place ≡ Some next = ap (λ (l : List AtLock). slice_get l place) others ∙ set-there before.desks place there next was in
+    let on : HasGoneOn place after after = record { before = next; after = next; was = at; is = at; longer = (refl, ([], append-nil next.own.seen.entries)) } in
+    (channel, out, record { operators = operators; closed = closed; together = together; out = out; number = number; last = after; among = among; on = on })
 
--- what an operator knows of the desks it knows after a call
-knows-after : {R F : Type 0} (station : Roster) (place vcid : ℕ) (e : Event) (ok : Moment → R → Type 0) (err : Moment → F → Type 0) (before : AtStation) (r : Result R F) (after : AtStation)
-    → IsCallAt place vcid e ok err before r after → KnowsDesks station before → KnowsDesks station after
-knows-after station place vcid e ok err before r after call knows =
-    ap heads_of call.others
-    ∙ (same-set (λ (d : AtLock). d.own.seen.head) before.desks place call.there call.next (sym (get_or_from_slice_get before.desks place call.there call.there call.was)) (head-kept e ok err call.there call.next r call.call)
-    ∙ knows)
+-- a call at a desk that was answered
+called-among : {R F : Type 0} → Stands → (station : Roster) (place vcid : ℕ) (e : Event) (ok : Moment → R → Type 0) (err : Moment → F → Type 0) (before after : AtStation) (r : R) (operators : List AtStation) (closed : List History) (number : ℕ)
+    (Answers : Settings → List Event → Type 0) → ((m : Moment) → ok m r → Answers m.head.settings m.entries) → IsOurs station before → IsPlace station vcid place → IsCallAt place vcid e ok err before (Ok r) after
+    → slice_get operators number ≡ Some after → AreClosedTogether station operators closed → IsAnsweredAmong station vcid after closed e Answers
+called-among stands station place vcid e ok err before after r operators closed number Answers says ours at call among together =
+    let out = given-out station place before after call.there call.next operators closed number ours call.was call.others among together in
+    let channel = out.0 in
+    let is = answered stands station place vcid e ok err before after r channel call out.2 in
+    let there : Moment = record { head = is.0; entries = take is.1 channel.journal } in
+    (place, channel, (at, out.1), (is.1, is.3, subst (λ (s : Settings). Answers s (take is.1 channel.journal)) is.2 (says there is.4), is.5))
 
-pub bring-knows : {R : Type 0} (station : Roster) (octets : List ℕ) (ok : ℕ → List ℕ → Moment → R → Type 0) (err : List ℕ → Moment → BringFault → Type 0) (before : AtStation) (r : Result R BringFault) (after : AtStation)
-    → IsBringCall station octets ok err before r after → KnowsDesks station before → KnowsDesks station after
-bring-knows station octets ok err before r after (inl (place, vcid, frame, placed, call)) knows = knows-after station place vcid (Frame frame) (ok vcid frame) (err frame) before r after call knows
-bring-knows station octets ok err before r after (inr (fault, is, wrong, same)) knows = subst (KnowsDesks station) (sym same) knows
+-- the same, where the call names the channel
+pub call-among : {R F : Type 0} → Stands → (station : Roster) (vcid : ℕ) (e : Event) (ok : Moment → R → Type 0) (err : Moment → F → Type 0) (unknown : F) (before after : AtStation) (r : R) (operators : List AtStation) (closed : List History) (number : ℕ)
+    (Answers : Settings → List Event → Type 0) → ((m : Moment) → ok m r → Answers m.head.settings m.entries) → IsOurs station before → IsCallOn station vcid e ok err unknown before (Ok r) after
+    → slice_get operators number ≡ Some after → AreClosedTogether station operators closed → IsAnsweredAmong station vcid after closed e Answers
+call-among stands station vcid e ok err unknown before after r operators closed number Answers says ours (inl (place, at, call)) among together =
+    called-among stands station place vcid e ok err before after r operators closed number Answers says ours at call among together
+call-among {R = R} {F = F} stands station vcid e ok err unknown before after r operators closed number Answers says ours (inr (none, wrong, same)) among together = absurd (subst (is-ok {R = R} {F = F}) wrong tt)
 
-pub call-knows : {R F : Type 0} (station : Roster) (vcid : ℕ) (e : Event) (ok : Moment → R → Type 0) (err : Moment → F → Type 0) (unknown : F) (before : AtStation) (r : Result R F) (after : AtStation)
-    → IsCallOn station vcid e ok err unknown before r after → KnowsDesks station before → KnowsDesks station after
-call-knows station vcid e ok err unknown before r after (inl (place, is, call)) knows = knows-after station place vcid e ok err before r after call knows
-call-knows station vcid e ok err unknown before r after (inr (none, wrong, same)) knows = subst (KnowsDesks station) (sym same) knows
+-- the same, where the frame names it
+pub bring-among : Stands → (station : Roster) (octets : List ℕ) (grows : Bool) (before after : AtStation) (brought : Brought) (operators : List AtStation) (closed : List History) (number : ℕ)
+    → IsOurs station before → IsBringCall station octets IsReplied (IsNotBrought grows) before (Ok brought) after
+    → slice_get operators number ≡ Some after → AreClosedTogether station operators closed
+    → (frame : List ℕ) × IsLocated station octets brought.vcid frame × IsAnsweredAmong station brought.vcid after closed (Frame frame) (λ s journal. brought.reply ≡ frame_reply s journal frame)
+bring-among stands station octets grows before after brought operators closed number ours (inl (place, vcid, frame, placed, call)) among together =
+    let named : vcid ≡ brought.vcid = sym call.call.answer.0.0 in
+    let answers : Settings → List Event → Type 0 = λ s journal. brought.reply ≡ frame_reply s journal frame in
+    let is = called-among stands station place vcid (Frame frame) (IsReplied vcid frame) (IsNotBrought grows frame) before after brought operators closed number answers (λ m p. p.1) ours placed.1 call among together in
+    (frame, subst (λ (v : ℕ). IsLocated station octets v frame) named placed.0, subst (λ (v : ℕ). IsAnsweredAmong station v after closed (Frame frame) answers) named is)
+bring-among stands station octets grows before after brought operators closed number ours (inr (fault, is, wrong, same)) among together = absurd (subst is-ok wrong tt)
 
--- each word that a watcher read before it met its channel, not the last one alone, is that of a place in what was given out
-pub shown-before : (station : Roster) (place vcid : ℕ) (link : Link) (early mid late met : Watching) (word : ℕ) (before after : AtStation) (channel : History)
-    → IsWordRead link early word mid → board.IsEarlier mid.seen late.seen → IsMetAt place vcid late before met after → IsClosedSince station place after channel → IsShownIn channel early link word
-shown-before station place vcid link early mid late met word before after channel read on m since =
-    let look = m.meeting.look in
-    let more : board.IsEarlier mid.seen (history_of look.now) =
-    (look.answer.0 ∙ on.0, prefix-trans mid.seen.journal late.seen.journal look.now.entries on.1 look.answer.1) in
-    let meeting : IsMeeting mid m.there met m.next = record {
-      look = record { now = look.now; later = look.later; moment = look.moment; lock = look.lock; answer = more; looked = look.looked };
-      met = m.meeting.met;
-    } in
-    let one : IsMetAt place vcid mid before met after = record { there = m.there; next = m.next; was = m.was; named = m.named; meeting = meeting; others = m.others; vcids = m.vcids } in
-    shown station place vcid link early mid met word before after channel read one since
+-- a CLCW that was read before a meeting
+pub word-among : (station : Roster) (vcid : ℕ) (link : Link) (early mid late met : Watching) (word : ℕ) (before after : AtStation) (operators : List AtStation) (closed : List History) (number : ℕ)
+    → IsOurs station before → IsWordRead link early word mid → board.IsEarlier mid.seen late.seen → ((place : ℕ) × IsPlace station vcid place × IsMetAt place vcid late before met after)
+    → slice_get operators number ≡ Some after → AreClosedTogether station operators closed
+    → (place : ℕ) × (channel : History) × IsGivenOut station vcid closed place channel × IsShownIn channel early link word
+word-among station vcid link early mid late met word before after operators closed number ours read on (place, at, m) among together =
+    let out = given-out station place before after m.there m.next operators closed number ours m.was m.others among together in
+    (place, out.0, (at, out.1), shown station place vcid link early mid late met word before after out.0 read on m out.2)

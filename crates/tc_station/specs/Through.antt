@@ -2,13 +2,14 @@
 use Rattle.std.specs.Prelude.{◌≡◌, ◌≤◌, ℕ, List, [], ◌∷◌, ◌++◌, Some, length, slice_get, take}
 use Rattle.logged_lock.specs.Log.{IsBeginning}
 use Rattle.tc_channel.specs.declared.event.Event.{Event}
+use Rattle.tc_channel.specs.declared.settings.Settings.{Settings}
 use Rattle.tc_channel.specs.Journal.{History}
 use Rattle.tc_channel.specs.Reply.{clcw}
 use Rattle.tc_link.specs.declared.Link.{Link}
 use Rattle.tc_status.specs.Board.{Watching}
 use Rattle.tc_status.specs.Board as board
 use Rattle.tc_desk.specs.Log.{AtLock}
-use Rattle.tc_station.specs.Roster.{Roster}
+use Rattle.tc_station.specs.Roster.{Roster, IsPlace}
 use Rattle.tc_station.specs.Tally.{AtStation}
 use Rattle.tc_station.specs.Together.{AreClosedTogether}
 
@@ -38,6 +39,15 @@ IsItsLast place operator n e = (desk : AtLock) × (slice_get operator.desks plac
 -- the event has a place in the channel's journal, what the events before it make was answered, and it is the last that the operator has made
 abbrev pub IsAnsweredIn : ℕ → AtStation → History → Event → (List Event → Type 0) → Type 0
 IsAnsweredIn place operator channel e Answers = (n : ℕ) × (slice_get channel.journal n ≡ Some e) × Answers (take n channel.journal) × IsItsLast place operator n e
+
+-- the channel with this id, which has this place, is among those that were given out
+abbrev pub IsGivenOut : Roster → ℕ → List History → ℕ → History → Type 0
+IsGivenOut station vcid closed place channel = IsPlace station vcid place × (slice_get closed place ≡ Some channel)
+
+-- the same, and the event has a place in its journal, with this answer there, and is the last that the operator has made
+abbrev pub IsAnsweredAmong : Roster → ℕ → AtStation → List History → Event → (Settings → List Event → Type 0) → Type 0
+IsAnsweredAmong station vcid operator closed e Answers =
+    (place : ℕ) × (channel : History) × IsGivenOut station vcid closed place channel × IsAnsweredIn place operator channel e (Answers channel.settings)
 
 -- the watcher read this CLCW, with these flags of the link, of all that it has seen then, which goes on from what it had seen
 abbrev pub IsWordRead : Link → Watching → ℕ → Watching → Type 0

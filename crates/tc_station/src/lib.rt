@@ -31,5 +31,5 @@ pub use tc_channel::{Holding, MapHolding, QueueHolding, holding_in};
 pub use tc_desk::Refusal;
 pub use tc_link::LocateFault;
 pub use tc_status::{Desk, DeskOf, FlightDesk};
-pub use through::from_a_sender_to_packets;
+pub use through::{from_a_sender_to_packets, what_calls_answered_stands_in_the_closed_journals};
 pub use work::{FreeGate, Gate, Job, Order, WorkList};

@@ -176,6 +176,7 @@ impl<J: Journal> StationOf<J> {
         ensures counted { IfOk result (λ brought. tally operator.new ≡ tallied brought.vcid (tally operator.old)) }
         ensures refused { OnErr result (tally operator.new ≡ tally operator.old) }
         ensures ours { IsOurs self.now operator.new }
+        ensures knows { KnowsDesks self.now operator.old → KnowsDesks self.now operator.new }
         ensures answered { J.grows ≡ false → IsErrOf result BringFault.NoMemory → BeginsWithBypassData octets.now }
     {
         let (place, Located { vcid, frame }) = self
@@ -201,6 +202,7 @@ impl<J: Journal> StationOf<J> {
         ensures counted { OnOk result (tally operator.new ≡ tallied vcid (tally operator.old)) }
         ensures refused { OnErr result (tally operator.new ≡ tally operator.old) }
         ensures ours { IsOurs self.now operator.new }
+        ensures knows { KnowsDesks self.now operator.old → KnowsDesks self.now operator.new }
     {
         let Some(place) = self.vcids.place_of(vcid) else {
             return Err(ReleaseRefused::UnknownChannel);
@@ -223,6 +225,7 @@ impl<J: Journal> StationOf<J> {
         ensures counted { OnOk result (tally operator.new ≡ tallied vcid (tally operator.old)) }
         ensures refused { OnErr result (tally operator.new ≡ tally operator.old) }
         ensures ours { IsOurs self.now operator.new }
+        ensures knows { KnowsDesks self.now operator.old → KnowsDesks self.now operator.new }
         ensures answered { J.grows ≡ false → IsErrOf result TakeRefused.NoMemory → ⊥ }
     {
         let Some(place) = self.vcids.place_of(vcid) else {
@@ -246,6 +249,7 @@ impl<J: Journal> StationOf<J> {
         ensures counted { OnOk result (tally operator.new ≡ tallied vcid (tally operator.old)) }
         ensures refused { OnErr result (tally operator.new ≡ tally operator.old) }
         ensures ours { IsOurs self.now operator.new }
+        ensures knows { KnowsDesks self.now operator.old → KnowsDesks self.now operator.new }
         ensures answered { J.grows ≡ false → IsErrOf result TakeUnitRefused.NoMemory → ⊥ }
     {
         let Some(place) = self.vcids.place_of(vcid) else {
@@ -274,6 +278,7 @@ impl<J: Journal> StationOf<J> {
     /// The moment is no earlier than that of the read before.
     pub fn watch(&self, watcher: &mut Watcher, link: Link) -> u32
         ensures board { watcher.new.board ≡ watcher.old.board }
+        ensures watcher { (vcid : ℕ) → IsWatcherOf self.now vcid watcher.old → IsWatcherOf self.now vcid watcher.new }
         ensures later { IsEarlier watcher.old.seen watcher.new.seen }
         ensures word { result ≡ clcw watcher.new.seen.settings watcher.new.seen.journal link }
         ensures allowed { IsAllowed watcher.new.seen.settings }
@@ -313,6 +318,7 @@ impl<J: Journal> StationOf<J> {
         ensures counted { IfOk result (λ answer. tally operator.new ≡ tallied answer.0.vcid (tally operator.old)) }
         ensures refused { OnErr result (tally operator.new ≡ tally operator.old) }
         ensures ours { IsOurs self.now operator.new }
+        ensures knows { KnowsDesks self.now operator.old → KnowsDesks self.now operator.new }
     {
         let (place, Located { vcid, frame }) = self
             .place_frame(octets)

@@ -1,15 +1,10 @@
 //! From a sender to packets, over any threads.
 
 ghost use Rattle.std.specs.Global.{Vec};
-ghost use Rattle.std.specs.Prelude.{◌≡◌, ◌≢◌, ◌≤◌, ℕ, Bool, List, [], Some, Ok, Result, length, slice_get, take};
-ghost use Rattle.tc_link.specs.Frame.{BeginsWith};
-ghost use Rattle.tc_station.specs.Tally.{IsOurs, KnowsDesks};
-ghost use Rattle.tc_desk.specs.Log.{Moment};
-ghost use Rattle.tc_station.specs.declared.faults.BringFault.{BringFault};
-ghost use Rattle.tc_station.specs.declared.faults.ReleaseRefused.{ReleaseRefused};
-ghost use Rattle.tc_station.specs.declared.faults.TakeRefused.{TakeRefused};
+ghost use Rattle.std.specs.Prelude.{◌≡◌, ◌≢◌, ◌≤◌, ℕ, Bool, List, [], Some, Ok, length, slice_get};
 ghost use Rattle.tc_station.specs.declared.faults.ReleaseRefused.TheVariants as ReleaseRefused;
 ghost use Rattle.tc_station.specs.declared.faults.TakeRefused.TheVariants as TakeRefused;
+ghost use Rattle.tc_station.specs.declared.faults.TakeUnitRefused.TheVariants as TakeUnitRefused;
 ghost use Rattle.logged_lock.specs.Log.{IsMergeOf};
 ghost use Rattle.tc_channel.specs.declared.event.Event.{Event};
 ghost use Rattle.tc_channel.specs.declared.reply.Delivery.{Delivery};
@@ -24,13 +19,13 @@ ghost use Rattle.tc_desk.specs.Call as at_desk;
 ghost use Rattle.tc_desk.specs.Log.{accounts_of};
 ghost use Rattle.tc_desk.specs.Together.{column};
 ghost use Rattle.tc_station.specs.declared.station.Brought.{Brought};
-ghost use Rattle.tc_status.specs.Board.{Watching};
-ghost use Rattle.tc_status.specs.Board as board;
+ghost use Rattle.tc_status.specs.Board.{IsEarlier, Watching};
 ghost use Rattle.tc_link.specs.declared.Link.{Link};
 ghost use Rattle.tc_station.specs.Call.{IsBringCall, IsCallAt, IsCallOn, IsMetAt, IsReplied, IsNotBrought, IsNotReleased, IsNotTaken, IsUnitNotTaken};
-ghost use Rattle.tc_station.specs.Roster.{Roster};
-ghost use Rattle.tc_station.specs.Tally.{AtStation};
-ghost use Rattle.tc_station.specs.Through.{IsAnsweredIn, IsClosedSince, IsWordRead, IsShownIn};
+ghost use Rattle.tc_station.specs.Location.{IsLocated};
+ghost use Rattle.tc_station.specs.Roster.{Roster, IsPlace};
+ghost use Rattle.tc_station.specs.Tally.{AtStation, IsOurs};
+ghost use Rattle.tc_station.specs.Through.{IsAnsweredAmong, IsAnsweredIn, IsClosedSince, IsGivenOut, IsWordRead, IsShownIn};
 ghost use Rattle.tc_station.specs.Together.{AreClosedTogether, crews_of};
 
 use tc_channel::{what_was_passed_on_is_admitted_in_order, what_was_sent_is_given_in_order};
@@ -43,13 +38,14 @@ use tc_desk::each_event_stands_at_its_place;
 /// - `frames`, `releases`, `takes`, `units`: each call that was answered is an event of that journal, and its answer is the one that the model
 ///   gives at the journal before it. The event, with its number, is the last that the operator has made then. So one thread could have
 ///   made all calls, in the journal's order, and got the same answers.
-/// - `words`: each CLCW that a watcher read is that of a place in that journal, which isn't before all that the watcher had seen, where an
-///   operator lets the watcher meet the channel later on. So it is for each read before the last meeting.
+/// - `words`: each CLCW that a watcher read before a meeting, however often it read on in between, is that of a place in that journal,
+///   which isn't before all that the watcher had seen.
 /// - `sent`: where the Type-AD frames of an era, which is the journal's part since a Set V(R) was last obeyed, or else all of it, are one
 ///   sender's, numbered on from the V(R) with which it starts, and none came 256 or more numbers early or late, the Type-AD data fields
-///   of the era that were released are what was sent, each once, in order; and what all takes of an application gave is, in order,
-///   packets that the fields make which the channel passed on: those, the Type-AD fields of earlier eras, and the Type-BD fields
-///   between them. `sent_units` says the same of the units of a chosen MAP.
+///   of the era that were released are what was sent, each once, in order.
+/// - `given`: what all takes of an application gave is, in order, packets that the fields make which the channel passed on: those of the
+///   era, the Type-AD fields of earlier eras, and the Type-BD fields between them. `given_units` says the same of the units of a chosen
+///   MAP.
 /// - `whole`: where these are as many as the fields make, none is left out.
 ///
 /// Each call of an operator goes on from all that it had seen (`later` of `IsCall`), so it has gone on, too, after several.
@@ -73,19 +69,16 @@ pub fn from_a_sender_to_packets()
         → IsCallAt place vcid (Event.TakeUnit map_id) (λ m u. at_desk.IsOldestUnit map_id m u.items) (IsUnitNotTaken grows map_id) before (Ok unit) after
         → IsClosedSince station place after channel
         → IsAnsweredIn place after channel (Event.TakeUnit map_id) (λ journal. unit_reply channel.settings journal map_id ≡ Some unit.items) }
-    ensures words { (station : Roster) (place vcid : ℕ) (link : Link) (early late met : Watching) (word : ℕ) (before after : AtStation) (channel : History)
-        → IsWordRead link early word late → IsMetAt place vcid late before met after → IsClosedSince station place after channel
+    ensures words { (station : Roster) (place vcid : ℕ) (link : Link) (early mid late met : Watching) (word : ℕ) (before after : AtStation) (channel : History)
+        → IsWordRead link early word mid → IsEarlier mid.seen late.seen → IsMetAt place vcid late before met after → IsClosedSince station place after channel
         → IsShownIn channel early link word }
-    ensures sent { (channel : History) (before later : List Event) (x : ℕ) (sent : ℕ → List ℕ) (apid : ℕ) (q : Queue) → IsLawful channel.settings channel.journal
+    ensures sent { (channel : History) (before later : List Event) (x : ℕ) (sent : ℕ → List ℕ) → IsLawful channel.settings channel.journal
         → IsEra channel.settings channel.journal before later x → ComesFromWithin no_limits channel.settings before later x sent
-        → queue_of apid (run channel.settings channel.journal).queues ≡ Some q
-        → (passed_since no_limits channel.settings before (run channel.settings channel.journal).passed ≡ sent_from sent 0 (released_since no_limits channel.settings before channel.journal))
-        × IsPartOf (packets_given channel.settings apid (first_state_within no_limits channel.settings) channel.journal) (packets_made no_limits channel.settings apid (run channel.settings channel.journal).passed) }
-    ensures sent_units { (channel : History) (before later : List Event) (x : ℕ) (sent : ℕ → List ℕ) (map_id : ℕ) (q : Queue) → IsLawful channel.settings channel.journal
-        → IsEra channel.settings channel.journal before later x → ComesFromWithin no_limits channel.settings before later x sent
-        → queue_of map_id (run channel.settings channel.journal).units ≡ Some q
-        → (passed_since no_limits channel.settings before (run channel.settings channel.journal).passed ≡ sent_from sent 0 (released_since no_limits channel.settings before channel.journal))
-        × IsPartOf (units_given channel.settings map_id (first_state_within no_limits channel.settings) channel.journal) (units_made no_limits channel.settings map_id (run channel.settings channel.journal).passed) }
+        → passed_since no_limits channel.settings before (run channel.settings channel.journal).passed ≡ sent_from sent 0 (released_since no_limits channel.settings before channel.journal) }
+    ensures given { (channel : History) (apid : ℕ) (q : Queue) → queue_of apid (run channel.settings channel.journal).queues ≡ Some q
+        → IsPartOf (packets_given channel.settings apid (first_state_within no_limits channel.settings) channel.journal) (packets_made no_limits channel.settings apid (run channel.settings channel.journal).passed) }
+    ensures given_units { (channel : History) (map_id : ℕ) (q : Queue) → queue_of map_id (run channel.settings channel.journal).units ≡ Some q
+        → IsPartOf (units_given channel.settings map_id (first_state_within no_limits channel.settings) channel.journal) (units_made no_limits channel.settings map_id (run channel.settings channel.journal).passed) }
     ensures whole { (one other : List (List ℕ)) → IsPartOf one other → length other ≤ length one → one ≡ other }
 {
     each_event_stands_at_its_place();
@@ -93,31 +86,37 @@ pub fn from_a_sender_to_packets()
     what_was_sent_is_given_in_order();
 }
 
-/// A frame that an operator brought stands in the journal of its channel once its station is closed together with that operator, and was
-/// answered as the model answers there. The premises are just what `bring` and `close_together` promise.
-pub fn a_frame_that_was_brought_stands_in_the_closed_journal()
-    ensures { (station : Roster) (octets : List ℕ) (grows : Bool) (before after : AtStation) (brought : Brought) (operators : List AtStation) (closed : List History) (number : ℕ)
+/// What answered calls promise is what [`from_a_sender_to_packets`] asks for: each stands in the closed journal of its channel, with its
+/// answer there. The premises are contracts and nothing else: that of the call by an operator of the station, and that of
+/// [`StationOf::close_together`](crate::StationOf::close_together) with this operator among the others.
+///
+/// - `frames`: of `bring`. `releases`, `takes` and `units`: of `release`, `take` and `take_unit`.
+/// - `words`: of `watch`, each time that a watcher read before its `meet`. In between, the watcher may have read on.
+///
+/// The operator closes as the call left it. Where it called again in between, the statement asks for `HasGoneOn`, which each further call
+/// promises, too (`later` of `IsCall`).
+pub fn what_calls_answered_stands_in_the_closed_journals()
+    ensures frames { (station : Roster) (octets : List ℕ) (grows : Bool) (before after : AtStation) (brought : Brought) (operators : List AtStation) (closed : List History) (number : ℕ)
         → IsOurs station before → IsBringCall station octets IsReplied (IsNotBrought grows) before (Ok brought) after
         → slice_get operators number ≡ Some after → AreClosedTogether station operators closed
-        → (place n : ℕ) × (frame : List ℕ) × (channel : History) × (slice_get closed place ≡ Some channel) × BeginsWith octets frame
-        × (slice_get channel.journal n ≡ Some (Event.Frame frame)) × (brought.reply ≡ frame_reply channel.settings (take n channel.journal) frame) }
+        → (frame : List ℕ) × IsLocated station octets brought.vcid frame
+        × IsAnsweredAmong station brought.vcid after closed (Event.Frame frame) (λ s journal. brought.reply ≡ frame_reply s journal frame) }
+    ensures releases { (station : Roster) (vcid : ℕ) (before after : AtStation) (delivery : Delivery) (operators : List AtStation) (closed : List History) (number : ℕ)
+        → IsOurs station before → IsCallOn station vcid Event.Release at_desk.IsReleased IsNotReleased ReleaseRefused.UnknownChannel before (Ok delivery) after
+        → slice_get operators number ≡ Some after → AreClosedTogether station operators closed
+        → IsAnsweredAmong station vcid after closed Event.Release (λ s journal. (buffered_fields s journal ≢ []) × (delivery ≡ release_reply s journal)) }
+    ensures takes { (station : Roster) (vcid apid : ℕ) (grows : Bool) (before after : AtStation) (packet : Vec ℕ) (operators : List AtStation) (closed : List History) (number : ℕ)
+        → IsOurs station before → IsCallOn station vcid (Event.Take apid) (λ m p. at_desk.IsOldestPacket apid m p.items) (IsNotTaken grows apid) TakeRefused.UnknownChannel before (Ok packet) after
+        → slice_get operators number ≡ Some after → AreClosedTogether station operators closed
+        → IsAnsweredAmong station vcid after closed (Event.Take apid) (λ s journal. take_reply s journal apid ≡ Some packet.items) }
+    ensures units { (station : Roster) (vcid map_id : ℕ) (grows : Bool) (before after : AtStation) (unit : Vec ℕ) (operators : List AtStation) (closed : List History) (number : ℕ)
+        → IsOurs station before → IsCallOn station vcid (Event.TakeUnit map_id) (λ m u. at_desk.IsOldestUnit map_id m u.items) (IsUnitNotTaken grows map_id) TakeUnitRefused.UnknownChannel before (Ok unit) after
+        → slice_get operators number ≡ Some after → AreClosedTogether station operators closed
+        → IsAnsweredAmong station vcid after closed (Event.TakeUnit map_id) (λ s journal. unit_reply s journal map_id ≡ Some unit.items) }
+    ensures words { (station : Roster) (vcid : ℕ) (link : Link) (early mid late met : Watching) (word : ℕ) (before after : AtStation) (operators : List AtStation) (closed : List History) (number : ℕ)
+        → IsOurs station before → IsWordRead link early word mid → IsEarlier mid.seen late.seen → ((place : ℕ) × IsPlace station vcid place × IsMetAt place vcid late before met after)
+        → slice_get operators number ≡ Some after → AreClosedTogether station operators closed
+        → (place : ℕ) × (channel : History) × IsGivenOut station vcid closed place channel × IsShownIn channel early link word }
 {
     each_event_stands_at_its_place();
 }
-
-/// After a call an operator knows the settings and the boards of its desks as before.
-pub fn an_operator_goes_on_knowing_its_desks()
-    ensures brings { (station : Roster) (octets : List ℕ) (grows : Bool) (before after : AtStation) (r : Result Brought BringFault)
-        → IsBringCall station octets IsReplied (IsNotBrought grows) before r after → KnowsDesks station before → KnowsDesks station after }
-    ensures releases { (station : Roster) (vcid : ℕ) (before after : AtStation) (r : Result Delivery ReleaseRefused)
-        → IsCallOn station vcid Event.Release at_desk.IsReleased IsNotReleased ReleaseRefused.UnknownChannel before r after → KnowsDesks station before → KnowsDesks station after }
-    ensures takes { (station : Roster) (vcid apid : ℕ) (grows : Bool) (before after : AtStation) (r : Result (Vec ℕ) TakeRefused)
-        → IsCallOn station vcid (Event.Take apid) (λ m p. at_desk.IsOldestPacket apid m p.items) (IsNotTaken grows apid) TakeRefused.UnknownChannel before r after → KnowsDesks station before → KnowsDesks station after }
-{}
-
-/// Each CLCW that a watcher read before it met its channel is that of a place in the closed journal, however often it read in between.
-pub fn each_word_read_before_a_meeting_is_of_the_closed_journal()
-    ensures { (station : Roster) (place vcid : ℕ) (link : Link) (early mid late met : Watching) (word : ℕ) (before after : AtStation) (channel : History)
-        → IsWordRead link early word mid → board.IsEarlier mid.seen late.seen → IsMetAt place vcid late before met after → IsClosedSince station place after channel
-        → IsShownIn channel early link word }
-{}

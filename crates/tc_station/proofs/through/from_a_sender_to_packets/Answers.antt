@@ -38,12 +38,13 @@ pub returns-clause-words : goal.returns-clause-words
 returns-clause-words c = shown
 
 pub returns-clause-sent : goal.returns-clause-sent
-returns-clause-sent c = λ channel before later x sent apid q lawful era comes has.
-    c.what_was_sent_is_given_in_order.ensures.packets no_limits channel.settings channel.journal before later x sent apid q lawful era comes has
+returns-clause-sent c = λ channel. c.what_was_sent_is_given_in_order.ensures.fields no_limits channel.settings channel.journal
 
-pub returns-clause-sent_units : goal.returns-clause-sent_units
-returns-clause-sent_units c = λ channel before later x sent map_id q lawful era comes has.
-    c.what_was_sent_is_given_in_order.ensures.units no_limits channel.settings channel.journal before later x sent map_id q lawful era comes has
+pub returns-clause-given : goal.returns-clause-given
+returns-clause-given c = λ channel. c.what_was_sent_is_given_in_order.ensures.packets no_limits channel.settings channel.journal
+
+pub returns-clause-given_units : goal.returns-clause-given_units
+returns-clause-given_units c = λ channel. c.what_was_sent_is_given_in_order.ensures.units no_limits channel.settings channel.journal
 
 pub returns-clause-whole : goal.returns-clause-whole
 returns-clause-whole c = c.what_was_passed_on_is_admitted_in_order.ensures.whole

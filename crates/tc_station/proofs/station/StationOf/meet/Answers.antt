@@ -1,5 +1,5 @@
 use Rattle.tc_station.proofs.Names.{◌∙◌, sym, rules, IsPlace}
-use Rattle.tc_station.proofs.Called.{call-at, called, head-kept, heads-kept, ids-kept, same-lock}
+use Rattle.tc_station.proofs.Called.{call-at, called, head-kept, ids-kept, same-lock}
 use Rattle.tc_station.proofs.Meetings.{as-call, channel-there, head-known, watcher-kept}
 use Rattle.tc_station.proofs.station.StationOf.meet.Goals as goal
 
@@ -29,6 +29,6 @@ returns g c =
       met = (c.in-Some.place, at, record { there = c.index_mut.result.now; next = c.meet.new.self; was = here.was; named = here.named; meeting = c.meet.ensures.meeting; others = here.others; vcids = here.vcids });
       same = all.refused;
       ours = all.ours;
-      knows = heads-kept _ _ _ c.args.self.now _ _ _ _ _ _ _ _ c.operator.view_is c.operator.invariant c.requires.ours at c.index_mut.ensures.value call ∙ c.requires.knows;
+      knows = all.knows c.requires.knows;
       watcher = watcher-kept c.args.self.now c.in-Some.place c.args.vcid c.index_mut.result.now c.meet.new.self c.meet.new.watcher at known.0 (head-kept _ _ _ _ _ _ call) c.meet.ensures.meeting.met;
     }

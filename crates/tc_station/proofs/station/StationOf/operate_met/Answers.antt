@@ -1,5 +1,5 @@
 use Rattle.tc_station.proofs.Names.{◌∙◌, sym, rules, IsPlace}
-use Rattle.tc_station.proofs.Called.{call-at, called, head-kept, heads-kept, ids-kept, same-lock}
+use Rattle.tc_station.proofs.Called.{call-at, called, head-kept, ids-kept, same-lock}
 use Rattle.tc_station.proofs.Meetings.{channel-there, head-known, watcher-kept}
 use Rattle.tc_station.proofs.station.StationOf.operate_met.Goals as goal
 
@@ -30,6 +30,6 @@ returns g c =
       counted = all.counted;
       refused = all.refused;
       ours = all.ours;
-      knows = heads-kept _ _ _ c.args.self.now _ _ _ _ _ _ _ _ c.operator.view_is c.operator.invariant c.requires.ours at c.index_mut.ensures.value call ∙ c.requires.knows;
+      knows = all.knows c.requires.knows;
       watcher = watcher-kept c.args.self.now c.in-Some.place c.args.vcid c.index_mut.result.now c.operate_met.new.self c.operate_met.new.watcher at known.0 (head-kept _ _ _ _ _ _ call) c.operate_met.ensures.call.met;
     }

@@ -1,4 +1,4 @@
-use Rattle.tc_station.proofs.Names.{◌≡◌, rules, arith, no_limits}
+use Rattle.tc_station.proofs.Names.{◌≡◌, ◌∙◌, rules, arith, no_limits}
 use Rattle.tc_link.specs.Bits.{bit}
 use Rattle.tc_station.proofs.station.StationOf.watch.Goals as goal
 
@@ -25,3 +25,6 @@ returns-clause-word g c =
     let no_rf : c.from.result ≡ bit c.args.link.no_rf = search rules in
     let no_bit_lock : c.from-2.result ≡ bit c.args.link.no_bit_lock = search rules in
     omega (arith, c.read.ensures.word, flags, no_rf, no_bit_lock)
+
+pub returns-clause-watcher : goal.returns-clause-watcher
+returns-clause-watcher g c = λ vcid (head, of, board, settings). (head, of, c.read.ensures.board ∙ board, c.read.ensures.later.0 ∙ settings)

@@ -1,5 +1,5 @@
 use Rattle.tc_station.proofs.Names.{◌∙◌, arith, drop, length, rules, subst, common_steps, take_at, AreWorked}
-use Rattle.tc_station.proofs.Works.{work-keeps, work-ours, work-rises, work-raises, work-length}
+use Rattle.tc_station.proofs.Works.{work-keeps, work-knows, work-ours, work-rises, work-raises, work-length}
 use Rattle.tc_station.proofs.station.StationOf.work.Goals as goal
 
 pub returns-in-None : goal.returns-in-None
@@ -12,6 +12,7 @@ returns-in-None g c =
       worked = first_of (search rules, grind (arith, common_steps));
       kept = rw all (work-keeps _ _ _ _ _ w);
       ours = rw all (work-ours _ _ _ _ _ w);
+      knows = rw all (work-knows _ _ _ _ _ w);
       risen = rw all (work-rises _ _ _ _ _ w);
       raised = rw all (work-raises _ _ _ _ _ c.in-None.is w);
     }
@@ -26,6 +27,7 @@ returns-in-Some g c =
       worked = grind (arith, common_steps);
       kept = rw all (work-keeps _ _ _ _ _ w);
       ours = rw all (work-ours _ _ _ _ _ w);
+      knows = rw all (work-knows _ _ _ _ _ w);
       risen = rw all (work-rises _ _ _ _ _ w);
       raised = search rules;
     }
