@@ -1,10 +1,11 @@
 -- What a channel works with, over what rooms add to it.
-use Rattle.tc_channel.proofs.Names.{◌≡◌, ℕ, ◌<◌, Bool, true, false, cond, eqb, List, [], ◌∷◌, ◌++◌, length, drop, Option, Some, None, refl, sym, ap, subst, ◌∙◌, arith, slice_get, IsSome, option_map, HoldsWithin, at_most, run_left, run_at, Settings, Event, Take, TakeUnit, AreRuns, first_of, Service, Bd, Store, open_runs, limit_at, HeldQueue, queue_for, oldest_for, popped, shorter, Keyed, rings_in, room_sizes, AreSettled, Ad, no_limits}
+use Rattle.tc_channel.proofs.Names.{◌≡◌, ℕ, ◌<◌, Bool, true, false, cond, eqb, List, [], ◌∷◌, ◌++◌, length, drop, Option, Some, None, refl, sym, ap, subst, ◌∙◌, arith, slice_get, IsSome, option_map, HoldsWithin, at_most, run_left, run_at, Settings, Event, Take, TakeUnit, AreRuns, first_of, Service, Bd, Store, open_runs, limit_at, HeldQueue, queue_for, oldest_for, popped, shorter, Keyed, rings_in, room_sizes, AreSettled, Ad, no_limits, held, ring_in, run_within, length-map, QueueSetting, MapSetting}
 use Rattle.tc_channel.specs.Workings.{HaveLimits, inside_of, Parts, HoldsInRooms, AreWorkings}
 use Rattle.std.specs.Prelude.{OnErr, Result, Ok, Err}
 use Rattle.tc_channel.specs.Reply.{take_reply_within, unit_reply_within}
 use Rattle.tc_packet.specs.Reassembly.{place_of}
 use Rattle.circular_buffer.specs.Buffer.{buffer}
+use Rattle.tc_channel.proofs.Growth.{key_and_capacity, queues-are, units-are}
 use Rattle.tc_channel.proofs.Takes.{oldest, packets-wait, units-wait, take-keeps, take-unit-keeps}
 
 nothing-left : (segmented : Bool) → run_left segmented [] ≡ None
@@ -46,6 +47,17 @@ packet-is apid k = ap oldest (packets-wait apid k.holds)
 
 pub unit-is : {limits : ℕ → ℕ} {s : Settings} {journal : List Event} {parts : Parts} (map_id : ℕ) → HoldsInRooms limits s journal parts → unit_reply_within limits s journal map_id ≡ oldest_for map_id (rings_in parts.units)
 unit-is map_id k = ap oldest (units-wait map_id k.holds)
+
+-- there are as many queues as the settings have
+pub queue-count : {limits : ℕ → ℕ} {s : Settings} {journal : List Event} {parts : Parts} → HoldsInRooms limits s journal parts → length parts.queues ≡ length s.queues
+queue-count {limits} {s} {journal} {parts} k =
+    sym (length-map parts.queues ring_in) ∙ ap length k.holds.queues ∙ length-map (run_within limits s journal).queues held
+    ∙ sym (length-map (run_within limits s journal).queues key_and_capacity) ∙ ap length (queues-are limits s journal) ∙ length-map s.queues (λ (q : QueueSetting). (q.apid, q.capacity))
+
+pub unit-count : {limits : ℕ → ℕ} {s : Settings} {journal : List Event} {parts : Parts} → HoldsInRooms limits s journal parts → length parts.units ≡ length s.maps
+unit-count {limits} {s} {journal} {parts} k =
+    sym (length-map parts.units ring_in) ∙ ap length k.holds.units ∙ length-map (run_within limits s journal).units held
+    ∙ sym (length-map (run_within limits s journal).units key_and_capacity) ∙ ap length (units-are limits s journal) ∙ length-map s.maps (λ (m : MapSetting). (m.map, m.capacity))
 
 -- what a step leaves, where rooms and limits are as before and nothing is laid that doesn't count
 pub holds-on : {limits : ℕ → ℕ} {s : Settings} {journal : List Event} {parts : Parts} (next : List Event) (later : Parts) → HoldsInRooms limits s journal parts → HoldsWithin limits s next (inside_of later)

@@ -1,10 +1,10 @@
 -- Steps that are taken.
-use Rattle.tc_channel.proofs.Names.{◌≡◌, ℕ, suc, ◌+◌, ◌*◌, ◌≤◌, List, [], ◌∷◌, ◌++◌, length, Option, Some, None, Bool, true, false, cond, refl, sym, ap, ◌∙◌, arith, nat_lt, nat_tests, AllByRecursion, length-append, joined, packets_of, rest_of, IsAtMost, keys_of, Keyed, rings_in, looks, pass_steps}
-use Rattle.std.proofs.Math.Nat.{suc-mul, mul-le-mul_left, mul-le-mul_right, le-add_right}
+use Rattle.tc_channel.proofs.Names.{◌≡◌, ℕ, suc, ◌+◌, ◌*◌, ◌<◌, ◌≤◌, List, [], ◌∷◌, ◌++◌, length, Some, Bool, true, false, cond, refl, sym, ap, ◌∙◌, arith, nat_lt, nat_tests, AllByRecursion, length-append, joined, packets_of, rest_of, keys_of, Keyed, rings_in, looks, pass_steps}
+use Rattle.std.proofs.Math.Nat.{suc-mul, mul-le-mul_left, mul-le-mul_right}
 use Rattle.tc_packet.specs.SpacePacket.{IsPacket}
 use Rattle.tc_channel.specs.Places.{IsTabled}
 use Rattle.tc_packet.proofs.Cuts.{is-cut}
-use Rattle.tc_channel.specs.Steps.{most_looks, most_steps, packet_count, unit_steps}
+use Rattle.tc_channel.specs.Steps.{most_looks, looks_for, delivery_steps, packet_steps, unit_steps, take_steps}
 use Rattle.tc_channel.proofs.Tables.{keys-length}
 
 -- as many queues, as many looks
@@ -19,10 +19,10 @@ same-count a b same = sym (keys-length a) ∙ ap length same ∙ keys-length b
 pub pass-step : (n k : ℕ) → pass_steps (suc n) k ≡ pass_steps n k + (k + 1)
 pass-step n k = suc-mul n (k + 1)
 
-pub cut-one : (before total s rest more one tick here after : ℕ) → rest ≡ more + (one + 1) → s + rest ≤ before + total → tick ≡ s + 1 → after ≤ tick + here → here ≡ one → after + more ≤ before + total
+pub cut-one : (before total s rest more one tick here after : ℕ) → rest ≡ more + (one + 1) → s + rest ≤ before + total → tick ≤ s + 1 → after ≤ tick + here → here ≡ one → after + more ≤ before + total
 cut-one before total s rest more one tick here after rest_is so_far tick_is cost same = omega arith
 
-pub cut-last : (before total s rest more one tick here after : ℕ) → rest ≡ more + (one + 1) → s + rest ≤ before + total → tick ≡ s + 1 → after ≤ tick + here → here ≡ one → after ≤ before + total
+pub cut-last : (before total s rest more one tick here after : ℕ) → rest ≡ more + (one + 1) → s + rest ≤ before + total → tick ≤ s + 1 → after ≤ tick + here → here ≡ one → after ≤ before + total
 cut-last before total s rest more one tick here after rest_is so_far tick_is cost same = omega arith
 
 -- more looks, more steps
@@ -70,8 +70,9 @@ few-joined (p ∷ ps) all =
     let more = suc-mul (length ps) 7 in
     omega (arith, length-append p (joined ps))
 
-few-packets : (unit : List ℕ) → length unit ≤ 65542 → length (packets_of unit) ≤ 9363
-few-packets unit within =
+-- a unit of so many octets has so many packets at most
+pub few-packets : (unit : List ℕ) → 7 * length (packets_of unit) ≤ length unit
+few-packets unit =
     let cut = is-cut (length unit) unit (omega arith) in
     let few = few-joined (packets_of unit) cut.each in
     let long : length unit ≡ length (joined (packets_of unit) ++ rest_of unit) = ap length cut.parts in
@@ -81,23 +82,24 @@ few-packets unit within =
 packets-more : (n m k : ℕ) → n ≤ m → pass_steps n k ≤ pass_steps m k
 packets-more n m k le = mul-le-mul_right (k + 1) le
 
--- no unit takes more than the one with the most packets
-few-steps : (n q u : ℕ) → n ≤ 9363 → unit_steps n q u ≤ unit_steps 9363 q u
-few-steps n q u le = sum (pass_steps n q) (pass_steps 9363 q) (packets-more n 9363 q le) where
+more-steps : (n m q u : ℕ) → n ≤ m → unit_steps n q u ≤ unit_steps m q u
+more-steps n m q u le = sum (pass_steps n q) (pass_steps m q) (packets-more n m q le) where
   sum : (x y : ℕ) → x ≤ y → u + (x + (x + q)) ≤ u + (y + (y + q))
   sum x y h = omega arith
 
-few-of : (o : Option (List ℕ)) → IsAtMost 65542 o → packet_count o ≤ 9363
-few-of None within = omega arith
-few-of (Some unit) within = few-packets unit within
+pub steps-by-octets : (unit : List ℕ) (n queues units : ℕ) → length unit < 7 * (n + 1) → delivery_steps (Some unit) queues units ≤ packet_steps n queues units
+steps-by-octets unit n queues units within = let few = few-packets unit in more-steps (length (packets_of unit)) n (most_looks queues) (most_looks units) (omega arith)
 
-pub at-most-err : (o : Option (List ℕ)) (queues units before after : ℕ) → IsAtMost 65542 o → after ≤ before + (unit_steps (packet_count o) (most_looks queues) (most_looks units) + queues) → after ≤ before + most_steps queues units
-at-most-err o queues units before after within cost =
-    let few = few-steps (packet_count o) (most_looks queues) (most_looks units) (few-of o within) in
-    sum (unit_steps (packet_count o) (most_looks queues) (most_looks units)) (unit_steps 9363 (most_looks queues) (most_looks units)) few cost
-  where
-    sum : (x y : ℕ) → x ≤ y → after ≤ before + (x + queues) → after ≤ before + (y + queues)
-    sum x y h c = omega arith
+pub steps-of-largest : (unit : List ℕ) (queues units : ℕ) → length unit ≤ 65542 → delivery_steps (Some unit) queues units ≤ packet_steps 9363 queues units
+steps-of-largest unit queues units within = steps-by-octets unit 9363 queues units (omega arith)
 
-pub at-most : (o : Option (List ℕ)) (queues units before after : ℕ) → IsAtMost 65542 o → after ≤ before + unit_steps (packet_count o) (most_looks queues) (most_looks units) → after ≤ before + most_steps queues units
-at-most o queues units before after within cost = at-most-err o queues units before after within (cost-more before after _ _ (le-add_right _ queues) cost)
+-- a queue is looked for once, or twice
+pub found-once : (key parts count before after : ℕ) → parts ≡ count → after ≤ before + looks_for key parts → after ≤ before + take_steps key count
+found-once key parts count before after same cost = let x : after ≤ before + looks_for key count = rw same at cost in sum (looks_for key count) x where
+  sum : (x : ℕ) → after ≤ before + x → after ≤ before + 2 * x
+  sum x h = omega arith
+
+pub found-twice : (key parts count before mid after : ℕ) → parts ≡ count → mid ≤ before + looks_for key parts → after ≤ mid + looks_for key parts → after ≤ before + take_steps key count
+found-twice key parts count before mid after same first second = sum (looks_for key count) (rw same at first) (rw same at second) where
+  sum : (x : ℕ) → mid ≤ before + x → after ≤ mid + x → after ≤ before + 2 * x
+  sum x h i = omega arith

@@ -89,7 +89,7 @@ pub run-grows : (limits : ℕ → ℕ) (c : Settings) (past future : List Event)
 run-grows limits c past future = rw (run-append limits c past future) (run_from-grows c (run_within limits c past) future)
 
 -- the key and the capacity of a queue
-abbrev key_and_capacity : Queue → ℕ × ℕ
+abbrev pub key_and_capacity : Queue → ℕ × ℕ
 key_and_capacity q = (q.key, q.capacity)
 
 keys-and-capacities-kept : (olds news : List Queue) → QueuesGrow olds news → map key_and_capacity news ≡ map key_and_capacity olds

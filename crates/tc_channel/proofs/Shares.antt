@@ -1,6 +1,7 @@
 -- The queues, where the unit that a field ends is offered.
 use Rattle.tc_channel.proofs.Names.{◌≡◌, ◌≢◌, ℕ, ◌+◌, ◌-◌, ◌≤◌, Bool, true, List, [], ◌∷◌, length, map, drop, Option, Some, None, subst, refl, sym, ap, ◌∙◌, arith, is_some, option_map, sum_by, sum_by-cons, Delivery, delivery_of, Row, E1, E6, row_at, frame_row, accepts, Settings, Frame, Release, ChannelState, Queue, queue_of, has_room, buffer, map_of, is_chosen, is_for, is_of_map, packets_offered, units_offered, share_of, with_share, with_shares, queued_of, Kind, Unlock, SetVr, kind_of, Service, Bd, OpenRuns, at_most, stream, unit_ended, AreRuns, EndsWithin, EndsAtOnceWithin, step, row_of, kept, unit_of, first_of, IsDelivered, Placed, HeldQueue, held, share, with_items, shared, shares_in, queue_for, copies_from, put_all, placed, AreShares, drop-append-le, length-drop, append-nil, take-nil, header_of, place_of, Ad, passed_on}
 use Rattle.tc_channel.specs.Reply.{nothing, frame_delivery, release_reply_at}
+use Rattle.tc_channel.specs.Steps.{ended_at_once}
 use Rattle.tc_channel.specs.Admission.{offered}
 use Rattle.tc_channel.proofs.StateQueues.{AreKept}
 use Rattle.tc_channel.proofs.Streams.{not-BD}
@@ -58,7 +59,7 @@ shares-none wanted [] = refl
 shares-none wanted (q ∷ qs) = ap (λ (x : Queue). x ∷ with_shares wanted [] qs) (none-with wanted q) ∙ ap (λ (x : List Queue). q ∷ x) (shares-none wanted qs)
 
 -- the unit that a field ends
-ends-unit : (limits : ℕ → ℕ) (service : Service) (field : List ℕ) (b : ChannelState) (open_runs : OpenRuns) (unit : Option (List ℕ)) → b.limit ≡ limits → AreRuns limits open_runs b.segmented b.passed → EndsWithin (limits (map_of field)) open_runs service field unit → unit ≡ unit_of b service field
+pub ends-unit : (limits : ℕ → ℕ) (service : Service) (field : List ℕ) (b : ChannelState) (open_runs : OpenRuns) (unit : Option (List ℕ)) → b.limit ≡ limits → AreRuns limits open_runs b.segmented b.passed → EndsWithin (limits (map_of field)) open_runs service field unit → unit ≡ unit_of b service field
 ends-unit limits service field b open_runs unit limit are ends =
     let fields = stream service (segment.header_of field).map b.passed in
     ends fields (are.runs service (segment.header_of field).map (omega arith)) ∙ ap (λ s. at_most (limits (map_of field)) (unit_ended s fields field)) are.segmented ∙ ap (λ (l : ℕ → ℕ). at_most (l (map_of field)) (unit_ended b.segmented fields field)) (sym limit)
@@ -147,3 +148,20 @@ frame-delivery limits c b octets open_runs unit rings later unit_rings later_uni
 pub release-delivery : (limits : ℕ → ℕ) (b : ChannelState) (open_runs : OpenRuns) (unit : Option (List ℕ)) (rings later unit_rings later_units : List HeldQueue) (d : Delivery) → b.limit ≡ limits → AreRuns limits open_runs b.segmented b.passed → AreHeld rings unit_rings b
     → EndsWithin (limits (map_of (first_of (buffer b)))) open_runs Ad (first_of (buffer b)) unit → IsDelivered (map_of (first_of (buffer b))) unit rings later unit_rings later_units d → d ≡ release_reply_at b
 release-delivery limits b open_runs unit rings later unit_rings later_units d limit are held_are ends is = delivery-is (first_of (buffer b)) unit rings later unit_rings later_units d b held_are is ∙ ap (λ (x : Option (List ℕ)). delivery_of (first_of (buffer b)) x b) (ends-unit limits Ad (first_of (buffer b)) b open_runs unit limit are ends)
+
+-- the unit that a frame ends at once
+other-none : (row : Row) (octets : List ℕ) (b : ChannelState) → row ≢ E6 → ended_at_once row octets b ≡ None
+other-none E6 octets b h = absurd (h refl)
+other-none _ octets b h = refl
+
+kind-unit : (limits : ℕ → ℕ) (width vr : ℕ) (kind : Kind) (room : Bool) (octets : List ℕ) (b : ChannelState) (open_runs : OpenRuns) (unit : Option (List ℕ)) → b.limit ≡ limits → AreRuns limits open_runs b.segmented b.passed → EndsAtOnceWithin (limits (map_of (drop 5 octets))) kind open_runs (drop 5 octets) unit
+    → unit ≡ ended_at_once (frame_row width vr kind room) octets b
+kind-unit limits width vr (kinds.Ad ns) room octets b open_runs unit limit are ends = ends ∙ sym (other-none (row_at (place_of width vr ns) room) octets b (not-BD (place_of width vr ns) room))
+kind-unit limits width vr kinds.Bd room octets b open_runs unit limit are ends = ends-unit limits Bd (drop 5 octets) b open_runs unit limit are ends
+kind-unit limits width vr (kinds.Bc Unlock) room octets b open_runs unit limit are ends = ends
+kind-unit limits width vr (kinds.Bc (SetVr x)) room octets b open_runs unit limit are ends = ends
+kind-unit limits width vr kinds.Invalid room octets b open_runs unit limit are ends = ends
+
+pub frame-unit : (limits : ℕ → ℕ) (c : Settings) (b : ChannelState) (octets : List ℕ) (open_runs : OpenRuns) (unit : Option (List ℕ)) → b.limit ≡ limits → AreRuns limits open_runs b.segmented b.passed
+    → EndsAtOnceWithin (limits (map_of (drop 5 octets))) (kind_of (header_of octets) (drop 5 octets)) open_runs (drop 5 octets) unit → unit ≡ ended_at_once (row_of c b octets) octets b
+frame-unit limits c b octets open_runs unit limit are ends = kind-unit limits c.width b.report.vr (kind_of (header_of octets) (drop 5 octets)) (has_room c b) octets b open_runs unit limit are ends

@@ -1,5 +1,5 @@
 -- A packet or a unit is taken.
-use Rattle.tc_channel.proofs.Names.{◌≡◌, ◌≢◌, ℕ, suc, ◌+◌, ◌<◌, Bool, true, false, cond, eqb, List, [], ◌∷◌, ◌++◌, length, map, Option, Some, None, refl, sym, ap, ◌∙◌, inl, inr, arith, nat_lt, option_map, slice_get, option_and_then, AllByRecursion, drop-drop, length-drop, map-map, Settings, Event, Take, TakeUnit, Inside, HoldsWithin, Queue, waiting, queue_of, taken_from, run_within, HeldQueue, AreDistinct, keys_of, held, queue_for, popped, shorter, nat_tests, eqb_tells}
+use Rattle.tc_channel.proofs.Names.{◌≡◌, ◌≢◌, ℕ, suc, ◌+◌, ◌<◌, Bool, true, false, cond, eqb, List, [], ◌∷◌, ◌++◌, length, map, Option, Some, None, refl, sym, ap, ◌∙◌, IsSome, inl, inr, arith, nat_lt, option_map, slice_get, option_and_then, AllByRecursion, drop-drop, length-drop, map-map, Settings, Event, Take, TakeUnit, Inside, HoldsWithin, Queue, waiting, queue_of, taken_from, run_within, HeldQueue, AreDistinct, keys_of, held, queue_for, popped, shorter, nat_tests, eqb_tells}
 use Rattle.tc_channel.specs.Reply.{waiting_packets_within, waiting_units_within}
 use Rattle.tc_channel.specs.Run.{HasItem}
 use Rattle.tc_channel.specs.HeldQueues.{items_for}
@@ -113,3 +113,10 @@ queues-distinct {limits} {c} {j} k = rw (k.queues, same-keys (run_within limits 
 
 pub units-distinct : {limits : ℕ → ℕ} {c : Settings} {j : List Event} {i : Inside} → HoldsWithin limits c j i → AreDistinct (keys_of i.unit_rings)
 units-distinct {limits} {c} {j} k = rw (k.units, same-keys (run_within limits c j).units) (units-apart limits c j k.allowed)
+
+-- where items wait, one is taken
+pub one-is-taken : {A : Type 0} (f : A → List ℕ) (taken : Option A) (n : ℕ) (waiting : Option (List (List ℕ))) → Some n ≡ option_map length waiting → n ≢ 0 → option_map f taken ≡ option_and_then (λ items. slice_get items 0) waiting → IsSome taken
+one-is-taken f (Some x) n waiting count some is = refl
+one-is-taken f None n (Some []) count some is = absurd (some (let e : n ≡ 0 = cc in e))
+one-is-taken f None n (Some (x ∷ items)) count some is = absurd cc
+one-is-taken f None n None count some is = absurd cc

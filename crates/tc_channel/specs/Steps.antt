@@ -1,7 +1,14 @@
 -- Steps: one for each queue that is looked at, and one for each packet that is cut from a unit.
 use Rattle.std.specs.Prelude.{ℕ, ◌+◌, ◌*◌, List, [], ◌∷◌, length, nat_lt, Option, Some, None, if◌then◌else◌}
+use Rattle.tc_link.specs.Farm.{Row, E6}
+use Rattle.tc_packet.specs.declared.Service.TheVariants.{Ad, Bd}
 use Rattle.tc_packet.specs.SpacePacket.{packets_of}
+use Rattle.tc_channel.specs.declared.settings.Settings.{Settings}
+use Rattle.tc_channel.specs.declared.event.Event.{Event}
+use Rattle.tc_channel.specs.ChannelState.{ChannelState, buffer, no_limits}
+use Rattle.tc_channel.specs.HeldQueues.{apid_count}
 use Rattle.tc_channel.specs.Keyed.{Keyed}
+use Rattle.tc_channel.specs.Run.{field_of, first_of, row_of, run_within, unit_of}
 
 -- how many queues are looked at where one is found: one by a table, else each at most
 abbrev pub looks : List Keyed → List ℕ → ℕ
@@ -12,6 +19,10 @@ looks queues (n ∷ table) = 1
 abbrev pub most_looks : ℕ → ℕ
 most_looks count = if nat_lt count 64 then count else if nat_lt 65535 count then count else 1
 
+-- the same for a key: what no APID can be is in no table
+abbrev pub looks_for : ℕ → ℕ → ℕ
+looks_for key count = if nat_lt key apid_count then most_looks count else count
+
 -- each packet is cut, and its queue is found
 abbrev pub pass_steps : ℕ → ℕ → ℕ
 pass_steps packets looks_for_one = packets * (looks_for_one + 1)
@@ -20,16 +31,40 @@ pass_steps packets looks_for_one = packets * (looks_for_one + 1)
 abbrev pub unit_steps : ℕ → ℕ → ℕ → ℕ
 unit_steps packets looks_for_one looks_for_map = looks_for_map + (pass_steps packets looks_for_one + (pass_steps packets looks_for_one + looks_for_one))
 
--- how many packets a unit has, if there is one
-abbrev pub packet_count : Option (List ℕ) → ℕ
-packet_count None = 0
-packet_count (Some unit) = length (packets_of unit)
+-- the most steps of a unit with so many packets, where there are so many packet queues and unit queues
+abbrev pub packet_steps : ℕ → ℕ → ℕ → ℕ
+packet_steps packets queues units = unit_steps packets (most_looks queues) (most_looks units)
+
+-- the most steps of a delivery: of no unit none, of a unit by its packets
+abbrev pub delivery_steps : Option (List ℕ) → ℕ → ℕ → ℕ
+delivery_steps None queues units = 0
+delivery_steps (Some unit) queues units = packet_steps (length (packets_of unit)) queues units
 
 -- the most packets of a unit: those of the smallest, of seven octets (CCSDS 133.0-B, 4.1.2.1)
 abbrev pub most_packets : ℕ
 most_packets = 9363
 
--- the most steps of a frame and of a release, whatever unit it ends, with so many packet queues and unit queues; where memory runs out all
--- packet queues are looked at once more
-abbrev pub most_steps : ℕ → ℕ → ℕ
-most_steps queues units = unit_steps most_packets (most_looks queues) (most_looks units) + queues
+-- the unit that a frame ends at once: that of an accepted BD frame
+abbrev pub ended_at_once : Row → List ℕ → ChannelState → Option (List ℕ)
+ended_at_once E6 octets state = unit_of state Bd (field_of octets)
+ended_at_once _ octets state = None
+
+-- the most steps of a frame, by the unit that it ends
+unfoldable pub frame_steps_within : (ℕ → ℕ) → Settings → List Event → List ℕ → ℕ
+frame_steps_within limits s journal octets = delivery_steps (ended_at_once (row_of s (run_within limits s journal) octets) octets (run_within limits s journal)) (length s.queues) (length s.maps)
+
+-- the most steps of a release, by the unit that the oldest data field ends
+unfoldable pub release_steps_within : (ℕ → ℕ) → Settings → List Event → ℕ
+release_steps_within limits s journal = delivery_steps (unit_of (run_within limits s journal) Ad (first_of (buffer (run_within limits s journal)))) (length s.queues) (length s.maps)
+
+-- the most steps of a take from one of so many queues: it is looked for, and found once more
+abbrev pub take_steps : ℕ → ℕ → ℕ
+take_steps key count = 2 * looks_for key count
+
+-- the same of a channel that has no limit by MAP
+
+abbrev pub frame_steps : Settings → List Event → List ℕ → ℕ
+frame_steps s journal octets = frame_steps_within no_limits s journal octets
+
+abbrev pub release_steps : Settings → List Event → ℕ
+release_steps s journal = release_steps_within no_limits s journal

@@ -1,11 +1,12 @@
 //! A channel and its journal.
 
-ghost use Rattle.std.specs.Prelude.{◌≡◌, false, [], ◌<◌, ◌↔◌, length, min, ◌^◌, ◌-◌, IfOk, OnOk, OnErr, IsErrOf, MatchResult, Some, None, option_map};
+ghost use Rattle.std.specs.Prelude.{◌≡◌, false, [], ◌<◌, ◌≤◌, ◌+◌, ◌↔◌, length, min, ◌^◌, ◌-◌, IfOk, OnOk, OnErr, IsErrOf, MatchResult, Some, None, option_map};
 ghost use Rattle.tc_channel.specs.Settings.{IsAllowed, IsRefusal};
 ghost use Rattle.tc_channel.specs.Journal.{with_event};
 ghost use Rattle.tc_channel.specs.Run.{run, IsLawful};
 ghost use Rattle.tc_channel.specs.Reply.{IsBypassData, frame_reply, release_reply, take_reply, unit_reply, waiting_packets, waiting_units, buffered_fields, clcw as clcw_of};
 ghost use Rattle.tc_channel.specs.Era.{CountsUpInItsEra};
+ghost use Rattle.tc_channel.specs.Steps.{frame_steps, release_steps, take_steps};
 
 use crate::event::Event;
 use crate::journal::Journal;
@@ -14,6 +15,7 @@ use crate::lent::LentEvent;
 use crate::past::Past;
 use crate::reply::{Delivery, FrameReply, NoMemory, ReleaseFault, TakeFault, TakeUnitFault};
 use crate::settings::{Settings, SettingsFault};
+use crate::steps::Count;
 use crate::unkept::Unkept;
 use crate::workings::Workings;
 use std::alloc::Global;
@@ -22,6 +24,20 @@ use std::snapshot::Snapshot;
 use tc_link::{Frame, Link, Report, clcw_word};
 use tc_packet::LARGEST_UNIT;
 use tc_rooms::{GrowingRoom, Runs};
+
+// A count that isn't kept. No other module can name it, so what the calls of a channel run counts all that it looks at.
+#[derive(Drop)]
+struct Uncounted;
+
+impl Count for Uncounted {
+    ghost use Rattle.std.specs.Prelude.{false};
+
+    ghost taken = { λ _. 0 };
+
+    ghost counts = { false };
+
+    fn tick(&mut self) {}
+}
 
 /// One virtual channel: FARM-1, the buffer of accepted data fields, reassembly, the packet queues, the unit queues of chosen
 /// MAPs, and the journal of all that it answered. A call that is refused leaves it as it was.
@@ -80,9 +96,29 @@ impl<J: Journal> ChannelWith<J> {
         ensures refused { OnErr result (self.new ≡ self.old) }
         ensures answered { J.grows ≡ false → OnErr result (IsBypassData frame.now) }
     {
+        self.frame_counted(frame, &mut Uncounted)
+    }
+
+    /// As [`frame`](ChannelWith::frame), which runs it with a count that isn't kept. A step is a packet that is cut from the unit that the
+    /// frame ends, or a queue that is looked at; a frame that isn't of Type-BD takes none.
+    pub fn frame_counted<C: Count>(
+        &mut self,
+        frame: &Frame,
+        steps: &mut C,
+    ) -> Result<FrameReply, NoMemory>
+        ensures allowed { IsAllowed self.old.settings }
+        ensures lawful { IsLawful self.old.settings self.old.journal }
+        ensures reply { IfOk result (λ reply. reply ≡ frame_reply self.old.settings self.old.journal frame.now) }
+        ensures done { OnOk result (self.new ≡ with_event self.old (Event.Frame frame.now)) }
+        ensures refused { OnErr result (self.new ≡ self.old) }
+        ensures answered { J.grows ≡ false → OnErr result (IsBypassData frame.now) }
+        ensures cost { OnOk result (C.taken steps.new ≤ C.taken steps.old + frame_steps self.old.settings self.old.journal frame.now) }
+        ensures refused_cost { OnErr result (C.taken steps.new ≤ C.taken steps.old + (frame_steps self.old.settings self.old.journal frame.now + length self.old.settings.queues)) }
+        ensures quiet { (IsBypassData frame.now → ⊥) → C.taken steps.new ≡ C.taken steps.old }
+    {
         let event = LentEvent::Frame(frame.octets());
         let entry = self.journal.prepare(self.alloc, &event)?;
-        let reply = self.workings.frame(frame)?;
+        let reply = self.workings.frame(frame, steps)?;
         self.journal.append(&event, entry);
         Ok(reply)
     }
@@ -97,11 +133,26 @@ impl<J: Journal> ChannelWith<J> {
         ensures done { OnOk result (self.new ≡ with_event self.old Event.Release) }
         ensures refused { OnErr result (self.new ≡ self.old) }
     {
+        self.release_counted(&mut Uncounted)
+    }
+
+    /// As [`release`](ChannelWith::release), which runs it with a count that isn't kept. Steps are those of
+    /// [`frame_counted`](ChannelWith::frame_counted).
+    pub fn release_counted<C: Count>(&mut self, steps: &mut C) -> Result<Delivery, ReleaseFault>
+        ensures allowed { IsAllowed self.old.settings }
+        ensures lawful { IsLawful self.old.settings self.old.journal }
+        ensures empty { IsErrOf result ReleaseFault.Empty ↔ (buffered_fields self.old.settings self.old.journal ≡ []) }
+        ensures reply { IfOk result (λ delivery. delivery ≡ release_reply self.old.settings self.old.journal) }
+        ensures done { OnOk result (self.new ≡ with_event self.old Event.Release) }
+        ensures refused { OnErr result (self.new ≡ self.old) }
+        ensures cost { OnOk result (C.taken steps.new ≤ C.taken steps.old + release_steps self.old.settings self.old.journal) }
+        ensures refused_cost { OnErr result (C.taken steps.new ≤ C.taken steps.old + (release_steps self.old.settings self.old.journal + length self.old.settings.queues)) }
+    {
         if self.workings.buffered() == 0 {
             return Err(ReleaseFault::Empty);
         }
         let entry = self.journal.prepare(self.alloc, &LentEvent::Release)?;
-        let delivery = self.workings.release()?;
+        let delivery = self.workings.release(steps)?;
         self.journal.append(&LentEvent::Release, entry);
         Ok(delivery)
     }
@@ -118,14 +169,29 @@ impl<J: Journal> ChannelWith<J> {
         ensures refused { OnErr result (self.new ≡ self.old) }
         ensures answered { J.grows ≡ false → IsErrOf result TakeFault.NoMemory → ⊥ }
     {
-        match self.workings.queued(apid) {
+        self.take_counted(apid, &mut Uncounted)
+    }
+
+    /// As [`take`](ChannelWith::take), which runs it with a count that isn't kept. A step is a queue that is looked at.
+    pub fn take_counted<C: Count>(&mut self, apid: u16, steps: &mut C) -> Result<Vec<u8>, TakeFault>
+        ensures allowed { IsAllowed self.old.settings }
+        ensures lawful { IsLawful self.old.settings self.old.journal }
+        ensures no_queue { IsErrOf result TakeFault.NoQueue ↔ (waiting_packets self.old.settings self.old.journal apid ≡ None) }
+        ensures empty { IsErrOf result TakeFault.Empty ↔ (waiting_packets self.old.settings self.old.journal apid ≡ Some []) }
+        ensures reply { IfOk result (λ packet. take_reply self.old.settings self.old.journal apid ≡ Some packet.items) }
+        ensures done { OnOk result (self.new ≡ with_event self.old (Event.Take apid)) }
+        ensures refused { OnErr result (self.new ≡ self.old) }
+        ensures answered { J.grows ≡ false → IsErrOf result TakeFault.NoMemory → ⊥ }
+        ensures cost { C.taken steps.new ≤ C.taken steps.old + take_steps apid (length self.old.settings.queues) }
+    {
+        match self.workings.queued(apid, steps) {
             None => return Err(TakeFault::NoQueue),
             Some(0) => return Err(TakeFault::Empty),
             Some(_) => {}
         }
         let taken = LentEvent::Take(apid);
         let entry = self.journal.prepare(self.alloc, &taken)?;
-        let packet = self.workings.take(apid).unwrap();
+        let packet = self.workings.take(apid, steps).unwrap();
         self.journal.append(&taken, entry);
         Ok(packet)
     }
@@ -142,14 +208,33 @@ impl<J: Journal> ChannelWith<J> {
         ensures refused { OnErr result (self.new ≡ self.old) }
         ensures answered { J.grows ≡ false → IsErrOf result TakeUnitFault.NoMemory → ⊥ }
     {
-        match self.workings.units(map) {
+        self.take_unit_counted(map, &mut Uncounted)
+    }
+
+    /// As [`take_unit`](ChannelWith::take_unit), which runs it with a count that isn't kept. A step is a queue that is looked at.
+    pub fn take_unit_counted<C: Count>(
+        &mut self,
+        map: u8,
+        steps: &mut C,
+    ) -> Result<Vec<u8>, TakeUnitFault>
+        ensures allowed { IsAllowed self.old.settings }
+        ensures lawful { IsLawful self.old.settings self.old.journal }
+        ensures no_map { IsErrOf result TakeUnitFault.NoMap ↔ (waiting_units self.old.settings self.old.journal map ≡ None) }
+        ensures empty { IsErrOf result TakeUnitFault.Empty ↔ (waiting_units self.old.settings self.old.journal map ≡ Some []) }
+        ensures reply { IfOk result (λ unit. unit_reply self.old.settings self.old.journal map ≡ Some unit.items) }
+        ensures done { OnOk result (self.new ≡ with_event self.old (Event.TakeUnit map)) }
+        ensures refused { OnErr result (self.new ≡ self.old) }
+        ensures answered { J.grows ≡ false → IsErrOf result TakeUnitFault.NoMemory → ⊥ }
+        ensures cost { C.taken steps.new ≤ C.taken steps.old + take_steps map (length self.old.settings.maps) }
+    {
+        match self.workings.units(map, steps) {
             None => return Err(TakeUnitFault::NoMap),
             Some(0) => return Err(TakeUnitFault::Empty),
             Some(_) => {}
         }
         let taken = LentEvent::TakeUnit(map);
         let entry = self.journal.prepare(self.alloc, &taken)?;
-        let unit = self.workings.take_unit(map).unwrap();
+        let unit = self.workings.take_unit(map, steps).unwrap();
         self.journal.append(&taken, entry);
         Ok(unit)
     }
@@ -161,7 +246,7 @@ impl<J: Journal> ChannelWith<J> {
         ensures allowed { IsAllowed self.now.settings }
         ensures lawful { IsLawful self.now.settings self.now.journal }
     {
-        self.workings.oldest(apid)
+        self.workings.oldest(apid, &mut Uncounted)
     }
 
     /// The octets of the unit that [`take_unit`](ChannelWith::take_unit) with this MAP gives next, lent. None where the MAP isn't
@@ -171,7 +256,7 @@ impl<J: Journal> ChannelWith<J> {
         ensures allowed { IsAllowed self.now.settings }
         ensures lawful { IsLawful self.now.settings self.now.journal }
     {
-        self.workings.oldest_unit(map)
+        self.workings.oldest_unit(map, &mut Uncounted)
     }
 
     /// FARM-1's components.
@@ -209,7 +294,7 @@ impl<J: Journal> ChannelWith<J> {
         ensures allowed { IsAllowed self.now.settings }
         ensures lawful { IsLawful self.now.settings self.now.journal }
     {
-        self.workings.queued(apid)
+        self.workings.queued(apid, &mut Uncounted)
     }
 
     /// How many units wait in the queue of this MAP, if it is chosen.
@@ -218,7 +303,7 @@ impl<J: Journal> ChannelWith<J> {
         ensures allowed { IsAllowed self.now.settings }
         ensures lawful { IsLawful self.now.settings self.now.journal }
     {
-        self.workings.units(map)
+        self.workings.units(map, &mut Uncounted)
     }
 
     /// How many events there are in the journal; where they are more than 2^64 - 1, that number.
@@ -270,7 +355,7 @@ fn start<J: Journal>(alloc: Global, settings: Settings) -> Result<ChannelWith<J>
     ensures journal { IfOk result (λ channel. channel.journal ≡ []) }
 {
     let runs = Runs::new(alloc, settings.segmented, LARGEST_UNIT)?;
-    let workings = Workings::new(alloc, &settings, runs, LARGEST_UNIT)?;
+    let workings = Workings::new(alloc, &settings, runs, LARGEST_UNIT, &mut Uncounted)?;
     Ok(ChannelWith {
         alloc,
         settings,

@@ -10,14 +10,13 @@ ghost use Rattle.tc_channel.specs.Delivering.{IsPutAt, ArePut, IsPutWhole, IsDel
 ghost use Rattle.tc_channel.specs.Steps.{looks, pass_steps, unit_steps};
 
 use crate::laying::lay_packets;
-use crate::places::place_counted;
+use crate::places::place_of;
 use crate::queue::Queue;
 use crate::reply::Delivery;
 use crate::settling::{let_go, settle_packets};
-use crate::steps::Steps;
+use crate::steps::Count;
 use std::alloc::AllocError;
 use std::boxed::BoxedSlice;
-use std::sync::ledger::Ledger;
 use tc_packet::LARGEST_UNIT;
 use tc_rooms::Room;
 
@@ -78,11 +77,11 @@ fn deliver_whole<R: Room>(
 
 // Delivers a unit by its packets. Where memory runs out the queues are as they were.
 #[inline(always)]
-fn deliver_packets<R: Room, L: Ledger>(
+fn deliver_packets<R: Room, C: Count>(
     queues: &mut BoxedSlice<Queue<R>>,
     table: &[u16],
     unit: &[u8],
-    steps: &mut Steps<L>,
+    steps: &mut C,
 ) -> Result<Delivery, AllocError>
     requires table { IsTableOf (keys_of (rings_in (boxed_slice_items queues.old))) table.now }
     requires within { length unit.now ≤ LARGEST_UNIT }
@@ -95,8 +94,8 @@ fn deliver_packets<R: Room, L: Ledger>(
     ensures keys { keys_of (rings_in (boxed_slice_items queues.new)) ≡ keys_of (rings_in (boxed_slice_items queues.old)) }
     ensures sizes { room_sizes (boxed_slice_items queues.new) ≡ room_sizes (boxed_slice_items queues.old) }
     ensures answered { R.grows ≡ false → IsOk result }
-    ensures cost { IfOk result (λ _. steps.new ≤ steps.old + (pass_steps (length (packets_of unit.now)) (looks (boxed_slice_items queues.old) table.now) + (pass_steps (length (packets_of unit.now)) (looks (boxed_slice_items queues.old) table.now) + looks (boxed_slice_items queues.old) table.now))) }
-    ensures refused_cost { OnErr result (steps.new ≤ steps.old + (pass_steps (length (packets_of unit.now)) (looks (boxed_slice_items queues.old) table.now) + length (boxed_slice_items queues.old))) }
+    ensures cost { IfOk result (λ _. C.taken steps.new ≤ C.taken steps.old + (pass_steps (length (packets_of unit.now)) (looks (boxed_slice_items queues.old) table.now) + (pass_steps (length (packets_of unit.now)) (looks (boxed_slice_items queues.old) table.now) + looks (boxed_slice_items queues.old) table.now))) }
+    ensures refused_cost { OnErr result (C.taken steps.new ≤ C.taken steps.old + (pass_steps (length (packets_of unit.now)) (looks (boxed_slice_items queues.old) table.now) + length (boxed_slice_items queues.old))) }
 {
     match lay_packets(queues, table, unit, steps) {
         Ok(delivery) => {
@@ -112,14 +111,14 @@ fn deliver_packets<R: Room, L: Ledger>(
 
 /// Delivers a unit: whole where its MAP is chosen, else by its packets. Where memory runs out all queues are as they were.
 #[inline(always)]
-pub(crate) fn deliver<R: Room, L: Ledger>(
+pub(crate) fn deliver<R: Room, C: Count>(
     queues: &mut BoxedSlice<Queue<R>>,
     table: &[u16],
     units: &mut BoxedSlice<Queue<R>>,
     unit_table: &[u16],
     map: u8,
     unit: &[u8],
-    steps: &mut Steps<L>,
+    steps: &mut C,
 ) -> Result<Delivery, AllocError>
     requires table { IsTableOf (keys_of (rings_in (boxed_slice_items queues.old))) table.now }
     requires unit_table { IsTableOf (keys_of (rings_in (boxed_slice_items units.old))) unit_table.now }
@@ -140,10 +139,10 @@ pub(crate) fn deliver<R: Room, L: Ledger>(
     ensures sizes { room_sizes (boxed_slice_items queues.new) ≡ room_sizes (boxed_slice_items queues.old) }
     ensures unit_sizes { room_sizes (boxed_slice_items units.new) ≡ room_sizes (boxed_slice_items units.old) }
     ensures answered { R.grows ≡ false → IsOk result }
-    ensures cost { IfOk result (λ _. steps.new ≤ steps.old + unit_steps (length (packets_of unit.now)) (looks (boxed_slice_items queues.old) table.now) (looks (boxed_slice_items units.old) unit_table.now)) }
-    ensures refused_cost { OnErr result (steps.new ≤ steps.old + (unit_steps (length (packets_of unit.now)) (looks (boxed_slice_items queues.old) table.now) (looks (boxed_slice_items units.old) unit_table.now) + length (boxed_slice_items queues.old))) }
+    ensures cost { IfOk result (λ _. C.taken steps.new ≤ C.taken steps.old + unit_steps (length (packets_of unit.now)) (looks (boxed_slice_items queues.old) table.now) (looks (boxed_slice_items units.old) unit_table.now)) }
+    ensures refused_cost { OnErr result (C.taken steps.new ≤ C.taken steps.old + (unit_steps (length (packets_of unit.now)) (looks (boxed_slice_items queues.old) table.now) (looks (boxed_slice_items units.old) unit_table.now) + length (boxed_slice_items queues.old))) }
 {
-    match place_counted(units, unit_table, map as u16, steps) {
+    match place_of(units, unit_table, map as u16, steps) {
         Some(place) => deliver_whole(units, place, map, unit),
         None => deliver_packets(queues, table, unit, steps),
     }

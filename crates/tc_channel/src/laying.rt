@@ -11,13 +11,12 @@ ghost use Rattle.tc_channel.specs.Places.{IsTableOf};
 ghost use Rattle.tc_channel.specs.Delivering.{IsOnItsWay, IsPutAt, ArePut, IsAmong, AreLaidOf};
 ghost use Rattle.tc_channel.specs.Steps.{looks, pass_steps};
 
-use crate::places::place_counted;
+use crate::places::place_of;
 use crate::queue::Queue;
 use crate::reply::Delivery;
-use crate::steps::Steps;
+use crate::steps::Count;
 use std::alloc::AllocError;
 use std::boxed::BoxedSlice;
-use std::sync::ledger::Ledger;
 use tc_packet::{LARGEST_UNIT, Packet, each_unit_has_one_cut, next_packet};
 use tc_rooms::Room;
 
@@ -48,11 +47,11 @@ fn lay_at<R: Room>(
 
 // Lays a packet into its queue, where one takes it, and says how many packets that were.
 #[inline(always)]
-fn lay_packet<R: Room, L: Ledger>(
+fn lay_packet<R: Room, C: Count>(
     queues: &mut BoxedSlice<Queue<R>>,
     table: &[u16],
     packet: &Packet,
-    steps: &mut Steps<L>,
+    steps: &mut C,
 ) -> Result<usize, AllocError>
     requires table { IsTableOf (keys_of (rings_in (boxed_slice_items queues.old))) table.now }
     requires fields { HasFields packet.now }
@@ -70,12 +69,12 @@ fn lay_packet<R: Room, L: Ledger>(
     ensures one { IfOk result (λ more. more ≤ 1) }
     ensures sizes { room_sizes (boxed_slice_items queues.new) ≡ room_sizes (boxed_slice_items queues.old) }
     ensures answered { R.grows ≡ false → IsOk result }
-    ensures cost { steps.new ≤ steps.old + looks (boxed_slice_items queues.old) table.now }
+    ensures cost { C.taken steps.new ≤ C.taken steps.old + looks (boxed_slice_items queues.old) table.now }
 {
     if !packet.telecommand {
         return Ok(0);
     }
-    let Some(place) = place_counted(queues, table, packet.apid, steps) else {
+    let Some(place) = place_of(queues, table, packet.apid, steps) else {
         return Ok(0);
     };
     let put = lay_at(queues, place, packet.octets)?;
@@ -87,11 +86,11 @@ fn lay_packet<R: Room, L: Ledger>(
 
 /// Lays the packets of a unit into their queues.
 #[inline(always)]
-pub(crate) fn lay_packets<R: Room, L: Ledger>(
+pub(crate) fn lay_packets<R: Room, C: Count>(
     queues: &mut BoxedSlice<Queue<R>>,
     table: &[u16],
     unit: &[u8],
-    steps: &mut Steps<L>,
+    steps: &mut C,
 ) -> Result<Delivery, AllocError>
     requires table { IsTableOf (keys_of (rings_in (boxed_slice_items queues.old))) table.now }
     requires within { length unit.now ≤ LARGEST_UNIT }
@@ -106,7 +105,7 @@ pub(crate) fn lay_packets<R: Room, L: Ledger>(
     ensures settled { R.grows ≡ false → AreSettled (boxed_slice_items queues.new) }
     ensures sizes { room_sizes (boxed_slice_items queues.new) ≡ room_sizes (boxed_slice_items queues.old) }
     ensures answered { R.grows ≡ false → IsOk result }
-    ensures cost { steps.new ≤ steps.old + pass_steps (length (packets_of unit.now)) (looks (boxed_slice_items queues.old) table.now) }
+    ensures cost { C.taken steps.new ≤ C.taken steps.old + pass_steps (length (packets_of unit.now)) (looks (boxed_slice_items queues.old) table.now) }
 {
     each_unit_has_one_cut();
     let mut packets = 0;

@@ -73,6 +73,6 @@ pub use memory::{
 pub use past::Past;
 pub use reply::{Delivery, FrameReply, NoMemory, ReleaseFault, TakeFault, TakeUnitFault};
 pub use settings::{LentSettings, MapSetting, QueueSetting, Settings, SettingsFault};
-pub use steps::Steps;
+pub use steps::{Count, Steps};
 pub use unkept::{EventsSeen, Unkept};
 pub use workings::{LARGEST_FIELD, Workings};

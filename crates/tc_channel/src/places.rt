@@ -10,11 +10,9 @@ ghost use Rattle.tc_channel.specs.Places.{IsFirst, IsTableOf, IsTabled};
 ghost use Rattle.tc_channel.specs.Steps.{looks};
 
 use crate::queue::Queue;
-use crate::steps::Steps;
+use crate::steps::Count;
 use std::alloc::{AllocError, Global};
 use std::boxed::BoxedSlice;
-use std::marker::Brand;
-use std::sync::ledger::{Blank, Ledger};
 use tc_rooms::Room;
 
 // How many keys a table has: one for each APID, which has 11 bits (CCSDS 133.0-B, 4.1.3.3).
@@ -28,19 +26,14 @@ const QUEUES_IN_A_TABLE: usize = 65_535;
 
 // The place of the queue with this key, found by a search.
 #[tactic(auto, using(crate::proofs::Closing::searched))]
-fn search_place<R: Room, L: Ledger>(
-    queues: &[Queue<R>],
-    key: u16,
-    steps: &mut Steps<L>,
-) -> Option<usize>
+fn search_place<R: Room, C: Count>(queues: &[Queue<R>], key: u16, steps: &mut C) -> Option<usize>
     ensures first { IfSome result (λ place. IsFirst key place (keys_of (rings_in queues.now))) }
     ensures some { IfSome result (λ place. (place < length queues.now) × (key ≡ get_or (keys_of (rings_in queues.now)) place key)) }
     ensures none { IfNone result (AllByRecursion (λ other. key ≢ other) (keys_of (rings_in queues.now))) }
-    ensures cost { steps.new ≤ steps.old + length queues.now }
+    ensures cost { C.taken steps.new ≤ C.taken steps.old + length queues.now }
 {
     for (place, queue) in queues.iter().enumerate() {
-        steps.tick();
-        if key == queue.key() {
+        if key == queue.key_counted(steps) {
             return Some(place);
         }
     }
@@ -51,17 +44,18 @@ fn search_place<R: Room, L: Ledger>(
 /// is looked at.
 #[inline(always)]
 #[tactic(auto, using(crate::proofs::Closing::told))]
-pub(crate) fn place_counted<R: Room, L: Ledger>(
+pub(crate) fn place_of<R: Room, C: Count>(
     queues: &[Queue<R>],
     table: &[u16],
     key: u16,
-    steps: &mut Steps<L>,
+    steps: &mut C,
 ) -> Option<usize>
     requires { IsTableOf (keys_of (rings_in queues.now)) table.now }
     ensures first { IfSome result (λ place. IsFirst key place (keys_of (rings_in queues.now))) }
     ensures some { IfSome result (λ place. (place < length queues.now) × (key ≡ get_or (keys_of (rings_in queues.now)) place key)) }
     ensures none { IfNone result (AllByRecursion (λ other. key ≢ other) (keys_of (rings_in queues.now))) }
-    ensures cost { key < 2048 → steps.new ≤ steps.old + looks queues.now table.now }
+    ensures cost { key < 2048 → C.taken steps.new ≤ C.taken steps.old + looks queues.now table.now }
+    ensures far { 2048 ≤ key → C.taken steps.new ≤ C.taken steps.old + length queues.now }
 {
     if key as usize >= table.len() {
         return search_place(queues, key, steps);
@@ -74,41 +68,11 @@ pub(crate) fn place_counted<R: Room, L: Ledger>(
     None
 }
 
-// The same, with a count that begins here.
-#[inline(always)]
-fn place_with<R: Room, L: Ledger>(
-    queues: &[Queue<R>],
-    table: &[u16],
-    key: u16,
-    blank: Blank,
-) -> Option<usize>
-    requires table { IsTableOf (keys_of (rings_in queues.now)) table.now }
-    requires name { blank.name ≡ L.name }
-    requires parts { blank.parts ≡ L.parts }
-    requires one { blank.parts ≡ 1 }
-    ensures first { IfSome result (λ place. IsFirst key place (keys_of (rings_in queues.now))) }
-    ensures some { IfSome result (λ place. (place < length queues.now) × (key ≡ get_or (keys_of (rings_in queues.now)) place key)) }
-    ensures none { IfNone result (AllByRecursion (λ other. key ≢ other) (keys_of (rings_in queues.now))) }
-{
-    let mut steps: Steps<L> = Steps::new(blank);
-    place_counted(queues, table, key, &mut steps)
-}
-
-/// The same, where no step is counted.
-#[inline(always)]
-pub(crate) fn place_of<R: Room>(queues: &[Queue<R>], table: &[u16], key: u16) -> Option<usize>
-    requires { IsTableOf (keys_of (rings_in queues.now)) table.now }
-    ensures first { IfSome result (λ place. IsFirst key place (keys_of (rings_in queues.now))) }
-    ensures some { IfSome result (λ place. (place < length queues.now) × (key ≡ get_or (keys_of (rings_in queues.now)) place key)) }
-    ensures none { IfNone result (AllByRecursion (λ other. key ≢ other) (keys_of (rings_in queues.now))) }
-{
-    place_with::<R, Brand>(queues, table, key, Blank::new(1))
-}
-
 /// A table of the places of these queues, or an empty one where there are few.
-pub(crate) fn see_places<R: Room>(
+pub(crate) fn see_places<R: Room, C: Count>(
     alloc: Global,
     queues: &[Queue<R>],
+    steps: &mut C,
 ) -> Result<BoxedSlice<u16>, AllocError>
     ensures { IfOk result (λ table. IsTabled (keys_of (rings_in queues.now)) (boxed_slice_items table)) }
 {
@@ -118,7 +82,7 @@ pub(crate) fn see_places<R: Room>(
     let none = queues.len() as u16;
     let mut table = vec![in alloc; none; KEYS]?;
     for (place, queue) in queues.iter().enumerate() {
-        let key = queue.key() as usize;
+        let key = queue.key_counted(steps) as usize;
         if key < KEYS && table[key] == none {
             table[key] = place as u16;
         }
@@ -128,15 +92,18 @@ pub(crate) fn see_places<R: Room>(
 
 /// The queue with this key.
 #[tactic(auto, using(crate::proofs::Closing::by_key))]
-pub(crate) fn find_in<'a, R: Room>(
+pub(crate) fn find_in<'a, R: Room, C: Count>(
     queues: &'a [Queue<R>],
     table: &[u16],
     key: u16,
+    steps: &mut C,
 ) -> Option<&'a Queue<R>>
     requires { IsTableOf (keys_of (rings_in queues.now)) table.now }
-    ensures { option_map ring_in (option_copied result) ≡ queue_for key (rings_in queues.now) }
+    ensures queue { option_map ring_in (option_copied result) ≡ queue_for key (rings_in queues.now) }
+    ensures cost { key < 2048 → C.taken steps.new ≤ C.taken steps.old + looks queues.now table.now }
+    ensures far { 2048 ≤ key → C.taken steps.new ≤ C.taken steps.old + length queues.now }
 {
-    match place_of(queues, table, key) {
+    match place_of(queues, table, key, steps) {
         Some(place) => Some(&queues[place]),
         None => None,
     }

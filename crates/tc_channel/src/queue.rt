@@ -1,9 +1,10 @@
 //! One queue in rooms.
 
-ghost use Rattle.std.specs.Prelude.{◌≡◌, ◌≤◌, [], length, drop, true, false, IfOk, IsOk, OnErr, None, slice_get, option_map};
+ghost use Rattle.std.specs.Prelude.{◌≡◌, ◌≤◌, ◌+◌, [], length, drop, true, false, IfOk, IsOk, OnErr, None, slice_get, option_map};
 ghost use Rattle.tc_rooms.specs.Rooms.{slotted};
 ghost use Rattle.tc_channel.specs.Keyed.{ring_in, laid_in, settled, let_go as let_go_of, IsPutBehind};
 
+use crate::steps::Count;
 use std::alloc::{AllocError, Global};
 use std::marker::Model;
 use tc_rooms::{GrowingRoom, Room, Slots};
@@ -37,10 +38,14 @@ impl<R: Room> Queue<R> {
         Ok(Queue { key, slots })
     }
 
-    /// Its key.
-    pub fn key(&self) -> u16
-        ensures { result ≡ self.now.key }
+    /// Its key. To look at it is a step, and there is no other way to it.
+    #[inline(always)]
+    pub fn key_counted<C: Count>(&self, steps: &mut C) -> u16
+        ensures key { result ≡ self.now.key }
+        ensures most { C.taken steps.new ≤ C.taken steps.old + 1 }
+        ensures one { C.counts ≡ true → C.taken steps.new ≡ C.taken steps.old + 1 }
     {
+        steps.tick();
         self.key
     }
 

@@ -8,18 +8,17 @@ ghost use Rattle.tc_packet.specs.declared.runs.Ended.TheVariants as Ended;
 ghost use Rattle.tc_packet.specs.Store.{unit_in, IsThere, IsAtMost};
 ghost use Rattle.tc_channel.specs.Keyed.{ring_in, rings_in, room_sizes, Fit, FitsIn, AreSettled};
 ghost use Rattle.tc_channel.specs.Delivering.{IsDelivered};
-ghost use Rattle.tc_channel.specs.Steps.{most_looks, packet_count, unit_steps};
+ghost use Rattle.tc_channel.specs.Steps.{delivery_steps, looks_for, packet_steps};
 
 use crate::delivering::deliver;
 use crate::places::{find_in, see_places};
 use crate::queue::Queue;
 use crate::reply::Delivery;
-use crate::steps::Steps;
+use crate::steps::Count;
 use crate::taking::{pop_from, take_from};
 use std::alloc::{AllocError, Global};
 use std::boxed::BoxedSlice;
 use std::marker::Model;
-use std::sync::ledger::Ledger;
 use tc_packet::LARGEST_UNIT;
 use tc_rooms::{Ended, GrowingRoom, Room, Runs};
 
@@ -47,10 +46,14 @@ impl<R: Room> Model for Queues<R> {
 
 impl<R: Room> Queues<R> {
     /// These queues, whose keys stay. Where they are 64 or more, a table of the place of each APID's queue is made with them.
-    pub fn new(alloc: Global, queues: Vec<Queue<R>>) -> Result<Queues<R>, AllocError>
+    pub fn new<C: Count>(
+        alloc: Global,
+        queues: Vec<Queue<R>>,
+        steps: &mut C,
+    ) -> Result<Queues<R>, AllocError>
         ensures { IfOk result (λ q. q ≡ queues.items) }
     {
-        let table = see_places(alloc, &queues)?;
+        let table = see_places(alloc, &queues, steps)?;
         Ok(Queues {
             queues: queues.into_boxed_slice(),
             table,
@@ -58,53 +61,57 @@ impl<R: Room> Queues<R> {
     }
 
     /// The queue with this key.
-    pub fn find(&self, key: u16) -> Option<&Queue<R>>
-        ensures { option_map ring_in (option_copied result) ≡ queue_for key (rings_in self.now) }
+    pub fn find<C: Count>(&self, key: u16, steps: &mut C) -> Option<&Queue<R>>
+        ensures queue { option_map ring_in (option_copied result) ≡ queue_for key (rings_in self.now) }
+        ensures cost { C.taken steps.new ≤ C.taken steps.old + looks_for key (length self.now) }
     {
-        find_in(&self.queues, &self.table, key)
+        find_in(&self.queues, &self.table, key, steps)
     }
 
     /// The octets of the oldest item of the queue with this key.
-    pub fn oldest(&self, key: u16) -> Option<&[u8]>
-        ensures { option_map (λ octets. octets.now) result ≡ oldest_for key (rings_in self.now) }
+    pub fn oldest<C: Count>(&self, key: u16, steps: &mut C) -> Option<&[u8]>
+        ensures item { option_map (λ octets. octets.now) result ≡ oldest_for key (rings_in self.now) }
+        ensures cost { C.taken steps.new ≤ C.taken steps.old + looks_for key (length self.now) }
     {
-        self.find(key)?.front()
+        self.find(key, steps)?.front()
     }
 
     /// Drops the oldest item of the queue with this key, where one waits, and says whether it did.
-    pub fn pop(&mut self, key: u16) -> bool
+    pub fn pop<C: Count>(&mut self, key: u16, steps: &mut C) -> bool
         ensures waits { IsTrue result ↔ IsSome (oldest_for key (rings_in self.old)) }
         ensures rings { rings_in self.new ≡ popped key (rings_in self.old) }
         ensures sizes { room_sizes self.new ≡ room_sizes self.old }
         ensures settled { AreSettled self.old → AreSettled self.new }
         ensures refused { result ≡ false → self.new ≡ self.old }
+        ensures cost { C.taken steps.new ≤ C.taken steps.old + looks_for key (length self.old) }
     {
-        pop_from(&mut self.queues, &self.table, key)
+        pop_from(&mut self.queues, &self.table, key, steps)
     }
 }
 
 impl Queues<GrowingRoom> {
     /// Takes the oldest item out of the queue with this key, where one waits, in its own block: none of its octets is copied, and no
     /// memory is asked for.
-    pub fn take(&mut self, key: u16) -> Option<Vec<u8>>
+    pub fn take<C: Count>(&mut self, key: u16, steps: &mut C) -> Option<Vec<u8>>
         ensures item { option_map (λ block. block.items) result ≡ oldest_for key (rings_in self.old) }
         ensures rings { rings_in self.new ≡ popped key (rings_in self.old) }
         ensures sizes { room_sizes self.new ≡ room_sizes self.old }
         ensures settled { AreSettled self.old → AreSettled self.new }
         ensures refused { result ≡ None → self.new ≡ self.old }
+        ensures cost { C.taken steps.new ≤ C.taken steps.old + looks_for key (length self.old) }
     {
-        take_from(&mut self.queues, &self.table, key)
+        take_from(&mut self.queues, &self.table, key, steps)
     }
 }
 
 // Delivers a unit: whole where its MAP is chosen, else by its packets. Where memory runs out all queues are as they were.
 #[inline(always)]
-fn deliver_unit<R: Room, L: Ledger>(
+fn deliver_unit<R: Room, C: Count>(
     queues: &mut Queues<R>,
     units: &mut Queues<R>,
     map: u8,
     unit: &[u8],
-    steps: &mut Steps<L>,
+    steps: &mut C,
 ) -> Result<Delivery, AllocError>
     requires within { length unit.now ≤ LARGEST_UNIT }
     requires distinct { AreDistinct (keys_of (rings_in queues.old)) }
@@ -120,8 +127,8 @@ fn deliver_unit<R: Room, L: Ledger>(
     ensures sizes { room_sizes queues.new ≡ room_sizes queues.old }
     ensures unit_sizes { room_sizes units.new ≡ room_sizes units.old }
     ensures answered { R.grows ≡ false → IsOk result }
-    ensures cost { IfOk result (λ _. steps.new ≤ steps.old + unit_steps (length (packets_of unit.now)) (most_looks (length queues.old)) (most_looks (length units.old))) }
-    ensures refused_cost { OnErr result (steps.new ≤ steps.old + (unit_steps (length (packets_of unit.now)) (most_looks (length queues.old)) (most_looks (length units.old)) + length queues.old)) }
+    ensures cost { IfOk result (λ _. C.taken steps.new ≤ C.taken steps.old + packet_steps (length (packets_of unit.now)) (length queues.old) (length units.old)) }
+    ensures refused_cost { OnErr result (C.taken steps.new ≤ C.taken steps.old + (packet_steps (length (packets_of unit.now)) (length queues.old) (length units.old) + length queues.old)) }
 {
     deliver(
         &mut queues.queues,
@@ -152,14 +159,14 @@ fn unit_of<'a, R: Room>(runs: &'a Runs<R>, field: &'a [u8], ended: Ended) -> Opt
 /// go. So the steps grow as the unit's packets times the queues that are looked at where one is found: one where there are 64 queues or
 /// more, else each at most.
 #[inline(always)]
-pub(crate) fn deliver_ended<R: Room, L: Ledger>(
+pub(crate) fn deliver_ended<R: Room, C: Count>(
     runs: &Runs<R>,
     queues: &mut Queues<R>,
     units: &mut Queues<R>,
     map: u8,
     field: &[u8],
     ended: Ended,
-    steps: &mut Steps<L>,
+    steps: &mut C,
 ) -> Result<Delivery, AllocError>
     requires there { IsThere ended runs.now field.now }
     requires within { IsAtMost LARGEST_UNIT (unit_in ended runs.now field.now) }
@@ -178,8 +185,8 @@ pub(crate) fn deliver_ended<R: Room, L: Ledger>(
     ensures sizes { room_sizes queues.new ≡ room_sizes queues.old }
     ensures unit_sizes { room_sizes units.new ≡ room_sizes units.old }
     ensures answered { R.grows ≡ false → IsOk result }
-    ensures cost { IfOk result (λ _. steps.new ≤ steps.old + unit_steps (packet_count (unit_in ended runs.now field.now)) (most_looks (length queues.old)) (most_looks (length units.old))) }
-    ensures refused_cost { OnErr result (steps.new ≤ steps.old + (unit_steps (packet_count (unit_in ended runs.now field.now)) (most_looks (length queues.old)) (most_looks (length units.old)) + length queues.old)) }
+    ensures cost { IfOk result (λ _. C.taken steps.new ≤ C.taken steps.old + delivery_steps (unit_in ended runs.now field.now) (length queues.old) (length units.old)) }
+    ensures refused_cost { OnErr result (C.taken steps.new ≤ C.taken steps.old + (delivery_steps (unit_in ended runs.now field.now) (length queues.old) (length units.old) + length queues.old)) }
 {
     match unit_of(runs, field, ended) {
         Some(unit) => deliver_unit(queues, units, map, unit, steps),

@@ -10,18 +10,17 @@ ghost use Rattle.tc_channel.specs.Places.{IsTableOf};
 ghost use Rattle.tc_channel.specs.Delivering.{AreLaidOf};
 ghost use Rattle.tc_channel.specs.Steps.{looks, pass_steps};
 
-use crate::places::place_counted;
+use crate::places::place_of;
 use crate::queue::Queue;
-use crate::steps::Steps;
+use crate::steps::Count;
 use std::boxed::BoxedSlice;
-use std::sync::ledger::Ledger;
 use tc_packet::{Packet, each_unit_has_one_cut, next_packet};
 use tc_rooms::Room;
 
 // All that was laid counts.
-fn settle_all<R: Room, L: Ledger>(queues: &mut BoxedSlice<Queue<R>>, steps: &mut Steps<L>)
+fn settle_all<R: Room, C: Count>(queues: &mut BoxedSlice<Queue<R>>, steps: &mut C)
     ensures settled { boxed_slice_items queues.new ≡ map settled (boxed_slice_items queues.old) }
-    ensures cost { steps.new ≤ steps.old + length (boxed_slice_items queues.old) }
+    ensures cost { C.taken steps.new ≤ C.taken steps.old + length (boxed_slice_items queues.old) }
 {
     for i in 0..queues.as_slice().len() {
         steps.tick();
@@ -32,11 +31,11 @@ fn settle_all<R: Room, L: Ledger>(queues: &mut BoxedSlice<Queue<R>>, steps: &mut
 // What was laid in the queue of this packet counts.
 #[inline(always)]
 #[tactic(auto, using(crate::proofs::Closing::passing))]
-fn settle_packet<R: Room, L: Ledger>(
+fn settle_packet<R: Room, C: Count>(
     queues: &mut BoxedSlice<Queue<R>>,
     table: &[u16],
     packet: &Packet,
-    steps: &mut Steps<L>,
+    steps: &mut C,
 )
     requires table { IsTableOf (keys_of (rings_in (boxed_slice_items queues.old))) table.now }
     requires fields { HasFields packet.now }
@@ -44,12 +43,12 @@ fn settle_packet<R: Room, L: Ledger>(
     ensures among { (left : List (List ℕ)) → AreLaidOf (packet.now.octets.now ∷ left) (boxed_slice_items queues.old) → AreLaidOf left (boxed_slice_items queues.new) }
     ensures settled { map settled (boxed_slice_items queues.new) ≡ map settled (boxed_slice_items queues.old) }
     ensures keys { keys_of (rings_in (boxed_slice_items queues.new)) ≡ keys_of (rings_in (boxed_slice_items queues.old)) }
-    ensures cost { steps.new ≤ steps.old + looks (boxed_slice_items queues.old) table.now }
+    ensures cost { C.taken steps.new ≤ C.taken steps.old + looks (boxed_slice_items queues.old) table.now }
 {
     if !packet.telecommand {
         return;
     }
-    let Some(place) = place_counted(queues, table, packet.apid, steps) else {
+    let Some(place) = place_of(queues, table, packet.apid, steps) else {
         return;
     };
     queues[place].settle();
@@ -58,12 +57,12 @@ fn settle_packet<R: Room, L: Ledger>(
 /// What was laid of the packets of this unit counts, of which `laid` packets were laid. Where no memory can be refused it does already.
 /// Where a table tells the places, and the queues are at least as many as these packets, only the queues of the unit's packets are
 /// looked at.
-pub(crate) fn settle_packets<R: Room, L: Ledger>(
+pub(crate) fn settle_packets<R: Room, C: Count>(
     queues: &mut BoxedSlice<Queue<R>>,
     table: &[u16],
     unit: &[u8],
     laid: usize,
-    steps: &mut Steps<L>,
+    steps: &mut C,
 )
     requires table { IsTableOf (keys_of (rings_in (boxed_slice_items queues.old))) table.now }
     requires distinct { AreDistinct (keys_of (rings_in (boxed_slice_items queues.old))) }
@@ -71,7 +70,7 @@ pub(crate) fn settle_packets<R: Room, L: Ledger>(
     requires few { laid ≤ length (packets_of unit.now) }
     requires among { AreLaidOf (packets_of unit.now) (boxed_slice_items queues.old) }
     ensures settled { boxed_slice_items queues.new ≡ map settled (boxed_slice_items queues.old) }
-    ensures cost { steps.new ≤ steps.old + (pass_steps (length (packets_of unit.now)) (looks (boxed_slice_items queues.old) table.now) + looks (boxed_slice_items queues.old) table.now) }
+    ensures cost { C.taken steps.new ≤ C.taken steps.old + (pass_steps (length (packets_of unit.now)) (looks (boxed_slice_items queues.old) table.now) + looks (boxed_slice_items queues.old) table.now) }
 {
     if !R::may_ask() {
         return;
@@ -90,9 +89,9 @@ pub(crate) fn settle_packets<R: Room, L: Ledger>(
 }
 
 /// All that was laid is let go.
-pub(crate) fn let_go<R: Room, L: Ledger>(queues: &mut BoxedSlice<Queue<R>>, steps: &mut Steps<L>)
+pub(crate) fn let_go<R: Room, C: Count>(queues: &mut BoxedSlice<Queue<R>>, steps: &mut C)
     ensures let_go { boxed_slice_items queues.new ≡ map let_go_of (boxed_slice_items queues.old) }
-    ensures cost { steps.new ≤ steps.old + length (boxed_slice_items queues.old) }
+    ensures cost { C.taken steps.new ≤ C.taken steps.old + length (boxed_slice_items queues.old) }
 {
     for i in 0..queues.as_slice().len() {
         steps.tick();

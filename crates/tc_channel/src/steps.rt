@@ -1,11 +1,26 @@
-//! How many steps were taken, counted at no cost when a program runs.
+//! How many steps a call takes, counted at no cost when a program runs.
 
-ghost use Rattle.std.specs.Prelude.{◌≡◌, ◌+◌};
+ghost use Rattle.std.specs.Prelude.{◌≡◌, ◌≤◌, ◌+◌, ℕ, Bool, true};
 
 use std::marker::Model;
 use std::sync::ledger::{Blank, Book, Ledger, Share};
 
-/// How many steps were taken. It takes no octets, and only [`tick`](Steps::tick) changes it.
+/// What counts steps. The bodies that count are generic over it, and can't make one of their own: each step that they take is counted by
+/// the count that they were given.
+pub trait Count {
+    // how many steps were counted
+    ghost taken: { Self → ℕ };
+
+    // each step counts
+    ghost counts: { Bool };
+
+    /// One step.
+    fn tick(&mut self)
+        ensures most { taken self.new ≤ taken self.old + 1 }
+        ensures one { counts ≡ true → taken self.new ≡ taken self.old + 1 };
+}
+
+/// How many steps were taken. It takes no octets, and only [`tick`](Count::tick) changes it.
 #[derive(Drop)]
 pub struct Steps<L: Ledger> {
     book: Book<L>,
@@ -33,12 +48,17 @@ impl<L: Ledger> Steps<L> {
         let (book, share) = blank.open::<L>();
         Steps { book, share }
     }
+}
 
-    /// One more step. It does nothing when a program runs.
+impl<L: Ledger> Count for Steps<L> {
+    ghost use Rattle.std.specs.Prelude.{true};
+
+    ghost taken = { λ s. s };
+
+    ghost counts = { true };
+
     #[inline(always)]
-    pub fn tick(&mut self)
-        ensures { self.new ≡ self.old + 1 }
-    {
+    fn tick(&mut self) {
         self.book.add(&mut self.share, 1);
     }
 }

@@ -1,13 +1,15 @@
 //! What is taken from the queue with a key.
 
-ghost use Rattle.std.specs.Prelude.{ℕ, ◌<◌, ◌≡◌, ◌↔◌, length, false, IsTrue, IsSome, None, option_map};
+ghost use Rattle.std.specs.Prelude.{ℕ, ◌<◌, ◌≤◌, ◌≡◌, ◌↔◌, ◌+◌, length, false, IsTrue, IsSome, None, option_map};
 ghost use Rattle.std.specs.Box.{boxed_slice_items};
 ghost use Rattle.tc_channel.specs.HeldQueues.{keys_of, popped, oldest_for};
 ghost use Rattle.tc_channel.specs.Keyed.{rings_in, room_sizes, AreSettled};
 ghost use Rattle.tc_channel.specs.Places.{IsFirst, IsTableOf};
+ghost use Rattle.tc_channel.specs.Steps.{looks};
 
 use crate::places::place_of;
 use crate::queue::Queue;
+use crate::steps::Count;
 use std::boxed::BoxedSlice;
 use tc_rooms::{GrowingRoom, Room};
 
@@ -44,7 +46,12 @@ fn take_at(queues: &mut BoxedSlice<Queue<GrowingRoom>>, place: usize) -> Option<
 }
 
 /// Drops the oldest item of the queue with this key, where one waits, and says whether it did.
-pub(crate) fn pop_from<R: Room>(queues: &mut BoxedSlice<Queue<R>>, table: &[u16], key: u16) -> bool
+pub(crate) fn pop_from<R: Room, C: Count>(
+    queues: &mut BoxedSlice<Queue<R>>,
+    table: &[u16],
+    key: u16,
+    steps: &mut C,
+) -> bool
     requires { IsTableOf (keys_of (rings_in (boxed_slice_items queues.old))) table.now }
     ensures waits { IsTrue result ↔ IsSome (oldest_for key (rings_in (boxed_slice_items queues.old))) }
     ensures rings { rings_in (boxed_slice_items queues.new) ≡ popped key (rings_in (boxed_slice_items queues.old)) }
@@ -52,18 +59,21 @@ pub(crate) fn pop_from<R: Room>(queues: &mut BoxedSlice<Queue<R>>, table: &[u16]
     ensures sizes { room_sizes (boxed_slice_items queues.new) ≡ room_sizes (boxed_slice_items queues.old) }
     ensures settled { AreSettled (boxed_slice_items queues.old) → AreSettled (boxed_slice_items queues.new) }
     ensures refused { result ≡ false → boxed_slice_items queues.new ≡ boxed_slice_items queues.old }
+    ensures cost { key < 2048 → C.taken steps.new ≤ C.taken steps.old + looks (boxed_slice_items queues.old) table.now }
+    ensures far { 2048 ≤ key → C.taken steps.new ≤ C.taken steps.old + length (boxed_slice_items queues.old) }
 {
-    match place_of(queues, table, key) {
+    match place_of(queues, table, key, steps) {
         Some(place) => pop_at(queues, place),
         None => false,
     }
 }
 
 /// Takes the oldest item out of the queue with this key, in its own block.
-pub(crate) fn take_from(
+pub(crate) fn take_from<C: Count>(
     queues: &mut BoxedSlice<Queue<GrowingRoom>>,
     table: &[u16],
     key: u16,
+    steps: &mut C,
 ) -> Option<Vec<u8>>
     requires { IsTableOf (keys_of (rings_in (boxed_slice_items queues.old))) table.now }
     ensures item { option_map (λ block. block.items) result ≡ oldest_for key (rings_in (boxed_slice_items queues.old)) }
@@ -72,8 +82,10 @@ pub(crate) fn take_from(
     ensures sizes { room_sizes (boxed_slice_items queues.new) ≡ room_sizes (boxed_slice_items queues.old) }
     ensures settled { AreSettled (boxed_slice_items queues.old) → AreSettled (boxed_slice_items queues.new) }
     ensures refused { result ≡ None → boxed_slice_items queues.new ≡ boxed_slice_items queues.old }
+    ensures cost { key < 2048 → C.taken steps.new ≤ C.taken steps.old + looks (boxed_slice_items queues.old) table.now }
+    ensures far { 2048 ≤ key → C.taken steps.new ≤ C.taken steps.old + length (boxed_slice_items queues.old) }
 {
-    match place_of(queues, table, key) {
+    match place_of(queues, table, key, steps) {
         Some(place) => take_at(queues, place),
         None => None,
     }

@@ -1,6 +1,6 @@
 //! What a channel works with, in rooms that are made at the start or that grow.
 
-ghost use Rattle.std.specs.Prelude.{List, ℕ, ◌≡◌, false, [], ◌<◌, ◌≤◌, ◌+◌, length, option_map, IfOk, IsOk, OnOk, OnErr, IsSome, IsTrue, ◌↔◌, None, Option};
+ghost use Rattle.std.specs.Prelude.{List, ℕ, ◌≡◌, false, [], ◌<◌, ◌≤◌, ◌+◌, ◌⊎◌, length, option_map, IfOk, IsOk, OnOk, OnErr, IsSome, IsTrue, ◌↔◌, None, Option};
 ghost use Rattle.tc_packet.specs.declared.Service.{Service};
 ghost use Rattle.tc_packet.specs.declared.Service.TheVariants.{Bd};
 ghost use Rattle.tc_packet.specs.Reassembly.{run_at, stream_place};
@@ -18,16 +18,15 @@ ghost use Rattle.tc_channel.specs.Reply.{IsBypassData, frame_reply_within, relea
 ghost use Rattle.tc_channel.specs.Run.{run_within};
 ghost use Rattle.tc_channel.specs.Settings.{IsAllowed};
 ghost use Rattle.tc_channel.specs.Workings.{AreEnough, AreSmall, GoOn, HaveLimits, HoldsInRooms, IsEnough, Stay};
-ghost use Rattle.tc_channel.specs.Steps.{most_steps};
+ghost use Rattle.tc_channel.specs.Steps.{delivery_steps, frame_steps_within, looks_for, release_steps_within};
 
 use crate::empty_queues::{empty_queues, empty_unit_queues};
 use crate::queues::{Queues, deliver_ended, deliver_nothing};
 use crate::reply::{Delivery, FrameReply};
 use crate::settings::Settings;
-use crate::steps::Steps;
+use crate::steps::Count;
 use std::alloc::{AllocError, Global};
-use std::marker::{Brand, Model};
-use std::sync::ledger::{Blank, Ledger};
+use std::marker::Model;
 use tc_link::{Act, Arrival, Farm, Frame, Kind, Report, Window, each_arrival_has_an_entry, kind};
 use tc_packet::{Service, read_segment};
 use tc_rooms::{FixedRoom, GrowingRoom, Room, Runs, Slots};
@@ -63,11 +62,12 @@ impl<R: Room> Model for Workings<R> {
 impl<R: Room> Workings<R> {
     /// The workings of a channel that starts: with these open runs, of which none is open, a room for each data field of the buffer, and
     /// rooms of `size` octets for packets and units.
-    pub fn new(
+    pub fn new<C: Count>(
         alloc: Global,
         settings: &Settings,
         runs: Runs<R>,
         size: usize,
+        steps: &mut C,
     ) -> Result<Workings<R>, AllocError>
         requires allowed { IsAllowed settings.now }
         requires segmented { runs.segmented ≡ settings.now.segmented }
@@ -82,10 +82,12 @@ impl<R: Room> Workings<R> {
         let queues = Queues::new(
             alloc,
             empty_queues(alloc, settings.queues.as_slice(), size)?,
+            steps,
         )?;
         let units = Queues::new(
             alloc,
             empty_unit_queues(alloc, settings.maps.as_slice(), size)?,
+            steps,
         )?;
         Ok(Workings {
             farm: Farm::new(window, settings.first),
@@ -97,47 +99,13 @@ impl<R: Room> Workings<R> {
     }
 
     /// Takes a frame in: an accepted AD data field is copied into the buffer; of an accepted BD data field the unit that it ends is queued
-    /// at once. Only a frame of Type-BD may be refused, and only where rooms grow.
+    /// at once. Only a frame of Type-BD may be refused, and only where rooms grow. A step is counted for each packet that is cut from the
+    /// unit, and for each queue that is looked at.
     #[inline(always)]
-    pub fn frame(&mut self, frame: &Frame) -> Result<FrameReply, AllocError>
-        ensures reply { IfOk result (λ reply. (limits : ℕ → ℕ) (s : Settings) (journal : List Event) → HoldsInRooms limits s journal self.old
-            → reply ≡ frame_reply_within limits s journal frame.now) }
-        ensures done { OnOk result (GoOn (Event.Frame frame.now) self.old self.new) }
-        ensures refused { OnErr result (Stay self.old self.new) }
-        ensures bypass { OnErr result (IsBypassData frame.now) }
-        ensures answered { R.grows ≡ false → IsOk result }
-    {
-        self.frame_with::<Brand>(frame, Blank::new(1))
-    }
-
-    // The same, with a count that begins here.
-    #[inline(always)]
-    fn frame_with<L: Ledger>(
+    pub fn frame<C: Count>(
         &mut self,
         frame: &Frame,
-        blank: Blank,
-    ) -> Result<FrameReply, AllocError>
-        requires name { blank.name ≡ L.name }
-        requires parts { blank.parts ≡ L.parts }
-        requires one { blank.parts ≡ 1 }
-        ensures reply { IfOk result (λ reply. (limits : ℕ → ℕ) (s : Settings) (journal : List Event) → HoldsInRooms limits s journal self.old
-            → reply ≡ frame_reply_within limits s journal frame.now) }
-        ensures done { OnOk result (GoOn (Event.Frame frame.now) self.old self.new) }
-        ensures refused { OnErr result (Stay self.old self.new) }
-        ensures bypass { OnErr result (IsBypassData frame.now) }
-        ensures answered { R.grows ≡ false → IsOk result }
-    {
-        let mut steps: Steps<L> = Steps::new(blank);
-        self.frame_counted(frame, &mut steps)
-    }
-
-    /// As [`frame`](Workings::frame), with a step for each packet that is cut from a unit, and for each queue that is looked at. However
-    /// long the journal is, and whatever comes, no more are taken than the numbers of the queues bound.
-    #[inline(always)]
-    pub fn frame_counted<L: Ledger>(
-        &mut self,
-        frame: &Frame,
-        steps: &mut Steps<L>,
+        steps: &mut C,
     ) -> Result<FrameReply, AllocError>
         ensures reply { IfOk result (λ reply. (limits : ℕ → ℕ) (s : Settings) (journal : List Event) → HoldsInRooms limits s journal self.old
             → reply ≡ frame_reply_within limits s journal frame.now) }
@@ -145,8 +113,11 @@ impl<R: Room> Workings<R> {
         ensures refused { OnErr result (Stay self.old self.new) }
         ensures bypass { OnErr result (IsBypassData frame.now) }
         ensures answered { R.grows ≡ false → IsOk result }
-        ensures cost { steps.new ≤ steps.old + most_steps (length self.old.queues) (length self.old.units) }
-        ensures quiet { (IsBypassData frame.now → ⊥) → steps.new ≡ steps.old }
+        ensures cost { OnOk result ((limits : ℕ → ℕ) (s : Settings) (journal : List Event) → HoldsInRooms limits s journal self.old
+            → C.taken steps.new ≤ C.taken steps.old + frame_steps_within limits s journal frame.now) }
+        ensures refused_cost { OnErr result ((limits : ℕ → ℕ) (s : Settings) (journal : List Event) → HoldsInRooms limits s journal self.old
+            → C.taken steps.new ≤ C.taken steps.old + (frame_steps_within limits s journal frame.now + length s.queues)) }
+        ensures quiet { (IsBypassData frame.now → ⊥) → C.taken steps.new ≡ C.taken steps.old }
     {
         each_arrival_has_an_entry();
         let kind = kind(frame);
@@ -165,49 +136,20 @@ impl<R: Room> Workings<R> {
         Ok(FrameReply { act, delivery })
     }
 
-    /// Lets the oldest data field out of the buffer, where one waits, and queues the unit that it ends.
+    /// Lets the oldest data field out of the buffer, where one waits, and queues the unit that it ends, with steps as of
+    /// [`frame`](Workings::frame).
     #[inline(always)]
-    pub fn release(&mut self) -> Result<Delivery, AllocError>
+    pub fn release<C: Count>(&mut self, steps: &mut C) -> Result<Delivery, AllocError>
         requires waits { 0 < length self.old.fields.ring.items }
         ensures reply { IfOk result (λ delivery. (limits : ℕ → ℕ) (s : Settings) (journal : List Event) → HoldsInRooms limits s journal self.old
             → delivery ≡ release_reply_within limits s journal) }
         ensures done { OnOk result (GoOn Event.Release self.old self.new) }
         ensures refused { OnErr result (Stay self.old self.new) }
         ensures answered { R.grows ≡ false → IsOk result }
-    {
-        self.release_with::<Brand>(Blank::new(1))
-    }
-
-    // The same, with a count that begins here.
-    #[inline(always)]
-    fn release_with<L: Ledger>(&mut self, blank: Blank) -> Result<Delivery, AllocError>
-        requires waits { 0 < length self.old.fields.ring.items }
-        requires name { blank.name ≡ L.name }
-        requires parts { blank.parts ≡ L.parts }
-        requires one { blank.parts ≡ 1 }
-        ensures reply { IfOk result (λ delivery. (limits : ℕ → ℕ) (s : Settings) (journal : List Event) → HoldsInRooms limits s journal self.old
-            → delivery ≡ release_reply_within limits s journal) }
-        ensures done { OnOk result (GoOn Event.Release self.old self.new) }
-        ensures refused { OnErr result (Stay self.old self.new) }
-        ensures answered { R.grows ≡ false → IsOk result }
-    {
-        let mut steps: Steps<L> = Steps::new(blank);
-        self.release_counted(&mut steps)
-    }
-
-    /// As [`release`](Workings::release), with steps as of [`frame_counted`](Workings::frame_counted).
-    #[inline(always)]
-    pub fn release_counted<L: Ledger>(
-        &mut self,
-        steps: &mut Steps<L>,
-    ) -> Result<Delivery, AllocError>
-        requires waits { 0 < length self.old.fields.ring.items }
-        ensures reply { IfOk result (λ delivery. (limits : ℕ → ℕ) (s : Settings) (journal : List Event) → HoldsInRooms limits s journal self.old
-            → delivery ≡ release_reply_within limits s journal) }
-        ensures done { OnOk result (GoOn Event.Release self.old self.new) }
-        ensures refused { OnErr result (Stay self.old self.new) }
-        ensures answered { R.grows ≡ false → IsOk result }
-        ensures cost { steps.new ≤ steps.old + most_steps (length self.old.queues) (length self.old.units) }
+        ensures cost { OnOk result ((limits : ℕ → ℕ) (s : Settings) (journal : List Event) → HoldsInRooms limits s journal self.old
+            → C.taken steps.new ≤ C.taken steps.old + release_steps_within limits s journal) }
+        ensures refused_cost { OnErr result ((limits : ℕ → ℕ) (s : Settings) (journal : List Event) → HoldsInRooms limits s journal self.old
+            → C.taken steps.new ≤ C.taken steps.old + (release_steps_within limits s journal + length s.queues)) }
     {
         let field = self.fields.front().unwrap();
         let delivery = pass(
@@ -225,40 +167,44 @@ impl<R: Room> Workings<R> {
 
     /// Drops the oldest packet of the queue with this APID, where one waits, and says whether it did.
     #[tactic(auto, using(crate::proofs::Closing::at_work))]
-    pub fn drop_packet(&mut self, apid: u16) -> bool
+    pub fn drop_packet<C: Count>(&mut self, apid: u16, steps: &mut C) -> bool
         ensures waits { (limits : ℕ → ℕ) (s : Settings) (journal : List Event) → HoldsInRooms limits s journal self.old → (IsTrue result ↔ IsSome (take_reply_within limits s journal apid)) }
         ensures done { IsTrue result → GoOn (Event.Take apid) self.old self.new }
         ensures refused { result ≡ false → self.new ≡ self.old }
+        ensures cost { C.taken steps.new ≤ C.taken steps.old + looks_for apid (length self.old.queues) }
     {
-        self.queues.pop(apid)
+        self.queues.pop(apid, steps)
     }
 
     /// Drops the oldest unit of the queue of this chosen MAP, where one waits, and says whether it did.
     #[tactic(auto, using(crate::proofs::Closing::at_work))]
-    pub fn drop_unit(&mut self, map: u8) -> bool
+    pub fn drop_unit<C: Count>(&mut self, map: u8, steps: &mut C) -> bool
         ensures waits { (limits : ℕ → ℕ) (s : Settings) (journal : List Event) → HoldsInRooms limits s journal self.old → (IsTrue result ↔ IsSome (unit_reply_within limits s journal map)) }
         ensures done { IsTrue result → GoOn (Event.TakeUnit map) self.old self.new }
         ensures refused { result ≡ false → self.new ≡ self.old }
+        ensures cost { C.taken steps.new ≤ C.taken steps.old + looks_for map (length self.old.units) }
     {
-        self.units.pop(map as u16)
+        self.units.pop(map as u16, steps)
     }
 
     /// The oldest packet of the queue with this APID, lent.
     #[tactic(auto, using(crate::proofs::Closing::at_work))]
-    pub fn oldest(&self, apid: u16) -> Option<&[u8]>
+    pub fn oldest<C: Count>(&self, apid: u16, steps: &mut C) -> Option<&[u8]>
         ensures packet { (limits : ℕ → ℕ) (s : Settings) (journal : List Event) → HoldsInRooms limits s journal self.now
             → option_map (λ octets. octets.now) result ≡ take_reply_within limits s journal apid }
+        ensures cost { C.taken steps.new ≤ C.taken steps.old + looks_for apid (length self.now.queues) }
     {
-        self.queues.oldest(apid)
+        self.queues.oldest(apid, steps)
     }
 
     /// The oldest unit of the queue of this chosen MAP, lent.
     #[tactic(auto, using(crate::proofs::Closing::at_work))]
-    pub fn oldest_unit(&self, map: u8) -> Option<&[u8]>
+    pub fn oldest_unit<C: Count>(&self, map: u8, steps: &mut C) -> Option<&[u8]>
         ensures unit { (limits : ℕ → ℕ) (s : Settings) (journal : List Event) → HoldsInRooms limits s journal self.now
             → option_map (λ octets. octets.now) result ≡ unit_reply_within limits s journal map }
+        ensures cost { C.taken steps.new ≤ C.taken steps.old + looks_for map (length self.now.units) }
     {
-        self.units.oldest(map as u16)
+        self.units.oldest(map as u16, steps)
     }
 
     /// FARM-1's components.
@@ -278,43 +224,47 @@ impl<R: Room> Workings<R> {
     }
 
     /// How many packets wait in the queue with this APID, if there is one.
-    pub fn queued(&self, apid: u16) -> Option<usize>
+    pub fn queued<C: Count>(&self, apid: u16, steps: &mut C) -> Option<usize>
         ensures count { (limits : ℕ → ℕ) (s : Settings) (journal : List Event) → HoldsInRooms limits s journal self.now
             → result ≡ option_map length (waiting_packets_within limits s journal apid) }
+        ensures cost { C.taken steps.new ≤ C.taken steps.old + looks_for apid (length self.now.queues) }
     {
-        Some(self.queues.find(apid)?.len())
+        Some(self.queues.find(apid, steps)?.len())
     }
 
     /// How many units wait in the queue of this MAP, if it is chosen.
-    pub fn units(&self, map: u8) -> Option<usize>
+    pub fn units<C: Count>(&self, map: u8, steps: &mut C) -> Option<usize>
         ensures count { (limits : ℕ → ℕ) (s : Settings) (journal : List Event) → HoldsInRooms limits s journal self.now
             → result ≡ option_map length (waiting_units_within limits s journal map) }
+        ensures cost { C.taken steps.new ≤ C.taken steps.old + looks_for map (length self.now.units) }
     {
-        Some(self.units.find(map as u16)?.len())
+        Some(self.units.find(map as u16, steps)?.len())
     }
 }
 
 impl Workings<GrowingRoom> {
     /// The oldest packet of the queue with this APID, moved out of it; none where there is no such queue, and where it is empty.
     #[tactic(auto, using(crate::proofs::Closing::at_work))]
-    pub fn take(&mut self, apid: u16) -> Option<Vec<u8>>
+    pub fn take<C: Count>(&mut self, apid: u16, steps: &mut C) -> Option<Vec<u8>>
         ensures packet { (limits : ℕ → ℕ) (s : Settings) (journal : List Event) → HoldsInRooms limits s journal self.old
             → option_map (λ packet. packet.items) result ≡ take_reply_within limits s journal apid }
         ensures done { IsSome result → GoOn (Event.Take apid) self.old self.new }
         ensures refused { result ≡ None → self.new ≡ self.old }
+        ensures cost { C.taken steps.new ≤ C.taken steps.old + looks_for apid (length self.old.queues) }
     {
-        self.queues.take(apid)
+        self.queues.take(apid, steps)
     }
 
     /// The oldest unit of the queue of this chosen MAP, moved out of it; none where the MAP isn't chosen, and where its queue is empty.
     #[tactic(auto, using(crate::proofs::Closing::at_work))]
-    pub fn take_unit(&mut self, map: u8) -> Option<Vec<u8>>
+    pub fn take_unit<C: Count>(&mut self, map: u8, steps: &mut C) -> Option<Vec<u8>>
         ensures unit { (limits : ℕ → ℕ) (s : Settings) (journal : List Event) → HoldsInRooms limits s journal self.old
             → option_map (λ unit. unit.items) result ≡ unit_reply_within limits s journal map }
         ensures done { IsSome result → GoOn (Event.TakeUnit map) self.old self.new }
         ensures refused { result ≡ None → self.new ≡ self.old }
+        ensures cost { C.taken steps.new ≤ C.taken steps.old + looks_for map (length self.old.units) }
     {
-        self.units.take(map as u16)
+        self.units.take(map as u16, steps)
     }
 }
 
@@ -336,13 +286,13 @@ fn put_field(fields: &mut Slots<FixedRoom>, act: &Act, field: &[u8])
 // Passes a data field to reassembly, and delivers the unit that it ends. Where memory runs out the open runs and the queues are as they
 // were.
 #[inline(always)]
-fn pass<R: Room, L: Ledger>(
+fn pass<R: Room, C: Count>(
     runs: &mut Runs<R>,
     queues: &mut Queues<R>,
     units: &mut Queues<R>,
     service: Service,
     field: &[u8],
-    steps: &mut Steps<L>,
+    steps: &mut C,
 ) -> Result<Delivery, AllocError>
     requires field { 0 < length field.now }
     requires within { length field.now ≤ largest_field }
@@ -364,7 +314,10 @@ fn pass<R: Room, L: Ledger>(
     ensures settled { AreSettled queues.new }
     ensures units_settled { AreSettled units.new }
     ensures answered { R.grows ≡ false → IsOk result }
-    ensures cost { steps.new ≤ steps.old + most_steps (length queues.old) (length units.old) }
+    ensures cost { OnOk result ((unit : Option (List ℕ)) × EndsWithin (limit_at runs.old (stream_place service field.now)) (open_runs runs.old) service field.now unit
+        × (C.taken steps.new ≤ C.taken steps.old + delivery_steps unit (length queues.old) (length units.old))) }
+    ensures refused_cost { OnErr result ((C.taken steps.new ≡ C.taken steps.old) ⊎ ((unit : Option (List ℕ)) × EndsWithin (limit_at runs.old (stream_place service field.now)) (open_runs runs.old) service field.now unit
+        × (C.taken steps.new ≤ C.taken steps.old + (delivery_steps unit (length queues.old) (length units.old) + length queues.old)))) }
 {
     let map = read_segment(field[0]).map;
     let ended = runs.lay(service, field)?;
@@ -375,13 +328,13 @@ fn pass<R: Room, L: Ledger>(
 
 // Passes the field of a BD frame on at once, and no other.
 #[inline(always)]
-fn pass_bypass<R: Room, L: Ledger>(
+fn pass_bypass<R: Room, C: Count>(
     runs: &mut Runs<R>,
     queues: &mut Queues<R>,
     units: &mut Queues<R>,
     kind: Kind,
     field: &[u8],
-    steps: &mut Steps<L>,
+    steps: &mut C,
 ) -> Result<Delivery, AllocError>
     requires field { 0 < length field.now }
     requires within { length field.now ≤ largest_field }
@@ -404,8 +357,11 @@ fn pass_bypass<R: Room, L: Ledger>(
     ensures settled { AreSettled queues.new }
     ensures units_settled { AreSettled units.new }
     ensures answered { R.grows ≡ false → IsOk result }
-    ensures cost { steps.new ≤ steps.old + most_steps (length queues.old) (length units.old) }
-    ensures quiet { (kind ≡ Kind.Bd → ⊥) → steps.new ≡ steps.old }
+    ensures cost { OnOk result ((unit : Option (List ℕ)) × EndsAtOnceWithin (limit_at runs.old (stream_place Bd field.now)) kind (open_runs runs.old) field.now unit
+        × (C.taken steps.new ≤ C.taken steps.old + delivery_steps unit (length queues.old) (length units.old))) }
+    ensures refused_cost { OnErr result ((C.taken steps.new ≡ C.taken steps.old) ⊎ ((unit : Option (List ℕ)) × EndsAtOnceWithin (limit_at runs.old (stream_place Bd field.now)) kind (open_runs runs.old) field.now unit
+        × (C.taken steps.new ≤ C.taken steps.old + (delivery_steps unit (length queues.old) (length units.old) + length queues.old)))) }
+    ensures quiet { (kind ≡ Kind.Bd → ⊥) → C.taken steps.new ≡ C.taken steps.old }
 {
     match kind {
         Kind::Bd => pass(runs, queues, units, Service::Bd, field, steps),

@@ -1,12 +1,13 @@
 //! A channel that asks for memory where it is made, and never after.
 
-ghost use Rattle.std.specs.Prelude.{◌≡◌, [], ◌<◌, ◌≤◌, ◌↔◌, ◌++◌, ◌^◌, ◌-◌, length, drop, min, ℕ, IfOk, IfSome, IfNone, OnOk, OnErr, IsErrOf, MatchResult, IsSome, IsTrue, Some, None, option_map, false};
+ghost use Rattle.std.specs.Prelude.{◌≡◌, [], ◌<◌, ◌≤◌, ◌+◌, ◌↔◌, ◌++◌, ◌^◌, ◌-◌, length, drop, min, ℕ, IfOk, IfSome, IfNone, OnOk, OnErr, IsErrOf, MatchResult, IsSome, IsTrue, Some, None, option_map, false};
 ghost use Rattle.tc_channel.specs.declared.event.Event.TheVariants as Event;
 ghost use Rattle.tc_channel.specs.Settings.{IsAllowed, IsRefusal};
 ghost use Rattle.tc_channel.specs.Run.{run_within, IsLawfulWithin};
-ghost use Rattle.tc_channel.specs.Reply.{frame_reply_within, release_reply_within, take_reply_within, unit_reply_within, waiting_packets_within, waiting_units_within, buffered_fields_within, clcw_within};
+ghost use Rattle.tc_channel.specs.Reply.{IsBypassData, frame_reply_within, release_reply_within, take_reply_within, unit_reply_within, waiting_packets_within, waiting_units_within, buffered_fields_within, clcw_within};
 ghost use Rattle.tc_channel.specs.Era.{CountsUpInItsEraWithin};
 ghost use Rattle.tc_channel.specs.Workings.{HaveLimits};
+ghost use Rattle.tc_channel.specs.Steps.{frame_steps_within, release_steps_within, take_steps};
 ghost use Rattle.tc_packet.specs.Reassembly.{run_at};
 ghost use Rattle.tc_packet.specs.Store.{open_runs};
 ghost use Rattle.tc_fixed.specs.History.{with_limited_event};
@@ -20,9 +21,25 @@ use crate::past::Past;
 use std::alloc::{AllocError, Global};
 use std::marker::Model;
 use std::snapshot::Snapshot;
-use tc_channel::{Delivery, FrameReply, LentEvent, Settings, SettingsFault, Unkept, Workings};
+use tc_channel::{
+    Count, Delivery, FrameReply, LentEvent, Settings, SettingsFault, Unkept, Workings,
+};
 use tc_link::{Frame, Link, Report, clcw_word};
 use tc_rooms::{FixedRoom, Runs};
+
+// A count that isn't kept. No other module can name it, so what the calls of a channel run counts all that it looks at.
+#[derive(Drop)]
+struct Uncounted;
+
+impl Count for Uncounted {
+    ghost use Rattle.std.specs.Prelude.{false};
+
+    ghost taken = { λ _. 0 };
+
+    ghost counts = { false };
+
+    fn tick(&mut self) {}
+}
 
 /// One virtual channel, as a [`ChannelWith`](tc_channel::ChannelWith): FARM-1, the buffer of accepted data fields, reassembly, the
 /// packet queues, the unit queues of chosen MAPs, and the journal of all that it answered. It has a room for each data field,
@@ -94,7 +111,20 @@ impl<N: Noted> FixedChannelWith<N> {
         ensures reply { result ≡ frame_reply_within (limit_of self.old.limits) self.old.settings self.old.journal frame.now }
         ensures done { self.new ≡ with_limited_event self.old (Event.Frame frame.now) }
     {
-        let reply = self.workings.frame(frame).unwrap();
+        self.frame_counted(frame, &mut Uncounted)
+    }
+
+    /// As [`frame`](FixedChannelWith::frame), which runs it with a count that isn't kept. A step is a packet that is cut from the unit
+    /// that the frame ends, or a queue that is looked at; a frame that isn't of Type-BD takes none.
+    pub fn frame_counted<C: Count>(&mut self, frame: &Frame, steps: &mut C) -> FrameReply
+        ensures allowed { IsAllowed self.old.settings }
+        ensures lawful { IsLawfulWithin (limit_of self.old.limits) self.old.settings self.old.journal }
+        ensures reply { result ≡ frame_reply_within (limit_of self.old.limits) self.old.settings self.old.journal frame.now }
+        ensures done { self.new ≡ with_limited_event self.old (Event.Frame frame.now) }
+        ensures cost { C.taken steps.new ≤ C.taken steps.old + frame_steps_within (limit_of self.old.limits) self.old.settings self.old.journal frame.now }
+        ensures quiet { (IsBypassData frame.now → ⊥) → C.taken steps.new ≡ C.taken steps.old }
+    {
+        let reply = self.workings.frame(frame, steps).unwrap();
         self.journal.note(&LentEvent::Frame(frame.octets()));
         reply
     }
@@ -109,10 +139,24 @@ impl<N: Noted> FixedChannelWith<N> {
         ensures done { OnOk result (self.new ≡ with_limited_event self.old Event.Release) }
         ensures refused { OnErr result (self.new ≡ self.old) }
     {
+        self.release_counted(&mut Uncounted)
+    }
+
+    /// As [`release`](FixedChannelWith::release), which runs it with a count that isn't kept. Steps are those of
+    /// [`frame_counted`](FixedChannelWith::frame_counted).
+    pub fn release_counted<C: Count>(&mut self, steps: &mut C) -> Result<Delivery, NothingReleased>
+        ensures allowed { IsAllowed self.old.settings }
+        ensures lawful { IsLawfulWithin (limit_of self.old.limits) self.old.settings self.old.journal }
+        ensures empty { IsErrOf result NothingReleased.Empty ↔ (buffered_fields_within (limit_of self.old.limits) self.old.settings self.old.journal ≡ []) }
+        ensures reply { IfOk result (λ delivery. delivery ≡ release_reply_within (limit_of self.old.limits) self.old.settings self.old.journal) }
+        ensures done { OnOk result (self.new ≡ with_limited_event self.old Event.Release) }
+        ensures refused { OnErr result (self.new ≡ self.old) }
+        ensures cost { C.taken steps.new ≤ C.taken steps.old + release_steps_within (limit_of self.old.limits) self.old.settings self.old.journal }
+    {
         if self.workings.buffered() == 0 {
             return Err(NothingReleased::Empty);
         }
-        let delivery = self.workings.release().unwrap();
+        let delivery = self.workings.release(steps).unwrap();
         self.journal.note(&LentEvent::Release);
         Ok(delivery)
     }
@@ -128,13 +172,33 @@ impl<N: Noted> FixedChannelWith<N> {
         ensures done { OnOk result (self.new ≡ with_limited_event self.old (Event.Take apid)) }
         ensures refused { OnErr result ((self.new ≡ self.old) × (into.new ≡ into.old)) }
     {
-        let Some(packet) = self.workings.oldest(apid) else {
-            return Err(nothing_taken(self.workings.queued(apid)));
+        self.take_counted(apid, into, &mut Uncounted)
+    }
+
+    /// As [`take`](FixedChannelWith::take), which runs it with a count that isn't kept. A step is a queue that is looked at.
+    pub fn take_counted<C: Count>(
+        &mut self,
+        apid: u16,
+        into: &mut [u8],
+        steps: &mut C,
+    ) -> Result<usize, NothingTaken>
+        ensures allowed { IsAllowed self.old.settings }
+        ensures lawful { IsLawfulWithin (limit_of self.old.limits) self.old.settings self.old.journal }
+        ensures no_queue { IsErrOf result NothingTaken.NoQueue ↔ (waiting_packets_within (limit_of self.old.limits) self.old.settings self.old.journal apid ≡ None) }
+        ensures empty { IsErrOf result NothingTaken.Empty ↔ (waiting_packets_within (limit_of self.old.limits) self.old.settings self.old.journal apid ≡ Some []) }
+        ensures no_room { IsErrOf result NothingTaken.NoRoom ↔ IsOver (length into.old) (take_reply_within (limit_of self.old.limits) self.old.settings self.old.journal apid) }
+        ensures reply { IfOk result (λ count. IsLaid (take_reply_within (limit_of self.old.limits) self.old.settings self.old.journal apid) count into.old into.new) }
+        ensures done { OnOk result (self.new ≡ with_limited_event self.old (Event.Take apid)) }
+        ensures refused { OnErr result ((self.new ≡ self.old) × (into.new ≡ into.old)) }
+        ensures cost { C.taken steps.new ≤ C.taken steps.old + take_steps apid (length self.old.settings.queues) }
+    {
+        let Some(packet) = self.workings.oldest(apid, steps) else {
+            return Err(nothing_taken(self.workings.queued(apid, steps)));
         };
         let Some(count) = copy_to_front(packet, into) else {
             return Err(NothingTaken::NoRoom);
         };
-        self.workings.drop_packet(apid);
+        self.workings.drop_packet(apid, steps);
         self.journal.note(&LentEvent::Take(apid));
         Ok(count)
     }
@@ -150,13 +214,33 @@ impl<N: Noted> FixedChannelWith<N> {
         ensures done { OnOk result (self.new ≡ with_limited_event self.old (Event.TakeUnit map)) }
         ensures refused { OnErr result ((self.new ≡ self.old) × (into.new ≡ into.old)) }
     {
-        let Some(unit) = self.workings.oldest_unit(map) else {
-            return Err(nothing_taken(self.workings.units(map)).into());
+        self.take_unit_counted(map, into, &mut Uncounted)
+    }
+
+    /// As [`take_unit`](FixedChannelWith::take_unit), which runs it with a count that isn't kept. A step is a queue that is looked at.
+    pub fn take_unit_counted<C: Count>(
+        &mut self,
+        map: u8,
+        into: &mut [u8],
+        steps: &mut C,
+    ) -> Result<usize, NoUnitTaken>
+        ensures allowed { IsAllowed self.old.settings }
+        ensures lawful { IsLawfulWithin (limit_of self.old.limits) self.old.settings self.old.journal }
+        ensures no_map { IsErrOf result NoUnitTaken.NoMap ↔ (waiting_units_within (limit_of self.old.limits) self.old.settings self.old.journal map ≡ None) }
+        ensures empty { IsErrOf result NoUnitTaken.Empty ↔ (waiting_units_within (limit_of self.old.limits) self.old.settings self.old.journal map ≡ Some []) }
+        ensures no_room { IsErrOf result NoUnitTaken.NoRoom ↔ IsOver (length into.old) (unit_reply_within (limit_of self.old.limits) self.old.settings self.old.journal map) }
+        ensures reply { IfOk result (λ count. IsLaid (unit_reply_within (limit_of self.old.limits) self.old.settings self.old.journal map) count into.old into.new) }
+        ensures done { OnOk result (self.new ≡ with_limited_event self.old (Event.TakeUnit map)) }
+        ensures refused { OnErr result ((self.new ≡ self.old) × (into.new ≡ into.old)) }
+        ensures cost { C.taken steps.new ≤ C.taken steps.old + take_steps map (length self.old.settings.maps) }
+    {
+        let Some(unit) = self.workings.oldest_unit(map, steps) else {
+            return Err(nothing_taken(self.workings.units(map, steps)).into());
         };
         let Some(count) = copy_to_front(unit, into) else {
             return Err(NoUnitTaken::NoRoom);
         };
-        self.workings.drop_unit(map);
+        self.workings.drop_unit(map, steps);
         self.journal.note(&LentEvent::TakeUnit(map));
         Ok(count)
     }
@@ -170,7 +254,7 @@ impl<N: Noted> FixedChannelWith<N> {
         ensures done { IsTrue result → self.new ≡ with_limited_event self.old (Event.Take apid) }
         ensures refused { result ≡ false → self.new ≡ self.old }
     {
-        if !self.workings.drop_packet(apid) {
+        if !self.workings.drop_packet(apid, &mut Uncounted) {
             return false;
         }
         self.journal.note(&LentEvent::Take(apid));
@@ -186,7 +270,7 @@ impl<N: Noted> FixedChannelWith<N> {
         ensures done { IsTrue result → self.new ≡ with_limited_event self.old (Event.TakeUnit map) }
         ensures refused { result ≡ false → self.new ≡ self.old }
     {
-        if !self.workings.drop_unit(map) {
+        if !self.workings.drop_unit(map, &mut Uncounted) {
             return false;
         }
         self.journal.note(&LentEvent::TakeUnit(map));
@@ -200,7 +284,7 @@ impl<N: Noted> FixedChannelWith<N> {
         ensures allowed { IsAllowed self.now.settings }
         ensures lawful { IsLawfulWithin (limit_of self.now.limits) self.now.settings self.now.journal }
     {
-        self.workings.oldest(apid)
+        self.workings.oldest(apid, &mut Uncounted)
     }
 
     /// The octets of the unit that [`take_unit`](FixedChannelWith::take_unit) with this MAP gives next, lent. None where the MAP
@@ -210,7 +294,7 @@ impl<N: Noted> FixedChannelWith<N> {
         ensures allowed { IsAllowed self.now.settings }
         ensures lawful { IsLawfulWithin (limit_of self.now.limits) self.now.settings self.now.journal }
     {
-        self.workings.oldest_unit(map)
+        self.workings.oldest_unit(map, &mut Uncounted)
     }
 
     /// FARM-1's components.
@@ -248,7 +332,7 @@ impl<N: Noted> FixedChannelWith<N> {
         ensures allowed { IsAllowed self.now.settings }
         ensures lawful { IsLawfulWithin (limit_of self.now.limits) self.now.settings self.now.journal }
     {
-        self.workings.queued(apid)
+        self.workings.queued(apid, &mut Uncounted)
     }
 
     /// How many units wait in the queue of this MAP, if it is chosen.
@@ -257,7 +341,7 @@ impl<N: Noted> FixedChannelWith<N> {
         ensures allowed { IsAllowed self.now.settings }
         ensures lawful { IsLawfulWithin (limit_of self.now.limits) self.now.settings self.now.journal }
     {
-        self.workings.units(map)
+        self.workings.units(map, &mut Uncounted)
     }
 
     /// How many events there are in the journal; where they are more than 2^64 - 1, that number.
@@ -329,7 +413,7 @@ fn start<N: Noted>(
 {
     let runs = open_none(alloc, settings.segmented, &limits)?;
     let size = limits.item_size(settings.segmented);
-    let workings = Workings::new(alloc, &settings, runs, size)?;
+    let workings = Workings::new(alloc, &settings, runs, size, &mut Uncounted)?;
     Ok(FixedChannelWith {
         settings,
         limits,

@@ -1,4 +1,4 @@
-use Rattle.tc_channel.proofs.Names.{ℕ, refl, arith, ◌<◌, ◌+◌}
+use Rattle.tc_channel.proofs.Names.{refl, arith}
 use Rattle.tc_channel.proofs.laws.a_sender_s_frames_may_come_so.Goals as goal
 
 pub returns-clause-repeated : goal.returns-clause-repeated

@@ -64,8 +64,8 @@ loop-packet-preserved g c =
       rest = sym c.in-Some.ensures.rest ∙ i.rest;
       among = c.lay_packet.ensures.among (packets_of c.args.unit.now) (λ key for_it. more key (inl for_it)) i.among;
       more = λ key among. more key (inr among);
-      cost = cut-one c.args.steps.now (pass_steps (length (packets_of c.args.unit.now)) one) c.loop-packet.steps (pass_steps (length (packets_of c.loop-packet.rest.now)) one) (pass_steps (length (packets_of c.in-Some.after.now)) one) one c.tick.new.self
-          (looks (boxed_slice_items c.loop-packet.queues) c.args.table.now) c.lay_packet.new.steps (ap (λ n. pass_steps n one) (ap length c.in-Some.ensures.packets) ∙ pass-step (length (packets_of c.in-Some.after.now)) one) c.loop-packet.invariant.cost c.tick.ensures c.lay_packet.ensures.cost
+      cost = cut-one (g.C.Count.taken c.args.steps.now) (pass_steps (length (packets_of c.args.unit.now)) one) (g.C.Count.taken c.loop-packet.steps) (pass_steps (length (packets_of c.loop-packet.rest.now)) one) (pass_steps (length (packets_of c.in-Some.after.now)) one) one (g.C.Count.taken c.tick.new.self)
+          (looks (boxed_slice_items c.loop-packet.queues) c.args.table.now) (g.C.Count.taken c.lay_packet.new.steps) (ap (λ n. pass_steps n one) (ap length c.in-Some.ensures.packets) ∙ pass-step (length (packets_of c.in-Some.after.now)) one) c.loop-packet.invariant.cost c.tick.ensures.most c.lay_packet.ensures.cost
           (looks-same (boxed_slice_items c.loop-packet.queues) (boxed_slice_items c.args.queues.now) c.args.table.now (same-count (boxed_slice_items c.loop-packet.queues) (boxed_slice_items c.args.queues.now) c.loop-packet.invariant.keys));
       sizes = c.lay_packet.ensures.sizes ∙ i.sizes;
       rings = λ grows. c.lay_packet.ensures.rings grows ∙ i.rings grows;
@@ -76,6 +76,6 @@ loop-packet-preserved g c =
 pub returns-in_err-one-clause-cost : goal.returns-in_err-one-clause-cost
 returns-in_err-one-clause-cost g c =
     let one : ℕ = looks (boxed_slice_items c.args.queues.now) c.args.table.now in
-    cut-last c.args.steps.now (pass_steps (length (packets_of c.args.unit.now)) one) c.loop-packet.steps (pass_steps (length (packets_of c.loop-packet.rest.now)) one) (pass_steps (length (packets_of c.in-Some.after.now)) one) one c.tick.new.self
-    (looks (boxed_slice_items c.loop-packet.queues) c.args.table.now) c.lay_packet.new.steps (ap (λ n. pass_steps n one) (ap length c.in-Some.ensures.packets) ∙ pass-step (length (packets_of c.in-Some.after.now)) one) c.loop-packet.invariant.cost c.tick.ensures c.lay_packet.ensures.cost
+    cut-last (g.C.Count.taken c.args.steps.now) (pass_steps (length (packets_of c.args.unit.now)) one) (g.C.Count.taken c.loop-packet.steps) (pass_steps (length (packets_of c.loop-packet.rest.now)) one) (pass_steps (length (packets_of c.in-Some.after.now)) one) one (g.C.Count.taken c.tick.new.self)
+    (looks (boxed_slice_items c.loop-packet.queues) c.args.table.now) (g.C.Count.taken c.lay_packet.new.steps) (ap (λ n. pass_steps n one) (ap length c.in-Some.ensures.packets) ∙ pass-step (length (packets_of c.in-Some.after.now)) one) c.loop-packet.invariant.cost c.tick.ensures.most c.lay_packet.ensures.cost
     (looks-same (boxed_slice_items c.loop-packet.queues) (boxed_slice_items c.args.queues.now) c.args.table.now (same-count (boxed_slice_items c.loop-packet.queues) (boxed_slice_items c.args.queues.now) c.loop-packet.invariant.keys))

@@ -11,7 +11,7 @@ invariant-loop-packet g l = record {
   rest : rest_of l.rest ≡ rest_of l.unit;
   among : AreLaidOf (packets_of l.unit) (boxed_slice_items l.queues);
   more : (key : ℕ) → IsAmong key (packets_of l.rest) → IsAmong key (packets_of l.unit);
-  cost : l.steps + pass_steps (length (packets_of l.rest)) (looks (boxed_slice_items l.fn.queues) l.table) ≤ l.fn.steps + pass_steps (length (packets_of l.unit)) (looks (boxed_slice_items l.fn.queues) l.table);
+  cost : g.C.Count.taken l.steps + pass_steps (length (packets_of l.rest)) (looks (boxed_slice_items l.fn.queues) l.table) ≤ g.C.Count.taken l.fn.steps + pass_steps (length (packets_of l.unit)) (looks (boxed_slice_items l.fn.queues) l.table);
   sizes : room_sizes (boxed_slice_items l.queues) ≡ room_sizes (boxed_slice_items l.fn.queues);
   rings : g.R.Room.grows ≡ true → rings_in (boxed_slice_items l.queues) ≡ rings_in (boxed_slice_items l.fn.queues);
   keys : keys_of (rings_in (boxed_slice_items l.queues)) ≡ keys_of (rings_in (boxed_slice_items l.fn.queues));

@@ -1,10 +1,10 @@
-use Rattle.tc_channel.proofs.Names.{◌≡◌, ◌+◌, take}
+use Rattle.tc_channel.proofs.Names.{◌≤◌, ◌+◌, take}
 use Rattle.tc_channel.proofs.Found.{NoneHas}
 use Rattle.tc_channel.proofs.places.search_place.Given as goal
 
--- no queue so far has the key, and each took a step
+-- no queue so far has the key, and each took a step at most
 abbrev pub invariant-loop-place : goal.invariant-loop-place
 invariant-loop-place g l = record {
   none : NoneHas l.key (take l.place l.queues);
-  cost : l.steps ≡ l.fn.steps + l.place;
+  cost : g.C.Count.taken l.steps ≤ g.C.Count.taken l.fn.steps + l.place;
 }

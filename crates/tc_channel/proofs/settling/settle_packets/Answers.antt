@@ -16,8 +16,8 @@ loop-packet-preserved g c =
     record {
       among = c.settle_packet.ensures.among (packets_of c.in-Some.after.now) (rw c.in-Some.ensures.packets at i.among);
       settled = c.settle_packet.ensures.settled ∙ i.settled;
-      cost = cut-one c.args.steps.now (pass_steps (length (packets_of c.args.unit.now)) one) c.loop-packet.steps (pass_steps (length (packets_of c.loop-packet.rest.now)) one) (pass_steps (length (packets_of c.in-Some.after.now)) one) one c.tick.new.self
-          (looks (boxed_slice_items c.loop-packet.queues) c.args.table.now) c.settle_packet.new.steps (ap (λ n. pass_steps n one) (ap length c.in-Some.ensures.packets) ∙ pass-step (length (packets_of c.in-Some.after.now)) one) c.loop-packet.invariant.cost c.tick.ensures c.settle_packet.ensures.cost
+      cost = cut-one (g.C.Count.taken c.args.steps.now) (pass_steps (length (packets_of c.args.unit.now)) one) (g.C.Count.taken c.loop-packet.steps) (pass_steps (length (packets_of c.loop-packet.rest.now)) one) (pass_steps (length (packets_of c.in-Some.after.now)) one) one (g.C.Count.taken c.tick.new.self)
+          (looks (boxed_slice_items c.loop-packet.queues) c.args.table.now) (g.C.Count.taken c.settle_packet.new.steps) (ap (λ n. pass_steps n one) (ap length c.in-Some.ensures.packets) ∙ pass-step (length (packets_of c.in-Some.after.now)) one) c.loop-packet.invariant.cost c.tick.ensures.most c.settle_packet.ensures.cost
           (looks-same (boxed_slice_items c.loop-packet.queues) (boxed_slice_items c.args.queues.now) c.args.table.now (same-count (boxed_slice_items c.loop-packet.queues) (boxed_slice_items c.args.queues.now) c.loop-packet.invariant.keys));
       keys = c.settle_packet.ensures.keys ∙ i.keys;
     }

@@ -6,7 +6,7 @@ abbrev pub invariant-loop-packet : goal.invariant-loop-packet
 invariant-loop-packet g l = record {
   among : AreLaidOf (packets_of l.rest) (boxed_slice_items l.queues);
   settled : map settled (boxed_slice_items l.queues) ≡ map settled (boxed_slice_items l.fn.queues);
-  cost : l.steps + pass_steps (length (packets_of l.rest)) (looks (boxed_slice_items l.fn.queues) l.table) ≤ l.fn.steps + pass_steps (length (packets_of l.unit)) (looks (boxed_slice_items l.fn.queues) l.table);
+  cost : g.C.Count.taken l.steps + pass_steps (length (packets_of l.rest)) (looks (boxed_slice_items l.fn.queues) l.table) ≤ g.C.Count.taken l.fn.steps + pass_steps (length (packets_of l.unit)) (looks (boxed_slice_items l.fn.queues) l.table);
   keys : keys_of (rings_in (boxed_slice_items l.queues)) ≡ keys_of (rings_in (boxed_slice_items l.fn.queues));
 }
 

@@ -1,8 +1,8 @@
-use Rattle.tc_channel.proofs.Names.{◌≡◌, ◌∙◌, length, arith, common_steps, stream_place, map_of}
+use Rattle.tc_channel.proofs.Names.{◌≡◌, ◌∙◌, inr, arith, common_steps, stream_place, map_of}
 use Rattle.tc_packet.proofs.Stores.{settled-limits, settled-segmented}
 use Rattle.tc_packet.specs.Reassembly.{place_of}
 use Rattle.tc_packet.specs.Store.{unit_in}
-use Rattle.tc_channel.proofs.Counts.{at-most, at-most-err}
+use Rattle.tc_channel.proofs.AtWork.{on-err}
 use Rattle.tc_channel.proofs.Sizes.{fits-unit, within-all, place-below}
 use Rattle.tc_channel.proofs.Within.{settled-follows}
 use Rattle.tc_channel.proofs.workings.pass.Goals as goal
@@ -39,7 +39,7 @@ returns-clause-delivered g c =
     (unit_in c.in_ok-ended.ended c.lay.new.self c.args.field.now, c.in_ok-ended.ensures.unit, rw (← map) c.in_ok-delivery.ensures.delivered)
 
 pub returns-clause-cost : goal.returns-clause-cost
-returns-clause-cost g c = at-most (unit_in c.in_ok-ended.ended c.lay.new.self c.args.field.now) (length c.args.queues.now) (length c.args.units.now) c.args.steps.now c.deliver_ended.new.steps (within-all c.args.runs.now (stream_place c.args.service c.args.field.now) (unit_in c.in_ok-ended.ended c.lay.new.self c.args.field.now) (place-below c.args.service c.args.field.now) c.requires.small c.in_ok-ended.ensures.within) c.in_ok-delivery.ensures.cost
+returns-clause-cost g c = (unit_in c.in_ok-ended.ended c.lay.new.self c.args.field.now, c.in_ok-ended.ensures.unit, c.in_ok-delivery.ensures.cost)
 
-pub returns-in_err-delivery-clause-cost : goal.returns-in_err-delivery-clause-cost
-returns-in_err-delivery-clause-cost g c = at-most-err (unit_in c.in_ok-ended.ended c.lay.new.self c.args.field.now) (length c.args.queues.now) (length c.args.units.now) c.args.steps.now c.deliver_ended.new.steps (within-all c.args.runs.now (stream_place c.args.service c.args.field.now) (unit_in c.in_ok-ended.ended c.lay.new.self c.args.field.now) (place-below c.args.service c.args.field.now) c.requires.small c.in_ok-ended.ensures.within) c.in_err-delivery.ensures.refused_cost
+pub returns-in_err-delivery-clause-refused_cost : goal.returns-in_err-delivery-clause-refused_cost
+returns-in_err-delivery-clause-refused_cost g c = on-err c.from_residual-in_err-delivery.result _ (inr (unit_in c.in_ok-ended.ended c.lay.new.self c.args.field.now, c.in_ok-ended.ensures.unit, c.in_err-delivery.ensures.refused_cost))

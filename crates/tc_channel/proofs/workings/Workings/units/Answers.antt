@@ -2,8 +2,8 @@ use Rattle.tc_channel.proofs.Names.{arith, common_steps}
 use Rattle.tc_channel.proofs.Takes.{units-wait}
 use Rattle.tc_channel.proofs.workings.Workings.units.Goals as goal
 
-pub returns-in_err-find : goal.returns-in_err-find
-returns-in_err-find g c = record { count = λ limits s journal k. rw (units-wait c.args.map (rw (← c.self.view_is) at k.holds)) (grind (arith, common_steps)) }
+pub returns-in_err-find-clause-count : goal.returns-in_err-find-clause-count
+returns-in_err-find-clause-count g c = λ limits s journal k. rw (units-wait c.args.map (rw (← c.self.view_is) at k.holds)) (grind (arith, common_steps))
 
-pub returns : goal.returns
-returns g c = record { count = λ limits s journal k. rw (units-wait c.args.map (rw (← c.self.view_is) at k.holds)) (grind (arith, common_steps)) }
+pub returns-clause-count : goal.returns-clause-count
+returns-clause-count g c = λ limits s journal k. rw (units-wait c.args.map (rw (← c.self.view_is) at k.holds)) (grind (arith, common_steps))

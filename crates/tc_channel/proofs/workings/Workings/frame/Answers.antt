@@ -1,13 +1,14 @@
-use Rattle.tc_channel.proofs.Names.{drop, ◌≡◌, ◌∷◌, [], ◌++◌, nat_lt, ◌∙◌, ap, refl, arith, length-drop, frame_row, number_of, accepts, Frame, rings_in, run_within, row_of, open_runs}
+use Rattle.tc_channel.proofs.Names.{drop, ◌≡◌, ◌∷◌, [], ◌++◌, nat_lt, ◌∙◌, ap, refl, inl, inr, arith, length-drop, frame_row, number_of, accepts, Frame, rings_in, run_within, row_of, open_runs}
 use Rattle.std.proofs.lemmas.List.{take_rest}
 use Rattle.tc_channel.specs.Reply.{frame_reply_within}
-use Rattle.tc_channel.proofs.AtWork.{holds-on, on-err, still-holds}
+use Rattle.tc_channel.specs.Steps.{frame_steps_within}
+use Rattle.tc_channel.proofs.AtWork.{holds-on, on-err, queue-count, still-holds, unit-count}
 use Rattle.tc_channel.proofs.Held.{row-is, can-enter, frame-keeps}
 use Rattle.tc_channel.proofs.Plain.{run-limit}
-use Rattle.tc_channel.proofs.Shares.{frame-delivery}
+use Rattle.tc_channel.proofs.Shares.{frame-delivery, frame-unit}
 use Rattle.tc_channel.proofs.Takes.{queues-distinct, units-distinct}
 use Rattle.tc_channel.proofs.Within.{ends-at-once-is, follows-kind-is}
-use Rattle.tc_channel.proofs.workings.Workings.frame_counted.Goals as goal
+use Rattle.tc_channel.proofs.workings.Workings.frame.Goals as goal
 
 pub pass_bypass-requires-clause-distinct : goal.pass_bypass-requires-clause-distinct
 pass_bypass-requires-clause-distinct g c = queues-distinct c.self.invariant.3.holds
@@ -71,3 +72,24 @@ invariant_of-self g c =
     let i = c.self.invariant in
     let same = c.in_err-delivery.ensures.refused in
     (i.0, i.1, i.2, still-holds c.pass_bypass.new.runs c.pass_bypass.new.queues c.pass_bypass.new.units i.3 same.0 same.1 same.2 c.pass_bypass.ensures.limits c.pass_bypass.ensures.segmented c.pass_bypass.ensures.sizes c.pass_bypass.ensures.unit_sizes c.pass_bypass.ensures.settled c.pass_bypass.ensures.units_settled)
+
+pub returns-clause-cost : goal.returns-clause-cost
+unfolding frame_steps_within
+returns-clause-cost g c = λ limits s journal k_now.
+    let k = rw (← c.self.view_is) at k_now in
+    let t = rw (take_rest c.octets.result.now 5, c.octets.ensures.octets) at c.in_ok-delivery.ensures.cost in
+    let unit = frame-unit limits s (run_within limits s journal) c.args.frame.now (open_runs c.self.inside.runs) t.0 (run-limit limits s journal) k.holds.runs
+    (rw (← c.kind-kind.ensures) (ends-at-once-is limits c.self.inside.runs c.kind-kind.result (drop 5 c.args.frame.now) t.0 k.limits_are t.1)) in
+    rw (unit, queue-count k, unit-count k) at t.2
+
+pub returns-in_err-delivery-clause-refused_cost : goal.returns-in_err-delivery-clause-refused_cost
+unfolding frame_steps_within
+returns-in_err-delivery-clause-refused_cost g c = on-err c.from_residual.result _ (λ limits s journal k_now.
+    let k = rw (← c.self.view_is) at k_now in
+    elim (rw (take_rest c.octets.result.now 5, c.octets.ensures.octets) at c.in_err-delivery.ensures.refused_cost) [
+      | inl same ↦ omega arith
+      | inr t ↦ (
+          let unit = frame-unit limits s (run_within limits s journal) c.args.frame.now (open_runs c.self.inside.runs) t.0 (run-limit limits s journal) k.holds.runs
+          (rw (← c.kind-kind.ensures) (ends-at-once-is limits c.self.inside.runs c.kind-kind.result (drop 5 c.args.frame.now) t.0 k.limits_are t.1)) in
+          rw (unit, queue-count k, unit-count k) at t.2)
+    ])

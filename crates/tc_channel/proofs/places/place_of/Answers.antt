@@ -1,6 +1,6 @@
 use Rattle.tc_channel.proofs.Names.{◌≡◌, ◌<◌, ◌≤◌, length, get_or, arith, common_steps, keys_of, rings_in}
 use Rattle.tc_channel.proofs.Tables.{keys-length, told-none}
-use Rattle.tc_channel.proofs.places.place_counted.Goals as goal
+use Rattle.tc_channel.proofs.places.place_of.Goals as goal
 
 pub returns-clause-none : goal.returns-clause-none
 returns-clause-none g c =

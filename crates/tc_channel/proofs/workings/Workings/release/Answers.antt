@@ -1,12 +1,13 @@
-use Rattle.tc_channel.proofs.Names.{◌≡◌, ◌≤◌, ◌∷◌, [], ◌++◌, length, ap, ◌∙◌, Release, buffer, rings_in, run_within, first_of, Ad, Slotted, open_runs}
+use Rattle.tc_channel.proofs.Names.{◌≡◌, ◌≤◌, ◌∷◌, [], ◌++◌, length, ap, ◌∙◌, arith, inl, inr, Release, buffer, rings_in, run_within, first_of, Ad, Slotted, open_runs}
 use Rattle.tc_channel.specs.Reply.{release_reply_within}
-use Rattle.tc_channel.proofs.AtWork.{first-is, holds-on, on-err, still-holds}
+use Rattle.tc_channel.specs.Steps.{release_steps_within}
+use Rattle.tc_channel.proofs.AtWork.{first-is, holds-on, on-err, queue-count, still-holds, unit-count}
 use Rattle.tc_channel.proofs.Held.{release-keeps, oldest-filled}
 use Rattle.tc_channel.proofs.Plain.{run-limit}
-use Rattle.tc_channel.proofs.Shares.{release-delivery}
+use Rattle.tc_channel.proofs.Shares.{ends-unit, release-delivery}
 use Rattle.tc_channel.proofs.Takes.{queues-distinct, units-distinct}
 use Rattle.tc_channel.proofs.Within.{ends-is, follows-is}
-use Rattle.tc_channel.proofs.workings.Workings.release_counted.Goals as goal
+use Rattle.tc_channel.proofs.workings.Workings.release.Goals as goal
 
 pub pass-requires-clause-field : goal.pass-requires-clause-field
 pass-requires-clause-field g c =
@@ -65,3 +66,30 @@ invariant_of-self g c =
     let i = c.self.invariant in
     let same = c.in_err-delivery.ensures.refused in
     (i.0, i.1, i.2, still-holds c.pass.new.runs c.pass.new.queues c.pass.new.units i.3 same.0 same.1 same.2 c.pass.ensures.limits c.pass.ensures.segmented c.pass.ensures.sizes c.pass.ensures.unit_sizes c.pass.ensures.settled c.pass.ensures.units_settled)
+
+pub returns-clause-cost : goal.returns-clause-cost
+unfolding release_steps_within
+returns-clause-cost g c = λ limits s journal k_now.
+    let f = c.self.inside in
+    let k = rw (← c.self.view_is) at k_now in
+    let first = first-is f.fields.ring.items c.unwrap-field.result.now (rw c.unwrap-field.ensures at c.front.ensures.item) in
+    let field_is : c.unwrap-field.result.now ≡ first_of (buffer (run_within limits s journal)) = first.0 ∙ ap first_of k.holds.fields in
+    let t = rw field_is at c.in_ok-delivery.ensures.cost in
+    let unit = ends-unit limits Ad (first_of (buffer (run_within limits s journal))) (run_within limits s journal) (open_runs f.runs) t.0 (run-limit limits s journal) k.holds.runs
+    (ends-is limits f.runs Ad (first_of (buffer (run_within limits s journal))) t.0 k.limits_are t.1) in
+    rw (unit, queue-count k, unit-count k) at t.2
+
+pub returns-in_err-delivery-clause-refused_cost : goal.returns-in_err-delivery-clause-refused_cost
+unfolding release_steps_within
+returns-in_err-delivery-clause-refused_cost g c = on-err c.from_residual.result _ (λ limits s journal k_now.
+    let f = c.self.inside in
+    let k = rw (← c.self.view_is) at k_now in
+    let first = first-is f.fields.ring.items c.unwrap-field.result.now (rw c.unwrap-field.ensures at c.front.ensures.item) in
+    let field_is : c.unwrap-field.result.now ≡ first_of (buffer (run_within limits s journal)) = first.0 ∙ ap first_of k.holds.fields in
+    elim (rw field_is at c.in_err-delivery.ensures.refused_cost) [
+      | inl same ↦ omega arith
+      | inr t ↦ (
+          let unit = ends-unit limits Ad (first_of (buffer (run_within limits s journal))) (run_within limits s journal) (open_runs f.runs) t.0 (run-limit limits s journal) k.holds.runs
+          (ends-is limits f.runs Ad (first_of (buffer (run_within limits s journal))) t.0 k.limits_are t.1) in
+          rw (unit, queue-count k, unit-count k) at t.2)
+    ])
