@@ -11,6 +11,7 @@ use Rattle.tc_channel.proofs.Growth.{queues-are, units-are}
 use Rattle.tc_channel.proofs.StateQueues.{queues-kept, units-kept}
 use Rattle.tc_channel.proofs.Sound.{state-sound}
 use Rattle.tc_channel.proofs.Plain.{run-limit, run-segmented}
+use Rattle.tc_channel.proofs.Counts.{few-packets, steps-by-octets, steps-of-largest}
 use Rattle.tc_channel.proofs.Given.{fields-in-order, packets-in-order, units-in-order}
 use Rattle.tc_channel.proofs.Through.{packets-are-made, units-are-made, part-whole}
 use Rattle.tc_channel.proofs.Octets.{fields-fit, packets-fit, units-fit, waits-within, packets-within, units-within}
@@ -34,7 +35,7 @@ pub ruleset passing = (passed-none, settled-one, keys-set, not-telecommand)
 
 pub ruleset at_work = (packet-is, unit-is)
 
-pub ruleset laws = (run-append, lawful-before, lawful-after, whole-only, packets-only, one-kept, others-stay, no-fault, buffer-fits, chosen-by-settings, clcw-fits, each-era, all-told, queues-are, units-are, queues-kept, units-kept, state-sound, run-limit, run-segmented)
+pub ruleset laws = (run-append, lawful-before, lawful-after, whole-only, packets-only, one-kept, others-stay, no-fault, buffer-fits, chosen-by-settings, clcw-fits, each-era, all-told, queues-are, units-are, queues-kept, units-kept, state-sound, run-limit, run-segmented, few-packets, steps-by-octets, steps-of-largest)
 
 pub ruleset flow = (fields-in-order, packets-in-order, units-in-order, packets-are-made, units-are-made, part-whole)
 

@@ -128,3 +128,7 @@ two_apids one other capacity = record { apid = one; capacity = capacity } ∷ re
 -- two chosen MAPs, each with this capacity
 abbrev pub two_maps : ℕ → ℕ → ℕ → List MapSetting
 two_maps one other capacity = record { map = one; capacity = capacity } ∷ record { map = other; capacity = capacity } ∷ []
+
+-- a sender's data fields: this one has this number, the others have no octet
+abbrev pub sent_as : ℕ → List ℕ → ℕ → List ℕ
+sent_as number field i = if i == number then field else []

@@ -2,10 +2,16 @@
 //! one of a channel that has no limit by MAP (`run`), too.
 #![tactic(auto, using(crate::proofs::Closing::laws))]
 
-ghost use Rattle.std.specs.Prelude.{List, ℕ, ◌≡◌, ◌≤◌, ◌<◌, ◌+◌, ◌^◌, ◌++◌, ◌↔◌, Option, Some, None, false, [], ◌∷◌, ◌≢◌, IsTrue, length, map, slice_get};
+ghost use Rattle.std.specs.Prelude.{List, ℕ, ◌≡◌, ◌≤◌, ◌<◌, ◌+◌, ◌*◌, ◌%◌, ◌^◌, ◌++◌, ◌↔◌, Option, Some, None, false, [], ◌∷◌, ◌≢◌, IsTrue, length, map, slice_get};
 ghost use Rattle.tc_channel.specs.ChannelState.{ChannelState, Accepted, Queue, buffer};
 ghost use Rattle.std.specs.List.{AllByRecursion, Contains};
-ghost use Rattle.tc_link.specs.Frame.{IsWhole};
+ghost use Rattle.tc_link.specs.Frame.{IsWhole, header_of};
+ghost use Rattle.tc_link.specs.Command.{kind_of};
+ghost use Rattle.tc_link.specs.declared.State.TheVariants.{S1};
+ghost use Rattle.tc_link.specs.declared.Kind.TheVariants as Kind;
+ghost use Rattle.tc_link.specs.declared.Command.TheVariants as Command;
+ghost use Rattle.tc_packet.specs.SpacePacket.{packets_of};
+ghost use Rattle.tc_channel.specs.Steps.{delivery_steps, most_packets, packet_steps};
 ghost use Rattle.tc_link.specs.declared.Link.{Link};
 ghost use Rattle.tc_packet.specs.declared.Service.{Service};
 ghost use Rattle.tc_packet.specs.Reassembly.{largest_unit, run_left, stream, unit_ended};
@@ -22,7 +28,7 @@ ghost use Rattle.tc_channel.specs.Era.{IsSent, IsEraWithin, CountsUpInItsEraWith
 ghost use Rattle.tc_channel.specs.declared.settings.QueueSetting.{QueueSetting};
 ghost use Rattle.tc_channel.specs.declared.settings.MapSetting.{MapSetting};
 
-use tc_link::each_arrival_has_an_entry;
+use tc_link::{each_arrival_has_an_entry, unlock_and_set_v_r_open_farm_1};
 use tc_packet::a_plain_field_is_a_unit_by_itself;
 
 /// Allowed settings have no fault.
@@ -143,9 +149,28 @@ pub fn a_unit_beyond_the_limit_of_its_map_is_none()
 {}
 
 /// Frames of a sender that numbers from 0 on, worked out by hand: one that was accepted comes once more, also much later, and one comes
-/// behind two that got lost.
+/// behind two that got lost. None comes 256 numbers late or early.
 pub fn a_sender_s_frames_may_come_so()
     ensures repeated { IsSent 0 (λ i. field_of (example.packet_octets 0)) 1 (example.packet_octets 0) }
     ensures late { IsSent 0 (λ i. field_of (example.packet_octets 0)) 255 (example.packet_octets 0) }
     ensures behind_lost_ones { IsSent 0 (λ i. field_of (example.packet_octets 0)) 0 (example.packet_octets 2) }
+    ensures too_late { IsSent 0 (example.sent_as 0 (field_of (example.packet_octets 0))) 256 (example.packet_octets 0) → ⊥ }
+    ensures too_early { IsSent 0 (example.sent_as 256 (field_of (example.packet_octets 0))) 0 (example.packet_octets 0) → ⊥ }
+{}
+
+/// Whatever came before, an Unlock and then a Set V(R) to x lead a channel to S1 with V(R) x and no flag set.
+pub fn unlock_and_set_v_r_open_a_channel()
+    ensures { (limits : ℕ → ℕ) (s : Settings) (journal : List Event) (unlock set_v_r : List ℕ) (x : ℕ)
+        → kind_of (header_of unlock) (field_of unlock) ≡ Kind.Bc Command.Unlock → kind_of (header_of set_v_r) (field_of set_v_r) ≡ Kind.Bc (Command.SetVr x)
+        → (run_within limits s (journal ++ Event.Frame unlock ∷ Event.Frame set_v_r ∷ [])).report
+        ≡ record { state = S1; vr = x; lockout = false; wait = false; retransmit = false; farm_b = (((run_within limits s journal).report.farm_b + 1) % 4 + 1) % 4 } }
+{
+    unlock_and_set_v_r_open_farm_1();
+}
+
+/// The steps of a unit by its octets: one of n octets has at most n / 7 packets, and the largest, of 65,542 octets, at most 9,363.
+pub fn a_unit_takes_steps_by_its_octets()
+    ensures packets { (unit : List ℕ) → 7 * length (packets_of unit) ≤ length unit }
+    ensures steps { (unit : List ℕ) (packets queues units : ℕ) → length unit < 7 * (packets + 1) → delivery_steps (Some unit) queues units ≤ packet_steps packets queues units }
+    ensures largest { (unit : List ℕ) (queues units : ℕ) → length unit ≤ largest_unit → delivery_steps (Some unit) queues units ≤ packet_steps most_packets queues units }
 {}

@@ -4,7 +4,8 @@
 //! settings and its journal. All else that it has is the run of that journal: FARM-1's components, the buffered data
 //! fields, the open runs of reassembly, the packet queues and the unit queues. The laws over these definitions are the contracts of
 //! [`allowed_settings_have_no_fault`], [`wait_means_no_room`], [`each_frame_has_a_step`],
-//! [`each_journal_has_an_era`], [`accepted_frames_count_up`], [`what_was_sent_is_accepted_once_and_in_order`],
+//! [`each_journal_has_an_era`], [`accepted_frames_count_up`], [`a_clcw_tells_how_many_were_accepted`],
+//! [`unlock_and_set_v_r_open_a_channel`], [`a_unit_takes_steps_by_its_octets`], [`a_sender_s_frames_may_come_so`], [`what_was_sent_is_accepted_once_and_in_order`],
 //! [`queues_are_those_of_the_settings`], [`queues_keep_to_their_capacity`], [`short_journals_are_answered_so`],
 //! [`further_journals_are_answered_so`], [`memory_is_counted_so`], [`settings_are_refused_so`],
 //! [`each_passed_field_is_accounted_for`],
@@ -48,7 +49,7 @@ pub use answered::{
 pub use channel::{Channel, ChannelWith, FlightChannel};
 pub use event::Event;
 pub use flow::{
-    each_passed_field_is_accounted_for, passed_fields_make_so,
+    a_clcw_tells_how_many_were_accepted, each_passed_field_is_accounted_for, passed_fields_make_so,
     what_was_accepted_is_passed_on_in_order, what_was_admitted_is_given_in_order,
     what_was_passed_on_is_admitted_in_order, what_was_sent_is_given_in_order,
 };
@@ -58,12 +59,13 @@ pub use journal::Journal;
 pub use kept::Kept;
 pub use laws::{
     a_longer_run_goes_on, a_plain_channel_takes_each_field_as_a_unit,
-    a_unit_beyond_the_limit_of_its_map_is_none, a_unit_is_delivered_whole_or_by_packets,
-    a_unit_is_kept_where_its_queue_has_room, accepted_frames_count_up,
-    allowed_settings_have_no_fault, buffer_keeps_to_its_size, chosen_maps_stay,
-    each_clcw_fits_its_word, each_frame_has_a_step, each_journal_has_an_era,
-    each_packet_is_queued_or_dropped, queues_are_those_of_the_settings,
-    queues_keep_to_their_capacity, wait_means_no_room, what_was_sent_is_accepted_once_and_in_order,
+    a_sender_s_frames_may_come_so, a_unit_beyond_the_limit_of_its_map_is_none,
+    a_unit_is_delivered_whole_or_by_packets, a_unit_is_kept_where_its_queue_has_room,
+    a_unit_takes_steps_by_its_octets, accepted_frames_count_up, allowed_settings_have_no_fault,
+    buffer_keeps_to_its_size, chosen_maps_stay, each_clcw_fits_its_word, each_frame_has_a_step,
+    each_journal_has_an_era, each_packet_is_queued_or_dropped, queues_are_those_of_the_settings,
+    queues_keep_to_their_capacity, unlock_and_set_v_r_open_a_channel, wait_means_no_room,
+    what_was_sent_is_accepted_once_and_in_order,
 };
 pub use lent::LentEvent;
 pub use memory::{

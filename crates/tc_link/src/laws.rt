@@ -62,8 +62,9 @@ pub fn a_written_clcw_reads_back()
     ensures fields { (r : Report) (vcid : ℕ) (link : Link) → vcid < 64 → r.farm_b < 4 → r.vr < 256 → fields_of (word_of r vcid link) ≡ reported r vcid link }
 {}
 
-/// Whatever state FARM-1 is in, an Unlock and then a Set V(R) to x lead to S1 with V(R) x and no flag set.
-pub fn unlock_and_set_v_r_open_it_again()
+/// An Unlock and then a Set V(R) to x lead to S1 with V(R) x and no flag set, from any components in which Lockout is set in S3 alone and
+/// Wait never in S1.
+pub fn unlock_and_set_v_r_open_farm_1()
     ensures { (r : Report) (x : ℕ) → (r.lockout ≡ true → r.state ≡ S3) → (r.wait ≡ true → r.state ≢ S1)
         → after (E8 x) (after E7 r) ≡ record { state = S1; vr = x; lockout = false; wait = false; retransmit = false; farm_b = ((r.farm_b + 1) % 4 + 1) % 4 } }
 {}
