@@ -1,11 +1,32 @@
 //! Laws over the definitions of this crate.
 
-ghost use Rattle.std.specs.Prelude.{◌≡◌, ◌<◌, ◌≤◌, ◌↔◌, ◌∷◌, [], ◌++◌, ℕ, false, List, length, Option, Some, None, take};
+ghost use Rattle.std.specs.Prelude.{◌≡◌, ◌<◌, ◌≤◌, ◌↔◌, ◌∷◌, [], ◌++◌, ℕ, true, false, List, length, Option, Some, None, take};
 ghost use Rattle.tc_packet.specs.declared.service.Service.{Service};
 ghost use Rattle.tc_packet.specs.Reassembly.{IsLeftByFields, IsOpenRun, IsUnit, IsWithinLimit, largest_unit, open_run, place_of, run_left, stream_count, unit_at, unit_ended};
 ghost use Rattle.tc_packet.specs.Runs.{next_run};
-ghost use Rattle.tc_packet.specs.Segment.{header_of, body_of};
+ghost use Rattle.tc_packet.specs.Segment.{header_of, body_of, segment_of};
+ghost use Rattle.tc_packet.specs.PacketFields.{HasFields};
+ghost use Rattle.tc_packet.specs.declared.packet.Packet.{Packet};
+ghost use Rattle.tc_packet.specs.declared.segment.Part.TheVariants as parts;
 ghost use Rattle.tc_packet.specs.SpacePacket.{IsCut, IsPacket, packets_of, rest_of};
+
+/// Segment headers and packets, worked out by hand: the sequence flags and the MAP id; the fields of a primary header; and units with the
+/// packets and the rest that they are cut into.
+pub fn segments_and_packets_are_so()
+    ensures unsegmented { segment_of 0xc0 ≡ record { part = parts.Unsegmented; map = 0 } }
+    ensures first { segment_of 0x41 ≡ record { part = parts.First; map = 1 } }
+    ensures continuing { segment_of 0x3f ≡ record { part = parts.Continuing; map = 63 } }
+    ensures last { segment_of 0x80 ≡ record { part = parts.Last; map = 0 } }
+    ensures telecommand { (p : Packet) → HasFields p → p.octets.now ≡ 0x10 ∷ 0x05 ∷ 0xc0 ∷ 0x00 ∷ 0x00 ∷ 0x00 ∷ 0xaa ∷ []
+        → (p.telecommand ≡ true) × (p.secondary ≡ false) × (p.apid ≡ 5) × (p.flags ≡ 3) × (p.count ≡ 0) }
+    ensures telemetry { (p : Packet) → HasFields p → p.octets.now ≡ 0x0f ∷ 0xff ∷ 0x40 ∷ 0x01 ∷ 0x00 ∷ 0x01 ∷ 0xaa ∷ 0xbb ∷ []
+        → (p.telecommand ≡ false) × (p.secondary ≡ true) × (p.apid ≡ 2047) × (p.flags ≡ 1) × (p.count ≡ 1) }
+    ensures packets { packets_of (0x10 ∷ 0x05 ∷ 0xc0 ∷ 0x00 ∷ 0x00 ∷ 0x00 ∷ 0xaa ∷ 0x0f ∷ 0xff ∷ 0x40 ∷ 0x01 ∷ 0x00 ∷ 0x01 ∷ 0xaa ∷ 0xbb ∷ 0xff ∷ [])
+        ≡ (0x10 ∷ 0x05 ∷ 0xc0 ∷ 0x00 ∷ 0x00 ∷ 0x00 ∷ 0xaa ∷ []) ∷ (0x0f ∷ 0xff ∷ 0x40 ∷ 0x01 ∷ 0x00 ∷ 0x01 ∷ 0xaa ∷ 0xbb ∷ []) ∷ [] }
+    ensures rest { rest_of (0x10 ∷ 0x05 ∷ 0xc0 ∷ 0x00 ∷ 0x00 ∷ 0x00 ∷ 0xaa ∷ 0x10 ∷ 0x05 ∷ []) ≡ 0x10 ∷ 0x05 ∷ [] }
+    ensures other_version { packets_of (0x30 ∷ 0x05 ∷ 0xc0 ∷ 0x00 ∷ 0x00 ∷ 0x00 ∷ 0xaa ∷ []) ≡ [] }
+    ensures cut_short { packets_of (0x10 ∷ 0x05 ∷ 0xc0 ∷ 0x00 ∷ 0x00 ∷ 0x01 ∷ 0xaa ∷ []) ≡ [] }
+{}
 
 /// The cut of a unit is this one, and no other.
 pub fn each_unit_has_one_cut()

@@ -13,7 +13,8 @@
 //! [`each_unit_has_one_cut`], [`each_input_begins_with_one_packet_at_most`],
 //! [`an_open_run_looks_back_over_its_stream`], [`a_unit_looks_back_over_its_stream`],
 //! [`each_run_within_the_limit_is_left_by_fields`], [`a_plain_field_is_a_unit_by_itself`],
-//! [`each_stream_has_a_place_of_its_own`], [`one_more_field_moves_its_run_on`].
+//! [`each_stream_has_a_place_of_its_own`], [`one_more_field_moves_its_run_on`],
+//! [`segments_and_packets_are_so`].
 #![tactic(auto)]
 
 mod cutting;
@@ -32,7 +33,7 @@ pub use laws::{
     a_plain_field_is_a_unit_by_itself, a_unit_looks_back_over_its_stream,
     an_open_run_looks_back_over_its_stream, each_input_begins_with_one_packet_at_most,
     each_run_within_the_limit_is_left_by_fields, each_stream_has_a_place_of_its_own,
-    each_unit_has_one_cut, one_more_field_moves_its_run_on,
+    each_unit_has_one_cut, one_more_field_moves_its_run_on, segments_and_packets_are_so,
 };
 pub use packet::{Cut, Packet, read_packet};
 pub use reassembler::Reassembler;

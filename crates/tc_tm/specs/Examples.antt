@@ -8,8 +8,8 @@ abbrev pub header : TmHeader
 header = record { scid = 42; vcid = 1; master_count = 255; channel_count = 7 }
 
 -- a CLCW: COP-1 in effect, virtual channel 1, no flag set, V(R) 1
-abbrev pub clcw : List ℕ
-clcw = 0x01 ∷ 0x04 ∷ 0x00 ∷ 0x01 ∷ []
+abbrev pub control : List ℕ
+control = 0x01 ∷ 0x04 ∷ 0x00 ∷ 0x01 ∷ []
 
 -- 00 0000101010 001 1: version, spacecraft, virtual channel, and a 1, since there is an operational control field. The two counts.
 -- 0 0 0 11 11111111110: no secondary header, packets in order, and the pointer of only idle data. An octet of these, and the CLCW
@@ -22,4 +22,4 @@ frame_with_sum = 0x02 ∷ 0xa3 ∷ 0xff ∷ 0x07 ∷ 0x1f ∷ 0xfe ∷ 0x55 ∷ 
 
 -- what both say
 abbrev pub fields : TmFields
-fields = record { header = header; pointer = 2046; control = clcw }
+fields = record { header = header; pointer = 2046; control = control }

@@ -25,9 +25,9 @@ pub fn a_written_frame_reads_back()
 #[tactic(auto, unfolding(tc_fecf::specs::Checksum::octet_bits, tc_fecf::specs::Checksum::times_x))]
 pub fn a_telemetry_frame_is_so()
     ensures header { primary_header example.header ≡ 0x02 ∷ 0xa3 ∷ 0xff ∷ 0x07 ∷ 0x1f ∷ 0xfe ∷ [] }
-    ensures frame { tm_frame Absent example.header example.clcw 11 ≡ example.frame }
-    ensures with_sum { tm_frame Present example.header example.clcw 13 ≡ example.frame_with_sum }
-    ensures two_idle_octets { tm_frame Absent example.header example.clcw 12 ≡ 0x02 ∷ 0xa3 ∷ 0xff ∷ 0x07 ∷ 0x1f ∷ 0xfe ∷ 0x55 ∷ 0x55 ∷ example.clcw }
+    ensures frame { tm_frame Absent example.header example.control 11 ≡ example.frame }
+    ensures with_sum { tm_frame Present example.header example.control 13 ≡ example.frame_with_sum }
+    ensures two_idle_octets { tm_frame Absent example.header example.control 12 ≡ 0x02 ∷ 0xa3 ∷ 0xff ∷ 0x07 ∷ 0x1f ∷ 0xfe ∷ 0x55 ∷ 0x55 ∷ example.control }
     ensures read { tm_fields_of Absent example.frame ≡ example.fields }
     ensures read_with_sum { tm_fields_of Present example.frame_with_sum ≡ example.fields }
     ensures readable { read_fault_of Absent example.frame ≡ None }
@@ -45,9 +45,9 @@ pub fn telemetry_frames_are_bounded_so()
     ensures too_short { tm_fault_of Absent 1023 7 10 ≡ Some BadLength }
     ensures too_short_with_sum { tm_fault_of Present 1023 7 12 ≡ Some BadLength }
     ensures too_long { tm_fault_of Absent 1023 7 2049 ≡ Some BadLength }
-    ensures few_octets { read_fault_of Absent (0x42 ∷ 0xa2 ∷ 0xff ∷ 0x07 ∷ 0x1f ∷ 0xfe ∷ example.clcw) ≡ Some Short }
-    ensures version { read_fault_of Absent (0x42 ∷ 0xa2 ∷ 0xff ∷ 0x07 ∷ 0x1f ∷ 0xfe ∷ 0x55 ∷ example.clcw) ≡ Some Version }
-    ensures no_control { read_fault_of Absent (0x02 ∷ 0xa2 ∷ 0xff ∷ 0x07 ∷ 0x1f ∷ 0xfe ∷ 0x55 ∷ example.clcw) ≡ Some NoControl }
+    ensures few_octets { read_fault_of Absent (0x42 ∷ 0xa2 ∷ 0xff ∷ 0x07 ∷ 0x1f ∷ 0xfe ∷ example.control) ≡ Some Short }
+    ensures version { read_fault_of Absent (0x42 ∷ 0xa2 ∷ 0xff ∷ 0x07 ∷ 0x1f ∷ 0xfe ∷ 0x55 ∷ example.control) ≡ Some Version }
+    ensures no_control { read_fault_of Absent (0x02 ∷ 0xa2 ∷ 0xff ∷ 0x07 ∷ 0x1f ∷ 0xfe ∷ 0x55 ∷ example.control) ≡ Some NoControl }
     ensures wrong_sum { read_fault_of Present (0x02 ∷ 0xa3 ∷ 0xff ∷ 0x07 ∷ 0x1f ∷ 0xfe ∷ 0x55 ∷ 0x01 ∷ 0x04 ∷ 0x00 ∷ 0x01 ∷ 0x73 ∷ 0xd3 ∷ []) ≡ Some WrongSum }
 {}
 

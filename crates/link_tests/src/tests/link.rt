@@ -1,10 +1,10 @@
-//! Frames, FARM-1 by itself and CLCWs.
+//! Frames, and FARM-1 by itself with its CLCWs.
 
 use std::alloc::Global;
 use std::process::Abort;
 use tc_link::{
-    Act, Arrival, ClcwFields, Command, Farm, Header, Kind, Link, Report, State, Window, WriteFault,
-    clcw_word, kind, read_clcw, read_frame, write_frame, written_header,
+    Act, Arrival, Command, Farm, Header, Kind, Report, State, Window, WriteFault, clcw_word, kind,
+    read_frame, write_frame,
 };
 use test_parts::{FRAME, NO_FLAG, made_again};
 
@@ -101,16 +101,6 @@ const HEADER: Header = Header {
 const FIELD: [u8; 8] = [0xc0, 0x10, 0x05, 0xc0, 0x00, 0x00, 0x00, 0xaa];
 
 #[test]
-fn a_header_is_written_without_its_data_field(rt: HostRuntime) {
-    let front = written_header(&HEADER, &FIELD).expect(&rt, "a header");
-    assert_eq!(rt; front, [0x00, 0x2a, 0x04, 0x0c, 0x00]);
-    assert_eq!(rt;
-        written_header(&HEADER, &[]).err(),
-        Some(WriteFault::EmptyData)
-    );
-}
-
-#[test]
 fn the_longest_frame_is_written_and_read_back(rt: HostRuntime) {
     let field = [0u8; 1019];
     let octets = write_frame(rt.alloc(), &HEADER, &field).expect(&rt, "an answer");
@@ -122,59 +112,10 @@ fn the_longest_frame_is_written_and_read_back(rt: HostRuntime) {
     assert_eq!(rt; frame.field(), field.as_slice());
 }
 
-// Headers and data fields of no frame.
-static REFUSED: [(Header, &[u8], WriteFault); 4] = [
-    (HEADER, &[], WriteFault::EmptyData),
-    (HEADER, &[0; 1020], WriteFault::TooLong),
-    (
-        Header {
-            scid: 1024,
-            ..HEADER
-        },
-        &[],
-        WriteFault::BadField,
-    ),
-    (Header { vcid: 64, ..HEADER }, &FIELD, WriteFault::BadField),
-];
-
-#[test]
-fn each_fault_of_what_is_to_be_written(rt: HostRuntime) {
-    for (header, field, fault) in &REFUSED {
-        assert_eq!(rt; write_frame(rt.alloc(), header, field).err(), Some(*fault));
-    }
-}
-
 #[test]
 fn growth_of_a_frame_that_is_written(rt: HostRuntime) {
     let alloc = rt.alloc();
     let write = || write_frame(alloc, &HEADER, &FIELD);
     let octets = made_again(&rt, "write_frame", WriteFault::NoMemory, &write);
     assert_eq!(rt; octets.expect(&rt, "a frame").as_slice(), FRAME.as_slice());
-}
-
-const NOT_CLCWS: [u32; 5] = [0x81040000, 0x21040000, 0x00040000, 0x01050000, 0x01040100];
-
-#[test]
-fn words_are_written_and_read(rt: HostRuntime) {
-    let farm = Farm::new(window(&rt, 10), 0);
-    let both = Link {
-        no_rf: true,
-        no_bit_lock: true,
-    };
-    assert_eq!(rt; clcw_word(&farm.report(), 1, both), 0x0104c000);
-    let expected = ClcwFields {
-        status: 0,
-        vcid: 1,
-        link: NO_FLAG,
-        lockout: false,
-        wait: true,
-        retransmit: true,
-        farm_b: 0,
-        vr: 1,
-    };
-    assert_eq!(rt; read_clcw(0x01041801), Some(expected));
-    assert_eq!(rt; read_clcw(0x05040000).map(|fields| fields.status), Some(1));
-    for word in NOT_CLCWS {
-        assert_eq!(rt; read_clcw(word), None, "{word:08x}");
-    }
 }

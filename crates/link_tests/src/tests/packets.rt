@@ -1,30 +1,14 @@
-//! Segment headers, packets, and units that are cut into packets.
+//! Packets, and units that are cut into packets.
 
 use std::alloc::Global;
 use std::process::Abort;
-use tc_packet::{
-    Cut, NoMemory, Packet, Part, Segment, cut, next_packet, read_packet, read_segment,
-};
+use tc_packet::{Cut, NoMemory, Packet, cut, next_packet, read_packet};
 use test_parts::{PACKET, made_again};
 
-static PARTS: [(u8, Part, u8); 4] = [
-    (0xc0, Part::Unsegmented, 0),
-    (0x41, Part::First, 1),
-    (0x3f, Part::Continuing, 63),
-    (0x80, Part::Last, 0),
-];
-
-#[test]
-fn reads_each_part(rt: HostRuntime) {
-    for &(octet, part, map) in &PARTS {
-        assert_eq!(rt; read_segment(octet), Segment { part, map }, "of {octet}");
-    }
-}
-
-// The octets begin with this packet, and these octets come after it; or they begin with none.
-fn check_packet(rt: &impl Abort, octets: &[u8], expected: Option<(Packet<'_>, &[u8])>) {
-    assert_eq!(rt; next_packet(octets), expected);
-    assert_eq!(rt; read_packet(octets), expected.map(|(packet, _)| packet));
+// The octets begin with this packet, and these octets come after it.
+fn check_packet(rt: &impl Abort, octets: &[u8], packet: Packet<'_>, rest: &[u8]) {
+    assert_eq!(rt; next_packet(octets), Some((packet, rest)));
+    assert_eq!(rt; read_packet(octets), Some(packet));
 }
 
 static FIRST: Packet<'static> = Packet {
@@ -50,23 +34,8 @@ const TAIL: &[u8] = b"\x0f\xff\x40\x01\x00\x01\xaa\xbb\xff";
 #[test]
 fn reads_the_packet_at_the_front(rt: HostRuntime) {
     let unit = packets_and(&rt, rt.alloc(), 1, TAIL);
-    check_packet(&rt, &unit, Some((FIRST, TAIL)));
-    check_packet(&rt, TAIL, Some((SECOND, b"\xff")));
-}
-
-static NO_PACKETS: [&[u8]; 5] = [
-    b"",
-    b"\xff",
-    b"\x10\x05\xc0\x00\x00\x00",
-    b"\x10\x05\xc0\x00\x00\x01\xaa",
-    b"\x30\x05\xc0\x00\x00\x00\xaa",
-];
-
-#[test]
-fn reads_no_packet_of_another_version_or_cut_short(rt: HostRuntime) {
-    for octets in &NO_PACKETS {
-        check_packet(&rt, octets, None)
-    }
+    check_packet(&rt, &unit, FIRST, TAIL);
+    check_packet(&rt, TAIL, SECOND, b"\xff");
 }
 
 // The unit is cut into so many packets like `PACKET` and this rest.
