@@ -93,7 +93,7 @@ module _ {R F : Type 0} (e : Event) (ok : Moment → R → Type 0) (err : Moment
     counted = subst (λ (x : AtStation). OnOk r (tally changed ≡ tallied vcid (tally x))) view (counted r c);
     refused = subst (λ (x : AtStation). OnErr r (tally changed ≡ tally x)) view (refused r c);
     ours = (ap (λ (x : AtStation). x.vcids) view ∙ ours.0, same-set (λ (d : AtLock). d.lock) desks place there next is c.lock ∙ (ap (λ (x : AtStation). locks_of x.desks) view ∙ ours.1));
-    knows = λ known. heads-kept ∙ known;
+    knows = heads-kept;
   }
 
 -- the operator's desk of a place and the station's have one lock

@@ -1,5 +1,5 @@
 -- Lists of jobs, and the counts of their operators.
-use Rattle.tc_station.proofs.Names.{◌≡◌, ℕ, zero, suc, ◌+◌, ◌<◌, List, [], ◌∷◌, ◌++◌, length, map, take, get_or, set, min, cond, Option, Some, None, refl, sym, ap, ◌∙◌, subst, inl, inr, arith, ◌==◌, All, position, slice_index, Contains, eqb-true, take_more, length-map, All-map, All-weaker, position-Some, Roster, IsPlace, Tally, AtStation, IsOurs, KnowsDesks, tally, tallied, raised, IsListMade, IsTried, IsDone, AreDone, IsWorked, Shift, IsShift, IsTallyOf, AreWorked, lowest, brings_to, is_other, IsRaised, NoCountFalls, Job}
+use Rattle.tc_station.proofs.Names.{◌≡◌, ℕ, zero, suc, ◌+◌, ◌<◌, List, [], ◌∷◌, ◌++◌, length, map, take, get_or, set, min, cond, Option, Some, None, refl, sym, ap, ◌∙◌, subst, inl, inr, arith, ◌==◌, All, position, slice_index, Contains, eqb-true, take_more, length-map, All-map, All-weaker, position-Some, Roster, IsPlace, Tally, AtStation, IsOurs, KnowsTheSame, tally, tallied, raised, IsListMade, IsTried, IsDone, AreDone, IsWorked, Shift, IsShift, IsTallyOf, AreWorked, lowest, brings_to, is_other, IsRaised, NoCountFalls, Job}
 use Rattle.std.specs.Prelude.{count_by}
 use Rattle.std.specs.List.{AllByRecursion}
 use Rattle.std.proofs.lemmas.Bool.Decides.{eqb_tells}
@@ -53,7 +53,7 @@ lower-none (Some x) = refl
 
 -- one list
 pub one-worked : (station : Roster) (lists : List WorkList) (ops : List AtStation) (l : WorkList) (o z : AtStation) (line : Option ℕ) → length lists ≡ 1 → length ops ≡ 1 → l ≡ get_or lists 0 l → o ≡ get_or ops 0 o
-    → IsTallyOf station (tally o) → IsOurs station z → (KnowsDesks station o → KnowsDesks station z) → IsWorked station l line (tally o) (tally z) → IsListMade station l line o z → AreWorked station lists line ops (set ops 0 z)
+    → IsTallyOf station (tally o) → IsOurs station z → KnowsTheSame o z → IsWorked station l line (tally o) (tally z) → IsListMade station l line o z → AreWorked station lists line ops (set ops 0 z)
 one-worked station (x ∷ []) (y ∷ []) l o z line e f p q fits ours knows worked made =
     (record { list = l; refused = line; before = o; after = z } ∷ [], ap (λ w. w ∷ []) p, ap (λ w. w ∷ []) q, refl, (record { ours = fits; kept = ours; knows = knows; worked = worked; made = made }, tt), lower-none line)
 one-worked station _ _ l o z line e f p q fits ours knows worked made = absurd (omega arith)
@@ -198,14 +198,14 @@ work-ours station lists line os ps w =
     subst (All (IsOurs station)) w.3 (All-map (IsOurs station) (λ (s : Shift). s.after) w.0 each)
 
 shifts-know : (station : Roster) (shifts : List Shift) → AllByRecursion (IsShift station) shifts → (k : ℕ) (o : AtStation) → k < length shifts
-    → KnowsDesks station (get_or (map (λ (s : Shift). s.before) shifts) k o) → KnowsDesks station (get_or (map (λ (s : Shift). s.after) shifts) k o)
-shifts-know station [] all k o lt known = absurd (omega arith)
-shifts-know station (s ∷ ss) all zero o lt known = all.0.knows known
-shifts-know station (s ∷ ss) all (suc k) o lt known = shifts-know station ss all.1 k o (omega arith) known
+    → KnowsTheSame (get_or (map (λ (s : Shift). s.before) shifts) k o) (get_or (map (λ (s : Shift). s.after) shifts) k o)
+shifts-know station [] all k o lt = absurd (omega arith)
+shifts-know station (s ∷ ss) all zero o lt = all.0.knows
+shifts-know station (s ∷ ss) all (suc k) o lt = shifts-know station ss all.1 k o (omega arith)
 
 -- each knows its desks as before
 pub work-knows : (station : Roster) (lists : List WorkList) (line : Option ℕ) (os ps : List AtStation) → AreWorked station lists line os ps → (k : ℕ) (o : AtStation) → k < length lists
-    → KnowsDesks station (get_or os k o) → KnowsDesks station (get_or ps k o)
+    → KnowsTheSame (get_or os k o) (get_or ps k o)
 work-knows station lists line os ps w k o lt =
     let inside : k < length w.0 = omega (arith, ap (length {A = WorkList}) w.1, length-map w.0 (λ (s : Shift). s.list)) in
     rw (← w.2, ← w.3) (shifts-know station w.0 w.4 k o inside)

@@ -10,7 +10,7 @@ use Rattle.tc_status.specs.Board.{Watching}
 use Rattle.tc_desk.specs.Log.{Moment, AtLock}
 use Rattle.tc_desk.specs.Call.{IsCall, IsMeeting, HasMet, HasSeenNoMore, IsFramed, IsFramedWatched, IsReleaseFault, IsTakeFault, IsTakeUnitFault}
 use Rattle.tc_station.specs.Roster.{Roster, IsPlace}
-use Rattle.tc_station.specs.Tally.{AtStation, IsOurs, KnowsDesks, tally, tallied}
+use Rattle.tc_station.specs.Tally.{AtStation, IsOurs, KnowsTheSame, tally, tallied}
 use Rattle.tc_station.specs.Location.{IsPlaced, IsLocateFault}
 use Rattle.tc_station.specs.Faults.{release_refused, take_refused, take_unit_refused}
 use Rattle.tc_link.specs.declared.location.LocateFault.{LocateFault}
@@ -37,7 +37,7 @@ pub record IsCounted {R F : Type 0} (station : Roster) (place vcid : ℕ) (e : E
   pub counted : OnOk result (tally after ≡ tallied vcid (tally before))
   pub refused : OnErr result (tally after ≡ tally before)
   pub ours : IsOurs station after
-  pub knows : KnowsDesks station before → KnowsDesks station after
+  pub knows : KnowsTheSame before after
 
 -- A call, where a watcher met the desk before the call and behind it, all under one hold of the desk's lock: it had seen no more than
 -- what was there at the moment of the call, and then it has seen all that the operator has.

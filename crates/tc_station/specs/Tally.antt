@@ -48,6 +48,10 @@ IsOurs station o = (o.vcids ≡ station.vcids) × (locks_of o.desks ≡ station.
 abbrev pub KnowsDesks : Roster → AtStation → Type 0
 KnowsDesks station o = heads_of o.desks ≡ station.heads
 
+-- what it knows of its desks is as before
+abbrev pub KnowsTheSame : AtStation → AtStation → Type 0
+KnowsTheSame before after = heads_of after.desks ≡ heads_of before.desks
+
 abbrev pub HasMadeNothing : AtStation → Type 0
 HasMadeNothing o = All (λ (d : AtLock). d.own.made ≡ []) o.desks
 

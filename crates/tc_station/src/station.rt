@@ -9,7 +9,7 @@ ghost use Rattle.tc_desk.specs.Call as at_desk;
 ghost use Rattle.tc_desk.specs.Together.{settings_of_desks};
 ghost use Rattle.tc_station.specs.Roster.{IsDeskOf, IsPlace, settings_in};
 ghost use Rattle.tc_station.specs.Room.{IsRoomFor};
-ghost use Rattle.tc_station.specs.Tally.{HasMadeNothing, KnowsDesks, IsOurs, tallied, fresh, issued_more, newcomer_at_desks, tally};
+ghost use Rattle.tc_station.specs.Tally.{HasMadeNothing, KnowsDesks, KnowsTheSame, IsOurs, tallied, fresh, issued_more, newcomer_at_desks, tally};
 ghost use Rattle.tc_station.specs.Call.{IsBringCall, IsCallOn, IsCounted, IsMetAt, IsMetCallAt, IsNotBrought, IsNotBroughtWatched, IsNotReleased, IsNotTaken, IsReplied, IsRepliedWatched, IsUnitNotTaken};
 ghost use Rattle.tc_station.specs.Balance.{AreInBalance};
 ghost use Rattle.tc_channel.specs.Journal.{IsNumberTold};
@@ -176,7 +176,7 @@ impl<J: Journal> StationOf<J> {
         ensures counted { IfOk result (λ brought. tally operator.new ≡ tallied brought.vcid (tally operator.old)) }
         ensures refused { OnErr result (tally operator.new ≡ tally operator.old) }
         ensures ours { IsOurs self.now operator.new }
-        ensures knows { KnowsDesks self.now operator.old → KnowsDesks self.now operator.new }
+        ensures knows { KnowsTheSame operator.old operator.new }
         ensures answered { J.grows ≡ false → IsErrOf result BringFault.NoMemory → BeginsWithBypassData octets.now }
     {
         let (place, Located { vcid, frame }) = self
@@ -202,7 +202,7 @@ impl<J: Journal> StationOf<J> {
         ensures counted { OnOk result (tally operator.new ≡ tallied vcid (tally operator.old)) }
         ensures refused { OnErr result (tally operator.new ≡ tally operator.old) }
         ensures ours { IsOurs self.now operator.new }
-        ensures knows { KnowsDesks self.now operator.old → KnowsDesks self.now operator.new }
+        ensures knows { KnowsTheSame operator.old operator.new }
     {
         let Some(place) = self.vcids.place_of(vcid) else {
             return Err(ReleaseRefused::UnknownChannel);
@@ -225,7 +225,7 @@ impl<J: Journal> StationOf<J> {
         ensures counted { OnOk result (tally operator.new ≡ tallied vcid (tally operator.old)) }
         ensures refused { OnErr result (tally operator.new ≡ tally operator.old) }
         ensures ours { IsOurs self.now operator.new }
-        ensures knows { KnowsDesks self.now operator.old → KnowsDesks self.now operator.new }
+        ensures knows { KnowsTheSame operator.old operator.new }
         ensures answered { J.grows ≡ false → IsErrOf result TakeRefused.NoMemory → ⊥ }
     {
         let Some(place) = self.vcids.place_of(vcid) else {
@@ -249,7 +249,7 @@ impl<J: Journal> StationOf<J> {
         ensures counted { OnOk result (tally operator.new ≡ tallied vcid (tally operator.old)) }
         ensures refused { OnErr result (tally operator.new ≡ tally operator.old) }
         ensures ours { IsOurs self.now operator.new }
-        ensures knows { KnowsDesks self.now operator.old → KnowsDesks self.now operator.new }
+        ensures knows { KnowsTheSame operator.old operator.new }
         ensures answered { J.grows ≡ false → IsErrOf result TakeUnitRefused.NoMemory → ⊥ }
     {
         let Some(place) = self.vcids.place_of(vcid) else {
@@ -318,7 +318,7 @@ impl<J: Journal> StationOf<J> {
         ensures counted { IfOk result (λ answer. tally operator.new ≡ tallied answer.0.vcid (tally operator.old)) }
         ensures refused { OnErr result (tally operator.new ≡ tally operator.old) }
         ensures ours { IsOurs self.now operator.new }
-        ensures knows { KnowsDesks self.now operator.old → KnowsDesks self.now operator.new }
+        ensures knows { KnowsTheSame operator.old operator.new }
     {
         let (place, Located { vcid, frame }) = self
             .place_frame(octets)

@@ -29,6 +29,6 @@ returns g c =
       met = (c.in-Some.place, at, record { there = c.index_mut.result.now; next = c.meet.new.self; was = here.was; named = here.named; meeting = c.meet.ensures.meeting; others = here.others; vcids = here.vcids });
       same = all.refused;
       ours = all.ours;
-      knows = all.knows c.requires.knows;
+      knows = all.knows ∙ c.requires.knows;
       watcher = watcher-kept c.args.self.now c.in-Some.place c.args.vcid c.index_mut.result.now c.meet.new.self c.meet.new.watcher at known.0 (head-kept _ _ _ _ _ _ call) c.meet.ensures.meeting.met;
     }

@@ -30,6 +30,6 @@ returns g c =
       counted = all.counted;
       refused = all.refused;
       ours = all.ours;
-      knows = all.knows c.requires.knows;
+      knows = all.knows ∙ c.requires.knows;
       watcher = watcher-kept c.args.self.now c.in-Some.place c.args.vcid c.index_mut.result.now c.operate_met.new.self c.operate_met.new.watcher at known.0 (head-kept _ _ _ _ _ _ call) c.operate_met.ensures.call.met;
     }
