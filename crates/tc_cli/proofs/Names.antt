@@ -15,9 +15,9 @@ pub use Rattle.tc_cli.specs.Manned.{AllHaveMet, HasMetAt, HaveMet, IsAnsweredAt,
 pub use Rattle.tc_cli.specs.Parallel.{AreParted, ArePartedFor, AreWorkedChannels, GivesToFound, IsParted, Plan, none_parted, one_parted}
 pub use Rattle.tc_cli.specs.Parting.{IsFrameGiven, IsGiven, IsJobLine, IsWorkedOut, Parted, empty_list, with_job}
 pub use Rattle.tc_cli.specs.Report.{IsClosedReport}
-pub use Rattle.tc_cli.specs.Script.{IsBadLine, IsReportFault, IsScriptFault, Leads, goes_on, starts}
+pub use Rattle.tc_cli.specs.Script.{IsBadLine, IsScriptCloseFault, IsScriptFault, Leads, goes_on, starts}
 pub use Rattle.tc_cli.specs.Session.{IsMannedFound, IsMannedOperated, Session}
-pub use Rattle.tc_cli.specs.Written.{AreAnswers, IsLineAnswered, IsScriptReport, at_first, one_more}
+pub use Rattle.tc_cli.specs.Written.{AreAnswers, IsLineAnswered, IsReportFault, IsScriptReport, at_first, one_more}
 pub use Rattle.tc_desk.specs.Alone.{HasMadeAll, HasSeenItsOwn}
 pub use Rattle.tc_desk.specs.Call.{HasSeenNoMore, IsCall, looked, made}
 pub use Rattle.tc_desk.specs.Closing.{IsClosed}

@@ -119,11 +119,11 @@ job-within count lists line numbered job =
 
 -- why the jobs of a good script aren't all done
 pub work-fault : (scid : ℕ) (script : List ℕ) (count : ℕ) (plan : Plan) (found : Parted) (fault : ScriptFault) → AreParted scid script count plan [] → ArePartedFor scid plan found
-    → length script ≤ script_limit → IsWorkFault count found.lists fault → IsScriptFault script fault
-work-fault scid script count plan found fault parted for within (inl (inl unbalanced)) =
+    → length script ≤ script_limit → IsWorkFault count found fault → IsScriptFault script fault
+work-fault scid script count plan found fault parted for within (inl (unbalanced, cause)) =
     subst (IsScriptFault script) (sym unbalanced) (within, (count, phase_of plan, parted-leads scid script count plan [] parted))
-work-fault scid script count plan found fault parted for within (inl (inr memory)) =
+work-fault scid script count plan found fault parted for within (inr (inl memory)) =
     subst (IsScriptFault script) (sym memory) (inl (refl, inl (phase_of plan, [], parted-leads scid script count plan [] parted)))
-work-fault scid script count plan found fault parted for within (inr (line, job, memory)) =
+work-fault scid script count plan found fault parted for within (inr (inr (line, job, memory))) =
     let le = job-within count found.lists line (found-numbered scid count plan found (all-numbered scid script count plan [] parted) for) job in
     subst (IsScriptFault script) (sym memory) (inl (refl, inl (first-good script count (phase_of plan) [] line (parted-leads scid script count plan [] parted) le)))

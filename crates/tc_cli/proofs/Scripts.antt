@@ -1,6 +1,6 @@
 -- A script, line by line.
 use Rattle.std.proofs.Common.{◌≡◌, ◌<◌, ◌≤◌, ℕ, ◌+◌, List, [], ◌⊎◌, Result, Ok, Err, Option, None, Some, IfSome, inl, inr, length, refl, subst, sym, arith, OnOk, IfErr}
-use Rattle.tc_cli.proofs.Names.{AreParted, IsBadLine, IsFirstLine, IsReadFault, IsReportFault, IsScriptFault, Leads, Line, NoMemory, Phase, Plan, Read, Reason, ScriptFault, Setup, TooLong, Unbalanced, Write, cases_lt, goes_on, none_parted, one_parted, phase_of, script_limit, starts, Operating, SettingUp, Settings}
+use Rattle.tc_cli.proofs.Names.{AreParted, IsBadLine, IsFirstLine, IsReadFault, IsReportFault, IsScriptFault, Leads, Line, NoMemory, Phase, Plan, Read, Reason, ScriptFault, Session, Setup, TooLong, Unbalanced, Write, cases_lt, goes_on, none_parted, one_parted, phase_of, script_limit, starts, Operating, SettingUp, Settings}
 use Rattle.tc_rack.specs.declared.stage.Stage.{Stage}
 use Rattle.tc_cli.specs.Script.{AreFirstGood, IsReached, IsFirstBad, IsGood}
 
@@ -24,13 +24,13 @@ good-end (Ok done) script rest count phase leads end = (count, phase, rw end at 
 good-end (Err fault) script rest count phase leads end = tt
 
 -- where nothing is left, and no report comes of it, this is why
-pub end-fault : (reported : Result (Unit {0}) ScriptFault) (script rest : List ℕ) (count : ℕ) (phase : Phase) → Leads script count phase rest → rest ≡ [] → length script ≤ script_limit
-    → IfErr reported (IsReportFault count) → IfErr reported (IsScriptFault script)
-end-fault (Ok done) script rest count phase leads end within why = tt
-end-fault (Err fault) script rest count phase leads end within (inl write) = subst (IsScriptFault script) (sym write) within
-end-fault (Err fault) script rest count phase leads end within (inr (inl unbalanced)) =
+pub end-fault : (reported : Result (Unit {0}) ScriptFault) (scid : ℕ) (session : Session) (script rest : List ℕ) (count : ℕ) (phase : Phase) → Leads script count phase rest → rest ≡ [] → length script ≤ script_limit
+    → IfErr reported (IsReportFault scid session count) → IfErr reported (IsScriptFault script)
+end-fault (Ok done) scid session script rest count phase leads end within why = tt
+end-fault (Err fault) scid session script rest count phase leads end within (inl write) = subst (IsScriptFault script) (sym write) within
+end-fault (Err fault) scid session script rest count phase leads end within (inr (inl (unbalanced, cause))) =
     subst (IsScriptFault script) (sym unbalanced) (within, (count, phase, rw end at leads))
-end-fault (Err fault) script rest count phase leads end within (inr (inr memory)) =
+end-fault (Err fault) scid session script rest count phase leads end within (inr (inr memory)) =
     subst (IsScriptFault script) (sym memory) (inl (refl, inl (phase, rest, leads)))
 
 -- lines that give their jobs are good

@@ -1,12 +1,13 @@
 -- What a script writes, line by line.
 use Rattle.std.proofs.Common.{◌≡◌, ℕ, ◌+◌, List, [], ◌∷◌, ◌++◌, ◌⊎◌, Option, None, Some, Result, Ok, Err, IfSome, All, inl, inr, length, refl, sym, ap, ◌∙◌, subst, OnOk, IfErr, is_ok}
-use Rattle.tc_cli.proofs.Names.{AllHaveMet, Answer, AreAnswers, AreRising, AreWorkedChannels, AtStation, History, IsBadLine, IsClosedReport, IsFirstLine, IsLawfulHistory, IsLineAnswered, IsMannedFound, IsMannedOperated, IsNumberTold, IsPerformed, IsReadFault, IsReportFault, IsReportOf, IsScriptReport, Leads, Line, Manned, NoMemory, Progress, Read, Reason, Roster, ScriptFault, Session, TooLong, Unbalanced, Write, at_first, goes_on, one_more, phase_of, report_text, starts}
+use Rattle.tc_cli.proofs.Names.{AllHaveMet, Answer, AreAnswers, AreRising, AreWorkedChannels, AtStation, History, IsBadLine, IsClosedReport, IsFirstLine, IsLawfulHistory, IsLineAnswered, IsMannedFound, IsMannedOperated, IsNumberTold, IsPerformed, IsReadFault, IsReportFault, IsReportOf, IsScriptCloseFault, IsScriptReport, Leads, Line, Manned, NoMemory, Progress, Read, Reason, Roster, ScriptFault, Session, TooLong, Unbalanced, Write, at_first, goes_on, one_more, phase_of, report_text, starts}
 use Rattle.std.proofs.lemmas.List.{flat_map_more, length_push}
 use Rattle.std.proofs.lemmas.Option.{IfSome_then}
 use Rattle.std.proofs.lemmas.Result.{IfErr-weaker, on_ok_weaker}
 use Rattle.std.proofs.KnownBytes.{Appends-nil, Appends-trans, Appends-kept, Keeps-refl, Keeps-trans}
 use Rattle.std.specs.Io.KnownBytes.{Appends, Keeps}
 use Rattle.tc_station.specs.Tally.{IsOurs}
+use Rattle.tc_station.specs.Together.{IsCauseAtStation}
 use Rattle.tc_rack.specs.Printed.{answer_line}
 use Rattle.tc_cli.specs.Written.{IsSessionReportWritten, IsScriptUnreported, IsScriptWritten, IsWrittenInParallel, IsScriptCutShort, answers_text}
 use Rattle.tc_cli.proofs.Alone.{AloneLaws}
@@ -80,15 +81,24 @@ unreported scid script count session rest a b c (answers, leads, is, text) end k
     (answers, session, rw end at leads, is, Appends-kept a b c _ text kept)
 
 pub end-cut-short : (reported : Result (Unit {0}) ScriptFault) (scid : ℕ) (script : List ℕ) (count : ℕ) (session : Session) (rest : List ℕ) (a b c : Option (List ℕ))
-    → IsSoFar scid script count session rest a b → rest ≡ [] → IfErr reported (IsReportFault count) → IfErr reported (λ fault. (fault ≡ Write) ⊎ Keeps b c)
+    → IsSoFar scid script count session rest a b → rest ≡ [] → IfErr reported (IsReportFault scid session count) → IfErr reported (λ fault. (fault ≡ Write) ⊎ Keeps b c)
     → IfErr reported (IsScriptCutShort scid script a c)
 end-cut-short (Ok done) scid script count session rest a b c so-far end why kept = tt
 end-cut-short (Err fault) scid script count session rest a b c so-far end why (inl write) = subst (IsScriptCutShort scid script a c) (sym write) tt
 end-cut-short (Err fault) scid script count session rest a b c so-far end (inl write) (inr kept) = subst (IsScriptCutShort scid script a c) (sym write) tt
-end-cut-short (Err fault) scid script count session rest a b c so-far end (inr (inl unbalanced)) (inr kept) =
-    subst (IsScriptCutShort scid script a c) (sym unbalanced) (count, unreported scid script count session rest a b c so-far end kept)
+end-cut-short (Err fault) scid script count session rest a b c (answers, leads, is, text) end (inr (inl (unbalanced, cause))) (inr kept) =
+    subst (IsScriptCutShort scid script a c) (sym unbalanced) (answers, session, rw end at leads, cause, Appends-kept a b c _ text kept)
 end-cut-short (Err fault) scid script count session rest a b c so-far end (inr (inr memory)) (inr kept) =
     subst (IsScriptCutShort scid script a c) (sym memory) (inl (refl, inr (inr (unreported scid script count session rest a b c so-far end kept))))
+
+-- why the station of a session isn't closed
+pub not-closed : (scid : ℕ) (session : Session) (manned met : Manned) (station : Roster) (operator : AtStation) (operators : List AtStation) (lines : ℕ) (fault : ScriptFault)
+    → IsMannedFound scid session manned → AllHaveMet manned met → station ≡ met.station → operator ≡ met.operator → operators ≡ operator ∷ []
+    → IsScriptCloseFault station operators lines fault → IsReportFault scid session lines fault
+not-closed scid session manned met station operator operators lines fault found have place hand all (inl (unbalanced, cause)) =
+    let one = subst (λ (x : Roster × List AtStation). IsCauseAtStation x.0 x.1) (λ i. (place i, (all ∙ ap (λ (o : AtStation). o ∷ []) hand) i)) cause in
+    inr (inl (unbalanced, (manned, met, found, have, one)))
+not-closed scid session manned met station operator operators lines fault found have place hand all (inr memory) = inr (inr memory)
 
 -- the report of the station of a session
 pub reported : (scid : ℕ) (session : Session) (manned met : Manned) (station : Roster) (operator : AtStation) (operators : List AtStation) (channels shown : List History) (a b : Option (List ℕ))
@@ -125,8 +135,7 @@ cut-short-kept : (scid : ℕ) (script : List ℕ) (a b c : Option (List ℕ)) (f
 cut-short-kept scid script a b c Read short kept = Keeps-trans a b c short kept
 cut-short-kept scid script a b c TooLong short kept = Keeps-trans a b c short kept
 cut-short-kept scid script a b c Write short kept = tt
-cut-short-kept scid script a b c Unbalanced (count, (answers, session, leads, is, text)) kept =
-    (count, (answers, session, leads, is, Appends-kept a b c _ text kept))
+cut-short-kept scid script a b c Unbalanced (answers, session, leads, cause, text) kept = (answers, session, leads, cause, Appends-kept a b c _ text kept)
 cut-short-kept scid script a b c (Line number reason) (inl (memory, inl (none, short))) kept = inl (memory, inl (none, Keeps-trans a b c short kept))
 cut-short-kept scid script a b c (Line number reason) (inl (memory, inr (inl (answers, session, rest, line, after, leads, next, so, is, text)))) kept =
     inl (memory, inr (inl (answers, session, rest, line, after, leads, next, so, is, Appends-kept a b c _ text kept)))

@@ -6,6 +6,7 @@ use Rattle.tc_station.specs.Location.{IsLocated, IsLocateFault}
 use Rattle.tc_station.specs.Roster.{Roster, settings_in}
 use Rattle.tc_station.specs.StationSettings.{HaveDistinctVcids, vcids_of}
 use Rattle.tc_station.specs.Tally.{AtStation, HasMadeNothing, KnowsDesks}
+use Rattle.tc_station.specs.Together.{IsCauseAtStation}
 use Rattle.tc_station.specs.Work.{AreWorked}
 use Rattle.tc_link.specs.declared.location.LocateFault.{LocateFault}
 use Rattle.tc_station.specs.declared.work.Job.{Job}
@@ -13,9 +14,8 @@ use Rattle.tc_station.specs.declared.work.Order.TheVariants.{Bring}
 use Rattle.tc_station.specs.declared.work.WorkList.{WorkList}
 use Rattle.tc_text.specs.declared.fault.Reason.TheVariants.{NoMemory}
 use Rattle.tc_text.specs.declared.fault.ScriptFault.{ScriptFault}
-use Rattle.tc_text.specs.declared.fault.ScriptFault.TheVariants.{Line}
+use Rattle.tc_text.specs.declared.fault.ScriptFault.TheVariants.{Line, Unbalanced}
 use Rattle.tc_cli.specs.Report.{IsClosedReport}
-use Rattle.tc_cli.specs.Script.{IsScriptCloseFault}
 
 -- a station of these channels that has issued no operator
 pub record IsNewStation (scid : ℕ) (list : List Settings) (station : Roster) : Type 0 where
@@ -76,6 +76,14 @@ pub record IsWorkedOut (parted : Parted) (channels : List History) : Type 0 wher
 abbrev pub IsJobLine : List WorkList → ℕ → Type 0
 IsJobLine lists line = Any (λ (l : WorkList). Any (λ (job : Job). job.line ≡ line) l.jobs) lists
 
+-- the station has issued an operator for each list, who has made nothing before; these did all jobs, and the station is out of balance, and
+-- this is the cause
+abbrev pub IsWorkedUnbalanced : Parted → Type 0
+IsWorkedUnbalanced parted =
+    (station : Roster) × (befores operators : List AtStation) × (station ≡ record parted.station { issued = length parted.lists })
+    × All HasMadeNothing befores × AreWorked station parted.lists None befores operators × IsCauseAtStation station operators
+
 -- why the jobs of a script of so many lines aren't all done, or their station isn't closed in balance
-abbrev pub IsWorkFault : ℕ → List WorkList → ScriptFault → Type 0
-IsWorkFault lines lists fault = IsScriptCloseFault lines fault ⊎ ((line : ℕ) × IsJobLine lists line × (fault ≡ Line line NoMemory))
+abbrev pub IsWorkFault : ℕ → Parted → ScriptFault → Type 0
+IsWorkFault lines parted fault =
+    ((fault ≡ Unbalanced) × IsWorkedUnbalanced parted) ⊎ (fault ≡ Line lines NoMemory) ⊎ ((line : ℕ) × IsJobLine parted.lists line × (fault ≡ Line line NoMemory))

@@ -10,6 +10,9 @@ use Rattle.tc_text.specs.declared.fault.Reason.{Reason}
 use Rattle.tc_text.specs.declared.fault.Reason.TheVariants.{NoMemory}
 use Rattle.tc_text.specs.declared.fault.ScriptFault.{ScriptFault}
 use Rattle.tc_text.specs.declared.fault.ScriptFault.TheVariants.{Line, Read, TooLong, Write, Unbalanced}
+use Rattle.tc_station.specs.Roster.{Roster}
+use Rattle.tc_station.specs.Tally.{AtStation}
+use Rattle.tc_station.specs.Together.{IsCauseAtStation}
 use Rattle.tc_desk.specs.declared.together.Refusal.{Refusal}
 use Rattle.tc_desk.specs.declared.together.Refusal.TheVariants as refusals
 
@@ -54,19 +57,15 @@ IsReached script number =
     AreFirstGood script number
     ⊎ ((before : ℕ) × (phase : Phase) × (rest line after : List ℕ) × Leads script before phase rest × IsFirstLine rest line after × (number ≡ before + 1))
 
--- why the station of a script of so many lines isn't closed in balance
-abbrev pub IsScriptCloseFault : ℕ → ScriptFault → Type 0
-IsScriptCloseFault lines fault = (fault ≡ Unbalanced) ⊎ (fault ≡ Line lines NoMemory)
+-- why the station of a script of so many lines isn't closed together with these operators: it is out of balance only with this cause
+abbrev pub IsScriptCloseFault : Roster → List AtStation → ℕ → ScriptFault → Type 0
+IsScriptCloseFault station operators lines fault = ((fault ≡ Unbalanced) × IsCauseAtStation station operators) ⊎ (fault ≡ Line lines NoMemory)
 
--- what it is for a script of so many lines that its station isn't closed; a lock that isn't free leaves it out of balance
+-- what it is for a script of so many lines that its station isn't closed; a lock that isn't free is told as the station's own close tells it
 abbrev pub close_fault : ℕ → Refusal → ScriptFault
 close_fault lines refusals.NoMemory = Line lines NoMemory
-close_fault lines refusals.Held = Unbalanced
+close_fault lines refusals.Held = Line lines NoMemory
 close_fault lines refusals.Unbalanced = Unbalanced
-
--- why a script of so many good lines gets no report, or not the whole of it
-abbrev pub IsReportFault : ℕ → ScriptFault → Type 0
-IsReportFault lines fault = (fault ≡ Write) ⊎ IsScriptCloseFault lines fault
 
 -- why a script with these octets ends early
 abbrev pub IsScriptFault : List ℕ → ScriptFault → Type 0

@@ -4,6 +4,7 @@ use Rattle.std.specs.List.{flat_map}
 use Rattle.std.specs.Io.KnownBytes.{Appends, Keeps}
 use Rattle.tc_channel.specs.Journal.{History}
 use Rattle.tc_station.specs.Tally.{IsOurs}
+use Rattle.tc_station.specs.Together.{IsCauseAtStation}
 use Rattle.tc_text.specs.Reading.{IsFirstLine}
 use Rattle.tc_text.specs.Word.{words}
 use Rattle.tc_text.specs.Line.{line_of}
@@ -59,6 +60,15 @@ IsSessionReport scid session text =
     ⊎ ((found met : Manned) × (channels : List History) × IsMannedFound scid session found × AllHaveMet found met × IsOurs met.station met.operator
     × IsClosedReport met.station (met.operator ∷ []) channels × IsReportOf channels text)
 
+-- a station that was found at the end of a session is out of balance, once each watcher had met its desk, and this is the cause
+abbrev pub IsSessionUnbalanced : ℕ → Session → Type 0
+IsSessionUnbalanced scid session =
+    (found met : Manned) × IsMannedFound scid session found × AllHaveMet found met × IsCauseAtStation met.station (met.operator ∷ [])
+
+-- why a session of so many good lines gets no report, or not the whole of it
+abbrev pub IsReportFault : ℕ → Session → ℕ → ScriptFault → Type 0
+IsReportFault scid session lines fault = (fault ≡ Write) ⊎ ((fault ≡ Unbalanced) × IsSessionUnbalanced scid session) ⊎ (fault ≡ Line lines NoMemory)
+
 -- known octets grow by the report
 abbrev pub IsSessionReportWritten : ℕ → Session → Option (List ℕ) → Option (List ℕ) → Type 0
 IsSessionReportWritten scid session old new = (text : List ℕ) × IsSessionReport scid session text × Appends old new text
@@ -89,6 +99,12 @@ abbrev pub IsOutOfMemory : ℕ → List ℕ → ℕ → Option (List ℕ) → Op
 IsOutOfMemory scid script number old new =
     ((number ≡ 0) × Keeps old new) ⊎ IsWrittenBefore scid script number (λ _ _. ⊤) old new ⊎ IsScriptUnreported scid script number old new
 
+-- known octets grow by the answers of all lines, and by no report, since the station is out of balance
+abbrev pub IsScriptUnbalanced : ℕ → List ℕ → Option (List ℕ) → Option (List ℕ) → Type 0
+IsScriptUnbalanced scid script old new =
+    (answers : List (Option Answer)) × (session : Session) × AreAnswers (IsMannedOperated scid) script answers session [] × IsSessionUnbalanced scid session
+    × Appends old new (answers_text answers)
+
 -- what was written where a script ends early: nothing where it wasn't read; where a line ends it, the answers of the lines before; and
 -- where counts are out of balance, those of all lines. Nothing of what failed to be written is known
 abbrev pub IsScriptCutShort : ℕ → List ℕ → Option (List ℕ) → Option (List ℕ) → ScriptFault → Type 0
@@ -98,7 +114,7 @@ IsScriptCutShort scid script old new (Line number reason) =
 IsScriptCutShort scid script old new Read = Keeps old new
 IsScriptCutShort scid script old new TooLong = Keeps old new
 IsScriptCutShort scid script old new Write = Unit {0}
-IsScriptCutShort scid script old new Unbalanced = (count : ℕ) × IsScriptUnreported scid script count old new
+IsScriptCutShort scid script old new Unbalanced = IsScriptUnbalanced scid script old new
 
 -- known octets grow by the report that the script has where its lines are done in order
 abbrev pub IsWrittenInParallel : ℕ → List ℕ → Option (List ℕ) → Option (List ℕ) → Type 0

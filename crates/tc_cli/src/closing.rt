@@ -20,7 +20,7 @@ pub(crate) fn close(
     requires ours { All (IsOurs station) operators.items }
     ensures closed { IfOk result (λ channels. IsClosedReport station operators.items channels.items) }
     ensures told { IfOk result (λ channels. All IsNumberTold channels.items) }
-    ensures fault { IfErr result (IsScriptCloseFault lines) }
+    ensures fault { IfErr result (IsScriptCloseFault station operators.items lines) }
 {
     match station.close_together(operators) {
         Ok(mut channels) => {
@@ -33,15 +33,13 @@ pub(crate) fn close(
 
 // What it is for a script of so many lines that its station isn't closed.
 fn fault_of(refusal: Refusal, lines: u32) -> ScriptFault
-    ensures told { result ≡ close_fault lines refusal }
-    ensures fault { IsScriptCloseFault lines result }
+    ensures { result ≡ close_fault lines refusal }
 {
     match refusal {
-        Refusal::NoMemory => ScriptFault::Line {
+        Refusal::NoMemory | Refusal::Held => ScriptFault::Line {
             line: lines,
             reason: Reason::NoMemory,
         },
-        Refusal::Held => ScriptFault::Unbalanced,
         Refusal::Unbalanced => ScriptFault::Unbalanced,
     }
 }

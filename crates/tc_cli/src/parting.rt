@@ -97,7 +97,7 @@ impl Parted {
         ensures rising { IfOk result (λ channels. AreRising channels.items) }
         ensures told { IfOk result (λ channels. All IsNumberTold channels.items) }
         ensures worked { IfOk result (λ channels. IsWorkedOut self channels.items) }
-        ensures fault { IfErr result (IsWorkFault lines self.lists) }
+        ensures fault { IfErr result (IsWorkFault lines self) }
     {
         let Parted { mut station, lists } = self;
         let mut operators = match station.operators(lists.len() as u16) {

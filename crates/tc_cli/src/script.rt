@@ -1,13 +1,13 @@
 //! A script from its octets to its answers.
 
 ghost use Rattle.std.specs.Prelude.{◌≡◌, ◌⊎◌, ◌≤◌, length, IfOk, IfErr, OnOk, IfSome};
-ghost use Rattle.tc_cli.specs.Script.{IsScriptFault, IsGood, IsGoodLine, IsBadLine, IsReportFault};
+ghost use Rattle.tc_cli.specs.Script.{IsScriptFault, IsGood, IsGoodLine, IsBadLine};
 ghost use Rattle.tc_text.specs.Reading.{script_limit};
 ghost use Rattle.tc_cli.specs.Session.{IsSessionLeft, IsMannedOperated};
 ghost use Rattle.tc_rack.specs.Stage.{phase_of};
 ghost use Rattle.std.specs.Io.KnownBytes.{Appends, Keeps};
 ghost use Rattle.tc_rack.specs.Printed.{answer_line};
-ghost use Rattle.tc_cli.specs.Written.{IsScriptCutShort, IsLineAnswered, IsSessionReportWritten, IsScriptWritten};
+ghost use Rattle.tc_cli.specs.Written.{IsReportFault, IsScriptCutShort, IsLineAnswered, IsSessionReportWritten, IsScriptWritten};
 
 use crate::closing::close;
 use crate::session::{Session, StationFounder};
@@ -161,7 +161,7 @@ fn report<W: Write>(
 ) -> Result<(), ScriptFault>
     requires { scid ≤ 1023 }
     ensures written { OnOk result (IsSessionReportWritten scid session (W.contents writer.old) (W.contents writer.new)) }
-    ensures fault { IfErr result (IsReportFault lines) }
+    ensures fault { IfErr result (IsReportFault scid session lines) }
     ensures kept { IfErr result (λ fault. (fault ≡ ScriptFault.Write) ⊎ Keeps (W.contents writer.old) (W.contents writer.new)) }
 {
     let founder = StationFounder { rt, scid };

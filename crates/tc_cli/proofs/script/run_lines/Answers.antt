@@ -38,4 +38,4 @@ returns-clause-cut_short g c =
 
 pub returns-clause-fault : goal.returns-clause-fault
 returns-clause-fault g c =
-    end-fault _ _ _ _ _ (so-far-good _ _ _ _ _ _ _ c.loop-octets.invariant.so_far) c.in_default.ensures c.requires.within c.report.ensures.fault
+    end-fault _ _ _ _ _ _ _ (so-far-good _ _ _ _ _ _ _ c.loop-octets.invariant.so_far) c.in_default.ensures c.requires.within c.report.ensures.fault
