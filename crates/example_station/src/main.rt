@@ -1,6 +1,7 @@
 //! A station, an operator and a watcher at work on one frame: the example of the page on the library, docs/howto/library.md.
 //!
-//! It prints what became of the frame, how long the packet is that it brought, and the CLCW after it.
+//! It prints what became of the frame, how long the packet is that it brought, the CLCW after it, and how many events its
+//! channel's journal has in the end.
 #![tactic(auto)]
 
 #[cfg(test)]
@@ -24,6 +25,8 @@ struct Seen {
     queued: u32,
     packet: Vec<u8>,
     word: u32,
+    /// How many events the channel's journal has, if the station was closed.
+    events: Option<usize>,
 }
 
 fn main(rt: HostRuntime) -> ExitCode {
@@ -41,6 +44,9 @@ fn print<R: Wait + AllocGlobal + Print>(rt: &R) -> Result<()> {
     println!(rt; "accepted {}, queued {}", seen.accepted, seen.queued)?;
     println!(rt; "packet of {} octets", seen.packet.len())?;
     println!(rt; "clcw {:08x}", seen.word)?;
+    if let Some(events) = seen.events {
+        println!(rt; "journal of {events} events")?;
+    }
     Ok(())
 }
 
@@ -77,11 +83,15 @@ fn receive(rt: &impl Wait, alloc: Global, octets: &[u8]) -> Result<Seen> {
             no_bit_lock: false,
         },
     );
+    station.meet(rt, operator, &mut watcher, 1); // so what it read is of the journal that comes out
+    let channels = station.close_together(operators).ok();
     // the page: to here
+    let channel = channels.as_ref().and_then(|channels| channels.first());
     Ok(Seen {
         accepted: brought.reply.act.accepted,
         queued: delivery.queued,
         packet,
         word,
+        events: channel.map(|channel| channel.journal().len()),
     })
 }

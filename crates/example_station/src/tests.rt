@@ -30,6 +30,8 @@ fn one_frame(rt: HostRuntime) {
     assert_eq!(rt; seen.word, word);
     assert!(rt; seen.accepted);
     assert_eq!(rt; seen.queued, 1);
+    // the frame, its release and the take
+    assert!(rt; seen.events == Some(3));
     assert_eq!(rt;
         seen.packet.as_slice(),
         b"\x10\x05\xc0\x00\x00\x00\xaa".as_slice()
