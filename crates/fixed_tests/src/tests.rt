@@ -3,6 +3,7 @@ mod growth;
 mod limits;
 mod rooms;
 mod run;
+mod steps;
 mod storage;
 
 use run::{Run, Step};
