@@ -1,4 +1,6 @@
 """What a check of a crate with edits in it printed, and what that says of each edit. checks/refuse_edits starts the checks."""
+from __future__ import annotations
+
 import re
 
 from wrong_bodies import NO_GOAL, Edit, Function

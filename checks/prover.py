@@ -1,4 +1,6 @@
 """The kit's prover over crates of this tree: checks/refuse_edits has it try edits, and checks/no_growth texts that can't be compiled."""
+from __future__ import annotations
+
 import shutil
 import subprocess
 import tempfile
@@ -27,15 +29,9 @@ class Prover:
             raise Fault(f"rt doc: {printed}")
         self.kit = Path(printed.strip()).parent
 
-    def below(self, crate: Crate) -> list[Crate]:
-        """All crates of the repository that a crate stands on."""
-        names = {it for it in crate.named if it in self.crates}
-        names |= {deeper.name for it in names for deeper in self.below(self.crates[it])}
-        return [it for it in self.crates.values() if it.name in names]
-
     def all_below(self, chosen: list[Crate]) -> list[Crate]:
         """All crates that the chosen ones stand on, in the order of crates.txt."""
-        names = {below.name for it in chosen for below in self.below(it)}
+        names = {below.name for it in chosen for below in it.below(self.crates)}
         return [it for it in self.crates.values() if it.name in names]
 
     def build_below(self, chosen: list[Crate]) -> None:
@@ -77,7 +73,7 @@ class Prover:
         of_ours = [self.crates[it] for it in crate.named if it in self.crates]
         libraries = {it: self.kit / "rlibs" / f"{it}.rlib" for it in of_kit} | {it.name: self.library(it) for it in of_ours}
         words += [word for name, place in libraries.items() for word in ("--extern", f"{name}={place}")]
-        folders = [self.kit / "rlibs", *(self.library(it).parent for it in self.below(crate))]
+        folders = [self.kit / "rlibs", *(self.library(it).parent for it in crate.below(self.crates))]
         words += [word for it in folders for word in ("-L", f"dependency={it}")]
         words += ["--antt-project", str(self.kit / "rattle" / "logic" / "antt-project.json")]
         # What declares a foreign function is to name what defines it.

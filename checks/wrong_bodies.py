@@ -4,6 +4,8 @@ some of them.
 A wrong body is added to such a copy next to the right one, as a function of its own, or replaces it; the right bodies that no
 edit changes are given away. checks/refuse_edits says why, and tries them.
 """
+from __future__ import annotations
+
 import re
 from collections import Counter
 from dataclasses import dataclass, field, replace
@@ -255,6 +257,12 @@ def of_one_clause(answers: str, clause: str) -> str:
     return re.sub(rf"\b(returns[\w-]*)-clause-{clause}\b(?!-)", r"\1", "\n".join(kept))
 
 
+def sources_in(folder: Path) -> dict[str, bytes]:
+    """The sources of a crate as they are now, by their paths in its folder."""
+    files = sorted(it for part in SOURCES for it in (folder / part).rglob("*") if it.is_file())
+    return {str(it.relative_to(folder)): it.read_bytes() for it in files}
+
+
 class Crate:
     """A crate of the repository, by its line of crates.txt."""
 
@@ -267,11 +275,16 @@ class Crate:
         self.folder = TOP / "crates" / self.name
         self.root = "src/main.rt" if (self.folder / "src/main.rt").is_file() else "src/lib.rt"
 
+    def below(self, crates: dict[str, "Crate"]) -> list["Crate"]:
+        """All of these crates that it stands on, in their order."""
+        names = {it for it in self.named if it in crates}
+        names |= {deeper.name for it in names for deeper in crates[it].below(crates)}
+        return [it for it in crates.values() if it.name in names]
+
     @cached_property
     def texts(self) -> dict[str, str]:
         """The texts of its sources, by their paths in its folder."""
-        files = sorted(it for part in SOURCES for it in (self.folder / part).rglob("*") if it.is_file())
-        return {str(it.relative_to(self.folder)): it.read_text(encoding="utf-8") for it in files}
+        return {path: octets.decode("utf-8") for path, octets in sources_in(self.folder).items()}
 
     @cached_property
     def functions(self) -> list[Function]:
