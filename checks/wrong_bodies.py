@@ -300,14 +300,18 @@ class Crate:
         """How large it is, in lines."""
         return sum(text.count("\n") for text in self.texts.values())
 
+    def calls_of(self, function: Function) -> set[str]:
+        """The names of what its body calls, as far as the text tells."""
+        lines = self.texts[function.file].split("\n")[function.body + 1 : function.last]
+        return {one or other for one, other in CALL.findall("\n".join(lines))}
+
     @cached_property
     def reached(self) -> dict[str, set[str]]:
         """The names of the crate's functions that one of a name calls, directly or through others, as far as the text tells."""
         names = {it.name for it in self.functions}
         calls: dict[str, set[str]] = {it: set() for it in names}
         for it in self.functions:
-            lines = self.texts[it.file].split("\n")[it.body + 1 : it.last]
-            calls[it.name] |= {one or other for one, other in CALL.findall("\n".join(lines))} & names
+            calls[it.name] |= self.calls_of(it) & names
         reached = {}
         for name in names:
             found: set[str] = set()
@@ -535,8 +539,12 @@ class Crate:
         and its goals wait until the other is proved."""
         if (one.file, one.name, one.owner) == (other.file, other.name, other.owner):
             return True
-        pairs = ((one, other), (other, one))
-        return any(below.name in self.reached[above.name] and not self.has_answers(above) for above, below in pairs)
+        for above, below in ((one, other), (other, one)):
+            calls = self.calls_of(above)
+            is_above = any(below.name == it or below.name in self.reached.get(it, ()) for it in calls)
+            if is_above and not self.has_answers(above):
+                return True
+        return False
 
     def sets_of(self, edits: list[Edit]) -> list[list[Edit]]:
         """Parts edits into sets in which none disturbs another; an edit of more than a body is a set, as is one that lets its
