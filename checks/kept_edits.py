@@ -13,7 +13,7 @@ import tempfile
 from pathlib import Path
 from typing import Sequence
 
-from wrong_bodies import Crate, Edit, sources_in
+from wrong_bodies import Crate, Edit, crates_below, sources_in
 
 HERE = Path(__file__).resolve().parent
 # What decides how an edit is tried, and what counts as a refusal.
@@ -51,7 +51,7 @@ class Kept:
         told = hashlib.sha256(self.kit.encode())
         for tool in TOOLS:
             told.update(hashlib.sha256((HERE / tool).read_bytes()).digest())
-        for it in (*crate.below(self.crates), crate):
+        for it in (*crates_below(crate, self.crates), crate):
             told.update(hashlib.sha256(it.line.encode()).digest())
             for path, octets in sources_in(it.folder).items():
                 told.update(hashlib.sha256(path.encode()).digest() + hashlib.sha256(octets).digest())

@@ -6,7 +6,7 @@ import subprocess
 import tempfile
 from pathlib import Path
 
-from wrong_bodies import GIVEN_FILE, SOURCES, TOP, Crate, Fault, Trial
+from wrong_bodies import GIVEN_FILE, SOURCES, TOP, Crate, Fault, Trial, crates_below
 
 
 def run(words: list[str], folder: Path) -> tuple[int, str]:
@@ -31,7 +31,7 @@ class Prover:
 
     def all_below(self, chosen: list[Crate]) -> list[Crate]:
         """All crates that the chosen ones stand on, in the order of crates.txt."""
-        names = {below.name for it in chosen for below in it.below(self.crates)}
+        names = {deeper.name for it in chosen for deeper in crates_below(it, self.crates)}
         return [it for it in self.crates.values() if it.name in names]
 
     def build_below(self, chosen: list[Crate]) -> None:
@@ -73,7 +73,7 @@ class Prover:
         of_ours = [self.crates[it] for it in crate.named if it in self.crates]
         libraries = {it: self.kit / "rlibs" / f"{it}.rlib" for it in of_kit} | {it.name: self.library(it) for it in of_ours}
         words += [word for name, place in libraries.items() for word in ("--extern", f"{name}={place}")]
-        folders = [self.kit / "rlibs", *(self.library(it).parent for it in crate.below(self.crates))]
+        folders = [self.kit / "rlibs", *(self.library(it).parent for it in crates_below(crate, self.crates))]
         words += [word for it in folders for word in ("-L", f"dependency={it}")]
         words += ["--antt-project", str(self.kit / "rattle" / "logic" / "antt-project.json")]
         # What declares a foreign function is to name what defines it.

@@ -275,12 +275,6 @@ class Crate:
         self.folder = TOP / "crates" / self.name
         self.root = "src/main.rt" if (self.folder / "src/main.rt").is_file() else "src/lib.rt"
 
-    def below(self, crates: dict[str, "Crate"]) -> list["Crate"]:
-        """All of these crates that it stands on, in their order."""
-        names = {it for it in self.named if it in crates}
-        names |= {deeper.name for it in names for deeper in crates[it].below(crates)}
-        return [it for it in crates.values() if it.name in names]
-
     @cached_property
     def texts(self) -> dict[str, str]:
         """The texts of its sources, by their paths in its folder."""
@@ -558,6 +552,13 @@ class Crate:
             else:
                 sets.append([edit])
         return sets + [[it] for it in edits if not any(it in other for other in sets)]
+
+
+def crates_below(crate: Crate, crates: dict[str, Crate]) -> list[Crate]:
+    """All of the crates that one stands on, in their order."""
+    names = {it for it in crate.named if it in crates}
+    names |= {deeper.name for it in names for deeper in crates_below(crates[it], crates)}
+    return [it for it in crates.values() if it.name in names]
 
 
 def read_crates() -> dict[str, Crate]:
