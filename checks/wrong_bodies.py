@@ -16,7 +16,7 @@ TOP = Path(__file__).resolve().parent.parent
 SOURCES = ("src", "specs", "proofs")
 FUNCTION = re.compile(r"^( *)(?:pub(?:\([a-z]+\))? )?(?:const |unsafe )*(?:extern \"C\" )?fn (\w+)")
 BLOCK = re.compile(r"^(?:impl|(?:pub )?trait)\b")
-OF_A_TRAIT = re.compile(r"impl(?:<.*?>)? (?:\w+::)*(\w+)(?:<(\w+)>|<.*>)? for (?:\w+::)*(\w+)")
+OF_A_TRAIT = re.compile(r"impl(?:<.*?>)? (?:\w+::)*(\w+)(?:<(\w+)>|<.*>)? for (?:\w+::)*(\w+)(?:<(\w+)>)?")
 OF_A_TYPE = re.compile(r"impl(?:<.*?>)? (\w+)")
 OF_ANY_TYPE = re.compile(r"impl(?:<(.*?)>)? (\w+)(?:<([^>]*)>)? (?:where|\{)")
 TYPE = re.compile(r"^(?:pub(?:\([a-z]+\))? )?(?:struct|enum) (\w+)", re.M)
@@ -102,10 +102,14 @@ class Function:
 
     @property
     def owner(self) -> str:
-        """How the prover's name for the impl of a trait in which the function stands begins: with the type and the trait, and with
-        what the trait is of where that is one word."""
+        """How the prover's name for the impl of a trait in which the function stands begins: with the type and the trait, each with
+        what it is of where that is one word and no parameter of the impl."""
         found = OF_A_TRAIT.match(self.block)
-        return found[3] + found[1] + (found[2] or "") if found else ""
+        if not found:
+            return ""
+        given = set(re.findall(r"\w+", self.block.partition("> ")[0])) if self.block.startswith("impl<") else set()
+        of_type, of_trait = (it if it and it not in given else "" for it in (found[4], found[2]))
+        return found[3] + of_type + found[1] + of_trait
 
     @property
     def answers(self) -> re.Pattern[str]:
