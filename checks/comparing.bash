@@ -5,6 +5,9 @@ work=$(mktemp -d)
 trap 'rm -rf "$work"' EXIT
 passed=0
 failed=0
+# No check builds.
+export TCRX_BUILD=no
+need() { tools/launch --build "$@" >&2 || { echo "$0: nothing was compared"; exit 70; }; }
 
 # Counts a comparison: a title, and a command that must end well. Where it doesn't, what it printed is shown, with what there is to show.
 tell() {

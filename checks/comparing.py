@@ -14,6 +14,8 @@ sys.dont_write_bytecode = True
 TOP = Path(__file__).resolve().parent.parent
 DATA = TOP / "crates/conformance/data"
 NAME = Path(sys.argv[0]).stem
+# No check builds.
+os.environ["TCRX_BUILD"] = "no"
 # Seconds after which something that doesn't end counts as failed: one wait, and one check as a whole.
 PATIENCE, LONGEST = 60, 900
 counted: Counter[bool] = Counter()
@@ -78,6 +80,14 @@ def run(*words: object, given: str = "", names: Optional[Mapping[str, str]] = No
     rules: Dict[str, Any] = {"cwd": TOP, "stdout": subprocess.PIPE, "stderr": subprocess.PIPE, "timeout": LONGEST, **more}
     environment = {**os.environ, **(names or {})}
     return subprocess.run([str(word) for word in words], input=given, text=True, env=environment, check=False, **rules)
+
+
+def need(*goals: str) -> None:
+    """Ends the check where one of these programs and libraries isn't built as its sources are, and says what builds it."""
+    ran = run(TOP / "tools/launch", "--build", *goals)
+    if ran.returncode:
+        print(f"{ran.stderr}{NAME}: nothing was compared")
+        sys.exit(ran.returncode)
 
 
 class Stuck(BaseException):
