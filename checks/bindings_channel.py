@@ -1,7 +1,7 @@
 #!/usr/bin/env python3
-"""Calls the channel of the client in Python over a shared library: each conformance case without a bad line, each field of what is read
-and reported, each growth of memory refused, channels that are closed, dropped, copied and shared by threads, where the library is found,
-and the declarations against the header by a C program.
+"""Calls the channel of the client in Python over a shared library: each field of what is read and reported, each growth of memory
+refused, channels that are closed, dropped, copied and shared by threads, where the library is found, and the declarations against the
+header by a C program.
 
 usage: checks/bindings_channel.py LIBRARY REFUSING     the shared library, and one over c/checks/refusing_memory.c
 The last line says how many checks passed. `checks/bindings` starts it.
@@ -24,7 +24,7 @@ from functools import partial
 from pathlib import Path
 from typing import Any, Callable, Dict, List, Tuple, Type
 
-from comparing import PATIENCE, TOP, close, good_cases, run, tell
+from comparing import PATIENCE, TOP, close, run, tell
 from client_parts import NOTHING, ONE, UNLOCK, frame, packet, raises, same, whole
 import tcrx
 import tcrx_channel
@@ -35,108 +35,6 @@ from tcrx_channel import (BadSettings, Decoder, Frame, NoMemory, NotRead, NotWri
 
 HEADER = TOP / "c/tcrx.h"
 SETTINGS: Dict[str, Any] = {"width": 10, "buffer": 4, "first": 0, "queues": {5: 4, 9: 2}, "maps": {2: 3}}
-
-
-# --- Cases ---
-
-class Script:
-    """A script that is done through channels of this process, and the lines that it prints, in the words of the program tcrx."""
-
-    def __init__(self, scid: int) -> None:
-        self.scid = scid
-        self.settings: Dict[int, Dict[str, Any]] = {}
-        self.channels: Dict[int, Channel] = {}
-        self.rack = Rack(scid, [])
-        self.frames = 0
-        self.printed: List[str] = []
-
-    def set_up(self, words: List[str]) -> None:
-        """A line that sets something up. The channels are made before the first operation."""
-        settings = self.settings.setdefault(int(words[1]), {"queues": {}, "maps": {}})
-        if words[0] == "channel":
-            settings.update(zip(("width", "buffer", "first"), map(int, words[2:5])), plain=len(words) > 5)
-        else:
-            settings[words[0] + "s"][int(words[2])] = int(words[3])
-
-    def make_all(self) -> None:
-        """Makes the channels that aren't made."""
-        if not self.channels:
-            self.channels = {vcid: Channel(vcid, **settings) for vcid, settings in self.settings.items()}
-            self.rack = Rack(self.scid, self.channels.values())
-
-    def bring(self, octets: bytes) -> Any:
-        """What is answered to a frame: every other time with its frame error control field, where it can have one."""
-        self.frames += 1
-        try:
-            ended = add_fecf(octets) if self.frames % 2 == 0 else b""
-        except NotWritten:
-            ended = b""
-        self.rack.fecf = ended != b""
-        return self.rack.bring(ended or octets)
-
-    def answer(self, words: List[str]) -> Any:
-        """What is answered to an operation."""
-        if words[0] == "frame":
-            return self.bring(bytes.fromhex(words[1]))
-        channel = self.rack.channel(int(words[1]))
-        if channel is None:
-            return Refused(Refusal.CHANNEL)
-        calls: Dict[str, Callable[..., Any]] = {"release": channel.release, "clcw": channel.clcw, "take": channel.take,
-                                                "unit": channel.take_unit}
-        return calls[words[0]](*map(int, words[2:]))
-
-    def line(self, answer: Any) -> str:
-        """An answer in a line."""
-        if isinstance(answer, Refused):
-            return f"refused {answer.reason.value}"
-        if isinstance(answer, Clcw):
-            return f"clcw {answer.channel} {answer.word:08x}"
-        if isinstance(answer, (Packet, Unit)):
-            what, key = ("take", answer.apid) if isinstance(answer, Packet) else ("unit", answer.map)
-            return f"{what} {answer.channel} {key} {answer.octets.hex() or '-'}"
-        delivery = answer.delivery
-        unit = f"queued {delivery.queued} dropped {delivery.dropped} rest {int(delivery.rest)}"
-        if isinstance(answer, Brought):
-            return f"frame {answer.channel} {answer.event.value} accepted {int(answer.accepted)} {unit}"
-        return f"release {answer.channel} {unit}"
-
-    def finish(self) -> None:
-        """Closes the channels, and prints what they were. The report says the same."""
-        self.make_all()
-        for vcid, channel in sorted(self.channels.items()):
-            report = channel.report()
-            final = channel.close()
-            same((report.vr, report.lockout, report.wait, report.retransmit, report.farm_b, report.buffered, report.queues, report.maps),
-                 (final.clcw.vr, final.clcw.lockout, final.clcw.wait, final.clcw.retransmit, final.clcw.farm_b, final.buffered, final.queues,
-                  final.maps), "a report next to the final one")
-            self.printed.append(f"final {vcid} {final.clcw.word:08x} events {final.events} buffered {final.buffered}")
-            self.printed += [f"queue {vcid} {apid} {count}" for apid, count in final.queues.items()]
-            self.printed += [f"map {vcid} {place} {count}" for place, count in final.maps.items()]
-
-    def run(self, text: str) -> str:
-        """Does a script."""
-        for line in text.split("\n"):
-            # The words of a script are separated by these alone.
-            words = re.findall(r"[^ \t\r]+", line)
-            if not words or words[0].startswith("#"):
-                continue
-            if words[0] in ("channel", "queue", "map"):
-                self.set_up(words)
-            else:
-                self.make_all()
-                self.printed.append(self.line(self.answer(words)))
-        self.finish()
-        return "".join(line + "\n" for line in self.printed)
-
-
-def check_cases() -> None:
-    """Every answer and the final report of each case."""
-    for case in good_cases():
-        printed, stored = Script(int(case.scid)).run(case.script.decode(errors="replace")), case.answers.decode()
-        wrong = next((pair for pair in zip(printed.split("\n"), stored.split("\n")) if pair[0] != pair[1]), None)
-        tell(printed == stored, f"case {case.name}: {wrong}")
-    tell(len(good_cases()) >= 158, f"{len(good_cases())} cases")
-    print(f"channel in Python: {len(good_cases())} conformance cases")
 
 
 # --- Answers ---
@@ -561,7 +459,6 @@ def main() -> int:
     same(tcrx_channel.find_library(), library, "the library that is found")
     same((tcrx.Channel, tcrx.Rack, hasattr(tcrx, "Channel")), (Channel, Rack, True), "the channel and the rack of tcrx")
     check_declarations()
-    check_cases()
     check_values()
     check_racks()
     check_fields()

