@@ -4,6 +4,7 @@ refused, channels that are closed, dropped, copied and shared by threads, where 
 header by a C program.
 
 usage: checks/bindings_channel.py LIBRARY REFUSING     the shared library, and one over c/checks/refusing_memory.c
+       checks/bindings_channel.py script SCID          does a script on standard input, over the library in the folder TCRX_LIB_DIR
 The last line says how many checks passed. `checks/bindings` starts it.
 """
 from __future__ import annotations
@@ -452,7 +453,10 @@ def check_found(library: str) -> None:
 
 
 def main() -> int:
-    """Each part, over the libraries that the words name."""
+    """Each part, over the libraries that the words name; or a script."""
+    if sys.argv[1] == "script":
+        print(Script(int(sys.argv[2])).run(sys.stdin.buffer.read().decode(errors="replace")), end="")
+        return 0
     library, refusing = sys.argv[1], sys.argv[2]
     check_found(library)
     os.environ["TCRX_LIB_DIR"] = str(Path(library).parent)

@@ -1,0 +1,351 @@
+"""Draws scripts at random, each beside the model, which says what it has come to: so a frame can be the expected one, a run can be ended,
+and a queue be filled. What a list of scripts reaches is counted by the model, and by its answers."""
+from __future__ import annotations
+
+import random
+import re
+from collections import Counter
+from functools import lru_cache, partial
+from typing import Callable, Counter as Count, List, NamedTuple, Tuple
+
+from model import LARGEST_UNIT, LONGEST_LINE, LONGEST_SCRIPT, OPERATIONS, SETTINGS, BadLine, Outcome, Receiver, VirtualChannel, perform
+
+# The longest part of a unit that one frame carries behind its segment header.
+LONGEST_PART = 1_018
+UNLOCK, SET_VR = b"\x00", b"\x82\x00"
+REFUSALS = {"frame": ("short", "version", "spare", "length", "truncated", "spacecraft", "channel"), "release": ("channel", "empty"),
+            "take": ("channel", "no queue", "empty"), "unit": ("channel", "no map", "empty"), "clcw": ("channel",)}
+REASONS = ("unknown command", "wrong number of words", "bad number", "bad hex", "bad option", "too late", "no channel", "double channel",
+           "unknown channel", "bad channel", "bad window", "bad buffer", "bad application", "double application", "bad capacity", "bad map",
+           "double map", "bad units", "map on plain channel", "too long")
+# Those of single lines.
+BAD = REASONS[:-1]
+# What scripts must reach besides: bounds of their size, and each row of FARM-1's table in each state that it can arise in.
+BOUNDS = ("a unit of 65542 octets", "a unit of 65543 octets", "64 channels", "a full buffer of 64", "a full queue of packets",
+          "a full queue of units", "V(R) past 255", "a unit of a plain channel", "a unit of a chosen MAP")
+ROWS = tuple(f"E{row} in S{state}" for row in range(1, 10) for state in (1, 2, 3) if (row, state) != (1, 2))
+WANTED = BOUNDS + ROWS + tuple(f"{word} refused {why}" for word, reasons in REFUSALS.items() for why in reasons) + REASONS
+
+
+class Script(NamedTuple):
+    """A script for a spacecraft."""
+
+    scid: int
+    lines: Tuple[str, ...]
+
+    @property
+    def octets(self) -> bytes:
+        """What is given to a program."""
+        return "".join(f"{line}\n" for line in self.lines).encode("latin-1")
+
+    @property
+    def outcome(self) -> Outcome:
+        """What it must lead to."""
+        return outcome_of(self)
+
+
+@lru_cache(maxsize=None)
+def outcome_of(script: Script) -> Outcome:
+    """What a script must lead to by the model, which is asked once."""
+    return perform(script.scid, script.octets)
+
+
+def reached_by(script: Script) -> Count[str]:
+    """What a script reaches, and how often."""
+    outcome = script.outcome
+    operations = [words[0] for words in map(str.split, script.lines) if words and words[0] in REFUSALS]
+    reached = outcome.reached + Counter(f"{word} {answer}" for word, answer in zip(operations, outcome.answers) if answer.startswith("refused"))
+    reached[f"{sum(line.startswith('final') for line in outcome.report)} channels"] += 1
+    reached[re.sub("^line [0-9]+: ", "", outcome.fault) or "no fault"] += 1
+    return reached
+
+
+class Drawer:
+    """Draws one script, line by line."""
+
+    def __init__(self, chance: random.Random) -> None:
+        self.chance, self.scid = chance, chance.choice((0, 1, 42, 511, 512, 1_023, chance.randrange(1_024)))
+        self.receiver = Receiver(self.scid)
+        self.lines: List[str] = []
+        # How often a data field is released: where that is seldom, buffers are full.
+        self.releases = chance.choice((0.02, 0.1, 0.25))
+
+    def add(self, line: str) -> None:
+        """Adds a line, and has the model do it."""
+        self.lines.append(line)
+        try:
+            self.receiver.answer(line)
+        except BadLine:
+            pass
+
+    # --- What is set up ---
+
+    def channel(self, vcid: int, **more: int) -> VirtualChannel:
+        """Sets up a channel, with some queues."""
+        chance = self.chance
+        width, places = more.get("width", chance.choice((2, 4, 10, 128, 252, 254))), more.get("places", chance.choice((1, 2, 7, 64)))
+        first, plain = chance.choice((0, 1, 127, 250, 255, chance.randrange(256))), more.get("plain", int(chance.random() < 0.25))
+        self.add(f"channel {vcid} {width} {places} {first}{' plain' * plain}")
+        capacities = (1, 2, 5, chance.randrange(1, 257))
+        for apid in chance.sample((0, 5, 9, 255, 256, 2_046), chance.randrange(4)):
+            self.add(f"queue {vcid} {apid} {chance.choice(capacities)}")
+        for place in chance.sample((0, 3, 62, 63), 0 if plain else chance.randrange(3)):
+            self.add(f"map {vcid} {place} {chance.choice(capacities)}")
+        return self.receiver.channels[vcid]
+
+    # --- What is sent ---
+
+    def packet(self, channel: VirtualChannel) -> bytes:
+        """A packet for one of the channel's queues, or one that is dropped or left over."""
+        chance = self.chance
+        apid = chance.choice([*channel.queues] * 4 + [5, 7, 1_029, 2_047])
+        first = chance.choice((0x10,) * 8 + (0x18, 0x00, 0x30, 0x50, 0x90)) | apid >> 8
+        data = chance.randbytes(chance.choice((1, 1, 2, 9, chance.randrange(1, 300))))
+        return bytes([first, apid & 255, chance.randrange(256), chance.randrange(256)]) + (len(data) - 1).to_bytes(2, "big") + data
+
+    def data(self, channel: VirtualChannel) -> bytes:
+        """Octets that packets begin, and sometimes a part of one ends."""
+        octets = b"".join(self.packet(channel) for _ in range(self.chance.choice((0, 1, 1, 1, 2, 3))))
+        return octets[:self.chance.choice((len(octets),) * 5 + (self.chance.randrange(len(octets) + 1),))][:LONGEST_PART]
+
+    def field(self, channel: VirtualChannel) -> bytes:
+        """A data field: where there are segments, often one that goes on with an open run."""
+        if channel.plain:
+            return self.data(channel) or b"\x00"
+        chance = self.chance
+        place = chance.choice([*channel.maps] + [place for _, place in channel.runs] + [0, 0, 3, chance.randrange(64)])
+        return bytes([chance.choice((0xC0, 0xC0, 0x40, 0x00, 0x80)) | place]) + self.data(channel)
+
+    def octets(self, first: int, vcid: int, number: int, field: bytes) -> bytes:
+        """A frame of these parts."""
+        return bytes([first | self.scid >> 8, self.scid & 255, vcid << 2 | len(field) + 4 >> 8, len(field) + 4 & 255, number % 256]) + field
+
+    def frame(self, channel: VirtualChannel) -> bytes:
+        """A frame for a channel: mostly one that is accepted."""
+        chance, half, expected = self.chance, channel.farm.width // 2, channel.farm.vr
+        if chance.random() < 0.25 or channel.farm.state == 3 and chance.random() < 0.4:
+            any_octet = bytes([chance.randrange(256)])
+            command = chance.choice((UNLOCK, UNLOCK, SET_VR + any_octet, SET_VR + any_octet, b"\x82\x01\x00", b"\x82\x00", b"\x00\x00", any_octet))
+            return self.octets(chance.choice((0x30,) * 9 + (0x10,)), channel.vcid, chance.randrange(256), command)
+        if chance.random() < 0.3:
+            return self.octets(0x20, channel.vcid, chance.randrange(256), self.field(channel))
+        beside = (1, -1, half - 1, half, half + 1, -half, -half - 1, chance.randrange(256))
+        return self.octets(0x00, channel.vcid, expected + chance.choice((0,) * 12 + beside), self.field(channel))
+
+    def spoilt(self, octets: bytes) -> bytes:
+        """Octets that are mostly refused, made of a frame."""
+        chance = self.chance
+        at, bit = chance.choice(((0, 7), (0, 6), (0, 3), (0, 2), (0, 1), (0, 0), (1, 0), (1, 7), (2, 7), (2, 2), (2, 1), (3, 3)))
+        changed = bytearray(octets)
+        changed[at] ^= 1 << bit
+        small = bytearray(octets[:8])
+        small[2], small[3] = small[2] & 0xFC, chance.choice((0, 3, 4, 5))
+        return bytes(chance.choice((changed, changed, changed, small, octets[:-1], octets[:chance.randrange(1, 7)])))
+
+    def operation(self, channel: VirtualChannel) -> str:
+        """A line that operates."""
+        chance, vcid = self.chance, channel.vcid if self.chance.random() < 0.95 else self.chance.choice((0, 63, 64, 255))
+        kind = chance.random()
+        if kind < 0.55:
+            octets = self.frame(channel)
+            octets = self.spoilt(octets) if chance.random() < 0.1 else octets + chance.randbytes(chance.choice((0, 0, 0, 3)))
+            return f"frame {octets.hex() if chance.random() < 0.8 else octets.hex().upper()}"
+        if kind < 0.55 + self.releases:
+            return f"release {vcid}"
+        if kind < 0.9:
+            return f"take {vcid} {chance.choice([*channel.queues] * 3 + [5, 2_047])}"
+        return f"unit {vcid} {chance.choice([*channel.maps] * 3 + [3, 64])}" if kind < 0.96 else f"clcw {vcid}"
+
+    def operate(self, count: int) -> None:
+        """So many lines that operate, some of them with other spaces, and comments between."""
+        for _ in range(count):
+            line = self.operation(self.chance.choice(list(self.receiver.channels.values())))
+            if self.chance.random() < 0.05:
+                self.add(self.chance.choice(("", " \t", "# frame 00", "\t#")))
+                before, between, behind = (self.chance.choice(some) for some in (("\t", "  ", ""), ("  ", "\t", " \r"), (" ", "\r", "")))
+                line = before + line.replace(" ", between) + behind
+            self.add(line)
+
+    def send(self, channel: VirtualChannel, sequenced: bool, field: bytes) -> None:
+        """Has a data field passed on to reassembly at once."""
+        octets = self.octets(0x00, channel.vcid, channel.farm.vr, field) if sequenced else self.octets(0x20, channel.vcid, 0, field)
+        self.add(f"frame {octets.hex()}")
+        if sequenced:
+            self.add(f"release {channel.vcid}")
+
+
+def tour(drawer: Drawer) -> None:
+    """Lines of all kinds, on some channels."""
+    for vcid in drawer.chance.sample(range(64), drawer.chance.choice((1, 1, 2, 3, 5))):
+        drawer.channel(vcid)
+    drawer.operate(drawer.chance.choice((5, 40, 120)))
+
+
+def each_row(drawer: Drawer) -> None:
+    """Each row of FARM-1's table, in each state."""
+    channel = drawer.channel(drawer.chance.randrange(64), width=drawer.chance.choice((4, 10, 252)), places=1)
+    half = channel.farm.width // 2
+    kinds = {"expected": (0x00, 0), "ahead": (0x00, half - 1), "behind": (0x00, -half), "outside": (0x00, half), "bypass": (0x20, 0),
+             "invalid": (0x10, 0), "unlock": (0x30, 0), "set": (0x30, 0)}
+    others = "ahead behind bypass invalid"
+    for what in (f"{others} set unlock expected expected {others} expected unlock expected set expected outside {others} outside expected "
+                 "set release expected unlock outside").split():
+        field = UNLOCK if what == "unlock" else SET_VR + b"\x07" if what == "set" else drawer.field(channel)
+        first, beside = kinds.get(what, (0, 0))
+        drawer.add(f"frame {drawer.octets(first, channel.vcid, channel.farm.vr + beside, field).hex()}" if what in kinds else f"{what} {channel.vcid}")
+
+
+def many_channels(drawer: Drawer) -> None:
+    """Each channel that there can be."""
+    for vcid in drawer.chance.sample(range(64), 64):
+        drawer.channel(vcid)
+    drawer.operate(150)
+
+
+def full_buffer(drawer: Drawer) -> None:
+    """A buffer that is filled, over the end of the numbers; what is sent to it and to another channel then; and what comes out."""
+    chance, channel = drawer.chance, drawer.channel(drawer.chance.randrange(32), places=64)
+    drawer.channel(32 + chance.randrange(32))
+    drawer.add(f"frame {drawer.octets(0x30, channel.vcid, 0, SET_VR + bytes([chance.randrange(193, 256)])).hex()}")
+    for _ in range(chance.choice((65, 66))):
+        drawer.add(f"frame {drawer.octets(0x00, channel.vcid, channel.farm.vr, drawer.field(channel)).hex()}")
+    drawer.operate(20)
+    for _ in range(chance.choice((5, 70))):
+        drawer.add(f"release {channel.vcid}")
+    drawer.operate(60)
+
+
+def full_queues(drawer: Drawer) -> None:
+    """Queues for packets and for units that are filled, and emptied in part, so that the next ones come behind those that wait."""
+    chance, channel = drawer.chance, drawer.channel(drawer.chance.randrange(64), plain=0)
+    capacity = chance.choice((1, 2, 3, 255, 256))
+    drawer.add(f"queue {channel.vcid} 77 {capacity}")
+    drawer.add(f"map {channel.vcid} 33 {capacity}")
+    for _ in range(2):
+        for number in range(capacity + 1):
+            drawer.send(channel, False, bytes.fromhex(f"c0104dc0000001{number:04x}"))
+            drawer.send(channel, False, bytes.fromhex(f"e1{number:04x}"))
+        for _ in range(chance.randrange(capacity + 2)):
+            drawer.add(f"take {channel.vcid} 77")
+            drawer.add(f"unit {channel.vcid} 33")
+    drawer.operate(20)
+
+
+def long_unit(drawer: Drawer, beyond: int) -> None:
+    """A unit of the most octets that there are, or of so many more: as one packet, or as octets that are queued whole."""
+    chance, channel = drawer.chance, drawer.channel(drawer.chance.randrange(64), plain=0)
+    size, place, sequenced = LARGEST_UNIT + beyond, chance.choice((1, 33)), chance.random() < 0.3
+    drawer.add(f"queue {channel.vcid} 77 2")
+    drawer.add(f"map {channel.vcid} 33 2")
+    unit = bytes.fromhex("104dc000") + (min(size, LARGEST_UNIT) - 7).to_bytes(2, "big") + chance.randbytes(size - 6)
+    drawer.add(f"frame {drawer.octets(0x30, channel.vcid, 0, UNLOCK).hex()}")
+    sent = 0
+    while sent < size:
+        part = min(size - sent, LONGEST_PART if sent else chance.randrange(LONGEST_PART - 300, LONGEST_PART + 1))
+        flags = 0x40 if sent == 0 else 0x80 if sent + part == size else 0x00
+        drawer.send(channel, sequenced, bytes([flags | place]) + unit[sent:sent + part])
+        sent += part
+    drawer.send(channel, sequenced, bytes([0x80 | place]) + unit[:9])
+    for line in (f"take {channel.vcid} 77", f"unit {channel.vcid} 33"):
+        drawer.add(line)
+    drawer.operate(10)
+
+
+def long_lines(drawer: Drawer) -> None:
+    """Lines of the most octets that `tclive` takes, and of one more."""
+    drawer.channel(1)
+    for more in drawer.chance.sample((0, 1), 2):
+        drawer.add("#" * (LONGEST_LINE + more))
+        drawer.add(f"frame {'00' * drawer.chance.randrange(1, 4_000)}".ljust(LONGEST_LINE + more))
+    drawer.operate(5)
+
+
+def long_script(drawer: Drawer, beyond: int) -> None:
+    """A script of the most octets that there are, or of so many more."""
+    drawer.channel(drawer.chance.randrange(64))
+    drawer.operate(5)
+    drawer.add("#" * (LONGEST_SCRIPT + beyond - 1 - len(Script(0, tuple(drawer.lines)).octets)))
+
+
+def bad_number(chance: random.Random) -> str:
+    """A line with a number that is just over its bound, or none."""
+    command, bounds = chance.choice([*SETTINGS.items(), *OPERATIONS.items()])
+    at, words = chance.randrange(len(bounds)), ["1", "10", "1", "0"][:len(bounds)]
+    words[at] = chance.choice((str(bounds[at] + 1), str(bounds[at] + 1), "-1", "+1", "0x1", "1_0", "000001", "x", "\u00b2"))
+    return " ".join([command, *words])
+
+
+def bad_line(chance: random.Random, reason: str) -> str:
+    """A line that may be bad for a reason; whether it is, the model says."""
+    operation = chance.choice(("release 1", "take 1 5", "unit 1 3", "clcw 1", "frame 00"))
+    command = chance.choice((operation, "channel 60 10 1 0", "queue 1 5 1", "map 1 3 1"))
+    words = command.split()
+    lines = {
+        "unknown command": chance.choice((command.capitalize(), command.upper(), f"{command[:2]} 1", f"\x0b{command}", "\u00ffclcw 1", f"{words[0]}s 1")),
+        "wrong number of words": chance.choice((f"{command} 1 1", words[0], f"{words[0]} 0 0 0 0 # no comment", "channel 1 10 1", "frame 00 00")),
+        "bad number": bad_number(chance),
+        "bad hex": f"frame {chance.choice(('0', '000', '0g', '0x00', '00-0', '0_', '00ff0'))}",
+        "bad option": f"channel {chance.choice((1, 60, 64))} {chance.choice((9, 10))} 1 0 {chance.choice(('Plain', 'plai', 'plains', '0', '#'))}",
+        "too late": chance.choice(("channel 60 10 1 0", "channel 60 9 0 0 plain", "queue 1 2047 1", "map 1 3 1", "map 60 64 0")),
+        "no channel": operation, "double channel": f"channel 1 {chance.choice((9, 10))} {chance.choice((0, 1))} 0{chance.choice(('', ' plain'))}",
+        "unknown channel": chance.choice(("queue 60 5 1", "map 60 3 1", "queue 255 2047 0", "map 64 64 0")),
+        "bad channel": f"channel {chance.choice((64, 255))} {chance.choice((9, 10))} 65 0",
+        "bad window": f"channel 60 {chance.choice((0, 1, 9, 255))} {chance.choice((0, 1))} 0", "bad buffer": f"channel 60 10 {chance.choice((0, 65, 255))} 0",
+        "bad application": f"queue 1 {chance.choice((2_047, 2_048, 65_535))} {chance.choice((0, 1))}",
+        "double application": f"queue 1 5 {chance.choice((0, 1))}",
+        "bad capacity": f"queue 1 9 {chance.choice((0, 257, 65_535))}", "bad map": f"map {chance.choice((1, 2))} {chance.choice((64, 255))} 0",
+        "double map": f"map 1 3 {chance.choice((0, 1))}", "bad units": f"map {chance.choice((1, 2))} 4 {chance.choice((0, 257, 65_535))}",
+        "map on plain channel": "map 2 3 1",
+    }
+    return lines[reason]
+
+
+def fault(drawer: Drawer, reason: str) -> None:
+    """A script with a line that is bad for this reason, and sometimes with another bad one before it or behind it."""
+    chance = drawer.chance
+    if reason != "no channel":
+        for line in ("channel 1 10 2 0", "channel 2 4 1 255 plain", "queue 1 5 2", "map 1 3 1"):
+            drawer.add(line)
+    if reason in ("too late", "unknown command", "wrong number of words", "bad number", "bad hex"):
+        drawer.operate(1 if reason == "too late" else chance.randrange(12))
+    drawer.add(bad_line(chance, reason))
+    drawer.add(chance.choice(("clcw 1", "clcw", "frame 0")))
+
+
+SPECIAL: Tuple[Callable[[Drawer], None], ...] = (
+    each_row, many_channels, full_buffer, full_queues, full_queues, partial(long_unit, beyond=0), partial(long_unit, beyond=1), partial(long_unit, beyond=-1),
+    long_lines, partial(long_script, beyond=0), partial(long_script, beyond=1))
+REPEATED = 3
+
+
+def draw(seed: int, count: int) -> List[Script]:
+    """So many scripts, the first ones for the bounds and the reasons, and tours."""
+    drawn = []
+    for place in range(count):
+        drawer = Drawer(random.Random(f"{seed} {place}"))
+        if place < len(SPECIAL):
+            SPECIAL[place](drawer)
+        elif place < len(SPECIAL) + REPEATED * len(BAD):
+            fault(drawer, BAD[(place - len(SPECIAL)) % len(BAD)])
+        else:
+            tour(drawer)
+        drawn.append(Script(drawer.scid, tuple(drawer.lines)))
+    return drawn
+
+
+def shortened(script: Script, differs: Callable[[Script], bool], tries: int = 300) -> Script:
+    """The script without lines that it differs without: first halves, and in the end each line by itself."""
+    size = max(1, len(script.lines) // 2)
+    while tries > 0:
+        start, shorter = 0, False
+        while start < len(script.lines) and tries > 0:
+            tries -= 1
+            less = Script(script.scid, script.lines[:start] + script.lines[start + size:])
+            if differs(less):
+                script, shorter = less, True
+            else:
+                start += size
+        if size == 1 and not shorter:
+            break
+        size = max(1, size // 2)
+    return script

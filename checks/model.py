@@ -1,0 +1,374 @@
+#!/usr/bin/env python3
+"""A model of the receiver, written from the pages of docs/reference alone (scripts, formats, FARM-1 and limits), so that a script can be
+answered where nothing is built, and what the programs answer can be compared with something that isn't made of their sources.
+
+usage: checks/model.py run --scid N < SCRIPT         prints what `tcrx run` must print
+       checks/model.py parallel --scid N < SCRIPT    prints what `tcrx parallel` must print
+
+A fault of the script goes to standard error, with status 1. It runs by Python 3.9 and its own library. Nothing about it is proved.
+"""
+from __future__ import annotations
+
+import argparse
+import re
+import sys
+from collections import Counter, deque
+from typing import Counter as Count, Deque, Dict, List, NamedTuple, Optional, Tuple
+
+LONGEST_SCRIPT, LONGEST_LINE, LARGEST_UNIT = 1_048_576, 8_192, 65_542
+# The largest numbers of each line, word by word; beyond the bound of its field a smaller one is another fault.
+SETTINGS = {"channel": (255, 255, 255, 255), "queue": (255, 65_535, 65_535), "map": (255, 255, 65_535)}
+OPERATIONS = {"release": (255,), "take": (255, 65_535), "unit": (255, 255), "clcw": (255,)}
+# The table of FARM-1, event by event: what its cells for S1 Open, S2 Wait and S3 Lockout name. Where one says nothing, the frame is discarded.
+TABLE = {
+    "E1": ["accept, V(R) + 1, Retransmit 0", "", ""],
+    "E2": ["Retransmit 1, Wait 1, to S2", "", ""],
+    "E3": ["Retransmit 1", "", ""],
+    "E4": ["", "", ""],
+    "E5": ["Lockout 1, to S3", "Lockout 1, to S3", ""],
+    "E6": ["accept, FARM-B + 1", "accept, FARM-B + 1", "accept, FARM-B + 1"],
+    "E7": ["FARM-B + 1, Retransmit 0", "FARM-B + 1, Retransmit 0, Wait 0, to S1", "FARM-B + 1, Retransmit 0, Wait 0, Lockout 0, to S1"],
+    "E8": ["FARM-B + 1, Retransmit 0, V(R) = x", "FARM-B + 1, Retransmit 0, V(R) = x, Wait 0, to S1", "FARM-B + 1"],
+    "E9": ["", "", ""],
+    "E10": ["", "Wait 0, to S1", "Wait 0"],
+}
+
+
+class BadLine(Exception):
+    """A line is bad, for this reason."""
+
+
+class Refused(Exception):
+    """An operation is refused, for this reason."""
+
+
+def want(holds: bool, otherwise: Exception) -> None:
+    """What must hold for a line or an operation."""
+    if not holds:
+        raise otherwise
+
+
+class Frame(NamedTuple):
+    """A transfer frame."""
+
+    bypass: int
+    control: int
+    scid: int
+    vcid: int
+    number: int
+    field: bytes
+
+
+def read_frame(octets: bytes) -> Frame:
+    """The frame at the front of these octets."""
+    want(len(octets) >= 5, Refused("short"))
+    want(octets[0] >> 6 == 0, Refused("version"))
+    want(octets[0] & 0b1100 == 0, Refused("spare"))
+    length = (octets[2] & 0b11) << 8 | octets[3]
+    want(length >= 5, Refused("length"))
+    want(length + 1 <= len(octets), Refused("truncated"))
+    return Frame(octets[0] >> 5 & 1, octets[0] >> 4 & 1, (octets[0] & 0b11) << 8 | octets[1], octets[2] >> 2, octets[4], octets[5:length + 1])
+
+
+class Farm:
+    """FARM-1 of a virtual channel: the state, V(R), the flags and the FARM-B counter."""
+
+    def __init__(self, width: int, first: int) -> None:
+        self.width, self.state, self.vr, self.farm_b = width, 1, first, 0
+        self.flags = {"Lockout": 0, "Wait": 0, "Retransmit": 0}
+
+    def event(self, frame: Frame, room: bool) -> str:
+        """The row of the table that a frame meets."""
+        if frame.control:
+            unlock, set_vr = frame.field == b"\x00", len(frame.field) == 3 and frame.field[:2] == b"\x82\x00"
+            return "E9" if not frame.bypass else "E7" if unlock else "E8" if set_vr else "E9"
+        if frame.bypass:
+            return "E6"
+        ahead, behind = (frame.number - self.vr) % 256, (self.vr - frame.number) % 256
+        if ahead == 0:
+            return "E1" if room else "E2"
+        return "E3" if ahead <= self.width // 2 - 1 else "E4" if behind <= self.width // 2 else "E5"
+
+    def step(self, event: str, field: bytes = b"") -> bool:
+        """Does what a cell of the table names, and answers whether it accepts a data field."""
+        accepted = False
+        for effect in TABLE[event][self.state - 1].split(", "):
+            if effect == "accept":
+                accepted = True
+            elif effect == "V(R) + 1":
+                self.vr = (self.vr + 1) % 256
+            elif effect == "V(R) = x":
+                self.vr = field[2]
+            elif effect == "FARM-B + 1":
+                self.farm_b = (self.farm_b + 1) % 4
+            elif effect.startswith("to S"):
+                self.state = int(effect[4:])
+            elif effect:
+                self.flags[effect[:-2]] = int(effect[-1])
+        return accepted
+
+    def clcw(self, vcid: int) -> str:
+        """The CLCW, with both flags of the link 0."""
+        flags = self.flags["Lockout"] << 13 | self.flags["Wait"] << 12 | self.flags["Retransmit"] << 11
+        return f"{1 << 24 | vcid << 18 | flags | self.farm_b << 9 | self.vr:08x}"
+
+
+# A queue for so many packets or units, whose oldest is taken first.
+Queue = Deque[bytes]
+
+
+def put(queue: Queue, item: bytes) -> bool:
+    """Whether there is room for an item, which is then in the queue."""
+    room = len(queue) != queue.maxlen
+    if room:
+        queue.append(item)
+    return room
+
+
+class Delivery(NamedTuple):
+    """What became of the unit that an operation completed."""
+
+    queued: int = 0
+    dropped: int = 0
+    rest: int = 0
+
+    def __str__(self) -> str:
+        return f"queued {self.queued} dropped {self.dropped} rest {self.rest}"
+
+
+class VirtualChannel:
+    """A virtual channel: FARM-1, the buffer of its data fields, reassembly, and its queues."""
+
+    def __init__(self, vcid: int, farm: Farm, places: int, plain: bool, reached: Count[str]) -> None:
+        self.vcid, self.farm, self.plain, self.reached = vcid, farm, plain, reached
+        self.buffer: Queue = deque(maxlen=places)
+        # The open runs, by service and MAP.
+        self.runs: Dict[Tuple[str, int], bytes] = {}
+        # The queues by application and those by chosen MAP, in the order of the set-up.
+        self.queues: Dict[int, Queue] = {}
+        self.maps: Dict[int, Queue] = {}
+        self.events = 0
+
+    def frame(self, frame: Frame) -> str:
+        """What a frame is answered."""
+        event, before = self.farm.event(frame, len(self.buffer) != self.buffer.maxlen), self.farm.vr
+        self.reached[f"{event} in S{self.farm.state}"] += 1
+        if event == "E2":
+            self.reached[f"a full buffer of {len(self.buffer)}"] += 1
+        accepted, delivery = self.farm.step(event, frame.field), Delivery()
+        self.events += 1
+        if accepted and event == "E6":
+            delivery = self.pass_on("BD", frame.field)
+        elif accepted:
+            self.buffer.append(frame.field)
+            self.reached["V(R) past 255"] += self.farm.vr < before
+        return f"frame {self.vcid} {event} accepted {int(accepted)} {delivery}"
+
+    def release(self) -> str:
+        """What a release is answered."""
+        want(len(self.buffer) > 0, Refused("empty"))
+        self.events += 1
+        self.farm.step("E10")
+        return f"release {self.vcid} {self.pass_on('AD', self.buffer.popleft())}"
+
+    def take(self, word: str, key: int, queue: Optional[Queue]) -> str:
+        """What a take of a packet or a unit is answered."""
+        if queue is None:
+            raise Refused("no map" if word == "unit" else "no queue")
+        want(len(queue) > 0, Refused("empty"))
+        self.events += 1
+        return f"{word} {self.vcid} {key} {queue.popleft().hex() or '-'}"
+
+    def pass_on(self, service: str, field: bytes) -> Delivery:
+        """Passes a data field on to reassembly."""
+        if self.plain:
+            self.reached["a unit of a plain channel"] += 1
+            return self.cut(field)
+        chosen = self.maps.get(field[0] & 63)
+        unit = self.unit(service, field)
+        if unit is None:
+            return Delivery()
+        if chosen is None:
+            return self.cut(unit)
+        self.reached["a unit of a chosen MAP"] += 1
+        room = put(chosen, unit)
+        self.reached["a full queue of units"] += not room
+        return Delivery(int(room), int(not room))
+
+    def unit(self, service: str, field: bytes) -> Optional[bytes]:
+        """The unit that a segment completes, if it completes one."""
+        place, first, last = (service, field[0] & 63), field[0] >> 6 & 1, field[0] >> 7
+        run = b"" if first else self.runs.get(place)
+        self.runs.pop(place, None)
+        if run is None:
+            return None
+        run += field[1:]
+        if last or len(run) > LARGEST_UNIT:
+            self.reached[f"a unit of {len(run)} octets"] += 1
+        if len(run) > LARGEST_UNIT:
+            return None
+        if last:
+            return run
+        self.runs[place] = run
+        return None
+
+    def cut(self, unit: bytes) -> Delivery:
+        """Cuts a unit into packets, which are queued."""
+        queued = dropped = 0
+        while len(unit) > 6 and unit[0] >> 5 == 0 and len(unit) >= (size := int.from_bytes(unit[4:6], "big") + 7):
+            telecommand, apid = unit[0] & 0b10000, (unit[0] & 0b111) << 8 | unit[1]
+            queue = self.queues.get(apid) if telecommand else None
+            room = queue is not None and put(queue, unit[:size])
+            self.reached["a full queue of packets"] += queue is not None and not room
+            queued, dropped, unit = queued + room, dropped + (not room), unit[size:]
+        return Delivery(queued, dropped, int(len(unit) > 0))
+
+    def report(self) -> List[str]:
+        """Its lines of the final report."""
+        lines = [f"final {self.vcid} {self.farm.clcw(self.vcid)} events {self.events} buffered {len(self.buffer)}"]
+        for word, queues in (("queue", self.queues), ("map", self.maps)):
+            lines += [f"{word} {self.vcid} {key} {len(queue)}" for key, queue in queues.items()]
+        return lines
+
+
+def read_numbers(words: List[str], bounds: Tuple[int, ...]) -> List[int]:
+    """The numbers of a line."""
+    want(len(words) == len(bounds), BadLine("wrong number of words"))
+    for word, most in zip(words, bounds):
+        want(re.fullmatch("[0-9]{1,5}", word) is not None and int(word) <= most, BadLine("bad number"))
+    return [int(word) for word in words]
+
+
+def read_octets(words: List[str]) -> bytes:
+    """The octets of a frame's line."""
+    want(len(words) == 1, BadLine("wrong number of words"))
+    want(re.fullmatch("([0-9a-fA-F]{2})*", words[0]) is not None, BadLine("bad hex"))
+    return bytes.fromhex(words[0])
+
+
+class Receiver:
+    """The virtual channels of a spacecraft, which the lines of a script set up and operate on."""
+
+    def __init__(self, scid: int) -> None:
+        self.scid, self.operating = scid, False
+        self.channels: Dict[int, VirtualChannel] = {}
+        # What was met, and how often: for who draws scripts.
+        self.reached: Count[str] = Counter()
+
+    def answer(self, line: str) -> Optional[str]:
+        """What a line is answered. A line that sets up, and one with nothing in it, has no answer."""
+        words = [word for word in re.split("[ \t\r]", line) if word]
+        if not words or words[0].startswith("#"):
+            return None
+        if words[0] in SETTINGS:
+            self.set_up(words[0], words[1:])
+            return None
+        want(words[0] == "frame" or words[0] in OPERATIONS, BadLine("unknown command"))
+        octets = read_octets(words[1:]) if words[0] == "frame" else b""
+        numbers = [] if words[0] == "frame" else read_numbers(words[1:], OPERATIONS[words[0]])
+        want(len(self.channels) > 0, BadLine("no channel"))
+        self.operating = True
+        try:
+            return self.operate(words[0], numbers) if numbers else self.bring(octets)
+        except Refused as why:
+            return f"refused {why}"
+
+    def set_up(self, command: str, words: List[str]) -> None:
+        """Does a line that sets something up. The faults are looked for in the order of their list."""
+        option = words[4:] if command == "channel" and len(words) == 5 else []
+        numbers = read_numbers(words[:4] if option else words, SETTINGS[command])
+        want(option in ([], ["plain"]), BadLine("bad option"))
+        want(not self.operating, BadLine("too late"))
+        if command == "channel":
+            self.add_channel(numbers, bool(option))
+        else:
+            self.add_queue(numbers, command == "map")
+
+    def add_channel(self, numbers: List[int], plain: bool) -> None:
+        """Adds a virtual channel."""
+        vcid, width, places, first = numbers
+        want(vcid not in self.channels, BadLine("double channel"))
+        want(vcid <= 63, BadLine("bad channel"))
+        want(width % 2 == 0 and 2 <= width <= 254, BadLine("bad window"))
+        want(1 <= places <= 64, BadLine("bad buffer"))
+        self.channels[vcid] = VirtualChannel(vcid, Farm(width, first), places, plain, self.reached)
+
+    def add_queue(self, numbers: List[int], is_map: bool) -> None:
+        """Adds a queue to a virtual channel, for packets of an application or for units of a MAP."""
+        vcid, key, capacity = numbers
+        want(vcid in self.channels, BadLine("unknown channel"))
+        channel = self.channels[vcid]
+        queues = channel.maps if is_map else channel.queues
+        want(key <= (63 if is_map else 2_046), BadLine("bad map" if is_map else "bad application"))
+        want(key not in queues, BadLine("double map" if is_map else "double application"))
+        want(1 <= capacity <= 256, BadLine("bad units" if is_map else "bad capacity"))
+        want(not (is_map and channel.plain), BadLine("map on plain channel"))
+        queues[key] = deque(maxlen=capacity)
+
+    def bring(self, octets: bytes) -> str:
+        """What octets that arrive are answered."""
+        frame = read_frame(octets)
+        want(frame.scid == self.scid, Refused("spacecraft"))
+        want(frame.vcid in self.channels, Refused("channel"))
+        return self.channels[frame.vcid].frame(frame)
+
+    def operate(self, command: str, numbers: List[int]) -> str:
+        """What another operation is answered."""
+        vcid, key = numbers[0], numbers[-1]
+        want(vcid in self.channels, Refused("channel"))
+        channel = self.channels[vcid]
+        if command == "release":
+            return channel.release()
+        if command == "clcw":
+            return f"clcw {vcid} {channel.farm.clcw(vcid)}"
+        return channel.take(command, key, channel.maps.get(key) if command == "unit" else channel.queues.get(key))
+
+    def report(self) -> List[str]:
+        """The final report."""
+        return [line for vcid in sorted(self.channels) for line in self.channels[vcid].report()]
+
+
+class Outcome(NamedTuple):
+    """What a script led to: the answers, the final report, the fault, if any, and what was met."""
+
+    answers: List[str]
+    report: List[str]
+    fault: str
+    reached: Count[str]
+
+
+def perform(scid: int, script: bytes, live: bool = False) -> Outcome:
+    """Performs a script as `tcrx run` must, to its end or its first bad line; or as `tclive` must, which answers a bad line and goes on."""
+    receiver = Receiver(scid)
+    if len(script) > LONGEST_SCRIPT and not live:
+        return Outcome([], [], "line 0: too long", receiver.reached)
+    lines, answers = script.decode("latin-1").split("\n"), []
+    for number, line in enumerate(lines if lines[-1] else lines[:-1], 1):
+        try:
+            if live and len(line) > LONGEST_LINE:
+                raise BadLine("too long")
+            answers.append(receiver.answer(line))
+        except BadLine as reason:
+            if not live:
+                return Outcome([answer for answer in answers if answer], [], f"line {number}: {reason}", receiver.reached)
+            answers.append(f"bad {reason}")
+    return Outcome([answer for answer in answers if answer], receiver.report(), "", receiver.reached)
+
+
+def main() -> int:
+    """The status."""
+    parser = argparse.ArgumentParser(description="Answers a script by the model, which isn't the receiver, and isn't proved.")
+    parser.add_argument("command", choices=("run", "parallel"))
+    parser.add_argument("--scid", type=int, required=True, choices=range(1_024), metavar="N")
+    given = parser.parse_args()
+    print("model.py: this is the model in Python, and not the receiver", file=sys.stderr)
+    outcome = perform(given.scid, sys.stdin.buffer.read())
+    shown = outcome.report if given.command == "parallel" else outcome.answers + outcome.report
+    print("".join(f"{line}\n" for line in shown), end="")
+    if outcome.fault:
+        print(outcome.fault, file=sys.stderr)
+    return 1 if outcome.fault else 0
+
+
+if __name__ == "__main__":
+    sys.exit(main())
