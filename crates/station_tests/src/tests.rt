@@ -2,6 +2,7 @@ mod closing;
 mod crew;
 mod faults;
 mod holding;
+mod meetings;
 mod refusals;
 mod status;
 mod together;
@@ -9,7 +10,7 @@ mod work;
 
 ghost use Rattle.std.specs.Prelude.{◌≡◌, All, length};
 ghost use Rattle.tc_station.specs.StationSettings.{vcids_of};
-ghost use Rattle.tc_station.specs.Tally.{IsOurs};
+ghost use Rattle.tc_station.specs.Tally.{IsOurs, KnowsDesks};
 
 use crew::{Manned, two_channels};
 use std::alloc::Global;
@@ -74,6 +75,7 @@ fn new_station(rt: &impl Abort, alloc: Global, list: Vec<Settings>) -> Station
 // So many operators of a station that has issued none.
 fn new_operators(rt: &impl Abort, station: &mut Station, n: u16) -> Vec<Operator>
     ensures ours { All (IsOurs station.new) result.items }
+    ensures knows { All (KnowsDesks station.new) result.items }
     ensures number { length result.items ≡ n }
     ensures kept { station.new.vcids ≡ station.old.vcids }
 {

@@ -44,7 +44,8 @@ fn refused(
     (left.station, left.operators.pop().expect(rt, "an operator"))
 }
 
-fn closed(rt: &impl Abort, station: Station, operators: Vec<Operator>) -> Vec<Channel>
+// The channels of a station that is closed with all who worked there.
+pub(super) fn closed(rt: &impl Abort, station: Station, operators: Vec<Operator>) -> Vec<Channel>
     requires { All (IsOurs station) operators.items }
 {
     let channels = station.close_together(operators).ok();
