@@ -7,6 +7,7 @@ import ipaddress
 import logging
 import re
 import resource
+import select
 import socket
 import sys
 import time
@@ -166,7 +167,7 @@ class Port:
         return {"port": self.place.kind, "address": self.address, "open": len(self.open), **self.counts}
 
 
-class Hub:
+class Hub:  # pylint: disable=too-many-instance-attributes  # what ports share
     """All ports with what they share."""
 
     def __init__(self, craft: Craft, notes: Notes, most: int, patience: float) -> None:
@@ -177,6 +178,8 @@ class Hub:
         self.lingering: Dict[Connection, None] = {}
         """Those that were told why they are closed, in that order."""
         self.closed = False
+        self.turn = 0
+        """How often something was read, on all ports."""
         self.is_held: Callable[[], bool] = lambda: False
         """Whether nothing is to be read for now, as much waits elsewhere."""
         craft.slow = lambda slow: self.hold_all()
@@ -189,11 +192,15 @@ class Hub:
 
     def hold_all(self) -> None:
         """Has all connections and datagrams held, or read on."""
-        for port in self.ports:
-            for connection in port.open:
-                connection.hold(self.holds)
-        for each in self.datagrams:
+        # What was read last comes last, so that each has its turn.
+        everyone: List[Union[Connection, Datagrams]] = [*self.datagrams, *(connection for port in self.ports for connection in port.open)]
+        for each in sorted(everyone, key=lambda each: each.turn):
             each.hold(self.holds)
+
+    def next_turn(self) -> int:
+        """The number of a turn that is taken now."""
+        self.turn += 1
+        return self.turn
 
     def _sweep(self) -> None:
         """Looks at each connection from time to time."""
@@ -275,6 +282,8 @@ class Connection(asyncio.BufferedProtocol):
         self.port, self.hub = port, port.hub
         self.peer, self.source = "", ""
         self.done = self.paused = False
+        # As if it was just read, so that none that comes anew again and again is always the first.
+        self.turn = self.hub.turn
 
     def connection_made(self, transport: asyncio.BaseTransport) -> None:
         """Takes the connection, or says why not."""
@@ -314,6 +323,7 @@ class Connection(asyncio.BufferedProtocol):
 
     def buffer_updated(self, nbytes: int) -> None:
         """So many octets were read."""
+        self.turn = self.hub.next_turn()
         self.data_received(bytes(self.room[:nbytes]))
 
     def data_received(self, data: bytes) -> None:
@@ -406,7 +416,7 @@ class FrameConnection(Connection):
 
     def look(self) -> None:
         """A frame that has begun must be whole after some time."""
-        if self.begun is None or self.done or time.monotonic() - self.begun < self.hub.patience:
+        if self.begun is None or self.done or time.monotonic() - self.begun < self.hub.patience or self._has_more():
             return
         what = f"{len(self.cutter.kept)} octets of a frame, and no more within {self.hub.patience:g} seconds"
         self.port.count("faults")
@@ -418,6 +428,12 @@ class FrameConnection(Connection):
         self.cutter.skip_begun()
         self._note_skipped(self.cutter.skipped - skipped, what)
         self.data_received(b"")
+
+    def _has_more(self) -> bool:
+        """Whether octets are there that weren't read yet, as the bench was busy with others."""
+        looking = select.poll()
+        looking.register(self.transport.get_extra_info("socket").fileno(), select.POLLIN)
+        return bool(looking.poll(0))
 
     def connection_lost(self, exc: Optional[Exception]) -> None:
         """Says so where it ended within a frame, and not since the bench ends."""
@@ -610,7 +626,7 @@ class Datagrams:
     comes, and loses what it has no room for."""
 
     def __init__(self, place: Place, hub: Hub, fill: int, take: Optional[Callable[[Port, str, bytes], None]] = None) -> None:
-        self.port, self.hub, self.fill, self.take, self.held = Port(place, hub), hub, fill, take, False
+        self.port, self.hub, self.fill, self.take, self.held, self.turn = Port(place, hub), hub, fill, take, False, hub.turn
         self.socket = bound(place)
         self.socket.setsockopt(socket.SOL_SOCKET, socket.SO_RCVBUF, DATAGRAM_BUFFER)
         self.port.address = address_of(self.socket)
@@ -635,6 +651,7 @@ class Datagrams:
 
     def _read(self) -> None:
         """Brings the frames of some datagrams."""
+        self.turn = self.hub.next_turn()
         for _ in range(MOST_AT_ONCE):
             if self.held:
                 return
