@@ -32,7 +32,7 @@ from tcrx_bench_parts.journal import Journal, replay  # noqa: E402
 from tcrx_bench_parts.octets import Cutter  # noqa: E402
 from tcrx_bench_parts.options import read_setup, read_words, warning_of, warning_of_files  # noqa: E402
 from tcrx_bench_parts.ports import (Connection, Datagrams, FrameConnection, Hub, LineConnection, Notes, Place, Port, Reader, Target, all_senders,  # noqa: E402
-                                    readers_sender, room_for)
+                                    readers_sender, room_for, write_some)
 from tcrx_bench_parts.web import Visitor, Web  # noqa: E402
 
 # Seconds between two writes of the log; that readers have at the end; and after which it is said that the program isn't up yet.
@@ -203,7 +203,8 @@ class Bench:  # pylint: disable=too-many-instance-attributes  # it is made of th
         if not self.write("".join(line + "\n" for line in [*lines, "ready"])):
             raise NotUp("standard output can't be written", 1)
 
-    def write(self, text: str) -> bool:
+    @staticmethod
+    def write(text: str) -> bool:
         """Writes to standard output; whether that could be done."""
         try:
             print(text, end="", flush=True)
@@ -242,7 +243,7 @@ class Bench:  # pylint: disable=too-many-instance-attributes  # it is made of th
                 process.end(kill=True)
                 return
             self.journal.end(self.engine.report)
-            self._say_report()
+            await self._say_report()
             self.journal.begin_part()
             self.engine = self._engine_of(process)
             self.craft.begin_anew(self.engine)
@@ -313,7 +314,7 @@ class Bench:  # pylint: disable=too-many-instance-attributes  # it is made of th
         await self.hub.close(LAST_READ)
         for target in self.targets:
             target.close()
-        said = bool(own) or self._say_report()
+        said = bool(own) or await self._say_report()
         self.notes.say_left_out()
         return 1 if why or left or self.journal.fault or not said else 0
 
@@ -352,12 +353,18 @@ class Bench:  # pylint: disable=too-many-instance-attributes  # it is made of th
         for turn in left:
             self.journal.unanswered(turn.line)
 
-    def _say_report(self) -> bool:
-        """Prints the final report; whether that could be written."""
-        if self.write("".join([line + "\n" for line in self.engine.report])):
-            return True
-        self.notes.say_once("the final report can't be written")
-        return False
+    async def _say_report(self) -> bool:
+        """Prints the final report; whether that could be written. Others go on while nobody reads it, up to `--patience`."""
+        octets = "".join([line + "\n" for line in self.engine.report]).encode()
+        until = time.monotonic() + self.options.patience
+        try:
+            while (octets := write_some(sys.stdout, octets)) and time.monotonic() < until:
+                await asyncio.sleep(0.005)
+        except OSError:
+            pass
+        if octets:
+            self.notes.say_once("the final report can't be written")
+        return not octets
 
     def _tell_all(self, why: str) -> None:
         """Tells everyone why there are no more answers, and notes what was not answered."""
@@ -417,12 +424,23 @@ async def serve(options: Namespace) -> int:
     return await bench.end()
 
 
+def open_streams() -> None:
+    """Has standard streams that are closed be open, so that no file or socket takes the place of one, nor what is said goes to another."""
+    for place, name in enumerate(("stdin", "stdout", "stderr")):
+        try:
+            os.fstat(place)
+        except OSError:
+            # pylint: disable-next=consider-using-with  # it stays open
+            setattr(sys, name, open(os.open(os.devnull, os.O_RDWR), "r" if place == 0 else "w", encoding="utf-8"))
+
+
 def main() -> int:
     """Reads the command line, and serves or replays; the status."""
+    open_streams()
     options = read_words(sys.argv[1:])
-    if options.replay:
-        return replay(options.replay, options.program)
     try:
+        if options.replay:
+            return replay(options.replay, options.program)
         options.lines = read_setup(options.setup) if options.setup else list(enumerate(SETUP, 1)) if options.demo else []
         return asyncio.run(serve(options))
     except NotUp as error:
@@ -434,6 +452,9 @@ def main() -> int:
     except ValueError as error:
         print(f"tcrx-bench: {error}", file=sys.stderr)
         return 2
+    except MemoryError:
+        print("tcrx-bench: out of memory", file=sys.stderr)
+        return 1
 
 
 if __name__ == "__main__":

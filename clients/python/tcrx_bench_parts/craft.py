@@ -416,9 +416,9 @@ class Craft:  # pylint: disable=too-many-instance-attributes  # what is known of
             done()
             return
         for channel in changed:
-            channel.changed = False
-
             def read(answer: str, channel: Channel = channel) -> None:
+                # Not before, so that another one who asks in the meantime waits for a report as well.
+                channel.changed = False
                 self.read_report(channel, answer)
                 if channel is changed[-1]:
                     done()

@@ -69,6 +69,14 @@ class Sender:
         return number, b"\xc0" + packet
 
 
+def is_in_background() -> bool:
+    """Whether this is a job in the background of a terminal."""
+    try:
+        return os.tcgetpgrp(sys.stdin.fileno()) != os.getpgrp()
+    except OSError:
+        return False
+
+
 class Demo:
     """The senders, and who disturbs them."""
 
@@ -81,6 +89,8 @@ class Demo:
         self.senders = {vcid: Sender(vcid, apid) for vcid, apid in SENDERS}
         self.lost = self.frames = 0
         self.kept: Optional[List[Any]] = None
+        self.hears = False
+        """Whether keys are heard."""
         self.quit: Callable[[], None] = lambda: None
 
     def port(self) -> int:
@@ -92,14 +102,23 @@ class Demo:
         self.quit = quit_bench
         self.frames = frames
         self.loop.add_reader(self.socket, self._hear)
+        self._send_next()
+
+    def _listen_to_keys(self) -> None:
+        """Hears keys, but not in the background, where a job that asks the terminal for something is stopped."""
+        if self.hears != is_in_background():
+            return
+        self.hears = not self.hears
+        if not self.hears:
+            self.loop.remove_reader(sys.stdin)
+            return
         try:
             self.loop.add_reader(sys.stdin, self._obey)
-            self.kept = termios.tcgetattr(sys.stdin)
+            self.kept = self.kept or termios.tcgetattr(sys.stdin)
             tty.setcbreak(sys.stdin)
         except (OSError, ValueError, termios.error):
             # Standard input is no terminal, a file, or closed.
             pass
-        self._send_next()
 
     def _send(self, number: int, data: bytes, kind: int = AD, vcid: int = 1) -> None:
         """Sends a frame."""
@@ -109,13 +128,16 @@ class Demo:
             pass
 
     def _send_next(self) -> None:
-        """Has each sender send what is next."""
+        """Has each sender send what is next, up to the end."""
+        if self.socket.fileno() < 0:
+            return
         for sender in self.senders.values():
             found = sender.next()
             if found and self.lost:
                 self.lost -= 1
             elif found:
                 self._send(*found, vcid=sender.vcid)
+        self._listen_to_keys()
         self.loop.call_later(PACE, self._send_next)
 
     def _hear(self) -> None:
@@ -130,6 +152,8 @@ class Demo:
 
     def _obey(self) -> None:
         """Does what the keys say."""
+        if is_in_background():
+            return
         keys = os.read(sys.stdin.fileno(), 100).decode("ascii", errors="replace")
         if not keys:
             self.loop.remove_reader(sys.stdin)
@@ -149,5 +173,5 @@ class Demo:
         """Gives the terminal back, and sends nothing more."""
         self.loop.remove_reader(self.socket)
         self.socket.close()
-        if self.kept is not None:
+        if self.kept is not None and not is_in_background():
             termios.tcsetattr(sys.stdin, termios.TCSADRAIN, self.kept)

@@ -43,6 +43,22 @@ class Speech(NamedTuple):
     """How the last answer of a block begins."""
     again: FrozenSet[str]
     """The words of answers of which there are few, again and again."""
+    is_of: Callable[[str, str, bool], bool] = lambda line, answer, is_inner: True
+    """Whether an answer of the right form is that of a line."""
+
+
+def has_numbers(line: str, answer: str, is_inner: bool) -> bool:
+    """Whether an answer of the receiver has the numbers of its line, or two: for a frame, and behind the first, its channel."""
+    try:
+        if is_inner:
+            wanted = [int(line.rpartition(" ")[2])]
+        elif line.startswith("frame "):
+            wanted = [int(line[10:12], 16) >> 2]
+        else:
+            wanted = [int(number) for number in line.split(" ")[1:]]
+    except ValueError:
+        return False
+    return answer.split(" ")[1:len(wanted) + 1] == list(map(str, wanted))
 
 
 RECEIVER = Speech(
@@ -50,7 +66,7 @@ RECEIVER = Speech(
         ("frame", f"E[1-9] accepted [01] {COUNTS}"), ("release", COUNTS), ("take", rf"{NUMBER} [0-9a-f]+"), ("clcw", "[0-9a-f]{8}"),
         ("unit", rf"{NUMBER} (?:-|[0-9a-f]+)"), ("link", "[01] [01]"),
         ("report", rf"state (?:open|wait|lockout) vr {NUMBER} .* buffered {NUMBER}(?: queue {NUMBER} {NUMBER})*(?: map {NUMBER} {NUMBER})*"))},
-    ("deliver",), frozenset({"release", "take", "unit", "clcw"}), ("clcw ", "bad ", "refused channel"), frozenset({"frame", "release"}))
+    ("deliver",), frozenset({"release", "take", "unit", "clcw"}), ("clcw ", "bad ", "refused channel"), frozenset({"frame", "release"}), has_numbers)
 
 
 class Engine:  # pylint: disable=too-many-instance-attributes  # both ways of one connection, and its end
@@ -148,8 +164,13 @@ class Engine:  # pylint: disable=too-many-instance-attributes  # both ways of on
             sent = self.process.writer.send(octets, self.process.flags)
         except BlockingIOError:
             sent = 0
-        except OSError:
-            # What it still says and its status come at the end of its answers.
+        except (BrokenPipeError, ConnectionResetError):
+            # What it still says and its status come at the end of its answers. Nothing more is written.
+            self._flushing = True
+            return
+        except OSError as error:
+            # No later answer would belong to its line.
+            self.stop(f"{self.speech.name} can't be written to: {error.strerror}")
             return
         self._left = octets[sent:]
         if self._left:
@@ -176,9 +197,13 @@ class Engine:  # pylint: disable=too-many-instance-attributes  # both ways of on
             self._ended()
             return
         self._heard, self._armed = time.monotonic(), True
-        *lines, self._begun = (self._begun + octets.decode("ascii", errors="replace")).split("\n")
-        self._lines += lines
-        self._hand_on()
+        try:
+            *lines, self._begun = (self._begun + octets.decode("ascii", errors="replace")).split("\n")
+            self._lines += lines
+            self._hand_on()
+        except MemoryError:
+            # Some answers may be lost.
+            self.stop("out of memory")
         if len(self._begun) > LONGEST_ANSWER:
             self.stop(f"an answer of {self.speech.name} has no end")
         self.answered()
@@ -222,14 +247,16 @@ class Engine:  # pylint: disable=too-many-instance-attributes  # both ways of on
             word = answer.partition(" ")[0]
             if word in ("bad", "refused"):
                 continue
-            may_be = word in speech.inner if place or line.startswith(speech.opens) else line.startswith(word)
-            if not may_be:
+            is_inner = place > 0 or line.startswith(speech.opens)
+            if not (word in speech.inner if is_inner else line.startswith(word)):
                 return place
             if answer not in fitting:
                 if word not in speech.forms or not speech.forms[word].fullmatch(answer):
                     return place
                 if word in speech.again and len(fitting) < MOST_FITTING:
                     fitting.add(answer)
+            if not speech.is_of(line, answer, is_inner):
+                return place
         return None
 
     def _report(self, answer: str) -> None:

@@ -22,12 +22,16 @@ from pathlib import Path
 from threading import Thread
 from typing import Iterable, Iterator, List, NamedTuple, Optional
 
-from tcrx import NO_BUILD, NotStarted, __version__, find_program
+from tcrx import LONGEST_ANSWER, NO_BUILD, NotStarted, __version__, find_program
 
 from .octets import without_sum
 
 # The bits of a CLCW that `tcrx` never sets: No RF Available and No Bit Lock.
 LINK_FLAGS = 0xC000
+# Octets of a line with its end: those of an answer, behind the mark that it is one.
+LONGEST = LONGEST_ANSWER + 4
+# Lines that wait to be written, besides those of one answer, however long it takes until the next time to write them.
+MOST_LINES = 4096
 # The lines that have no answer where they are good.
 SET_UP = frozenset({"channel", "queue", "map"})
 FIRST = re.compile(r"# tcrx-bench \S+ spacecraft (\d{1,4})(, with frame error control)?, begun \S+")
@@ -118,6 +122,8 @@ class Journal:
     def origin(self, came: float, answered: float, source: str) -> None:
         """Says of the lines that follow when they came and were answered, and from where."""
         if self.file is not None:
+            if len(self.lines) > MOST_LINES:
+                self.flush()
             self.lines.append(f"# {came:.6f} {answered:.6f} {source}")
 
     def answer(self, line: str, answer: str) -> None:
@@ -220,7 +226,9 @@ class Log:  # pylint: disable=too-few-public-methods  # it is gone through, more
         """Its whole lines."""
         try:
             with open(self.path, encoding="latin-1", newline="\n") as file:
-                for number, line in enumerate(file, 1):
+                for number, line in enumerate(iter(lambda: file.readline(LONGEST + 1), ""), 1):
+                    if len(line) > LONGEST:
+                        raise Unfit(f"line {number} of {self.path} has more than {LONGEST} octets")
                     if not line.endswith("\n"):
                         self.cut = number
                         return
@@ -266,7 +274,7 @@ def compare(log: Log, answers: Iterator[str]) -> str:
             continue
         if step.answer != answer:
             found = "no more answers" if answer is None else f"`{printable(answer)}`"
-            raise Unfit(f"line {step.place}, `{printable(step.line) or 'the report'}`: the log has `{step.answer}`, and the replay {found}")
+            raise Unfit(f"line {step.place}, `{printable(step.line) or 'the report'}`: the log has `{printable(step.answer)}`, and the replay {found}")
         has_report = not step.line
         count += not has_report
     if has_report and not log.cut and (more := next(answers, None)) is not None:

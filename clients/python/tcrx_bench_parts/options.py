@@ -30,6 +30,9 @@ TM_DEFAULTS = {"tm_length": 1115, "tm_rate": 1.0, "tm_vcid": 0, "tm_fecf": False
 # The fewest octets of a telemetry frame that ends with its frame error control field.
 SHORTEST_WITH_FECF = 13
 
+# Octets of a file that sets up: those of a script.
+LONGEST_SETUP = 1 << 20
+
 # Faults on purpose: the option's name, and of what it is the share.
 FAULTS = (("drop", "of frames that arrive, the share that is lost: 0.2 for a fifth"), ("twice", "the share that comes twice"),
           ("flip", "the share in which a bit is turned"), ("drop-clcw", "of CLCWs and telemetry frames, the share that is lost"))
@@ -230,10 +233,13 @@ def set_demo(options: argparse.Namespace) -> None:
 def read_setup(path: Path) -> List[Tuple[int, str]]:
     """The lines of a file that sets up, with their numbers. Raises `ValueError` where it can't be read or has others."""
     try:
-        lines = path.read_text(encoding="latin-1").split("\n")
+        with open(path, encoding="latin-1") as file:
+            text = file.read(LONGEST_SETUP + 1)
     except OSError as error:
         raise ValueError(f"{path} can't be read: {error.strerror}") from None
-    found = []
+    if len(text) > LONGEST_SETUP:
+        raise ValueError(f"{path} has more than {LONGEST_SETUP} octets")
+    found, lines = [], text.split("\n")
     for number, line in enumerate(lines, 1):
         words = line.split()
         if not words or words[0].startswith("#"):

@@ -5,6 +5,7 @@ import asyncio
 import errno
 import ipaddress
 import logging
+import os
 import re
 import resource
 import select
@@ -14,7 +15,7 @@ import time
 import traceback
 from collections import deque
 from pathlib import Path
-from typing import Any, Callable, Deque, Dict, List, Mapping, NamedTuple, Optional, Set, Tuple, Union, cast
+from typing import IO, Any, Callable, Deque, Dict, List, Mapping, NamedTuple, Optional, Set, Tuple, Union, cast
 
 from .craft import Craft
 from .octets import BROWSER, Cutter, has_request
@@ -67,8 +68,19 @@ def shown(host: str, port: int) -> str:
     return f"[{host}]:{port}" if ":" in host else f"{host}:{port}"
 
 
+def write_some(given: IO[str], octets: bytes) -> bytes:
+    """Writes octets to a standard stream as far as nobody has to be waited for who doesn't read; gives what is left. Raises `OSError`."""
+    looking = select.poll()
+    looking.register(given.fileno(), select.POLLOUT)
+    # Where there is room at all, a pipe has room for so much.
+    while octets and looking.poll(0):
+        octets = octets[os.write(given.fileno(), octets[:select.PIPE_BUF]):]
+    return octets
+
+
 class Notes:
-    """Says on standard error what happens. Of what ports and peers lead to it says some lines in ten seconds, and how many more there were."""
+    """Says on standard error what happens. Of what ports and peers lead to it says some lines in ten seconds, and how many more there were;
+    one for which there is no room, as nobody reads them, is one of those."""
 
     MOST, SECONDS = 20, 10.0
 
@@ -90,17 +102,20 @@ class Notes:
 
     def say_left_out(self) -> None:
         """Says how many lines weren't written."""
-        if self.left_out:
-            self.say_once(f"{self.left_out} more such lines weren't written")
+        if self.left_out and self._write(f"{self.left_out} more such lines weren't written"):
             self.left_out = 0
 
-    @staticmethod
-    def say_once(text: str) -> None:
+    def say_once(self, text: str) -> None:
         """Writes a line of the bench itself, which comes once."""
+        self.left_out += not self._write(text)
+
+    @staticmethod
+    def _write(text: str) -> bool:
+        """Writes a line; whether that could be done without waiting."""
         try:
-            print(f"tcrx-bench: {text}", file=sys.stderr, flush=True)
+            return not write_some(sys.stderr, f"tcrx-bench: {text}\n".encode(errors="backslashreplace"))
         except OSError:
-            pass
+            return False
 
     def hear(self, loop: asyncio.AbstractEventLoop) -> None:
         """Has a line written for what the event loop complains of, in place of a trace each time."""
