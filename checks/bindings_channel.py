@@ -4,7 +4,6 @@ refused, channels that are closed, dropped, copied and shared by threads, where 
 header by a C program.
 
 usage: checks/bindings_channel.py LIBRARY REFUSING     the shared library, and one over c/checks/refusing_memory.c
-       checks/bindings_channel.py script SCID          does a script on standard input, over the library in the folder TCRX_LIB_DIR
 The last line says how many checks passed. `checks/bindings` starts it.
 """
 from __future__ import annotations
