@@ -18,8 +18,9 @@ REFUSALS = {"frame": ("short", "version", "spare", "length", "truncated", "space
 REASONS = ("unknown command", "wrong number of words", "bad number", "bad hex", "bad option", "too late", "no channel", "double channel",
            "unknown channel", "bad channel", "bad window", "bad buffer", "bad application", "double application", "bad capacity", "bad map",
            "double map", "bad units", "map on plain channel", "too long")
-# Those of single lines.
+# Those of single lines, and the largest numbers of each command.
 BAD = REASONS[:-1]
+NUMBERS = {**SETTINGS, **OPERATIONS}
 # What scripts must reach besides: bounds of their size, and each row of FARM-1's table in each state that it can arise in.
 BOUNDS = ("a unit of 65542 octets", "a unit of 65543 octets", "64 channels", "a full buffer of 64", "a full queue of packets",
           "a full queue of units", "V(R) past 255", "a unit of a plain channel", "a unit of a chosen MAP")
@@ -267,12 +268,17 @@ def long_script(drawer: Drawer, beyond: int) -> None:
     drawer.add("#" * (LONGEST_SCRIPT + beyond - 1 - len(Script(0, tuple(drawer.lines)).octets)))
 
 
-def bad_number(chance: random.Random) -> str:
-    """A line with a number that is just over its bound, or none."""
-    command, bounds = chance.choice([*SETTINGS.items(), *OPERATIONS.items()])
-    at, words = chance.randrange(len(bounds)), ["1", "10", "1", "0"][:len(bounds)]
-    words[at] = chance.choice((str(bounds[at] + 1), str(bounds[at] + 1), "-1", "+1", "0x1", "1_0", "000001", "x", "\u00b2"))
+def with_number(command: str, at: int, number: str) -> str:
+    """A line of a command with this number at a place."""
+    words = ["1", "10", "1", "0"][:len(NUMBERS[command])]
+    words[at] = number
     return " ".join([command, *words])
+
+
+def beyond_bounds(drawer: Drawer, command: str, at: int) -> None:
+    """A script that ends with a number that is just over its bound."""
+    drawer.add("channel 1 10 2 0")
+    drawer.add(with_number(command, at, str(NUMBERS[command][at] + 1)))
 
 
 def bad_line(chance: random.Random, reason: str) -> str:
@@ -283,7 +289,7 @@ def bad_line(chance: random.Random, reason: str) -> str:
     lines = {
         "unknown command": chance.choice((command.capitalize(), command.upper(), f"{command[:2]} 1", f"\x0b{command}", "\u00ffclcw 1", f"{words[0]}s 1")),
         "wrong number of words": chance.choice((f"{command} 1 1", words[0], f"{words[0]} 0 0 0 0 # no comment", "channel 1 10 1", "frame 00 00")),
-        "bad number": bad_number(chance),
+        "bad number": with_number(chance.choice(list(NUMBERS)), 0, chance.choice(("-1", "+1", "0x1", "1_0", "000001", "x", "\u00b2"))),
         "bad hex": f"frame {chance.choice(('0', '000', '0g', '0x00', '00-0', '0_', '00ff0'))}",
         "bad option": f"channel {chance.choice((1, 60, 64))} {chance.choice((9, 10))} 1 0 {chance.choice(('Plain', 'plai', 'plains', '0', '#'))}",
         "too late": chance.choice(("channel 60 10 1 0", "channel 60 9 0 0 plain", "queue 1 2047 1", "map 1 3 1", "map 60 64 0")),
@@ -314,7 +320,8 @@ def fault(drawer: Drawer, reason: str) -> None:
 
 SPECIAL: Tuple[Callable[[Drawer], None], ...] = (
     each_row, many_channels, full_buffer, full_queues, full_queues, partial(long_unit, beyond=0), partial(long_unit, beyond=1), partial(long_unit, beyond=-1),
-    long_lines, partial(long_script, beyond=0), partial(long_script, beyond=1))
+    long_lines, partial(long_script, beyond=0), partial(long_script, beyond=1),
+    *(partial(beyond_bounds, command=command, at=at) for command, bounds in NUMBERS.items() for at in range(len(bounds))))
 REPEATED = 3
 
 
