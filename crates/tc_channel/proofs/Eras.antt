@@ -34,7 +34,7 @@ no_command None width vr room e = cc
 no_command (Some Unlock) width vr room e = cc
 no_command (Some (SetVr x)) width vr room e = cc
 
-number-at_E1 : (width vr ns : ℕ) (bypass control room : Bool) (field : List ℕ) → frame_row width vr (kind_by bypass control ns field) room ≡ E1 → ns ≡ vr
+pub number-at_E1 : (width vr ns : ℕ) (bypass control room : Bool) (field : List ℕ) → frame_row width vr (kind_by bypass control ns field) room ≡ E1 → ns ≡ vr
 number-at_E1 width vr ns false false room field e =
     elim (eqb_tells ns vr) [
       | inl same ↦ same.1
@@ -43,7 +43,7 @@ number-at_E1 width vr ns false false room field e =
 number-at_E1 width vr ns true true room field e = absurd (no_command (command_of field) width vr room e)
 number-at_E1 width vr ns _ _ room field e = absurd cc
 
-flags-at_E1 : (width vr ns : ℕ) (bypass control room : Bool) (field : List ℕ) → frame_row width vr (kind_by bypass control ns field) room ≡ E1 → (bypass ≡ false) × (control ≡ false)
+pub flags-at_E1 : (width vr ns : ℕ) (bypass control room : Bool) (field : List ℕ) → frame_row width vr (kind_by bypass control ns field) room ≡ E1 → (bypass ≡ false) × (control ≡ false)
 flags-at_E1 width vr ns false false room field e = (refl, refl)
 flags-at_E1 width vr ns true true room field e = absurd (no_command (command_of field) width vr room e)
 flags-at_E1 width vr ns _ _ room field e = absurd cc
@@ -58,13 +58,13 @@ vr-kept (E8 x) S2 r none other = absurd cc
 vr-kept row S1 r none other = refl
 vr-kept _ _ r none other = refl
 
-accepted-kept : (row : Row) (accepted : Bool) (octets : List ℕ) (b : ChannelState) → (row ≡ E1 → accepted ≢ true) → (kept row accepted octets b).accepted ≡ b.accepted
+pub accepted-kept : (row : Row) (accepted : Bool) (octets : List ℕ) (b : ChannelState) → (row ≡ E1 → accepted ≢ true) → (kept row accepted octets b).accepted ≡ b.accepted
 unfolding passed_on
 accepted-kept E1 true octets b other = absurd (other refl refl)
 accepted-kept E6 true octets b other = refl
 accepted-kept _ _ octets b other = refl
 
-only_S1 : (row : Row) (st : State) → (row ≡ E1 → st ≢ S1) → row ≡ E1 → accepts_at row st ≢ true
+pub only_S1 : (row : Row) (st : State) → (row ≡ E1 → st ≢ S1) → row ≡ E1 → accepts_at row st ≢ true
 only_S1 row S1 h e t = h e refl
 only_S1 row S2 h e t = let q : accepts_at E1 S2 ≡ true = rw e at t in cc
 only_S1 row S3 h e t = let q : accepts_at E1 S3 ≡ true = rw e at t in cc

@@ -1,0 +1,154 @@
+-- A session that is longer by one action.
+use Rattle.std.proofs.Common.{◌≡◌, ℕ, zero, suc, ◌+◌, ◌<◌, ◌≤◌, List, [], ◌∷◌, ◌++◌, length, take, drop, Some, None, refl, sym, ap, subst, ◌∙◌, ◌⊎◌, inl, inr, arith}
+use Rattle.std.specs.Prelude.{slice_get}
+use Rattle.std.proofs.Math.Seq.{take-append_seam}
+use Rattle.std.proofs.lemmas.Option.{slice_get_within}
+use Rattle.std.proofs.lemmas.List.{append-nil, take-append-drop, take-append-le}
+use Rattle.tc_channel.specs.declared.settings.Settings.{Settings}
+use Rattle.tc_channel.specs.declared.event.Event.{Event}
+use Rattle.tc_channel.specs.Run.{HasStep}
+unfoldable use Rattle.tc_channel.specs.Run.{run_within, IsLawfulWithin}
+unfoldable use Rattle.tc_channel.specs.Reply.{clcw_within}
+use Rattle.tc_channel.specs.Era.{NoneSetsWithin, set_by}
+use Rattle.tc_link.specs.Clcw.{fields_of}
+use Rattle.tc_channel.proofs.Runs.{lawful-push}
+use Rattle.tc_loop.specs.Loop.{Loop, Action, Send, Arrive, Hear, Other, events, journal, receiver, known, known_from, heard, reported, IsSession, IsLoop, IsOther}
+use Rattle.tc_loop.proofs.Actions.{events-append}
+use Rattle.tc_loop.proofs.Counted.{journal-append, get-append, take-append}
+
+pub get-end : {A : Type 0} (xs : List A) (a : A) (t : ℕ) (b : A) → slice_get (xs ++ a ∷ []) t ≡ Some b → ((slice_get xs t ≡ Some b) × (t < length xs)) ⊎ ((t ≡ length xs) × (a ≡ b))
+get-end [] a zero b e = inr (refl, cc)
+get-end [] a (suc t) b e = absurd cc
+get-end (x ∷ xs) a zero b e = inl (e, omega arith)
+get-end (x ∷ xs) a (suc t) b e = elim (get-end xs a t b e) [
+  | inl p ↦ let low = p.1 in inl (p.0, omega arith)
+  | inr p ↦ let at = p.0 in inr (omega arith, p.1)
+]
+
+get-before : {A : Type 0} (xs : List A) (a : A) (t : ℕ) (b : A) → slice_get (xs ++ a ∷ []) t ≡ Some b → t < length xs → slice_get xs t ≡ Some b
+get-before xs a t b e low = elim (get-end xs a t b e) [
+  | inl p ↦ p.0
+  | inr p ↦ absurd (let at = p.0 in omega arith)
+]
+
+pub get-last : {A : Type 0} (xs : List A) (a : A) → slice_get (xs ++ a ∷ []) (length xs) ≡ Some a
+get-last [] a = refl
+get-last (x ∷ xs) a = get-last xs a
+
+pub take-first : {A : Type 0} (xs ys : List A) (t : ℕ) → t ≡ length xs → take t (xs ++ ys) ≡ xs
+take-first xs ys t e = subst (λ n. take n (xs ++ ys) ≡ xs) (sym e) (take-append_seam xs ys)
+
+get-take : {A : Type 0} (xs : List A) (n t : ℕ) (b : A) → slice_get (take n xs) t ≡ Some b → slice_get xs t ≡ Some b
+get-take xs n t b e = subst (λ ys. slice_get ys t ≡ Some b) (take-append-drop n xs) (get-append (take n xs) (drop n xs) t b e)
+
+reported-same : (l : Loop) (session more : List Action) (m : ℕ) → m ≤ length session → reported l (session ++ more) m ≡ reported l session m
+reported-same l session more m low = ap (λ ys. (fields_of (clcw_within l.limits l.settings (journal l ys) (l.links m))).vr) (take-append-le m session more low)
+
+known-same : (l : Loop) (session more : List Action) (a : ℕ) (rest : List Action) → ((t m : ℕ) → slice_get rest t ≡ Some (Hear m) → m ≤ length session)
+    → known_from l (session ++ more) a rest ≡ known_from l session a rest
+known-same l session more a [] each = refl
+known-same l session more a (Send i ∷ rest) each = known-same l session more a rest (λ t m e. each (suc t) m e)
+known-same l session more a (Arrive i s ∷ rest) each = known-same l session more a rest (λ t m e. each (suc t) m e)
+known-same l session more a (Other e ∷ rest) each = known-same l session more a rest (λ t m e. each (suc t) m e)
+known-same l session more a (Hear m ∷ rest) each =
+    ap (λ b. known_from l (session ++ more) (heard l a b) rest) (reported-same l session more m (each 0 m refl))
+    ∙ known-same l session more (heard l a (reported l session m)) rest (λ t n e. each (suc t) n e)
+
+-- what the sender knew it knows in a longer session, too
+pub known-at : (l : Loop) (session more : List Action) (t : ℕ) → IsSession l session → t ≤ length session → known l (session ++ more) t ≡ known l session t
+known-at l session more t k low =
+    ap (known_from l (session ++ more) 0) (take-append-le t session more low)
+    ∙ known-same l session more 0 (take t session) (λ u m e.
+    let here = get-take session t u (Hear m) e in
+    let made = k.hears u m here in
+    let within = slice_get_within session u (Hear m) here in
+    omega arith)
+
+-- the action can come next
+pub record IsNext (l : Loop) (session : List Action) (action : Action) : Type 0 where
+  pub sends : (i : ℕ) → action ≡ Send i → (known l session (length session) ≤ i) × (i < known l session (length session) + l.window)
+  pub arrives : (i s : ℕ) → action ≡ Arrive i s → slice_get session s ≡ Some (Send i)
+  pub hears : (m : ℕ) → action ≡ Hear m → m ≤ length session
+  pub others : (e : Event) → action ≡ Other e → IsOther e
+  pub frames_in_order : (t i j s r : ℕ) → slice_get session t ≡ Some (Arrive i s) → action ≡ Arrive j r → s ≤ r
+  pub reports_in_order : (t m n : ℕ) → slice_get session t ≡ Some (Hear m) → action ≡ Hear n → m ≤ n
+  pub lawful : IsLawfulWithin l.limits l.settings (journal l (session ++ action ∷ []))
+  pub none_sets : NoneSetsWithin l.limits l.settings l.before (events l (session ++ action ∷ []))
+
+possible-next : (l : Loop) (session : List Action) (action : Action) → IsSession l session → IsNext l session action → IsSession l (session ++ action ∷ [])
+possible-next l session action k n = record {
+  sends = λ t i here. elim (get-end session action t (Send i) here) [
+    | inl p ↦ let low = p.1 in subst (λ a. (a ≤ i) × (i < a + l.window)) (sym (known-at l session (action ∷ []) t k (omega arith))) (k.sends t i p.0)
+    | inr p ↦
+        let at = p.0 in
+        let same : known l (session ++ action ∷ []) t ≡ known l session (length session) = known-at l session (action ∷ []) t k (omega arith) ∙ ap (known l session) at in
+        subst (λ a. (a ≤ i) × (i < a + l.window)) (sym same) (n.sends i p.1)
+  ];
+  arrives = λ t i s here. elim (get-end session action t (Arrive i s) here) [
+    | inl p ↦ let from = k.arrives t i s p.0 in (from.0, get-append session (action ∷ []) s (Send i) from.1)
+    | inr p ↦
+        let at = p.0 in
+        let from = n.arrives i s p.1 in
+        let within = slice_get_within session s (Send i) from in
+        (omega arith, get-append session (action ∷ []) s (Send i) from)
+  ];
+  hears = λ t m here. elim (get-end session action t (Hear m) here) [
+    | inl p ↦ k.hears t m p.0
+    | inr p ↦ let at = p.0 in let low = n.hears m p.1 in omega arith
+  ];
+  others = λ t e here. elim (get-end session action t (Other e) here) [
+    | inl p ↦ k.others t e p.0
+    | inr p ↦ n.others e p.1
+  ];
+  frames_in_order = λ t u i j s r order here later. elim (get-end session action u (Arrive j r) later) [
+    | inl p ↦ let low = p.1 in k.frames_in_order t u i j s r order (get-before session action t (Arrive i s) here (omega arith)) p.0
+    | inr p ↦ let at = p.0 in n.frames_in_order t i j s r (get-before session action t (Arrive i s) here (omega arith)) p.1
+  ];
+  reports_in_order = λ t u m r order here later. elim (get-end session action u (Hear r) later) [
+    | inl p ↦ let low = p.1 in k.reports_in_order t u m r order (get-before session action t (Hear m) here (omega arith)) p.0
+    | inr p ↦ let at = p.0 in n.reports_in_order t m r (get-before session action t (Hear m) here (omega arith)) p.1
+  ];
+}
+
+pub longer : (l : Loop) (session : List Action) (action : Action) → IsLoop l session → IsNext l session action → IsLoop l (session ++ action ∷ [])
+longer l session action k n = record {
+  window = k.window;
+  numbered = k.numbered;
+  allowed = k.allowed;
+  lawful = n.lawful;
+  era = record { parts = refl; starts = k.era.starts; last = n.none_sets };
+  possible = possible-next l session action k.possible n;
+}
+
+none-push : (limits : ℕ → ℕ) (s : Settings) (before es : List Event) (e : Event) → NoneSetsWithin limits s before es → set_by s (run_within limits s (before ++ es)) e ≡ None → NoneSetsWithin limits s before (es ++ e ∷ [])
+none-push limits s before es e none one = λ i f here. elim (get-end es e i f here) [
+  | inl p ↦ subst (λ gs. set_by s (run_within limits s (before ++ gs)) f ≡ None) (sym (take-append es (e ∷ []) i f p.0)) (none i f p.0)
+  | inr p ↦
+      let at : take i (es ++ e ∷ []) ≡ es = take-first es (e ∷ []) i p.0 in
+      subst (λ gs. set_by s (run_within limits s (before ++ gs)) f ≡ None) (sym at) (subst (λ g. set_by s (run_within limits s (before ++ es)) g ≡ None) p.1 one)
+]
+
+quiet-events : (l : Loop) (session : List Action) (action : Action) → events l (action ∷ []) ≡ [] → events l (session ++ action ∷ []) ≡ events l session
+quiet-events l session action none = events-append l session (action ∷ []) ∙ ap (λ es. events l session ++ es) none ∙ append-nil (events l session)
+
+-- the journal of a session that is longer by an action that is no event, or by one that is
+pub record IsJournaled (l : Loop) (later : List Action) : Type 0 where
+  pub lawful : IsLawfulWithin l.limits l.settings (journal l later)
+  pub none_sets : NoneSetsWithin l.limits l.settings l.before (events l later)
+
+pub journaled-quiet : (l : Loop) (session : List Action) (action : Action) → IsLoop l session → events l (action ∷ []) ≡ [] → IsJournaled l (session ++ action ∷ [])
+journaled-quiet l session action k none =
+    let same = quiet-events l session action none in
+    record {
+      lawful = subst (λ es. IsLawfulWithin l.limits l.settings (l.before ++ es)) (sym same) k.lawful;
+      none_sets = subst (λ es. NoneSetsWithin l.limits l.settings l.before es) (sym same) k.era.last;
+    }
+
+pub journaled-event : (l : Loop) (session : List Action) (action : Action) (e : Event) → IsLoop l session → events l (action ∷ []) ≡ e ∷ [] → HasStep l.settings (receiver l session) e → set_by l.settings (receiver l session) e ≡ None → IsJournaled l (session ++ action ∷ [])
+journaled-event l session action e k one has none =
+    let same : events l (session ++ action ∷ []) ≡ events l session ++ e ∷ [] = events-append l session (action ∷ []) ∙ ap (λ es. events l session ++ es) one in
+    let whole : journal l (session ++ action ∷ []) ≡ journal l session ++ e ∷ [] = journal-append l session (action ∷ []) ∙ ap (λ es. journal l session ++ es) one in
+    record {
+      lawful = subst (IsLawfulWithin l.limits l.settings) (sym whole) (lawful-push l.limits l.settings (journal l session) e k.lawful has);
+      none_sets = subst (NoneSetsWithin l.limits l.settings l.before) (sym same) (none-push l.limits l.settings l.before (events l session) e k.era.last none);
+    }

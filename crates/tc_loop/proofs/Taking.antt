@@ -1,0 +1,36 @@
+-- What one event adds to the accepted frames.
+use Rattle.tc_channel.proofs.Names.{◌≡◌, ◌≢◌, ℕ, Bool, true, false, cond, List, [], ◌∷◌, ◌++◌, drop, Option, Some, None, refl, ◌⊎◌, inl, inr, eqb_tells, State, S1, S2, S3, Unlock, SetVr, Ahead, Behind, Outside, command_of, control_kind, kind_by, Row, E1, E6, row_at, frame_row, accepts, ChannelState, has_room, step, row_of, kept, after_frame, Command, header_of, passed_on}
+use Rattle.tc_channel.specs.declared.settings.Settings.{Settings}
+use Rattle.tc_channel.proofs.Eras.{number-at_E1, flags-at_E1, accepted-kept, only_S1}
+use Rattle.tc_channel.specs.declared.event.Event.{Event}
+use Rattle.tc_channel.specs.declared.event.Event.TheVariants.{Frame, Release, Take, TakeUnit}
+use Rattle.tc_link.specs.Farm.{accepts_at}
+use Rattle.tc_link.specs.Window.{is_ahead, is_behind}
+
+-- the frame is of Type-AD, has the number V(R), and is accepted
+pub record IsTaken (octets : List ℕ) (b later : ChannelState) : Type 0 where
+  pub bypass : (header_of octets).bypass ≡ false
+  pub control : (header_of octets).control ≡ false
+  pub ns : (header_of octets).ns ≡ b.report.vr
+  pub more : later.accepted ≡ b.accepted ++ record { ns = (header_of octets).ns; field = drop 5 octets } ∷ []
+
+frame-takes : (c : Settings) (b : ChannelState) (octets : List ℕ) (row : Row) (st : State) → row_of c b octets ≡ row → b.report.state ≡ st
+    → ((after_frame row octets b).accepted ≡ b.accepted) ⊎ IsTaken octets b (after_frame row octets b)
+frame-takes c b octets E1 S1 e s =
+    let h = header_of octets in
+    let flags = flags-at_E1 c.width b.report.vr h.ns h.bypass h.control (has_room c b) (drop 5 octets) e in
+    let ns : h.ns ≡ b.report.vr = number-at_E1 c.width b.report.vr h.ns h.bypass h.control (has_room c b) (drop 5 octets) e in
+    inr (record { bypass = flags.0; control = flags.1; ns = ns; more = rw s refl })
+frame-takes c b octets E1 st e s = inl (accepted-kept E1 (accepts E1 b.report) octets b (only_S1 E1 b.report.state (λ _ q. cc (s, q))))
+frame-takes c b octets row st e s = inl (accepted-kept row (accepts row b.report) octets b (only_S1 row b.report.state (λ q. absurd cc)))
+
+-- the event adds nothing, or it is a frame that is taken
+pub step-takes : (c : Settings) (b : ChannelState) (e : Event) → ((step c b e).accepted ≡ b.accepted) ⊎ ((octets : List ℕ) × (e ≡ Frame octets) × IsTaken octets b (step c b e))
+unfolding passed_on
+step-takes c b (Frame octets) = elim (frame-takes c b octets (row_of c b octets) b.report.state refl refl) [
+  | inl same ↦ inl same
+  | inr taken ↦ inr (octets, refl, taken)
+]
+step-takes c b Release = inl refl
+step-takes c b (Take apid) = inl refl
+step-takes c b (TakeUnit map_id) = inl refl

@@ -1,0 +1,35 @@
+-- Sessions worked out by hand, to be read with the definitions.
+use Rattle.std.specs.Prelude.{ℕ, zero, suc, ◌+◌, List, [], ◌∷◌, ◌++◌}
+unfoldable use Rattle.tc_channel.specs.ChannelState.{no_limits}
+use Rattle.tc_channel.specs.Examples as example
+use Rattle.tc_loop.specs.Loop.{Loop, Action, Send, Arrive, Hear, new_loop}
+
+-- a receiver with a window of 10, a buffer of 2 and V(R) 255, and a sender with a window of 5
+abbrev pub five : Loop
+five = new_loop no_limits (record (example.buffer_of 2) { first = 255 }) (λ m. example.link_up) 5
+
+-- frame 0 is lost, and frame 1 arrives; the sender hears that none is accepted, and sends frame 0 again, which comes twice; then it hears that
+-- one is accepted
+abbrev pub one_lost : List Action
+one_lost = Send 0 ∷ Send 1 ∷ Arrive 1 1 ∷ Hear 3 ∷ Send 0 ∷ Arrive 0 4 ∷ Arrive 0 4 ∷ Hear 6 ∷ []
+
+-- a receiver with room for 300 data fields and V(R) 0, and a sender with a window of this width
+abbrev pub with_window : ℕ → Loop
+with_window window = new_loop no_limits (example.buffer_of 300) (λ m. example.link_up) window
+
+-- from moment t on so many frames, from frame i on: each is sent, and arrives before the next is
+abbrev pub one_by_one : ℕ → ℕ → ℕ → List Action
+one_by_one t i zero = []
+one_by_one t i (suc n) = Send i ∷ Arrive i t ∷ one_by_one (t + 2) (i + 1) n
+
+-- 256 frames are accepted, and no CLCW is heard; frame 0 is sent again. A window of 256 allows it
+abbrev pub sent_again : List Action
+sent_again = one_by_one 0 0 256 ++ Send 0 ∷ Arrive 0 512 ∷ []
+
+-- 255 frames are accepted, of which the sender hears, and then frame 255; then frame 0 comes once more, which was sent at moment 0
+abbrev pub overtaken : List Action
+overtaken = one_by_one 0 0 255 ++ Hear 510 ∷ Send 255 ∷ Arrive 255 511 ∷ Arrive 0 0 ∷ []
+
+-- frame 0 is accepted, of which the sender hears; then it hears the CLCW that was made at first
+abbrev pub old_report : List Action
+old_report = Send 0 ∷ Arrive 0 0 ∷ Hear 2 ∷ Hear 0 ∷ []

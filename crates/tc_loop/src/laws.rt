@@ -1,0 +1,91 @@
+//! Laws of a loop of a sender and a receiver, over links that lose, repeat and delay what they carry, but keep its order.
+
+ghost use Rattle.std.specs.Prelude.{List, ℕ, [], ◌++◌, ◌≡◌, ◌≢◌, ◌≤◌, ◌<◌, ◌+◌, ◌/◌, Some, length, slice_get, take};
+ghost use Rattle.tc_link.specs.Frame.{header_of};
+ghost use Rattle.tc_link.specs.Window.{place_of};
+ghost use Rattle.tc_link.specs.declared.Link.{Link};
+ghost use Rattle.tc_link.specs.declared.Place.TheVariants.{Outside};
+ghost use Rattle.tc_link.specs.declared.State.TheVariants.{S3};
+ghost use Rattle.tc_channel.specs.ChannelState.{Accepted};
+ghost use Rattle.tc_channel.specs.Through.{passed_since, released_since, sent_from};
+ghost use Rattle.tc_channel.specs.Settings.{IsAllowed};
+ghost use Rattle.tc_channel.specs.declared.settings.Settings.{Settings};
+ghost use Rattle.tc_channel.specs.Era.{ComesFromWithin, accepted_since_within};
+ghost use Rattle.tc_loop.specs.Loop.{Loop, Action, Arrive, accepted, begun, known, reported, IsLoop, IsKnownSo, GoesOn, GoesOnBy, LocksOut, events, journal, last_of, new_loop, receiver, round, sent};
+ghost use Rattle.tc_loop.specs.Examples as example;
+
+/// In a loop no frame comes 256 numbers early or late: links that keep order and a sender that keeps its window see to it.
+pub fn frames_of_a_loop_come_in_their_time()
+    ensures { (l : Loop) (session : List Action) → IsLoop l session → ComesFromWithin l.limits l.settings l.before (events l session) l.first (sent l) }
+{}
+
+/// So what a loop accepts is what was sent: each once, in order, and none left out.
+pub fn a_loop_accepts_what_was_sent_once_and_in_order()
+    ensures { (l : Loop) (session : List Action) → IsLoop l session
+        → (i : ℕ) (a : Accepted) → slice_get (accepted_since_within l.limits l.settings l.before (journal l session)) i ≡ Some a → a.field ≡ sent l i }
+{}
+
+/// From the sender of a loop to reassembly: the data fields that were passed on are the first that were sent, as many as were released. What
+/// takes then give is said of every journal (`what_was_sent_is_given_in_order` of tc_channel).
+pub fn a_loop_passes_on_what_was_sent_in_order()
+    ensures { (l : Loop) (session : List Action) → IsLoop l session
+        → passed_since l.limits l.settings l.before (receiver l session).passed ≡ sent_from (sent l) 0 (released_since l.limits l.settings l.before (journal l session)) }
+{}
+
+/// What the sender of a loop takes for accepted is accepted, at each moment.
+pub fn a_sender_knows_what_is_accepted()
+    ensures { (l : Loop) (session : List Action) (t : ℕ) → IsLoop l session → IsKnownSo l session t }
+{}
+
+/// Where the sender's window is no wider than half the receiver's, no frame of a loop lies outside the receiver's window, and a receiver
+/// that is not locked out at first never is.
+pub fn a_loop_is_never_locked_out()
+    ensures place { (l : Loop) (session : List Action) (t i s : ℕ) → IsLoop l session → l.window ≤ l.settings.width / 2
+        → slice_get session t ≡ Some (Arrive i s) → place_of l.settings.width (receiver l (take t session)).report.vr (header_of (l.frames i)).ns ≢ Outside }
+    ensures state { (l : Loop) (session : List Action) (t : ℕ) → IsLoop l session → l.window ≤ l.settings.width / 2
+        → (receiver l []).report.state ≢ S3 → (receiver l (take t session)).report.state ≢ S3 }
+{}
+
+/// No wider window will do: where it is wider by one, a receiver that starts is locked out by one frame, those before it being lost.
+pub fn a_wider_window_can_lock_out()
+    ensures { (limits : ℕ → ℕ) (s : Settings) (links : ℕ → Link) → IsAllowed s → LocksOut (new_loop limits s links (s.width / 2 + 1)) (last_of (s.width / 2)) }
+{}
+
+/// Where the window is no wider than half the receiver's, a loop is never stuck. Whatever was lost and whatever waits: after one round in
+/// which nothing is lost, with no command, one frame more is accepted, and the sender knows it.
+pub fn a_loop_can_always_go_on()
+    ensures round { (l : Loop) (session : List Action) → IsLoop l session → 1 ≤ l.window → l.window ≤ l.settings.width / 2
+        → (receiver l []).report.state ≢ S3 → GoesOn l session (session ++ round l session) }
+    ensures any { (l : Loop) (n : ℕ) (session : List Action) → IsLoop l session → 1 ≤ l.window → l.window ≤ l.settings.width / 2
+        → (receiver l []).report.state ≢ S3 → GoesOnBy l n session }
+{}
+
+/// Each allowed receiver can be in a loop from its start, with each window below 256.
+pub fn each_receiver_can_be_in_a_loop()
+    ensures begins { (limits : ℕ → ℕ) (s : Settings) (links : ℕ → Link) (window : ℕ) → IsAllowed s → window < 256 → IsLoop (new_loop limits s links window) [] }
+    ensures state { (limits : ℕ → ℕ) (s : Settings) (links : ℕ → Link) (window : ℕ) → (receiver (new_loop limits s links window) []).report.state ≢ S3 }
+{}
+
+/// A session worked out by hand: V(R) is 255 at first, frame 0 is lost once and comes twice then, and frame 1 comes too early.
+pub fn a_session_comes_to_this()
+    ensures none_accepted { accepted example.five (take 5 example.one_lost) ≡ 0 }
+    ensures one_accepted { accepted example.five example.one_lost ≡ 1 }
+    ensures none_known { known example.five example.one_lost 7 ≡ 0 }
+    ensures reported { reported example.five example.one_lost 6 ≡ 0 }
+    ensures one_known { known example.five example.one_lost 8 ≡ 1 }
+    ensures two_begun { begun example.one_lost 8 ≡ 2 }
+{}
+
+/// Each premise on window and links is needed. Where the window is 256, the sender's first 256 frames may be accepted and none be known to be, so
+/// that it sends frame 0 again: 257 are accepted, but 256 were sent. Where a frame arrives after one that was sent later, the same comes of a
+/// window of 255. Where a CLCW is heard after one that was made later, the sender takes 256 frames for accepted, but one is.
+pub fn each_premise_is_needed()
+    ensures window_accepted { accepted (example.with_window 256) example.sent_again ≡ 257 }
+    ensures window_begun { begun example.sent_again (length example.sent_again) ≡ 256 }
+    ensures window_known { known (example.with_window 256) example.sent_again 512 ≡ 0 }
+    ensures frames_accepted { accepted (example.with_window 255) example.overtaken ≡ 257 }
+    ensures frames_begun { begun example.overtaken (length example.overtaken) ≡ 256 }
+    ensures frames_known { known (example.with_window 255) example.overtaken 511 ≡ 255 }
+    ensures reports_accepted { accepted (example.with_window 255) example.old_report ≡ 1 }
+    ensures reports_known { known (example.with_window 255) example.old_report (length example.old_report) ≡ 256 }
+{}

@@ -1,0 +1,27 @@
+//! A loop of a sender and a receiver. A sender numbers its frames and keeps a sliding window, as FOP-1 does (the frame operation procedure,
+//! CCSDS 232.1-B); the receiver runs FARM-1 and answers by CLCWs; both links may lose, repeat and delay what they carry, but keep its order.
+//! Then the two conditions of `what_was_sent_is_accepted_once_and_in_order` of tc_channel hold.
+//!
+//! [`known_after`] is what a CLCW tells a sender, [`may_send`] its window. All else are laws, functions with an empty body:
+//! [`frames_of_a_loop_come_in_their_time`],
+//! [`a_loop_accepts_what_was_sent_once_and_in_order`],
+//! [`a_loop_passes_on_what_was_sent_in_order`],
+//! [`a_sender_knows_what_is_accepted`],
+//! [`a_loop_is_never_locked_out`],
+//! [`a_wider_window_can_lock_out`],
+//! [`a_loop_can_always_go_on`],
+//! [`each_receiver_can_be_in_a_loop`],
+//! [`a_session_comes_to_this`] and
+//! [`each_premise_is_needed`].
+#![tactic(auto)]
+
+mod hearing;
+mod laws;
+
+pub use hearing::{known_after, may_send};
+pub use laws::{
+    a_loop_accepts_what_was_sent_once_and_in_order, a_loop_can_always_go_on,
+    a_loop_is_never_locked_out, a_loop_passes_on_what_was_sent_in_order,
+    a_sender_knows_what_is_accepted, a_session_comes_to_this, a_wider_window_can_lock_out,
+    each_premise_is_needed, each_receiver_can_be_in_a_loop, frames_of_a_loop_come_in_their_time,
+};
