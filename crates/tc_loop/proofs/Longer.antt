@@ -51,8 +51,8 @@ known-same l session more a (Send i ∷ rest) each = known-same l session more a
 known-same l session more a (Arrive i s ∷ rest) each = known-same l session more a rest (λ t m e. each (suc t) m e)
 known-same l session more a (Other e ∷ rest) each = known-same l session more a rest (λ t m e. each (suc t) m e)
 known-same l session more a (Hear m ∷ rest) each =
-    ap (λ b. known_from l (session ++ more) (heard l a b) rest) (reported-same l session more m (each 0 m refl))
-    ∙ known-same l session more (heard l a (reported l session m)) rest (λ t n e. each (suc t) n e)
+    ap (λ b. known_from l (session ++ more) (heard l.first l.window a b) rest) (reported-same l session more m (each 0 m refl))
+    ∙ known-same l session more (heard l.first l.window a (reported l session m)) rest (λ t n e. each (suc t) n e)
 
 -- what the sender knew it knows in a longer session, too
 pub known-at : (l : Loop) (session more : List Action) (t : ℕ) → IsSession l session → t ≤ length session → known l (session ++ more) t ≡ known l session t

@@ -128,8 +128,8 @@ told l session k =
     let high : accepted l session ≤ known l session n + l.window = subst (λ xs. accepted l xs ≤ known l session n + l.window) (whole session) near in
     let before : known l later n ≡ known l session n = known-at l session (Hear n ∷ []) n k.possible (omega arith) in
     let nr : reported l later n ≡ (l.first + accepted l session) % 256 = reported-so l later n loop ∙ ap (λ xs. (l.first + accepted l xs) % 256) (take-first session (Hear n ∷ []) n refl) in
-    let last : known l later (suc n) ≡ heard l (known l later n) (reported l later n) = known-step l later n (Hear n) (get-last session (Hear n)) in
-    let decoded : known l later (suc n) ≡ accepted l session = last ∙ ap (heard l (known l later n)) nr ∙ ap (λ a. heard l a ((l.first + accepted l session) % 256)) before ∙ heard-right l (known l session n) (accepted l session) k.window low high in
+    let last : known l later (suc n) ≡ heard l.first l.window (known l later n) (reported l later n) = known-step l later n (Hear n) (get-last session (Hear n)) in
+    let decoded : known l later (suc n) ≡ accepted l session = last ∙ ap (heard l.first l.window (known l later n)) nr ∙ ap (λ a. heard l.first l.window a ((l.first + accepted l session) % 256)) before ∙ heard-right l (known l session n) (accepted l session) k.window low high in
     record { loop = loop; same = same; count = count-same l session later same; long = long; told = ap (known l later) long ∙ decoded }
 
 -- the sender sends the next frame

@@ -11,7 +11,7 @@ ghost use Rattle.tc_channel.specs.Through.{passed_since, released_since, sent_fr
 ghost use Rattle.tc_channel.specs.Settings.{IsAllowed};
 ghost use Rattle.tc_channel.specs.declared.settings.Settings.{Settings};
 ghost use Rattle.tc_channel.specs.Era.{ComesFromWithin, accepted_since_within};
-ghost use Rattle.tc_loop.specs.Loop.{Loop, Action, Arrive, accepted, begun, known, reported, IsLoop, IsKnownSo, GoesOn, GoesOnBy, LocksOut, events, journal, last_of, new_loop, receiver, round, sent};
+ghost use Rattle.tc_loop.specs.Loop.{Loop, Action, Arrive, accepted, begun, heard, known, reported, IsLoop, IsKnownSo, GoesOn, GoesOnBy, LocksOut, events, journal, last_of, new_loop, receiver, round, sent};
 ghost use Rattle.tc_loop.specs.Examples as example;
 
 /// In a loop no frame comes 256 numbers early or late: links that keep order and a sender that keeps its window see to it.
@@ -74,6 +74,16 @@ pub fn a_session_comes_to_this()
     ensures reported { reported example.five example.one_lost 6 ≡ 0 }
     ensures one_known { known example.five example.one_lost 8 ≡ 1 }
     ensures two_begun { begun example.one_lost 8 ≡ 2 }
+{}
+
+/// What a sender reads in a report value, worked out by hand: its window is 10 or 255, and its first frame has the number 250 or 0.
+pub fn report_values_are_read_so()
+    ensures none { heard 250 10 0 250 ≡ 0 }
+    ensures modulo_256 { heard 250 10 0 3 ≡ 9 }
+    ensures whole_window { heard 250 10 0 4 ≡ 10 }
+    ensures beyond { heard 250 10 0 5 ≡ 0 }
+    ensures older { heard 0 10 5 4 ≡ 5 }
+    ensures widest { heard 0 255 255 254 ≡ 510 }
 {}
 
 /// Each premise on window and links is needed. Where the window is 256, the sender's first 256 frames may be accepted and none be known to be, so

@@ -11,7 +11,8 @@
 //! [`a_wider_window_can_lock_out`],
 //! [`a_loop_can_always_go_on`],
 //! [`each_receiver_can_be_in_a_loop`],
-//! [`a_session_comes_to_this`] and
+//! [`a_session_comes_to_this`],
+//! [`report_values_are_read_so`] and
 //! [`each_premise_is_needed`].
 #![tactic(auto)]
 
@@ -24,4 +25,5 @@ pub use laws::{
     a_loop_is_never_locked_out, a_loop_passes_on_what_was_sent_in_order,
     a_sender_knows_what_is_accepted, a_session_comes_to_this, a_wider_window_can_lock_out,
     each_premise_is_needed, each_receiver_can_be_in_a_loop, frames_of_a_loop_come_in_their_time,
+    report_values_are_read_so,
 };

@@ -1,0 +1,172 @@
+-- From the packets of a sender to what takes give.
+use Rattle.tc_channel.proofs.Names.{◌≡◌, ℕ, zero, suc, ◌+◌, ◌-◌, ◌≤◌, Bool, true, false, eqb, List, [], ◌∷◌, ◌++◌, length, map, filter, drop, Some, refl, sym, ap, subst, ◌∙◌, inl, inr, arith, append-nil, filter-append, map-append, Service, Ad, Bd, Passed, map_of, is_of, stream, first_state_within, queue_of, Queue, Accepted, run_within, IsLawfulWithin, packets_given}
+use Rattle.std.specs.List.{AllByRecursion}
+use Rattle.tc_packet.specs.Reassembly.{same_service}
+use Rattle.tc_channel.specs.declared.event.Event.{Event}
+use Rattle.tc_channel.specs.declared.settings.Settings.{Settings}
+use Rattle.tc_channel.specs.Account.{unit_on}
+use Rattle.tc_channel.specs.Era.{IsEraWithin, ComesFromWithin}
+use Rattle.tc_channel.specs.Given.{fields_passed, units_given}
+use Rattle.tc_channel.specs.Through.{IsPartOf, all_made, packets_ended, packets_made, sent_from, units_ended, units_made}
+use Rattle.tc_channel.proofs.Through.{packets-given-of-made, passed-as-sent, units-given-of-made}
+use Rattle.tc_ends.specs.Ends.{CarryUnits, IsSendable, NoneByBypass, NoneOnOtherMaps, SendsPackets, all_joined, is_chosen_map, is_same_stream, on_map, packets_for, packets_to}
+use Rattle.tc_ends.proofs.Segmented.{Makes}
+use Rattle.tc_ends.proofs.Streams.{units-carried}
+use Rattle.tc_ends.proofs.Chosen.{units-on}
+use Rattle.tc_ends.proofs.Made.{made-append, made-on, cut-all}
+
+part-more : (xs ys zs : List (List ℕ)) → IsPartOf xs ys → IsPartOf xs (ys ++ zs)
+part-more [] ys zs h = tt
+part-more (x ∷ xs) [] zs h = absurd h
+part-more (x ∷ xs) (y ∷ ys) zs (inl h) = inl (h.0, part-more xs ys zs h.1)
+part-more (x ∷ xs) (y ∷ ys) zs (inr h) = inr (part-more (x ∷ xs) ys zs h)
+
+sent-more : (sent : ℕ → List ℕ) (j a b : ℕ) → sent_from sent j a ++ sent_from sent (j + a) b ≡ sent_from sent j (a + b)
+sent-more sent j zero b = let e : j + 0 ≡ j = omega arith in let f : 0 + b ≡ b = omega arith in rw (e, f) refl
+sent-more sent j (suc a) b =
+    let e : j + suc a ≡ suc j + a = omega arith in
+    let f : suc a + b ≡ suc (a + b) = omega arith in
+    rw (e, f) (ap (λ (x : List (List ℕ)). sent j ∷ x) (sent-more sent (suc j) a b))
+
+-- data fields as those of Type-AD
+abbrev by_ad : List (List ℕ) → List Passed
+by_ad fields = map {B = Passed} (λ field. record { service = Ad; field = field }) fields
+
+stream-append : (service : Service) (m : ℕ) (xs ys : List Passed) → stream service m (xs ++ ys) ≡ stream service m xs ++ stream service m ys
+stream-append service m xs ys =
+    ap (map (λ (p : Passed). p.field)) (filter-append (is_of service m) xs ys) ∙ map-append (λ (p : Passed). p.field) (filter (is_of service m) xs) (filter (is_of service m) ys)
+
+stream-of-ad : (m : ℕ) (ps : List Passed) → stream Ad m ps ≡ on_map m (fields_passed Ad ps)
+stream-of-ad m [] = refl
+stream-of-ad m (p ∷ ps) = by p.service refl (eqb (map_of p.field) m) refl (stream-of-ad m ps) where
+  by : (sv : Service) → p.service ≡ sv → (t : Bool) → eqb (map_of p.field) m ≡ t → stream Ad m ps ≡ on_map m (fields_passed Ad ps) → stream Ad m (p ∷ ps) ≡ on_map m (fields_passed Ad (p ∷ ps))
+  by Ad e true h ih = rw (e, h) (ap (λ (x : List (List ℕ)). p.field ∷ x) ih)
+  by Ad e false h ih = rw (e, h) ih
+  by Bd e t h ih = rw e ih
+
+ad-back : (fields : List (List ℕ)) → fields_passed Ad (by_ad fields) ≡ fields
+ad-back [] = refl
+ad-back (f ∷ fs) = ap (λ (x : List (List ℕ)). f ∷ x) (ad-back fs)
+
+none-by-bd : (limits : ℕ → ℕ) (s : Settings) (m : ℕ) (fields : List (List ℕ)) (before : List Passed) → all_made (unit_on limits s Bd m) before (by_ad fields) ≡ []
+none-by-bd limits s m [] before = refl
+none-by-bd limits s m (f ∷ fs) before = none-by-bd limits s m fs (before ++ record { service = Ad; field = f } ∷ [])
+
+-- nothing was accepted before the first event
+pub none-before : (limits : ℕ → ℕ) (s : Settings) → (run_within limits s []).accepted ≡ []
+unfolding run_within
+none-before limits s = refl
+
+pub ad-fields : (limits : ℕ → ℕ) (s : Settings) (journal before later : List Event) (x : ℕ) (sent : ℕ → List ℕ) → IsLawfulWithin limits s journal → IsEraWithin limits s journal before later x
+    → ComesFromWithin limits s before later x sent → (run_within limits s before).accepted ≡ []
+    → fields_passed Ad (run_within limits s journal).passed ≡ sent_from sent 0 (run_within limits s journal).released
+ad-fields limits s journal before later x sent lawful era comes none =
+    let r = (run_within limits s journal).released in
+    let zero_before : length (run_within limits s before).accepted ≡ 0 = ap (λ (xs : List Accepted). length xs) none in
+    let all : drop 0 (fields_passed Ad (run_within limits s journal).passed) ≡ sent_from sent 0 (r - 0) =
+    subst (λ (k : ℕ). drop k (fields_passed Ad (run_within limits s journal).passed) ≡ sent_from sent 0 (r - k)) zero_before (passed-as-sent limits s journal before later x sent lawful era comes) in
+    let same : r - 0 ≡ r = omega arith in
+    all ∙ ap (sent_from sent 0) same
+
+-- the stream of what was passed on and of what is still to come
+stream-sent : (sent : ℕ → List ℕ) (r n : ℕ) (passed : List Passed) → fields_passed Ad passed ≡ sent_from sent 0 r → r ≤ n → (id : ℕ) → stream Ad id (passed ++ by_ad (sent_from sent r (n - r))) ≡ on_map id (sent_from sent 0 n)
+stream-sent sent r n passed fields less id =
+    let later = by_ad (sent_from sent r (n - r)) in
+    let back = stream-of-ad id later ∙ ap (on_map id) (ad-back (sent_from sent r (n - r))) in
+    let front = stream-of-ad id passed ∙ ap (on_map id) fields in
+    let sum : r + (n - r) ≡ n = omega arith in
+    let start : 0 + r ≡ r = omega arith in
+    let more = subst (λ (j : ℕ). sent_from sent 0 r ++ sent_from sent j (n - r) ≡ sent_from sent 0 (r + (n - r))) start (sent-more sent 0 r (n - r)) in
+    stream-append Ad id passed later ∙ ap (λ (x : List (List ℕ)). x ++ stream Ad id later) front ∙ ap (λ (x : List (List ℕ)). on_map id (sent_from sent 0 r) ++ x) back
+    ∙ sym (filter-append (λ (field : List ℕ). eqb (map_of field) id) (sent_from sent 0 r) (sent_from sent r (n - r)))
+    ∙ ap (on_map id) (more ∙ ap (sent_from sent 0) sum)
+
+-- where n fields of a sender carry units of packets, and the first of them were passed on, these make the first of the packets
+record Begin (limits : ℕ → ℕ) (s : Settings) (apid : ℕ) (passed : List Passed) (packets : List (List ℕ)) (r n : ℕ) : Type 0 where
+  rest : List (List ℕ)
+  parts : packets_made limits s apid passed ++ rest ≡ packets
+  whole : r ≡ n → rest ≡ []
+
+begins : Makes → (limits : ℕ → ℕ) (s : Settings) (apid : ℕ) (sent : ℕ → List ℕ) (r n : ℕ) (units : ℕ → List (List (List ℕ))) (map_id : ℕ) (passed : List Passed)
+    → fields_passed Ad passed ≡ sent_from sent 0 r → r ≤ n → s.segmented ≡ true → is_chosen_map s map_id ≡ false → SendsPackets limits sent n units → NoneOnOtherMaps apid map_id units → NoneByBypass limits s apid passed
+    → Begin limits s apid passed (packets_to apid (units map_id)) r n
+begins make limits s apid sent r n units map_id passed fields less headed free sends none_other none_bd = record {
+  rest = all_made (packets_ended limits s apid) passed later;
+  parts = sym (made-append (packets_ended limits s apid) [] passed later) ∙ made-on limits s apid Ad map_id free (passed ++ later) [] elsewhere ∙ on map_id;
+  whole = λ same. let none : n - r ≡ 0 = omega arith in ap (λ (k : ℕ). all_made (packets_ended limits s apid) passed (by_ad (sent_from sent r k))) none;
+}
+  where
+    later : List Passed
+    later = by_ad (sent_from sent r (n - r))
+
+    stream-is : (id : ℕ) → stream Ad id (passed ++ later) ≡ on_map id (sent_from sent 0 n)
+    stream-is id = stream-sent sent r n passed fields less id
+
+    on : (id : ℕ) → packets_for apid (all_made (unit_on limits s Ad id) [] (passed ++ later)) ≡ packets_to apid (units id)
+    on id =
+        ap (packets_for apid) (units-carried make limits s Ad id (all_joined (units id)) [] (passed ++ later) headed (sends.sendable id) (subst (CarryUnits id (all_joined (units id))) (sym (stream-is id)) (sends.carry id)))
+        ∙ cut-all apid (units id) (sends.packets id)
+
+    elsewhere : (other : Service) (id : ℕ) → is_same_stream Ad map_id other id ≡ false → packets_for apid (all_made (unit_on limits s other id) [] (passed ++ later)) ≡ []
+    elsewhere Ad id apart = on id ∙ none_other id apart
+    elsewhere Bd id apart =
+        let bd = all_made (unit_on limits s Bd id) [] passed in
+        ap (packets_for apid) (made-append (unit_on limits s Bd id) [] passed later ∙ ap (λ (x : List (List ℕ)). bd ++ x) (none-by-bd limits s id (sent_from sent r (n - r)) passed) ∙ append-nil bd) ∙ none_bd id
+
+abbrev pub Journey : (ℕ → ℕ) → Settings → List Event → List Event → List Event → ℕ → (ℕ → List ℕ) → ℕ → ℕ → (ℕ → List (List (List ℕ))) → ℕ → Type 0 → Type 0
+Journey limits s journal before later x sent apid n units map_id Says =
+    IsLawfulWithin limits s journal → IsEraWithin limits s journal before later x → ComesFromWithin limits s before later x sent → ((run_within limits s before).accepted ≡ [])
+    → s.segmented ≡ true → is_chosen_map s map_id ≡ false → SendsPackets limits sent n units → NoneOnOtherMaps apid map_id units → NoneByBypass limits s apid (run_within limits s journal).passed → Says
+
+pub given-of-sent : Makes → (limits : ℕ → ℕ) (s : Settings) (journal before later : List Event) (x : ℕ) (sent : ℕ → List ℕ) (apid n : ℕ) (units : ℕ → List (List (List ℕ))) (map_id : ℕ) (q : Queue)
+    → Journey limits s journal before later x sent apid n units map_id
+    ((run_within limits s journal).released ≤ n → queue_of apid (run_within limits s journal).queues ≡ Some q
+    → IsPartOf (packets_given s apid (first_state_within limits s) journal) (packets_to apid (units map_id)))
+given-of-sent make limits s journal before later x sent apid n units map_id q lawful era comes none headed free sends none_other none_bd less has =
+    let b = begins make limits s apid sent (run_within limits s journal).released n units map_id (run_within limits s journal).passed (ad-fields limits s journal before later x sent lawful era comes none) less headed free sends none_other none_bd in
+    let made = packets_made limits s apid (run_within limits s journal).passed in
+    let given = packets_given s apid (first_state_within limits s) journal in
+    subst (IsPartOf given) b.parts (part-more given made b.rest (packets-given-of-made limits s journal apid q has))
+
+pub made-of-sent : Makes → (limits : ℕ → ℕ) (s : Settings) (journal before later : List Event) (x : ℕ) (sent : ℕ → List ℕ) (apid n : ℕ) (units : ℕ → List (List (List ℕ))) (map_id : ℕ)
+    → Journey limits s journal before later x sent apid n units map_id
+    ((run_within limits s journal).released ≡ n → packets_made limits s apid (run_within limits s journal).passed ≡ packets_to apid (units map_id))
+made-of-sent make limits s journal before later x sent apid n units map_id lawful era comes none headed free sends none_other none_bd same =
+    let b = begins make limits s apid sent (run_within limits s journal).released n units map_id (run_within limits s journal).passed (ad-fields limits s journal before later x sent lawful era comes none) (omega arith) headed free sends none_other none_bd in
+    let made = packets_made limits s apid (run_within limits s journal).passed in
+    sym (append-nil made) ∙ ap (λ (x : List (List ℕ)). made ++ x) (sym (b.whole same)) ∙ b.parts
+
+-- the same of the units of a chosen MAP
+pub units-of-sent : Makes → (limits : ℕ → ℕ) (s : Settings) (journal before later : List Event) (x : ℕ) (sent : ℕ → List ℕ) (n : ℕ) (units : List (List ℕ)) (map_id : ℕ) (q : Queue)
+    → IsLawfulWithin limits s journal → IsEraWithin limits s journal before later x → ComesFromWithin limits s before later x sent → (run_within limits s before).accepted ≡ []
+    → s.segmented ≡ true → is_chosen_map s map_id ≡ true → CarryUnits map_id units (on_map map_id (sent_from sent 0 n)) → AllByRecursion (IsSendable (limits map_id)) units
+    → all_made (unit_on limits s Bd map_id) [] (run_within limits s journal).passed ≡ []
+    → (run_within limits s journal).released ≤ n → queue_of map_id (run_within limits s journal).units ≡ Some q
+    → IsPartOf (units_given s map_id (first_state_within limits s) journal) units
+units-of-sent make limits s journal before later x sent n units map_id q lawful era comes none headed chosen carry can none_bd less has =
+    subst (IsPartOf given) parts (part-more given made (all_made (units_ended limits s map_id) passed rest) (units-given-of-made limits s journal map_id q has))
+  where
+    given : List (List ℕ)
+    given = units_given s map_id (first_state_within limits s) journal
+
+    passed : List Passed
+    passed = (run_within limits s journal).passed
+
+    made : List (List ℕ)
+    made = units_made limits s map_id passed
+
+    rest : List Passed
+    rest = by_ad (sent_from sent (run_within limits s journal).released (n - (run_within limits s journal).released))
+
+    by_bypass : (other : Service) → same_service Ad other ≡ false → all_made (unit_on limits s other map_id) [] (passed ++ rest) ≡ []
+    by_bypass Bd apart = made-append (unit_on limits s Bd map_id) [] passed rest
+        ∙ ap (λ (x : List (List ℕ)). all_made (unit_on limits s Bd map_id) [] passed ++ x) (none-by-bd limits s map_id (sent_from sent (run_within limits s journal).released (n - (run_within limits s journal).released)) passed)
+        ∙ append-nil (all_made (unit_on limits s Bd map_id) [] passed) ∙ none_bd
+    by_bypass Ad apart = absurd cc
+
+    stream_is : stream Ad map_id (passed ++ rest) ≡ on_map map_id (sent_from sent 0 n)
+    stream_is = stream-sent sent (run_within limits s journal).released n passed (ad-fields limits s journal before later x sent lawful era comes none) less map_id
+
+    parts : made ++ all_made (units_ended limits s map_id) passed rest ≡ units
+    parts = sym (made-append (units_ended limits s map_id) [] passed rest) ∙ units-on limits s Ad map_id chosen (passed ++ rest) [] by_bypass
+        ∙ units-carried make limits s Ad map_id units [] (passed ++ rest) headed can (subst (CarryUnits map_id units) (sym stream_is) carry)

@@ -1,0 +1,25 @@
+//! Packet to packet: from the packets that a sender sends to the packets and units that takes give at the receiver, over the conditions of
+//! `what_was_sent_is_accepted_once_and_in_order` of tc_channel, or over a loop of tc_loop.
+//!
+//! All are laws, functions that do nothing:
+//! [`the_segments_of_a_unit_end_it_once`],
+//! [`joined_packets_are_cut_into_them`],
+//! [`packets_that_are_sent_are_made`],
+//! [`units_that_are_sent_are_made`],
+//! [`packets_that_are_sent_plainly_are_made`],
+//! [`written_frames_carry_the_segments`],
+//! [`packets_that_are_sent_are_given`],
+//! [`all_units_can_be_carried`],
+//! [`packets_of_a_loop_are_given`],
+//! [`all_packets_can_be_sent`] and
+//! [`units_that_are_sent_are_given`].
+#![tactic(auto)]
+
+mod laws;
+
+pub use laws::{
+    all_packets_can_be_sent, all_units_can_be_carried, joined_packets_are_cut_into_them,
+    packets_of_a_loop_are_given, packets_that_are_sent_are_given, packets_that_are_sent_are_made,
+    packets_that_are_sent_plainly_are_made, the_segments_of_a_unit_end_it_once,
+    units_that_are_sent_are_given, units_that_are_sent_are_made, written_frames_carry_the_segments,
+};
