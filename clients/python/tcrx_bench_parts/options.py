@@ -9,7 +9,7 @@ from typing import Any, List, Optional, Sequence, Tuple
 
 from tcrx import __version__
 
-from .ports import Place, parse_place
+from .ports import Network, Place, parse_place
 
 # What is listened on: the option's name, and what it is for.
 LISTENS = (
@@ -98,6 +98,13 @@ class Listen(argparse.Action):
         namespace.last = None if sends else place
 
 
+def network_of(word: str) -> Network:
+    """The addresses that a word names; those of IPv4 that are written as of IPv6 are those of IPv4. Raises `ValueError`."""
+    network = ipaddress.ip_network(word)
+    mapped = network.network_address.ipv4_mapped if isinstance(network, ipaddress.IPv6Network) and network.prefixlen >= 96 else None
+    return ipaddress.IPv4Network((int(mapped), network.prefixlen - 96)) if mapped else network
+
+
 class Allow(argparse.Action):
     """Notes who may connect to the place before it."""
 
@@ -105,7 +112,7 @@ class Allow(argparse.Action):
         if namespace.last is None:
             parser.error("argument --allow: it comes behind the port that it is for")
         try:
-            namespace.last.allowed.append(ipaddress.ip_network(values))
+            namespace.last.allowed.append(network_of(values))
         except ValueError:
             parser.error(f"argument --allow: {values!r} isn't ADDRESS or ADDRESS/BITS, with no bit behind these")
 
