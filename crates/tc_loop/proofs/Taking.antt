@@ -1,11 +1,9 @@
 -- What one event adds to the accepted frames.
-use Rattle.tc_channel.proofs.Names.{◌≡◌, ◌≢◌, ℕ, Bool, true, false, cond, List, [], ◌∷◌, ◌++◌, drop, Option, Some, None, refl, ◌⊎◌, inl, inr, eqb_tells, State, S1, S2, S3, Unlock, SetVr, Ahead, Behind, Outside, command_of, control_kind, kind_by, Row, E1, E6, row_at, frame_row, accepts, ChannelState, has_room, step, row_of, kept, after_frame, Command, header_of, passed_on}
+use Rattle.tc_channel.proofs.Names.{◌≡◌, ℕ, false, List, [], ◌∷◌, ◌++◌, drop, refl, ◌⊎◌, inl, inr, State, S1, Row, E1, accepts, ChannelState, has_room, step, row_of, after_frame, header_of, passed_on}
 use Rattle.tc_channel.specs.declared.settings.Settings.{Settings}
 use Rattle.tc_channel.proofs.Eras.{number-at_E1, flags-at_E1, accepted-kept, only_S1}
 use Rattle.tc_channel.specs.declared.event.Event.{Event}
 use Rattle.tc_channel.specs.declared.event.Event.TheVariants.{Frame, Release, Take, TakeUnit}
-use Rattle.tc_link.specs.Farm.{accepts_at}
-use Rattle.tc_link.specs.Window.{is_ahead, is_behind}
 
 -- the frame is of Type-AD, has the number V(R), and is accepted
 pub record IsTaken (octets : List ℕ) (b later : ChannelState) : Type 0 where
