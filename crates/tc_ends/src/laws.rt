@@ -1,6 +1,6 @@
 //! Laws from a sender's packets to a receiver's.
 
-ghost use Rattle.std.specs.Prelude.{List, ℕ, [], ◌++◌, ◌≡◌, ◌≤◌, ◌<◌, length, map, true, false, Some};
+ghost use Rattle.std.specs.Prelude.{List, ℕ, [], ◌∷◌, ◌++◌, ◌≡◌, ◌≤◌, ◌<◌, length, map, true, false, Some};
 ghost use Rattle.std.specs.List.{AllByRecursion};
 ghost use Rattle.tc_packet.specs.SpacePacket.{IsPacket, joined, packets_of, rest_of};
 ghost use Rattle.tc_write.specs.Segments.{AreSegments};
@@ -17,6 +17,7 @@ ghost use Rattle.tc_channel.specs.Given.{packets_given, units_given};
 ghost use Rattle.tc_channel.specs.Run.{IsLawfulWithin, field_of, run_within};
 ghost use Rattle.tc_loop.specs.Loop.{Loop, Action, IsLoop, journal, receiver, sent};
 ghost use Rattle.tc_ends.specs.Ends.{AreAllPackets, AreWritten, CarrySent, CarryUnits, NoneByBypass, NoneOnOtherMaps, SendsPackets, EndAtLast, IsPlainSendable, IsSendable, NoneElsewhere, PacketsSent, Sent, all_joined, fields_in_order, is_chosen_map, joined_on, on_map, only_on, packets_to, sent_on};
+ghost use Rattle.tc_ends.specs.Examples as example;
 
 use tc_write::the_segments_of_a_unit_make_the_unit;
 
@@ -136,3 +137,10 @@ pub fn units_that_are_sent_are_given()
 {
     the_segments_of_a_unit_make_the_unit();
 }
+
+/// A session worked out by hand: two packets in a frame each, of which the first is lost once, are sent, and takes give them.
+pub fn two_packets_are_given_so()
+    ensures carried { sent_from (sent example.packet_a_frame) 0 2 ≡ (0xc0 ∷ example.packet) ∷ (0xc0 ∷ example.packet) ∷ [] }
+    ensures sent { packets_to 5 (example.two_units 0) ≡ example.packet ∷ example.packet ∷ [] }
+    ensures given { packets_given example.packet_a_frame.settings 5 (first_state_within example.packet_a_frame.limits example.packet_a_frame.settings) (journal example.packet_a_frame example.both_taken) ≡ example.packet ∷ example.packet ∷ [] }
+{}

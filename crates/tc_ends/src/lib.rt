@@ -11,8 +11,9 @@
 //! [`packets_that_are_sent_are_given`],
 //! [`all_units_can_be_carried`],
 //! [`packets_of_a_loop_are_given`],
-//! [`all_packets_can_be_sent`] and
-//! [`units_that_are_sent_are_given`].
+//! [`all_packets_can_be_sent`],
+//! [`units_that_are_sent_are_given`] and
+//! [`two_packets_are_given_so`].
 #![tactic(auto)]
 
 mod laws;
@@ -21,5 +22,6 @@ pub use laws::{
     all_packets_can_be_sent, all_units_can_be_carried, joined_packets_are_cut_into_them,
     packets_of_a_loop_are_given, packets_that_are_sent_are_given, packets_that_are_sent_are_made,
     packets_that_are_sent_plainly_are_made, the_segments_of_a_unit_end_it_once,
-    units_that_are_sent_are_given, units_that_are_sent_are_made, written_frames_carry_the_segments,
+    two_packets_are_given_so, units_that_are_sent_are_given, units_that_are_sent_are_made,
+    written_frames_carry_the_segments,
 };
