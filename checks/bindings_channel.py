@@ -452,10 +452,7 @@ def check_found(library: str) -> None:
 
 
 def main() -> int:
-    """Each part, over the libraries that the words name; or a script."""
-    if sys.argv[1] == "script":
-        print(Script(int(sys.argv[2])).run(sys.stdin.buffer.read().decode(errors="replace")), end="")
-        return 0
+    """Each part, over the libraries that the words name."""
     library, refusing = sys.argv[1], sys.argv[2]
     check_found(library)
     os.environ["TCRX_LIB_DIR"] = str(Path(library).parent)
