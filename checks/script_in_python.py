@@ -1,6 +1,6 @@
 #!/usr/bin/env python3
 """Runs a script on standard input through channels of the Python client, and prints its answers and its final report in the words of the
-program tcrx, for checks/bindings. The script has no bad line.
+program tcrx, for checks/bindings and checks/drawn. The script has no bad line.
 
 usage: checks/script_in_python.py SCID
 """

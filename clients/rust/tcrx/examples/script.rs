@@ -1,12 +1,11 @@
 //! Runs a script on standard input through channels of this crate, and prints its answers and its final report in the words of the
-//! program tcrx, for checks/bindings. The script has no bad line. With a second word no unit is longer than the script: channels then
-//! fill less memory.
+//! program tcrx, for checks/bindings and checks/drawn. The script has no bad line.
 //!
-//! usage: script SCID [limited]
+//! usage: script SCID
 
 use std::collections::BTreeMap;
 use std::io::Read;
-use tcrx::{Channel, Limits, Link, Map, Queue, Rack, RackError, ReleaseError, Settings, TakeError};
+use tcrx::{Channel, Link, Map, Queue, Rack, RackError, ReleaseError, Settings, TakeError};
 
 /// The lines that a channel was set up by.
 #[derive(Default)]
@@ -63,14 +62,10 @@ fn set_up(receivers: &mut BTreeMap<u8, Receiver>, words: &[&str]) {
     }
 }
 
-fn made(vcid: u8, at: &Receiver, limit: Option<u32>) -> Channel {
+fn made(vcid: u8, at: &Receiver) -> Channel {
     let [width, buffer, first_vr] = at.numbers;
     let settings = Settings { vcid, width, buffer, first_vr, segmented: !at.plain, queues: &at.queues, maps: &at.maps };
-    let made = match limit {
-        Some(others) => Channel::with_limits(&settings, &Limits { others, maps: &[] }),
-        None => Channel::new(&settings),
-    };
-    made.expect("settings")
+    Channel::new(&settings).expect("settings")
 }
 
 fn bring(rack: &mut Rack<'_>, octets: &[u8]) -> String {
@@ -132,11 +127,9 @@ fn report(vcid: u8, at: &Receiver, channel: &Channel) {
 }
 
 fn main() {
-    let scid = std::env::args().nth(1).and_then(|word| word.parse().ok()).expect("usage: script SCID [limited]");
+    let scid = std::env::args().nth(1).and_then(|word| word.parse().ok()).expect("usage: script SCID");
     let mut script = Vec::new();
     std::io::stdin().read_to_end(&mut script).expect("the script");
-    let octets = u32::try_from(script.len() / 2 + 1).unwrap_or(u32::MAX);
-    let limit = std::env::args().nth(2).map(|_| octets.min(65_542));
     let lines: Vec<Vec<&str>> = script.split(|octet| *octet == b'\n').map(words_of).collect();
     let said = lines.iter().filter(|words| words.first().is_some_and(|word| !word.starts_with('#')));
     let (settings, operations): (Vec<&Vec<&str>>, Vec<&Vec<&str>>) =
@@ -145,7 +138,7 @@ fn main() {
     for words in settings {
         set_up(&mut receivers, words);
     }
-    let mut channels: Vec<Channel> = receivers.iter().map(|(vcid, at)| made(*vcid, at, limit)).collect();
+    let mut channels: Vec<Channel> = receivers.iter().map(|(vcid, at)| made(*vcid, at)).collect();
     let (mut rack, mut room) = (Rack { scid, fecf: false, channels: &mut channels }, vec![0; 65_542]);
     for words in operations {
         println!("{}", answer(&mut rack, words, &mut room));
