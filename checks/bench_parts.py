@@ -15,19 +15,18 @@ from pathlib import Path
 from typing import Any, Callable, Dict, List, Tuple
 
 from client_parts import word
-from comparing import PATIENCE, TOP, attempt, begun, close, run, same, tell
+from comparing import PATIENCE, TOP, attempt, begun, close, need, run, same, tell
 
 PROGRAM = TOP / "clients/python/tcrx_bench.py"
 SETUP = "channel 1 10 8 0\nqueue 1 5 16\n"
 
 
 def programs(words: List[str]) -> List[Path]:
-    """tclive, tcrx and tcmake: those that were named, or those of this tree, which are built where they aren't."""
+    """tclive, tcrx and tcmake: those that were named, or those of this tree, which must be built."""
     names = ("tclive", "tcrx", "tcmake")
     if words:
         return [Path(word).resolve() for _, word in zip(names, words)]
-    for name in names:
-        subprocess.run([TOP / name, "--version"], stdout=subprocess.DEVNULL, check=True)
+    need(*names)
     return [TOP / f"crates/{name}/out/{name}" for name in names]
 
 
