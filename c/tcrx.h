@@ -1062,7 +1062,7 @@ static inline tcrx_place tcrx_rack_find(tcrx_channel *channels, size_t channel_c
 /** Chosen MAPs with room for so many units each; `largest` is that of the queues. */
 #define TCRX_STORAGE_MAPS(count, capacity, largest) TCRX_STORAGE_QUEUES(count, capacity, largest)
 
-/** A table by which queues are found: add it where there are 64 packet queues or more, and once more where all 64 MAPs are chosen. */
+/** A table by which queues are found: add it where there are 8 packet queues or more, and once more where 8 MAPs or more are chosen. */
 #define TCRX_STORAGE_TABLE 4096u
 
 /** So many limits of listed MAPs. */

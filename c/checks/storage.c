@@ -88,8 +88,8 @@ static uint64_t static_storage(const plan *p) {
     if (p->settings.segmented == 1) parts += TCRX_STORAGE_SEGMENTED(all_limits(p));
     for (size_t i = 0; i < p->queue_count; i++) parts += TCRX_STORAGE_QUEUES(1, p->queues[i].capacity, largest_of(p));
     for (size_t i = 0; i < p->map_count; i++) parts += TCRX_STORAGE_MAPS(1, p->maps[i].capacity, largest_of(p));
-    if (p->queue_count >= 64) parts += TCRX_STORAGE_TABLE;
-    if (p->map_count >= 64) parts += TCRX_STORAGE_TABLE;
+    if (p->queue_count >= 8) parts += TCRX_STORAGE_TABLE;
+    if (p->map_count >= 8) parts += TCRX_STORAGE_TABLE;
     return TCRX_STORAGE_OF(parts);
 }
 
@@ -97,7 +97,7 @@ static uint64_t static_storage(const plan *p) {
 static uint64_t sum(const plan *p) {
     const uint64_t buffer = p->settings.buffer * (UINT64_C(32) + 1019);
     const uint64_t runs = p->settings.segmented == 1 ? 128 * 40 + 2 * all_limits(p) : 0;
-    const uint64_t tables = (p->queue_count < 64 ? 0 : 2048 * 2) + (p->map_count < 64 ? 0 : 2048 * 2);
+    const uint64_t tables = (p->queue_count < 8 ? 0 : 2048 * 2) + (p->map_count < 8 ? 0 : 2048 * 2);
     return buffer + runs + 64 * (p->queue_count + p->map_count) + items_of(p) * (32 + (uint64_t)largest_of(p)) + tables;
 }
 
@@ -192,8 +192,8 @@ static void check_any(uint64_t place) {
     const tcrx_settings settings = {(uint8_t)below(odd == 0 ? 256 : 64), (uint8_t)(odd == 1 ? below(256) : 2 + 2 * below(127)),
                                     (uint8_t)(odd == 2 ? below(256) : 1 + below(64)), (uint8_t)below(256),
                                     (uint8_t)below(odd == 3 ? 4 : 2)};
-    plan *p = plan_of(settings, below(below(4) == 0 ? 200 : 8), 1 + below(8), settings.segmented == 1 || odd == 4 ? below(8) : 0,
-                      1 + below(8));
+    const size_t queues = below(below(4) == 0 ? 200 : 8), maps = below(below(4) == 0 ? MOST_MAPS + 1 : 8);
+    plan *p = plan_of(settings, queues, 1 + below(8), settings.segmented == 1 || odd == 4 ? maps : 0, 1 + below(8));
     if (p->queue_count > 0) {
         tcrx_queue *queue = &p->queues[below(p->queue_count)];
         if (odd == 5) queue->apid = (uint16_t)below(4000);

@@ -36,21 +36,21 @@ unit-more n a b m o le le' = sum-more (pass_steps n a) (pass_steps n b) a b m o 
 
 -- with a table where it pays one queue is looked at
 pub looks-most : (qs : List Keyed) (table : List ℕ) → IsTabled (keys_of (rings_in qs)) table → looks qs table ≤ most_looks (length qs)
-looks-most qs [] k = by (nat_lt (length qs) 64) (nat_lt 65535 (length qs)) refl refl where
-  by : (s t : Bool) → nat_lt (length qs) 64 ≡ s → nat_lt 65535 (length qs) ≡ t → length qs ≤ cond s (length qs) (cond t (length qs) 1)
+looks-most qs [] k = by (nat_lt (length qs) 8) (nat_lt 65535 (length qs)) refl refl where
+  by : (s t : Bool) → nat_lt (length qs) 8 ≡ s → nat_lt 65535 (length qs) ≡ t → length qs ≤ cond s (length qs) (cond t (length qs) 1)
   by true t e f = omega arith
   by false true e f = omega arith
   by false false e f =
       let count = keys-length qs in
-      let least : 64 ≤ length qs = grind (arith, nat_tests) in
+      let least : 8 ≤ length qs = grind (arith, nat_tests) in
       let most : length qs ≤ 65535 = grind (arith, nat_tests) in
       absurd (k.many (omega arith) (omega arith) refl)
 looks-most qs (t ∷ table) k =
     let count = keys-length qs in
     let least = k.few (λ e. absurd (omega arith)) in
-    by (nat_lt (length qs) 64) (nat_lt 65535 (length qs)) (omega arith)
+    by (nat_lt (length qs) 8) (nat_lt 65535 (length qs)) (omega arith)
   where
-    by : (s t : Bool) → 64 ≤ length qs → 1 ≤ cond s (length qs) (cond t (length qs) 1)
+    by : (s t : Bool) → 8 ≤ length qs → 1 ≤ cond s (length qs) (cond t (length qs) 1)
     by true t le = omega arith
     by false true le = omega arith
     by false false le = omega arith

@@ -50,9 +50,9 @@ runs_memory s = if s.segmented then stream_count * (run_words + run_room) else 0
 abbrev pub queues_memory : Settings → ℕ
 queues_memory s = (length s.queues + length s.maps) * queue_words + packets_held s * (room_words + largest_item s.segmented) + units_held s * (room_words + largest_unit)
 
--- the place of the queue of each of 2,048 keys, where there are 64 queues or more
+-- the place of the queue of each of 2,048 keys, where there are 8 queues or more
 abbrev pub table_memory : ℕ → ℕ
-table_memory queues = if nat_lt queues 64 then 0 else 2048 * 2
+table_memory queues = if nat_lt queues 8 then 0 else 2048 * 2
 
 -- the tables of the packet queues and of the unit queues
 abbrev pub tables_memory : Settings → ℕ

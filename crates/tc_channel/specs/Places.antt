@@ -25,5 +25,5 @@ IsTableOf keys table = length table ≢ 0 → AreFirst keys (length keys) table
 -- as above, and there is a table where it pays and can tell the places
 pub record IsTabled (keys table : List ℕ) : Type 0 where
   pub told : IsTableOf keys table
-  pub few : length table ≢ 0 → 64 ≤ length keys
-  pub many : 64 ≤ length keys → length keys ≤ 65535 → length table ≢ 0
+  pub few : length table ≢ 0 → 8 ≤ length keys
+  pub many : 8 ≤ length keys → length keys ≤ 65535 → length table ≢ 0

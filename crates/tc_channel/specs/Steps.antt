@@ -17,7 +17,7 @@ looks queues (n ∷ table) = 1
 
 -- the same for so many queues, which have a table where it pays and can tell their places
 abbrev pub most_looks : ℕ → ℕ
-most_looks count = if nat_lt count 64 then count else if nat_lt 65535 count then count else 1
+most_looks count = if nat_lt count 8 then count else if nat_lt 65535 count then count else 1
 
 -- the same for a key: what no APID can be is in no table
 abbrev pub looks_for : ℕ → ℕ → ℕ

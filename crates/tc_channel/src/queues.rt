@@ -45,7 +45,7 @@ impl<R: Room> Model for Queues<R> {
 }
 
 impl<R: Room> Queues<R> {
-    /// These queues, whose keys stay. Where they are 64 or more, a table of the place of each APID's queue is made with them.
+    /// These queues, whose keys stay. Where they are 8 or more, a table of the place of each APID's queue is made with them.
     pub fn new<C: Count>(
         alloc: Global,
         queues: Vec<Queue<R>>,
@@ -156,7 +156,7 @@ fn unit_of<'a, R: Room>(runs: &'a Runs<R>, field: &'a [u8], ended: Ended) -> Opt
 
 /// Delivers the unit that a data field ended, if it ended one, from where it lies. Where memory runs out all queues are as they were.
 /// A step is counted for each packet that is cut from the unit, and for each queue that is looked at while one is found, settled or let
-/// go. So the steps grow as the unit's packets times the queues that are looked at where one is found: one where there are 64 queues or
+/// go. So the steps grow as the unit's packets times the queues that are looked at where one is found: one where there are 8 queues or
 /// more, else each at most.
 #[inline(always)]
 pub(crate) fn deliver_ended<R: Room, C: Count>(
