@@ -8,6 +8,7 @@
 mod frames;
 mod laws;
 mod sum;
+mod table;
 
 pub use frames::{FieldFault, with_field, without_field};
 pub use laws::{
