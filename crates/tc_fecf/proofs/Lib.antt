@@ -10,3 +10,4 @@ pub mod Division
 pub mod Ones
 pub mod Three
 pub mod Faults
+pub mod Delimiting

@@ -1,10 +1,12 @@
 //! What the field is, and which changes of bits it tells.
 
-ghost use Rattle.std.specs.Prelude.{◌≡◌, ◌≢◌, ◌⊎◌, ◌<◌, ◌≤◌, ◌+◌, ◌%◌, ◌++◌, ◌↔◌, ℕ, List, None, length, drop};
+ghost use Rattle.std.specs.Prelude.{◌≡◌, ◌≢◌, ◌⊎◌, ◌<◌, ◌≤◌, ◌+◌, ◌%◌, ◌++◌, ◌↔◌, ℕ, List, None, true, length, drop};
+ghost use Rattle.std.specs.List.{concat, AllByRecursion};
 ghost use Rattle.tc_link.specs.Frame.{IsOctets, IsWhole, IsFrame, header_of};
 ghost use Rattle.tc_fecf.specs.Checksum.{checksum_of, bits_of};
 ghost use Rattle.tc_fecf.specs.Division.{IsRemainder};
 ghost use Rattle.tc_fecf.specs.Changes.{SameOctets, SameBits, Passes, differences};
+ghost use Rattle.tc_fecf.specs.Candidate.{IsDelimited, AreDelimited, is_fill};
 ghost use Rattle.tc_fecf.specs.FrameWithField.{spelled, octets_before_field, frame_with_field, frame_fault_of, adding_fault_of, taking_fault_of};
 
 /// The field over octets is the remainder of the division of the polynomials, and there is no other remainder.
@@ -54,4 +56,13 @@ pub fn a_change_of_three_bits_is_told()
 /// Two lists of as many octets that differ in an odd number of bits don't both pass.
 pub fn a_change_of_an_odd_number_of_bits_is_told()
     ensures { (one other : List ℕ) → SameOctets one other → differences (bits_of one) (bits_of other) % 2 ≡ 1 → Passes one → Passes other → ⊥ }
+{}
+
+/// What a CLTU carried is taken apart in one way. Whole frames in front of fill are just the frames that there are, whatever their number.
+pub fn each_candidate_is_delimited_in_one_way()
+    ensures one { (octets frame other rest behind : List ℕ) → IsDelimited octets frame rest → IsDelimited octets other behind → (frame ≡ other) × (rest ≡ behind) }
+    ensures only { (most : ℕ) (octets rest behind : List ℕ) (frames others : List (List ℕ)) → AreDelimited most octets frames rest
+        → AreDelimited most octets others behind → (frames ≡ others) × (rest ≡ behind) }
+    ensures filled { (most : ℕ) (rest : List ℕ) (frames : List (List ℕ)) → AllByRecursion IsWhole frames → length frames ≤ most → is_fill rest ≡ true
+        → AreDelimited most (concat frames ++ rest) frames rest }
 {}

@@ -1,0 +1,39 @@
+//! What is taken out of what a CLTU carried.
+
+ghost use Rattle.std.specs.Prelude.{◌≡◌, Some, None, IfOk, MatchResult};
+ghost use Rattle.tc_link.specs.Frame.{fault_of};
+ghost use Rattle.tc_fecf.specs.Candidate.{IsDelimited, is_fill};
+
+use tc_link::{FrameFault, read_frame};
+
+/// A frame at the front of what a CLTU carried, and what follows it.
+#[derive(Clone, Copy, Debug, PartialEq, Eq)]
+pub struct Delimited<'a> {
+    /// The frame, as many octets as its length field names: 6 to 1,024.
+    pub frame: &'a [u8],
+    /// Fill, or the next frame and what follows that.
+    pub rest: &'a [u8],
+}
+
+/// Takes the frame off the front of what a CLTU carried, by its length field alone (frame delimiting and fill removal, CCSDS
+/// 232.0-B). So it comes before the frame error control field is looked at, which stands at the end of the frame.
+///
+/// It allocates nothing.
+pub fn delimit(octets: &[u8]) -> Result<Delimited<'_>, FrameFault>
+    ensures frame { IfOk result (λ found. IsDelimited octets.now found.frame.now found.rest.now) }
+    ensures fault { MatchResult result (λ _. fault_of octets.now ≡ None) (λ fault. fault_of octets.now ≡ Some fault) }
+{
+    let frame = read_frame(octets)?.octets();
+    let (_, rest) = octets.split_at(frame.len());
+    Ok(Delimited { frame, rest })
+}
+
+/// Whether what follows a frame can be the fill of the last code block, which is at most six octets. Where it can't, the CLTU carried
+/// more: another frame, or octets that begin with none.
+///
+/// It allocates nothing.
+pub fn is_fill(rest: &[u8]) -> bool
+    ensures { result ≡ is_fill rest.now }
+{
+    rest.len() <= 6 && read_frame(rest).is_err()
+}
