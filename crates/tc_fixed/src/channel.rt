@@ -7,7 +7,7 @@ ghost use Rattle.tc_channel.specs.Run.{run_within, IsLawfulWithin};
 ghost use Rattle.tc_channel.specs.Reply.{IsBypassData, frame_reply_within, release_reply_within, take_reply_within, unit_reply_within, waiting_packets_within, waiting_units_within, buffered_fields_within, clcw_within};
 ghost use Rattle.tc_channel.specs.Era.{CountsUpInItsEraWithin};
 ghost use Rattle.tc_channel.specs.Workings.{HaveLimits};
-ghost use Rattle.tc_channel.specs.Steps.{frame_steps_within, release_steps_within, take_steps};
+ghost use Rattle.tc_channel.specs.Steps.{frame_steps_within, looks_for, release_steps_within, take_steps};
 ghost use Rattle.tc_packet.specs.Reassembly.{run_at};
 ghost use Rattle.tc_packet.specs.Store.{open_runs};
 ghost use Rattle.tc_fixed.specs.History.{with_limited_event};
@@ -284,7 +284,17 @@ impl<N: Noted> FixedChannelWith<N> {
         ensures allowed { IsAllowed self.now.settings }
         ensures lawful { IsLawfulWithin (limit_of self.now.limits) self.now.settings self.now.journal }
     {
-        self.workings.oldest(apid, &mut Uncounted)
+        self.oldest_counted(apid, &mut Uncounted)
+    }
+
+    /// As [`oldest`](FixedChannelWith::oldest), which runs it with a count that isn't kept. A step is a queue that is looked at.
+    pub fn oldest_counted<C: Count>(&self, apid: u16, steps: &mut C) -> Option<&[u8]>
+        ensures packet { option_map (λ octets. octets.now) result ≡ take_reply_within (limit_of self.now.limits) self.now.settings self.now.journal apid }
+        ensures allowed { IsAllowed self.now.settings }
+        ensures lawful { IsLawfulWithin (limit_of self.now.limits) self.now.settings self.now.journal }
+        ensures cost { C.taken steps.new ≤ C.taken steps.old + looks_for apid (length self.now.settings.queues) }
+    {
+        self.workings.oldest(apid, steps)
     }
 
     /// The octets of the unit that [`take_unit`](FixedChannelWith::take_unit) with this MAP gives next, lent. None where the MAP
@@ -294,7 +304,17 @@ impl<N: Noted> FixedChannelWith<N> {
         ensures allowed { IsAllowed self.now.settings }
         ensures lawful { IsLawfulWithin (limit_of self.now.limits) self.now.settings self.now.journal }
     {
-        self.workings.oldest_unit(map, &mut Uncounted)
+        self.oldest_unit_counted(map, &mut Uncounted)
+    }
+
+    /// As [`oldest_unit`](FixedChannelWith::oldest_unit), which runs it with a count that isn't kept. A step is a queue that is looked at.
+    pub fn oldest_unit_counted<C: Count>(&self, map: u8, steps: &mut C) -> Option<&[u8]>
+        ensures unit { option_map (λ octets. octets.now) result ≡ unit_reply_within (limit_of self.now.limits) self.now.settings self.now.journal map }
+        ensures allowed { IsAllowed self.now.settings }
+        ensures lawful { IsLawfulWithin (limit_of self.now.limits) self.now.settings self.now.journal }
+        ensures cost { C.taken steps.new ≤ C.taken steps.old + looks_for map (length self.now.settings.maps) }
+    {
+        self.workings.oldest_unit(map, steps)
     }
 
     /// FARM-1's components.

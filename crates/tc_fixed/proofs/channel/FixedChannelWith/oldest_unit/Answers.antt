@@ -1,5 +1,0 @@
-use Rattle.tc_fixed.specs.Limits.{limit_of}
-use Rattle.tc_fixed.proofs.channel.FixedChannelWith.oldest_unit.Goals as goal
-
-pub returns-clause-unit : goal.returns-clause-unit
-returns-clause-unit g c = rw (← c.self.view_is) (c.oldest_unit.ensures.unit (limit_of c.self.inside.limits) c.self.inside.settings (g.N.Noted.noted c.self.inside.journal) c.self.invariant.rooms)
