@@ -13,7 +13,7 @@ use Rattle.tc_cltu.proofs.Distance.{placed}
 use Rattle.tc_cltu.proofs.Starting.{start-far, start-same, first-far, idle-far, one-off}
 use Rattle.tc_cltu.proofs.Taking.{syndrome, none-wrong, some-wrong, more-wrong}
 
-state-append : (mode : Mode) (room : ℕ) (xs ys : List ℕ) (s : Reception) → state_after mode room s (xs ++ ys) ≡ state_after mode room (state_after mode room s xs) ys
+pub state-append : (mode : Mode) (room : ℕ) (xs ys : List ℕ) (s : Reception) → state_after mode room s (xs ++ ys) ≡ state_after mode room (state_after mode room s xs) ys
 state-append mode room [] ys s = refl
 state-append mode room (x ∷ xs) ys s = state-append mode room xs ys (reception_step mode room s x).0
 
@@ -24,7 +24,28 @@ frames-append mode room (x ∷ xs) ys s =
     ap (λ (fs : List (List ℕ)). (reception_step mode room s x).1 ++ fs) (frames-append mode room xs ys (reception_step mode room s x).0)
     ∙ sym (append_assoc (reception_step mode room s x).1 (frames_of mode room (reception_step mode room s x).0 xs) (frames_of mode room (state_after mode room (reception_step mode room s x).0 xs) ys))
 
+counted-append : (count : Option Fate → ℕ) (mode : Mode) (room : ℕ) (xs ys : List ℕ) (s : Reception)
+    → counted_in count mode room s (xs ++ ys) ≡ counted_in count mode room s xs + counted_in count mode room (state_after mode room s xs) ys
+counted-append count mode room [] ys s = omega arith
+counted-append count mode room (x ∷ xs) ys s =
+    ap (λ (n : ℕ). count (fate_of mode s x) + n) (counted-append count mode room xs ys (reception_step mode room s x).0)
+    ∙ sym (add_assoc (count (fate_of mode s x)) (counted_in count mode room (reception_step mode room s x).0 xs) (counted_in count mode room (state_after mode room (reception_step mode room s x).0 xs) ys))
+
+-- a code block is counted where it ends
+pub block-counted : (count : Option Fate → ℕ) (mode : Mode) (room : ℕ) (frame block : List ℕ) → count None ≡ 0 → length block ≡ 8
+    → count (Some (fate_in mode block)) ≡ counted_in count mode room (Decoding frame []) block
+block-counted count mode room frame (a ∷ b ∷ c ∷ d ∷ e ∷ f ∷ g ∷ h ∷ []) none eight = omega (arith, none)
+block-counted count mode room frame _ none eight = absurd (omega arith)
+
 -- eight octets
+pub block-state : (mode : Mode) (room : ℕ) (frame block : List ℕ) → length block ≡ 8 → state_after mode room (Decoding frame []) block ≡ (after_block room frame (decoded mode block)).0
+block-state mode room frame (a ∷ b ∷ c ∷ d ∷ e ∷ f ∷ g ∷ h ∷ []) eight = refl
+block-state mode room frame _ eight = absurd (omega arith)
+
+pub block-frames : (mode : Mode) (room : ℕ) (frame block : List ℕ) → length block ≡ 8 → frames_of mode room (Decoding frame []) block ≡ (after_block room frame (decoded mode block)).1
+block-frames mode room frame (a ∷ b ∷ c ∷ d ∷ e ∷ f ∷ g ∷ h ∷ []) eight = append-nil (after_block room frame (decoded mode (a ∷ b ∷ c ∷ d ∷ e ∷ f ∷ g ∷ h ∷ []))).1
+block-frames mode room frame _ eight = absurd (omega arith)
+
 frames-block : (mode : Mode) (room : ℕ) (frame : List ℕ) (a b c d e f g h : ℕ) (rest : List ℕ)
     → frames_of mode room (Decoding frame []) (a ∷ b ∷ c ∷ d ∷ e ∷ f ∷ g ∷ h ∷ rest)
     ≡ (after_block room frame (decoded mode (a ∷ b ∷ c ∷ d ∷ e ∷ f ∷ g ∷ h ∷ []))).1
@@ -351,10 +372,6 @@ last-fate mode octet last count frame block decoding value f on more less l view
     subst (λ (v : Receiver). Some f ≡ fate_of v.mode v.state octet) view
     (sym (ap (λ (x : Reception). fate_of mode x octet) state ∙ ap (λ (t : Bool). if t then None else Some (fate_in mode (take 7 block ++ octet ∷ []))) whole ∙ ap Some (sym is)))
 
-pub given-none : (room n : ℕ) (frame : List ℕ) → n ≡ length frame → (if nat_lt 0 n then frame ∷ [] else []) ≡ (after_block room frame None).1
-given-none room n [] l = ap (λ (x : ℕ). if nat_lt 0 x then [] ∷ [] else []) l
-given-none room n (f ∷ fs) l = ap (λ (t : Bool). if t then (f ∷ fs) ∷ [] else []) (lt-ltb 0 n (omega arith))
-
 -- ---- a loop over octets: one is taken
 pub fed-state : (mode was : Mode) (room i : ℕ) (os : List ℕ) (state next target : Reception) → i < length os → mode ≡ was
     → next ≡ (reception_step mode room state (get_or os i 0)).0 → state_after was room state (drop i os) ≡ target → state_after was room next (drop (i + 1) os) ≡ target
@@ -435,13 +452,6 @@ fed-more mode was room i os first state more less same_mode at h =
     ∙ ap (λ (x : List (List ℕ)). frames_of was room first (take i os) ++ x)
     (append-nil (reception_step was room (state_after was room first (take i os)) o).1 ∙ sym (ap (λ (s : Reception). (reception_step was room s o).1) at)
     ∙ sym (ap (λ (m : Mode). (reception_step m room state o).1) same_mode) ∙ h)
-
-counted-append : (count : Option Fate → ℕ) (mode : Mode) (room : ℕ) (xs ys : List ℕ) (s : Reception)
-    → counted_in count mode room s (xs ++ ys) ≡ counted_in count mode room s xs + counted_in count mode room (state_after mode room s xs) ys
-counted-append count mode room [] ys s = omega arith
-counted-append count mode room (x ∷ xs) ys s =
-    ap (λ (n : ℕ). count (fate_of mode s x) + n) (counted-append count mode room xs ys (reception_step mode room s x).0)
-    ∙ sym (add_assoc (count (fate_of mode s x)) (counted_in count mode room (reception_step mode room s x).0 xs) (counted_in count mode room (state_after mode room (reception_step mode room s x).0 xs) ys))
 
 -- and what becomes of its code block
 pub fed-more-counted : (count : Option Fate → ℕ) (mode : Mode) (room i : ℕ) (os : List ℕ) (first state : Reception) (n k : ℕ) → i < length os

@@ -1,37 +1,77 @@
 -- Eight bits at once, and the sequence of the randomiser.
 use Rattle.std.proofs.Common.{◌≡◌, ℕ, ◌+◌, ◌*◌, ◌<◌, ◌≤◌, List, [], ◌∷◌, ◌++◌, length, get_or, take, set, append_assoc, drop, replicate, bit_xor, refl, ap, sym, ◌∙◌, arith, zero, suc}
-use Rattle.tc_cltu.proofs.Names.{NEXT_OCTETS, REMAINDERS, bit_at, bits_of, block_remainder, block_times_x, moved_on, next_bit, octet_bits, octet_on, randomised_from, same_below, twice, xor_lt, xor_zero_r}
+use Rattle.tc_cltu.proofs.Names.{NEXT_OCTETS, REMAINDERS, bit_at, bits_of, IsOctets, block_remainder, block_times_x, moved_on, next_bit, octet_bits, octet_on, randomised_from, same_below, twice, xor_assoc, xor_zero_r}
 use Rattle.std.specs.Int.Bits.{xor_zero_l}
 use Rattle.std.proofs.lemmas.List.{take_more_set, drop-set-lt, at_drop_more, at_drop_all, take_all, append-nil}
 use Rattle.tc_cltu.proofs.Division.{onward}
 use Rattle.tc_cltu.proofs.Patterns.{zeros-length, xors, zeros, zeros-xors}
-use Rattle.tc_cltu.proofs.Words.{octet-sum, eight, remainder-linear}
+use Rattle.tc_cltu.proofs.Words.{eight, remainder-linear, zeros-twice}
 use Rattle.tc_cltu.specs.Randomiser.{random_octets, random_bits}
 
-rows : (y : ℕ) → y < 256 → get_or REMAINDERS y 0 ≡ block_remainder 0 (octet_bits y)
+-- ---- what is left of an octet with so many behind it
+abbrev on : ℕ → ℕ → ℕ
+on zero r = r
+on (suc k) r = block_remainder (on k r) (zeros 8)
+
+abbrev left_of : ℕ → ℕ
+left_of o = block_remainder 0 (octet_bits o)
+
+rows : (k o : ℕ) → k < 7 → o < 256 → get_or (get_or REMAINDERS k []) o 0 ≡ on k (left_of o)
 unfolding octet_bits block_times_x
-rows = same_below (λ y. get_or REMAINDERS y 0) (λ y. block_remainder 0 (octet_bits y)) 256 refl
+rows zero o less fits = same_below (λ o. get_or (get_or REMAINDERS 0 []) o 0) (λ o. on 0 (left_of o)) 256 refl o fits
+rows (suc zero) o less fits = same_below (λ o. get_or (get_or REMAINDERS 1 []) o 0) (λ o. on 1 (left_of o)) 256 refl o fits
+rows (suc (suc zero)) o less fits = same_below (λ o. get_or (get_or REMAINDERS 2 []) o 0) (λ o. on 2 (left_of o)) 256 refl o fits
+rows (suc (suc (suc zero))) o less fits = same_below (λ o. get_or (get_or REMAINDERS 3 []) o 0) (λ o. on 3 (left_of o)) 256 refl o fits
+rows (suc (suc (suc (suc zero)))) o less fits = same_below (λ o. get_or (get_or REMAINDERS 4 []) o 0) (λ o. on 4 (left_of o)) 256 refl o fits
+rows (suc (suc (suc (suc (suc zero))))) o less fits = same_below (λ o. get_or (get_or REMAINDERS 5 []) o 0) (λ o. on 5 (left_of o)) 256 refl o fits
+rows (suc (suc (suc (suc (suc (suc zero)))))) o less fits = same_below (λ o. get_or (get_or REMAINDERS 6 []) o 0) (λ o. on 6 (left_of o)) 256 refl o fits
+rows _ o less fits = absurd (omega arith)
 
-aligned : (r : ℕ) → r < 128 → block_remainder 0 (octet_bits (r * 2)) ≡ block_remainder r (zeros 8)
-unfolding octet_bits block_times_x
-aligned = same_below (λ r. block_remainder 0 (octet_bits (r * 2))) (λ r. block_remainder r (zeros 8)) 128 refl
+on-zero : (k : ℕ) → on k 0 ≡ 0
+unfolding block_times_x
+on-zero zero = refl
+on-zero (suc k) = ap (λ (x : ℕ). block_remainder x (zeros 8)) (on-zero k)
 
--- eight bits are one look at the table
-pub octet_more : (r o : ℕ) → r < 128 → o < 256 → get_or REMAINDERS (bit_xor (r * 2) o) 0 ≡ block_remainder r (octet_bits o)
-octet_more r o r_fits o_fits =
-    let y = bit_xor (r * 2) o in
-    rows y (xor_lt 8 (r * 2) o (omega arith) o_fits) ∙ ap (block_remainder 0) (octet-sum (r * 2) o)
-    ∙ remainder-linear (octet_bits (r * 2)) (octet_bits o) 0 0 (eight (r * 2) ∙ sym (eight o))
-    ∙ ap (λ (x : ℕ). bit_xor x (block_remainder 0 (octet_bits o))) (aligned r r_fits)
-    ∙ sym (remainder-linear (zeros 8) (octet_bits o) r 0 (zeros-length 8 ∙ sym (eight o)))
-    ∙ ap (block_remainder (bit_xor r 0)) (ap (λ (n : ℕ). xors (zeros n) (octet_bits o)) (sym (eight o)) ∙ zeros-xors (octet_bits o))
-    ∙ ap (λ (x : ℕ). block_remainder x (octet_bits o)) (xor_zero_r r)
+on-xor : (k a b : ℕ) → on k (bit_xor a b) ≡ bit_xor (on k a) (on k b)
+on-xor zero a b = refl
+on-xor (suc k) a b =
+    ap (λ (x : ℕ). block_remainder x (zeros 8)) (on-xor k a b) ∙ ap (block_remainder (bit_xor (on k a) (on k b))) (sym (zeros-twice 8))
+    ∙ remainder-linear (zeros 8) (zeros 8) (on k a) (on k b) refl
 
--- a loop over octets: one is taken
-pub taken_octet : (r i : ℕ) (os : List ℕ) → i < length os → block_remainder (block_remainder r (octet_bits (get_or os i 0))) (bits_of (drop (i + 1) os)) ≡ block_remainder r (bits_of (drop i os))
-taken_octet r i os less =
-    sym (onward (octet_bits (get_or os i 0)) (bits_of (drop (i + 1) os)) r)
-    ∙ sym (at_drop_more (λ (x : List ℕ). block_remainder r (bits_of x)) os i 0 less)
+on-first : (k r : ℕ) → on k (block_remainder r (zeros 8)) ≡ on (suc k) r
+on-first zero r = refl
+on-first (suc k) r = ap (λ (x : ℕ). block_remainder x (zeros 8)) (on-first k r)
+
+one-more : (r o : ℕ) → block_remainder r (octet_bits o) ≡ bit_xor (block_remainder r (zeros 8)) (left_of o)
+one-more r o =
+    ap (λ (x : ℕ). block_remainder x (octet_bits o)) (sym (xor_zero_r r))
+    ∙ ap (block_remainder (bit_xor r 0)) (sym (ap (λ (n : ℕ). xors (zeros n) (octet_bits o)) (sym (eight o)) ∙ zeros-xors (octet_bits o)))
+    ∙ remainder-linear (zeros 8) (octet_bits o) r 0 (zeros-length 8 ∙ sym (eight o))
+
+abbrev sum_of : List ℕ → ℕ
+sum_of [] = 0
+sum_of (o ∷ os) = bit_xor (on (length os) (left_of o)) (sum_of os)
+
+all-left : (os : List ℕ) (r : ℕ) → block_remainder r (bits_of os) ≡ bit_xor (on (length os) r) (sum_of os)
+all-left [] r = sym (xor_zero_r r)
+all-left (o ∷ os) r =
+    onward (octet_bits o) (bits_of os) r ∙ ap (λ (x : ℕ). block_remainder x (bits_of os)) (one-more r o)
+    ∙ all-left os (bit_xor (block_remainder r (zeros 8)) (left_of o))
+    ∙ ap (λ (x : ℕ). bit_xor x (sum_of os)) (on-xor (length os) (block_remainder r (zeros 8)) (left_of o) ∙ ap (λ (x : ℕ). bit_xor x (on (length os) (left_of o))) (on-first (length os) r))
+    ∙ xor_assoc (on (suc (length os)) r) (on (length os) (left_of o)) (sum_of os)
+
+abbrev pub row : ℕ → ℕ → ℕ
+row k o = get_or (get_or REMAINDERS k []) o 0
+
+-- seven octets are seven looks at the table
+pub seven-left : (os : List ℕ) → length os ≡ 7 → IsOctets os
+    → bit_xor (row 6 (get_or os 0 0)) (bit_xor (row 5 (get_or os 1 0)) (bit_xor (row 4 (get_or os 2 0)) (bit_xor (row 3 (get_or os 3 0)) (bit_xor (row 2 (get_or os 4 0)) (bit_xor (row 1 (get_or os 5 0)) (row 0 (get_or os 6 0)))))))
+    ≡ block_remainder 0 (bits_of os)
+seven-left (a ∷ b ∷ c ∷ d ∷ e ∷ f ∷ g ∷ []) seven each =
+    let os = a ∷ b ∷ c ∷ d ∷ e ∷ f ∷ g ∷ [] in
+    let all : block_remainder 0 (bits_of os) ≡ sum_of os = all-left os 0 ∙ ap (λ (x : ℕ). bit_xor x (sum_of os)) (on-zero 7) ∙ xor_zero_l (sum_of os) in
+    rw (rows 6 a (omega arith) (each 0), rows 5 b (omega arith) (each 1), rows 4 c (omega arith) (each 2), rows 3 d (omega arith) (each 3), rows 2 e (omega arith) (each 4), rows 1 f (omega arith) (each 5), rows 0 g (omega arith) (each 6), all, xor_zero_r (left_of g))
+seven-left _ seven each = absurd (omega arith)
 
 -- ---- the randomiser
 pub next_octet : (r : ℕ) → r < 256 → get_or NEXT_OCTETS r 0 ≡ octet_on r

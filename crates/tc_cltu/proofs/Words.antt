@@ -49,7 +49,7 @@ remainder-linear (b ∷ bs) (c ∷ cs) r s l =
     ap (λ (x : ℕ). block_remainder x (xors bs cs)) one ∙ remainder-linear bs cs (block_with_bit r b) (block_with_bit s c) (omega arith)
 remainder-linear _ _ r s l = absurd (omega arith)
 
-zeros-twice : (n : ℕ) → xors (zeros n) (zeros n) ≡ zeros n
+pub zeros-twice : (n : ℕ) → xors (zeros n) (zeros n) ≡ zeros n
 zeros-twice n = ap (λ (m : ℕ). xors (zeros m) (zeros n)) (sym (zeros-length n)) ∙ zeros-xors (zeros n)
 
 -- what is left of a word by the generator: the register has x ^ 7 times it, and x ^ 63 leaves 1

@@ -39,17 +39,21 @@ pub struct Judged {
     pub information: Option<[u8; 7]>,
 }
 
-// The seven parity bits over octets.
+// The seven parity bits over seven octets.
 pub(crate) fn parity(octets: &[u8]) -> u8
+    requires { length octets.now ≡ 7 }
     ensures bits { result ≡ parity_of octets.now }
     ensures fits { result < 128 }
     ensures each { IsOctets octets.now }
 {
-    let mut rest: u8 = 0;
-    for octet in octets {
-        rest = REMAINDERS[usize::from((rest << 1) ^ *octet)];
-    }
-    rest ^ 0x7f
+    let left = REMAINDERS[6][usize::from(octets[0])]
+        ^ (REMAINDERS[5][usize::from(octets[1])]
+            ^ (REMAINDERS[4][usize::from(octets[2])]
+                ^ (REMAINDERS[3][usize::from(octets[3])]
+                    ^ (REMAINDERS[2][usize::from(octets[4])]
+                        ^ (REMAINDERS[1][usize::from(octets[5])]
+                            ^ REMAINDERS[0][usize::from(octets[6])])))));
+    left ^ 0x7f
 }
 
 /// The code block that carries seven octets: these, the seven parity bits, and a filler bit 0 (CCSDS 231.0-B).

@@ -1,8 +1,10 @@
 //! The receiving end.
 
-ghost use Rattle.std.specs.Prelude.{◌≡◌, ◌++◌, ◌∷◌, [], List, ℕ, map, IfOk, OnOk, OnErr, if◌then◌else◌};
+ghost use Rattle.std.specs.Prelude.{◌≡◌, ◌≢◌, ◌++◌, ◌∷◌, [], List, ℕ, map, length, Option, Some, None, ◌+◌, ◌<◌, IfSome, IfNone, IfOk, OnOk, OnErr, if◌then◌else◌};
 ghost use Rattle.tc_cltu.specs.Cltu.{most_octets};
-ghost use Rattle.tc_cltu.specs.Reception.{Receiver, Searching, StopsShort, start_errors, is_start, reception_step, state_after, frames_of, fate_of};
+ghost use Rattle.tc_cltu.specs.CodeBlock.{decoded};
+ghost use Rattle.tc_cltu.specs.Reception.{Receiver, Searching, Decoding, StopsShort, start_errors, is_start, reception_step, after_block, state_after, frames_of, counted_in, fate_of, fate_in};
+ghost use Rattle.tc_cltu.specs.declared.block.Fate.{Fate};
 
 use crate::block::{Fate, Judged, Mode, judge};
 use crate::writer::{MOST_OCTETS, START};
@@ -94,7 +96,55 @@ impl Decoder {
             return NOTHING;
         }
         self.count = 0;
-        let Judged { fate, information } = judge(self.block, self.mode);
+        let block = self.block;
+        self.end_block(block)
+    }
+
+    /// Takes the next eight octets of the stream at once, where a code block begins with them, and else none. It asks for no memory.
+    pub fn feed_block(&mut self, block: [u8; 8]) -> Option<Fed>
+        ensures mode { self.new.mode ≡ self.old.mode }
+        ensures begins { IfSome result (λ fed. self.old.state ≡ Decoding self.old.held []) }
+        ensures state { IfSome result (λ fed. self.new.state ≡ state_after self.old.mode most_octets self.old.state block) }
+        ensures given { IfSome result (λ fed. (if fed.ended then self.new.held ∷ [] else []) ≡ frames_of self.old.mode most_octets self.old.state block) }
+        ensures fate { IfSome result (λ fed. fed.fate ≡ Some (fate_in self.old.mode block)) }
+        ensures none { IfNone result ((self.old.state ≢ Decoding self.old.held []) × (self.new ≡ self.old)) }
+    {
+        if !self.decoding || self.count != 0 {
+            return None;
+        }
+        Some(self.end_block(block))
+    }
+
+    /// Takes the first octets of a piece of the stream: a whole code block, where one begins with them, and else one octet. It gives
+    /// what these came to, and the rest of the piece; none where the piece is empty. It asks for no memory.
+    pub fn feed_front<'a>(&mut self, piece: &'a [u8]) -> Option<(Fed, &'a [u8])>
+        ensures mode { self.new.mode ≡ self.old.mode }
+        ensures less { IfSome result (λ p. length p.1.now < length piece.now) }
+        ensures state { IfSome result (λ p. state_after self.old.mode most_octets self.new.state p.1.now ≡ state_after self.old.mode most_octets self.old.state piece.now) }
+        ensures given { IfSome result (λ p. (if p.0.ended then self.new.held ∷ [] else []) ++ frames_of self.old.mode most_octets self.new.state p.1.now
+            ≡ frames_of self.old.mode most_octets self.old.state piece.now) }
+        ensures fates { IfSome result (λ p. (count : Option Fate → ℕ) → count None ≡ 0 → count p.0.fate + counted_in count self.old.mode most_octets self.new.state p.1.now
+            ≡ counted_in count self.old.mode most_octets self.old.state piece.now) }
+        ensures none { IfNone result ((piece.now ≡ []) × (self.new ≡ self.old)) }
+    {
+        if let Some((block, rest)) = piece.split_first_chunk::<8>() {
+            if let Some(fed) = self.feed_block(*block) {
+                return Some((fed, rest));
+            }
+        }
+        let (octet, rest) = piece.split_first()?;
+        Some((self.feed_octet(*octet), rest))
+    }
+
+    // After the last octet of a code block.
+    fn end_block(&mut self, block: [u8; 8]) -> Fed
+        requires { self.old.state ≡ Decoding self.old.held [] }
+        ensures mode { self.new.mode ≡ self.old.mode }
+        ensures state { self.new.state ≡ (after_block most_octets self.old.held (decoded self.old.mode block)).0 }
+        ensures given { (if result.ended then self.new.held ∷ [] else []) ≡ (after_block most_octets self.old.held (decoded self.old.mode block)).1 }
+        ensures fate { result.fate ≡ Some (fate_in self.old.mode block) }
+    {
+        let Judged { fate, information } = judge(block, self.mode);
         match information {
             None => {
                 self.decoding = false;
