@@ -24,7 +24,7 @@ frames-append mode room (x ∷ xs) ys s =
     ap (λ (fs : List (List ℕ)). (reception_step mode room s x).1 ++ fs) (frames-append mode room xs ys (reception_step mode room s x).0)
     ∙ sym (append_assoc (reception_step mode room s x).1 (frames_of mode room (reception_step mode room s x).0 xs) (frames_of mode room (state_after mode room (reception_step mode room s x).0 xs) ys))
 
-counted-append : (count : Option Fate → ℕ) (mode : Mode) (room : ℕ) (xs ys : List ℕ) (s : Reception)
+pub counted-append : (count : Option Fate → ℕ) (mode : Mode) (room : ℕ) (xs ys : List ℕ) (s : Reception)
     → counted_in count mode room s (xs ++ ys) ≡ counted_in count mode room s xs + counted_in count mode room (state_after mode room s xs) ys
 counted-append count mode room [] ys s = omega arith
 counted-append count mode room (x ∷ xs) ys s =
