@@ -1,5 +1,6 @@
 mod Parts
 mod Lines
+mod Fronts
 mod Words
 mod Numbers
 mod Encoded

@@ -3,6 +3,7 @@
 ghost use Rattle.std.specs.Prelude.{◌≡◌, true, false, ◌≤◌, ◌+◌, ◌++◌, length, nat_lt, take, IfOk, OnOk};
 ghost use Rattle.tc_lines.specs.Reading.{IsFront, IsLineRead, IsPartRead, nothing_yet};
 
+use memchr::memchr;
 use std::alloc::AllocError;
 use std::io;
 use std::io::{BufRead, ErrorKind};
@@ -106,7 +107,7 @@ impl Front {
 fn front_of(octets: &[u8]) -> Front
     ensures { IsFront octets.now result }
 {
-    match octets.iter().position(|octet| *octet == b'\n') {
+    match memchr(b'\n', octets) {
         Some(line) => Front {
             line,
             all: line + 1,
