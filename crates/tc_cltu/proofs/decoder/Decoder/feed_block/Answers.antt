@@ -1,4 +1,4 @@
-use Rattle.std.proofs.Common.{◌≡◌, [], List, ap, sym, ◌∙◌, arith, rules}
+use Rattle.std.proofs.Common.{◌≡◌, [], ap, sym, ◌∙◌, arith, rules}
 use Rattle.std.proofs.lemmas.Grind.{common_steps}
 use Rattle.tc_cltu.specs.Reception.{Reception, Decoding, state_after, frames_of}
 use Rattle.tc_cltu.proofs.Decoding.{block-state, block-frames}
