@@ -269,7 +269,7 @@ typedef struct {
 /** What a telemetry frame says. */
 typedef struct {
     tcrx_status status;    /**< #TCRX_DONE, or why not. */
-    uint32_t clcw;         /**< The operational control field, a CLCW. Its first bit is the most significant one. */
+    uint32_t clcw;         /**< The operational control field. Its first bit is the most significant one: 0 for a CLCW, 1 for a Type-2 report. */
     tcrx_tm_header header; /**< The primary header. */
     uint16_t pointer;      /**< The first header pointer: 2,046 where all data are idle, 2,047 where no packet begins. */
 } tcrx_tm;
@@ -297,6 +297,7 @@ typedef struct {
     uint64_t taken;       /**< How many octets were taken. */
     uint64_t corrected;   /**< How many code blocks ended in them of which one bit was corrected. */
     uint64_t rejected;    /**< How many ended in them that were rejected, and aren't the tail sequence. */
+    uint64_t overlong;    /**< How many CLTUs carried more in them than 1,029 octets. None of these ends a candidate frame. */
 } tcrx_decoded;
 
 /** What was written into a buffer. */
@@ -374,6 +375,22 @@ typedef struct {
     uint8_t rest;       /**< As in #tcrx_reply. */
     uint8_t vcid;       /**< The virtual channel id, 0 to 63. */
 } tcrx_rack_reply;
+
+/**
+ * What the frame at the front of a candidate came to, and the channel that took it in. Where a frame was found and is refused, its length
+ * and what follows it are told nevertheless.
+ */
+typedef struct {
+    tcrx_status status; /**< #TCRX_DONE, or why not. */
+    uint32_t queued;    /**< As in #tcrx_reply. */
+    uint32_t dropped;   /**< As in #tcrx_reply. */
+    uint8_t event;      /**< As in #tcrx_reply. */
+    uint8_t accepted;   /**< As in #tcrx_reply. */
+    uint8_t rest;       /**< As in #tcrx_reply. */
+    uint8_t vcid;       /**< The virtual channel id, 0 to 63. */
+    uint8_t more;       /**< Whether more follows the frame than can be fill: over six octets, or another frame. */
+    uint16_t length;    /**< The octets of the frame, 6 to 1,024, with its frame error control field. */
+} tcrx_candidate_reply;
 
 /** A place in an array. */
 typedef struct {
@@ -501,7 +518,7 @@ static inline tcrx_written tcrx_write_frame(tcrx_header header, const uint8_t *f
  * Writes the frame that carries the segment at a place of a unit to the front of a buffer. Ask for place 0, 1, 2 and so on until
  * #TCRX_NO_SEGMENT; the N(S) of Type-AD frames counts up modulo 256. A unit of no more than `size` octets is one unsegmented segment.
  *
- * @param header     the header of the first frame
+ * @param header     the header of the first frame. That of a Type-C frame, in which no segment header is, is refused by #TCRX_BAD_FIELD.
  * @param map        the MAP
  * @param size       how many octets of the unit a segment carries, 1 to 1,018; the last one carries what is left
  * @param place      the place of the segment, from 0 on
@@ -633,8 +650,9 @@ static inline tcrx_written tcrx_write_cltu(const uint8_t *frame, size_t frame_co
 /**
  * Gives a decoder the next octets of a stream: up to and with the first that ends a candidate frame, or all. It looks for a start
  * sequence, and then decodes code blocks until one is rejected, as the tail sequence is: what the others carried is a candidate frame,
- * with fill behind it. Give the record of the answer to the next call, with the octets behind those that were taken and the same buffer,
- * all of which is the decoder's. A CLTU that carries more than 1,029 octets gives nothing.
+ * with fill behind it: tcrx_rack_candidate() takes it as it is. Give the record of the answer to the next call, with the octets behind
+ * those that were taken and the same buffer, all of which is the decoder's. A CLTU that carries more than 1,029 octets is counted, and
+ * gives nothing.
  *
  * @param decoder the record of the decoder
  * @param octets  the next octets of the stream
@@ -645,11 +663,20 @@ static inline tcrx_written tcrx_write_cltu(const uint8_t *frame, size_t frame_co
  */
 static inline tcrx_decoded tcrx_cltu_octets(tcrx_decoder decoder, const uint8_t *octets, size_t count, uint8_t *frame, size_t room) {
     if (octets == NULL || frame == NULL) {
-        const tcrx_decoded refused = {TCRX_NULL, decoder, 0, 0, 0, 0};
+        const tcrx_decoded refused = {TCRX_NULL, decoder, 0, 0, 0, 0, 0};
         return refused;
     }
     return tcrx_cltu_octets_at(decoder, octets, count, frame, room);
 }
+
+/**
+ * Has a decoder look for a start sequence anew, as after a loss of bit lock. Code blocks that it has taken since the last start sequence
+ * end no candidate frame. Where it was decoding, that cut a CLTU short, or what only began as one does.
+ *
+ * @param decoder the record of the decoder
+ * @return the record for the next call of tcrx_cltu_octets(), and else zeros. Refused by #TCRX_BAD_FLAG, #TCRX_BAD_DECODER.
+ */
+tcrx_decoded tcrx_cltu_search(tcrx_decoder decoder);
 
 /**
  * Writes octets with the random sequence added to the front of a buffer. Where a mission randomises its CLTUs, a sender gives it each
@@ -1013,6 +1040,31 @@ static inline tcrx_rack_reply tcrx_rack_frame(tcrx_channel *channels, size_t cha
         return refused;
     }
     return tcrx_rack_frame_at(channels == NULL ? &no_channel : channels, channel_count, scid, fecf, octets, count);
+}
+
+/**
+ * Gives the frame at the front of a candidate, which is what a CLTU carried, to the channel that it is for, as tcrx_rack_frame() does:
+ * the frame is as long as its length field says, which is looked at first, then its frame error control field. What follows it is fill,
+ * or the next frame: where a CLTU may carry several, give the call the octets behind the frame, too, while the answer says that there are
+ * more.
+ *
+ * @param channels      the channels; null where there are none
+ * @param channel_count how many there are
+ * @param scid          the spacecraft id
+ * @param fecf          1 where frames end with the frame error control field; 0 where they don't
+ * @param octets        the candidate
+ * @param count         how many octets it has
+ * @return the event, what became of the unit, the channel, and how long the frame was. Refused by #TCRX_NULL, #TCRX_BAD_FLAG, #TCRX_SHORT
+ * to #TCRX_TRUNCATED; where `fecf` is 1 by #TCRX_NO_FECF, #TCRX_WRONG_FECF; then by #TCRX_OTHER_SPACECRAFT, #TCRX_UNKNOWN_CHANNEL.
+ */
+static inline tcrx_candidate_reply tcrx_rack_candidate(tcrx_channel *channels, size_t channel_count, uint16_t scid, uint8_t fecf,
+                                                       const uint8_t *octets, size_t count) {
+    tcrx_channel no_channel = TCRX_HOLDS_NONE;
+    if ((channels == NULL && channel_count != 0) || octets == NULL) {
+        const tcrx_candidate_reply refused = {TCRX_NULL, 0, 0, 0, 0, 0, 0, 0, 0};
+        return refused;
+    }
+    return tcrx_rack_candidate_at(channels == NULL ? &no_channel : channels, channel_count, scid, fecf, octets, count);
 }
 
 /**

@@ -445,6 +445,8 @@ struct Fed {
     std::uint64_t corrected = 0;
     /** How many ended that were rejected, and aren't the tail sequence. */
     std::uint64_t rejected = 0;
+    /** How many CLTUs carried more than 1,029 octets, each of which ends no candidate frame. */
+    std::uint64_t overlong = 0;
 };
 
 /** A decoder of CLTUs in a stream, with the octets that it holds: tcrx_cltu_octets(). */
@@ -460,8 +462,11 @@ public:
         const auto taken = static_cast<std::size_t>(answer.taken);
         const bool ended = answer.ended == 1;
         return {ended, ended ? Octets(held_.data(), kept_.held) : Octets(), Octets(octets.data() + taken, octets.size() - taken),
-                answer.corrected, answer.rejected};
+                answer.corrected, answer.rejected, answer.overlong};
     }
+
+    /** Looks for a start sequence anew, as after a loss of bit lock: tcrx_cltu_search(). */
+    void search() noexcept { kept_ = tcrx_cltu_search(kept_).decoder; }
 
 private:
     tcrx_decoder kept_{};
@@ -689,6 +694,15 @@ struct Located {
     Brought brought;
 };
 
+/** What the frame at the front of a candidate came to, and what follows it. */
+struct Carried {
+    Result<Located> frame;
+    /** The octets behind the frame; all of them where none was found. */
+    Octets rest;
+    /** Whether they are more than can be fill. */
+    bool more = false;
+};
+
 /**
  * The channels of a spacecraft, in an array that is somewhere else and outlives this. Those that hold none are passed over.
  *
@@ -703,11 +717,14 @@ public:
     Result<Located> frame(Octets octets) noexcept {
         const tcrx_rack_reply answer =
             tcrx_rack_frame(first(), channels_.size(), scid_, detail::flag(fecf_), detail::pointer(octets), octets.size());
-        if (answer.status != TCRX_DONE) {
-            return detail::refused(answer.status);
-        }
-        const Delivery delivery = {answer.queued, answer.dropped, answer.rest == 1};
-        return Located{answer.vcid, Brought{static_cast<Event>(answer.event), answer.accepted == 1, delivery}};
+        return located(answer);
+    }
+
+    /** Gives the frame at the front of a candidate to the channel that it is for: tcrx_rack_candidate(). */
+    Carried candidate(Octets octets) noexcept {
+        const tcrx_candidate_reply answer =
+            tcrx_rack_candidate(first(), channels_.size(), scid_, detail::flag(fecf_), detail::pointer(octets), octets.size());
+        return {located(answer), Octets(octets.data() + answer.length, octets.size() - answer.length), answer.more == 1};
     }
 
     /** The first channel with this virtual channel id, or a null pointer: tcrx_rack_find(). */
@@ -717,6 +734,14 @@ public:
     }
 
 private:
+    template <typename Reply> static Result<Located> located(const Reply &answer) noexcept {
+        if (answer.status != TCRX_DONE) {
+            return detail::refused(answer.status);
+        }
+        const Delivery delivery = {answer.queued, answer.dropped, answer.rest == 1};
+        return Located{answer.vcid, Brought{static_cast<Event>(answer.event), answer.accepted == 1, delivery}};
+    }
+
     // To the library an array of channels is one of their records.
     static_assert(std::is_standard_layout_v<Channel> && sizeof(Channel) == sizeof(tcrx_channel), "a channel is its record alone");
 

@@ -51,9 +51,10 @@ TCRX_LAYOUT(tcrx_tm, sizeof(tcrx_tm) == 16 && TCRX_AT(tcrx_tm, status, 0) && TCR
 TCRX_LAYOUT(tcrx_decoder, sizeof(tcrx_decoder) == 6 && TCRX_AT(tcrx_decoder, correct, 0) && TCRX_AT(tcrx_decoder, decoding, 1)
                               && TCRX_AT(tcrx_decoder, last, 2) && TCRX_AT(tcrx_decoder, count, 3)
                               && TCRX_AT(tcrx_decoder, held, 4));
-TCRX_LAYOUT(tcrx_decoded, sizeof(tcrx_decoded) == 40 && TCRX_AT(tcrx_decoded, status, 0) && TCRX_AT(tcrx_decoded, decoder, 4)
+TCRX_LAYOUT(tcrx_decoded, sizeof(tcrx_decoded) == 48 && TCRX_AT(tcrx_decoded, status, 0) && TCRX_AT(tcrx_decoded, decoder, 4)
                               && TCRX_AT(tcrx_decoded, ended, 10) && TCRX_AT(tcrx_decoded, taken, 16)
-                              && TCRX_AT(tcrx_decoded, corrected, 24) && TCRX_AT(tcrx_decoded, rejected, 32));
+                              && TCRX_AT(tcrx_decoded, corrected, 24) && TCRX_AT(tcrx_decoded, rejected, 32)
+                              && TCRX_AT(tcrx_decoded, overlong, 40));
 TCRX_LAYOUT(tcrx_written, sizeof(tcrx_written) == 2 * sizeof(size_t) && TCRX_AT(tcrx_written, status, 0)
                               && TCRX_AT(tcrx_written, length, sizeof(size_t)));
 TCRX_LAYOUT(tcrx_channel, sizeof(tcrx_channel) == 2 * sizeof(void *) && TCRX_AT(tcrx_channel, held, 0)
@@ -73,6 +74,11 @@ TCRX_LAYOUT(tcrx_rack_reply, sizeof(tcrx_rack_reply) == 16 && TCRX_AT(tcrx_rack_
                                  && TCRX_AT(tcrx_rack_reply, queued, 4) && TCRX_AT(tcrx_rack_reply, dropped, 8)
                                  && TCRX_AT(tcrx_rack_reply, event, 12) && TCRX_AT(tcrx_rack_reply, accepted, 13)
                                  && TCRX_AT(tcrx_rack_reply, rest, 14) && TCRX_AT(tcrx_rack_reply, vcid, 15));
+TCRX_LAYOUT(tcrx_candidate_reply, sizeof(tcrx_candidate_reply) == 20 && TCRX_AT(tcrx_candidate_reply, status, 0)
+                                      && TCRX_AT(tcrx_candidate_reply, queued, 4) && TCRX_AT(tcrx_candidate_reply, dropped, 8)
+                                      && TCRX_AT(tcrx_candidate_reply, event, 12) && TCRX_AT(tcrx_candidate_reply, accepted, 13)
+                                      && TCRX_AT(tcrx_candidate_reply, rest, 14) && TCRX_AT(tcrx_candidate_reply, vcid, 15)
+                                      && TCRX_AT(tcrx_candidate_reply, more, 16) && TCRX_AT(tcrx_candidate_reply, length, 18));
 TCRX_LAYOUT(tcrx_place, sizeof(tcrx_place) == 2 * sizeof(size_t) && TCRX_AT(tcrx_place, status, 0)
                             && TCRX_AT(tcrx_place, place, sizeof(size_t)));
 TCRX_LAYOUT(tcrx_count, sizeof(tcrx_count) == 16 && TCRX_AT(tcrx_count, status, 0) && TCRX_AT(tcrx_count, count, 8));
@@ -158,6 +164,9 @@ tcrx_status tcrx_channel_free_at(tcrx_channel *channel);
 /** @copydoc tcrx_rack_frame */
 tcrx_rack_reply tcrx_rack_frame_at(tcrx_channel *channels, size_t channel_count, uint16_t scid, uint8_t fecf,
                                    const uint8_t *octets, size_t count);
+/** @copydoc tcrx_rack_candidate */
+tcrx_candidate_reply tcrx_rack_candidate_at(tcrx_channel *channels, size_t channel_count, uint16_t scid, uint8_t fecf,
+                                            const uint8_t *octets, size_t count);
 /** @copydoc tcrx_rack_find */
 tcrx_place tcrx_rack_find_at(tcrx_channel *channels, size_t channel_count, uint8_t vcid);
 /** @} */

@@ -236,6 +236,22 @@ u32 EXPORT(module_cltu_octets)(const uint8_t *octets, u32 count, uint8_t *frame,
     answer_count(6, answer.taken);
     answer_count(8, answer.corrected);
     answer_count(10, answer.rejected);
+    answer_count(12, answer.overlong);
+    return answer.status;
+}
+
+u32 EXPORT(module_cltu_search)(void) {
+    const tcrx_decoded answer = tcrx_cltu_search(decoder_given());
+    numbers[0] = answer.decoder.correct;
+    numbers[1] = answer.decoder.decoding;
+    numbers[2] = answer.decoder.last;
+    numbers[3] = answer.decoder.count;
+    numbers[4] = answer.decoder.held;
+    numbers[5] = answer.ended;
+    answer_count(6, answer.taken);
+    answer_count(8, answer.corrected);
+    answer_count(10, answer.rejected);
+    answer_count(12, answer.overlong);
     return answer.status;
 }
 
@@ -354,6 +370,19 @@ u32 EXPORT(module_rack_frame)(u32 scid, u32 fecf, const uint8_t *octets, u32 cou
     numbers[3] = answer.accepted;
     numbers[4] = answer.rest;
     numbers[5] = answer.vcid;
+    return answer.status;
+}
+
+u32 EXPORT(module_rack_candidate)(u32 scid, u32 fecf, const uint8_t *octets, u32 count) {
+    const tcrx_candidate_reply answer = tcrx_rack_candidate_at(&channel, 1, (uint16_t)scid, (uint8_t)fecf, octets, count);
+    numbers[0] = answer.queued;
+    numbers[1] = answer.dropped;
+    numbers[2] = answer.event;
+    numbers[3] = answer.accepted;
+    numbers[4] = answer.rest;
+    numbers[5] = answer.vcid;
+    numbers[6] = answer.more;
+    numbers[7] = answer.length;
     return answer.status;
 }
 

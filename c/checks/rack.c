@@ -105,6 +105,55 @@ static void check_fill(void) {
     events[OTHER]++;
 }
 
+static void expect_no_candidate(tcrx_candidate_reply reply, tcrx_status status, size_t length, uint8_t more, uint64_t number) {
+    const bool is_empty = reply.queued == 0 && reply.dropped == 0 && reply.event == 0 && reply.accepted == 0 && reply.rest == 0;
+    expect(reply.status == status && is_empty && reply.vcid == 0, "a refusal of a candidate", number);
+    expect(reply.length == length && reply.more == more, "what is told of a candidate that is refused", number);
+    expect_events("the events after a refusal of a candidate", number);
+}
+
+/* Frames that follow one another, each with any number of octets behind it; and each refusal. */
+static void check_candidates(uint8_t fecf) {
+    uint8_t octets[64];
+    const size_t count = frame(CRAFT, 9, 0, fecf, octets), wrong = fecf == 1 ? count - 1 : 0;
+    memset(octets + count, 0x55, sizeof octets - count);
+    for (size_t behind = 0; behind < 20; behind++) {
+        const uint8_t more = behind > 6;
+        expect_no_candidate(tcrx_rack_candidate(rack, PLACES, CRAFT, fecf, octets, count + behind), TCRX_UNKNOWN_CHANNEL, count, more, 70 + behind);
+        expect_no_candidate(tcrx_rack_candidate(rack, PLACES, CRAFT + 1, fecf, octets, count + behind), TCRX_OTHER_SPACECRAFT, count, more, 70 + behind);
+    }
+    for (size_t few = 0; few < count; few++) {
+        expect_no_candidate(tcrx_rack_candidate(rack, PLACES, CRAFT, fecf, octets, few), few < 5 ? TCRX_SHORT : TCRX_TRUNCATED, 0, 0, 90 + few);
+    }
+    if (fecf == 1) {
+        octets[wrong] ^= 1;
+        expect_no_candidate(tcrx_rack_candidate(rack, PLACES, CRAFT, 1, octets, count + 7), TCRX_WRONG_FECF, count, 1, 100);
+        octets[wrong] ^= 1;
+        const uint8_t least[] = {0x02, 0xa3, 0x14, 0x05, 0x07, 0xc0, 0x55};
+        expect_no_candidate(tcrx_rack_candidate(rack, PLACES, CRAFT, 1, least, sizeof least), TCRX_NO_FECF, 6, 0, 101);
+    }
+    expect_no_candidate(tcrx_rack_candidate(rack, PLACES, CRAFT, 2, octets, count), TCRX_BAD_FLAG, 0, 0, 102);
+    expect_no_candidate(tcrx_rack_candidate(rack, PLACES, CRAFT, fecf, NULL, 0), TCRX_NULL, 0, 0, 103);
+    expect_no_candidate(tcrx_rack_candidate(NULL, 1, CRAFT, fecf, octets, count), TCRX_NULL, 0, 0, 104);
+    expect_no_candidate(tcrx_rack_candidate(NULL, 0, CRAFT, fecf, octets, count), TCRX_UNKNOWN_CHANNEL, count, 0, 105);
+    /* Three frames for one channel, which are accepted one after the other, and two octets of fill. */
+    const uint8_t first = tcrx_channel_report(&rack[OTHER]).farm.vr;
+    size_t all = 0;
+    for (uint8_t i = 0; i < 3; i++) {
+        all += frame(CRAFT, 8, (uint8_t)(first + i), fecf, octets + all);
+    }
+    octets[all] = octets[all + 1] = 0x55;
+    for (size_t at = 0, i = 0; i < 3; i++) {
+        const tcrx_candidate_reply reply = tcrx_rack_candidate(rack, PLACES, CRAFT, fecf, octets + at, all + 2 - at);
+        events[OTHER] += 2;
+        expect(reply.status == TCRX_DONE && reply.vcid == 8 && reply.event == 1 && reply.accepted == 1, "a frame of a candidate", i);
+        expect(reply.length == all / 3 && reply.more == (i < 2), "what follows a frame of a candidate", i);
+        expect(tcrx_channel_release(&rack[OTHER]).status == TCRX_DONE, "a release of a candidate", i);
+        expect_events("the events after a frame of a candidate", i);
+        at += reply.length;
+    }
+}
+
 static void check_places(void) {
     for (unsigned vcid = 0; vcid < 256; vcid++) {
         const tcrx_place found = tcrx_rack_find(rack, PLACES, (uint8_t)vcid);
@@ -144,6 +193,8 @@ int main(void) {
     check_fill();
     expect_brought(8, 61, OTHER, 1, 3);
     check_longest();
+    check_candidates(0);
+    check_candidates(1);
     check_places();
     expect(tcrx_channel_free(&rack[FIRST]) == TCRX_DONE, "the first channel", FIRST);
     events[FIRST] = 0;

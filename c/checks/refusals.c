@@ -243,7 +243,7 @@ static void expect_undecoded(tcrx_decoder decoder, uint8_t *frame, size_t room, 
     const tcrx_decoded answer = tcrx_cltu_octets(decoder, octets, sizeof octets, frame, room);
     const tcrx_decoder kept = answer.decoder;
     expect(answer.status == status && answer.ended == 0 && answer.taken == 0, "octets that are refused", place);
-    expect(answer.corrected == 0 && answer.rejected == 0, "code blocks of octets that are refused", place);
+    expect(answer.corrected == 0 && answer.rejected == 0 && answer.overlong == 0, "code blocks of octets that are refused", place);
     expect(kept.correct == decoder.correct && kept.decoding == decoder.decoding && kept.last == decoder.last, "a decoder as it was", place);
     expect(kept.count == decoder.count && kept.held == decoder.held && is_filled(made, sizeof made), "what it holds as it was", place);
 }
@@ -260,6 +260,13 @@ static void check_decoders(void) {
     const uint8_t last = 0xfe;
     const tcrx_decoded answer = tcrx_cltu_octets(full, &last, 1, held, sizeof held);
     expect(answer.status == TCRX_DONE && answer.decoder.decoding == 0 && answer.ended == 0, "no room for a code block", 236);
+    expect(answer.overlong == 1 && answer.corrected == 0 && answer.rejected == 0, "a CLTU that carries too much", 237);
+    const tcrx_decoded anew = tcrx_cltu_search(full);
+    const tcrx_decoder now = anew.decoder;
+    expect(anew.status == TCRX_DONE && now.correct == 1 && now.decoding == 0 && now.last == 0 && now.count == 0, "a search anew", 238);
+    expect(anew.ended == 0 && anew.taken == 0 && anew.corrected == 0 && anew.rejected == 0 && anew.overlong == 0, "a search alone", 239);
+    expect(tcrx_cltu_search(correct).status == TCRX_BAD_FLAG && tcrx_cltu_search(decoding).status == TCRX_BAD_FLAG, "no flag", 240);
+    expect(tcrx_cltu_search(count).status == TCRX_BAD_DECODER && tcrx_cltu_search(too_much).status == TCRX_BAD_DECODER, "no decoder", 241);
 }
 
 static void expect_unread(tcrx_tm read, tcrx_status status, unsigned long place) {

@@ -25,7 +25,7 @@ if sys.version_info < (3, 9):
 import tcrx  # noqa: E402
 from tcrx_bench_parts.craft import Craft, Release, Turn  # noqa: E402
 from tcrx_bench_parts.demo import KEYS, SETUP, Demo  # noqa: E402
-from tcrx_bench_parts.edges import MAKER, CltuConnection, Decoding, Telemetry  # noqa: E402
+from tcrx_bench_parts.edges import MAKER, MARKER, CltuConnection, Decoding, Telemetry  # noqa: E402
 from tcrx_bench_parts.engine import Engine  # noqa: E402
 from tcrx_bench_parts.faults import Faults  # noqa: E402
 from tcrx_bench_parts.journal import Journal, replay  # noqa: E402
@@ -194,7 +194,9 @@ class Bench:  # pylint: disable=too-many-instance-attributes  # it is made of th
     def _sender(self, kind: str) -> Callable[[bytes], None]:
         """What sends to all places of a kind."""
         targets, ports = [target for target in self.targets if target.port.place.kind == f"{kind}-udp"], self.listening.get(f"{kind}-tcp", [])
-        send = all_senders([*(target.send for target in targets), readers_sender(ports)])
+        readers = readers_sender(ports)
+        marked = (lambda octets: readers(MARKER + octets)) if kind == "tm" and self.options.tm_marker else readers
+        send = all_senders([*(target.send for target in targets), marked])
         return self.faults.sender(send, [*ports, *(target.port for target in targets)]) if self.faults and kind in ("clcw", "tm") else send
 
     def say_ports(self) -> None:

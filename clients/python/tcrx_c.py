@@ -12,7 +12,7 @@ __all__ = ["CALLS", "DONE", "SHORT", "BAD_VERSION", "SPARE", "LENGTH_SMALL", "TR
            "LOCKOUT", "AD", "BD", "UNLOCK", "SET_VR", "INVALID", "RELEASE", "DECODER_ROOM", "_Farm", "_FarmAnswer", "_StepAnswer",
            "_ClcwAnswer", "_ClcwFields", "_Header", "_Frame", "_KindAnswer", "_Packet", "_PacketHeader", "_TmHeader", "_Tm",
            "_Decoder", "_Decoded", "_Written", "_Channel", "_Settings", "_Queue", "_Map", "_Limit", "_Reply", "_Delivery",
-           "_RackReply", "_Place", "_Count"]
+           "_RackReply", "_CandidateReply", "_Place", "_Count"]
 
 DONE = 0
 SHORT = 1
@@ -143,7 +143,7 @@ class _Decoder(Structure):
 
 class _Decoded(Structure):
     _fields_ = [("status", c_uint32), ("decoder", _Decoder), ("ended", c_uint8), ("taken", c_uint64), ("corrected", c_uint64),
-                ("rejected", c_uint64)]
+                ("rejected", c_uint64), ("overlong", c_uint64)]
 
 
 class _Written(Structure):
@@ -184,6 +184,11 @@ class _RackReply(Structure):
                 ("rest", c_uint8), ("vcid", c_uint8)]
 
 
+class _CandidateReply(Structure):
+    _fields_ = [("status", c_uint32), ("queued", c_uint32), ("dropped", c_uint32), ("event", c_uint8), ("accepted", c_uint8),
+                ("rest", c_uint8), ("vcid", c_uint8), ("more", c_uint8), ("length", c_uint16)]
+
+
 class _Place(Structure):
     _fields_ = [("status", c_uint32), ("place", c_size_t)]
 
@@ -210,6 +215,7 @@ CALLS: Dict[str, Tuple[Any, List[Any]]] = {
     "tcrx_read_packet_at": (_Packet, [c_char_p, c_size_t]),
     "tcrx_write_cltu_at": (_Written, [c_char_p, c_size_t, c_void_p, c_size_t]),
     "tcrx_cltu_octets_at": (_Decoded, [_Decoder, c_char_p, c_size_t, c_void_p, c_size_t]),
+    "tcrx_cltu_search": (_Decoded, [_Decoder]),
     "tcrx_randomise_at": (_Written, [c_char_p, c_size_t, c_void_p, c_size_t]),
     "tcrx_write_tm_at": (_Written, [_TmHeader, c_uint8, c_uint32, c_uint16, c_void_p, c_size_t]),
     "tcrx_read_tm_at": (_Tm, [c_uint8, c_char_p, c_size_t]),
@@ -231,5 +237,6 @@ CALLS: Dict[str, Tuple[Any, List[Any]]] = {
     "tcrx_channel_events_at": (_Count, [POINTER(_Channel)]),
     "tcrx_channel_free_at": (c_uint32, [POINTER(_Channel)]),
     "tcrx_rack_frame_at": (_RackReply, [POINTER(_Channel), c_size_t, c_uint16, c_uint8, c_char_p, c_size_t]),
+    "tcrx_rack_candidate_at": (_CandidateReply, [POINTER(_Channel), c_size_t, c_uint16, c_uint8, c_char_p, c_size_t]),
     "tcrx_rack_find_at": (_Place, [POINTER(_Channel), c_size_t, c_uint8]),
 }

@@ -46,7 +46,7 @@ from tcrx import (Brought, Clcw, Delivery, Ended, Event, Fault, Final, NotSetUp,
 from tcrx_c import *  # pylint: disable=wildcard-import,unused-wildcard-import  # all that the header declares
 from tcrx_c import _Channel, _Decoder, _Header, _Limit, _Map, _PacketHeader, _Queue, _Settings, _TmHeader
 
-__all__ = ["BadSettings", "Channel", "Decoder", "Frame", "NoMemory", "NotRead", "NotWritten", "Rack", "Tm", "add_fecf", "check_fecf",
+__all__ = ["BadSettings", "Carried", "Channel", "Decoder", "Frame", "NoMemory", "NotRead", "NotWritten", "Rack", "Tm", "add_fecf", "check_fecf",
            "find_library", "randomise", "read_frame", "read_tm", "storage", "write_cltu", "write_frame", "write_packet", "write_segments",
            "write_set_vr", "write_tm", "write_unlock"]
 
@@ -280,20 +280,20 @@ def write_cltu(frame: Octets, *, library: Library = None) -> bytes:
     return made_by(load(library), "tcrx_write_cltu_at", whole, len(whole), room=MOST_CLTU)
 
 
-# pylint: disable-next=too-few-public-methods  # to feed it is all that one does
 class Decoder:
     """Finds CLTUs in a stream that comes in any pieces. It counts the code blocks that it corrected and rejected, apart from tail
-    sequences."""
+    sequences, and the CLTUs that carried more than 1,029 octets, which give nothing."""
 
     def __init__(self, *, correct: bool, library: Library = None) -> None:
         """With correction of one wrong bit in each code block, or with detection alone."""
         self._library = load(library)
         self._kept = _Decoder(int(bool(correct)), 0, 0, 0, 0)
         self._held = ctypes.create_string_buffer(DECODER_ROOM)
-        self.corrected = self.rejected = 0
+        self.corrected = self.rejected = self.overlong = 0
 
     def feed(self, octets: Octets) -> List[bytes]:
-        """The candidate frames that end in these octets, each with fill behind it."""
+        """The candidates that end in these octets: what each CLTU carried, which is a frame with fill behind it, or several. A `Rack` brings
+        them as they are."""
         frames: List[bytes] = []
         whole = bytes(octets)
         for at in range(0, len(whole), PIECE):
@@ -303,9 +303,16 @@ class Decoder:
                 self._kept, rest = answer.decoder, rest[answer.taken:]
                 self.corrected += answer.corrected
                 self.rejected += answer.rejected
+                self.overlong += answer.overlong
                 if answer.ended:
                     frames.append(self._held.raw[:self._kept.held])
         return frames
+
+    def search(self) -> bool:
+        """Looks for a start sequence anew, as after a loss of bit lock. Says whether that cuts short what began as a CLTU."""
+        was_decoding = bool(self._kept.decoding)
+        self._kept = self._library.tcrx_cltu_search(self._kept).decoder
+        return was_decoding
 
 
 def randomise(frame: Octets, *, library: Library = None) -> bytes:
@@ -316,13 +323,15 @@ def randomise(frame: Octets, *, library: Library = None) -> bytes:
 
 @dataclass(frozen=True)
 class Tm:
-    """What a telemetry frame says: the first header pointer is 2,046 where all data are idle, and 2,047 where no packet begins."""
+    """What a telemetry frame says: the first header pointer is 2,046 where all data are idle, and 2,047 where no packet begins. The
+    operational control field has a CLCW, or else a Type-2 report, whose four octets are that number."""
     scid: int
     vcid: int
     master_count: int
     channel_count: int
-    clcw: Clcw
+    clcw: Optional[Clcw]
     pointer: int = 2046
+    report: Optional[int] = None
 
 
 class NotRead(Fault):
@@ -345,8 +354,9 @@ def read_tm(octets: Octets, *, fecf: bool = False, library: Library = None) -> T
     answer = loaded.tcrx_read_tm_at(int(bool(fecf)), whole, len(whole))
     if answer.status != DONE:
         raise NotRead(text_of(loaded, answer.status))
-    header = answer.header
-    return Tm(header.scid, header.vcid, header.master_count, header.channel_count, Clcw(answer.clcw), answer.pointer)
+    header, control = answer.header, answer.clcw
+    clcw, report = (None, control) if control >> 31 else (Clcw(control), None)
+    return Tm(header.scid, header.vcid, header.master_count, header.channel_count, clcw, answer.pointer, report)
 
 
 def delivery_of(answer: Any) -> Delivery:
@@ -542,6 +552,13 @@ class Channel:
         self.close()
 
 
+@dataclass(frozen=True)
+class Carried:
+    """What became of the frames that a CLTU carried, in their order; and the octets behind the last of them, where they aren't fill."""
+    frames: List[Union[Brought, Refused]]
+    more: bytes = b""
+
+
 class Rack:
     """The channels of a spacecraft, in this process: which of them a frame is for. Each is asked and closed by itself; one that is closed
     is of the rack no more. A channel is of one rack at a time, that which was made of it last."""
@@ -570,7 +587,23 @@ class Rack:
         """Brings octets that arrive, with the frame at their front, to the first channel that it is for. With `fecf` octets that aren't one
         frame with the right field at its end are refused by `CHECK`, as of a `Receiver`."""
         whole = bytes(octets)
-        reply = self._call("tcrx_rack_frame_at", self.scid, int(self.fecf), whole, len(whole))
+        return self._brought(self._call("tcrx_rack_frame_at", self.scid, int(self.fecf), whole, len(whole)))
+
+    def bring_candidate(self, octets: Octets, *, most: int = 1) -> Carried:
+        """Brings the frames of a candidate, which a `Decoder` gives, one after the other and at most so many. Each is as long as its length
+        field says; with `fecf` its field is checked then. Where octets that aren't fill begin with no frame, that is the last answer."""
+        answers: List[Union[Brought, Refused]] = []
+        rest = bytes(octets)
+        for _ in range(in_range(most, 255, "most")):
+            reply = self._call("tcrx_rack_candidate_at", self.scid, int(self.fecf), rest, len(rest))
+            answers.append(self._brought(reply))
+            rest = rest[reply.length:]
+            if not reply.more:
+                return Carried(answers)
+        return Carried(answers, rest)
+
+    def _brought(self, reply: Any) -> Union[Brought, Refused]:
+        """What a reply of a rack says."""
         if reply.status:
             return Refused(Refusal.CHECK) if self.fecf and reply.status in UNCHECKED else REFUSED[reply.status]
         return Brought(reply.vcid, EVENTS[reply.event], reply.accepted == 1, delivery_of(reply))

@@ -60,7 +60,7 @@ static uint32_t put_frame(tcrx_instance *at, const uint8_t *octets, size_t count
 
 /* The buffer is read and written: what the decoder has in it. More octets than the module has room for are given piece by piece. */
 tcrx_decoded tcrx_cltu_octets_at(tcrx_decoder decoder, const uint8_t *octets, size_t count, uint8_t *frame, size_t room) {
-    tcrx_decoded answer = {TCRX_DONE, decoder, 0, 0, 0, 0};
+    tcrx_decoded answer = {TCRX_DONE, decoder, 0, 0, 0, 0, 0};
     tcrx_instance *at = tcrx_instance_shared();
     const uint32_t has = least(room, TCRX_DECODER_ROOM);
     tcrx_set_number(at, 0, decoder.correct);
@@ -77,6 +77,7 @@ tcrx_decoded tcrx_cltu_octets_at(tcrx_decoder decoder, const uint8_t *octets, si
         answer.taken += count_of(at, 6);
         answer.corrected += count_of(at, 8);
         answer.rejected += count_of(at, 10);
+        answer.overlong += count_of(at, 12);
     } while (answer.status == TCRX_DONE && !answer.ended && answer.taken < count);
     answer.decoder.decoding = (uint8_t)tcrx_number(at, 1);
     answer.decoder.last = (uint8_t)tcrx_number(at, 2);
@@ -214,6 +215,29 @@ tcrx_written tcrx_write_cltu_at(const uint8_t *frame, size_t frame_count, uint8_
     const tcrx_status done = Z_tcrxZ_module_write_cltu(&at->module, at->read, put_frame(at, frame, frame_count), at->written,
                                                        least(room, TCRX_MODULE_FRAME));
     const tcrx_written answer = written_of(at, done, at->written, octets);
+    tcrx_instance_back();
+    return answer;
+}
+
+tcrx_decoded tcrx_cltu_search(tcrx_decoder decoder) {
+    tcrx_decoded answer;
+    tcrx_instance *at = tcrx_instance_shared();
+    tcrx_set_number(at, 0, decoder.correct);
+    tcrx_set_number(at, 1, decoder.decoding);
+    tcrx_set_number(at, 2, decoder.last);
+    tcrx_set_number(at, 3, decoder.count);
+    tcrx_set_number(at, 4, decoder.held);
+    answer.status = Z_tcrxZ_module_cltu_search(&at->module);
+    answer.decoder.correct = (uint8_t)tcrx_number(at, 0);
+    answer.decoder.decoding = (uint8_t)tcrx_number(at, 1);
+    answer.decoder.last = (uint8_t)tcrx_number(at, 2);
+    answer.decoder.count = (uint8_t)tcrx_number(at, 3);
+    answer.decoder.held = (uint16_t)tcrx_number(at, 4);
+    answer.ended = (uint8_t)tcrx_number(at, 5);
+    answer.taken = count_of(at, 6);
+    answer.corrected = count_of(at, 8);
+    answer.rejected = count_of(at, 10);
+    answer.overlong = count_of(at, 12);
     tcrx_instance_back();
     return answer;
 }
@@ -600,6 +624,34 @@ tcrx_rack_reply tcrx_rack_frame_at(tcrx_channel *channels, size_t channel_count,
         const tcrx_place found = tcrx_rack_find_at(channels, channel_count, vcid);
         if (found.status == TCRX_DONE) {
             answer = brought((tcrx_instance *)channels[found.place].place, scid, fecf, octets, count);
+        }
+    }
+    return answer;
+}
+
+static tcrx_candidate_reply brought_out_of(tcrx_instance *at, uint16_t scid, uint8_t fecf, const uint8_t *octets, size_t count) {
+    tcrx_candidate_reply answer;
+    answer.status = Z_tcrxZ_module_rack_candidate(&at->module, scid, fecf, at->read, put_frame(at, octets, count));
+    answer.queued = tcrx_number(at, 0);
+    answer.dropped = tcrx_number(at, 1);
+    answer.event = (uint8_t)tcrx_number(at, 2);
+    answer.accepted = (uint8_t)tcrx_number(at, 3);
+    answer.rest = (uint8_t)tcrx_number(at, 4);
+    answer.vcid = (uint8_t)tcrx_number(at, 5);
+    answer.more = (uint8_t)tcrx_number(at, 6);
+    answer.length = (uint16_t)tcrx_number(at, 7);
+    return answer;
+}
+
+tcrx_candidate_reply tcrx_rack_candidate_at(tcrx_channel *channels, size_t channel_count, uint16_t scid, uint8_t fecf,
+                                            const uint8_t *octets, size_t count) {
+    tcrx_candidate_reply answer = brought_out_of(tcrx_instance_shared(), scid, fecf, octets, count);
+    tcrx_instance_back();
+    if (answer.status == TCRX_UNKNOWN_CHANNEL) {
+        const uint8_t vcid = tcrx_read_frame_at(octets, count).header.vcid;
+        const tcrx_place found = tcrx_rack_find_at(channels, channel_count, vcid);
+        if (found.status == TCRX_DONE) {
+            answer = brought_out_of((tcrx_instance *)channels[found.place].place, scid, fecf, octets, count);
         }
     }
     return answer;

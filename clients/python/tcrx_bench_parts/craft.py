@@ -37,6 +37,10 @@ class Release(enum.Enum):
     MANUAL = "manual"
 
 
+# The line behind that of a frame: a field that waits for its time isn't released, but what a Type-BD frame brought doesn't wait.
+BEHIND = {Release.AUTO: "deliver", Release.AFTER: "collect", Release.MANUAL: "clcw"}
+
+
 class Turn:  # pylint: disable=too-few-public-methods  # a record, made for each frame
     """One arrival, with what is to be known when it is answered."""
 
@@ -112,6 +116,8 @@ class Craft:  # pylint: disable=too-many-instance-attributes  # what is known of
         self.is_ending = self.closed = False
         """From the end on nothing is written that nobody asked for; and once it is closed, only what is under way leads to lines."""
         self.next_in_turn = 0
+        self.active: Optional[int] = None
+        """The channel that took in the last frame, until telemetry has told of it."""
         self.renew: Callable[[Turn], None] = lambda turn: None
         """Called to have the receiver begun anew."""
         self.is_renewing = False
@@ -124,19 +130,19 @@ class Craft:  # pylint: disable=too-many-instance-attributes  # what is known of
 
     # --- What arrives ---
 
-    def bring(self, octets: bytes, source: str, asker: Optional[Asker] = None) -> None:
-        """Octets of a link, with a frame at their front."""
+    def bring(self, octets: bytes, source: str, asker: Optional[Asker] = None, word: str = "frame") -> None:
+        """Octets of a link, with a frame at their front; or what a CLTU carried, where the word is `candidate`."""
         self.arrived()
         octets = octets[:MOST_OCTETS] or b"\0"
-        self.waiting.append(Turn(self.now(), source, f"frame {octets.hex()}", octets, asker))
+        self.waiting.append(Turn(self.now(), source, f"{word} {octets.hex()}", octets, asker))
         if not self.barred or len(self.waiting) > MOST_WAITING:
             self.step()
 
     def order(self, line: str, source: str, asker: Optional[Asker]) -> None:
         """A line of a person or a script: its words with a space between each two."""
-        found = re.fullmatch("frame ((?:[0-9a-fA-F]{2})+)", line)
+        found = re.fullmatch("(frame|candidate) ((?:[0-9a-fA-F]{2})+)", line)
         if found:
-            self.bring(bytes.fromhex(found[1]), source, asker)
+            self.bring(bytes.fromhex(found[2]), source, asker, found[1])
             return
         self.waiting.append(Turn(self.now(), source, line, b"", asker))
         self.step()
@@ -168,7 +174,7 @@ class Craft:  # pylint: disable=too-many-instance-attributes  # what is known of
 
     def begin_anew(self, engine: Engine) -> None:
         """Knows nothing of the receiver any more, as it is another one. What is to be released was the old one's."""
-        self.engine, self.next_in_turn = engine, 0
+        self.engine, self.next_in_turn, self.active = engine, 0, None
         engine.answered = self.step
         self.channels.clear()
         self.waiting = deque(turn for turn in self.waiting if turn.source != RELEASE)
@@ -189,8 +195,7 @@ class Craft:  # pylint: disable=too-many-instance-attributes  # what is known of
         if channel is None:
             self.engine.ask(turn.line, partial(self._refused, turn))
         else:
-            behind = "deliver" if self.release is Release.AUTO else "clcw"
-            self.engine.ask_block(f"{turn.line}\n{behind} {channel.vcid}", self._frame_answered, turn)
+            self.engine.ask_block(f"{turn.line}\n{BEHIND[self.release]} {channel.vcid}", self._frame_answered, turn)
 
     def _ask(self, turn: Turn, line: str, answered: Callable[[Turn, str, str], None]) -> None:
         """Writes a line of a turn that has one answer."""
@@ -229,18 +234,15 @@ class Craft:  # pylint: disable=too-many-instance-attributes  # what is known of
         self.frames += 1
         channel.events[event] += 1
         channel.last = turn.octets[4], event
+        self.active = channel.vcid
         self._note_event(turn, answer, answers[-1][-8:] if answers[-1].startswith("clcw ") else "")
         if turn.asker:
             turn.asker(answer)
         self.journal.origin(turn.came, self.now(), turn.source)
         self.journal.answer(turn.line, answer)
         self._hand_on(channel, answers[1:])
-        if self.release is Release.AFTER and words[4] == "1":
-            if event == "E1":
-                self.engine.loop.call_later(self.release_after, self._release_later, channel)
-            elif words[6] != "0":
-                # A field that waits isn't released with it.
-                self.engine.ask(f"report {channel.vcid}", partial(self._take_all, turn, channel))
+        if self.release is Release.AFTER and words[4] == "1" and event == "E1":
+            self.engine.loop.call_later(self.release_after, self._release_later, channel)
 
     def _hand_on(self, channel: Channel, answers: List[str], asked: bool = False) -> None:
         """Sends all that a receiver has handed on: packets, units, and at last the CLCW. That nothing waited is noted if it was asked."""
@@ -283,13 +285,15 @@ class Craft:  # pylint: disable=too-many-instance-attributes  # what is known of
             self._note_event(turn, answers[0], answers[-1][-8:])
         self._hand_on(self.channels[int(answers[-1].split(" ")[1])], answers, asked=True)
 
-    def _take_all(self, turn: Turn, channel: Channel, answer: str) -> None:
-        """Takes all that a report says is in the queues of a channel."""
-        self.read_report(channel, answer)
-        for word, counts in (("take", channel.in_queues), ("unit", channel.in_maps)):
-            for place, count in counts.items():
-                for _ in range(count):
-                    self._ask(turn, f"{word} {channel.vcid} {place}", self._taken)
+    def _collected(self, turn: Turn, answers: List[str]) -> None:
+        """Hands on what waited, by a line."""
+        if turn.asker:
+            turn.asker("\n".join(answers))
+        self.journal.origin(turn.came, self.now(), turn.source)
+        if answers[-1].startswith("clcw "):
+            self._hand_on(self.channels[int(answers[-1].split(" ")[1])], answers)
+        else:
+            self.journal.answer(f"clcw{turn.line[7:]}", answers[0])
 
     def _taken(self, turn: Turn, line: str, answer: str) -> None:
         """Sends a packet or unit."""
@@ -324,6 +328,9 @@ class Craft:  # pylint: disable=too-many-instance-attributes  # what is known of
             # A person's release has all handed on as the bench's own, but with --release manual.
             turn.first = 0
             self.engine.ask_block(f"deliver{turn.line[7:]}", self._delivered, turn)
+        elif word == "collect":
+            turn.first = 0
+            self.engine.ask_block(turn.line, self._collected, turn)
         elif word in ("take", "unit"):
             self._ask(turn, turn.line, self._taken)
         else:

@@ -1,7 +1,7 @@
 """The edges of the link: CLTUs, out of which frames are taken, and telemetry frames, which take CLCWs down.
 
-One `tcmake` decodes and makes both. What it finds in CLTUs are candidates: the bench cuts off the fill that the frame's length field
-leaves, and the receiver judges the rest.
+One `tcmake` decodes and makes both. What it finds in CLTUs are candidates, out of which it takes the frames, each as long as its length
+field says. The receiver judges them.
 """
 from __future__ import annotations
 
@@ -15,17 +15,23 @@ from tcrx import NUMBER
 
 from .craft import Craft, Turn
 from .engine import Engine, Speech
-from .octets import BROWSER, HEADER, LONGEST_FRONT, begins_request
+from .octets import BROWSER, LONGEST_FRONT, begins_request
 from .ports import Connection, Hub, Port, hold_transport
 
 MAKER = Speech(
     "tcmake", {"frame": re.compile("frame [0-9a-f]+"), "random": re.compile("random [0-9a-f]+"), "tm": re.compile("tm [0-9a-f]+"),
-               "blocks": re.compile(f"blocks corrected {NUMBER} rejected {NUMBER}")},
-    ("octets", "random"), frozenset({"frame", "blocks", "random"}), ("blocks ", "random ", "bad "), frozenset({"blocks"}))
+               "blocks": re.compile(f"blocks corrected {NUMBER} rejected {NUMBER} overlong {NUMBER}"), "fill": re.compile(f"fill {NUMBER}"),
+               "more": re.compile("more [0-9a-f]+")},
+    ("octets", "random", "frames"), frozenset({"frame", "blocks", "random", "fill", "more"}), ("blocks ", "random ", "fill ", "more ", "bad "),
+    frozenset({"blocks", "fill"}))
 # The decoders that connections have, by their numbers from 0 on, and that which each datagram has anew.
 MOST_STREAMS, FOR_DATAGRAMS = 255, 255
 # Octets that are under way to the decoders, so that nobody waits long, and as how many more each piece of them counts.
 MOST_UNDER_WAY, EACH = 1 << 15, 64
+# What is counted of CLTUs.
+CLTU_COUNTS = ("cltus", "corrected_blocks", "rejected_blocks", "overlong_cltus", "overfull_cltus")
+# The attached synchronization marker of telemetry frames (CCSDS 131.0-B).
+MARKER = bytes.fromhex("1acffc1d")
 # Octets of a telemetry frame in front of its data, and of its control field; of its check sum.
 FRONT, CONTROL, SUM = 6, 4, 2
 
@@ -48,16 +54,11 @@ class Piece:  # pylint: disable=too-few-public-methods  # a record, made for eac
         self.port, self.source, self.size = port, source, size + EACH
 
 
-def without_fill(octets: bytes) -> bytes:
-    """A candidate up to the end of the frame that its length field names, with its header in any case."""
-    return octets[:max(HEADER, ((octets[2] & 3) << 8 | octets[3]) + 1)]
-
-
 class Decoding:
     """What finds frames in CLTUs, and hands them to the ports on which they came."""
 
     def __init__(self, options: Namespace, maker: Engine, hub: Hub) -> None:
-        self.mode, self.randomised, self.maker, self.hub = options.cltu, options.randomised, maker, hub
+        self.mode, self.randomised, self.most, self.maker, self.hub = options.cltu, options.randomised, options.cltu_frames, maker, hub
         self.free = list(range(MOST_STREAMS))
         self.counts: Counter[str] = Counter()
         self.under_way = 0
@@ -101,33 +102,59 @@ class Decoding:
         *found, last = answers
         if not last.startswith("blocks "):
             raise ValueError(last)
-        _, _, corrected, _, rejected = last.split(" ")
-        counts = {"cltus": len(found), "corrected_blocks": int(corrected), "rejected_blocks": int(rejected)}
+        _, _, corrected, _, rejected, _, overlong = last.split(" ")
+        counts = {"cltus": len(found), "corrected_blocks": int(corrected), "rejected_blocks": int(rejected), "overlong_cltus": int(overlong)}
         for what, count in counts.items():
             if count:
                 self.counts[what] += count
                 piece.port.count(what, count)
         if any(counts.values()):
             craft = self.hub.craft
-            craft.journal.write(f"# {craft.now():.6f} cltu {piece.source} found {len(found)} corrected {corrected} rejected {rejected}")
+            craft.journal.write(f"# {craft.now():.6f} cltu {piece.source} found {len(found)} corrected {corrected} rejected {rejected} overlong {overlong}")
+        if int(overlong):
+            piece.port.note(piece.source, "a CLTU carried more than 1029 octets, and is left out")
         for candidate in found:
             if self.randomised:
                 self._ask(f"random {candidate[6:]}", self._plain, Piece(piece.port, piece.source, len(candidate) // 2 - 3))
             else:
-                self._bring(piece, candidate[6:])
+                self._delimit(piece, candidate[6:])
         self._balance(-piece.size)
 
     def _plain(self, piece: Piece, answers: List[str]) -> None:
         """Hands a candidate on, whose random sequence was taken off. Raises `ValueError` where it wasn't."""
         if not answers[-1].startswith("random "):
             raise ValueError(answers[-1])
-        self._bring(piece, answers[-1][7:])
+        self._delimit(piece, answers[-1][7:])
         self._balance(-piece.size)
 
-    def _bring(self, piece: Piece, digits: str) -> None:
-        """Brings a candidate, but not behind the end."""
+    def _delimit(self, piece: Piece, digits: str) -> None:
+        """Has the frames of a candidate taken out of it."""
+        self._ask(f"frames {self.most} {digits}", self._delimited, Piece(piece.port, piece.source, len(digits) // 2))
+
+    def _delimited(self, piece: Piece, answers: List[str]) -> None:
+        """Brings the frames of a candidate, but not behind the end. What begins with no frame is brought as well, so that the receiver says
+        why; more frames than may be are counted and noted. Raises `ValueError` where nothing was taken out."""
+        *frames, last = answers
+        word, _, behind = last.partition(" ")
+        if word not in ("fill", "more"):
+            raise ValueError(last)
         if not self.closed:
-            piece.port.bring(without_fill(bytes.fromhex(digits)), piece.source)
+            for frame in frames:
+                piece.port.bring(bytes.fromhex(frame[6:]), piece.source)
+            if word == "more" and len(frames) < self.most:
+                piece.port.bring(bytes.fromhex(behind), piece.source)
+            elif word == "more":
+                self._say_overfull(piece, len(behind) // 2)
+        self._balance(-piece.size)
+
+    def _say_overfull(self, piece: Piece, left: int) -> None:
+        """Counts and notes a CLTU with more frames than may be."""
+        self.counts["overfull_cltus"] += 1
+        piece.port.count("overfull_cltus")
+        text = f"behind {self.most} frame{'s' * (self.most > 1)} of a CLTU {left} octets are left out: see --cltu-frames"
+        piece.port.note(piece.source, text)
+        craft = self.hub.craft
+        craft.journal.write(f"# {craft.now():.6f} cltu {piece.source} overfull frames {self.most} left {left}")
 
     def idle(self) -> bool:
         """Whether nothing is under way."""
@@ -141,8 +168,8 @@ class Decoding:
 
     def state(self) -> Dict[str, object]:
         """What is known, as values of JSON."""
-        return {"mode": self.mode, "randomised": self.randomised, "refused_candidates": self.hub.craft.refused_of_ports,
-                **{what: self.counts[what] for what in ("cltus", "corrected_blocks", "rejected_blocks")}}
+        return {"mode": self.mode, "randomised": self.randomised, "most_frames": self.most, "refused_candidates": self.hub.craft.refused_of_ports,
+                **{what: self.counts[what] for what in CLTU_COUNTS}}
 
 
 class CltuConnection(Connection):
@@ -188,12 +215,14 @@ class CltuConnection(Connection):
 
 
 class Telemetry:
-    """Sends telemetry frames at one pace, from its begin on. Each has the newest CLCW of a channel, one after the other in turn."""
+    """Sends telemetry frames at one pace, from its begin on. Each has the newest CLCW of a channel: the one that was active last, and behind
+    such a frame, and where none was, one channel after the other in turn."""
 
     def __init__(self, options: Namespace, maker: Engine, craft: Craft) -> None:
         self.options, self.maker, self.craft, self.loop = options, maker, craft, asyncio.get_running_loop()
         self.send: Callable[[bytes], None] = lambda octets: None
         self.frames = self.next_in_turn = self.place = 0
+        self.was_of_active = False
         self.started = 0.0
 
     def begin(self) -> None:
@@ -205,13 +234,21 @@ class Telemetry:
         """Has the next frame made, if there is a channel; and so on. Its time is counted from the begin, so that no delay adds up."""
         if self.craft.is_ending or self.maker.over.done():
             return
-        vcids = sorted(self.craft.channels)
-        if vcids:
-            word = self.craft.channels[vcids[self.next_in_turn % len(vcids)]].word
-            self.next_in_turn += 1
+        if self.craft.channels:
+            word = self.craft.channels[self._next_channel()].word
             self.maker.ask(f"tm {self.craft.scid} {self.options.tm_vcid} {self.options.tm_length} {word}", self._made)
         self.place += 1
         self.loop.call_at(self.started + self.place / self.options.tm_rate, self._make_next)
+
+    def _next_channel(self) -> int:
+        """The channel whose CLCW goes next."""
+        active, self.craft.active = self.craft.active, None
+        self.was_of_active = active is not None and not self.was_of_active
+        if active is not None and self.was_of_active:
+            return active
+        vcids = sorted(self.craft.channels)
+        self.next_in_turn += 1
+        return vcids[(self.next_in_turn - 1) % len(vcids)]
 
     def _made(self, answer: str) -> None:
         """Sends a frame. Raises `ValueError` where none was made."""
@@ -227,4 +264,5 @@ class Telemetry:
     def state(self) -> Dict[str, object]:
         """What is known, as values of JSON."""
         chosen = self.options
-        return {"length": chosen.tm_length, "rate": chosen.tm_rate, "vcid": chosen.tm_vcid, "fecf": chosen.tm_fecf, "frames": self.frames}
+        return {"length": chosen.tm_length, "rate": chosen.tm_rate, "vcid": chosen.tm_vcid, "fecf": chosen.tm_fecf, "marker": chosen.tm_marker,
+                "frames": self.frames}

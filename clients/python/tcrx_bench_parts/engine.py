@@ -52,8 +52,9 @@ def has_numbers(line: str, answer: str, is_inner: bool) -> bool:
     try:
         if is_inner:
             wanted = [int(line.rpartition(" ")[2])]
-        elif line.startswith("frame "):
-            wanted = [int(line[10:12], 16) >> 2]
+        elif line.startswith(("frame ", "candidate ")):
+            at = line.index(" ") + 5
+            wanted = [int(line[at:at + 2], 16) >> 2]
         else:
             wanted = [int(number) for number in line.split(" ")[1:]]
     except ValueError:
@@ -66,7 +67,12 @@ RECEIVER = Speech(
         ("frame", f"E[1-9] accepted [01] {COUNTS}"), ("release", COUNTS), ("take", rf"{NUMBER} [0-9a-f]+"), ("clcw", "[0-9a-f]{8}"),
         ("unit", rf"{NUMBER} (?:-|[0-9a-f]+)"), ("link", "[01] [01]"),
         ("report", rf"state (?:open|wait|lockout) vr {NUMBER} .* buffered {NUMBER}(?: queue {NUMBER} {NUMBER})*(?: map {NUMBER} {NUMBER})*"))},
-    ("deliver",), frozenset({"release", "take", "unit", "clcw"}), ("clcw ", "bad ", "refused channel"), frozenset({"frame", "release"}), has_numbers)
+    ("deliver", "collect"), frozenset({"release", "take", "unit", "clcw"}), ("clcw ", "bad ", "refused channel"), frozenset({"frame", "release"}),
+    has_numbers)
+
+
+# The answer to a candidate is that of its frame.
+SAYS_OF = {"frame": ("frame", "candidate")}
 
 
 class Engine:  # pylint: disable=too-many-instance-attributes  # both ways of one connection, and its end
@@ -248,7 +254,7 @@ class Engine:  # pylint: disable=too-many-instance-attributes  # both ways of on
             if word in ("bad", "refused"):
                 continue
             is_inner = place > 0 or line.startswith(speech.opens)
-            if not (word in speech.inner if is_inner else line.startswith(word)):
+            if not (word in speech.inner if is_inner else line.startswith(SAYS_OF.get(word, (word,)))):
                 return place
             if answer not in fitting:
                 if word not in speech.forms or not speech.forms[word].fullmatch(answer):

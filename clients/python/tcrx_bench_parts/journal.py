@@ -24,7 +24,7 @@ from typing import Iterable, Iterator, List, NamedTuple, Optional
 
 from tcrx import LONGEST_ANSWER, NO_BUILD, NotStarted, __version__, find_program
 
-from .octets import without_sum
+from .octets import HEADER, without_sum
 
 # The bits of a CLCW that `tcrx` never sets: No RF Available and No Bit Lock.
 LINK_FLAGS = 0xC000
@@ -133,8 +133,11 @@ class Journal:
         word = line.partition(" ")[0]
         if answer.startswith("bad "):
             self.write(f"# {printable(line)}: {answer}")
-        elif word in ("link", "report"):
+        elif word in ("link", "report") or answer == "refused more":
             self.write(f"#> {line}", f"#~ {answer}")
+        elif word == "candidate":
+            # To the receiver it is its frame.
+            self.answer(f"frame {without_fill(bytes.fromhex(line[len(word) + 1:])).hex()}", answer)
         elif word == "frame" and self.fecf:
             self._frame_with_sum(line, answer)
         elif word == "clcw" and not answer.startswith("refused ") and int(answer[-8:], 16) & LINK_FLAGS:
@@ -169,6 +172,11 @@ class Journal:
     def end(self, report: List[str]) -> None:
         """The final report."""
         self.write("# end", *(f"#= {line}" for line in report))
+
+
+def without_fill(octets: bytes) -> bytes:
+    """A candidate up to the end of the frame that its length field names, with its header in any case."""
+    return octets[:max(HEADER, ((octets[2] & 3) << 8 | octets[3]) + 1)] if len(octets) > HEADER else octets
 
 
 # --- Replay ---

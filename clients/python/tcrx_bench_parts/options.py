@@ -26,7 +26,9 @@ SENDS = (("clcw-udp", "CLCWs to HOST:PORT, one in each datagram"), ("packets-udp
          ("units-udp", "units to HOST:PORT, one in each datagram"), ("tm-udp", "telemetry frames to HOST:PORT, one in each datagram"))
 
 # Octets of a telemetry frame, frames a second and virtual channel, where they aren't given.
-TM_DEFAULTS = {"tm_length": 1115, "tm_rate": 1.0, "tm_vcid": 0, "tm_fecf": False}
+# As many of the shortest frames as the 1,029 octets of a CLTU have room for.
+MOST_FRAMES = 171
+TM_DEFAULTS = {"tm_length": 1115, "tm_rate": 1.0, "tm_vcid": 0, "tm_fecf": False, "tm_marker": False}
 # The fewest octets of a telemetry frame that ends with its frame error control field.
 SHORTEST_WITH_FECF = 13
 
@@ -158,11 +160,13 @@ def add_edges(made: argparse.ArgumentParser) -> None:
     """Adds the options of CLTUs and telemetry frames."""
     made.add_argument("--cltu", choices=("correct", "detect"), metavar="<MODE>",
                       help="frames arrive in CLTUs; correct: one wrong bit of each code block; detect: none")
+    made.add_argument("--cltu-frames", type=number_in(1, MOST_FRAMES), metavar="<N>", help="frames that a CLTU may carry, 1 to 171; 1 if not given")
     made.add_argument("--randomised", action="store_true", help="the random sequence is on what code blocks carry")
     made.add_argument("--tm-length", type=number_in(11, 2048), metavar="<N>", help="octets of a telemetry frame, 11 to 2048; 1115 if not given")
     made.add_argument("--tm-rate", type=rate, metavar="<N>", help="telemetry frames a second, 0.001 to 1000; 1 if not given")
     made.add_argument("--tm-vcid", type=number_in(0, 7), metavar="<N>", help="the virtual channel of telemetry frames, 0 to 7; 0 if not given")
     made.add_argument("--tm-fecf", action="store_true", default=None, help="each telemetry frame ends with its frame error control field")
+    made.add_argument("--tm-marker", action="store_true", default=None, help="over TCP the marker 1acffc1d precedes each telemetry frame")
 
 
 def add_behaviour(made: argparse.ArgumentParser) -> None:
@@ -202,6 +206,7 @@ def read_words(words: Sequence[str]) -> argparse.Namespace:
         made.error("argument --patience: it must be over 0")
     if fault := fault_of_edges(options):
         made.error(fault)
+    options.cltu_frames = options.cltu_frames or 1
     for name, value in TM_DEFAULTS.items():
         setattr(options, name, value if getattr(options, name) is None else getattr(options, name))
     if options.demo:
@@ -217,6 +222,7 @@ def fault_of_edges(options: argparse.Namespace) -> str:
     has_telemetry = bool(kinds & {"tm-tcp", "tm-udp"})
     rows = [(options.cltu and options.demo, "--cltu: not with --demo"),
             (options.cltu and not kinds & {"tc-tcp", "tc-udp"}, "--cltu: not without --tc-tcp or --tc-udp"),
+            (options.cltu_frames and not options.cltu, "--cltu-frames: not without --cltu"),
             (options.randomised and not options.cltu, "--randomised: not without --cltu"),
             *((getattr(options, name) is not None and not has_telemetry, f"--{name.replace('_', '-')}: not without --tm-tcp or --tm-udp")
               for name in TM_DEFAULTS),

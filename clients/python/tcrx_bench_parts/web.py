@@ -263,7 +263,7 @@ def all_metrics(state: Dict[str, object]) -> Iterator[Tuple[str, str, Dict[str, 
         for reason, count in cast(Dict[str, int], state[name]).items():
             yield f"{name}_total", "counter", {"reason": reason}, count
     if cltu := cast(Dict[str, object], state["cltu"]):
-        for what in ("cltus", "corrected_blocks", "rejected_blocks", "refused_candidates"):
+        for what in ("cltus", "corrected_blocks", "rejected_blocks", "refused_candidates", "overlong_cltus", "overfull_cltus"):
             yield f"{what}_total", "counter", {}, cltu[what]
     if telemetry := cast(Dict[str, object], state["telemetry"]):
         yield "telemetry_frames_total", "counter", {}, telemetry["frames"]

@@ -37,10 +37,12 @@ pub(crate) const INPUT: &str =
 
 /// Of `tclive`: the lines with their limits, the statuses, and an example.
 pub(crate) const LIVE_LINES: &str =
-    "Each line is answered before the next is read. Lines are those of a script of tcrx, which tcrx --help lists, and three more:
+    "Each line is answered before the next is read. Lines are those of a script of tcrx, which tcrx --help lists, and five more:
   link VC RF BL  No RF Available and No Bit Lock, 0 or 1 each, that the CLCWs of a channel have from now on
   report VC      prints the state of a channel: V(R), flags, the FARM-B counter, its buffer, queues and MAPs
   deliver VC     does what release VC does, then takes all that waits in the queues of a channel, and prints its CLCW
+  collect VC     does the same without a release
+  candidate HEX  does what frame does with what a CLTU carried: a frame of its own length, and fill
 Lines that set up, blank lines and comments have no answer. A bad line is answered bad and why, and changes nothing.
 A line has at most 8192 octets. At the end of the lines the final report is written.
 
@@ -74,6 +76,8 @@ pub(crate) const MAKER_LINES: &str = "Lines, each of which is answered before th
   decoder ID MODE                      gives a stream (0 to 255) a new decoder of CLTUs. MODE is detect, or correct: one wrong
                                        bit of each code block is corrected, and one of the start sequence passes
   octets ID HEX                        gives the decoder of a stream its next octets
+  search ID                            has the decoder of a stream look for a start sequence anew
+  frames MOST HEX                      takes frames (0 to 255 at most) out of what a CLTU carried
   # WORDS                              is a comment
 The word plain in the place of a MAP of ad and bd leaves the segment header out. A bad line is answered bad and why. A line
 has at most 262143 octets.

@@ -5,7 +5,7 @@ use Rattle.std.proofs.lemmas.Bool.{le-ltb, lt-ltb}
 use Rattle.std.proofs.lemmas.List.{length-drop, length-take-le, take-set-le, drop-set-add, take_more_set, take_at}
 use Rattle.tc_cltu.specs.declared.block.Mode.{Mode}
 use Rattle.tc_cltu.specs.CodeBlock.{decoded}
-use Rattle.tc_cltu.specs.Reception.{reception_step, after_block, fate_in, fate_of}
+use Rattle.tc_cltu.specs.Reception.{reception_step, after_block, fate_after, fate_of}
 use Rattle.tc_c.specs.declared.decoder.DecoderRecord.{DecoderRecord}
 use Rattle.tc_c.specs.Decoder.{reception_of}
 
@@ -43,8 +43,9 @@ last-state mode o d f g on last room made =
     rw (on, made, last, full d.held f room, held-stays d.held 7 o f, block-more d.held 7 o f room)
 
 pub last-fate : (mode : Mode) (o : ℕ) (d : DecoderRecord) (f g : List ℕ) → d.decoding ≡ 1 → d.count ≡ 7 → d.held + 7 < length f
-    → g ≡ set f (d.held + d.count) o → fate_of mode (reception_of d f) o ≡ Some (fate_in mode (take 8 (drop d.held g)))
-last-fate mode o d f g on last room made = rw (on, made, last, full d.held f room, block-more d.held 7 o f room)
+    → g ≡ set f (d.held + d.count) o → fate_of mode 1029 (reception_of d f) o ≡ Some (fate_after mode 1029 (take d.held g) (take 8 (drop d.held g)))
+last-fate mode o d f g on last room made =
+    rw (on, made, last, full d.held f room, held-stays d.held 7 o f, block-more d.held 7 o f room)
 
 -- a block that is taken goes behind what is held
 pub taken-state : (d n : DecoderRecord) (f x rest information : List ℕ) (o : Option (List ℕ)) → d.decoding ≡ 1 → d.held + 7 ≤ 1029 → d.held ≤ length f

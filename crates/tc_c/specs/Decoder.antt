@@ -44,4 +44,8 @@ given_by answer frame = if answer.ended == 0 then [] else take answer.decoder.he
 
 -- no octet was taken
 abbrev pub none_taken : Status → DecoderRecord → DecodedRecord
-none_taken fault decoder = record { status = code_of fault; decoder = decoder; ended = 0; taken = 0; corrected = 0; rejected = 0 }
+none_taken fault decoder = record { status = code_of fault; decoder = decoder; ended = 0; taken = 0; corrected = 0; rejected = 0; overlong = 0 }
+
+-- it looks for a start sequence, and no octet came before
+abbrev pub searching : DecoderRecord → DecoderRecord
+searching decoder = record { correct = decoder.correct; decoding = 0; last = 0; count = 0; held = 0 }

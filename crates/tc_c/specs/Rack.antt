@@ -1,7 +1,11 @@
 -- Which of the channels in the caller's memory a frame is for, and what becomes of them.
-use Rattle.std.specs.Prelude.{◌≡◌, ◌≢◌, ◌≤◌, ◌⊎◌, ℕ, List, map, slice_get, slice_set, Option, Some}
+use Rattle.std.specs.Prelude.{◌≡◌, ◌≢◌, ◌≤◌, ◌⊎◌, ℕ, Bool, true, false, not, List, length, map, slice_get, slice_set, Option, Some}
 use Rattle.tc_link.specs.Bits.{bit}
-use Rattle.tc_link.specs.Frame.{BeginsWith, header_of, fault_of}
+use Rattle.tc_link.specs.Frame.{IsWhole, BeginsWith, header_of, fault_of}
+use Rattle.tc_link.specs.declared.frame.FrameFault.{FrameFault}
+use Rattle.tc_fecf.specs.Candidate.{IsDelimited, is_fill}
+use Rattle.tc_fecf.specs.FrameWithField.{frame_with_field, taking_fault_of}
+use Rattle.tc_fecf.specs.declared.frames.FieldFault.{FieldFault}
 use Rattle.tc_link.specs.declared.location.LocateFault.{LocateFault}
 use Rattle.tc_link.specs.declared.location.LocateFault.TheVariants.{Frame, OtherSpacecraft, UnknownChannel}
 use Rattle.tc_channel.specs.declared.event.Event.TheVariants as events
@@ -13,8 +17,9 @@ use Rattle.tc_c.specs.declared.seat.Seat.{Seat}
 use Rattle.tc_c.specs.declared.status.Status.{Status}
 use Rattle.tc_c.specs.declared.status.Status.TheVariants.{Done}
 use Rattle.tc_c.specs.declared.rack.RackReplyRecord.{RackReplyRecord}
+use Rattle.tc_c.specs.declared.rack.CandidateReplyRecord.{CandidateReplyRecord}
 use Rattle.tc_c.specs.declared.rack.PlaceRecord.{PlaceRecord}
-use Rattle.tc_c.specs.Status.{code_of, locate_status}
+use Rattle.tc_c.specs.Status.{code_of, frame_status, locate_status, field_status}
 
 -- the channel in each seat, if one is held there
 abbrev pub channels_in : List Seat → List (Option LimitedHistory)
@@ -79,3 +84,34 @@ IsUnlocated old scid octets reply new =
 
 abbrev pub IsRackReplied : List (Option LimitedHistory) → ℕ → List ℕ → RackReplyRecord → List (Option LimitedHistory) → Type 0
 IsRackReplied old scid octets reply new = IsTakenIn old scid octets reply new ⊎ IsUnlocated old scid octets reply new
+
+-- what becomes of a frame as it ends: with the frame error control field, it is brought without that where it is right
+abbrev pub IsEndedReplied : List (Option LimitedHistory) → ℕ → Bool → List ℕ → RackReplyRecord → List (Option LimitedHistory) → Type 0
+IsEndedReplied old scid false frame reply new = IsRackReplied old scid frame reply new
+IsEndedReplied old scid true frame reply new =
+    ((plain : List ℕ) × IsWhole plain × (frame ≡ frame_with_field plain) × IsRackReplied old scid plain reply new)
+    ⊎ ((fault : FieldFault) × (taking_fault_of frame ≡ Some fault) × (reply ≡ no_rack_reply (field_status fault)) × (new ≡ old))
+
+-- a reply, with how long the frame was, and whether more than fill follows it
+abbrev pub candidate_reply : RackReplyRecord → ℕ → Bool → CandidateReplyRecord
+candidate_reply reply length more = record {
+  status = reply.status;
+  queued = reply.queued;
+  dropped = reply.dropped;
+  event = reply.event;
+  accepted = reply.accepted;
+  rest = reply.rest;
+  vcid = reply.vcid;
+  more = bit more;
+  length = length;
+}
+
+abbrev pub no_candidate_reply : Status → CandidateReplyRecord
+no_candidate_reply fault = candidate_reply (no_rack_reply fault) 0 false
+
+-- the frame that stands at the front is taken off by its length field, and replied as it ends; or none stands there
+abbrev pub IsCandidateReplied : List (Option LimitedHistory) → ℕ → Bool → List ℕ → CandidateReplyRecord → List (Option LimitedHistory) → Type 0
+IsCandidateReplied old scid ends octets reply new =
+    ((frame : List ℕ) × (rest : List ℕ) × (brought : RackReplyRecord) × IsDelimited octets frame rest × IsEndedReplied old scid ends frame brought new
+    × (reply ≡ candidate_reply brought (length frame) (not (is_fill rest))))
+    ⊎ ((fault : FrameFault) × (fault_of octets ≡ Some fault) × (reply ≡ no_candidate_reply (frame_status fault)) × (new ≡ old))

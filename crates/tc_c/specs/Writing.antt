@@ -31,10 +31,10 @@ packet_allowed field header =
 abbrev pub packet_to_write : PacketHeaderRecord → List ℕ → Result PacketHeader Status
 packet_to_write header field = with_ok (packet_header_in header) (packet_allowed field)
 
--- the header of the frame that carries the segment at a place of a unit, by that of the first one
+-- the header of the frame that carries the segment at a place of a unit, by that of the first one; no Type-C frame has a segment header
 abbrev pub segment_allowed : ℕ → ℕ → ℕ → List ℕ → Header → Result Header Status
 segment_allowed map size place unit header =
-    if nat_lt 1023 header.scid || nat_lt 63 header.vcid then Err BadField
+    if header.control || (nat_lt 1023 header.scid || nat_lt 63 header.vcid) then Err BadField
     else if nat_lt 63 map then Err BadMap
     else if nat_lt size 1 || nat_lt 1018 size then Err BadSize
     else if nat_lt (length unit) 1 then Err EmptyData

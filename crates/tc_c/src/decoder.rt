@@ -2,10 +2,10 @@
 
 ghost use Rattle.std.specs.Prelude.{◌≡◌, ◌<◌, ◌≤◌, ◌+◌, ◌-◌, ◌∷◌, [], Ok, Err, Some, length, take, drop, IfOk, IfErr, MatchResult, if◌then◌else◌};
 ghost use Rattle.tc_cltu.specs.Cltu.{most_octets};
-ghost use Rattle.tc_cltu.specs.Reception.{is_start, reception_step, state_after, frames_of, fate_of, fate_in, after_block, corrected_in, rejected_in};
+ghost use Rattle.tc_cltu.specs.Reception.{is_start, reception_step, state_after, frames_of, fate_of, fate_after, after_block, corrected_in, rejected_in, overlong_in};
 ghost use Rattle.tc_cltu.specs.CodeBlock.{decoded};
 ghost use Rattle.tc_c.specs.Status.{code_of};
-ghost use Rattle.tc_c.specs.Decoder.{decoder_room, decoder_given, reception_of, given_by, none_taken};
+ghost use Rattle.tc_c.specs.Decoder.{decoder_room, decoder_given, reception_of, given_by, none_taken, searching};
 
 use crate::farm::flag;
 use crate::status::{Status, code};
@@ -42,6 +42,8 @@ pub struct DecodedRecord {
     pub corrected: u64,
     /// How many ended in them that were rejected, and aren't the tail sequence.
     pub rejected: u64,
+    /// How many CLTUs carried more in them than 1,029 octets, each of which ends no candidate frame.
+    pub overlong: u64,
 }
 
 /// Gives a decoder the next octets of a stream (CCSDS 231.0-B), as the `Decoder` of tc_cltu takes them: up to and with the first that
@@ -65,18 +67,54 @@ pub extern "C" fn tcrx_cltu_octets_at(
     ensures flag { IfOk (decoder_given decoder (length frame.old)) (λ mode. result.ended < 2) }
     ensures corrected { IfOk (decoder_given decoder (length frame.old)) (λ mode. result.corrected ≡ corrected_in mode most_octets (reception_of decoder frame.old) (take result.taken octets.now)) }
     ensures rejected { IfOk (decoder_given decoder (length frame.old)) (λ mode. result.rejected ≡ rejected_in mode most_octets (reception_of decoder frame.old) (take result.taken octets.now)) }
+    ensures overlong { IfOk (decoder_given decoder (length frame.old)) (λ mode. result.overlong ≡ overlong_in mode most_octets (reception_of decoder frame.old) (take result.taken octets.now)) }
     ensures refused { IfErr (decoder_given decoder (length frame.old)) (λ fault. (result ≡ none_taken fault decoder) × (frame.new ≡ frame.old)) }
 {
     match read_decoder(decoder, frame.len()) {
-        Err(fault) => DecodedRecord {
-            status: code(fault),
-            decoder,
-            ended: 0,
-            taken: 0,
-            corrected: 0,
-            rejected: 0,
-        },
+        Err(fault) => nothing_taken(fault, decoder),
         Ok(mode) => take_octets(mode, decoder, octets, frame),
+    }
+}
+
+/// Has a decoder look for a start sequence anew, as after a loss of bit lock (CCSDS 231.0-B): code blocks that were taken since the last
+/// one end no candidate frame. The answer has the decoder then, and else only zeros.
+///
+/// A record with a flag that is neither 0 nor 1 is refused by BadFlag, and another one that no decoder has by BadDecoder.
+#[unsafe(no_mangle)]
+pub extern "C" fn tcrx_cltu_search(decoder: DecoderRecord) -> DecodedRecord
+    ensures searching { IfOk (decoder_given decoder decoder_room) (λ mode. result ≡ none_taken Status.Done (searching decoder)) }
+    ensures refused { IfErr (decoder_given decoder decoder_room) (λ fault. result ≡ none_taken fault decoder) }
+{
+    match read_decoder(decoder, MOST_OCTETS + 8) {
+        Err(fault) => nothing_taken(fault, decoder),
+        Ok(_) => nothing_taken(Status::Done, searching(decoder)),
+    }
+}
+
+fn nothing_taken(status: Status, decoder: DecoderRecord) -> DecodedRecord
+    ensures { result ≡ none_taken status decoder }
+{
+    DecodedRecord {
+        status: code(status),
+        decoder,
+        ended: 0,
+        taken: 0,
+        corrected: 0,
+        rejected: 0,
+        overlong: 0,
+    }
+}
+
+// It looks for a start sequence, and no octet came before.
+fn searching(decoder: DecoderRecord) -> DecoderRecord
+    ensures { result ≡ searching decoder }
+{
+    DecoderRecord {
+        decoding: 0,
+        last: 0,
+        count: 0,
+        held: 0,
+        ..decoder
     }
 }
 
@@ -99,12 +137,14 @@ fn take_octets(mode: Mode, decoder: DecoderRecord, octets: &[u8], frame: &mut [u
     ensures flag { result.ended < 2 }
     ensures corrected { result.corrected ≡ corrected_in mode most_octets (reception_of decoder frame.old) (take result.taken octets.now) }
     ensures rejected { result.rejected ≡ rejected_in mode most_octets (reception_of decoder frame.old) (take result.taken octets.now) }
+    ensures overlong { result.overlong ≡ overlong_in mode most_octets (reception_of decoder frame.old) (take result.taken octets.now) }
 {
     let mut now = decoder;
     let mut taken = 0u64;
     let mut counts = Blocks {
         corrected: 0,
         rejected: 0,
+        overlong: 0,
     };
     for octet in octets {
         let next = take_octet(mode, now, *octet, frame);
@@ -119,6 +159,7 @@ fn take_octets(mode: Mode, decoder: DecoderRecord, octets: &[u8], frame: &mut [u
                 taken,
                 corrected: counts.corrected,
                 rejected: counts.rejected,
+                overlong: counts.overlong,
             };
         }
     }
@@ -129,6 +170,7 @@ fn take_octets(mode: Mode, decoder: DecoderRecord, octets: &[u8], frame: &mut [u
         taken,
         corrected: counts.corrected,
         rejected: counts.rejected,
+        overlong: counts.overlong,
     }
 }
 
@@ -156,7 +198,7 @@ fn take_octet(mode: Mode, decoder: DecoderRecord, octet: u8, frame: &mut [u8]) -
     ensures length { length frame.new ≡ length frame.old }
     ensures state { reception_of result.decoder frame.new ≡ (reception_step mode most_octets (reception_of decoder frame.old) octet).0 }
     ensures given { (if result.ended then take result.decoder.held frame.new ∷ [] else []) ≡ (reception_step mode most_octets (reception_of decoder frame.old) octet).1 }
-    ensures fate { result.fate ≡ fate_of mode (reception_of decoder frame.old) octet }
+    ensures fate { result.fate ≡ fate_of mode most_octets (reception_of decoder frame.old) octet }
 {
     if decoder.decoding == 0 {
         return Taken {
@@ -229,7 +271,7 @@ fn end_block(mode: Mode, decoder: DecoderRecord, frame: &mut [u8]) -> Taken
     ensures length { length frame.new ≡ length frame.old }
     ensures state { reception_of result.decoder frame.new ≡ (after_block most_octets (take decoder.held frame.old) (decoded mode (take 8 (drop decoder.held frame.old)))).0 }
     ensures given { (if result.ended then take result.decoder.held frame.new ∷ [] else []) ≡ (after_block most_octets (take decoder.held frame.old) (decoded mode (take 8 (drop decoder.held frame.old)))).1 }
-    ensures fate { result.fate ≡ Some (fate_in mode (take 8 (drop decoder.held frame.old))) }
+    ensures fate { result.fate ≡ Some (fate_after mode most_octets (take decoder.held frame.old) (take 8 (drop decoder.held frame.old))) }
 {
     let held = usize::from(decoder.held);
     let (_, rest) = frame.split_at_mut(held);
@@ -253,7 +295,7 @@ fn end_block(mode: Mode, decoder: DecoderRecord, frame: &mut [u8]) -> Taken
             if held + 7 > MOST_OCTETS {
                 return Taken {
                     decoder: searching,
-                    fate: Some(fate),
+                    fate: Some(Fate::Overlong),
                     ended: false,
                 };
             }

@@ -38,7 +38,7 @@ pub use counts::{
     CountRecord, tcrx_channel_buffered_at, tcrx_channel_clcw_at, tcrx_channel_events_at,
     tcrx_channel_queued_at, tcrx_channel_report_at, tcrx_channel_units_at,
 };
-pub use decoder::{DecodedRecord, DecoderRecord, tcrx_cltu_octets_at};
+pub use decoder::{DecodedRecord, DecoderRecord, tcrx_cltu_octets_at, tcrx_cltu_search};
 pub use farm::{FarmAnswer, FarmRecord, StepAnswer, tcrx_farm_start, tcrx_farm_step};
 pub use frames::{
     FrameRecord, HeaderRecord, KindRecord, tcrx_kind_at, tcrx_read_frame_at, tcrx_write_frame_at,
@@ -51,7 +51,10 @@ pub use laws::{
 };
 pub use packets::{PacketRecord, tcrx_read_packet_at};
 pub use place::Place;
-pub use rack::{PlaceRecord, RackReplyRecord, tcrx_rack_find_at, tcrx_rack_frame_at};
+pub use rack::{
+    CandidateReplyRecord, PlaceRecord, RackReplyRecord, tcrx_rack_candidate_at, tcrx_rack_find_at,
+    tcrx_rack_frame_at,
+};
 pub use seat::Seat;
 pub use settings::{SettingsRecord, tcrx_channel_new_at, tcrx_channel_new_with_limits_at};
 pub use status::Status;

@@ -1,6 +1,6 @@
 //! The channels of a spacecraft in the caller's memory: which of them a frame is for.
 
-ghost use Rattle.std.specs.Prelude.{◌≡◌, ◌<◌, ℕ, List, length, Some, None, IfSome, IfNone, IfOk, MatchOption, MatchResult, option_map};
+ghost use Rattle.std.specs.Prelude.{◌≡◌, ◌<◌, ℕ, List, true, false, length, Some, None, IfSome, IfNone, IfOk, MatchOption, MatchResult, option_map};
 ghost use Rattle.tc_link.specs.Frame.{IsWhole, BeginsWith, header_of, fault_of};
 ghost use Rattle.tc_channel.specs.Reply.{frame_reply_within};
 ghost use Rattle.tc_channel.specs.declared.event.Event.TheVariants as Event;
@@ -8,12 +8,13 @@ ghost use Rattle.tc_fecf.specs.FrameWithField.{frame_with_field, taking_fault_of
 ghost use Rattle.tc_fixed.specs.History.{LimitedHistory, with_limited_event};
 ghost use Rattle.tc_fixed.specs.Limits.{limit_of};
 ghost use Rattle.tc_c.specs.Status.{code_of, field_status};
-ghost use Rattle.tc_c.specs.Rack.{channels_in, IsFirstWithVcid, IsHeld, IsLocatedAmong, IsLocateFaultAmong, rack_reply, no_rack_reply, no_place, IsRackReplied};
+ghost use Rattle.tc_c.specs.Rack.{channels_in, IsFirstWithVcid, IsHeld, IsLocatedAmong, IsLocateFaultAmong, rack_reply, no_rack_reply, no_place, IsRackReplied, IsEndedReplied, IsCandidateReplied, candidate_reply, no_candidate_reply};
 
 use crate::channel::tcrx_channel_frame_at;
 use crate::farm::flag;
 use crate::seat::Seat;
-use crate::status::{Status, code, field_fault, locate_fault};
+use crate::status::{Status, code, field_fault, frame_fault, locate_fault};
+use tc_fecf::{Delimited, delimit, is_fill};
 use tc_link::{LocateFault, each_input_begins_with_one_frame_at_most, read_frame};
 use tc_write::{check_taking, write_without_field};
 
@@ -34,6 +35,25 @@ pub struct RackReplyRecord {
     pub rest: u8,
     /// The virtual channel id.
     pub vcid: u8,
+}
+
+/// What became of the frame at the front of a candidate, and what follows it. Flags are 0 or 1. Where the call is refused, each number
+/// is 0, but for the last two of a frame that was found.
+#[repr(C)]
+#[derive(Clone, Copy)]
+pub struct CandidateReplyRecord {
+    pub status: u32,
+    /// As in [`RackReplyRecord`], down to the virtual channel id.
+    pub queued: u32,
+    pub dropped: u32,
+    pub event: u8,
+    pub accepted: u8,
+    pub rest: u8,
+    pub vcid: u8,
+    /// Whether more follows the frame than can be fill.
+    pub more: u8,
+    /// How many octets the frame has, with its frame error control field.
+    pub length: u16,
 }
 
 /// A status with a place in an array.
@@ -173,6 +193,70 @@ pub extern "C" fn tcrx_rack_frame_at(
         Ok(false) => bring(seats, scid, octets),
         Ok(true) => bring_checked(seats, scid, octets),
         Err(fault) => reply_refused(fault),
+    }
+}
+
+// A frame as it ends: with the frame error control field, or without.
+fn bring_ended(seats: &mut [Seat], scid: u16, ends: bool, frame: &[u8]) -> RackReplyRecord
+    ensures replied { IsEndedReplied (channels_in seats.old) scid ends frame.now result (channels_in seats.new) }
+{
+    if ends {
+        bring_checked(seats, scid, frame)
+    } else {
+        bring(seats, scid, frame)
+    }
+}
+
+// A reply with how long the frame was, and whether more follows.
+fn found(reply: RackReplyRecord, length: u16, more: bool) -> CandidateReplyRecord
+    ensures { result ≡ candidate_reply reply length more }
+{
+    CandidateReplyRecord {
+        status: reply.status,
+        queued: reply.queued,
+        dropped: reply.dropped,
+        event: reply.event,
+        accepted: reply.accepted,
+        rest: reply.rest,
+        vcid: reply.vcid,
+        more: u8::from(more),
+        length,
+    }
+}
+
+// Takes the frame off the front of a candidate, and brings it as it ends.
+fn bring_candidate(seats: &mut [Seat], scid: u16, ends: bool, octets: &[u8]) -> CandidateReplyRecord
+    ensures replied { IsCandidateReplied (channels_in seats.old) scid ends octets.now result (channels_in seats.new) }
+{
+    match delimit(octets) {
+        Ok(Delimited { frame, rest }) => {
+            let reply = bring_ended(seats, scid, ends, frame);
+            found(reply, frame.len() as u16, !is_fill(rest))
+        }
+        Err(fault) => found(reply_refused(frame_fault(fault)), 0, false),
+    }
+}
+
+/// Gives the frame at the front of a candidate, which is what a CLTU carried, to the first channel with its virtual channel id, as
+/// [`tcrx_rack_frame_at`] does: the frame is as long as its length field says, which is looked at first, and what follows it is fill, or
+/// the next frame (frame delimiting and fill removal, and then frame validation: CCSDS 232.0-B).
+///
+/// Refused are another `fecf` by BadFlag; then octets with which no frame begins by their first fault; then the frame as by
+/// `tcrx_rack_frame_at`. Then each channel stays as it was.
+#[unsafe(no_mangle)]
+pub extern "C" fn tcrx_rack_candidate_at(
+    seats: &mut [Seat],
+    scid: u16,
+    fecf: u8,
+    octets: &[u8],
+) -> CandidateReplyRecord
+    ensures bare { fecf ≡ 0 → IsCandidateReplied (channels_in seats.old) scid false octets.now result (channels_in seats.new) }
+    ensures ended { fecf ≡ 1 → IsCandidateReplied (channels_in seats.old) scid true octets.now result (channels_in seats.new) }
+    ensures bad_flag { 1 < fecf → (result ≡ no_candidate_reply Status.BadFlag) × (channels_in seats.new ≡ channels_in seats.old) }
+{
+    match flag(fecf) {
+        Ok(ends) => bring_candidate(seats, scid, ends, octets),
+        Err(fault) => found(reply_refused(fault), 0, false),
     }
 }
 

@@ -95,9 +95,9 @@ fn read_packet_header(header: PacketHeaderRecord) -> Result<PacketHeader, Status
 ///
 /// Each segment carries `size` octets, 1 to 1,018, and the last one what is left. The unit has 1 to 65,542 octets. The header is that
 /// of the first frame; the N(S) of Type-AD frames counts up modulo 256 from there. Refused are a flag that is neither 0 nor 1 by
-/// BadFlag, ids over their bounds by BadField and BadMap, another size by BadSize, units of other lengths by EmptyData and LongUnit,
-/// and a place that the unit has no segment at by NoSegment, with length 0; then a buffer that is too short by NoRoom, with the length
-/// that is needed. A buffer stays as it was where the call is refused.
+/// BadFlag, the header of a Type-C frame, in which no segment header is, and ids over their bounds by BadField and BadMap, another size
+/// by BadSize, units of other lengths by EmptyData and LongUnit, and a place that the unit has no segment at by NoSegment, with length
+/// 0; then a buffer that is too short by NoRoom, with the length that is needed. A buffer stays as it was where the call is refused.
 #[unsafe(no_mangle)]
 pub extern "C" fn tcrx_write_segment_at(
     header: HeaderRecord,
@@ -141,7 +141,7 @@ fn header_at(
     ensures place { IfOk result (λ h. place < segments_needed size (length unit.now)) }
 {
     let header = read_header(header)?;
-    if header.scid > 1023 || header.vcid > 63 {
+    if header.control || header.scid > 1023 || header.vcid > 63 {
         return Err(Status::BadField);
     }
     if map > 63 {

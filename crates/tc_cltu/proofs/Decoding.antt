@@ -3,9 +3,9 @@ use Rattle.std.proofs.Common.{◌≡◌, ℕ, zero, suc, ◌+◌, ◌*◌, ◌/�
 use Rattle.tc_cltu.proofs.Names.{Correct, Detect, IsInformation, IsOctets, Mode, block_times_x, cases_lt, code_block, decoded, flipped, le-ltb, lt-ltb, nat_tests, octet_bits, parity_of, xor_self}
 use Rattle.std.proofs.lemmas.List.{append-nil, at_drop_more, append_cancel_right, drop_all, length-take-le, take_more, take-append-drop}
 use Rattle.tc_cltu.specs.Cltu.{cltu, start_sequence, tail_sequence, code_blocks, fill, filled, cltu_fault_of}
-use Rattle.tc_cltu.specs.Reception.{Receiver, Reception, Searching, Decoding, Step, is_start, reception_step, after_block, fate_in, fate_of, corrections_of, rejections_of, counted_in, state_after, frames_of, HasNoStart, IsSearching, IsReception, idle}
+use Rattle.tc_cltu.specs.Reception.{Receiver, Reception, Searching, Decoding, Step, is_start, reception_step, after_block, fate_in, fate_of, fate_after, corrections_of, rejections_of, overruns_of, counted_in, state_after, frames_of, HasNoStart, IsSearching, IsReception, idle}
 use Rattle.tc_cltu.specs.declared.block.Fate.{Fate}
-use Rattle.tc_cltu.specs.declared.block.Fate.TheVariants.{Right, Corrected, Tail, Rejected}
+use Rattle.tc_cltu.specs.declared.block.Fate.TheVariants.{Right, Corrected, Tail, Rejected, Overlong}
 use Rattle.tc_link.proofs.Frames.{octets-append}
 use Rattle.tc_fecf.proofs.Plain.{octets-take}
 use Rattle.tc_cltu.proofs.Words.{parity-fits}
@@ -28,12 +28,12 @@ pub counted-append : (count : Option Fate → ℕ) (mode : Mode) (room : ℕ) (x
     → counted_in count mode room s (xs ++ ys) ≡ counted_in count mode room s xs + counted_in count mode room (state_after mode room s xs) ys
 counted-append count mode room [] ys s = omega arith
 counted-append count mode room (x ∷ xs) ys s =
-    ap (λ (n : ℕ). count (fate_of mode s x) + n) (counted-append count mode room xs ys (reception_step mode room s x).0)
-    ∙ sym (add_assoc (count (fate_of mode s x)) (counted_in count mode room (reception_step mode room s x).0 xs) (counted_in count mode room (state_after mode room (reception_step mode room s x).0 xs) ys))
+    ap (λ (n : ℕ). count (fate_of mode room s x) + n) (counted-append count mode room xs ys (reception_step mode room s x).0)
+    ∙ sym (add_assoc (count (fate_of mode room s x)) (counted_in count mode room (reception_step mode room s x).0 xs) (counted_in count mode room (state_after mode room (reception_step mode room s x).0 xs) ys))
 
 -- a code block is counted where it ends
 pub block-counted : (count : Option Fate → ℕ) (mode : Mode) (room : ℕ) (frame block : List ℕ) → count None ≡ 0 → length block ≡ 8
-    → count (Some (fate_in mode block)) ≡ counted_in count mode room (Decoding frame []) block
+    → count (Some (fate_after mode room frame block)) ≡ counted_in count mode room (Decoding frame []) block
 block-counted count mode room frame (a ∷ b ∷ c ∷ d ∷ e ∷ f ∷ g ∷ h ∷ []) none eight = omega (arith, none)
 block-counted count mode room frame _ none eight = absurd (omega arith)
 
@@ -357,20 +357,20 @@ last-step mode room octet last count frame block decoding value o on more less l
     subst (λ (v : Receiver). reception_step v.mode room v.state octet ≡ after_block room frame o) view
     (ap (λ (x : Reception). reception_step mode room x octet) state ∙ whole-step mode room octet frame (take 7 block) (omega arith) ∙ ap (after_block room frame) (sym is))
 
-pub last-fate : (mode : Mode) (octet last count : ℕ) (frame block : List ℕ) (decoding : Bool) (value : Receiver) (f : Fate)
+pub last-fate : (mode : Mode) (room octet last count : ℕ) (frame block : List ℕ) (decoding : Bool) (value : Receiver) (f : Fate)
     → decoding ≡ true → 7 ≤ count → count < 8 → length block ≡ 8
     → record { mode = mode; state = (if decoding then Decoding frame (take count block) else Searching last); held = frame } ≡ value
-    → f ≡ fate_in mode (set block count octet) → Some f ≡ fate_of value.mode value.state octet
-last-fate mode octet last count frame block decoding value f on more less l view h =
+    → f ≡ fate_after mode room frame (set block count octet) → Some f ≡ fate_of value.mode room value.state octet
+last-fate mode room octet last count frame block decoding value f on more less l view h =
     let at : 7 ≡ count = omega arith in
     let s = set-last block octet l in
     let s1 = s.1 in
     let state : (if decoding then Decoding frame (take count block) else Searching last) ≡ Decoding frame (take 7 block) =
     ap (λ (t : Bool). if t then Decoding frame (take count block) else Searching last) on ∙ ap (λ (n : ℕ). Decoding frame (take n block)) (sym at) in
-    let is : f ≡ fate_in mode (take 7 block ++ octet ∷ []) = h ∙ ap (λ (n : ℕ). fate_in mode (set block n octet)) (sym at) ∙ ap (fate_in mode) s.0 in
+    let is : f ≡ fate_after mode room frame (take 7 block ++ octet ∷ []) = h ∙ ap (λ (n : ℕ). fate_after mode room frame (set block n octet)) (sym at) ∙ ap (fate_after mode room frame) s.0 in
     let whole : nat_lt (length (take 7 block)) 7 ≡ false = ap (λ (n : ℕ). nat_lt n 7) s1 in
-    subst (λ (v : Receiver). Some f ≡ fate_of v.mode v.state octet) view
-    (sym (ap (λ (x : Reception). fate_of mode x octet) state ∙ ap (λ (t : Bool). if t then None else Some (fate_in mode (take 7 block ++ octet ∷ []))) whole ∙ ap Some (sym is)))
+    subst (λ (v : Receiver). Some f ≡ fate_of v.mode room v.state octet) view
+    (sym (ap (λ (x : Reception). fate_of mode room x octet) state ∙ ap (λ (t : Bool). if t then None else Some (fate_after mode room frame (take 7 block ++ octet ∷ []))) whole ∙ ap Some (sym is)))
 
 -- ---- a loop over octets: one is taken
 pub fed-state : (mode was : Mode) (room i : ℕ) (os : List ℕ) (state next target : Reception) → i < length os → mode ≡ was
@@ -390,23 +390,24 @@ fed-frames mode was room i os state next out more target less same_mode is given
     ∙ sym (at_drop_more (λ (x : List ℕ). out ++ frames_of was room state x) os i 0 less) ∙ h
 
 -- one code block is counted once at most
-pub one-counted : (fate : Option Fate) → (corrections_of fate ≤ 1) × (rejections_of fate ≤ 1)
-one-counted None = (omega arith, omega arith)
-one-counted (Some Right) = (omega arith, omega arith)
-one-counted (Some Corrected) = (omega arith, omega arith)
-one-counted (Some Tail) = (omega arith, omega arith)
-one-counted (Some Rejected) = (omega arith, omega arith)
+pub one-counted : (fate : Option Fate) → (corrections_of fate ≤ 1) × (rejections_of fate ≤ 1) × (overruns_of fate ≤ 1)
+one-counted None = (omega arith, omega arith, omega arith)
+one-counted (Some Right) = (omega arith, omega arith, omega arith)
+one-counted (Some Corrected) = (omega arith, omega arith, omega arith)
+one-counted (Some Tail) = (omega arith, omega arith, omega arith)
+one-counted (Some Rejected) = (omega arith, omega arith, omega arith)
+one-counted (Some Overlong) = (omega arith, omega arith, omega arith)
 
 -- one code block more is counted
 pub fed-counted : (count : Option Fate → ℕ) (mode was : Mode) (room i : ℕ) (os : List ℕ) (state next : Reception) (n k target : ℕ) → i < length os → mode ≡ was
-    → next ≡ (reception_step mode room state (get_or os i 0)).0 → k ≡ count (fate_of mode state (get_or os i 0))
+    → next ≡ (reception_step mode room state (get_or os i 0)).0 → k ≡ count (fate_of mode room state (get_or os i 0))
     → n + counted_in count was room state (drop i os) ≡ target → n + k + counted_in count was room next (drop (i + 1) os) ≡ target
 fed-counted count mode was room i os state next n k target less same is now h =
     let o = get_or os i 0 in
     let rest = drop (i + 1) os in
-    ap (λ (x : ℕ). n + x + counted_in count was room next rest) (now ∙ ap (λ (m : Mode). count (fate_of m state o)) same)
-    ∙ ap (λ (s : Reception). n + count (fate_of was state o) + counted_in count was room s rest) (is ∙ ap (λ (m : Mode). (reception_step m room state o).0) same)
-    ∙ add_assoc n (count (fate_of was state o)) (counted_in count was room (reception_step was room state o).0 rest)
+    ap (λ (x : ℕ). n + x + counted_in count was room next rest) (now ∙ ap (λ (m : Mode). count (fate_of m room state o)) same)
+    ∙ ap (λ (s : Reception). n + count (fate_of was room state o) + counted_in count was room s rest) (is ∙ ap (λ (m : Mode). (reception_step m room state o).0) same)
+    ∙ add_assoc n (count (fate_of was room state o)) (counted_in count was room (reception_step was room state o).0 rest)
     ∙ sym (at_drop_more (λ (x : List ℕ). n + counted_in count was room state x) os i 0 less) ∙ h
 
 pub fed-all-counted : (count : Option Fate → ℕ) (was : Mode) (room i : ℕ) (os : List ℕ) (state : Reception) (n target : ℕ) → length os ≤ i
@@ -455,10 +456,10 @@ fed-more mode was room i os first state more less same_mode at h =
 
 -- and what becomes of its code block
 pub fed-more-counted : (count : Option Fate → ℕ) (mode : Mode) (room i : ℕ) (os : List ℕ) (first state : Reception) (n k : ℕ) → i < length os
-    → state ≡ state_after mode room first (take i os) → k ≡ count (fate_of mode state (get_or os i 0))
+    → state ≡ state_after mode room first (take i os) → k ≡ count (fate_of mode room state (get_or os i 0))
     → n ≡ counted_in count mode room first (take i os) → n + k ≡ counted_in count mode room first (take (i + 1) os)
 fed-more-counted count mode room i os first state n k less at now h =
     let o = get_or os i 0 in
     let all = ap (counted_in count mode room first) (take_more os i 0 less) ∙ counted-append count mode room (take i os) (o ∷ []) first in
-    let one : k ≡ count (fate_of mode (state_after mode room first (take i os)) o) = now ∙ ap (λ (s : Reception). count (fate_of mode s o)) at in
+    let one : k ≡ count (fate_of mode room (state_after mode room first (take i os)) o) = now ∙ ap (λ (s : Reception). count (fate_of mode room s o)) at in
     omega (arith, all, one, h)

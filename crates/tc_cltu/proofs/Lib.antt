@@ -9,3 +9,4 @@ pub mod Fill
 pub mod Starting
 pub mod Decoding
 pub mod Division
+pub mod Carried

@@ -6,7 +6,7 @@ use Rattle.tc_fecf.specs.Changes.{differences}
 use Rattle.tc_cltu.specs.CodeBlock.{decoded, most_errors}
 use Rattle.tc_cltu.specs.Cltu.{start_sequence, tail_sequence}
 use Rattle.tc_cltu.specs.declared.block.Fate.{Fate}
-use Rattle.tc_cltu.specs.declared.block.Fate.TheVariants.{Right, Corrected, Tail, Rejected}
+use Rattle.tc_cltu.specs.declared.block.Fate.TheVariants.{Right, Corrected, Tail, Rejected, Overlong}
 use Rattle.tc_cltu.specs.declared.block.Mode.{Mode}
 use Rattle.tc_cltu.specs.declared.block.Mode.TheVariants.{Detect}
 
@@ -60,10 +60,18 @@ fate_in mode block =
     else if is_some (decoded mode block) then Corrected
     else rejected_as block
 
+-- the same behind octets that the CLTU carried before: a block that would be taken may find no room
+abbrev pub fate_behind : ℕ → List ℕ → Option (List ℕ) → Fate → Fate
+fate_behind room frame None fate = fate
+fate_behind room frame (Some information) fate = if nat_lt room (length frame + 7) then Overlong else fate
+
+abbrev pub fate_after : Mode → ℕ → List ℕ → List ℕ → Fate
+fate_after mode room frame block = fate_behind room frame (decoded mode block) (fate_in mode block)
+
 -- what becomes of the code block that an octet ends, if it ends one
-abbrev pub fate_of : Mode → Reception → ℕ → Option Fate
-fate_of mode (Searching last) octet = None
-fate_of mode (Decoding frame block) octet = if nat_lt (length block) 7 then None else Some (fate_in mode (block ++ octet ∷ []))
+abbrev pub fate_of : Mode → ℕ → Reception → ℕ → Option Fate
+fate_of mode room (Searching last) octet = None
+fate_of mode room (Decoding frame block) octet = if nat_lt (length block) 7 then None else Some (fate_after mode room frame (block ++ octet ∷ []))
 
 abbrev pub corrections_of : Option Fate → ℕ
 corrections_of (Some Corrected) = 1
@@ -73,11 +81,15 @@ abbrev pub rejections_of : Option Fate → ℕ
 rejections_of (Some Rejected) = 1
 rejections_of _ = 0
 
+abbrev pub overruns_of : Option Fate → ℕ
+overruns_of (Some Overlong) = 1
+overruns_of _ = 0
+
 -- the sum over the code blocks that end in the octets, each counted by what becomes of it
 abbrev pub counted_in : (Option Fate → ℕ) → Mode → ℕ → Reception → List ℕ → ℕ
 counted_in count mode room state [] = 0
 counted_in count mode room state (octet ∷ octets) =
-    count (fate_of mode state octet) + counted_in count mode room (reception_step mode room state octet).0 octets
+    count (fate_of mode room state octet) + counted_in count mode room (reception_step mode room state octet).0 octets
 
 -- how many code blocks are corrected, and how many are rejected that aren't the tail sequence
 abbrev pub corrected_in : Mode → ℕ → Reception → List ℕ → ℕ
@@ -85,6 +97,10 @@ corrected_in mode room state octets = counted_in corrections_of mode room state 
 
 abbrev pub rejected_in : Mode → ℕ → Reception → List ℕ → ℕ
 rejected_in mode room state octets = counted_in rejections_of mode room state octets
+
+-- how many CLTUs carry more than there is room for
+abbrev pub overlong_in : Mode → ℕ → Reception → List ℕ → ℕ
+overlong_in mode room state octets = counted_in overruns_of mode room state octets
 
 -- what contracts see of a decoder: how it takes code blocks, where it is, and the octets of the blocks that it has taken since the last
 -- start sequence
@@ -104,6 +120,10 @@ pub record StopsShort (room : ℕ) (before after : Receiver) (octets : List ℕ)
 abbrev pub HasNoStart : Mode → ℕ → List ℕ → Type 0
 HasNoStart mode last [] = Unit {0}
 HasNoStart mode last (o ∷ os) = (is_start mode last o ≡ false) × HasNoStart mode o os
+
+abbrev pub is_decoding : Reception → Bool
+is_decoding (Searching last) = false
+is_decoding (Decoding frame block) = true
 
 abbrev pub IsSearching : Reception → Type 0
 IsSearching (Searching last) = Unit {0}

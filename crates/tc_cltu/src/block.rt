@@ -3,7 +3,7 @@
 ghost use Rattle.std.specs.Prelude.{◌≡◌, ◌≢◌, ◌+◌, ◌^◌, ◌<◌, ◌≤◌, ◌++◌, ◌∷◌, [], ℕ, List, Some, None, length, IfSome, MatchOption};
 ghost use Rattle.tc_link.specs.Frame.{IsOctets};
 ghost use Rattle.tc_cltu.specs.CodeBlock.{parity_of, code_block, decoded, errors, most_errors, flipped, IsInformation};
-ghost use Rattle.tc_cltu.specs.Reception.{fate_in, rejected_as, corrections_of, rejections_of};
+ghost use Rattle.tc_cltu.specs.Reception.{fate_in, rejected_as, corrections_of, rejections_of, overruns_of};
 ghost use Rattle.tc_cltu.specs.declared.block.Mode.TheVariants.{Detect};
 
 use crate::tables::{PLACES, REMAINDERS};
@@ -29,6 +29,8 @@ pub enum Fate {
     Tail,
     /// It is rejected, and isn't the tail sequence.
     Rejected,
+    /// It isn't kept, since with it the CLTU carries more than [`MOST_OCTETS`](crate::MOST_OCTETS).
+    Overlong,
 }
 
 /// What a code block came to.
@@ -149,11 +151,12 @@ fn turn(octets: &mut [u8], place: u8)
     octets[at] ^= 0x80 >> (place % 8);
 }
 
-/// How many code blocks were corrected, and how many rejected that aren't the tail sequence.
+/// How many code blocks were corrected, how many rejected that aren't the tail sequence, and how many CLTUs carried too much.
 #[derive(Clone, Copy, Debug, PartialEq, Eq)]
 pub struct Blocks {
     pub corrected: u64,
     pub rejected: u64,
+    pub overlong: u64,
 }
 
 impl Blocks {
@@ -161,12 +164,15 @@ impl Blocks {
     pub fn count(&mut self, fate: Option<Fate>)
         requires corrected { self.old.corrected + 1 < 2 ^ 64 }
         requires rejected { self.old.rejected + 1 < 2 ^ 64 }
+        requires overlong { self.old.overlong + 1 < 2 ^ 64 }
         ensures corrected { self.new.corrected ≡ self.old.corrected + corrections_of fate }
         ensures rejected { self.new.rejected ≡ self.old.rejected + rejections_of fate }
+        ensures overlong { self.new.overlong ≡ self.old.overlong + overruns_of fate }
     {
         match fate {
             Some(Fate::Corrected) => self.corrected += 1,
             Some(Fate::Rejected) => self.rejected += 1,
+            Some(Fate::Overlong) => self.overlong += 1,
             _ => {}
         }
     }

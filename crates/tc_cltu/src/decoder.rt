@@ -3,13 +3,14 @@
 ghost use Rattle.std.specs.Prelude.{◌≡◌, ◌≢◌, ◌++◌, ◌∷◌, [], List, ℕ, map, length, Option, Some, None, ◌+◌, ◌<◌, IfSome, IfNone, IfOk, OnOk, OnErr, if◌then◌else◌};
 ghost use Rattle.tc_cltu.specs.Cltu.{most_octets};
 ghost use Rattle.tc_cltu.specs.CodeBlock.{decoded};
-ghost use Rattle.tc_cltu.specs.Reception.{Receiver, Searching, Decoding, StopsShort, start_errors, is_start, reception_step, after_block, state_after, frames_of, counted_in, fate_of, fate_in};
+ghost use Rattle.tc_cltu.specs.Reception.{Receiver, Searching, Decoding, StopsShort, start_errors, is_start, reception_step, after_block, state_after, frames_of, counted_in, fate_of, fate_after, is_decoding};
 ghost use Rattle.tc_cltu.specs.declared.block.Fate.{Fate};
 
 use crate::block::{Fate, Judged, Mode, judge};
 use crate::writer::{MOST_OCTETS, START};
 use std::alloc::{AllocError, Global};
 use std::marker::Model;
+use std::mem::replace;
 
 /// What an octet of a stream came to.
 #[derive(Clone, Copy, Debug, PartialEq, Eq)]
@@ -29,7 +30,7 @@ const NOTHING: Fed = Fed {
 ///
 /// It looks for the start sequence in each two octets in a row, of whose sixteen bits one may be wrong in [`Mode::Correct`], and none
 /// in [`Mode::Detect`]. What follows is decoded until a code block is rejected, which the tail sequence is in each mode. A CLTU that
-/// carries more than [`MOST_OCTETS`] gives nothing.
+/// carries more than [`MOST_OCTETS`] gives nothing but [`Fate::Overlong`].
 #[derive(Drop)]
 pub struct Decoder {
     mode: Mode,
@@ -78,7 +79,7 @@ impl Decoder {
         ensures mode { self.new.mode ≡ self.old.mode }
         ensures state { self.new.state ≡ (reception_step self.old.mode most_octets self.old.state octet).0 }
         ensures given { (if result.ended then self.new.held ∷ [] else []) ≡ (reception_step self.old.mode most_octets self.old.state octet).1 }
-        ensures fate { result.fate ≡ fate_of self.old.mode self.old.state octet }
+        ensures fate { result.fate ≡ fate_of self.old.mode most_octets self.old.state octet }
     {
         if !self.decoding {
             if begins(self.mode, self.last, octet) {
@@ -106,7 +107,7 @@ impl Decoder {
         ensures begins { IfSome result (λ fed. self.old.state ≡ Decoding self.old.held []) }
         ensures state { IfSome result (λ fed. self.new.state ≡ state_after self.old.mode most_octets self.old.state block) }
         ensures given { IfSome result (λ fed. (if fed.ended then self.new.held ∷ [] else []) ≡ frames_of self.old.mode most_octets self.old.state block) }
-        ensures fate { IfSome result (λ fed. fed.fate ≡ Some (fate_in self.old.mode block)) }
+        ensures fate { IfSome result (λ fed. fed.fate ≡ Some (fate_after self.old.mode most_octets self.old.held block)) }
         ensures none { IfNone result ((self.old.state ≢ Decoding self.old.held []) × (self.new ≡ self.old)) }
     {
         if !self.decoding || self.count != 0 {
@@ -142,7 +143,7 @@ impl Decoder {
         ensures mode { self.new.mode ≡ self.old.mode }
         ensures state { self.new.state ≡ (after_block most_octets self.old.held (decoded self.old.mode block)).0 }
         ensures given { (if result.ended then self.new.held ∷ [] else []) ≡ (after_block most_octets self.old.held (decoded self.old.mode block)).1 }
-        ensures fate { result.fate ≡ Some (fate_in self.old.mode block) }
+        ensures fate { result.fate ≡ Some (fate_after self.old.mode most_octets self.old.held block) }
     {
         let Judged { fate, information } = judge(block, self.mode);
         match information {
@@ -159,7 +160,7 @@ impl Decoder {
                     self.decoding = false;
                     self.last = 0;
                     return Fed {
-                        fate: Some(fate),
+                        fate: Some(Fate::Overlong),
                         ended: false,
                     };
                 }
@@ -170,6 +171,17 @@ impl Decoder {
                 }
             }
         }
+    }
+
+    /// Looks for a start sequence anew, as after a loss of bit lock (CCSDS 231.0-B), and says whether that cuts a CLTU short: code
+    /// blocks that were taken since its start sequence end no candidate frame.
+    pub fn search_anew(&mut self) -> bool
+        ensures mode { self.new.mode ≡ self.old.mode }
+        ensures state { self.new.state ≡ Searching 0 }
+        ensures cut_short { result ≡ is_decoding self.old.state }
+    {
+        self.last = 0;
+        replace(&mut self.decoding, false)
     }
 
     /// What the code blocks carried that were taken since the last start sequence: a candidate frame, if the last octet ended one.

@@ -1,8 +1,10 @@
 //! What holds of the definitions.
 
-ghost use Rattle.std.specs.Prelude.{◌≡◌, ◌*◌, ◌<◌, ◌≤◌, ◌++◌, ◌∷◌, [], ℕ, List, Some, None, replicate, take};
-ghost use Rattle.tc_link.specs.Frame.{IsOctets};
+ghost use Rattle.std.specs.Prelude.{◌≡◌, ◌*◌, ◌<◌, ◌≤◌, ◌++◌, ◌∷◌, [], ℕ, List, Some, None, true, replicate, take, length};
+ghost use Rattle.std.specs.List.{concat, AllByRecursion};
+ghost use Rattle.tc_link.specs.Frame.{IsOctets, IsWhole};
 ghost use Rattle.tc_fecf.specs.Checksum.{bits_of};
+ghost use Rattle.tc_fecf.specs.Candidate.{AreDelimited, is_fill};
 ghost use Rattle.tc_fecf.specs.Changes.{differences};
 ghost use Rattle.tc_cltu.specs.Division.{IsBlockRemainder};
 ghost use Rattle.tc_cltu.specs.CodeBlock.{block_remainder, IsInformation, code_block, word, errors, flipped};
@@ -83,6 +85,14 @@ pub fn a_cltu_gives_its_frame()
     ensures fill { (frame : List ℕ) → (k : ℕ) × (k < 7) × (filled frame ≡ frame ++ take k fill) }
     ensures pieces { (mode : Mode) (one other : List ℕ) (state : Reception) → frames_of mode most_octets state (one ++ other)
         ≡ frames_of mode most_octets state one ++ frames_of mode most_octets (state_after mode most_octets state one) other }
+{}
+
+/// Whole frames that a CLTU carries one after the other are found again, each of its own length, and behind them is just its fill.
+pub fn a_cltu_gives_its_frames()
+    ensures { (mode : Mode) (last most : ℕ) (frames : List (List ℕ)) (rest : List ℕ) → AllByRecursion IsWhole frames → 1 ≤ length frames → length frames ≤ most
+        → length (concat frames) ≤ most_octets → (fill : List ℕ)
+        × (frames_of mode most_octets (Searching last) (cltu (concat frames) ++ rest) ≡ (concat frames ++ fill) ∷ frames_of mode most_octets (Searching 0) rest)
+        × (is_fill fill ≡ true) × AreDelimited most (concat frames ++ fill) frames fill }
 {}
 
 /// Octets in which nothing counts as a start sequence don't hide the CLTU behind them. From each state that octets can lead to, 15 octets of the idle

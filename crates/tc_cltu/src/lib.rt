@@ -3,7 +3,7 @@
 //!
 //! A code block carries seven octets. Laws over the definitions stand as contracts of functions with empty bodies:
 //! [`the_parity_is_the_remainder`], [`code_blocks_are_so`], [`code_blocks_differ_in_four_places`], [`each_turned_bit_is_an_error`],
-//! [`a_cltu_is_so`], [`a_cltu_gives_its_frame`], [`the_next_cltu_is_found`], [`the_random_sequence_comes_off_as_it_went_on`].
+//! [`a_cltu_is_so`], [`a_cltu_gives_its_frame`], [`a_cltu_gives_its_frames`], [`the_next_cltu_is_found`], [`the_random_sequence_comes_off_as_it_went_on`].
 #![tactic(auto)]
 
 mod block;
@@ -16,9 +16,9 @@ mod writer;
 pub use block::{Blocks, Fate, Judged, Mode, decode_block, encode_block, judge};
 pub use decoder::{Decoder, Fed, begins};
 pub use laws::{
-    a_cltu_gives_its_frame, a_cltu_is_so, code_blocks_are_so, code_blocks_differ_in_four_places,
-    each_turned_bit_is_an_error, the_next_cltu_is_found, the_parity_is_the_remainder,
-    the_random_sequence_comes_off_as_it_went_on,
+    a_cltu_gives_its_frame, a_cltu_gives_its_frames, a_cltu_is_so, code_blocks_are_so,
+    code_blocks_differ_in_four_places, each_turned_bit_is_an_error, the_next_cltu_is_found,
+    the_parity_is_the_remainder, the_random_sequence_comes_off_as_it_went_on,
 };
 pub use randomiser::randomise;
 pub use writer::{CltuFault, MOST_OCTETS, START, TAIL, write_cltu};

@@ -5,10 +5,11 @@ use Rattle.tc_rack.specs.declared.operation.Operation.TheVariants as operations
 use Rattle.tc_rack.specs.declared.stage.Stage.{Stage}
 use Rattle.tc_rack.specs.declared.stage.Stage.TheVariants.{Operating}
 use Rattle.tc_rack.specs.Delivery.{AreAnswersWritten, IsDeliveryEnded}
-use Rattle.tc_rack.specs.Operation.{IsAnswerOf}
+use Rattle.tc_rack.specs.Operation.{IsAnswerOf, IsClcwAnswer}
 use Rattle.tc_rack.specs.Rack.{Racked}
-use Rattle.tc_live.specs.Receiver.{Receiving, IsDeliveryBegun, IsDeliveryDone, begun}
+use Rattle.tc_live.specs.Receiver.{Receiving, IsDeliveryBegun, IsDeliveryDone, IsCollectionBegun, collection_told, begun}
 use Rattle.tc_rack.specs.Progress.{rack_for}
+use Rattle.tc_live.specs.declared.answer.LiveAnswer.{LiveAnswer}
 use Rattle.tc_live.specs.declared.answer.LiveAnswer.TheVariants as told
 use Rattle.tc_live.specs.declared.check.FrameCheck.{FrameCheck}
 
@@ -18,6 +19,17 @@ pub release-told : (old now : Receiving) (check : FrameCheck) (scid : ℕ) (stag
 release-told old now check scid stage rack after vcid a is_begun view is answered =
     let same : rack ≡ rack_for old.scid old.stage = ap (rack_for old.scid) (sym is ∙ ap (λ (x : Receiving). x.stage) (view ∙ is_begun)) in
     (a, after, subst (λ r. IsAnswerOf (operations.Release vcid) r a after) same answered, refl, ap (λ (x : Receiving). record x { stage = Operating after }) (view ∙ is_begun))
+
+pub collection-told : (old now : Receiving) (check : FrameCheck) (scid : ℕ) (stage : Stage Racked) (rack after : Racked) (vcid : ℕ) (a : Answer) (answer : LiveAnswer)
+    → now ≡ begun old → ◌≡◌ {A = Receiving} (record { check = check; scid = scid; stage = stage }) now → stage ≡ Operating rack → IsAnswerOf (operations.Clcw vcid) rack a after
+    → answer ≡ collection_told vcid a → IsCollectionBegun old vcid (record { check = check; scid = scid; stage = Operating after }) answer
+collection-told old now check scid stage rack after vcid a answer is_begun view is answered told_so =
+    let same : rack ≡ rack_for old.scid old.stage = ap (rack_for old.scid) (sym is ∙ ap (λ (x : Receiving). x.stage) (view ∙ is_begun)) in (
+      a,
+      subst (λ r. IsClcwAnswer vcid r a) same answered.0,
+      told_so,
+      ap (λ (x : Receiving). record x { stage = Operating after }) (view ∙ is_begun) ∙ ap (λ (r : Racked). record old { stage = Operating r }) (answered.1 ∙ same),
+    )
 
 pub handed-on : (old : Receiving) (check : FrameCheck) (scid : ℕ) (stage : Stage Racked) (rack after : Racked) (vcid : ℕ) (a b : Option (List ℕ))
     → ◌≡◌ {A = Receiving} (record { check = check; scid = scid; stage = stage }) old → stage ≡ Operating rack → AreAnswersWritten a b (λ answers. IsDeliveryEnded vcid rack answers after)

@@ -5,7 +5,8 @@ use Rattle.std.specs.Io.KnownBytes.{Appends}
 use Rattle.tc_lines.specs.Answering.{Writes}
 use Rattle.tc_rack.specs.Delivery.{AreAnswersWritten, told_lines}
 use Rattle.tc_text.specs.declared.live.LiveLine.{LiveLine}
-use Rattle.tc_text.specs.declared.live.LiveLine.TheVariants.{Script, Link as LinkOf, Report, Deliver}
+use Rattle.tc_text.specs.declared.live.LiveLine.TheVariants.{Script, Link as LinkOf, Report, Deliver, Collect, Candidate}
+use Rattle.tc_rack.specs.declared.answer.Answer.TheVariants.{Frame, Release, Take, Unit as UnitOf, Clcw, Refused}
 use Rattle.tc_live.specs.Printed.{live_text}
 use Rattle.tc_live.specs.Receiver.{Receiving, IsLiveLineAnswered, IsLineDone, IsReady}
 use Rattle.tc_live.specs.Serving.{IsFollowedBy, IsLineSaid, IsTold}
@@ -21,6 +22,16 @@ line-ready old new (LinkOf vcid link) answer ((false, rack, set, is, becomes), o
 line-ready old new (Report vcid) answer ((None, reported, is, becomes), operates) = rw is tt
 line-ready old new (Report vcid) answer ((Some holding, reported, is, becomes), operates) = rw is tt
 line-ready old new (Deliver vcid) answer ((a, rack, answered, is, becomes), operates) = rw is operates.1
+line-ready old new (Collect vcid) answer ((Refused refusal, asked, is, becomes), operates) = rw is tt
+line-ready old new (Collect vcid) answer ((Clcw v word, asked, is, becomes), operates) = rw is operates.1
+line-ready old new (Collect vcid) answer ((Frame v reply, asked, is, becomes), operates) = rw is operates.1
+line-ready old new (Collect vcid) answer ((Release v delivery, asked, is, becomes), operates) = rw is operates.1
+line-ready old new (Collect vcid) answer ((Take v apid packet, asked, is, becomes), operates) = rw is operates.1
+line-ready old new (Collect vcid) answer ((UnitOf v map_id unit, asked, is, becomes), operates) = rw is operates.1
+line-ready old new (Candidate octets) answer (inl (more, is, same)) = rw is tt
+line-ready old new (Candidate octets) answer (inr (no, inl (passed, passes, ((None, answered, is, same), done)))) = rw is tt
+line-ready old new (Candidate octets) answer (inr (no, inl (passed, passes, ((Some a, answered, is, same), done)))) = rw is tt
+line-ready old new (Candidate octets) answer (inr (no, inr (fails, is, same))) = rw is tt
 
 pub ready : (old new : Receiving) (octets : List ℕ) (answer : LiveAnswer) → IsLiveLineAnswered old octets new answer → IsReady answer new
 ready old new octets answer (said, is, done) = line-ready old new said answer done

@@ -1,6 +1,7 @@
 -- What frames must pass before they are brought.
-use Rattle.std.specs.Prelude.{◌≡◌, ◌≢◌, ℕ, List, None}
-use Rattle.tc_link.specs.Frame.{IsWhole}
+use Rattle.std.specs.Prelude.{◌≡◌, ◌≢◌, ◌⊎◌, ℕ, false, List, None}
+use Rattle.tc_link.specs.Frame.{IsWhole, fault_of}
+use Rattle.tc_fecf.specs.Candidate.{IsDelimited, is_fill}
 use Rattle.tc_fecf.specs.FrameWithField.{frame_with_field, taking_fault_of}
 use Rattle.tc_text.specs.declared.line.Line.{Line}
 use Rattle.tc_text.specs.declared.line.Line.TheVariants.{Frame}
@@ -24,3 +25,18 @@ IsPassed ErrorControl line passed = passed ≡ line
 abbrev pub FailsCheck : FrameCheck → Line → Type 0
 FailsCheck ErrorControl (Frame octets) = HasWrongField octets
 FailsCheck _ line = ⊥
+
+-- a frame stands at the front of what a CLTU carried, and more than fill follows it
+abbrev pub CarriesMore : List ℕ → Type 0
+CarriesMore octets = (frame : List ℕ) × (rest : List ℕ) × IsDelimited octets frame rest × (is_fill rest ≡ false)
+
+-- the frame at the front is taken off by its length field, and brought without its field, where frames have one; else octets are brought
+-- as they are, since what follows a frame is fill to a channel
+abbrev pub IsCandidatePassed : FrameCheck → List ℕ → Line → Type 0
+IsCandidatePassed Nothing octets passed = passed ≡ Frame octets
+IsCandidatePassed ErrorControl octets passed = (frame : List ℕ) × (rest : List ℕ) × IsDelimited octets frame rest × IsFieldOff frame passed
+
+abbrev pub FailsCandidate : FrameCheck → List ℕ → Type 0
+FailsCandidate Nothing octets = ⊥
+FailsCandidate ErrorControl octets =
+    (fault_of octets ≢ None) ⊎ ((frame : List ℕ) × (rest : List ℕ) × IsDelimited octets frame rest × HasWrongField frame)

@@ -19,10 +19,12 @@ command_form_text (command ∷ arguments) =
     else if is command (codes "link") then codes ": write link VC RF BL"
     else if is command (codes "report") then codes ": write report VC"
     else if is command (codes "deliver") then codes ": write deliver VC"
+    else if is command (codes "collect") then codes ": write collect VC"
+    else if is command (codes "candidate") then codes ": write candidate HEX, octets without spaces"
     else []
 
 -- what to write instead, by the words of the line: which commands there are, or how its command is written; nothing for any other reason
 abbrev pub line_hint_text : List (List ℕ) → Reason → List ℕ
-line_hint_text line UnknownCommand = codes ": use channel, queue, map, frame, release, take, unit, clcw, link, report or deliver"
+line_hint_text line UnknownCommand = codes ": use channel, queue, map, frame, release, take, unit, clcw, link, report, deliver, collect or candidate"
 line_hint_text line WordCount = command_form_text line
 line_hint_text line _ = []

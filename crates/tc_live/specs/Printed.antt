@@ -12,7 +12,7 @@ use Rattle.tc_channel.specs.declared.holding.MapHolding.{MapHolding}
 use Rattle.tc_rack.specs.Printed.{answer_text}
 use Rattle.tc_live.specs.Hint.{line_hint_text}
 use Rattle.tc_live.specs.declared.answer.LiveAnswer.{LiveAnswer}
-use Rattle.tc_live.specs.declared.answer.LiveAnswer.TheVariants.{Nothing, Operation, Delivery, Unchecked, Link as LinkOf, Report, UnknownChannel}
+use Rattle.tc_live.specs.declared.answer.LiveAnswer.TheVariants.{Nothing, Operation, Delivery, Collection, Unchecked, More, Link as LinkOf, Report, UnknownChannel}
 
 abbrev pub state_text : State → List ℕ
 state_text S1 = codes "open"
@@ -60,7 +60,9 @@ abbrev pub live_text : LiveAnswer → List ℕ
 live_text Nothing = []
 live_text (Operation answer) = answer_text answer ++ codes "\n"
 live_text (Delivery vcid answer) = answer_text answer ++ codes "\n"
+live_text (Collection vcid) = []
 live_text Unchecked = codes "refused check\n"
+live_text More = codes "refused more\n"
 live_text (LinkOf vcid link) = link_text vcid link
 live_text (Report vcid holding) = holding_text vcid holding
 live_text UnknownChannel = codes "refused channel\n"

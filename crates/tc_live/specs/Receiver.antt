@@ -7,7 +7,7 @@ use Rattle.tc_text.specs.declared.fault.Reason.{Reason}
 use Rattle.tc_text.specs.declared.fault.Reason.TheVariants.{NoMemory}
 use Rattle.tc_text.specs.declared.line.Line.{Line}
 use Rattle.tc_text.specs.declared.live.LiveLine.{LiveLine}
-use Rattle.tc_text.specs.declared.live.LiveLine.TheVariants.{Script, Link as LinkOf, Report, Deliver}
+use Rattle.tc_text.specs.declared.live.LiveLine.TheVariants.{Script, Link as LinkOf, Report, Deliver, Collect, Candidate}
 use Rattle.tc_channel.specs.declared.holding.Holding.{Holding}
 use Rattle.tc_setup.specs.Instruction.{instruction_of}
 use Rattle.tc_setup.specs.Phase.{Does, IsBad, IsBadOperation, Operates, Operation as InOperation}
@@ -19,10 +19,11 @@ use Rattle.tc_rack.specs.declared.stage.Stage.TheVariants.{SettingUp, Operating}
 use Rattle.tc_rack.specs.Performing.{IsInstructionAnswered}
 use Rattle.tc_rack.specs.Progress.{IsPerformed, rack_for}
 use Rattle.tc_rack.specs.Rack.{Racked, IsLinkSet, IsReported}
-use Rattle.tc_rack.specs.Operation.{IsAnswerOf}
+use Rattle.tc_rack.specs.Operation.{IsAnswerOf, IsClcwAnswer}
 use Rattle.tc_rack.specs.Delivery.{IsDeliveryEnded}
 use Rattle.tc_rack.specs.declared.operation.Operation.TheVariants as operations
-use Rattle.tc_live.specs.Check.{IsPassed, FailsCheck}
+use Rattle.tc_rack.specs.declared.answer.Answer.TheVariants.{Refused}
+use Rattle.tc_live.specs.Check.{IsPassed, FailsCheck, IsCandidatePassed, FailsCandidate, CarriesMore}
 use Rattle.tc_live.specs.declared.answer.LiveAnswer.{LiveAnswer}
 use Rattle.tc_live.specs.declared.answer.LiveAnswer.TheVariants as told
 use Rattle.tc_live.specs.declared.check.FrameCheck.{FrameCheck}
@@ -71,6 +72,13 @@ IsScriptDone old line new answer =
     ((passed : Line) × IsPassed old.check line passed × IsPassedDone old passed new answer)
     ⊎ (FailsCheck old.check line × (answer ≡ told.Unchecked) × (new ≡ old))
 
+-- a candidate that carries more than one frame and its fill changes nothing; else it is done where it passes
+abbrev pub IsCandidateDone : Receiving → List ℕ → Receiving → LiveAnswer → Type 0
+IsCandidateDone old octets new answer =
+    (CarriesMore octets × (answer ≡ told.More) × (new ≡ old))
+    ⊎ ((¬ CarriesMore octets) × (((passed : Line) × IsCandidatePassed old.check octets passed × IsPassedDone old passed new answer)
+    ⊎ (FailsCandidate old.check octets × (answer ≡ told.Unchecked) × (new ≡ old))))
+
 -- what a refused line leaves: all as it was, or where memory was wanting the channels made for it
 abbrev pub IsReceiverLeft : Reason → Receiving → Receiving → Type 0
 IsReceiverLeft reason old new = (new ≡ old) ⊎ ((reason ≡ NoMemory) × (new ≡ begun old))
@@ -100,6 +108,15 @@ IsDeliveryBegun old vcid new answer =
     (a : Answer) × (rack : Racked) × IsAnswerOf (operations.Release vcid) (rack_at old) a rack
     × (answer ≡ told.Delivery vcid a) × (new ≡ with_rack rack old)
 
+-- a collection begins where there is such a channel, which has a CLCW
+abbrev pub collection_told : ℕ → Answer → LiveAnswer
+collection_told vcid (Refused refusal) = told.UnknownChannel
+collection_told vcid _ = told.Collection vcid
+
+abbrev pub IsCollectionBegun : Receiving → ℕ → Receiving → LiveAnswer → Type 0
+IsCollectionBegun old vcid new answer =
+    (a : Answer) × IsClcwAnswer vcid (rack_at old) a × (answer ≡ collection_told vcid a) × (new ≡ begun old)
+
 -- then all that waits in the channel is handed on, and these are the answers
 abbrev pub IsDeliveryDone : Receiving → ℕ → Receiving → List Answer → Type 0
 IsDeliveryDone old vcid new answers = (rack : Racked) × IsDeliveryEnded vcid (rack_at old) answers rack × (new ≡ with_rack rack old)
@@ -110,6 +127,8 @@ IsLineDone old (Script line) new answer = IsScriptDone old line new answer
 IsLineDone old (LinkOf vcid link) new answer = IsLinked old vcid link new answer × Operates (phase_of old.stage) (phase_of new.stage)
 IsLineDone old (Report vcid) new answer = IsReportDone old vcid new answer × Operates (phase_of old.stage) (phase_of new.stage)
 IsLineDone old (Deliver vcid) new answer = IsDeliveryBegun old vcid new answer × Operates (phase_of old.stage) (phase_of new.stage)
+IsLineDone old (Collect vcid) new answer = IsCollectionBegun old vcid new answer × Operates (phase_of old.stage) (phase_of new.stage)
+IsLineDone old (Candidate octets) new answer = IsCandidateDone old octets new answer
 
 -- what a line is answered that says something
 abbrev pub IsLiveLineAnswered : Receiving → List ℕ → Receiving → LiveAnswer → Type 0
@@ -119,16 +138,22 @@ IsLiveLineAnswered old octets new answer = (said : LiveLine) × (live_line_of (w
 abbrev pub IsBadScript : Receiving → Line → Reason → Type 0
 IsBadScript old line reason = (passed : Line) × IsPassed old.check line passed × IsBad (phase_of old.stage) (instruction_of passed) reason
 
+-- why a candidate is bad that passed
+abbrev pub IsBadCandidate : Receiving → List ℕ → Reason → Type 0
+IsBadCandidate old octets reason = (passed : Line) × IsCandidatePassed old.check octets passed × IsBad (phase_of old.stage) (instruction_of passed) reason
+
 -- why a line is bad, by what it says, memory aside
 abbrev pub IsBadSaying : Receiving → LiveLine → Reason → Type 0
 IsBadSaying old (Script line) reason = IsBadScript old line reason
+IsBadSaying old (Candidate octets) reason = IsBadCandidate old octets reason
 IsBadSaying old _ reason = IsBadOperation (phase_of old.stage) reason
 
 abbrev pub IsBadLiveLine : Receiving → List ℕ → Reason → Type 0
 IsBadLiveLine old octets reason =
     (live_line_of (words octets) ≡ Err reason) ⊎ ((said : LiveLine) × (live_line_of (words octets) ≡ Ok said) × IsBadSaying old said reason)
 
--- a delivery that was begun can be ended, since the channels are in operation
+-- a delivery or a collection that was begun can be ended, since the channels are in operation
 abbrev pub IsReady : LiveAnswer → Receiving → Type 0
 IsReady (told.Delivery vcid a) receiver = phase_of receiver.stage ≡ InOperation
+IsReady (told.Collection vcid) receiver = phase_of receiver.stage ≡ InOperation
 IsReady _ receiver = Unit {0}

@@ -27,9 +27,10 @@ IsUntold receiver = ¬ All IsNumberTold (histories (rack_at receiver))
 abbrev pub IsClosingFault : Receiving → ServingFault → Type 0
 IsClosingFault receiver fault = (fault ≡ Write) ⊎ (fault ≡ NoMemory) ⊎ ((fault ≡ Unbalanced) × IsUntold receiver)
 
--- what follows the answer of a line: of a delivery the answers of what is handed on, of any other line nothing
+-- what follows the answer of a line: of a delivery or a collection the answers of what is handed on, of any other line nothing
 abbrev pub IsFollowedBy : LiveAnswer → Receiving → Receiving → List Answer → Type 0
 IsFollowedBy (told.Delivery vcid a) old new answers = IsDeliveryDone old vcid new answers
+IsFollowedBy (told.Collection vcid) old new answers = IsDeliveryDone old vcid new answers
 IsFollowedBy _ old new answers = (answers ≡ []) × (new ≡ old)
 
 -- an answer is told, and then what follows it

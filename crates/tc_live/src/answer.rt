@@ -3,7 +3,7 @@
 ghost use Rattle.std.specs.Prelude.{◌≡◌, Some};
 ghost use Rattle.std.specs.Fmt.{WritesOnOk};
 ghost use Rattle.tc_live.specs.Printed.{live_text, link_text, holding_text, farm_text, rest_text, queues_text, queue_text, maps_text, map_text, state_text};
-ghost use Rattle.tc_live.specs.Receiver.{link_told, report_told, script_told};
+ghost use Rattle.tc_live.specs.Receiver.{collection_told, link_told, report_told, script_told};
 
 use std::fmt;
 use tc_channel::{Holding, MapHolding, QueueHolding};
@@ -19,8 +19,12 @@ pub enum LiveAnswer {
     Operation(Answer),
     /// What the release is answered that a delivery begins with. [`Receiver::hand_on`](crate::Receiver::hand_on) ends the delivery.
     Delivery { vcid: u8, answer: Answer },
+    /// What is handed on without a release, which [`Receiver::hand_on`](crate::Receiver::hand_on) does.
+    Collection { vcid: u8 },
     /// Octets that are no frame with the right frame error control field.
     Unchecked,
+    /// A candidate that carries more than a frame and its fill.
+    More,
     /// The flags of the link that a channel's CLCWs tell from now on.
     Link { vcid: u8, link: Link },
     /// What a channel has come to.
@@ -37,6 +41,16 @@ impl LiveAnswer {
         match answer {
             Some(answer) => LiveAnswer::Operation(answer),
             None => LiveAnswer::Nothing,
+        }
+    }
+
+    /// That what waits in a channel is handed on, if there is such a channel, by what is answered when its CLCW is asked for.
+    pub(crate) fn of_collection(vcid: u8, clcw: &Answer) -> LiveAnswer
+        ensures { result ≡ collection_told vcid clcw.now }
+    {
+        match clcw {
+            Answer::Refused(_) => LiveAnswer::UnknownChannel,
+            _ => LiveAnswer::Collection { vcid },
         }
     }
 
@@ -70,7 +84,9 @@ impl fmt::Display for LiveAnswer {
             LiveAnswer::Nothing => Ok(()),
             LiveAnswer::Operation(answer) => writeln!(f, "{answer}"),
             LiveAnswer::Delivery { vcid: _, answer } => writeln!(f, "{answer}"),
+            LiveAnswer::Collection { vcid: _ } => Ok(()),
             LiveAnswer::Unchecked => f.write_str("refused check\n"),
+            LiveAnswer::More => f.write_str("refused more\n"),
             LiveAnswer::Link { vcid, link } => write_link(f, *vcid, *link),
             LiveAnswer::Report { vcid, holding } => write_report(f, *vcid, holding),
             LiveAnswer::UnknownChannel => f.write_str("refused channel\n"),

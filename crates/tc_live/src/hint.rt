@@ -13,7 +13,7 @@ pub(crate) fn hint_for(octets: &[u8], reason: Reason) -> &'static str
 {
     match reason {
         Reason::UnknownCommand => {
-            ": use channel, queue, map, frame, release, take, unit, clcw, link, report or deliver"
+            ": use channel, queue, map, frame, release, take, unit, clcw, link, report, deliver, collect or candidate"
         }
         Reason::WordCount => form(octets),
         _ => "",
@@ -50,6 +50,10 @@ fn form(octets: &[u8]) -> &'static str
         ": write report VC"
     } else if command == b"deliver".as_slice() {
         ": write deliver VC"
+    } else if command == b"collect".as_slice() {
+        ": write collect VC"
+    } else if command == b"candidate".as_slice() {
+        ": write candidate HEX, octets without spaces"
     } else {
         ""
     }

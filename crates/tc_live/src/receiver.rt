@@ -5,7 +5,7 @@ ghost use Rattle.std.specs.Io.KnownBytes.{Keeps};
 ghost use Rattle.tc_rack.specs.Delivery.{AreAnswersWritten};
 ghost use Rattle.tc_rack.specs.Report.{AreRising};
 ghost use Rattle.tc_rack.specs.Stage.{phase_of};
-ghost use Rattle.tc_live.specs.Receiver.{new_receiver, begun, rack_at, IsInstructed, IsScriptDone, IsPassedDone, IsLinked, IsReportDone, IsDeliveryBegun, IsDeliveryDone, IsLiveLineAnswered, IsBadLiveLine, IsBadScript, IsReceiverLeft};
+ghost use Rattle.tc_live.specs.Receiver.{new_receiver, begun, rack_at, IsInstructed, IsScriptDone, IsPassedDone, IsCandidateDone, IsBadCandidate, IsLinked, IsReportDone, IsDeliveryBegun, IsCollectionBegun, IsDeliveryDone, IsLiveLineAnswered, IsBadLiveLine, IsBadScript, IsReceiverLeft};
 ghost use Rattle.tc_live.specs.Serving.{IsClosingFault, IsReportWritten};
 ghost use Rattle.tc_rack.specs.Rack.{histories};
 ghost use Rattle.tc_setup.specs.Instruction.{instruction_of};
@@ -13,13 +13,13 @@ ghost use Rattle.tc_setup.specs.Phase.{Does, IsBad, IsBadOperation, Operates, Se
 ghost use Rattle.tc_channel.specs.Journal.{IsNumberTold};
 
 use crate::answer::LiveAnswer;
-use crate::check::FrameCheck;
+use crate::check::{FrameCheck, carries_more};
 use crate::serving::ServingFault;
 use std::alloc::Global;
 use std::io;
 use std::io::Write;
 use std::marker::Model;
-use tc_channel::FlightChannel;
+use tc_channel::{FlightChannel, Octets};
 use tc_link::Link;
 use tc_rack::{Operation, Rack, RackFounder, Stage, begin, perform, write_report};
 use tc_setup::{Configuration, Instruction};
@@ -56,7 +56,7 @@ impl Receiver {
     }
 
     /// Does a line, which is given without its line feed, and says what it is answered. A bad line leaves the receiver as it is. Where
-    /// memory is wanting, the line can be done again; at the first operation the channels may have been made. A delivery is begun;
+    /// memory is wanting, the line can be done again; at the first operation the channels may have been made. A delivery or a collection is begun;
     /// [`hand_on`](Receiver::hand_on) ends it.
     pub fn do_line(&mut self, alloc: Global, octets: &[u8]) -> Result<LiveAnswer, Reason>
         ensures answer { IfOk result (IsLiveLineAnswered self.old octets.now self.new) }
@@ -68,6 +68,8 @@ impl Receiver {
             LiveLine::Link { vcid, link } => self.link(alloc, vcid, link),
             LiveLine::Report(vcid) => self.report(alloc, vcid),
             LiveLine::Deliver(vcid) => self.begin_delivery(alloc, vcid),
+            LiveLine::Collect(vcid) => self.begin_collection(alloc, vcid),
+            LiveLine::Candidate(octets) => self.candidate(alloc, octets),
         }
     }
 
@@ -77,6 +79,21 @@ impl Receiver {
         ensures refused { IfErr result (λ reason. IsReceiverLeft reason self.old self.new) }
     {
         match self.check.pass(alloc, line)? {
+            Some(passed) => self.perform_passed(alloc, passed),
+            None => Ok(LiveAnswer::Unchecked),
+        }
+    }
+
+    // Takes the frame out of what a CLTU carried, and does what is asked for then. Where more follows it than fill, nothing is done.
+    fn candidate(&mut self, alloc: Global, octets: Octets) -> Result<LiveAnswer, Reason>
+        ensures answer { IfOk result (IsCandidateDone self.old octets self.new) }
+        ensures reason { IfErr result (λ reason. (reason ≡ Reason.NoMemory) ⊎ IsBadCandidate self.old octets reason) }
+        ensures refused { IfErr result (λ reason. IsReceiverLeft reason self.old self.new) }
+    {
+        if carries_more(octets.as_slice()) {
+            return Ok(LiveAnswer::More);
+        }
+        match self.check.pass_candidate(alloc, octets)? {
             Some(passed) => self.perform_passed(alloc, passed),
             None => Ok(LiveAnswer::Unchecked),
         }
@@ -152,7 +169,24 @@ impl Receiver {
         }
     }
 
-    /// Ends a delivery that was begun: takes all that waits in the queues of the channel, as [`Rack::hand_on`] does, and writes the
+    // Looks whether there is such a channel, whose queues are handed on.
+    fn begin_collection(&mut self, alloc: Global, vcid: u8) -> Result<LiveAnswer, Reason>
+        ensures done { OnOk result (Operates (phase_of self.old.stage) (phase_of self.new.stage)) }
+        ensures answer { IfOk result (IsCollectionBegun self.old vcid self.new) }
+        ensures reason { IfErr result (λ reason. (reason ≡ Reason.NoMemory) ⊎ IsBadOperation (phase_of self.old.stage) reason) }
+        ensures refused { IfErr result (λ reason. IsReceiverLeft reason self.old self.new) }
+    {
+        self.begin(alloc)?;
+        match &mut self.stage {
+            Stage::Operating(rack) => match rack.operate(Operation::Clcw(vcid)) {
+                Ok(answer) => Ok(LiveAnswer::of_collection(vcid, &answer)),
+                Err(_) => Err(Reason::NoMemory),
+            },
+            Stage::SettingUp(_) => unreachable!(),
+        }
+    }
+
+    /// Ends a delivery or a collection that was begun: takes all that waits in the queues of the channel, as [`Rack::hand_on`] does, and writes the
     /// answers, the last of which is the CLCW. Where there is no such channel, nothing is written. Nothing is allocated.
     pub fn hand_on<W: Write>(&mut self, vcid: u8, writer: &mut W) -> io::Result<()>
         requires { phase_of self.old.stage ≡ InOperation }

@@ -112,13 +112,14 @@ fn tell<W: Write>(receiver: &mut Receiver, answer: &LiveAnswer, writer: &mut W) 
     follow(receiver, answer, writer)
 }
 
-// Ends a delivery that was begun. Nothing follows any other answer.
+// Ends a delivery or a collection that was begun. Nothing follows any other answer.
 fn follow<W: Write>(receiver: &mut Receiver, answer: &LiveAnswer, writer: &mut W) -> io::Result<()>
     requires { IsReady answer.now receiver.old }
     ensures { OnOk result (AreAnswersWritten (W.contents writer.old) (W.contents writer.new) (IsFollowedBy answer.now receiver.old receiver.new)) }
 {
     match answer {
         LiveAnswer::Delivery { vcid, answer: _ } => receiver.hand_on(*vcid, writer),
+        LiveAnswer::Collection { vcid } => receiver.hand_on(*vcid, writer),
         _ => Ok(()),
     }
 }

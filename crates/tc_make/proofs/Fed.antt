@@ -3,7 +3,7 @@ use Rattle.std.proofs.Common.{◌≡◌, ℕ, ◌+◌, ◌<◌, ◌≤◌, List,
 use Rattle.tc_make.proofs.Names.{Appends, Appends-nil, Writes, flat_map-append, named_text}
 use Rattle.std.proofs.lemmas.Option.{get_or_from_slice_get}
 use Rattle.std.specs.Prelude.{codes, slice_get}
-use Rattle.tc_cltu.specs.Reception.{Receiver, Reception, reception_step, frames_of, corrected_in, rejected_in}
+use Rattle.tc_cltu.specs.Reception.{Receiver, Reception, reception_step, frames_of, corrected_in, rejected_in, overlong_in}
 use Rattle.tc_cltu.specs.declared.block.Mode.{Mode}
 use Rattle.tc_cltu.proofs.Decoding.{fed-frames, fed-all-frames}
 use Rattle.tc_make.specs.Decoders.{IsFed, IsPieceSaid, candidates_text, blocks_text}
@@ -28,27 +28,29 @@ one-fed mode was i os first state next a b c less same is (given, before, h) now
     )
 
 -- all octets were taken
-pub all-fed : (mode : Mode) (i corrected rejected : ℕ) (os : List ℕ) (first state : Reception) (a b c : Option (List ℕ)) → length os ≤ i
+pub all-fed : (mode : Mode) (i corrected rejected overlong : ℕ) (os : List ℕ) (first state : Reception) (a b c : Option (List ℕ)) → length os ≤ i
     → IsSoFar mode i os first state a b → corrected ≡ corrected_in mode 1029 first os → rejected ≡ rejected_in mode 1029 first os
-    → Appends b c (blocks_text corrected rejected)
-    → Appends a c (candidates_text (frames_of mode 1029 first os) ++ blocks_text (corrected_in mode 1029 first os) (rejected_in mode 1029 first os))
-all-fed mode i corrected rejected os first state a b c past (given, before, h) e f now =
+    → overlong ≡ overlong_in mode 1029 first os → Appends b c (blocks_text corrected rejected overlong)
+    → Appends a c (candidates_text (frames_of mode 1029 first os) ++ blocks_text (corrected_in mode 1029 first os) (rejected_in mode 1029 first os) (overlong_in mode 1029 first os))
+all-fed mode i corrected rejected overlong os first state a b c past (given, before, h) e f k now =
     let frames : given ≡ frames_of mode 1029 first os = fed-all-frames mode 1029 i os state given (frames_of mode 1029 first os) past h in
-    joined a b c (candidates_text (frames_of mode 1029 first os)) (blocks_text (corrected_in mode 1029 first os) (rejected_in mode 1029 first os))
+    joined a b c (candidates_text (frames_of mode 1029 first os)) (blocks_text (corrected_in mode 1029 first os) (rejected_in mode 1029 first os) (overlong_in mode 1029 first os))
     (subst (λ (x : List (List ℕ)). Appends a b (candidates_text x)) frames before)
-    (subst (λ (x : ℕ). Appends b c (blocks_text (corrected_in mode 1029 first os) x)) f (subst (λ (x : ℕ). Appends b c (blocks_text x rejected)) e now))
+    (subst (λ (x : ℕ). Appends b c (blocks_text (corrected_in mode 1029 first os) (rejected_in mode 1029 first os) x)) k
+    (subst (λ (x : ℕ). Appends b c (blocks_text (corrected_in mode 1029 first os) x overlong)) f (subst (λ (x : ℕ). Appends b c (blocks_text x rejected overlong)) e now)))
 
--- the decoder of a stream was given octets
-pub piece-fed : (old items : List (Option Receiver)) (id at : ℕ) (octets : List ℕ) (was slot : Option Receiver) (a b : Option (List ℕ)) → items ≡ old → at ≡ id
-    → slice_get items at ≡ Some was → Writes a b (IsFed was octets slot) → Writes a b (IsPieceSaid old id octets (slice_set items at slot))
-piece-fed old items id at octets was slot a b e f h (text, is, w) =
+-- the decoder of a stream does what is asked of it
+pub slot-done : (Is : Option Receiver → Option Receiver → List ℕ → Type 0) (old items : List (Option Receiver)) (id at : ℕ) (was slot : Option Receiver) (a b : Option (List ℕ))
+    → items ≡ old → at ≡ id → slice_get items at ≡ Some was → Writes a b (Is was slot)
+    → Writes a b (λ text. (s : Option Receiver) × (slice_set items at slot ≡ slice_set old id s) × Is (slice_index_or old id None) s text)
+slot-done Is old items id at was slot a b e f h (text, is, w) =
     let there : was ≡ slice_index_or old id None =
     sym (get_or_from_slice_get items at was None h) ∙ ap (λ (xs : List (Option Receiver)). slice_index_or xs at None) e ∙ ap (λ (n : ℕ). slice_index_or old n None) f in (
       text,
       (
         slot,
         ap (λ (xs : List (Option Receiver)). slice_set xs at slot) e ∙ ap (λ (n : ℕ). slice_set old n slot) f,
-        subst (λ (v : Option Receiver). IsFed v octets slot text) there is,
+        subst (λ (x : Option Receiver). Is x slot text) there is,
       ),
       w,
     )

@@ -1,8 +1,12 @@
 -- What was written, one text after the other.
-use Rattle.std.proofs.Common.{◌≡◌, Bool, ◌⊎◌, inl, inr, ℕ, suc, ◌+◌, ◌<◌, List, [], ◌∷◌, ◌++◌, length, Option, Some, None, refl, sym, ap, subst, ◌∙◌, append_assoc, append-nil, arith, length-append}
-use Rattle.std.specs.Prelude.{unwrap_or, codes}
+use Rattle.std.proofs.Common.{◌≡◌, Bool, ◌⊎◌, inl, inr, ℕ, suc, ◌+◌, ◌<◌, ◌≤◌, List, [], ◌∷◌, ◌++◌, length, Option, Some, None, refl, sym, ap, subst, ◌∙◌, append_assoc, append-nil, arith, length-append}
+use Rattle.std.specs.Prelude.{unwrap_or, codes, IsSome}
 use Rattle.tc_make.proofs.Names.{Appends, Parting, Reason, Writes, flat_map-append}
-use Rattle.std.specs.List.{flat_map}
+use Rattle.std.specs.List.{flat_map, concat, AllByRecursion}
+use Rattle.std.proofs.lemmas.List.Folds.{concat-append}
+use Rattle.tc_link.specs.Frame.{IsWhole, fault_of}
+use Rattle.tc_link.specs.declared.frame.FrameFault.{FrameFault}
+use Rattle.tc_fecf.specs.Candidate.{IsDelimited}
 use Rattle.std.proofs.KnownBytes.{Appends-trans, Appends-nil}
 use Rattle.tc_packet.specs.PacketFields.{HasFields}
 use Rattle.tc_packet.specs.Bits.{word_at, bits}
@@ -11,8 +15,8 @@ use Rattle.tc_packet.specs.declared.packet.Packet.{Packet}
 use Rattle.tc_fecf.specs.FrameWithField.{taking_fault_of}
 use Rattle.tc_fecf.specs.declared.frames.FieldFault.{FieldFault}
 use Rattle.tc_fecf.specs.declared.frames.FieldFault.TheVariants as fields
-use Rattle.tc_make.specs.Answer.{OrNoMemory, Unless, IsSentAt, IsStopAt, AreSent, IsPartSaid, IsFramesSaid, IsPartingOf, IsUnitSaid, IsExplained, frames_text, parts_of, field_fault_text}
-use Rattle.tc_make.specs.Printed.{bad_text, named_text, some_text, unit_packets_text, packet_text, held_text, holds_text, whole_text}
+use Rattle.tc_make.specs.Answer.{OrNoMemory, Unless, IsSentAt, IsStopAt, AreSent, IsPartSaid, IsFramesSaid, IsPartingOf, IsUnitSaid, IsEndedSaid, AreFramesSaid, frames_text, parts_of, field_fault_text}
+use Rattle.tc_make.specs.Printed.{bad_text, named_text, some_text, rest_text, unit_packets_text, packet_text, held_text, holds_text, whole_text}
 use Rattle.tc_make.specs.declared.ending.Ending.{Ending}
 use Rattle.tc_make.specs.declared.ending.Ending.TheVariants.{ErrorControl}
 use Rattle.tc_make.specs.Parting.{parting_reason_of}
@@ -139,10 +143,50 @@ field-fault : (o : Option FieldFault) (fault : FieldFault) → fault ≡ unwrap_
 field-fault None fault e = inr e
 field-fault (Some f) fault e = inl (ap Some (sym e))
 
-pub field-refused : (octets : List ℕ) (fault : FieldFault) (a b : Option (List ℕ)) → fault ≡ unwrap_or (taking_fault_of octets) fields.NoMemory
-    → Appends a b (field_fault_text fault) → Writes a b (OrNoMemory (IsExplained ErrorControl octets))
-field-refused octets fault a b e w =
+pub field-refused : (octets rest : List ℕ) (fault : FieldFault) (a b : Option (List ℕ)) → fault ≡ unwrap_or (taking_fault_of octets) fields.NoMemory
+    → Appends a b (field_fault_text fault) → Writes a b (OrNoMemory (IsEndedSaid ErrorControl octets rest))
+field-refused octets rest fault a b e w =
     elim (field-fault (taking_fault_of octets) fault e) [
       | inl told ↦ (field_fault_text fault, inl (inr (fault, told, refl)), w)
       | inr none ↦ (field_fault_text fault, inr (ap field_fault_text none), w)
     ]
+
+-- ---- the frames that a CLTU carried
+
+pub is-fault : (rest : List ℕ) (fault : FrameFault) → fault_of rest ≡ Some fault → IsSome (fault_of rest)
+is-fault rest fault e = subst IsSome (sym e) refl
+
+-- those that were written, and what follows them
+abbrev pub Found : List ℕ → ℕ → List ℕ → Option (List ℕ) → Option (List ℕ) → Type 0
+Found octets count rest a b =
+    (frames : List (List ℕ)) × AllByRecursion IsWhole frames × (octets ≡ concat frames ++ rest) × (length frames ≡ count) × Appends a b (frames_text frames)
+
+pub none-found : (octets : List ℕ) (a : Option (List ℕ)) → Found octets 0 octets a a
+none-found octets a = ([], tt, refl, refl, Appends-nil a)
+
+all-more : (frames : List (List ℕ)) (frame : List ℕ) → AllByRecursion IsWhole frames → IsWhole frame → AllByRecursion IsWhole (frames ++ frame ∷ [])
+all-more [] frame w v = (v, tt)
+all-more (f ∷ fs) frame w v = (w.0, all-more fs frame w.1 v)
+
+pub frame-found : (octets rest frame behind : List ℕ) (count : ℕ) (a b c : Option (List ℕ)) → Found octets count rest a b → IsDelimited rest frame behind
+    → Appends b c (named_text (codes "frame") frame) → Found octets (count + 1) behind a c
+frame-found octets rest frame behind count a b c (frames, whole, parts, many, was) found now = (
+  frames ++ frame ∷ [],
+  all-more frames frame whole found.whole,
+  parts ∙ ap (λ (x : List ℕ). concat frames ++ x) found.parts ∙ sym (append_assoc (concat frames) frame behind)
+      ∙ ap (λ (x : List ℕ). concat frames ++ x ++ behind) (sym (append-nil frame)) ∙ ap (λ (x : List ℕ). x ++ behind) (sym (concat-append frames (frame ∷ []))),
+  length-append frames (frame ∷ []) ∙ ap (λ n. n + 1) many,
+  subst (Appends a c) (sym (flat_map-append (named_text (codes "frame")) frames (frame ∷ []))) (joined a b c (frames_text frames) _ was
+      (subst (Appends b c) (sym (append-nil (named_text (codes "frame") frame))) now)),
+)
+
+pub all-found : (octets rest : List ℕ) (most count : ℕ) (a b c : Option (List ℕ)) → Found octets count rest a b → count ≤ most → (count ≡ most) ⊎ IsSome (fault_of rest)
+    → Appends b c (rest_text rest) → Writes a c (AreFramesSaid most octets)
+all-found octets rest most count a b c (frames, whole, parts, many, was) few ended now = (
+  frames_text frames ++ rest_text rest,
+  (frames, rest, record { each = whole; parts = parts; few = omega (arith, many, few); ended = counted ended }, refl),
+  joined a b c (frames_text frames) (rest_text rest) was now,
+) where
+  counted : (count ≡ most) ⊎ IsSome (fault_of rest) → (length frames ≡ most) ⊎ IsSome (fault_of rest)
+  counted (inl full) = inl (many ∙ full)
+  counted (inr fault) = inr fault

@@ -8,6 +8,7 @@ use Rattle.tc_link.specs.declared.command.Command.{Command}
 use Rattle.tc_link.specs.declared.frame.FrameFault.{FrameFault}
 use Rattle.tc_link.specs.declared.frame.Header.{Header}
 use Rattle.tc_packet.specs.declared.segment.Segment.{Segment}
+use Rattle.tc_fecf.specs.Candidate.{IsDelimited, AreDelimited}
 use Rattle.tc_fecf.specs.FrameWithField.{frame_with_field, taking_fault_of}
 use Rattle.tc_fecf.specs.declared.frames.FieldFault.{FieldFault}
 use Rattle.tc_fecf.specs.declared.frames.FieldFault.TheVariants as fields
@@ -17,17 +18,17 @@ use Rattle.tc_make.specs.Frames.{IsMadeFrame, IsCommandFrame, frame_reason_of, c
 use Rattle.tc_make.specs.Packets.{IsMadePacket, packet_reason_of}
 use Rattle.tc_make.specs.Parting.{IsFrameAt, parting_reason_of}
 use Rattle.tc_write.specs.Parts.{segments_needed}
-use Rattle.tc_make.specs.Decoders.{IsDecoderSaid, IsPieceSaid}
+use Rattle.tc_make.specs.Decoders.{IsDecoderSaid, IsPieceSaid, IsSearchSaid}
 use Rattle.tc_make.specs.LinkAnswer.{IsCltuSaid, IsRandomSaid, IsTelemetrySaid, IsTmSaid}
-pub use Rattle.tc_make.specs.Printed.{OrNoMemory, Unless}
-use Rattle.tc_make.specs.Printed.{bad_text, named_text, refused_text, frame_fault_text, explanation_text, clcw_text}
+pub use Rattle.tc_make.specs.Printed.{OrNoMemory, Unless, frames_text}
+use Rattle.tc_make.specs.Printed.{bad_text, named_text, refused_text, frame_fault_text, explanation_text, rest_text, clcw_text}
 use Rattle.tc_make.specs.declared.ending.Ending.{Ending}
 use Rattle.tc_make.specs.declared.ending.Ending.TheVariants.{DataField, ErrorControl}
 use Rattle.tc_make.specs.declared.explaining.Explanation.{Explanation}
 use Rattle.tc_make.specs.declared.fault.Reason.{Reason}
 use Rattle.tc_make.specs.declared.fault.Reason.TheVariants.{NoMemory, BadClcw}
 use Rattle.tc_make.specs.declared.line.Line.{Line}
-use Rattle.tc_make.specs.declared.line.Line.TheVariants.{Blank, Packet, Frame, Command as CommandLine, Segments, Explain, Clcw, Cltu, Random, Tm, Telemetry, Decoder, Piece}
+use Rattle.tc_make.specs.declared.line.Line.TheVariants.{Blank, Packet, Frame, Command as CommandLine, Segments, Explain, Clcw, Cltu, Random, Tm, Telemetry, Decoder, Piece, Search, Frames}
 use Rattle.tc_make.specs.declared.line.Sizing.{Sizing}
 use Rattle.tc_make.specs.declared.line.Stream.{Stream}
 use Rattle.tc_make.specs.declared.maker.Maker.{Maker}
@@ -67,9 +68,6 @@ abbrev pub IsPartSaid : Bool → Ending → Parting → ℕ → List ℕ → Typ
 IsPartSaid true ending p place text = (sent : List ℕ) × IsSentAt ending p place sent × (text ≡ named_text (codes "frame") sent)
 IsPartSaid false ending p place text = (reason : Reason) × IsStopAt ending p place reason × (text ≡ bad_text reason)
 
-abbrev pub frames_text : List (List ℕ) → List ℕ
-frames_text frames = flat_map (named_text (codes "frame")) frames
-
 abbrev pub parts_of : Parting → ℕ
 parts_of p = segments_needed p.size (length p.unit.now)
 
@@ -92,11 +90,9 @@ pub record IsPartingOf (stream : Stream) (sizing : Sizing) (unit : List ℕ) (p 
 abbrev pub IsUnitSaid : Ending → Stream → Sizing → List ℕ → List ℕ → Type 0
 IsUnitSaid ending stream sizing unit text = (p : Parting) × IsPartingOf stream sizing unit p × Unless (parting_reason_of p) (IsFramesSaid ending p) text
 
--- the frame with which octets begin, or why they begin with none
-abbrev pub IsFrameSaid : List ℕ → List ℕ → Type 0
-IsFrameSaid octets text =
-    ((e : Explanation) × Explains octets e × (fault_of octets ≡ None) × (text ≡ explanation_text e))
-    ⊎ ((fault : FrameFault) × (fault_of octets ≡ Some fault) × (text ≡ refused_text (frame_fault_text fault)))
+-- a whole frame, which this follows
+abbrev pub IsWholeSaid : List ℕ → List ℕ → List ℕ → Type 0
+IsWholeSaid frame rest text = (e : Explanation) × Explains frame rest e × (text ≡ explanation_text e)
 
 -- what is written where no frame error control field is taken off
 abbrev pub field_fault_text : FieldFault → List ℕ
@@ -107,12 +103,23 @@ field_fault_text fields.TooShort = refused_text (codes "check")
 field_fault_text fields.WrongSum = refused_text (codes "check")
 field_fault_text fields.NoMemory = bad_text NoMemory
 
--- octets as a frame: as they are, or without their frame error control field
+-- a frame as it ends: as it is, or without its frame error control field
+abbrev pub IsEndedSaid : Ending → List ℕ → List ℕ → List ℕ → Type 0
+IsEndedSaid DataField frame rest text = IsWholeSaid frame rest text
+IsEndedSaid ErrorControl frame rest text =
+    ((plain : List ℕ) × (frame ≡ frame_with_field plain) × (taking_fault_of frame ≡ None) × IsWholeSaid plain rest text)
+    ⊎ ((fault : FieldFault) × (taking_fault_of frame ≡ Some fault) × (text ≡ field_fault_text fault))
+
+-- octets as a frame of its own length, or why they begin with none
 abbrev pub IsExplained : Ending → List ℕ → List ℕ → Type 0
-IsExplained DataField octets text = IsFrameSaid octets text
-IsExplained ErrorControl octets text =
-    ((plain : List ℕ) × (octets ≡ frame_with_field plain) × (taking_fault_of octets ≡ None) × IsFrameSaid plain text)
-    ⊎ ((fault : FieldFault) × (taking_fault_of octets ≡ Some fault) × (text ≡ field_fault_text fault))
+IsExplained ending octets text =
+    ((frame : List ℕ) × (rest : List ℕ) × IsDelimited octets frame rest × IsEndedSaid ending frame rest text)
+    ⊎ ((fault : FrameFault) × (fault_of octets ≡ Some fault) × (text ≡ refused_text (frame_fault_text fault)))
+
+-- the frames that a CLTU carried, at most so many, and what follows them
+abbrev pub AreFramesSaid : ℕ → List ℕ → List ℕ → Type 0
+AreFramesSaid most octets text =
+    (frames : List (List ℕ)) × (rest : List ℕ) × AreDelimited most octets frames rest × (text ≡ frames_text frames ++ rest_text rest)
 
 -- a word as a CLCW
 abbrev pub IsWordSaid : ℕ → List ℕ → Type 0
@@ -137,12 +144,15 @@ IsSaid old (Telemetry octets) new = OrNoMemory (IsTelemetrySaid old.ending octet
 IsSaid old (Tm order) new = IsTmSaid old.ending old.counts order new.counts
 IsSaid old (Decoder id mode) new = IsDecoderSaid old.decoders id mode new.decoders
 IsSaid old (Piece id octets) new = IsPieceSaid old.decoders id octets new.decoders
+IsSaid old (Search id) new = IsSearchSaid old.decoders id new.decoders
+IsSaid old (Frames most octets) new = OrNoMemory (AreFramesSaid most octets)
 
 -- what a line leaves as it was: the counts but for a telemetry frame, the decoders but for those of streams, and all else
 abbrev pub IsKept : Maker → Line → Maker → Type 0
 IsKept old (Tm order) new = new ≡ record old { counts = new.counts }
 IsKept old (Decoder id mode) new = new ≡ record old { decoders = new.decoders }
 IsKept old (Piece id octets) new = new ≡ record old { decoders = new.decoders }
+IsKept old (Search id) new = new ≡ record old { decoders = new.decoders }
 IsKept old line new = new ≡ old
 
 -- what a line is answered: by what it says, or why it says nothing

@@ -1,10 +1,10 @@
 -- The decoders of streams, and what their octets are answered.
-use Rattle.std.specs.Prelude.{◌≡◌, ◌⊎◌, ℕ, List, [], ◌∷◌, ◌++◌, codes, decimal, replicate, slice_index_or, slice_set, Option, Some, None}
+use Rattle.std.specs.Prelude.{◌≡◌, ◌⊎◌, ℕ, Bool, List, [], ◌∷◌, ◌++◌, codes, decimal, replicate, slice_index_or, slice_set, Option, Some, None}
 use Rattle.std.specs.List.{flat_map}
 use Rattle.tc_cltu.specs.Cltu.{most_octets}
-use Rattle.tc_cltu.specs.Reception.{Receiver, Searching, state_after, frames_of, corrected_in, rejected_in}
+use Rattle.tc_cltu.specs.Reception.{Receiver, Searching, state_after, frames_of, corrected_in, rejected_in, overlong_in, is_decoding}
 use Rattle.tc_cltu.specs.declared.block.Mode.{Mode}
-use Rattle.tc_make.specs.Printed.{bad_text, named_text}
+use Rattle.tc_make.specs.Printed.{bad_text, named_text, flag_text}
 use Rattle.tc_make.specs.declared.fault.Reason.TheVariants.{NoDecoder, NoMemory}
 
 unfoldable pub no_decoders : List (Option Receiver)
@@ -22,13 +22,15 @@ abbrev pub candidates_text : List (List ℕ) → List ℕ
 candidates_text frames = flat_map (named_text (codes "frame")) frames
 
 -- the line `blocks ..`
-abbrev pub blocks_text : ℕ → ℕ → List ℕ
-blocks_text corrected rejected = codes "blocks corrected " ++ decimal corrected ++ codes " rejected " ++ decimal rejected ++ codes "\n"
+abbrev pub blocks_text : ℕ → ℕ → ℕ → List ℕ
+blocks_text corrected rejected overlong =
+    codes "blocks corrected " ++ decimal corrected ++ codes " rejected " ++ decimal rejected ++ codes " overlong " ++ decimal overlong ++ codes "\n"
 
 -- what octets are answered that a decoder is given
 abbrev pub fed_text : Receiver → List ℕ → List ℕ
 fed_text d octets =
     candidates_text (frames_of d.mode most_octets d.state octets) ++ blocks_text (corrected_in d.mode most_octets d.state octets) (rejected_in d.mode most_octets d.state octets)
+    (overlong_in d.mode most_octets d.state octets)
 
 -- a decoder was given octets, and this was answered; or there is none
 abbrev pub IsFed : Option Receiver → List ℕ → Option Receiver → List ℕ → Type 0
@@ -43,3 +45,17 @@ IsPieceSaid old id octets new text = (slot : Option Receiver) × (new ≡ slice_
 -- a stream got a new decoder, which has no answer; or memory ran out
 abbrev pub IsDecoderSaid : List (Option Receiver) → ℕ → Mode → List (Option Receiver) → List ℕ → Type 0
 IsDecoderSaid old id mode new text = ((text ≡ []) × (new ≡ with_new_decoder old id mode)) ⊎ ((text ≡ bad_text NoMemory) × (new ≡ old))
+
+-- the line `search ..`: whether a CLTU was cut short
+abbrev pub search_text : Bool → List ℕ
+search_text cut = codes "search cut " ++ flag_text cut ++ codes "\n"
+
+-- a decoder looks for a start sequence anew; or there is none
+abbrev pub IsSearching : Option Receiver → Option Receiver → List ℕ → Type 0
+IsSearching None new text = (new ≡ None) × (text ≡ bad_text NoDecoder)
+IsSearching (Some old) new text =
+    (d : Receiver) × (new ≡ Some d) × (d.mode ≡ old.mode) × (d.state ≡ Searching 0) × (text ≡ search_text (is_decoding old.state))
+
+-- the decoder of a stream looks for a start sequence anew
+abbrev pub IsSearchSaid : List (Option Receiver) → ℕ → List (Option Receiver) → List ℕ → Type 0
+IsSearchSaid old id new text = (slot : Option Receiver) × (new ≡ slice_set old id slot) × IsSearching (slice_index_or old id None) slot text

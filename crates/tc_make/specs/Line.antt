@@ -16,7 +16,7 @@ use Rattle.tc_make.specs.declared.form.Form.TheVariants as forms
 use Rattle.tc_make.specs.declared.line.Stream.{Stream}
 use Rattle.tc_make.specs.declared.line.Sizing.{Sizing}
 use Rattle.tc_make.specs.declared.line.Line.{Line}
-use Rattle.tc_make.specs.declared.line.Line.TheVariants.{Blank, Packet, Frame, Command, Segments, Explain, Clcw, Cltu, Random, Tm, Telemetry, Decoder, Piece}
+use Rattle.tc_make.specs.declared.line.Line.TheVariants.{Blank, Packet, Frame, Command, Segments, Explain, Clcw, Cltu, Random, Tm, Telemetry, Decoder, Piece, Search, Frames}
 
 abbrev pub Words : Type 0
 Words = List (List ℕ)
@@ -30,6 +30,10 @@ alone_of form (word ∷ []) = elim (decode_of word) [ Ok octets ↦ Ok octets | 
 alone_of form _ = Err (WordCount form)
 
 -- what is said by as many words as a form takes
+abbrev pub with_one : Form → Words → (List ℕ → Said) → Said
+with_one form (a ∷ []) says = says a
+with_one form _ says = Err (WordCount form)
+
 abbrev pub with_two : Form → Words → (List ℕ → List ℕ → Said) → Said
 with_two form (a ∷ b ∷ []) says = says a b
 with_two form _ says = Err (WordCount form)
@@ -163,6 +167,12 @@ decoder_of words = with_two forms.Decoder words (λ i m. if_number 255 i (λ id.
 abbrev pub piece_of : Words → Said
 piece_of words = with_two forms.Octets words (λ i o. if_number 255 i (λ id. with_octets o (λ octets. Ok (Piece id octets))))
 
+abbrev pub search_of : Words → Said
+search_of words = with_one forms.Search words (λ i. if_number 255 i (λ id. Ok (Search id)))
+
+abbrev pub frames_of : Words → Said
+frames_of words = with_two forms.Frames words (λ m o. if_number 255 m (λ most. with_octets o (λ octets. Ok (Frames most octets))))
+
 -- what a line about the link asks for: its CLTUs and its telemetry frames
 unfoldable pub link_line_of : List ℕ → Words → Said
 link_line_of command arguments =
@@ -172,6 +182,8 @@ link_line_of command arguments =
     else if is command (codes "telemetry") then telemetry_of arguments
     else if is command (codes "decoder") then decoder_of arguments
     else if is command (codes "octets") then piece_of arguments
+    else if is command (codes "search") then search_of arguments
+    else if is command (codes "frames") then frames_of arguments
     else Err UnknownCommand
 
 -- what the words of a line ask for, or the first of the reasons why they ask for nothing

@@ -1,6 +1,7 @@
 -- What lines are answered, as text: docs/reference/tcmake.md shows it.
-use Rattle.std.specs.Prelude.{◌≡◌, ◌⊎◌, ℕ, Bool, true, false, ◌==◌, if◌then◌else◌, List, [], ◌∷◌, ◌++◌, length, codes, decimal, Option, Some, None}
+use Rattle.std.specs.Prelude.{◌≡◌, ◌⊎◌, ℕ, Bool, true, false, ◌==◌, if◌then◌else◌, List, [], ◌∷◌, ◌++◌, length, codes, decimal, slice_index, nat_lt, Option, Some, None}
 use Rattle.std.specs.List.{flat_map}
+use Rattle.tc_fecf.specs.Candidate.{is_fill}
 use Rattle.tc_link.specs.declared.clcw.ClcwFields.{ClcwFields}
 use Rattle.tc_link.specs.declared.command.Command.TheVariants.{Unlock, SetVr}
 use Rattle.tc_link.specs.declared.command.Kind.{Kind}
@@ -60,17 +61,20 @@ form_text forms.Tm = codes "tm SCID VC SIZE HEX"
 form_text forms.Telemetry = codes "telemetry HEX"
 form_text forms.Decoder = codes "decoder ID MODE"
 form_text forms.Octets = codes "octets ID HEX"
+form_text forms.Search = codes "search ID"
+form_text forms.Frames = codes "frames MOST HEX"
 
--- what is said of the octets with which a form ends; three end with none
+-- what is said of the octets with which a form ends; four end with none
 abbrev pub note_text : Form → List ℕ
 note_text forms.Unlock = []
 note_text forms.SetVr = []
 note_text forms.Decoder = []
+note_text forms.Search = []
 note_text form = codes ", octets without spaces"
 
 -- what follows a reason: what to write, where that is known, and the end of the line
 abbrev pub hint_text : Reason → List ℕ
-hint_text UnknownCommand = codes ": use packet, ad, bd, unlock, setvr, segments, explain, clcw, cltu, random, tm, telemetry, decoder or octets\n"
+hint_text UnknownCommand = codes ": use packet, ad, bd, unlock, setvr, segments, explain, clcw, cltu, random, tm, telemetry, decoder, octets, search or frames\n"
 hint_text (WordCount form) = codes ": write " ++ form_text form ++ note_text form ++ codes "\n"
 hint_text reason = codes "\n"
 
@@ -176,9 +180,26 @@ field_text (Bc Unlock) field = codes "command unlock\n"
 field_text (Bc (SetVr vr)) field = codes "command setvr " ++ decimal vr ++ codes "\n"
 field_text Invalid field = named_text (codes "invalid") field
 
--- what octets say as a frame
+-- what a frame says: what its header and its data field do
+unfoldable pub frame_text : Explanation → List ℕ
+frame_text e = header_text e.header e.length (length e.rest.now) ++ field_text e.kind e.field.now
+
+-- what follows a frame, where it isn't fill
+unfoldable pub more_text : List ℕ → List ℕ
+more_text rest = if is_fill rest then [] else named_text (codes "more") rest
+
 abbrev pub explanation_text : Explanation → List ℕ
-explanation_text e = header_text e.header e.length e.fill ++ field_text e.kind e.field.now
+explanation_text e = frame_text e ++ more_text e.rest.now
+
+-- the frames that a CLTU carried, and how much fill follows them; or what does that isn't fill
+abbrev pub frames_text : List (List ℕ) → List ℕ
+frames_text frames = flat_map (named_text (codes "frame")) frames
+
+abbrev pub fill_text : ℕ → List ℕ
+fill_text n = codes "fill " ++ decimal n ++ codes "\n"
+
+unfoldable pub rest_text : List ℕ → List ℕ
+rest_text rest = if is_fill rest then fill_text (length rest) else named_text (codes "more") rest
 
 -- the front of the line `clcw ..`: the channel, the status and the flags of the link
 abbrev pub clcw_front_text : ClcwFields → List ℕ
@@ -210,9 +231,13 @@ tm_front_text f =
     codes "tm scid " ++ decimal f.header.scid ++ codes " vc " ++ decimal f.header.vcid ++ codes " master " ++ decimal f.header.master_count
     ++ codes " channel " ++ decimal f.header.channel_count
 
+-- what an operational control field is by its first bit: a Type-1 report, the CLCW, or a Type-2 report (CCSDS 132.0-B, 4.1.5)
+abbrev pub control_text : List ℕ → List ℕ
+control_text control = if nat_lt 127 (slice_index control 0) then codes "report" else codes "clcw"
+
 -- its end: the first header pointer and the operational control field
 abbrev pub tm_end_text : TmFields → List ℕ
-tm_end_text f = codes " pointer " ++ decimal f.pointer ++ codes " clcw " ++ octets_text f.control ++ codes "\n"
+tm_end_text f = codes " pointer " ++ decimal f.pointer ++ codes " " ++ control_text f.control ++ codes " " ++ octets_text f.control ++ codes "\n"
 
 abbrev pub tm_text : TmFields → List ℕ
 tm_text f = tm_front_text f ++ tm_end_text f

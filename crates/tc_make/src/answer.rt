@@ -12,7 +12,7 @@ ghost use Rattle.tc_lines.specs.Word.{words as words_of};
 
 use crate::decoders::Decoders;
 use crate::ending::Ending;
-use crate::explained::{write_clcw, write_explained};
+use crate::explained::{write_clcw, write_explained, write_frames};
 use crate::fault::Reason;
 use crate::frames::{make_command, make_frame};
 use crate::line::{Line, Sizing, Stream, parse_line};
@@ -81,6 +81,8 @@ fn answer<W: Write>(alloc: Global, maker: &mut Maker, line: &Line, writer: &mut 
         Line::Tm(order) => write_tm(alloc, ending, &mut maker.counts, *order, writer),
         Line::Decoder { id, mode } => begin(alloc, &mut maker.decoders, *id, *mode, writer),
         Line::Piece { id, octets } => { maker.decoders.write_piece(*id, octets.as_slice(), writer) }
+        Line::Search(id) => maker.decoders.write_search(*id, writer),
+        Line::Frames { most, octets } => write_frames(*most, octets.as_slice(), writer),
     }
 }
 

@@ -5,7 +5,7 @@ ghost use Rattle.std.specs.Io.KnownBytes.{Appends};
 ghost use Rattle.tc_cltu.specs.Cltu.{most_octets};
 ghost use Rattle.tc_cltu.specs.Reception.{state_after};
 ghost use Rattle.tc_lines.specs.Answering.{Writes};
-ghost use Rattle.tc_make.specs.Decoders.{IsFed, fed_text, candidates_text, blocks_text};
+ghost use Rattle.tc_make.specs.Decoders.{IsFed, IsSearching, fed_text, candidates_text, blocks_text, search_text};
 
 use crate::fault::Reason;
 use crate::printed::{write_bad, write_named};
@@ -38,7 +38,7 @@ impl Model for Decoders {
 impl Decoders {
     ghost use Rattle.std.specs.Prelude.{◌≡◌, IfOk, OnOk, OnErr};
     ghost use Rattle.tc_lines.specs.Answering.{Writes};
-    ghost use Rattle.tc_make.specs.Decoders.{no_decoders, with_new_decoder, IsPieceSaid};
+    ghost use Rattle.tc_make.specs.Decoders.{no_decoders, with_new_decoder, IsPieceSaid, IsSearchSaid};
 
     /// No decoder yet. This asks for memory, for as many as there may be.
     #[tactic(auto, unfolding(crate::specs::Decoders::no_decoders))]
@@ -62,14 +62,39 @@ impl Decoders {
         Ok(())
     }
 
-    /// Gives the decoder of a stream its next octets, and writes the candidate frames that end in them, and how many code blocks were
-    /// corrected and rejected. It asks for no memory. At `Err` some first octets were taken.
+    /// Gives the decoder of a stream its next octets, and writes the candidate frames that end in them, how many code blocks were
+    /// corrected and rejected, and how many CLTUs carried too much. It asks for no memory. At `Err` some first octets were taken.
     pub fn write_piece<W: Write>(&mut self, id: u8, octets: &[u8], writer: &mut W) -> io::Result<()>
         ensures { OnOk result (Writes (W.contents writer.old) (W.contents writer.new) (IsPieceSaid self.old id octets.now self.new)) }
     {
         let slot = &mut self.slots[usize::from(id)];
         feed(slot, octets, writer)
     }
+
+    /// Has the decoder of a stream look for a start sequence anew, as after a loss of bit lock, and writes whether that cut a CLTU short.
+    pub fn write_search<W: Write>(&mut self, id: u8, writer: &mut W) -> io::Result<()>
+        ensures { OnOk result (Writes (W.contents writer.old) (W.contents writer.new) (IsSearchSaid self.old id self.new)) }
+    {
+        let slot = &mut self.slots[usize::from(id)];
+        search(slot, writer)
+    }
+}
+
+fn search<W: Write>(slot: &mut Option<Decoder>, writer: &mut W) -> io::Result<()>
+    ensures { OnOk result (Writes (W.contents writer.old) (W.contents writer.new) (IsSearching slot.old slot.new)) }
+{
+    let Some(decoder) = slot else {
+        return write_bad(Reason::NoDecoder, writer);
+    };
+    let cut = decoder.search_anew();
+    write_cut(cut, writer)
+}
+
+fn write_cut<W: Write>(cut: bool, writer: &mut W) -> io::Result<()>
+    ensures { OnOk result (Appends (W.contents writer.old) (W.contents writer.new) (search_text cut)) }
+{
+    let cut = u8::from(cut);
+    writeln!(writer, "search cut {cut}")
 }
 
 fn feed<W: Write>(slot: &mut Option<Decoder>, octets: &[u8], writer: &mut W) -> io::Result<()>
@@ -89,6 +114,7 @@ fn write_fed<W: Write>(decoder: &mut Decoder, octets: &[u8], writer: &mut W) -> 
     let mut counts = Blocks {
         corrected: 0,
         rejected: 0,
+        overlong: 0,
     };
     for octet in octets {
         let fed = decoder.feed_octet(*octet);
@@ -99,13 +125,17 @@ fn write_fed<W: Write>(decoder: &mut Decoder, octets: &[u8], writer: &mut W) -> 
 }
 
 fn write_blocks<W: Write>(blocks: Blocks, writer: &mut W) -> io::Result<()>
-    ensures { OnOk result (Appends (W.contents writer.old) (W.contents writer.new) (blocks_text blocks.corrected blocks.rejected)) }
+    ensures { OnOk result (Appends (W.contents writer.old) (W.contents writer.new) (blocks_text blocks.corrected blocks.rejected blocks.overlong)) }
 {
     let Blocks {
         corrected,
         rejected,
+        overlong,
     } = blocks;
-    writeln!(writer, "blocks corrected {corrected} rejected {rejected}")
+    writeln!(
+        writer,
+        "blocks corrected {corrected} rejected {rejected} overlong {overlong}"
+    )
 }
 
 // Writes the candidate frame that the last octet ended.

@@ -2,9 +2,10 @@
 
 ghost use Rattle.std.specs.Prelude.{◌≡◌, ◌++◌, OnOk};
 ghost use Rattle.std.specs.Io.KnownBytes.{Appends};
+ghost use Rattle.tc_link.specs.Frame.{IsWhole};
 ghost use Rattle.tc_lines.specs.Answering.{Writes};
-ghost use Rattle.tc_make.specs.Answer.{OrNoMemory, IsFrameSaid, IsExplained, IsClcwSaid, field_fault_text};
-ghost use Rattle.tc_make.specs.Printed.{frame_fault_text, kind_text, fields_text, lengths_text, header_text, part_text, segment_text, type_text, holds_text, whole_text, held_text, unit_packets_text, body_text, carried_text, field_text, explanation_text, clcw_front_text, flags_text, numbers_text, clcw_text};
+ghost use Rattle.tc_make.specs.Answer.{OrNoMemory, IsWholeSaid, IsEndedSaid, IsExplained, AreFramesSaid, IsClcwSaid, field_fault_text};
+ghost use Rattle.tc_make.specs.Printed.{frame_fault_text, kind_text, fields_text, lengths_text, header_text, part_text, segment_text, type_text, holds_text, whole_text, held_text, unit_packets_text, body_text, carried_text, field_text, frame_text, more_text, rest_text, explanation_text, clcw_front_text, flags_text, numbers_text, clcw_text};
 
 use crate::ending::Ending;
 use crate::explaining::{Explanation, explain};
@@ -13,12 +14,16 @@ use crate::printed::{write_bad, write_named, write_refused, write_some};
 use std::alloc::Global;
 use std::io;
 use std::io::Write;
-use tc_fecf::{FieldFault, without_field};
+use tc_fecf::{FieldFault, delimit, is_fill, without_field};
 use tc_lines::Digits;
-use tc_link::{ClcwFields, Command, FrameFault, Header, Kind, read_clcw};
+use tc_link::{
+    ClcwFields, Command, Frame, FrameFault, Header, Kind, each_input_begins_with_one_frame_at_most,
+    read_clcw, read_frame,
+};
 use tc_packet::{Packet, Part, Segment, next_packet, read_segment};
 
-/// What octets say as a frame. Where frames end with an error control field, it is taken off before.
+/// What octets say as a frame, which is as long as its length field says, and what follows it. Where frames end with an error control
+/// field, it is taken off before.
 pub(crate) fn write_explained<W: Write>(
     alloc: Global,
     ending: Ending,
@@ -27,10 +32,27 @@ pub(crate) fn write_explained<W: Write>(
 ) -> io::Result<()>
     ensures { OnOk result (Writes (W.contents writer.old) (W.contents writer.new) (OrNoMemory (IsExplained ending octets.now))) }
 {
+    match delimit(octets) {
+        Ok(found) => write_ended(alloc, ending, found.frame, found.rest, writer),
+        Err(fault) => write_refused(fault_word(fault), writer),
+    }
+}
+
+// What a frame says, as it ends.
+fn write_ended<W: Write>(
+    alloc: Global,
+    ending: Ending,
+    frame: &[u8],
+    rest: &[u8],
+    writer: &mut W,
+) -> io::Result<()>
+    requires { IsWhole frame.now }
+    ensures { OnOk result (Writes (W.contents writer.old) (W.contents writer.new) (OrNoMemory (IsEndedSaid ending frame.now rest.now))) }
+{
     match ending {
-        Ending::DataField => write_frame_said(octets, writer),
-        Ending::ErrorControl => match without_field(alloc, octets) {
-            Ok(plain) => write_frame_said(&plain, writer),
+        Ending::DataField => write_whole_frame(frame, rest, writer),
+        Ending::ErrorControl => match without_field(alloc, frame) {
+            Ok(plain) => write_whole_frame(&plain, rest, writer),
             Err(fault) => write_field_fault(fault, writer),
         },
     }
@@ -50,13 +72,25 @@ fn write_field_fault<W: Write>(fault: FieldFault, writer: &mut W) -> io::Result<
     }
 }
 
-// What octets say as a frame, whose data field ends it.
-fn write_frame_said<W: Write>(octets: &[u8], writer: &mut W) -> io::Result<()>
-    ensures { OnOk result (Writes (W.contents writer.old) (W.contents writer.new) (IsFrameSaid octets.now)) }
+// What a whole frame says.
+fn write_whole_frame<W: Write>(frame: &[u8], rest: &[u8], writer: &mut W) -> io::Result<()>
+    requires { IsWhole frame.now }
+    ensures { OnOk result (Writes (W.contents writer.old) (W.contents writer.new) (IsWholeSaid frame.now rest.now)) }
 {
-    match explain(octets) {
-        Ok(explanation) => write_explanation(&explanation, writer),
-        Err(fault) => write_refused(fault_word(fault), writer),
+    let read = read_whole(frame);
+    write_explanation(&explain(&read, rest), writer)
+}
+
+// Octets that are one whole frame.
+fn read_whole(octets: &[u8]) -> Frame<'_>
+    requires { IsWhole octets.now }
+    ensures { result ≡ octets.now }
+{
+    // No other frame stands at the front.
+    each_input_begins_with_one_frame_at_most();
+    match read_frame(octets) {
+        Ok(frame) => frame,
+        Err(_) => unreachable!(),
     }
 }
 
@@ -76,13 +110,61 @@ fn fault_word(fault: FrameFault) -> &'static str
 fn write_explanation<W: Write>(explanation: &Explanation<'_>, writer: &mut W) -> io::Result<()>
     ensures { OnOk result (Appends (W.contents writer.old) (W.contents writer.new) (explanation_text explanation.now)) }
 {
+    write_said(explanation, writer)?;
+    write_more(explanation.rest, writer)
+}
+
+#[tactic(auto, using(crate::proofs::Written::joined), unfolding(crate::specs::Printed::frame_text))]
+fn write_said<W: Write>(explanation: &Explanation<'_>, writer: &mut W) -> io::Result<()>
+    ensures { OnOk result (Appends (W.contents writer.old) (W.contents writer.new) (frame_text explanation.now)) }
+{
     write_header(
         explanation.header,
         explanation.length,
-        explanation.fill,
+        explanation.rest.len(),
         writer,
     )?;
     write_field(explanation.kind, explanation.field, writer)
+}
+
+// What follows a frame, where it isn't fill.
+#[tactic(auto, unfolding(crate::specs::Printed::more_text))]
+fn write_more<W: Write>(rest: &[u8], writer: &mut W) -> io::Result<()>
+    ensures { OnOk result (Appends (W.contents writer.old) (W.contents writer.new) (more_text rest.now)) }
+{
+    if is_fill(rest) {
+        return Ok(());
+    }
+    write_named("more", rest, writer)
+}
+
+/// The frames that a CLTU carried, one after the other and at most so many, and what follows them.
+pub(crate) fn write_frames<W: Write>(most: u8, octets: &[u8], writer: &mut W) -> io::Result<()>
+    ensures { OnOk result (Writes (W.contents writer.old) (W.contents writer.new) (AreFramesSaid most octets.now)) }
+{
+    let mut rest = octets;
+    for _ in 0..most {
+        match delimit(rest) {
+            Ok(found) => {
+                write_named("frame", found.frame, writer)?;
+                rest = found.rest;
+            }
+            Err(_) => return write_rest(rest, writer),
+        }
+    }
+    write_rest(rest, writer)
+}
+
+#[tactic(auto, unfolding(crate::specs::Printed::rest_text))]
+fn write_rest<W: Write>(rest: &[u8], writer: &mut W) -> io::Result<()>
+    ensures { OnOk result (Appends (W.contents writer.old) (W.contents writer.new) (rest_text rest.now)) }
+{
+    if is_fill(rest) {
+        let fill = rest.len();
+        writeln!(writer, "fill {fill}")
+    } else {
+        write_named("more", rest, writer)
+    }
 }
 
 fn kind_word(bypass: bool, control: bool) -> &'static str

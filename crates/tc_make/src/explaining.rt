@@ -1,12 +1,10 @@
-//! What octets say as a frame.
+//! What a frame says.
 
-ghost use Rattle.std.specs.Prelude.{◌≡◌, Some, None, IfOk, MatchResult};
-ghost use Rattle.tc_link.specs.Frame.{fault_of};
 ghost use Rattle.tc_make.specs.Explanation.{Explains};
 
-use tc_link::{FrameFault, Header, Kind, kind, read_frame};
+use tc_link::{Frame, Header, Kind, kind};
 
-/// The frame at the front of octets, field by field.
+/// A frame, field by field, and what follows it.
 #[derive(Clone, Copy, Debug, PartialEq, Eq)]
 pub struct Explanation<'a> {
     pub header: Header,
@@ -15,22 +13,19 @@ pub struct Explanation<'a> {
     pub field: &'a [u8],
     /// How many octets the frame has.
     pub length: usize,
-    /// How many octets follow the frame.
-    pub fill: usize,
+    /// What follows the frame.
+    pub rest: &'a [u8],
 }
 
-/// Reads the frame at the front of the octets. What follows it is fill. It allocates nothing.
-pub fn explain(octets: &[u8]) -> Result<Explanation<'_>, FrameFault>
-    ensures frame { IfOk result (Explains octets.now) }
-    ensures fault { MatchResult result (λ _. fault_of octets.now ≡ None) (λ fault. fault_of octets.now ≡ Some fault) }
+/// Says what a frame says, which these octets follow. It allocates nothing.
+pub fn explain<'a>(frame: &Frame<'a>, rest: &'a [u8]) -> Explanation<'a>
+    ensures { Explains frame.now rest.now result }
 {
-    let frame = read_frame(octets)?;
-    let length = frame.octets().len();
-    Ok(Explanation {
+    Explanation {
         header: frame.header(),
-        kind: kind(&frame),
+        kind: kind(frame),
         field: frame.field(),
-        length,
-        fill: octets.len() - length,
-    })
+        length: frame.octets().len(),
+        rest,
+    }
 }

@@ -20,6 +20,8 @@ pub enum Form {
     Telemetry,
     Decoder,
     Octets,
+    Search,
+    Frames,
 }
 
 impl Form {
@@ -42,6 +44,8 @@ impl Form {
             Form::Telemetry => "telemetry HEX",
             Form::Decoder => "decoder ID MODE",
             Form::Octets => "octets ID HEX",
+            Form::Search => "search ID",
+            Form::Frames => "frames MOST HEX",
         }
     }
 
@@ -53,6 +57,7 @@ impl Form {
             Form::Unlock => "",
             Form::SetVr => "",
             Form::Decoder => "",
+            Form::Search => "",
             _ => ", octets without spaces",
         }
     }

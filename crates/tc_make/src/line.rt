@@ -3,7 +3,7 @@
 ghost use Rattle.std.specs.Prelude.{◌≡◌, ◌⊎◌, map, IfOk, IfErr, IsErr, MatchResult};
 ghost use Rattle.hex.specs.Hex.{decode_of};
 ghost use Rattle.tc_lines.specs.Word.{words as words_of};
-ghost use Rattle.tc_make.specs.Line.{maker_line_of, link_line_of, packet_of, ad_of, bd_of, unlock_of, setvr_of, segments_of, tm_of, decoder_of, piece_of, four_of, mode_word, segment_word, stream_of, sizing_of, framed_of, parted_of, sized_of, alone_of};
+ghost use Rattle.tc_make.specs.Line.{maker_line_of, link_line_of, packet_of, ad_of, bd_of, unlock_of, setvr_of, segments_of, tm_of, decoder_of, piece_of, search_of, frames_of, four_of, mode_word, segment_word, stream_of, sizing_of, framed_of, parted_of, sized_of, alone_of};
 ghost use Rattle.tc_lines.specs.Word.{is_comment as is_comment_word};
 
 use crate::fault::Reason;
@@ -91,6 +91,13 @@ pub enum Line {
         id: u8,
         octets: Octets,
     },
+    /// The decoder of the stream with this id is to look for a start sequence anew.
+    Search(u8),
+    /// What a CLTU carried, of which so many frames are to be taken at most.
+    Frames {
+        most: u8,
+        octets: Octets,
+    },
 }
 
 /// Reads a line, which is given without its line feed. Its words and its octets take memory.
@@ -144,6 +151,10 @@ fn link_line(alloc: Global, command: &[u8], arguments: &[&[u8]]) -> Result<Line,
         decoder(arguments)
     } else if command == b"octets".as_slice() {
         piece(alloc, arguments)
+    } else if command == b"search".as_slice() {
+        search(arguments)
+    } else if command == b"frames".as_slice() {
+        frames(alloc, arguments)
     } else {
         Err(Reason::UnknownCommand)
     }
@@ -348,6 +359,29 @@ fn piece(alloc: Global, words: &[&[u8]]) -> Result<Line, Reason>
     };
     Ok(Line::Piece {
         id: small_number(id)?,
+        octets: octets(alloc, digits)?,
+    })
+}
+
+fn search(words: &[&[u8]]) -> Result<Line, Reason>
+    ensures line { IfOk result (λ line. search_of (map (λ word. word.now) words.now) ≡ Ok line) }
+    ensures reason { IfErr result (λ reason. search_of (map (λ word. word.now) words.now) ≡ Err reason) }
+{
+    let [id] = words else {
+        return Err(Reason::WordCount(Form::Search));
+    };
+    Ok(Line::Search(small_number(id)?))
+}
+
+fn frames(alloc: Global, words: &[&[u8]]) -> Result<Line, Reason>
+    ensures line { IfOk result (λ line. frames_of (map (λ word. word.now) words.now) ≡ Ok line) }
+    ensures reason { IfErr result (λ reason. (reason ≡ Reason.NoMemory) ⊎ (frames_of (map (λ word. word.now) words.now) ≡ Err reason)) }
+{
+    let [most, digits] = words else {
+        return Err(Reason::WordCount(Form::Frames));
+    };
+    Ok(Line::Frames {
+        most: small_number(most)?,
         octets: octets(alloc, digits)?,
     })
 }

@@ -1,6 +1,6 @@
 //! CLTUs and telemetry frames, as lines.
 
-ghost use Rattle.std.specs.Prelude.{◌≡◌, ◌++◌, None, unwrap_or, IfOk, IfErr, OnOk, OnErr};
+ghost use Rattle.std.specs.Prelude.{◌≡◌, ◌++◌, None, length, unwrap_or, IfOk, IfErr, OnOk, OnErr};
 ghost use Rattle.std.specs.Io.KnownBytes.{Appends};
 ghost use Rattle.tc_cltu.specs.Cltu.{cltu};
 ghost use Rattle.tc_cltu.specs.Randomiser.{randomised};
@@ -9,7 +9,7 @@ ghost use Rattle.tc_tm.specs.Counting.{next_header, frame_counted};
 ghost use Rattle.tc_tm.specs.TmFrame.{tm_frame};
 ghost use Rattle.tc_make.specs.Answer.{OrNoMemory};
 ghost use Rattle.tc_make.specs.LinkAnswer.{IsCltuSaid, IsRandomSaid, IsTelemetrySaid, IsTmSaid, cltu_reason_of, tm_reason_of, telemetry_ending};
-ghost use Rattle.tc_make.specs.Printed.{tm_fault_text, tm_text, tm_front_text, tm_end_text};
+ghost use Rattle.tc_make.specs.Printed.{tm_fault_text, tm_text, tm_front_text, tm_end_text, control_text};
 
 use crate::ending::Ending;
 use crate::fault::Reason;
@@ -122,8 +122,17 @@ fn write_end<W: Write>(fields: &TmFields, writer: &mut W) -> io::Result<()>
     ensures { OnOk result (Appends (W.contents writer.old) (W.contents writer.new) (tm_end_text fields.now)) }
 {
     let pointer = fields.pointer;
+    let kind = control_word(&fields.control);
     let digits = Digits(&fields.control);
-    writeln!(writer, " pointer {pointer} clcw {digits}")
+    writeln!(writer, " pointer {pointer} {kind} {digits}")
+}
+
+// What an operational control field is.
+fn control_word(control: &[u8]) -> &'static str
+    requires { length control.now ≡ 4 }
+    ensures { result.now ≡ control_text control.now }
+{
+    if control[0] > 127 { "report" } else { "clcw" }
 }
 
 /// The next telemetry frame of a virtual channel.

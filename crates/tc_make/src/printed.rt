@@ -16,7 +16,7 @@ pub(crate) fn write_bad<W: Write>(reason: Reason, writer: &mut W) -> io::Result<
     match reason {
         Reason::UnknownCommand => writeln!(
             writer,
-            "bad {reason}: use packet, ad, bd, unlock, setvr, segments, explain, clcw, cltu, random, tm, telemetry, decoder or octets"
+            "bad {reason}: use packet, ad, bd, unlock, setvr, segments, explain, clcw, cltu, random, tm, telemetry, decoder, octets, search or frames"
         ),
         Reason::WordCount(form) => {
             let words = form.as_str();

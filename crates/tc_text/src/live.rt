@@ -1,13 +1,15 @@
-//! Lines of a live receiver: those of a script, and three more.
+//! Lines of a live receiver: those of a script, and five more.
 
 ghost use Rattle.std.specs.Prelude.{◌≡◌, ◌⊎◌, IfOk, IfErr, MatchResult};
 ghost use Rattle.tc_lines.specs.Word.{words};
-ghost use Rattle.tc_text.specs.LiveLine.{live_line_of, link_command, report_command, deliver_command, flag_word};
+ghost use Rattle.tc_text.specs.LiveLine.{live_line_of, link_command, report_command, deliver_command, collect_command, candidate_command, flag_word};
 
 use crate::fault::Reason;
 use crate::line::{Line, parse_line};
 use crate::word::{next_argument, no_more, three_arguments};
+use hex::FromHexError;
 use std::alloc::Global;
+use tc_channel::Octets;
 use tc_lines::{next_word, small_number};
 use tc_link::Link;
 
@@ -22,9 +24,13 @@ pub enum LiveLine {
     Report(u8),
     /// Lets the oldest data field out of the buffer of a virtual channel, and hands on all that waits in its queues.
     Deliver(u8),
+    /// Hands on all that waits in the queues of a virtual channel.
+    Collect(u8),
+    /// What a CLTU carried: a frame, and fill behind it.
+    Candidate(Octets),
 }
 
-/// Reads a line, which is given without its line feed. Only a frame's octets take memory.
+/// Reads a line, which is given without its line feed. Only the octets of a frame or a candidate take memory.
 #[tactic(auto, unfolding(crate::specs::LiveLine::live_line_of))]
 pub fn parse_live_line(alloc: Global, octets: &[u8]) -> Result<LiveLine, Reason>
     ensures line { IfOk result (λ line. live_line_of (words octets.now) ≡ Ok line) }
@@ -39,6 +45,10 @@ pub fn parse_live_line(alloc: Global, octets: &[u8]) -> Result<LiveLine, Reason>
         report(arguments)
     } else if command == b"deliver".as_slice() {
         deliver(arguments)
+    } else if command == b"collect".as_slice() {
+        collect(arguments)
+    } else if command == b"candidate".as_slice() {
+        candidate(alloc, arguments)
     } else {
         Ok(LiveLine::Script(parse_line(alloc, octets)?))
     }
@@ -74,6 +84,28 @@ fn deliver(arguments: &[u8]) -> Result<LiveLine, Reason>
     let (vcid, rest) = next_argument(arguments)?;
     no_more(rest)?;
     Ok(LiveLine::Deliver(small_number(vcid)?))
+}
+
+fn collect(arguments: &[u8]) -> Result<LiveLine, Reason>
+    ensures line { IfOk result (λ line. collect_command (words arguments.now) ≡ Ok line) }
+    ensures reason { IfErr result (λ reason. collect_command (words arguments.now) ≡ Err reason) }
+{
+    let (vcid, rest) = next_argument(arguments)?;
+    no_more(rest)?;
+    Ok(LiveLine::Collect(small_number(vcid)?))
+}
+
+fn candidate(alloc: Global, arguments: &[u8]) -> Result<LiveLine, Reason>
+    ensures line { IfOk result (λ line. candidate_command (words arguments.now) ≡ Ok line) }
+    ensures reason { IfErr result (λ reason. (reason ≡ Reason.NoMemory) ⊎ (candidate_command (words arguments.now) ≡ Err reason)) }
+{
+    let (digits, rest) = next_argument(arguments)?;
+    no_more(rest)?;
+    match hex::decode(alloc, digits) {
+        Ok(octets) => Ok(LiveLine::Candidate(Octets::from(octets))),
+        Err(FromHexError::OutOfMemory) => Err(Reason::NoMemory),
+        Err(_) => Err(Reason::BadHex),
+    }
 }
 
 // The flag that a word is: 0 or 1.

@@ -332,7 +332,7 @@ records! {
     Tm as "tcrx_tm" {
         /// `TCRX_DONE`, or why not.
         status: Status,
-        /// The operational control field, a CLCW. Its first bit is the most significant one.
+        /// The operational control field. Its first bit is the most significant one: 0 for a CLCW, 1 for a Type-2 report.
         clcw: u32,
         /// The primary header.
         header: TmHeader,
@@ -367,6 +367,8 @@ records! {
         corrected: u64,
         /// How many ended in them that were rejected, and aren't the tail sequence.
         rejected: u64,
+        /// How many CLTUs carried more in them than 1,029 octets. None of these ends a candidate frame.
+        overlong: u64,
     }
     /// What was written into a buffer.
     Written as "tcrx_written" {
@@ -460,6 +462,28 @@ records! {
         rest: u8,
         /// The virtual channel id, 0 to 63.
         vcid: u8,
+    }
+    /// What the frame at the front of a candidate came to, and the channel that took it in. Where a frame was found and is refused,
+    /// its length and what follows it are told nevertheless.
+    CandidateReply as "tcrx_candidate_reply" {
+        /// `TCRX_DONE`, or why not.
+        status: Status,
+        /// As in `tcrx_reply`.
+        queued: u32,
+        /// As in `tcrx_reply`.
+        dropped: u32,
+        /// As in `tcrx_reply`.
+        event: u8,
+        /// As in `tcrx_reply`.
+        accepted: u8,
+        /// As in `tcrx_reply`.
+        rest: u8,
+        /// The virtual channel id, 0 to 63.
+        vcid: u8,
+        /// Whether more follows the frame than can be fill: over six octets, or another frame.
+        more: u8,
+        /// The octets of the frame, 6 to 1,024, with its frame error control field.
+        length: u16,
     }
     /// A place in an array.
     Place as "tcrx_place" {
@@ -559,11 +583,17 @@ extern "C" {
     pub fn tcrx_write_cltu_at(frame: *const u8, frame_count: usize, octets: *mut u8, room: usize) -> Written;
     /// Gives a decoder the next octets of a stream: up to and with the first that ends a candidate frame, or all. It looks for a
     /// start sequence, and then decodes code blocks until one is rejected, as the tail sequence is: what the others carried is a
-    /// candidate frame, with fill behind it. Give the record of the answer to the next call, with the octets behind those that were
-    /// taken and the same buffer, all of which is the decoder's. A CLTU that carries more than 1,029 octets gives nothing.
+    /// candidate frame, with fill behind it: `tcrx_rack_candidate` takes it as it is. Give the record of the answer to the next
+    /// call, with the octets behind those that were taken and the same buffer, all of which is the decoder's. A CLTU that carries
+    /// more than 1,029 octets is counted, and gives nothing.
     ///
     /// Answer: what the octets came to. Refused by `TCRX_BAD_FLAG`, `TCRX_BAD_DECODER`, `TCRX_NO_ROOM`.
     pub fn tcrx_cltu_octets_at(decoder: Decoder, octets: *const u8, count: usize, frame: *mut u8, room: usize) -> Decoded;
+    /// Has a decoder look for a start sequence anew, as after a loss of bit lock. Code blocks that it has taken since the last
+    /// start sequence end no candidate frame. Where it was decoding, that cut a CLTU short, or what only began as one does.
+    ///
+    /// Answer: the record for the next call of `tcrx_cltu_octets`, and else zeros. Refused by `TCRX_BAD_FLAG`, `TCRX_BAD_DECODER`.
+    pub fn tcrx_cltu_search(decoder: Decoder) -> Decoded;
     /// Writes octets with the random sequence added to the front of a buffer. Where a mission randomises its CLTUs, a sender gives
     /// it each frame before `tcrx_write_cltu`, and a receiver what each CLTU carried: added twice, the sequence changes nothing.
     ///
@@ -689,6 +719,22 @@ extern "C" {
         octets: *const u8,
         count: usize,
     ) -> RackReply;
+    /// Gives the frame at the front of a candidate, which is what a CLTU carried, to the channel that it is for, as
+    /// `tcrx_rack_frame` does: the frame is as long as its length field says, which is looked at first, then its frame error
+    /// control field. What follows it is fill, or the next frame: where a CLTU may carry several, give the call the octets behind
+    /// the frame, too, while the answer says that there are more.
+    ///
+    /// Answer: the event, what became of the unit, the channel, and how long the frame was. Refused by `TCRX_BAD_FLAG`,
+    /// `TCRX_SHORT` to `TCRX_TRUNCATED`; where `fecf` is 1 by `TCRX_NO_FECF`, `TCRX_WRONG_FECF`; then by `TCRX_OTHER_SPACECRAFT`,
+    /// `TCRX_UNKNOWN_CHANNEL`.
+    pub fn tcrx_rack_candidate_at(
+        channels: *mut Channel,
+        channel_count: usize,
+        scid: u16,
+        fecf: u8,
+        octets: *const u8,
+        count: usize,
+    ) -> CandidateReply;
     /// Answer: the place of the first channel with this virtual channel id. Refused by `TCRX_UNKNOWN_CHANNEL`.
     pub fn tcrx_rack_find_at(channels: *mut Channel, channel_count: usize, vcid: u8) -> Place;
 }

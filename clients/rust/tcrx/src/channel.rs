@@ -260,6 +260,17 @@ impl Channel {
     pub fn close(self) {}
 }
 
+/// What the frame at the front of a candidate came to, and what follows it.
+#[derive(Clone, Copy, Debug, PartialEq, Eq)]
+pub struct Carried<'octets> {
+    /// What a frame of a rack comes to.
+    pub frame: Result<(u8, Brought), RackError>,
+    /// The octets behind the frame; all of them where none was found.
+    pub rest: &'octets [u8],
+    /// Whether they are more than can be fill.
+    pub more: bool,
+}
+
 /// The channels of a spacecraft.
 #[derive(Debug)]
 pub struct Rack<'channels> {
@@ -284,6 +295,21 @@ impl Rack<'_> {
         }
         let delivery = Delivery { queued: reply.queued, dropped: reply.dropped, rest: reply.rest == 1 };
         Ok((reply.vcid, Brought { event: Event::of(reply.event), accepted: reply.accepted == 1, delivery }))
+    }
+
+    /// Gives the frame at the front of a candidate, which a `Decoder` gives, to the channel that it is for. The frame is as long as its
+    /// length field says, which is looked at before its frame error control field.
+    pub fn candidate<'octets>(&mut self, octets: &'octets [u8]) -> Carried<'octets> {
+        let (at, count) = (self.channels.as_mut_ptr().cast(), self.channels.len());
+        // SAFETY: as for `frame`.
+        let reply = unsafe { sys::tcrx_rack_candidate_at(at, count, self.scid, self.fecf.into(), octets.as_ptr(), octets.len()) };
+        let frame = if reply.status == sys::DONE {
+            let delivery = Delivery { queued: reply.queued, dropped: reply.dropped, rest: reply.rest == 1 };
+            Ok((reply.vcid, Brought { event: Event::of(reply.event), accepted: reply.accepted == 1, delivery }))
+        } else {
+            Err(RackError::of(reply.status, 0))
+        };
+        Carried { frame, rest: &octets[reply.length.into()..], more: reply.more == 1 }
     }
 
     /// The channel with this virtual channel id.

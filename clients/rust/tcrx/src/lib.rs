@@ -31,7 +31,7 @@ mod channel;
 mod errors;
 mod link;
 
-pub use channel::{Brought, Channel, Delivery, Limits, Link, Rack, Settings};
+pub use channel::{Brought, Carried, Channel, Delivery, Limits, Link, Rack, Settings};
 pub use errors::{
     BringError, FarmError, FecfError, FrameError, RackError, ReleaseError, SettingsError, TakeError, TmError, WriteError,
 };

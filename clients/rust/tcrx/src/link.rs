@@ -124,6 +124,8 @@ pub struct Fed<'held, 'octets> {
     pub corrected: u64,
     /// How many ended that were rejected, and aren't the tail sequence.
     pub rejected: u64,
+    /// How many CLTUs carried more than 1,029 octets, each of which ends no candidate frame.
+    pub overlong: u64,
 }
 
 /// A decoder of CLTUs in a stream, with the octets that it holds.
@@ -151,7 +153,14 @@ impl Decoder {
             rest: &octets[answer.taken as usize..],
             corrected: answer.corrected,
             rejected: answer.rejected,
+            overlong: answer.overlong,
         }
+    }
+
+    /// Looks for a start sequence anew, as after a loss of bit lock.
+    pub fn search(&mut self) {
+        // SAFETY: it takes a record by value.
+        self.kept = unsafe { sys::tcrx_cltu_search(self.kept) }.decoder;
     }
 }
 

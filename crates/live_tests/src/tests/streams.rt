@@ -14,7 +14,7 @@ fn lines_are_answered_and_flushed_one_by_one(rt: HostRuntime) -> Result<(), Fail
     let served = answer_lines(rt.alloc(), receiver, &mut reader, &mut writer);
     assert_eq!(rt; served, Ok(()));
     let text =
-        b"bad unknown command: use channel, queue, map, frame, release, take, unit, clcw, link, report or deliver\nclcw 1 01040000\nfinal 1 01040000 events 0 buffered 0\n".as_slice();
+        b"bad unknown command: use channel, queue, map, frame, release, take, unit, clcw, link, report, deliver, collect or candidate\nclcw 1 01040000\nfinal 1 01040000 events 0 buffered 0\n".as_slice();
     assert!(rt; writer.kept() == text);
     assert_eq!(rt; writer.flushes(), 5);
     Ok(())
@@ -31,7 +31,7 @@ fn a_read_fails_after_a_line(rt: HostRuntime) -> Result<(), Fail> {
     assert_eq!(rt; served, Err(ServingFault::Read));
     assert!(rt;
         writer.kept()
-            == b"bad unknown command: use channel, queue, map, frame, release, take, unit, clcw, link, report or deliver\n".as_slice()
+            == b"bad unknown command: use channel, queue, map, frame, release, take, unit, clcw, link, report, deliver, collect or candidate\n".as_slice()
     );
     Ok(())
 }

@@ -238,7 +238,7 @@ fn growth_of_a_decoder(rt: HostRuntime) {
     assert!(rt; is_good);
 }
 
-const NONE: &str = "blocks corrected 0 rejected 0\n";
+const NONE: &str = "blocks corrected 0 rejected 0 overlong 0\n";
 
 // A line that is answered with two frames, each of them, and the answers of other lines.
 const UNIT: &str = "segments 42 1 0 0 4 1005c0000000aa";

@@ -34,7 +34,7 @@ fn lines_are_answered_and_flushed_one_by_one(rt: HostRuntime) -> Result<(), Fail
     let served = answer_lines(rt.alloc(), Ending::DataField, &mut reader, &mut writer);
     assert_eq!(rt; served, Ok(()));
     let text =
-        b"packet 1005c0000000aa\nbad unknown command: use packet, ad, bd, unlock, setvr, segments, explain, clcw, cltu, random, tm, telemetry, decoder or octets\nbad wrong number of words: write unlock SCID VC\nframe 302a04050000\n".as_slice();
+        b"packet 1005c0000000aa\nbad unknown command: use packet, ad, bd, unlock, setvr, segments, explain, clcw, cltu, random, tm, telemetry, decoder, octets, search or frames\nbad wrong number of words: write unlock SCID VC\nframe 302a04050000\n".as_slice();
     assert!(rt; writer.kept() == text);
     assert_eq!(rt; writer.flushes(), 5);
     Ok(())

@@ -1,5 +1,5 @@
 use Rattle.std.proofs.Common.{◌≡◌, ◌<◌, ◌≤◌, [], length, take}
-use Rattle.tc_cltu.specs.Reception.{state_after, frames_of, corrected_in, rejected_in}
+use Rattle.tc_cltu.specs.Reception.{state_after, frames_of, corrected_in, rejected_in, overlong_in}
 use Rattle.tc_c.specs.Decoder.{reception_of}
 use Rattle.tc_c.proofs.decoder.take_octets.Given as goal
 
@@ -17,4 +17,6 @@ invariant-loop-octet l = record {
   corrected_within : l.counts.corrected ≤ l.octet-index;
   rejected : l.counts.rejected ≡ rejected_in l.fn.mode 1029 (reception_of l.fn.decoder l.fn.frame) (take l.octet-index l.octets);
   rejected_within : l.counts.rejected ≤ l.octet-index;
+  overlong : l.counts.overlong ≡ overlong_in l.fn.mode 1029 (reception_of l.fn.decoder l.fn.frame) (take l.octet-index l.octets);
+  overlong_within : l.counts.overlong ≤ l.octet-index;
 }

@@ -1,6 +1,6 @@
 use Rattle.std.proofs.Common.{set, refl, ap, sym, ◌∙◌}
 use Rattle.tc_cltu.specs.CodeBlock.{decoded}
-use Rattle.tc_cltu.specs.Reception.{Step, fate_in}
+use Rattle.tc_cltu.specs.Reception.{Step, fate_after}
 use Rattle.tc_cltu.proofs.Decoding.{last-step, last-fate}
 use Rattle.tc_cltu.proofs.decoder.Decoder.feed_octet.Goals as goal
 
@@ -20,4 +20,4 @@ pub returns-clause-fate : goal.returns-clause-fate
 returns-clause-fate c =
     let d = c.self.inside in let inv = c.self.invariant in
     c.end_block.ensures.fate
-    ∙ last-fate d.mode c.args.octet d.last d.count d.frame.items d.block d.decoding c.args.self.now (fate_in d.mode (set d.block d.count c.args.octet)) c.if-not-self.false c.if-self-lt7.false inv.0 inv.2 c.self.view_is refl
+    ∙ last-fate d.mode 1029 c.args.octet d.last d.count d.frame.items d.block d.decoding c.args.self.now (fate_after d.mode 1029 d.frame.items (set d.block d.count c.args.octet)) c.if-not-self.false c.if-self-lt7.false inv.0 inv.2 c.self.view_is refl

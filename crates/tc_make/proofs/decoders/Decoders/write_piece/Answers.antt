@@ -1,6 +1,7 @@
 use Rattle.tc_make.proofs.Names.{arith, on_ok_weaker, sym, ◌<◌}
 use Rattle.std.proofs.lemmas.Option.{slice_get_read}
-use Rattle.tc_make.proofs.Fed.{piece-fed}
+use Rattle.tc_make.proofs.Fed.{slot-done}
+use Rattle.tc_make.specs.Decoders.{IsFed}
 use Rattle.tc_make.proofs.decoders.Decoders.write_piece.Goals as goal
 
 pub returns : goal.returns
@@ -9,6 +10,6 @@ returns g c =
     let same = c.from.ensures in
     let within : at < 256 = omega arith in
     on_ok_weaker c.feed.result
-    (piece-fed c.args.self.now items c.args.id at c.args.octets.now was c.feed.new.slot _ _
+    (slot-done (λ before after text. IsFed before c.args.octets.now after text) c.args.self.now items c.args.id at was c.feed.new.slot _ _
     c.self.view_is c.from.ensures (slice_get_read items 256 at was (sym c.self.invariant) within c.index_mut-slot.ensures.value))
     c.feed.ensures
