@@ -25,7 +25,7 @@ from pathlib import Path
 from typing import Any, Callable, Dict, List, Tuple, Type
 
 from comparing import PATIENCE, TOP, close, run, tell
-from client_parts import NOTHING, ONE, UNLOCK, frame, packet, raises, same, whole
+from client_parts import NOTHING, ONE, UNLOCK, cltu, frame, packet, raises, same, whole
 import tcrx
 import tcrx_channel
 from tcrx import (Brought, Channel, Clcw, Delivery, Ended, Event, Final, NotSetUp, NotStarted, Outcome, Packet, Refusal, Refused,
@@ -144,31 +144,37 @@ def check_made() -> None:
     same((write_unlock(675, 12).hex(), write_set_vr(675, 12, 9).hex()), ("32a330050000", "32a3300700820009"), "commands")
     ended = add_fecf(bytes.fromhex(plain))
     same((ended.hex(), check_fecf(ended)), ("22a39409c8c0aabb4c91", bytes.fromhex(plain)), "a frame with its field, and without it")
-    same(check_fecf(bytes.fromhex(plain)), Refused(Refusal.CHECK), "a frame without a field")
+    same([check_fecf(octets) for octets in (bytes.fromhex(plain), b"", b"\xff\xff")], [Refused(Refusal.CHECK)] * 3, "no frames with a field")
     for call in (lambda: write_packet(2048, 0, b"\0"), lambda: write_frame(0, 0, 0, b""), lambda: write_segments(unit, scid=0, vcid=0, ns=0, map=64),
                  lambda: write_unlock(1024, 0), lambda: add_fecf(b"")):
         raises(NotWritten, call, "a making that is refused")
     same(str(Clcw(0x1d9484b5)), "vc 37 status 7 norf 1 nobitlock 0 lockout 0 wait 0 retransmit 0 farmb 2 vr 181", "a CLCW as text")
 
 
-def check_streams(cltu: bytes, plain: bytes) -> None:
-    """A CLTU in pieces, and with a wrong bit, which is corrected in one mode, and rejected in the other."""
-    wrong, carried = cltu[:5] + bytes([cltu[5] ^ 16]) + cltu[6:], plain + b"\x55" * 6
+def check_streams(sent: bytes, plain: bytes) -> None:
+    """A CLTU in pieces, and with a wrong bit, which is corrected in one mode, and rejected in the other; more octets at once than a call
+    of C is given."""
+    wrong, carried = sent[:5] + bytes([sent[5] ^ 16]) + sent[6:], plain + b"\x55" * 6
     decoder, strict = Decoder(correct=True), Decoder(correct=False)
-    same([decoder.feed(octets) for octets in (cltu[:9], cltu[9:-1], cltu[-1:], wrong)], [[], [carried], [], [carried]], "a stream in pieces")
+    same([decoder.feed(octets) for octets in (sent[:9], sent[9:-1], sent[-1:], wrong)], [[], [carried], [], [carried]], "a stream in pieces")
     same((decoder.corrected, decoder.rejected), (1, 0), "one wrong bit that is corrected")
     same((strict.feed(wrong), strict.corrected, strict.rejected), ([], 0, 1), "one wrong bit that is detected")
+    many = [number.to_bytes(7, "big") for number in range(500)]
+    same(strict.feed(b"".join(map(cltu, many))), many, "500 CLTUs at once")
 
 
 def check_ends_of_the_link() -> None:
     """A CLTU, the random sequence and telemetry frames, as c/checks/fields.h has them, and one of each that is refused."""
     plain, clcw = bytes.fromhex("22a39407c8c0aabb"), Clcw(0x1d9484b5)
     same(write_cltu(plain).hex(), "eb9022a39407c8c0aaf0bb5555555555553ec5c5c5c5c5c5c579", "a CLTU")
+    longest = bytes(place * 7 & 255 for place in range(1029))
+    same(write_cltu(longest), cltu(longest), "the longest CLTU")
     same((randomise(plain).hex(), randomise(randomise(plain))), ("dd9a0a5da029ac4e", plain), "the random sequence, on and off")
     check_streams(bytes.fromhex("eb9022a39407c8c0aaf0bb5555555555553ec5c5c5c5c5c5c57955"), plain)
     for digits, fecf, size in (("2a3bc84d1ffe5555551d9484b5", False, 13), ("2a3bc84d1ffe5555551d9484b57ee3", True, 15)):
         same(write_tm(675, 5, 200, 77, clcw, size=size, fecf=fecf).hex(), digits, "a telemetry frame")
         same(read_tm(bytes.fromhex(digits), fecf=fecf), Tm(675, 5, 200, 77, clcw, 2046), "what a telemetry frame says")
+    same(read_tm(bytes.fromhex("2a3bc84d19235555551d9484b5")), Tm(675, 5, 200, 77, clcw, 291), "a first header pointer")
     for call in (lambda: write_cltu(b""), lambda: write_cltu(bytes(1030)), lambda: randomise(bytes(1030)),
                  lambda: write_tm(1024, 0, 0, 0, clcw, size=13), lambda: write_tm(0, 0, 0, 0, clcw, size=2049)):
         raises(NotWritten, call, "a making at an end of the link that is refused")

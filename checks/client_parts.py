@@ -63,6 +63,20 @@ def sum_of(octets: bytes) -> bytes:
     return register.to_bytes(2, "big")
 
 
+def coded(octets: bytes) -> bytes:
+    """Seven octets and their parity, complemented, before a bit that is 0 (CCSDS 231.0-B, 3.3)."""
+    left = int.from_bytes(octets, "big") << 7
+    for bit in range(62, 6, -1):
+        left ^= 0b1100_0101 << bit - 7 if left >> bit & 1 else 0
+    return octets + bytes([(left ^ 0x7F) << 1])
+
+
+def cltu(octets: bytes) -> bytes:
+    """A frame with its fill in code blocks, between the start and the tail sequence."""
+    filled = octets + b"\x55" * (-len(octets) % 7)
+    return b"\xeb\x90" + b"".join(coded(filled[at:at + 7]) for at in range(0, len(filled), 7)) + bytes.fromhex("c5c5c5c5c5c5c579")
+
+
 def packet(apid: int, *data: int) -> bytes:
     """A telecommand packet of an application with these octets of data."""
     return (0x1000 | apid).to_bytes(2, "big") + b"\xc0\x00" + (len(data) - 1).to_bytes(2, "big") + bytes(data)
