@@ -5,6 +5,7 @@ use Rattle.std.specs.List.{AllByRecursion}
 use Rattle.tc_station.specs.Tally.{Tally}
 use Rattle.tc_station.specs.Work.{AreWorked, IsShift, IsWorked, Shift, lowest}
 use Rattle.tc_station.specs.declared.work.Order.TheVariants as orders
+use Rattle.tc_cli.specs.Parallel.{HasCause}
 use Rattle.tc_cli.specs.Parting.{IsWorkFault}
 use Rattle.tc_cli.proofs.Lists.{any-at, any-here, push-cases, set-at, set-else, unmapped}
 use Rattle.tc_cli.proofs.Scripts.{first-good, parted-leads, set-up}
@@ -127,3 +128,11 @@ work-fault scid script count plan found fault parted for within (inr (inl memory
 work-fault scid script count plan found fault parted for within (inr (inr (line, job, memory))) =
     let le = job-within count found.lists line (found-numbered scid count plan found (all-numbered scid script count plan [] parted) for) job in
     subst (IsScriptFault script) (sym memory) (inl (refl, inl (first-good script count (phase_of plan) [] line (parted-leads scid script count plan [] parted) le)))
+
+-- out of balance, they have a cause
+pub work-cause : (scid : ℕ) (script : List ℕ) (count : ℕ) (plan : Plan) (found : Parted) (fault : ScriptFault) → AreParted scid script count plan [] → ArePartedFor scid plan found
+    → IsWorkFault count found fault → HasCause scid script fault
+work-cause scid script count plan found fault parted for (inl (unbalanced, cause)) =
+    subst (HasCause scid script) (sym unbalanced) (count, plan, found, parted, for, cause)
+work-cause scid script count plan found fault parted for (inr (inl memory)) = subst (HasCause scid script) (sym memory) tt
+work-cause scid script count plan found fault parted for (inr (inr (line, job, memory))) = subst (HasCause scid script) (sym memory) tt

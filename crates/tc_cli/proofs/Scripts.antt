@@ -2,6 +2,7 @@
 use Rattle.std.proofs.Common.{◌≡◌, ◌<◌, ◌≤◌, ℕ, ◌+◌, List, [], ◌⊎◌, Result, Ok, Err, Option, None, Some, IfSome, inl, inr, length, refl, subst, sym, arith, OnOk, IfErr}
 use Rattle.tc_cli.proofs.Names.{AreParted, IsBadLine, IsFirstLine, IsReadFault, IsReportFault, IsScriptFault, Leads, Line, NoMemory, Phase, Plan, Read, Reason, ScriptFault, Session, Setup, TooLong, Unbalanced, Write, cases_lt, goes_on, none_parted, one_parted, phase_of, script_limit, starts, Operating, SettingUp, Settings}
 use Rattle.tc_rack.specs.declared.stage.Stage.{Stage}
+use Rattle.tc_cli.specs.Parallel.{HasCause}
 use Rattle.tc_cli.specs.Script.{AreFirstGood, IsReached, IsFirstBad, IsGood}
 
 -- while channels are set up nothing operates
@@ -50,6 +51,15 @@ read-fault (Some script) TooLong why = why
 read-fault (Some script) (Line number reason) why = inl (why.1, inl (Setup [], script, subst (λ (n : ℕ). Leads script n (Setup []) script) (sym why.0) starts))
 read-fault (Some script) Write why = absurd why
 read-fault (Some script) Unbalanced why = absurd why
+
+-- a script that isn't read isn't out of balance
+pub read-cause : (scid : ℕ) (known : Option (List ℕ)) (fault : ScriptFault) → IsReadFault known fault → IfSome known (λ script. HasCause scid script fault)
+read-cause scid None fault why = tt
+read-cause scid (Some script) Unbalanced why = absurd why
+read-cause scid (Some script) Read why = tt
+read-cause scid (Some script) TooLong why = tt
+read-cause scid (Some script) (Line number reason) why = tt
+read-cause scid (Some script) Write why = tt
 
 -- of good first lines, the first of them are good
 pub first-good : (script : List ℕ) (count : ℕ) (phase : Phase) (rest : List ℕ) (less : ℕ) → Leads script count phase rest → less ≤ count → AreFirstGood script less

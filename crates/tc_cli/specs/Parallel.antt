@@ -6,7 +6,9 @@ use Rattle.tc_text.specs.Reading.{IsFirstLine}
 use Rattle.tc_text.specs.Word.{words}
 use Rattle.tc_text.specs.Line.{line_of}
 use Rattle.tc_text.specs.declared.line.Line.{Line as Said}
-use Rattle.tc_cli.specs.Parting.{Parted, IsNewlyParted, IsGiven, IsFrameGiven, IsWorkedOut}
+use Rattle.tc_text.specs.declared.fault.ScriptFault.{ScriptFault}
+use Rattle.tc_text.specs.declared.fault.ScriptFault.TheVariants.{Unbalanced}
+use Rattle.tc_cli.specs.Parting.{Parted, IsNewlyParted, IsGiven, IsFrameGiven, IsWorkedOut, IsWorkedUnbalanced}
 use Rattle.tc_setup.specs.Instruction.{instruction_of}
 use Rattle.tc_setup.specs.Phase.{Setup, Does}
 use Rattle.tc_setup.specs.declared.instruction.Instruction.{Instruction}
@@ -59,3 +61,13 @@ abbrev pub AreWorkedChannels : ℕ → List ℕ → List History → Type 0
 AreWorkedChannels scid script channels =
     (count : ℕ) × (plan : Plan) × AreParted scid script count plan []
     × (((phase_of plan ≡ Setup []) × (channels ≡ [])) ⊎ ((found : Parted) × ArePartedFor scid plan found × IsWorkedOut found channels))
+
+-- the workers of the whole script have left its station out of balance, and this is the cause
+abbrev pub AreWorkedUnbalanced : ℕ → List ℕ → Type 0
+AreWorkedUnbalanced scid script =
+    (count : ℕ) × (plan : Plan) × (found : Parted) × AreParted scid script count plan [] × ArePartedFor scid plan found × IsWorkedUnbalanced found
+
+-- a script that is told to be out of balance has a cause for it
+abbrev pub HasCause : ℕ → List ℕ → ScriptFault → Type 0
+HasCause scid script Unbalanced = AreWorkedUnbalanced scid script
+HasCause scid script fault = Unit {0}

@@ -2,7 +2,7 @@
 
 ghost use Rattle.std.specs.Prelude.{◌≡◌, ◌≢◌, ◌⊎◌, ◌≤◌, [], All, length, IfOk, IfErr, OnOk, IfSome};
 ghost use Rattle.std.specs.Io.KnownBytes.{Keeps};
-ghost use Rattle.tc_cli.specs.Parallel.{AreParted, ArePartedFor, AreWorkedChannels, Begins, IsLineParted, IsParted, GivesToFound};
+ghost use Rattle.tc_cli.specs.Parallel.{AreParted, ArePartedFor, AreWorkedChannels, Begins, HasCause, IsLineParted, IsParted, GivesToFound};
 ghost use Rattle.tc_cli.specs.Parting.{IsGiven, IsFrameGiven};
 ghost use Rattle.tc_setup.specs.Phase.{Does, IsBad, Setup};
 ghost use Rattle.tc_rack.specs.Report.{AreRising};
@@ -31,7 +31,7 @@ use tc_text::{Reason, ScriptFault, next_line, parse_line, read_whole};
 ///
 /// Each worker passes the gate once, while it holds its channel's lock. Where the octets of the reader
 /// are known, nothing is done unless each line is good, and a bad line that is told is the first one.
-/// Where it ends early, nothing is written, unless a write failed.
+/// Where it ends early, nothing is written, unless a write failed. It ends as unbalanced only with a cause.
 pub fn parallel_script<T: Threads + Wait + Sync, G: Gate + Sync, R: Read, W: Write>(
     rt: &T,
     alloc: Global,
@@ -43,6 +43,7 @@ pub fn parallel_script<T: Threads + Wait + Sync, G: Gate + Sync, R: Read, W: Wri
     requires { scid ≤ 1023 }
     ensures good { OnOk result (IfSome (R.remaining reader.old) (λ script. (length script ≤ script_limit) × IsGood script)) }
     ensures fault { IfErr result (λ fault. IfSome (R.remaining reader.old) (λ script. IsScriptFault script fault)) }
+    ensures cause { IfErr result (λ fault. IfSome (R.remaining reader.old) (λ script. HasCause scid script fault)) }
     ensures written { OnOk result (IfSome (R.remaining reader.old) (λ script. IsWrittenInParallel scid script (W.contents writer.old) (W.contents writer.new))) }
     ensures kept { IfErr result (λ fault. (fault ≡ ScriptFault.Write) ⊎ Keeps (W.contents writer.old) (W.contents writer.new)) }
 {
@@ -65,6 +66,7 @@ pub fn parallel_and_give_back<T: Threads + Wait + Sync, G: Gate + Sync, R: Read,
     ensures script { IfOk result (λ script. IfSome (R.remaining reader.old) (λ octets. script.items ≡ octets)) }
     ensures good { OnOk result (IfSome (R.remaining reader.old) (λ script. (length script ≤ script_limit) × IsGood script)) }
     ensures fault { IfErr result (λ fault. IfSome (R.remaining reader.old) (λ script. IsScriptFault script fault)) }
+    ensures cause { IfErr result (λ fault. IfSome (R.remaining reader.old) (λ script. HasCause scid script fault)) }
     ensures written { OnOk result (IfSome (R.remaining reader.old) (λ script. IsWrittenInParallel scid script (W.contents writer.old) (W.contents writer.new))) }
     ensures kept { IfErr result (λ fault. (fault ≡ ScriptFault.Write) ⊎ Keeps (W.contents writer.old) (W.contents writer.new)) }
 {
@@ -95,6 +97,7 @@ fn work_lines<T: Threads + Wait + Sync, G: Gate + Sync>(
     ensures worked { IfOk result (λ channels. AreWorkedChannels scid script.now channels.items) }
     ensures good { OnOk result (IsGood script.now) }
     ensures fault { IfErr result (IsScriptFault script.now) }
+    ensures cause { IfErr result (HasCause scid script.now) }
 {
     let (plan, lines) = part_lines(alloc, scid, script)?;
     match start(plan, alloc, scid) {
@@ -117,6 +120,7 @@ fn part_lines(alloc: Global, scid: u16, script: &[u8]) -> Result<(Plan, u32), Sc
     ensures parted { IfOk result (λ parts. AreParted scid script.now parts.1 parts.0 []) }
     ensures good { OnOk result (IsGood script.now) }
     ensures fault { IfErr result (IsScriptFault script.now) }
+    ensures cause { IfErr result (HasCause scid script.now) }
 {
     let mut plan = Stage::SettingUp(Configuration::new(alloc));
     let mut rest = script;

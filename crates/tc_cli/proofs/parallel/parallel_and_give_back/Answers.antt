@@ -1,10 +1,13 @@
 use Rattle.std.proofs.Common.{rules}
-use Rattle.tc_cli.proofs.Scripts.{read-fault}
+use Rattle.tc_cli.proofs.Scripts.{read-cause, read-fault}
 use Rattle.tc_cli.proofs.Written.{parallel-written}
 use Rattle.tc_cli.proofs.parallel.parallel_and_give_back.Goals as goal
 
 pub returns-in_err-script-clause-fault : goal.returns-in_err-script-clause-fault
 returns-in_err-script-clause-fault g c = search (rules, read-fault)
+
+pub returns-in_err-script-clause-cause : goal.returns-in_err-script-clause-cause
+returns-in_err-script-clause-cause g c = search (rules, read-cause)
 
 pub returns-in-Ok-flush-clause-written : goal.returns-in-Ok-flush-clause-written
 returns-in-Ok-flush-clause-written g c =
