@@ -1,1 +1,65 @@
-mod channel;
+mod faults;
+mod growth;
+mod limits;
+mod queues;
+mod rooms;
+mod run;
+mod steps;
+mod storage;
+mod told;
+
+use run::{Run, Step};
+use std::alloc::Global;
+use std::process::Abort;
+use tc_channel::{
+    Channel, Delivery, Event, FlightChannel, FrameReply, Items, NoMemory, Octets, ReleaseFault,
+    Settings, SettingsFault, TakeFault, TakeUnitFault,
+};
+use tc_fixed::{
+    FixedChannel, Limits, LimitsFault, MapLimit, NoUnitTaken, NothingReleased, NothingTaken,
+};
+use tc_link::read_frame;
+use test_parts::{
+    BD_PACKET, BD_UNIT, BEHIND, BUFFERED, DELIVERED, FRAME, Form, NO_ROOM, NOTHING, ONE, PACKET,
+    UNIT, WANTED, Wanted, ad_frame, copied, frame_event, have_texts, note, room,
+};
+
+// Virtual channel 1 with a queue of capacity 2 for APID 5, and one of two units for MAP 3.
+const BOTH: Wanted<'static> = Wanted {
+    queues: &[(5, 2)],
+    maps: &[(3, 2)],
+    ..WANTED
+};
+
+// A Type-BD frame was accepted (event 6), and ended no unit.
+const PASSED: FrameReply = FrameReply {
+    delivery: NOTHING,
+    ..DELIVERED
+};
+
+// One growth may be refused.
+fn settings(rt: &impl Abort, alloc: Global, wanted: &Wanted<'_>) -> Settings {
+    test_parts::settings(alloc, wanted).expect(rt, "settings")
+}
+
+// A channel by settings that make one; where memory is refused, that is printed, and it is made again.
+fn new_channel<C: Form>(
+    rt: &(impl Abort + Print),
+    alloc: Global,
+    name: &str,
+    wanted: &Wanted<'_>,
+) -> C {
+    match C::made(alloc, settings(rt, alloc, wanted)) {
+        Ok(channel) => channel,
+        Err(fault) => {
+            let _ = println!(rt; "refused: {name}::new");
+            assert_eq!(rt; fault, SettingsFault::NoMemory);
+            C::made(alloc, settings(rt, alloc, wanted)).expect(rt, "a channel")
+        }
+    }
+}
+
+// What a channel answers to the frame at the front of these octets.
+fn offer<C: Form>(rt: &impl Abort, channel: &mut C, octets: &[u8]) -> Result<FrameReply, NoMemory> {
+    channel.bring(&read_frame(octets).expect(rt, "a frame"))
+}

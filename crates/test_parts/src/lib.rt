@@ -1,12 +1,14 @@
-//! What tests of several crates share: frames and replies, settings made of data, growths that are refused once, and streams that
-//! fail.
+//! What tests of several crates share: frames and replies, settings made of data, the forms of a channel, growths that are refused
+//! once, and streams that fail.
 #![tactic(auto)]
 
+mod form;
 mod frames;
 mod growths;
 mod streams;
 mod wanted;
 
+pub use form::Form;
 pub use frames::{
     AD_UNIT, BD_PACKET, BD_UNIT, BEHIND, BUFFERED, DELIVERED, FRAME, NEXT, NO_FLAG, NO_ROOM,
     NOTHING, ONE, PACKET, UNIT, UNLOCK, ad_frame, frame_event, is_frame, offer,

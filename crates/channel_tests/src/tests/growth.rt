@@ -1,7 +1,9 @@
-//! Each call is made, of a channel that keeps its journal and of one in flight; where it answers want of memory, the channel is as it
-//! was, and the call is made again.
+//! Each call is made, of a channel of each form; where it answers want of memory, the channel is as it was, and the call is made again.
 
-use super::Step::{Ad, Clcw, Frame, Holds, Lends, Release, ReleaseOf, Take, TakeUnit};
+use super::Step::{
+    Ad, Clcw, Field, Frame, Holds, Lends, NoRelease, NoTake, NoTakeUnit, Release, ReleaseOf, Take,
+    TakeUnit,
+};
 use super::*;
 
 // Room for one field, a queue of capacity 2 for APID 5, and one of capacity 1 for APID 6 and for APID 7; a queue of two units of
@@ -20,15 +22,15 @@ const PLAIN: Wanted<'static> = Wanted {
 };
 
 // On a new channel, after so many frames that are discarded.
-fn play_on<J: Journal>(
+fn play_on<C: Form>(
     rt: &(impl Abort + Print),
     alloc: Global,
-    in_flight: bool,
+    name: &'static str,
     wanted: &Wanted<'_>,
     earlier: usize,
     steps: &[Step<'_>],
-) -> Run<J> {
-    let mut run = Run::new(rt, alloc, in_flight, wanted);
+) -> Run<C> {
+    let mut run = Run::new(alloc, name, new_channel(rt, alloc, name, wanted));
     for _ in 0..earlier {
         run.play(rt, &[Ad(0xff, BEHIND)])
     }
@@ -44,35 +46,22 @@ fn play(
     earlier: usize,
     steps: &[Step<'_>],
 ) {
-    let kept: Run<Kept> = play_on(rt, alloc, false, wanted, earlier, steps);
+    let kept: Run<Channel> = play_on(rt, alloc, "Channel", wanted, earlier, steps);
     kept.check_journal(rt);
-    let _in_flight: Run<Unkept> = play_on(rt, alloc, true, wanted, earlier, steps);
-}
-
-#[test]
-fn growth_of_a_new_channel(rt: HostRuntime) {
-    play(&rt, rt.alloc(), &GROWING, 0, &[])
-}
-
-#[test]
-fn growth_of_settings_that_are_copied(rt: HostRuntime) {
-    let alloc = rt.alloc();
-    let own = settings(&rt, alloc, &GROWING);
-    let copy = || own.lent().copied(alloc);
-    let copied = made_again(&rt, "LentSettings::copied", AllocError, &copy);
-    assert_eq!(rt; copied.expect(&rt, "a copy"), own);
+    let _flight: Run<FlightChannel> = play_on(rt, alloc, "FlightChannel", wanted, earlier, steps);
+    let _fixed: Run<FixedChannel> = play_on(rt, alloc, "FixedChannel", wanted, earlier, steps);
 }
 
 static EACH_CALL: [Step<'static>; 9] = [
     Ad(0, BUFFERED),
     Clcw(0x01040001),
-    Holds(1, 0),
+    Holds(1, 0, Some(0)),
     Release,
     Clcw(0x01040001),
-    Holds(0, 1),
+    Holds(0, 1, Some(0)),
     Take(5, &PACKET),
     Clcw(0x01040001),
-    Holds(0, 0),
+    Holds(0, 0, Some(0)),
 ];
 
 // So many frames that are discarded come before, so that the journal grows in each call once.
@@ -87,10 +76,10 @@ static WITHOUT_ROOM: [Step<'static>; 7] = [
     Ad(0, BUFFERED),
     Ad(1, NO_ROOM),
     Clcw(0x01041801),
-    Holds(1, 0),
+    Holds(1, 0, Some(0)),
     Ad(0, BEHIND),
     Clcw(0x01041801),
-    Holds(1, 0),
+    Holds(1, 0, Some(0)),
 ];
 
 #[test]
@@ -125,19 +114,19 @@ const SECOND_APID: [u8; 7] = [0x10, 0x07, 0xc0, 0x01, 0x00, 0x00, 0xbb];
 static UNITS_OF_TWO_PACKETS: [Step<'static>; 15] = [
     Frame(&TWO_PACKETS, DELIVERED_TWO),
     Clcw(0x01040200),
-    Holds(0, 2),
+    Holds(0, 2, Some(0)),
     Take(5, &PACKET),
     Take(5, &SECOND),
     Clcw(0x01040200),
-    Holds(0, 0),
+    Holds(0, 0, Some(0)),
     Frame(&TWO_APIDS, BUFFERED),
     ReleaseOf("two packets", TWO),
     Clcw(0x01040201),
-    Holds(0, 1),
+    Holds(0, 1, Some(0)),
     Take(7, &SECOND_APID),
     Take(5, &PACKET),
     Clcw(0x01040201),
-    Holds(0, 0),
+    Holds(0, 0, Some(0)),
 ];
 
 #[test]
@@ -158,7 +147,7 @@ static TWO_SEGMENTS: [Step<'static>; 10] = [
     Frame(&LAST_PART, BUFFERED),
     ReleaseOf("two segments", ONE),
     Clcw(0x01040003),
-    Holds(0, 2),
+    Holds(0, 2, Some(0)),
     Take(5, &PACKET),
     Take(5, &PACKET),
 ];
@@ -180,15 +169,15 @@ const PLAIN_AD: [u8; 12] = [
 static PLAIN_FIELDS: [Step<'static>; 11] = [
     Frame(&PLAIN_BD, DELIVERED),
     Clcw(0x01040200),
-    Holds(0, 1),
+    Holds(0, 1, None),
     Frame(&PLAIN_AD, BUFFERED),
     ReleaseOf("plain field", ONE),
     Clcw(0x01040201),
-    Holds(0, 2),
+    Holds(0, 2, None),
     Take(5, &PACKET),
     Take(5, &PACKET),
     Clcw(0x01040201),
-    Holds(0, 0),
+    Holds(0, 0, None),
 ];
 
 #[test]
@@ -208,11 +197,11 @@ static CHOSEN_MAP: [Step<'static>; 11] = [
     Frame(&LAST_AD, BUFFERED),
     ReleaseOf("two segments of a chosen MAP", ONE),
     Clcw(0x01040202),
-    Holds(0, 0),
+    Holds(0, 0, Some(2)),
     TakeUnit(3, &UNIT),
     TakeUnit(3, &[0xcc, 0xdd]),
     Clcw(0x01040202),
-    Holds(0, 0),
+    Holds(0, 0, Some(0)),
 ];
 
 #[test]
@@ -230,37 +219,55 @@ fn growth_of_a_take_of_a_unit(rt: HostRuntime) {
     }
 }
 
-// `SECOND` in a Type-BD frame; two units of MAP 3 of an octet.
-const SECOND_BD: [u8; 13] = [
-    0x20, 0x2a, 0x04, 0x0c, 0x00, 0xc0, 0x10, 0x05, 0xc0, 0x01, 0x00, 0x00, 0xbb,
-];
+// `SECOND`, unsegmented on MAP 0.
+const SECOND_FIELD: [u8; 8] = [0xc0, 0x10, 0x05, 0xc0, 0x01, 0x00, 0x00, 0xbb];
 
-const UNIT_1: [u8; 7] = [0x20, 0x2a, 0x04, 0x06, 0x00, 0xc3, 1];
+// One packet or unit was dropped, since its queue was full.
+const DROPPED: FrameReply = FrameReply {
+    delivery: Delivery {
+        dropped: 1,
+        ..NOTHING
+    },
+    ..PASSED
+};
 
-const UNIT_2: [u8; 7] = [0x20, 0x2a, 0x04, 0x06, 0x00, 0xc3, 2];
-
-static LENT: [Step<'static>; 16] = [
+// Units of MAP 3 have an octet, none, and two.
+static QUEUES: [Step<'static>; 30] = [
+    NoRelease,
+    NoTake(5, TakeFault::Empty),
+    NoTake(8, TakeFault::NoQueue),
+    NoTakeUnit(3, TakeUnitFault::Empty),
+    NoTakeUnit(4, TakeUnitFault::NoMap),
     Lends(None, None),
     Frame(&BD_PACKET, DELIVERED),
     Lends(Some(&PACKET), None),
-    Frame(&SECOND_BD, DELIVERED),
+    Field(&SECOND_FIELD, DELIVERED),
+    Frame(&BD_PACKET, DROPPED),
     Lends(Some(&PACKET), None),
-    Frame(&UNIT_1, DELIVERED),
+    Field(&[0xc3, 1], DELIVERED),
     Lends(Some(&PACKET), Some(&[1])),
-    Frame(&UNIT_2, DELIVERED),
+    Field(&[0xc3], DELIVERED),
+    Field(&[0xc3, 2, 3], DROPPED),
+    Holds(0, 2, Some(2)),
     Lends(Some(&PACKET), Some(&[1])),
     Take(5, &PACKET),
-    Lends(Some(&SECOND), Some(&[1])),
     TakeUnit(3, &[1]),
-    Lends(Some(&SECOND), Some(&[2])),
+    Lends(Some(&SECOND), Some(&[])),
+    Frame(&BD_PACKET, DELIVERED),
+    Field(&[0xc3, 2, 3], DELIVERED),
     Take(5, &SECOND),
-    TakeUnit(3, &[2]),
+    TakeUnit(3, &[]),
+    Lends(Some(&PACKET), Some(&[2, 3])),
+    Take(5, &PACKET),
+    TakeUnit(3, &[2, 3]),
     Lends(None, None),
+    NoTake(5, TakeFault::Empty),
+    Holds(0, 0, Some(0)),
 ];
 
-// What is lent is what the next take gives: nothing of an empty queue or of one that isn't there, and then the items in the order in
-// which they came, as long as they wait. Lending is no event.
+// Items come out in the order in which they came, from rooms that are used again and again. What is lent is what the next take gives,
+// and nothing of an empty queue or of one that isn't there. Lending is no event, nor is what is refused.
 #[test]
-fn the_oldest_is_lent_until_it_is_taken(rt: HostRuntime) {
-    play(&rt, rt.alloc(), &GROWING, 0, &LENT)
+fn packets_and_units_in_their_queues(rt: HostRuntime) {
+    play(&rt, rt.alloc(), &GROWING, 0, &QUEUES)
 }

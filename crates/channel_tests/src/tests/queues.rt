@@ -3,7 +3,7 @@
 use super::*;
 
 // A channel with 64 queues of capacity 1, each with the APID that is how many queues come after it.
-fn channel_of_queues(rt: &(impl Abort + Print), alloc: Global) -> Channel {
+fn channel_of_queues<C: Form>(rt: &(impl Abort + Print), alloc: Global, name: &str) -> C {
     let mut queues = room(alloc, 64).expect(rt, "room");
     for after in (0..64).rev() {
         queues.push((after, 1)).expect(rt, "a queue");
@@ -12,7 +12,7 @@ fn channel_of_queues(rt: &(impl Abort + Print), alloc: Global) -> Channel {
         queues: &queues,
         ..WANTED
     };
-    new_channel(rt, alloc, "Channel", &wanted)
+    new_channel(rt, alloc, name, &wanted)
 }
 
 // The types, APIDs and data of twenty packets: two for APID 62, one for 63, one for 2,046, one of telemetry, the first for 0 and the
@@ -56,26 +56,32 @@ fn long_frame(rt: &impl Abort, alloc: Global) -> Vec<u8> {
 }
 
 // How many packets wait for APIDs 0, 1, 7, 62 and 63.
-fn queued(channel: &Channel) -> [Option<usize>; 5] {
-    [0, 1, 7, 62, 63].map(|apid| channel.queued(apid))
+fn queued<C: Form>(channel: &C) -> [Option<usize>; 5] {
+    [0, 1, 7, 62, 63].map(|apid| channel.packets(apid))
 }
 
-#[test]
-fn growth_of_a_long_unit_among_many_queues(rt: HostRuntime) {
-    let mut channel = channel_of_queues(&rt, rt.alloc());
-    let octets = long_frame(&rt, rt.alloc());
-    let mut answer = offer(&rt, &mut channel, &octets);
+// A refused growth leaves the channel as it was.
+fn check_long_unit<C: Form, T: Abort + Print>(rt: &T, alloc: Global, name: &str) {
+    let mut channel: C = channel_of_queues(rt, alloc, name);
+    let octets = long_frame(rt, alloc);
+    let mut answer = offer(rt, &mut channel, &octets);
     if answer.is_err() {
-        let _ = println!(rt; "refused: Channel::frame, long unit among many queues");
-        assert_eq!(&rt; channel.journal().len(), 0);
-        assert_eq!(&rt; queued(&channel), [Some(0); 5]);
-        answer = offer(&rt, &mut channel, &octets);
+        let _ = println!(rt; "refused: {name}::frame, long unit among many queues");
+        assert_eq!(rt; channel.events_and_fields().0, 0);
+        assert_eq!(rt; queued(&channel), [Some(0); 5]);
+        answer = offer(rt, &mut channel, &octets);
     }
     let expected = Delivery {
         queued: 4,
         dropped: 16,
         rest: true,
     };
-    assert_eq!(&rt; answer.expect(&rt, "a reply").delivery, expected);
-    assert_eq!(&rt; queued(&channel), [1, 0, 1, 1, 1].map(Some));
+    assert_eq!(rt; answer.expect(rt, "a reply").delivery, expected);
+    assert_eq!(rt; queued(&channel), [1, 0, 1, 1, 1].map(Some));
+}
+
+#[test]
+fn growth_of_a_long_unit_among_many_queues(rt: HostRuntime) {
+    check_long_unit::<Channel, HostRuntime>(&rt, rt.alloc(), "Channel");
+    check_long_unit::<FixedChannel, HostRuntime>(&rt, rt.alloc(), "FixedChannel");
 }

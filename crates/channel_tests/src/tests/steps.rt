@@ -2,7 +2,6 @@
 
 use super::*;
 use tc_channel::Count;
-use tc_link::read_frame;
 
 // How many steps were counted, up to 2^64 - 1.
 #[derive(Drop)]

@@ -1,7 +1,7 @@
 //! Limits of units by MAP. Expected values are those of CCSDS 232.0-B, 4.4, by hand: a unit is what an unsegmented data field
 //! carries behind its segment header, or what a first, continuing and last segment carry together.
 
-use super::Step::{Counts, Field, Frame, Take, TakeUnit};
+use super::Step::{Field, Frame, Holds, Take, TakeUnit};
 use super::*;
 use LimitsFault::{BadLimit, BadMap, BadOthers, DoubleMap, PlainMap, UnlistedMap};
 
@@ -24,11 +24,11 @@ static BY_PACKETS: [Step<'static>; 8] = [
     Frame(&BD_PACKET, DELIVERED),
     Field(&EIGHT_ON_0, PASSED),
     Field(&EIGHT_ON_1, DELIVERED),
-    Counts(0, Some(2), Some(0), 3),
-    Take(5, 16, Ok(&PACKET)),
-    Take(5, 16, Ok(&EIGHT)),
+    Holds(0, 2, Some(0)),
+    Take(5, &PACKET),
+    Take(5, &EIGHT),
     Field(&EIGHT_ON_63, DELIVERED),
-    Take(5, 16, Ok(&EIGHT)),
+    Take(5, &EIGHT),
 ];
 
 // The first four octets of a packet, and its last four or three, in a first and a last segment of MAP 0.
@@ -37,8 +37,8 @@ static BY_SEGMENTS: [Step<'static>; 6] = [
     Field(&[0x80, 0x00, 0x01, 0xaa, 0xbb], PASSED),
     Field(&[0x40, 0x10, 0x05, 0xc0, 0x00], PASSED),
     Field(&[0x80, 0x00, 0x00, 0xaa], DELIVERED),
-    Counts(0, Some(1), Some(0), 4),
-    Take(5, 16, Ok(&PACKET)),
+    Holds(0, 1, Some(0)),
+    Take(5, &PACKET),
 ];
 
 // The chosen MAP 3 has a limit of its own: a run of three octets is dropped, and one of two is joined, whatever comes on another
@@ -52,9 +52,9 @@ static OF_ANOTHER_MAP: [Step<'static>; 11] = [
     Field(&[0x83, 5], DELIVERED),
     Field(&[0xc3, 6, 7, 8], PASSED),
     Field(&[0xc3, 6, 7], DELIVERED),
-    Counts(0, Some(0), Some(2), 8),
-    TakeUnit(3, 16, Ok(&[4, 5])),
-    TakeUnit(3, 16, Ok(&[6, 7])),
+    Holds(0, 0, Some(2)),
+    TakeUnit(3, &[4, 5]),
+    TakeUnit(3, &[6, 7]),
 ];
 
 // No unit of an octet or more passes on MAP 1, where the limit of the others is 0.
@@ -62,20 +62,36 @@ static ON_AN_UNLISTED_MAP: [Step<'static>; 4] = [
     Field(&EIGHT_ON_1, PASSED),
     Field(&[0xc1], PASSED),
     Frame(&BD_PACKET, DELIVERED),
-    Counts(0, Some(1), Some(0), 3),
+    Holds(0, 1, Some(0)),
 ];
 
 // A plain data field of 7 octets is a unit within the limit of the others, and one of 8 isn't.
 static PLAIN_FIELDS: [Step<'static>; 4] = [
     Field(&EIGHT, PASSED),
     Field(&PACKET, DELIVERED),
-    Counts(0, Some(1), None, 2),
-    Take(5, 16, Ok(&PACKET)),
+    Holds(0, 1, None),
+    Take(5, &PACKET),
 ];
+
+// The same as `BOTH` without segment headers, and so without MAPs.
+const PLAIN: Wanted<'static> = Wanted {
+    segmented: false,
+    maps: &[],
+    ..BOTH
+};
+
+// One growth may be refused.
+pub(super) fn limits_of(rt: &impl Abort, alloc: Global, others: u32, maps: &[MapLimit]) -> Limits {
+    let maps = copied(alloc, maps).expect(rt, "limits");
+    Limits {
+        others,
+        maps: Items::from(maps),
+    }
+}
 
 // On a channel of these settings with so many octets on each of these MAPs, and so many on each other one.
 fn play_within(
-    rt: &impl Abort,
+    rt: &(impl Abort + Print),
     alloc: Global,
     wanted: &Wanted<'_>,
     others: u32,
@@ -83,9 +99,8 @@ fn play_within(
     steps: &[Step<'_>],
 ) {
     let limits = limits_of(rt, alloc, others, maps);
-    Run::new(alloc, settings(rt, alloc, wanted), Some(limits))
-        .expect(rt, "a channel")
-        .play(rt, steps)
+    let channel = FixedChannel::with_limits(alloc, settings(rt, alloc, wanted), limits);
+    Run::new(alloc, "FixedChannel", channel.expect(rt, "a channel")).play(rt, steps)
 }
 
 #[test]
@@ -135,6 +150,9 @@ fn faults_of_limits(rt: HostRuntime) {
         let settings = settings(&rt, alloc, wanted);
         let limits = limits_of(&rt, alloc, *others, maps);
         assert_eq!(&rt; limits.check(&settings).err(), *fault);
-        assert_eq!(&rt; Run::new(alloc, settings, Some(limits)).err(), *fault);
+        assert_eq!(&rt;
+            FixedChannel::with_limits(alloc, settings, limits).err(),
+            *fault
+        );
     }
 }

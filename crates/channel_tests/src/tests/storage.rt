@@ -1,6 +1,7 @@
 //! How many octets are asked for, worked out by hand from the sizes of x86-64: the own words of a room have 32 octets, those of a
 //! stream 40, those of a queue 64.
 
+use super::limits::limits_of;
 use super::*;
 use tc_fixed::{LentLimits, storage, storage_of_lent, storage_with_lent, storage_with_limits};
 

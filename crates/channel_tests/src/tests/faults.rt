@@ -1,4 +1,4 @@
-//! Settings that make a channel, settings that make none, and the texts of the faults.
+//! Settings that make a channel, settings that make none, what a channel in rooms refuses, and the texts of the faults.
 
 use super::*;
 use SettingsFault::{
@@ -21,6 +21,13 @@ static FAULTS: [(u8, u8, u8, &[(u16, u16)], Option<SettingsFault>); 12] = [
     (1, 10, 1, &[(5, 257)], Some(BadCapacity)),
     (1, 3, 1, &[(5, 0)], Some(BadWindow)),
 ];
+
+// Settings have this fault, or none, and make no channel because of it, or make one.
+fn check_fault(rt: &impl Abort, alloc: Global, wanted: &Wanted<'_>, fault: Option<SettingsFault>) {
+    let settings = settings(rt, alloc, wanted);
+    assert_eq!(rt; settings.check().err(), fault);
+    assert_eq!(rt; Channel::new(alloc, settings).err(), fault);
+}
 
 #[test]
 fn each_fault_of_settings(rt: HostRuntime) {
@@ -102,6 +109,55 @@ static TAKE_UNIT_TEXTS: [(TakeUnitFault, &str); 3] = [
     (TakeUnitFault::NoMemory, "no memory"),
 ];
 
+static NOTHING_TAKEN: [(NothingTaken, &str); 3] = [
+    (
+        NothingTaken::NoQueue,
+        "no queue with that application process identifier",
+    ),
+    (NothingTaken::Empty, "the queue is empty"),
+    (NothingTaken::NoRoom, "no room for the packet"),
+];
+
+static NO_UNIT_TAKEN: [(NoUnitTaken, &str); 3] = [
+    (
+        NoUnitTaken::NoMap,
+        "no queue for that multiplexer access point",
+    ),
+    (NoUnitTaken::Empty, "the queue is empty"),
+    (NoUnitTaken::NoRoom, "no room for the unit"),
+];
+
+static LIMITS_TEXTS: [(LimitsFault, &str); 7] = [
+    (
+        LimitsFault::Settings(BadVcid),
+        "bad virtual channel identifier",
+    ),
+    (
+        LimitsFault::BadOthers,
+        "bad limit of the other multiplexer access points",
+    ),
+    (
+        LimitsFault::BadMap,
+        "bad multiplexer access point of a limit",
+    ),
+    (
+        LimitsFault::DoubleMap,
+        "two limits of one multiplexer access point",
+    ),
+    (
+        LimitsFault::BadLimit,
+        "bad limit of a multiplexer access point",
+    ),
+    (
+        LimitsFault::PlainMap,
+        "a limit of a multiplexer access point without segment headers",
+    ),
+    (
+        LimitsFault::UnlistedMap,
+        "no limit of a chosen multiplexer access point",
+    ),
+];
+
 #[test]
 fn the_text_of_each_fault(rt: HostRuntime) {
     let alloc = rt.alloc();
@@ -110,4 +166,42 @@ fn the_text_of_each_fault(rt: HostRuntime) {
     assert!(rt; have_texts(alloc, &TAKE_TEXTS));
     assert!(rt; have_texts(alloc, &TAKE_UNIT_TEXTS));
     assert!(rt; have_texts(alloc, &[(NoMemory, "no memory")]));
+}
+
+#[test]
+fn the_text_of_each_fault_in_rooms(rt: HostRuntime) {
+    let alloc = rt.alloc();
+    assert!(rt; have_texts(alloc, &NOTHING_TAKEN));
+    assert!(rt; have_texts(alloc, &NO_UNIT_TAKEN));
+    assert!(rt; have_texts(alloc, &[(NothingReleased::Empty, "the buffer is empty")]));
+    assert!(rt; have_texts(alloc, &LIMITS_TEXTS));
+}
+
+// Octets that nothing was copied to yet.
+const UNTOUCHED: [u8; 8] = [0xee; 8];
+
+// A take into too few octets takes nothing, and changes none of them; what comes behind an item stays. What is dropped is gone.
+#[test]
+fn takes_into_few_octets_and_drops(rt: HostRuntime) {
+    let mut channel: FixedChannel = new_channel(&rt, rt.alloc(), "FixedChannel", &BOTH);
+    assert!(rt; !channel.drop_oldest(5) && !channel.drop_oldest(6));
+    assert!(rt; !channel.drop_oldest_unit(3) && !channel.drop_oldest_unit(4));
+    for frame in [BD_PACKET.as_slice(), &BD_PACKET, &BD_UNIT, &BD_UNIT] {
+        assert_eq!(rt; offer(&rt, &mut channel, frame), Ok(DELIVERED));
+    }
+    let mut octets = UNTOUCHED;
+    let taken = channel.take(5, &mut octets[..6]);
+    assert_eq!(rt; taken, Err(NothingTaken::NoRoom));
+    let taken = channel.take_unit(3, &mut octets[..1]);
+    assert_eq!(rt; taken, Err(NoUnitTaken::NoRoom));
+    assert_eq!(rt; (octets, channel.events()), (UNTOUCHED, 4));
+    assert_eq!(rt; channel.take(5, &mut octets), Ok(7));
+    assert!(rt; octets == [0x10, 0x05, 0xc0, 0x00, 0x00, 0x00, 0xaa, 0xee]);
+    assert!(rt; channel.drop_oldest(5) && channel.drop_oldest_unit(3));
+    assert_eq!(rt; channel.take_unit(3, &mut octets), Ok(2));
+    assert!(rt; octets == [0xaa, 0xbb, 0xc0, 0x00, 0x00, 0x00, 0xaa, 0xee]);
+    assert_eq!(rt;
+        (channel.queued(5), channel.units(3), channel.events()),
+        (Some(0), Some(0), 8)
+    );
 }

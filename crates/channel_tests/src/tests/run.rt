@@ -1,0 +1,199 @@
+//! Steps of a channel as data, with what it must answer, and the run of them on a channel of whatever form.
+
+use super::*;
+use tc_link::Report;
+
+// What is done to a channel, and what it answers.
+pub enum Step<'a> {
+    // The frame of `ad_frame` with this N(S).
+    Ad(u8, FrameReply),
+    // A frame without fill.
+    Frame(&'a [u8], FrameReply),
+    // The Type-BD frame that carries this data field, of 32 octets at most.
+    Field(&'a [u8], FrameReply),
+    // Of a unit of one packet.
+    Release,
+    // Of a unit of this kind, which names the release where it is refused memory.
+    ReleaseOf(&'a str, Delivery),
+    Take(u16, &'a [u8]),
+    TakeUnit(u8, &'a [u8]),
+    // A release, or a take, of nothing.
+    NoRelease,
+    NoTake(u16, TakeFault),
+    NoTakeUnit(u8, TakeUnitFault),
+    // The word with both link flags 0.
+    Clcw(u32),
+    // How many fields are buffered, packets wait for APID 5, and units of MAP 3.
+    Holds(usize, usize, Option<usize>),
+    // The oldest packet for APID 5, and the oldest unit of MAP 3.
+    Lends(Option<&'a [u8]>, Option<&'a [u8]>),
+}
+
+// What is told of a channel.
+#[derive(Clone, Copy, Debug, PartialEq, Eq)]
+struct Told {
+    report: Report,
+    word: u32,
+    events_and_fields: (u64, usize),
+    // For APID 5 and for APID 7.
+    queued: [Option<usize>; 2],
+    // Of MAP 3.
+    units: Option<usize>,
+}
+
+fn tell<C: Form>(channel: &C) -> Told {
+    Told {
+        report: channel.state(),
+        word: channel.word(),
+        events_and_fields: channel.events_and_fields(),
+        queued: [channel.packets(5), channel.packets(7)],
+        units: channel.whole_units(3),
+    }
+}
+
+// A channel, and the journal that it must have. A call that is refused memory is printed, and made again.
+#[derive(Drop)]
+pub struct Run<C: Form> {
+    name: &'static str,
+    alloc: Global,
+    channel: C,
+    journal: Vec<Event>,
+}
+
+impl Run<Channel> {
+    // The channel's journal is as it must be.
+    pub fn check_journal(&self, rt: &impl Abort) {
+        assert_eq!(rt; self.channel.journal(), self.journal.as_slice());
+    }
+}
+
+impl<C: Form> Run<C> {
+    pub fn new(alloc: Global, name: &'static str, channel: C) -> Run<C> {
+        Run {
+            name,
+            alloc,
+            channel,
+            journal: Vec::new(alloc),
+        }
+    }
+
+    // A call was refused memory, and the channel is as it was.
+    fn check_refused(&self, rt: &(impl Abort + Print), call: &str, told: &Told) {
+        let _ = println!(rt; "refused: {}::{call}", self.name);
+        assert_eq!(rt; tell(&self.channel), *told);
+    }
+
+    // The journal must have one event more.
+    fn note(&mut self, rt: &impl Abort, event: Event) {
+        note(&mut self.journal, event).expect(rt, "an event")
+    }
+
+    fn frame(&mut self, rt: &(impl Abort + Print), octets: &[u8], reply: FrameReply) {
+        let told = tell(&self.channel);
+        let mut answer = offer(rt, &mut self.channel, octets);
+        if answer.is_err() {
+            let event = reply.act.event;
+            let _ = println!(rt; "refused: {}::frame, event {event}", self.name);
+            assert_eq!(rt; tell(&self.channel), told);
+            answer = offer(rt, &mut self.channel, octets);
+        }
+        assert_eq!(rt; answer, Ok(reply));
+        let event = frame_event(self.alloc, octets).expect(rt, "an event");
+        self.note(rt, event)
+    }
+
+    fn field(&mut self, rt: &(impl Abort + Print), field: &[u8], reply: FrameReply) {
+        let count = field.len().min(32);
+        let mut octets = [0; 37];
+        octets[..5].copy_from_slice(&[0x20, 0x2a, 0x04, count as u8 + 4, 0x00]);
+        octets[5..count + 5].copy_from_slice(&field[..count]);
+        self.frame(rt, &octets[..count + 5], reply)
+    }
+
+    fn release(&mut self, rt: &(impl Abort + Print), unit: &str, expected: Delivery) {
+        let told = tell(&self.channel);
+        let mut answer = self.channel.let_out();
+        if answer == Err(ReleaseFault::NoMemory) {
+            let _ = println!(rt; "refused: {}::release, {unit}", self.name);
+            assert_eq!(rt; tell(&self.channel), told);
+            answer = self.channel.let_out();
+        }
+        assert_eq!(rt; answer, Ok(expected));
+        self.note(rt, Event::Release)
+    }
+
+    fn take(&mut self, rt: &(impl Abort + Print), apid: u16, packet: &[u8]) {
+        let told = tell(&self.channel);
+        let mut answer = self.channel.take_packet(self.alloc, apid);
+        if answer == Err(TakeFault::NoMemory) {
+            self.check_refused(rt, "take", &told);
+            answer = self.channel.take_packet(self.alloc, apid);
+        }
+        let taken = answer.expect(rt, "a packet");
+        assert_eq!(rt; taken.as_slice(), packet);
+        self.note(rt, Event::Take(apid))
+    }
+
+    fn take_unit(&mut self, rt: &(impl Abort + Print), map: u8, unit: &[u8]) {
+        let told = tell(&self.channel);
+        let mut answer = self.channel.take_whole(self.alloc, map);
+        if answer == Err(TakeUnitFault::NoMemory) {
+            self.check_refused(rt, "take_unit", &told);
+            answer = self.channel.take_whole(self.alloc, map);
+        }
+        let taken = answer.expect(rt, "a unit");
+        assert_eq!(rt; taken.as_slice(), unit);
+        self.note(rt, Event::TakeUnit(map))
+    }
+
+    // It lends these, and nothing where there is no queue.
+    fn check_lent(&self, rt: &impl Abort, packet: Option<&[u8]>, unit: Option<&[u8]>) {
+        assert_eq!(rt; self.channel.lent_packet(5), packet);
+        assert_eq!(rt; self.channel.lent_whole(3), unit);
+        assert_eq!(rt; self.channel.lent_packet(8), None);
+        assert_eq!(rt; self.channel.lent_whole(4), None);
+    }
+
+    fn check_holds(&self, rt: &impl Abort, fields: usize, packets: usize, units: Option<usize>) {
+        assert_eq!(rt; self.channel.events_and_fields().1, fields);
+        assert_eq!(rt; self.channel.packets(5), Some(packets));
+        assert_eq!(rt; self.channel.whole_units(3), units);
+        assert_eq!(rt; self.channel.packets(8), None);
+        assert_eq!(rt; self.channel.whole_units(4), None);
+    }
+
+    fn step(&mut self, rt: &(impl Abort + Print), step: &Step<'_>) {
+        match *step {
+            Step::Ad(ns, reply) => self.frame(rt, &ad_frame(1, ns), reply),
+            Step::Frame(octets, reply) => self.frame(rt, octets, reply),
+            Step::Field(field, reply) => self.field(rt, field, reply),
+            Step::Release => self.release(rt, "one packet", ONE),
+            Step::ReleaseOf(unit, delivery) => self.release(rt, unit, delivery),
+            Step::Take(apid, packet) => self.take(rt, apid, packet),
+            Step::TakeUnit(map, unit) => self.take_unit(rt, map, unit),
+            Step::NoRelease => assert_eq!(rt; self.channel.let_out(), Err(ReleaseFault::Empty)),
+            Step::NoTake(apid, fault) => {
+                let taken = self.channel.take_packet(self.alloc, apid);
+                assert_eq!(rt; taken.err(), Some(fault))
+            }
+            Step::NoTakeUnit(map, fault) => {
+                let taken = self.channel.take_whole(self.alloc, map);
+                assert_eq!(rt; taken.err(), Some(fault))
+            }
+            Step::Clcw(word) => assert_eq!(rt; self.channel.word(), word),
+            Step::Holds(fields, packets, units) => self.check_holds(rt, fields, packets, units),
+            Step::Lends(packet, unit) => self.check_lent(rt, packet, unit),
+        }
+    }
+
+    // Each step in turn; after each there are as many events as there must be.
+    pub fn play(&mut self, rt: &(impl Abort + Print), steps: &[Step<'_>]) {
+        for step in steps {
+            self.step(rt, step);
+            assert_eq!(rt;
+                self.channel.events_and_fields().0,
+                self.journal.len() as u64
+            );
+        }
+    }
+}
