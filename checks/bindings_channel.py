@@ -99,6 +99,37 @@ def check_racks() -> None:
     raises(ValueError, lambda: Rack(65536, []), "a spacecraft that C's type doesn't have")
 
 
+def check_chain() -> None:
+    """From CLTUs to packets: a frame of each length in a CLTU of its own, then CLTUs of one to four frames, with their sum and without, each
+    with a wrong bit; none is lost. What a CLTU carries beyond as many frames as are taken is told."""
+    limits = {"limits": {0: 1024}, "width": 10, "buffer": 4, "first": 0, "queues": {5: 8}}
+    for fecf in (False, True):
+        with Channel(1, **limits) as channel:
+            rack, decoder, lost, carried = Rack(42, [channel], fecf=fecf), Decoder(correct=True), 0, 0
+            for length in range(15, 1025):
+                for count in (1, 1 + length % 4):
+                    lengths = [length] if count == 1 else [15 + (length * place) % 240 for place in range(count)]
+                    packets = [write_packet(5, length % 16384, bytes(each - 12 - 2 * fecf)) for each in lengths]
+                    plain = [write_frame(42, 1, 0, b"\xc0" + packet, bypass=True) for packet in packets]
+                    frames = [add_fecf(each) for each in plain] if fecf else plain
+                    stream = bytearray(write_cltu(randomise(b"".join(frames))))
+                    stream[7] ^= 1
+                    for candidate in decoder.feed(stream):
+                        found = rack.bring_candidate(randomise(candidate), most=count)
+                        carried += all(found.frames) and found.more == b""
+                    lost += [channel.take(5) for _ in packets] != [Packet(1, 5, packet) for packet in packets]
+            same((lost, carried, decoder.overlong), (0, 2 * 1010, 0), f"CLTUs that are lost on their way, {fecf}")
+            found = rack.bring_candidate(frames[0] * 2, most=1)
+            same((len(found.frames), found.more), (1, frames[0]), "a frame more than is taken")
+            found = rack.bring_candidate(frames[0] + b"\x40" * 8, most=3)
+            same(found.frames[1:], [Refused(Refusal.CHECK if fecf else Refusal.VERSION)], "octets behind a frame that are none")
+    cut = Decoder(correct=False)
+    cut.feed(b"\xeb\x90abc")
+    same((cut.search(), cut.search(), cut.feed(write_cltu(b"abc"))), (True, False, [b"abc\x55\x55\x55\x55"]), "a search anew")
+    cut.feed(b"\xeb\x90" + bytes.fromhex("00000000000000fe") * 148)
+    same(cut.overlong, 1, "a CLTU that carries too much")
+
+
 def check_rack_turns(sent: bytes) -> None:
     """Racks of the same channels, one of which stands twice in each, in several threads: no call waits for ever."""
     one, two = (Channel(vcid, width=10, buffer=4, first=7, limits={0: 64}) for vcid in (5, 8))
@@ -467,6 +498,7 @@ def main() -> int:
     check_declarations()
     check_values()
     check_racks()
+    check_chain()
     check_fields()
     check_made()
     check_ends_of_the_link()

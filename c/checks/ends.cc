@@ -234,6 +234,16 @@ void check_racks() {
     tell(ended_rack.frame(wrong).status() == Status::wrong_fecf && ended_rack.frame(fill).status() == Status::fill, "a wrong field, and fill");
     tell(ended_rack.frame(frame_to(675, 5, false)).status() == Status::no_fecf, "no field");
     tell(rack.frame({}).status() == Status::too_short, "no octets of a rack");
+    const Bytes frame = frame_to(675, 8, true);
+    Bytes candidate = frame;
+    candidate.insert(candidate.end(), frame.begin(), frame.end());
+    candidate.push_back(0x55);
+    const tcrx::Carried one = ended_rack.candidate(candidate), last = ended_rack.candidate(one.rest);
+    tell(one.frame && one.frame->vcid == 8 && one.frame->brought.event == tcrx::Event::e4, "the first frame of a candidate");
+    tell(one.more && one.rest.size() == frame.size() + 1, "what follows the first frame of a candidate");
+    tell(last.frame && !last.more && last.rest.size() == 1, "the last frame of a candidate");
+    tell(ended_rack.candidate(wrong).frame.status() == Status::wrong_fecf, "a candidate with a wrong field");
+    tell(rack.candidate({}).frame.status() == Status::too_short, "a candidate of no octets");
     tell(channels[1].free() == Status::done && rack.find(5) == &channels[2], "the next of that id");
     tell(tcrx::Rack(675, {}).frame(frame_to(675, 5, false)).status() == Status::unknown_channel, "a rack of no channel");
     tell(tcrx::Rack(675, {nullptr, 1}).frame(frame_to(675, 5, false)).status() == Status::null, "a rack nowhere");
@@ -335,6 +345,15 @@ void check_streams() {
         carried.resize(14, 0x55);
         tell(corrected == (i == 1 ? 1u : 0u) && rejected == (i == 2 ? 1u : 0u), "what became of code blocks");
         tell(given == (i == 2 ? Bytes() : carried), "what a CLTU carried");
+        decoder.feed(Bytes(cltu_octets, cltu_octets + 9));
+        decoder.search();
+        tell(decoder.feed(Bytes(cltu_octets, cltu_octets + sizeof cltu_octets)).ended, "a CLTU behind a search anew");
+        Bytes overlong = {0xeb, 0x90};
+        for (unsigned block = 0; block < 148; block++) {
+            overlong.insert(overlong.end(), {0, 0, 0, 0, 0, 0, 0, 0xfe});
+        }
+        const tcrx::Fed fed = decoder.feed(overlong);
+        tell(!fed.ended && fed.overlong == 1, "a CLTU that carries too much");
     }
 }
 

@@ -2,3 +2,4 @@ mod Deliveries
 mod Ending
 mod Following
 mod Instructed
+mod Candidates

@@ -15,8 +15,8 @@ use Rattle.tc_packet.specs.declared.packet.Packet.{Packet}
 use Rattle.tc_fecf.specs.FrameWithField.{taking_fault_of}
 use Rattle.tc_fecf.specs.declared.frames.FieldFault.{FieldFault}
 use Rattle.tc_fecf.specs.declared.frames.FieldFault.TheVariants as fields
-use Rattle.tc_make.specs.Answer.{OrNoMemory, Unless, IsSentAt, IsStopAt, AreSent, IsPartSaid, IsFramesSaid, IsPartingOf, IsUnitSaid, IsEndedSaid, AreFramesSaid, frames_text, parts_of, field_fault_text}
-use Rattle.tc_make.specs.Printed.{bad_text, named_text, some_text, rest_text, unit_packets_text, packet_text, held_text, holds_text, whole_text}
+use Rattle.tc_make.specs.Answer.{OrNoMemory, Unless, IsSentAt, IsStopAt, AreSent, IsPartSaid, IsFramesSaid, IsPartingOf, IsUnitSaid, IsEndedSaid, IsExplained, AreFramesSaid, frames_text, parts_of, field_fault_text}
+use Rattle.tc_make.specs.Printed.{bad_text, named_text, some_text, refused_text, frame_fault_text, rest_text, unit_packets_text, packet_text, held_text, holds_text, whole_text}
 use Rattle.tc_make.specs.declared.ending.Ending.{Ending}
 use Rattle.tc_make.specs.declared.ending.Ending.TheVariants.{ErrorControl}
 use Rattle.tc_make.specs.Parting.{parting_reason_of}
@@ -150,6 +150,16 @@ field-refused octets rest fault a b e w =
       | inl told ↦ (field_fault_text fault, inl (inr (fault, told, refl)), w)
       | inr none ↦ (field_fault_text fault, inr (ap field_fault_text none), w)
     ]
+
+pub explained : (ending : Ending) (octets frame rest : List ℕ) (a b : Option (List ℕ)) → IsDelimited octets frame rest
+    → Writes a b (OrNoMemory (IsEndedSaid ending frame rest)) → Writes a b (OrNoMemory (IsExplained ending octets))
+explained ending octets frame rest a b found (text, inl said, w) = (text, inl (inl (frame, rest, found, said)), w)
+explained ending octets frame rest a b found (text, inr none, w) = (text, inr none, w)
+
+pub unexplained : (ending : Ending) (octets shown : List ℕ) (fault : FrameFault) (a b : Option (List ℕ)) → fault_of octets ≡ Some fault → shown ≡ frame_fault_text fault
+    → Appends a b (refused_text shown) → Writes a b (OrNoMemory (IsExplained ending octets))
+unexplained ending octets shown fault a b is e w =
+    (refused_text (frame_fault_text fault), inl (inr (fault, is, refl)), subst (λ (x : List ℕ). Appends a b (refused_text x)) e w)
 
 -- ---- the frames that a CLTU carried
 

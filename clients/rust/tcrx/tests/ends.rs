@@ -215,11 +215,23 @@ fn a_rack_gives_each_frame_to_its_channel() {
     assert_eq!(rack.frame(&octets), Err(RackError::WrongFecf));
     assert_eq!(rack.frame(&located_frame(675, 8, false)), Err(RackError::NoFecf));
     assert_eq!(rack.frame(&located_frame(676, 9, true)), Err(RackError::OtherSpacecraft));
-    assert_eq!(rack.channel(8).map(|channel| channel.events()), Some(1));
+    let frame = located_frame(675, 8, true);
+    let candidate = [&frame[..], &frame[..], &[0x55]].concat();
+    let first = rack.candidate(&candidate);
+    assert_eq!((first.rest, first.more), (&candidate[frame.len()..], true));
+    let last = rack.candidate(first.rest);
+    assert_eq!((last.rest, last.more), (&[0x55][..], false));
+    for carried in [first, last] {
+        assert_eq!(carried.frame.map(|(vcid, brought)| (vcid, brought.event)), Ok((8, Event::E4)));
+    }
+    let wrong = rack.candidate(&octets);
+    assert_eq!((wrong.frame, wrong.rest, wrong.more), (Err(RackError::WrongFecf), &[][..], false));
+    assert_eq!(rack.candidate(&[]).frame, Err(RackError::Short));
+    assert_eq!(rack.channel(8).map(|channel| channel.events()), Some(3));
     assert_eq!(rack.channel(5).map(|channel| channel.release()), Some(Ok(Delivery { queued: 0, dropped: 0, rest: true })));
     assert!(rack.channel(9).is_none() && rack.channel(255).is_none());
     let events: Vec<u64> = channels.iter().map(Channel::events).collect();
-    assert_eq!(events, [2, 0, 1]);
+    assert_eq!(events, [2, 0, 3]);
     let mut none = Rack { scid: 675, fecf: false, channels: &mut [] };
     assert_eq!(none.frame(&located_frame(675, 5, false)), Err(RackError::UnknownChannel));
 }
@@ -362,7 +374,14 @@ fn streams_of_cltus() {
     stream[5] ^= 0x10;
     let mut strict = Decoder::new(false);
     let fed = strict.feed(&stream);
-    assert_eq!((fed.frame, fed.rest, fed.corrected, fed.rejected), (None, &[][..], 0, 1));
+    assert_eq!((fed.frame, fed.rest, fed.corrected, fed.rejected, fed.overlong), (None, &[][..], 0, 1, 0));
+    strict.feed(&cltu[..9]);
+    strict.search();
+    assert_eq!(strict.feed(&cltu).frame, Some(&carried[..]));
+    let mut long = vec![0xeb, 0x90];
+    long.extend([0, 0, 0, 0, 0, 0, 0, 0xfe].repeat(148));
+    let fed = strict.feed(&long);
+    assert_eq!((fed.frame, fed.overlong), (None, 1));
 }
 
 /// With each value of the sequence flags. An octet of fill follows each packet.

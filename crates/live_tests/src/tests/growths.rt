@@ -118,6 +118,23 @@ fn growth_of_a_frame_with_its_field(rt: HostRuntime) {
     check(&rt, rt.alloc(), FrameCheck::ErrorControl, lines.as_slice());
 }
 
+#[test]
+fn growth_of_a_candidate_with_its_field(rt: HostRuntime) {
+    let lines = [
+        ("channel 1 10 1 0", ""),
+        (
+            "candidate 002a040e00c01005c0000000aa6b6e002a040e00c01005c0000000aa6b6e",
+            "refused more\n",
+        ),
+        (
+            "candidate 002a040e00c01005c0000000aa6b6e555555555555",
+            "frame 1 E1 accepted 1 queued 0 dropped 0 rest 0\n",
+        ),
+        ("collect 1", "clcw 1 01040001\n"),
+    ];
+    check(&rt, rt.alloc(), FrameCheck::ErrorControl, lines.as_slice());
+}
+
 // The lines and the final report, at once or after a growth was refused.
 #[test]
 fn growth_of_a_stream(rt: HostRuntime) -> Result<(), Fail> {

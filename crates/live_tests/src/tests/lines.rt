@@ -43,6 +43,16 @@ fn a_delivery_hands_on_all_that_waits(rt: HostRuntime) {
 }
 
 #[test]
+fn a_collection_hands_on_without_a_release(rt: HostRuntime) {
+    check_answers(
+        &rt,
+        rt.alloc(),
+        "collect 1\nchannel 1 10 2 0\nqueue 1 5 2\nframe 002a040c00c01005c0000000aa\nframe 202a040c00c01005c0000000bb\ncollect 1\ncollect 1\ndeliver 1\ncollect 2\ncandidate 202a040c00c01005c0000000bb55\ncandidate 00\n",
+        "bad no channel\nframe 1 E1 accepted 1 queued 0 dropped 0 rest 0\nframe 1 E6 accepted 1 queued 1 dropped 0 rest 0\ntake 1 5 1005c0000000bb\nclcw 1 01040201\nclcw 1 01040201\nrelease 1 queued 1 dropped 0 rest 0\ntake 1 5 1005c0000000aa\nclcw 1 01040201\nrefused channel\nframe 1 E6 accepted 1 queued 1 dropped 0 rest 0\nrefused short\nfinal 1 01040401 events 6 buffered 0\nqueue 1 5 1\n",
+    );
+}
+
+#[test]
 fn a_delivery_releases_one_data_field(rt: HostRuntime) {
     check_answers(
         &rt,

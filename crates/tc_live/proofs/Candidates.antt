@@ -1,0 +1,49 @@
+-- What carries more than a frame and its fill, and what becomes of what doesn't.
+use Rattle.std.proofs.Common.{◌≡◌, ◌⊎◌, ℕ, Bool, true, false, List, Option, Some, inl, inr, refl, sym, subst, ap, ◌∙◌, arith}
+use Rattle.std.specs.Prelude.{IsTrue, ◌↔◌, not, MatchOption}
+use Rattle.std.proofs.lemmas.Bool.{true≢false}
+use Rattle.tc_fecf.specs.Candidate.{IsDelimited, is_fill}
+use Rattle.tc_fecf.proofs.Delimiting.{one-frame}
+use Rattle.tc_rack.specs.Rack.{Racked}
+use Rattle.tc_rack.specs.declared.stage.Stage.{Stage}
+use Rattle.tc_text.specs.declared.line.Line.{Line}
+use Rattle.tc_text.specs.declared.fault.Reason.{Reason}
+use Rattle.tc_setup.specs.Instruction.{instruction_of}
+use Rattle.tc_setup.specs.Phase.{IsBad}
+use Rattle.tc_rack.specs.Stage.{phase_of}
+use Rattle.tc_live.specs.Check.{CarriesMore, FailsCandidate, IsCandidatePassed}
+use Rattle.tc_live.specs.Receiver.{Receiving, IsCandidateDone, IsPassedDone, IsBadCandidate}
+use Rattle.tc_live.specs.declared.answer.LiveAnswer.{LiveAnswer}
+use Rattle.tc_live.specs.declared.check.FrameCheck.{FrameCheck}
+
+no-fill : (r : Bool) (rest : List ℕ) → r ≡ is_fill rest → IsTrue (not r) → is_fill rest ≡ false
+no-fill true rest e t = absurd (true≢false (sym t))
+no-fill false rest e t = sym e
+
+is-more : (r : Bool) (rest : List ℕ) → r ≡ is_fill rest → is_fill rest ≡ false → IsTrue (not r)
+is-more true rest e none = absurd (true≢false (e ∙ none))
+is-more false rest e none = refl
+
+pub carried : (r : Bool) (octets frame rest : List ℕ) → IsDelimited octets frame rest → r ≡ is_fill rest → IsTrue (not r) ↔ CarriesMore octets
+carried r octets frame rest found e = (
+  λ t. (frame, rest, found, no-fill r rest e t),
+  λ other. is-more r rest e (ap is_fill (one-frame frame other.0 rest other.1 found.whole other.2.whole (sym found.parts ∙ other.2.parts)).1 ∙ other.3),
+)
+
+-- a candidate that carries no more is done as the line that passed
+pub passed-done : (old new : Receiving) (check : FrameCheck) (scid : ℕ) (stage : Stage Racked) (octets shown : List ℕ) (r : Bool) (o : Option Line) (passed : Line) (answer : LiveAnswer)
+    → ◌≡◌ {A = Receiving} (record { check = check; scid = scid; stage = stage }) old → shown ≡ octets → IsTrue r ↔ CarriesMore shown → r ≡ false
+    → MatchOption o (FailsCandidate check octets) (IsCandidatePassed check octets) → o ≡ Some passed → IsPassedDone old passed new answer → IsCandidateDone old octets new answer
+passed-done old new check scid stage octets shown r o passed answer view same carries no passes is done =
+    let passing : IsCandidatePassed check octets passed = subst (λ (x : Option Line). MatchOption x (FailsCandidate check octets) (IsCandidatePassed check octets)) is passes in
+    let own : IsCandidatePassed old.check octets passed = subst (λ (x : FrameCheck). IsCandidatePassed x octets passed) (ap (λ (x : Receiving). x.check) view) passing in
+    inr (λ more. true≢false (sym (carries.1 (subst CarriesMore (sym same) more)) ∙ no), inl (passed, own, done))
+
+pub passed-bad : (old : Receiving) (check : FrameCheck) (scid : ℕ) (stage : Stage Racked) (octets : List ℕ) (o : Option Line) (passed : Line) (reason : Reason) (NoMemory : Type 0)
+    → ◌≡◌ {A = Receiving} (record { check = check; scid = scid; stage = stage }) old
+    → MatchOption o (FailsCandidate check octets) (IsCandidatePassed check octets) → o ≡ Some passed
+    → NoMemory ⊎ IsBad (phase_of old.stage) (instruction_of passed) reason → NoMemory ⊎ IsBadCandidate old octets reason
+passed-bad old check scid stage octets o passed reason NoMemory view passes is (inl none) = inl none
+passed-bad old check scid stage octets o passed reason NoMemory view passes is (inr bad) =
+    let passing : IsCandidatePassed check octets passed = subst (λ (x : Option Line). MatchOption x (FailsCandidate check octets) (IsCandidatePassed check octets)) is passes in
+    inr (passed, subst (λ (x : FrameCheck). IsCandidatePassed x octets passed) (ap (λ (x : Receiving). x.check) view) passing, bad)
