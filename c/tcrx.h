@@ -11,7 +11,8 @@
  * @par Answers
  * Each call answers with a status, alone or as the first field of a record: #TCRX_DONE, or the first reason why it is refused, in the
  * order of its description. Each number of a record that goes in may have any value. Where a call is refused, each other number of its
- * answer is 0, unless the answer's description says otherwise. Flags are 0 or 1.
+ * answer is 0, unless the answer's description says otherwise. Flags are 0 or 1. A compiler warns where the status of a call that makes
+ * a channel is dropped.
  *
  * @par Octets
  * There must be as many octets at a pointer as their count says. A null pointer is refused by #TCRX_NULL; no call can see that another
@@ -42,6 +43,17 @@
 
 #include <stddef.h>
 #include <stdint.h>
+
+/** @cond */
+/* What stands before a call whose status alone is its answer: one that is dropped is a warning. */
+#if (defined(__cplusplus) && __cplusplus >= 201703L) || (defined(__STDC_VERSION__) && __STDC_VERSION__ >= 202311L)
+#define TCRX_TO_BE_READ [[nodiscard]]
+#elif defined(__GNUC__)
+#define TCRX_TO_BE_READ __attribute__((warn_unused_result))
+#else
+#define TCRX_TO_BE_READ
+#endif
+/** @endcond */
 
 #ifdef __cplusplus
 extern "C" {
@@ -806,6 +818,7 @@ static inline tcrx_count tcrx_storage_with_limits(tcrx_settings settings, const 
  * #TCRX_BAD_VCID, #TCRX_BAD_WIDTH, #TCRX_BAD_BUFFER, #TCRX_BAD_APID, #TCRX_DOUBLE_APID, #TCRX_BAD_CAPACITY, #TCRX_BAD_MAP,
  * #TCRX_DOUBLE_MAP, #TCRX_BAD_UNITS, #TCRX_PLAIN_MAP; and last by #TCRX_NO_MEMORY.
  */
+TCRX_TO_BE_READ
 static inline tcrx_status tcrx_channel_new(tcrx_channel *channel, tcrx_settings settings, const tcrx_queue *queues,
                                            size_t queue_count, const tcrx_map *maps, size_t map_count) {
     const tcrx_queue no_queue = {0, 0};
@@ -834,6 +847,7 @@ static inline tcrx_status tcrx_channel_new(tcrx_channel *channel, tcrx_settings 
  * @return #TCRX_DONE. Refused as tcrx_channel_new(). Between the faults of the settings and #TCRX_NO_MEMORY come those of the limits:
  * #TCRX_BAD_OTHERS, #TCRX_BAD_LIMIT_MAP, #TCRX_DOUBLE_LIMIT, #TCRX_BAD_LIMIT, #TCRX_PLAIN_LIMIT, #TCRX_UNLISTED_MAP.
  */
+TCRX_TO_BE_READ
 static inline tcrx_status tcrx_channel_new_with_limits(tcrx_channel *channel, tcrx_settings settings, const tcrx_queue *queues,
                                                        size_t queue_count, const tcrx_map *maps, size_t map_count,
                                                        uint32_t others, const tcrx_limit *limits, size_t limit_count) {

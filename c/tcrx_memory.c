@@ -1,5 +1,6 @@
 /*
  * The memory of channels, over malloc and free. Link it with libtcrx.a; or tcrx_static.c, or two functions of your own, in its place.
+ * A compiler for C++ takes it, too.
  *
  * They must keep to this:
  * - rattle_alloc answers with a new block of so many octets, which is aligned to `alignment`, a power of two up to 16; or, where
@@ -18,8 +19,14 @@ typedef struct {
     void *at;
 } rattle_block;
 
+#ifdef __cplusplus
+extern "C" {
+#endif
 rattle_block rattle_alloc(size_t count, size_t alignment);
 void rattle_dealloc(void *at);
+#ifdef __cplusplus
+}
+#endif
 
 static char nothing;
 

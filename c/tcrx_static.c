@@ -26,8 +26,14 @@ typedef struct {
     void *at;
 } rattle_block;
 
+#ifdef __cplusplus
+extern "C" {
+#endif
 rattle_block rattle_alloc(size_t count, size_t alignment);
 void rattle_dealloc(void *at);
+#ifdef __cplusplus
+}
+#endif
 
 /* What has been cut from the front and from the end, and whether the start has ended. */
 static size_t front, end;

@@ -87,7 +87,7 @@ def item_of(found: "re.Match[str]", comment: str) -> Item:
 
 def groups_of(header: str) -> Tuple[str, List[Group]]:
     """What the comment of the file says, and the parts of the header. What is in no group is in one without a title."""
-    header = re.sub(r"/\*\* @cond \*/.*?/\*\* @endcond \*/", "", header, flags=re.S)
+    header = re.sub(r"/\*\* @cond \*/.*?/\*\* @endcond \*/|^TCRX_TO_BE_READ\n", "", header, flags=re.M | re.S)
     front, groups, comment, end = "", [Group("", "")], "", 0
     for found in re.finditer("|".join((COMMENT, DEFINE, STRUCT, ALIAS, ENUM, CALL)), header, re.M | re.S):
         near = header[end : found.start()].strip() == ""

@@ -3,7 +3,7 @@
 #   dekorihe::tcrx_static  the static library, without memory: link it with one of the next two, or with two functions of your own
 #   dekorihe::memory       tcrx_memory.c, the memory over malloc
 #   dekorihe::array        tcrx_static.c, the memory in a static array of your program's
-# The last two are C files that are compiled with your target, so the project needs the language C.
+# The last two are C files that are compiled with your target, by the compiler for C++ where the project has no C.
 get_filename_component(_dekorihe "${CMAKE_CURRENT_LIST_DIR}/../../.." ABSOLUTE)
 
 if(NOT TARGET dekorihe::tcrx_static)
@@ -11,12 +11,23 @@ if(NOT TARGET dekorihe::tcrx_static)
     set_target_properties(dekorihe::tcrx_static PROPERTIES
         IMPORTED_LOCATION "${_dekorihe}/lib/libtcrx.a"
         INTERFACE_INCLUDE_DIRECTORIES "${_dekorihe}/include")
+    get_property(_dekorihe_languages GLOBAL PROPERTY ENABLED_LANGUAGES)
+    foreach(_dekorihe_file IN ITEMS memory static)
+        set(_dekorihe_${_dekorihe_file} "${_dekorihe}/share/dekorihe/tcrx_${_dekorihe_file}.c")
+        if(NOT "C" IN_LIST _dekorihe_languages)
+            # A file for C would be left out without a word.
+            file(WRITE "${CMAKE_CURRENT_BINARY_DIR}/dekorihe/tcrx_${_dekorihe_file}.cc"
+                "#include \"${_dekorihe_${_dekorihe_file}}\"\n")
+            set(_dekorihe_${_dekorihe_file} "${CMAKE_CURRENT_BINARY_DIR}/dekorihe/tcrx_${_dekorihe_file}.cc")
+        endif()
+    endforeach()
     add_library(dekorihe::memory INTERFACE IMPORTED)
-    set_target_properties(dekorihe::memory PROPERTIES
-        INTERFACE_SOURCES "${_dekorihe}/share/dekorihe/tcrx_memory.c")
+    set_target_properties(dekorihe::memory PROPERTIES INTERFACE_SOURCES "${_dekorihe_memory}")
     add_library(dekorihe::array INTERFACE IMPORTED)
-    set_target_properties(dekorihe::array PROPERTIES
-        INTERFACE_SOURCES "${_dekorihe}/share/dekorihe/tcrx_static.c")
+    set_target_properties(dekorihe::array PROPERTIES INTERFACE_SOURCES "${_dekorihe_static}")
+    unset(_dekorihe_languages)
+    unset(_dekorihe_memory)
+    unset(_dekorihe_static)
     if(EXISTS "${_dekorihe}/lib/libtcrx.so.0")
         add_library(dekorihe::tcrx SHARED IMPORTED)
         set_target_properties(dekorihe::tcrx PROPERTIES
