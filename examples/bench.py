@@ -7,7 +7,7 @@ from typing import Any, Callable, ContextManager, Iterator, List, Optional
 TOP = Path(__file__).resolve().parent.parent
 sys.path.insert(0, str(TOP / "clients/python"))
 # pylint: disable-next=wrong-import-position  # it is found by the path above
-from tcrx import Receiver
+from tcrx import NotStarted, Receiver
 
 def link(dice: random.Random, past: List[bytes], turning: bool) -> Iterator[bytes]:
     """What comes out for the newest frame: one in five is lost, an old one comes again, and bits are turned, up to 16 in a row."""
@@ -53,4 +53,7 @@ def run(seed: int, fecf: bool, count: int = 300, tclive: Optional[Path] = None, 
 if __name__ == "__main__":
     if not sys.argv[1:] or not sys.argv[1].isdecimal():
         sys.exit(__doc__)
-    print(run(int(sys.argv[1]), "--fecf" in sys.argv))
+    try:
+        print(run(int(sys.argv[1]), "--fecf" in sys.argv))
+    except (NotStarted, OSError, subprocess.CalledProcessError) as error:  # a program isn't built, which it has said, or isn't there
+        sys.exit(f"bench.py: {error}")
