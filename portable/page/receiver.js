@@ -204,8 +204,15 @@ function distance(one, other) {
   return row[other.length];
 }
 
+/* What a number may be for which the settings are bad. */
+const BOUNDS = {
+  "bad channel": "VC is 0 to 63", "bad window": "WIDTH is even, 2 to 254", "bad buffer": "BUFFER is 1 to 64",
+  "bad application": "APID is 0 to 2046", "bad capacity": "CAPACITY is 1 to 256", "bad map": "MAP is 0 to 63", "bad units": "CAPACITY is 1 to 256",
+};
+
 /* What may help with a bad line, beside its fault. */
-function hintFor(line) {
+function hintFor(line, why) {
+  if (Object.hasOwn(BOUNDS, why)) return ` (${BOUNDS[why]})`;
   if (line.fault === "unknown command") {
     const most = Math.min(2, line.what.length - 1);
     const near = Object.keys(NUMBERS).find((it) => distance(line.what.toLowerCase(), it) <= most);
@@ -249,7 +256,7 @@ class Run {
   }
   stop(line, why) {
     this.fault = `line ${line.number}: ${why}`;
-    this.hint = hintFor(line);
+    this.hint = hintFor(line, why);
   }
   setUp(line) {
     if (line.what === "") return;
