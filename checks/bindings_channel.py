@@ -279,7 +279,10 @@ def check_refused() -> None:
     raises(TypeError, lambda: Channel(text, **SETTINGS), "a text for a number")
     with Channel(1, **SETTINGS) as channel:
         raises(ValueError, lambda: channel.take(-1), "an APID below 0")
-        raises(TypeError, lambda: channel.bring(text), "a text for octets")
+        wrongs: Tuple[Any, ...] = ("1", 5)
+        for wrong in wrongs:
+            fault = raises(TypeError, partial(channel.bring, wrong), f"{wrong!r} for octets")
+            tell(str(fault).startswith("octets are wanted, as bytes.fromhex makes them"), f"what {wrong!r} for octets is told: {fault}")
         refusals = [channel.bring(octets) for octets in (b"", b"\x00" * 4, b"\x40" + UNLOCK[1:], b"\x04" + UNLOCK[1:], UNLOCK[:5],
                                                          UNLOCK[:3] + b"\x04" + UNLOCK[4:])]
         same([refused.reason.value for refused in refusals if isinstance(refused, Refused)],

@@ -367,6 +367,11 @@ def without_hint(answer: str) -> str:
     return answer.partition(": ")[0]
 
 
+def why_bad(answer: str) -> str:
+    """What a bad answer says: a reason that begins with `bad` has it once, and is of one more word."""
+    return answer if without_hint(answer).count(" ") == 1 else answer[4:]
+
+
 def shorten(text: str) -> str:
     """A text for a message: at most 80 characters of it."""
     return text if len(text) <= 80 else text[:77] + "..."
@@ -492,8 +497,9 @@ class Process(Link):
             return status, self.errors.read().decode(errors="replace").strip()
 
 
-def find_program(name: str = "tclive") -> str:
-    """Where a program is: at the root of the repository where this file is in its folder there, or else on the path."""
+def find_program(name: str = "tclive", named_by: str = "program=") -> str:
+    """Where a program is: at the root of the repository where this file is in its folder there, or else on the path. Who asks says by
+    what it can be named."""
     here = Path(__file__).resolve()
     at_root = here.parents[2] / name if here.parts[-3:-1] == ("clients", "python") else None
     if at_root and os.access(at_root, os.X_OK):
@@ -501,7 +507,7 @@ def find_program(name: str = "tclive") -> str:
     found = shutil.which(name)
     if found is None:
         places = f"{f'at {at_root}, nor ' if at_root else ''}in a folder of the path ({os.environ.get('PATH', '')})"
-        raise NotStarted(f"there is no program {name} {places}; name it by program=, or put its folder on the path")
+        raise NotStarted(f"there is no program {name} {places}; name it by {named_by}, or put its folder on the path")
     return found
 
 
@@ -515,6 +521,14 @@ OCTETS, WORD = r"((?:[0-9a-f]{2})+)", r"([0-9a-f]{8})"
 def number(value: int) -> int:
     """A whole number, as which no text, fraction or `None` passes."""
     return int(index(value))
+
+
+def octets_of(given: Union[bytes, bytearray, memoryview]) -> bytes:
+    """Octets, as which neither digits nor a number pass, of which `bytes` would make so many zeros."""
+    try:
+        return given if isinstance(given, bytes) else memoryview(given).tobytes()
+    except TypeError:
+        raise TypeError(f"octets are wanted, as bytes.fromhex makes them of digits, and not {type(given).__name__}") from None
 
 
 def delivery_of(queued: str, dropped: str, rest: str) -> Delivery:
@@ -697,7 +711,7 @@ class Receiver:
         except ValueError:
             if not answer.startswith("bad "):
                 self._give_up(line, answer)
-        raise BadLine(line, answer[4:])
+        raise BadLine(line, why_bad(answer))
 
     def _operate(self, line: str, pattern: str, refusals: FrozenSet[Refusal], made: Callable[[Match[str]], Answer]) -> Union[Answer, Refused]:
         """The answer to an operation, made of the words that the pattern finds."""
@@ -713,7 +727,7 @@ class Receiver:
             after = self._read(line)
             if not answer.startswith("bad ") or without_hint(after) != PROBE_ANSWER:
                 self._give_up(line, answer)
-        raise BadLine(line, answer[4:])
+        raise BadLine(line, why_bad(answer))
 
     # --- Setting up, before any operation ---
 
@@ -736,7 +750,7 @@ class Receiver:
     def bring(self, octets: Union[bytes, bytearray, memoryview]) -> Union[Brought, Refused]:
         """Brings octets that arrive, with the frame at their front. For no octets at all there is no line, so a single one is brought
         in their place, which is refused just the same. With a frame error control field every fault of the octets is `CHECK`."""
-        digits = memoryview(octets).tobytes().hex() or "00"
+        digits = octets_of(octets).hex() or "00"
         return self._operate(f"frame {digits}", rf"frame {NUMBER} (E[1-9]) accepted ([01]) {COUNTS}", OF_FRAMES,
                              lambda found: Brought(int(found[1]), Event(found[2]), found[3] == "1", delivery_of(*found.groups()[3:])))
 

@@ -78,7 +78,7 @@ class Bench:  # pylint: disable=too-many-instance-attributes  # it is made of th
 
     def __init__(self, options: Namespace, journal: Journal, notes: Notes) -> None:
         self.options, self.journal, self.notes = options, journal, notes
-        self.words = [options.program or tcrx.find_program(), "--scid", str(options.scid)] + ["--fecf"] * options.fecf
+        self.words = [options.program or tcrx.find_program(named_by="--program FILE"), "--scid", str(options.scid)] + ["--fecf"] * options.fecf
         self.over: "asyncio.Future[str]" = asyncio.get_running_loop().create_future()
         """Done when the receiver has ended, and no other one is begun."""
         self.engine = self._engine_of(tcrx.Process(self.words))
@@ -115,7 +115,7 @@ class Bench:  # pylint: disable=too-many-instance-attributes  # it is made of th
                 self.over.set_result(over.result())
         if not options.cltu and not options.has_telemetry:
             return None
-        maker = Engine(tcrx.Process([options.tcmake or tcrx.find_program("tcmake"), *["--fecf"] * options.tm_fecf]), options.patience, MAKER)
+        maker = Engine(tcrx.Process([options.tcmake or tcrx.find_program("tcmake", "--tcmake FILE"), *["--fecf"] * options.tm_fecf]), options.patience, MAKER)
         maker.over.add_done_callback(ended)
         return maker
 
@@ -138,7 +138,7 @@ class Bench:  # pylint: disable=too-many-instance-attributes  # it is made of th
 
         def answered(number: int, line: str, answer: str) -> None:
             if answer:
-                bad.append(f"{self.options.setup}, line {number}: {answer[4:]}")
+                bad.append(f"{self.options.setup}, line {number}: {tcrx.why_bad(answer)}")
             else:
                 words = line.split(" ")
                 self.craft.note_set_up(words[0], [int(word) for word in words[1:] if word != "plain"], words[-1] == "plain")

@@ -42,7 +42,7 @@ from types import TracebackType
 from typing import Any, Dict, Iterable, Iterator, List, Mapping, NoReturn, Optional, Tuple, Type, Union
 
 from tcrx import (Brought, Clcw, Delivery, Ended, Event, Fault, Final, NotSetUp, NotStarted, Packet, Refusal, Refused, Released, Report,
-                  State, Unit)
+                  State, Unit, octets_of)
 from tcrx_c import *  # pylint: disable=wildcard-import,unused-wildcard-import  # all that the header declares
 from tcrx_c import _Channel, _Decoder, _Header, _Limit, _Map, _PacketHeader, _Queue, _Settings, _TmHeader
 
@@ -179,7 +179,7 @@ class Frame:
 
 def read_frame(octets: Octets, *, library: Library = None) -> Union[Frame, Refused]:
     """The header of the frame at the front of octets, by which a caller gives it to the channel that it is for."""
-    whole = bytes(octets)
+    whole = octets_of(octets)
     frame = load(library).tcrx_read_frame_at(whole, len(whole))
     if frame.status != DONE:
         return REFUSED[frame.status]
@@ -220,7 +220,7 @@ def header_of(scid: int, vcid: int, ns: int, bypass: bool, control: bool) -> _He
 def write_packet(apid: int, count: int, field: Octets, *, telecommand: bool = True, secondary: bool = False, sequence: int = 3,
                  library: Library = None) -> bytes:
     """A packet with a packet data field of 1 to 65,536 octets. Raises `NotWritten`."""
-    whole = bytes(field)
+    whole = octets_of(field)
     header = _PacketHeader(in_range(apid, 65535, "apid"), in_range(count, 65535, "count"), int(bool(telecommand)), int(bool(secondary)),
                            in_range(sequence, 255, "sequence"))
     return made_by(load(library), "tcrx_write_packet_at", header, whole, len(whole), room=len(whole) + 6)
@@ -229,7 +229,7 @@ def write_packet(apid: int, count: int, field: Octets, *, telecommand: bool = Tr
 # pylint: disable-next=too-many-arguments  # they are the fields of a header
 def write_frame(scid: int, vcid: int, ns: int, field: Octets, *, bypass: bool = False, control: bool = False, library: Library = None) -> bytes:
     """A frame with a data field of 1 to 1,019 octets. Raises `NotWritten`."""
-    whole = bytes(field)
+    whole = octets_of(field)
     return made_by(load(library), "tcrx_write_frame_at", header_of(scid, vcid, ns, bypass, control), whole, len(whole))
 
 
@@ -238,7 +238,7 @@ def write_segments(unit: Octets, *, scid: int, vcid: int, ns: int, map: int, siz
                    library: Library = None) -> List[bytes]:
     """The frames of a unit of 1 to 65,542 octets in segments, of which each carries `size` octets (1 to 1,018), and the last one what is
     left. The N(S) of Type-AD frames counts up from `ns`. Raises `NotWritten`."""
-    loaded, whole = load(library), bytes(unit)
+    loaded, whole = load(library), octets_of(unit)
     frames: List[bytes] = []
     given = (header_of(scid, vcid, ns, bypass, False), in_range(map, 255, "map"), in_range(size, 65535, "size"))
     while True:
@@ -263,20 +263,20 @@ def write_set_vr(scid: int, vcid: int, vr: int, *, library: Library = None) -> b
 
 def add_fecf(frame: Octets, *, library: Library = None) -> bytes:
     """A frame with its frame error control field. Raises `NotWritten`."""
-    whole = bytes(frame)
+    whole = octets_of(frame)
     return made_by(load(library), "tcrx_add_fecf_at", whole, len(whole))
 
 
 def check_fecf(frame: Octets, *, library: Library = None) -> Union[bytes, Refused]:
     """A frame without its frame error control field, where that is right, and `CHECK` where it isn't, as with `fecf` of a `Receiver`."""
-    whole = bytes(frame)
+    whole = octets_of(frame)
     status, plain = written_by(load(library), "tcrx_check_fecf_at", whole, len(whole))
     return plain if status == DONE else Refused(Refusal.CHECK)
 
 
 def write_cltu(frame: Octets, *, library: Library = None) -> bytes:
     """The CLTU that carries a frame, or 1 to 1,029 other octets. Raises `NotWritten`."""
-    whole = bytes(frame)
+    whole = octets_of(frame)
     return made_by(load(library), "tcrx_write_cltu_at", whole, len(whole), room=MOST_CLTU)
 
 
@@ -295,7 +295,7 @@ class Decoder:
         """The candidates that end in these octets: what each CLTU carried, which is a frame with fill behind it, or several. A `Rack` brings
         them as they are."""
         frames: List[bytes] = []
-        whole = bytes(octets)
+        whole = octets_of(octets)
         for at in range(0, len(whole), PIECE):
             rest = whole[at:at + PIECE]
             while rest:
@@ -317,7 +317,7 @@ class Decoder:
 
 def randomise(frame: Octets, *, library: Library = None) -> bytes:
     """A frame, or what a CLTU carried, with the random sequence added; added twice, it changes nothing. Raises `NotWritten`."""
-    whole = bytes(frame)
+    whole = octets_of(frame)
     return made_by(load(library), "tcrx_randomise_at", whole, len(whole), room=MOST_CLTU)
 
 
@@ -350,7 +350,7 @@ def write_tm(scid: int, vcid: int, master_count: int, channel_count: int, clcw: 
 
 def read_tm(octets: Octets, *, fecf: bool = False, library: Library = None) -> Tm:
     """Reads octets that are one telemetry frame. Raises `NotRead` with the reason why they are none."""
-    loaded, whole = load(library), bytes(octets)
+    loaded, whole = load(library), octets_of(octets)
     answer = loaded.tcrx_read_tm_at(int(bool(fecf)), whole, len(whole))
     if answer.status != DONE:
         raise NotRead(text_of(loaded, answer.status))
@@ -436,7 +436,7 @@ class Channel:
     def bring(self, octets: Octets) -> Union[Brought, Refused]:
         """Brings octets that arrive, with the frame at their front. Which spacecraft and channel it is for isn't looked at: a `Rack` does
         that."""
-        whole = octets if isinstance(octets, bytes) else bytes(octets)
+        whole = octets_of(octets)
         with self._lock:
             reply = self._library.tcrx_channel_frame_at(self._at, whole, len(whole))
         if reply.status:
@@ -586,14 +586,14 @@ class Rack:
     def bring(self, octets: Octets) -> Union[Brought, Refused]:
         """Brings octets that arrive, with the frame at their front, to the first channel that it is for. With `fecf` octets that aren't one
         frame with the right field at its end are refused by `CHECK`, as of a `Receiver`."""
-        whole = bytes(octets)
+        whole = octets_of(octets)
         return self._brought(self._call("tcrx_rack_frame_at", self.scid, int(self.fecf), whole, len(whole)))
 
     def bring_candidate(self, octets: Octets, *, most: int = 1) -> Carried:
         """Brings the frames of a candidate, which a `Decoder` gives, one after the other and at most so many. Each is as long as its length
         field says; with `fecf` its field is checked then. Where octets that aren't fill begin with no frame, that is the last answer."""
         answers: List[Union[Brought, Refused]] = []
-        rest = bytes(octets)
+        rest = octets_of(octets)
         for _ in range(in_range(most, 255, "most")):
             reply = self._call("tcrx_rack_candidate_at", self.scid, int(self.fecf), rest, len(rest))
             answers.append(self._brought(reply))

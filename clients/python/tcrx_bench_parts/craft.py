@@ -11,7 +11,7 @@ from collections import Counter, deque
 from functools import partial
 from typing import Callable, Deque, Dict, List, Optional, Tuple
 
-from tcrx import Clcw, without_hint
+from tcrx import Clcw, why_bad, without_hint
 
 from .engine import Engine
 from .journal import SET_UP, Journal, printable
@@ -218,7 +218,10 @@ class Craft:  # pylint: disable=too-many-instance-attributes  # what is known of
         if turn.asker:
             turn.asker(answer)
         is_bad = answer.startswith("bad ")
-        (self.bad if is_bad else self.refused)[without_hint(answer).partition(" ")[2]] += 1
+        if is_bad:
+            self.bad[without_hint(why_bad(answer))] += 1
+        else:
+            self.refused[answer.partition(" ")[2]] += 1
         # Nobody asks for the answer where a frame came by a port for frames.
         self.refused_of_ports += not turn.asker and not is_bad
 
@@ -347,7 +350,7 @@ class Craft:  # pylint: disable=too-many-instance-attributes  # what is known of
             turn.asker(answer)
         if answer:
             self.journal.answer(turn.line, answer)
-            self.bad[without_hint(answer)[4:]] += 1
+            self.bad[without_hint(why_bad(answer))] += 1
         else:
             self.journal.write(turn.line)
             word, *numbers = turn.line.split(" ")
@@ -369,7 +372,7 @@ class Craft:  # pylint: disable=too-many-instance-attributes  # what is known of
         if turn.asker:
             turn.asker(answer)
         if answer.startswith("bad "):
-            self.bad[without_hint(answer)[4:]] += 1
+            self.bad[without_hint(why_bad(answer))] += 1
         elif answer.startswith(("link ", "release ")):
             vcid = int(answer.split(" ")[1])
             self._note_event(turn, answer)

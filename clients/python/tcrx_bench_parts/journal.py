@@ -320,7 +320,7 @@ def replay(path: Path, program: Optional[str]) -> int:
     """Gives the lines of a journal to `tclive`, compares its answers with those of the journal, and says what was found; the status."""
     try:
         log = Log(path)
-        print(run_again(log, [program or find_program(), *log.words]))
+        print(run_again(log, [program or find_program(named_by="--program FILE"), *log.words]))
         return 0
     except (Unfit, NotStarted) as error:
         print(f"tcrx-bench: {error}", file=sys.stderr)
