@@ -4,19 +4,19 @@ use Rattle.tc_channel.specs.Through.{sent_from}
 use Rattle.tc_ends.specs.Ends.{AreAllPackets, CarryUnits, IsSendable, SendsPackets, all_joined, on_map, only_on}
 use Rattle.tc_ends.proofs.Can.{AreOn, all-on, all_segments, carry-all}
 
-shift : (sent : ℕ → List ℕ) (k n : ℕ) → sent_from sent (suc k) n ≡ sent_from (λ i. sent (suc i)) k n
+pub shift : (sent : ℕ → List ℕ) (k n : ℕ) → sent_from sent (suc k) n ≡ sent_from (λ i. sent (suc i)) k n
 shift sent k zero = refl
 shift sent k (suc n) = ap (λ (x : List (List ℕ)). sent (suc k) ∷ x) (shift sent (suc k) n)
 
-as-list : (fields : List (List ℕ)) → sent_from (λ i. get_or fields i []) 0 (length fields) ≡ fields
+pub as-list : (fields : List (List ℕ)) → sent_from (λ i. get_or fields i []) 0 (length fields) ≡ fields
 as-list [] = refl
 as-list (f ∷ fs) = ap (λ (x : List (List ℕ)). f ∷ x) (shift (λ i. get_or (f ∷ fs) i []) 0 (length fs) ∙ as-list fs)
 
-map-own : (m id : ℕ) (fields : List (List ℕ)) → AreOn m fields → eqb m id ≡ true → on_map id fields ≡ fields
+pub map-own : (m id : ℕ) (fields : List (List ℕ)) → AreOn m fields → eqb m id ≡ true → on_map id fields ≡ fields
 map-own m id [] on same = refl
 map-own m id (f ∷ fs) on same = rw (on.0, same) (ap (λ (x : List (List ℕ)). f ∷ x) (map-own m id fs on.1 same))
 
-map-none : (m id : ℕ) (fields : List (List ℕ)) → AreOn m fields → eqb m id ≡ false → on_map id fields ≡ []
+pub map-none : (m id : ℕ) (fields : List (List ℕ)) → AreOn m fields → eqb m id ≡ false → on_map id fields ≡ []
 map-none m id [] on apart = refl
 map-none m id (f ∷ fs) on apart = rw (on.0, apart) (map-none m id fs on.1 apart)
 

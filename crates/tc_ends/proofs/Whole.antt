@@ -1,5 +1,5 @@
 -- From the packets of a sender to what takes give.
-use Rattle.tc_channel.proofs.Names.{◌≡◌, ℕ, zero, suc, ◌+◌, ◌-◌, ◌≤◌, Bool, true, false, eqb, List, [], ◌∷◌, ◌++◌, length, map, filter, drop, Some, refl, sym, ap, subst, ◌∙◌, inl, inr, arith, append-nil, filter-append, map-append, Service, Ad, Bd, Passed, map_of, is_of, stream, first_state_within, queue_of, Queue, Accepted, run_within, IsLawfulWithin, packets_given}
+use Rattle.tc_channel.proofs.Names.{◌≡◌, ℕ, zero, suc, ◌+◌, ◌-◌, ◌≤◌, append_assoc, Bool, cond, true, false, eqb, List, [], ◌∷◌, ◌++◌, length, map, filter, drop, Some, refl, sym, ap, subst, ◌∙◌, inl, inr, arith, append-nil, filter-append, map-append, Service, Ad, Bd, Passed, map_of, is_of, stream, first_state_within, queue_of, Queue, run_within, IsLawfulWithin, packets_given}
 use Rattle.std.specs.List.{AllByRecursion}
 use Rattle.tc_packet.specs.Reassembly.{same_service}
 use Rattle.tc_channel.specs.declared.event.Event.{Event}
@@ -7,9 +7,9 @@ use Rattle.tc_channel.specs.declared.settings.Settings.{Settings}
 use Rattle.tc_channel.specs.Account.{unit_on}
 use Rattle.tc_channel.specs.Era.{IsEraWithin, ComesFromWithin}
 use Rattle.tc_channel.specs.Given.{fields_passed, units_given}
-use Rattle.tc_channel.specs.Through.{IsPartOf, all_made, packets_ended, packets_made, sent_from, units_ended, units_made}
+use Rattle.tc_channel.specs.Through.{IsPartOf, all_made, packets_ended, packets_made, released_since, sent_from, units_ended, units_made}
 use Rattle.tc_channel.proofs.Through.{packets-given-of-made, passed-as-sent, units-given-of-made}
-use Rattle.tc_ends.specs.Ends.{CarryUnits, IsSendable, NoneByBypass, NoneOnOtherMaps, SendsPackets, all_joined, is_chosen_map, is_same_stream, on_map, packets_for, packets_to}
+use Rattle.tc_ends.specs.Ends.{CarryUnits, IsSendable, NoneByBypass, NoneOnOtherMaps, SendsPackets, all_joined, behind_ad, is_chosen_map, is_same_stream, on_map, packets_for, packets_to, passed_before, passed_in, until_ad}
 use Rattle.tc_ends.proofs.Segmented.{Makes}
 use Rattle.tc_ends.proofs.Streams.{units-carried}
 use Rattle.tc_ends.proofs.Chosen.{units-on}
@@ -52,21 +52,28 @@ none-by-bd : (limits : ℕ → ℕ) (s : Settings) (m : ℕ) (fields : List (Lis
 none-by-bd limits s m [] before = refl
 none-by-bd limits s m (f ∷ fs) before = none-by-bd limits s m fs (before ++ record { service = Ad; field = f } ∷ [])
 
--- nothing was accepted before the first event
-pub none-before : (limits : ℕ → ℕ) (s : Settings) → (run_within limits s []).accepted ≡ []
+-- what was passed on is what was before the era and what is since
+until-behind : (n : ℕ) (ps : List Passed) → until_ad n ps ++ behind_ad n ps ≡ ps
+until-behind zero ps = refl
+until-behind (suc n) [] = refl
+until-behind (suc n) (p ∷ ps) = ap (λ (x : List Passed). p ∷ x) (until-behind (cond (same_service Ad p.service) n (suc n)) ps)
+
+behind-fields : (n : ℕ) (ps : List Passed) → fields_passed Ad (behind_ad n ps) ≡ drop n (fields_passed Ad ps)
+behind-fields zero ps = refl
+behind-fields (suc n) [] = refl
+behind-fields (suc n) (p ∷ ps) = by p.service refl (λ m. behind-fields m ps) where
+  by : (sv : Service) → p.service ≡ sv → ((m : ℕ) → fields_passed Ad (behind_ad m ps) ≡ drop m (fields_passed Ad ps)) → fields_passed Ad (behind_ad (suc n) (p ∷ ps)) ≡ drop (suc n) (fields_passed Ad (p ∷ ps))
+  by Ad e rest = rw e (rest n)
+  by Bd e rest = rw e (rest (suc n))
+
+pub none-before : (limits : ℕ → ℕ) (s : Settings) (journal : List Event) → passed_before limits s [] journal ≡ []
 unfolding run_within
-none-before limits s = refl
+none-before limits s journal = refl
 
 pub ad-fields : (limits : ℕ → ℕ) (s : Settings) (journal before later : List Event) (x : ℕ) (sent : ℕ → List ℕ) → IsLawfulWithin limits s journal → IsEraWithin limits s journal before later x
-    → ComesFromWithin limits s before later x sent → (run_within limits s before).accepted ≡ []
-    → fields_passed Ad (run_within limits s journal).passed ≡ sent_from sent 0 (run_within limits s journal).released
-ad-fields limits s journal before later x sent lawful era comes none =
-    let r = (run_within limits s journal).released in
-    let zero_before : length (run_within limits s before).accepted ≡ 0 = ap (λ (xs : List Accepted). length xs) none in
-    let all : drop 0 (fields_passed Ad (run_within limits s journal).passed) ≡ sent_from sent 0 (r - 0) =
-    subst (λ (k : ℕ). drop k (fields_passed Ad (run_within limits s journal).passed) ≡ sent_from sent 0 (r - k)) zero_before (passed-as-sent limits s journal before later x sent lawful era comes) in
-    let same : r - 0 ≡ r = omega arith in
-    all ∙ ap (sent_from sent 0) same
+    → ComesFromWithin limits s before later x sent → fields_passed Ad (passed_in limits s before journal) ≡ sent_from sent 0 (released_since limits s before journal)
+ad-fields limits s journal before later x sent lawful era comes =
+    behind-fields (length (run_within limits s before).accepted) (run_within limits s journal).passed ∙ passed-as-sent limits s journal before later x sent lawful era comes
 
 -- the stream of what was passed on and of what is still to come
 stream-sent : (sent : ℕ → List ℕ) (r n : ℕ) (passed : List Passed) → fields_passed Ad passed ≡ sent_from sent 0 r → r ≤ n → (id : ℕ) → stream Ad id (passed ++ by_ad (sent_from sent r (n - r))) ≡ on_map id (sent_from sent 0 n)
@@ -81,19 +88,19 @@ stream-sent sent r n passed fields less id =
     ∙ sym (filter-append (λ (field : List ℕ). eqb (map_of field) id) (sent_from sent 0 r) (sent_from sent r (n - r)))
     ∙ ap (on_map id) (more ∙ ap (sent_from sent 0) sum)
 
--- where n fields of a sender carry units of packets, and the first of them were passed on, these make the first of the packets
-record Begin (limits : ℕ → ℕ) (s : Settings) (apid : ℕ) (passed : List Passed) (packets : List (List ℕ)) (r n : ℕ) : Type 0 where
+-- where n fields of a sender carry units of packets, and the first of them were passed on behind older ones, these make the first of the packets
+record Begin (limits : ℕ → ℕ) (s : Settings) (apid : ℕ) (old passed : List Passed) (packets : List (List ℕ)) (r n : ℕ) : Type 0 where
   rest : List (List ℕ)
-  parts : packets_made limits s apid passed ++ rest ≡ packets
+  parts : all_made (packets_ended limits s apid) old passed ++ rest ≡ packets
   whole : r ≡ n → rest ≡ []
 
-begins : Makes → (limits : ℕ → ℕ) (s : Settings) (apid : ℕ) (sent : ℕ → List ℕ) (r n : ℕ) (units : ℕ → List (List (List ℕ))) (map_id : ℕ) (passed : List Passed)
-    → fields_passed Ad passed ≡ sent_from sent 0 r → r ≤ n → s.segmented ≡ true → is_chosen_map s map_id ≡ false → SendsPackets limits sent n units → NoneOnOtherMaps apid map_id units → NoneByBypass limits s apid passed
-    → Begin limits s apid passed (packets_to apid (units map_id)) r n
-begins make limits s apid sent r n units map_id passed fields less headed free sends none_other none_bd = record {
-  rest = all_made (packets_ended limits s apid) passed later;
-  parts = sym (made-append (packets_ended limits s apid) [] passed later) ∙ made-on limits s apid Ad map_id free (passed ++ later) [] elsewhere ∙ on map_id;
-  whole = λ same. let none : n - r ≡ 0 = omega arith in ap (λ (k : ℕ). all_made (packets_ended limits s apid) passed (by_ad (sent_from sent r k))) none;
+begins : Makes → (limits : ℕ → ℕ) (s : Settings) (apid : ℕ) (sent : ℕ → List ℕ) (r n : ℕ) (units : ℕ → List (List (List ℕ))) (map_id : ℕ) (old passed : List Passed)
+    → fields_passed Ad passed ≡ sent_from sent 0 r → r ≤ n → s.segmented ≡ true → is_chosen_map s map_id ≡ false → SendsPackets limits sent n units → NoneOnOtherMaps apid map_id units
+    → ((id : ℕ) → packets_for apid (all_made (unit_on limits s Bd id) old passed) ≡ []) → Begin limits s apid old passed (packets_to apid (units map_id)) r n
+begins make limits s apid sent r n units map_id old passed fields less headed free sends none_other none_bd = record {
+  rest = all_made (packets_ended limits s apid) (old ++ passed) later;
+  parts = sym (made-append (packets_ended limits s apid) old passed later) ∙ made-on limits s apid Ad map_id free (passed ++ later) old elsewhere ∙ on map_id;
+  whole = λ same. let none : n - r ≡ 0 = omega arith in ap (λ (k : ℕ). all_made (packets_ended limits s apid) (old ++ passed) (by_ad (sent_from sent r k))) none;
 }
   where
     later : List Passed
@@ -102,71 +109,98 @@ begins make limits s apid sent r n units map_id passed fields less headed free s
     stream-is : (id : ℕ) → stream Ad id (passed ++ later) ≡ on_map id (sent_from sent 0 n)
     stream-is id = stream-sent sent r n passed fields less id
 
-    on : (id : ℕ) → packets_for apid (all_made (unit_on limits s Ad id) [] (passed ++ later)) ≡ packets_to apid (units id)
+    on : (id : ℕ) → packets_for apid (all_made (unit_on limits s Ad id) old (passed ++ later)) ≡ packets_to apid (units id)
     on id =
-        ap (packets_for apid) (units-carried make limits s Ad id (all_joined (units id)) [] (passed ++ later) headed (sends.sendable id) (subst (CarryUnits id (all_joined (units id))) (sym (stream-is id)) (sends.carry id)))
+        ap (packets_for apid) (units-carried make limits s Ad id (all_joined (units id)) old (passed ++ later) headed (sends.sendable id) (subst (CarryUnits id (all_joined (units id))) (sym (stream-is id)) (sends.carry id)))
         ∙ cut-all apid (units id) (sends.packets id)
 
-    elsewhere : (other : Service) (id : ℕ) → is_same_stream Ad map_id other id ≡ false → packets_for apid (all_made (unit_on limits s other id) [] (passed ++ later)) ≡ []
+    elsewhere : (other : Service) (id : ℕ) → is_same_stream Ad map_id other id ≡ false → packets_for apid (all_made (unit_on limits s other id) old (passed ++ later)) ≡ []
     elsewhere Ad id apart = on id ∙ none_other id apart
     elsewhere Bd id apart =
-        let bd = all_made (unit_on limits s Bd id) [] passed in
-        ap (packets_for apid) (made-append (unit_on limits s Bd id) [] passed later ∙ ap (λ (x : List (List ℕ)). bd ++ x) (none-by-bd limits s id (sent_from sent r (n - r)) passed) ∙ append-nil bd) ∙ none_bd id
+        let bd = all_made (unit_on limits s Bd id) old passed in
+        ap (packets_for apid) (made-append (unit_on limits s Bd id) old passed later ∙ ap (λ (x : List (List ℕ)). bd ++ x) (none-by-bd limits s id (sent_from sent r (n - r)) (old ++ passed)) ∙ append-nil bd) ∙ none_bd id
 
 abbrev pub Journey : (ℕ → ℕ) → Settings → List Event → List Event → List Event → ℕ → (ℕ → List ℕ) → ℕ → ℕ → (ℕ → List (List (List ℕ))) → ℕ → Type 0 → Type 0
 Journey limits s journal before later x sent apid n units map_id Says =
-    IsLawfulWithin limits s journal → IsEraWithin limits s journal before later x → ComesFromWithin limits s before later x sent → ((run_within limits s before).accepted ≡ [])
-    → s.segmented ≡ true → is_chosen_map s map_id ≡ false → SendsPackets limits sent n units → NoneOnOtherMaps apid map_id units → NoneByBypass limits s apid (run_within limits s journal).passed → Says
+    IsLawfulWithin limits s journal → IsEraWithin limits s journal before later x → ComesFromWithin limits s before later x sent
+    → s.segmented ≡ true → is_chosen_map s map_id ≡ false → SendsPackets limits sent n units → NoneOnOtherMaps apid map_id units → NoneByBypass limits s apid before journal → Says
+
+-- what is made is what was made before the era and what its fields make
+made-parts : (ended : List Passed → Passed → List (List ℕ)) (limits : ℕ → ℕ) (s : Settings) (before journal : List Event)
+    → all_made ended [] (run_within limits s journal).passed ≡ all_made ended [] (passed_before limits s before journal) ++ all_made ended (passed_before limits s before journal) (passed_in limits s before journal)
+made-parts ended limits s before journal =
+    ap (all_made ended []) (sym (until-behind (length (run_within limits s before).accepted) (run_within limits s journal).passed))
+    ∙ made-append ended [] (passed_before limits s before journal) (passed_in limits s before journal)
 
 pub given-of-sent : Makes → (limits : ℕ → ℕ) (s : Settings) (journal before later : List Event) (x : ℕ) (sent : ℕ → List ℕ) (apid n : ℕ) (units : ℕ → List (List (List ℕ))) (map_id : ℕ) (q : Queue)
     → Journey limits s journal before later x sent apid n units map_id
-    ((run_within limits s journal).released ≤ n → queue_of apid (run_within limits s journal).queues ≡ Some q
-    → IsPartOf (packets_given s apid (first_state_within limits s) journal) (packets_to apid (units map_id)))
-given-of-sent make limits s journal before later x sent apid n units map_id q lawful era comes none headed free sends none_other none_bd less has =
-    let b = begins make limits s apid sent (run_within limits s journal).released n units map_id (run_within limits s journal).passed (ad-fields limits s journal before later x sent lawful era comes none) less headed free sends none_other none_bd in
+    (released_since limits s before journal ≤ n → queue_of apid (run_within limits s journal).queues ≡ Some q
+    → IsPartOf (packets_given s apid (first_state_within limits s) journal) (packets_made limits s apid (passed_before limits s before journal) ++ packets_to apid (units map_id)))
+given-of-sent make limits s journal before later x sent apid n units map_id q lawful era comes headed free sends none_other none_bd less has =
+    let old = passed_before limits s before journal in
+    let new = passed_in limits s before journal in
+    let b = begins make limits s apid sent (released_since limits s before journal) n units map_id old new (ad-fields limits s journal before later x sent lawful era comes) less headed free sends none_other none_bd in
     let made = packets_made limits s apid (run_within limits s journal).passed in
+    let older = packets_made limits s apid old in
+    let newer = all_made (packets_ended limits s apid) old new in
     let given = packets_given s apid (first_state_within limits s) journal in
-    subst (IsPartOf given) b.parts (part-more given made b.rest (packets-given-of-made limits s journal apid q has))
+    let is : made ++ b.rest ≡ older ++ packets_to apid (units map_id) =
+    ap (λ (x : List (List ℕ)). x ++ b.rest) (made-parts (packets_ended limits s apid) limits s before journal) ∙ append_assoc older newer b.rest ∙ ap (λ (x : List (List ℕ)). older ++ x) b.parts in
+    subst (IsPartOf given) is (part-more given made b.rest (packets-given-of-made limits s journal apid q has))
 
 pub made-of-sent : Makes → (limits : ℕ → ℕ) (s : Settings) (journal before later : List Event) (x : ℕ) (sent : ℕ → List ℕ) (apid n : ℕ) (units : ℕ → List (List (List ℕ))) (map_id : ℕ)
     → Journey limits s journal before later x sent apid n units map_id
-    ((run_within limits s journal).released ≡ n → packets_made limits s apid (run_within limits s journal).passed ≡ packets_to apid (units map_id))
-made-of-sent make limits s journal before later x sent apid n units map_id lawful era comes none headed free sends none_other none_bd same =
-    let b = begins make limits s apid sent (run_within limits s journal).released n units map_id (run_within limits s journal).passed (ad-fields limits s journal before later x sent lawful era comes none) (omega arith) headed free sends none_other none_bd in
-    let made = packets_made limits s apid (run_within limits s journal).passed in
-    sym (append-nil made) ∙ ap (λ (x : List (List ℕ)). made ++ x) (sym (b.whole same)) ∙ b.parts
+    (released_since limits s before journal ≡ n → packets_made limits s apid (run_within limits s journal).passed ≡ packets_made limits s apid (passed_before limits s before journal) ++ packets_to apid (units map_id))
+made-of-sent make limits s journal before later x sent apid n units map_id lawful era comes headed free sends none_other none_bd same =
+    let old = passed_before limits s before journal in
+    let new = passed_in limits s before journal in
+    let b = begins make limits s apid sent (released_since limits s before journal) n units map_id old new (ad-fields limits s journal before later x sent lawful era comes) (omega arith) headed free sends none_other none_bd in
+    let newer = all_made (packets_ended limits s apid) old new in
+    let whole : newer ≡ packets_to apid (units map_id) = sym (append-nil newer) ∙ ap (λ (x : List (List ℕ)). newer ++ x) (sym (b.whole same)) ∙ b.parts in
+    made-parts (packets_ended limits s apid) limits s before journal ∙ ap (λ (x : List (List ℕ)). packets_made limits s apid old ++ x) whole
 
 -- the same of the units of a chosen MAP
 pub units-of-sent : Makes → (limits : ℕ → ℕ) (s : Settings) (journal before later : List Event) (x : ℕ) (sent : ℕ → List ℕ) (n : ℕ) (units : List (List ℕ)) (map_id : ℕ) (q : Queue)
-    → IsLawfulWithin limits s journal → IsEraWithin limits s journal before later x → ComesFromWithin limits s before later x sent → (run_within limits s before).accepted ≡ []
+    → IsLawfulWithin limits s journal → IsEraWithin limits s journal before later x → ComesFromWithin limits s before later x sent
     → s.segmented ≡ true → is_chosen_map s map_id ≡ true → CarryUnits map_id units (on_map map_id (sent_from sent 0 n)) → AllByRecursion (IsSendable (limits map_id)) units
-    → all_made (unit_on limits s Bd map_id) [] (run_within limits s journal).passed ≡ []
-    → (run_within limits s journal).released ≤ n → queue_of map_id (run_within limits s journal).units ≡ Some q
-    → IsPartOf (units_given s map_id (first_state_within limits s) journal) units
-units-of-sent make limits s journal before later x sent n units map_id q lawful era comes none headed chosen carry can none_bd less has =
-    subst (IsPartOf given) parts (part-more given made (all_made (units_ended limits s map_id) passed rest) (units-given-of-made limits s journal map_id q has))
+    → all_made (unit_on limits s Bd map_id) (passed_before limits s before journal) (passed_in limits s before journal) ≡ []
+    → released_since limits s before journal ≤ n → queue_of map_id (run_within limits s journal).units ≡ Some q
+    → IsPartOf (units_given s map_id (first_state_within limits s) journal) (units_made limits s map_id (passed_before limits s before journal) ++ units)
+units-of-sent make limits s journal before later x sent n units map_id q lawful era comes headed chosen carry can none_bd less has =
+    subst (IsPartOf given) is (part-more given made (all_made (units_ended limits s map_id) (old ++ new) rest) (units-given-of-made limits s journal map_id q has))
   where
     given : List (List ℕ)
     given = units_given s map_id (first_state_within limits s) journal
 
-    passed : List Passed
-    passed = (run_within limits s journal).passed
+    old : List Passed
+    old = passed_before limits s before journal
+
+    new : List Passed
+    new = passed_in limits s before journal
 
     made : List (List ℕ)
-    made = units_made limits s map_id passed
+    made = units_made limits s map_id (run_within limits s journal).passed
+
+    r : ℕ
+    r = released_since limits s before journal
 
     rest : List Passed
-    rest = by_ad (sent_from sent (run_within limits s journal).released (n - (run_within limits s journal).released))
+    rest = by_ad (sent_from sent r (n - r))
 
-    by_bypass : (other : Service) → same_service Ad other ≡ false → all_made (unit_on limits s other map_id) [] (passed ++ rest) ≡ []
-    by_bypass Bd apart = made-append (unit_on limits s Bd map_id) [] passed rest
-        ∙ ap (λ (x : List (List ℕ)). all_made (unit_on limits s Bd map_id) [] passed ++ x) (none-by-bd limits s map_id (sent_from sent (run_within limits s journal).released (n - (run_within limits s journal).released)) passed)
-        ∙ append-nil (all_made (unit_on limits s Bd map_id) [] passed) ∙ none_bd
+    by_bypass : (other : Service) → same_service Ad other ≡ false → all_made (unit_on limits s other map_id) old (new ++ rest) ≡ []
+    by_bypass Bd apart = made-append (unit_on limits s Bd map_id) old new rest
+        ∙ ap (λ (x : List (List ℕ)). all_made (unit_on limits s Bd map_id) old new ++ x) (none-by-bd limits s map_id (sent_from sent r (n - r)) (old ++ new))
+        ∙ append-nil (all_made (unit_on limits s Bd map_id) old new) ∙ none_bd
     by_bypass Ad apart = absurd cc
 
-    stream_is : stream Ad map_id (passed ++ rest) ≡ on_map map_id (sent_from sent 0 n)
-    stream_is = stream-sent sent (run_within limits s journal).released n passed (ad-fields limits s journal before later x sent lawful era comes none) less map_id
+    stream_is : stream Ad map_id (new ++ rest) ≡ on_map map_id (sent_from sent 0 n)
+    stream_is = stream-sent sent r n new (ad-fields limits s journal before later x sent lawful era comes) less map_id
 
-    parts : made ++ all_made (units_ended limits s map_id) passed rest ≡ units
-    parts = sym (made-append (units_ended limits s map_id) [] passed rest) ∙ units-on limits s Ad map_id chosen (passed ++ rest) [] by_bypass
-        ∙ units-carried make limits s Ad map_id units [] (passed ++ rest) headed can (subst (CarryUnits map_id units) (sym stream_is) carry)
+    parts : all_made (units_ended limits s map_id) old new ++ all_made (units_ended limits s map_id) (old ++ new) rest ≡ units
+    parts = sym (made-append (units_ended limits s map_id) old new rest) ∙ units-on limits s Ad map_id chosen (new ++ rest) old by_bypass
+        ∙ units-carried make limits s Ad map_id units old (new ++ rest) headed can (subst (CarryUnits map_id units) (sym stream_is) carry)
+
+    is : made ++ all_made (units_ended limits s map_id) (old ++ new) rest ≡ units_made limits s map_id old ++ units
+    is = ap (λ (x : List (List ℕ)). x ++ all_made (units_ended limits s map_id) (old ++ new) rest) (made-parts (units_ended limits s map_id) limits s before journal)
+        ∙ append_assoc (units_made limits s map_id old) (all_made (units_ended limits s map_id) old new) (all_made (units_ended limits s map_id) (old ++ new) rest)
+        ∙ ap (λ (x : List (List ℕ)). units_made limits s map_id old ++ x) parts

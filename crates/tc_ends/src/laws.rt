@@ -1,22 +1,29 @@
 //! Laws from a sender's packets to a receiver's.
 
-ghost use Rattle.std.specs.Prelude.{List, ℕ, [], ◌∷◌, ◌++◌, ◌≡◌, ◌≤◌, ◌<◌, length, map, true, false, Some};
+ghost use Rattle.std.specs.Prelude.{List, ℕ, [], ◌∷◌, ◌++◌, ◌≡◌, ◌≤◌, ◌<◌, ◌+◌, ◌%◌, length, map, slice_index_or, true, false, None, Some};
 ghost use Rattle.std.specs.List.{AllByRecursion};
 ghost use Rattle.tc_packet.specs.SpacePacket.{IsPacket, joined, packets_of, rest_of};
 ghost use Rattle.tc_write.specs.Segments.{AreSegments};
 ghost use Rattle.tc_packet.specs.Reassembly.{Passed, same_service};
 ghost use Rattle.tc_packet.specs.declared.Service.{Service};
-ghost use Rattle.tc_channel.specs.Through.{IsPartOf, all_made, packets_made, sent_from, units_made};
+ghost use Rattle.tc_channel.specs.Through.{IsPartOf, all_made, packets_made, passed_since, released_since, sent_from, units_made};
 ghost use Rattle.tc_channel.specs.declared.settings.Settings.{Settings};
+ghost use Rattle.tc_link.specs.Frame.{BeginsWith, IsWhole, header_of};
+ghost use Rattle.tc_cltu.specs.Cltu.{cltu_fault_of, filled, most_octets};
+ghost use Rattle.tc_cltu.specs.Reception.{Searching, frames_of};
+ghost use Rattle.tc_cltu.specs.declared.block.Mode.{Mode};
 ghost use Rattle.tc_link.specs.declared.frame.Header.{Header};
 ghost use Rattle.tc_channel.specs.declared.event.Event.{Event};
-ghost use Rattle.tc_channel.specs.ChannelState.{Queue, first_state_within, queue_of};
+ghost use Rattle.tc_channel.specs.ChannelState.{Queue, first_state_within, no_limits, queue_of};
+ghost use Rattle.tc_channel.specs.Journal.{History};
 ghost use Rattle.tc_channel.specs.Account.{unit_on};
 ghost use Rattle.tc_channel.specs.Era.{IsEraWithin, ComesFromWithin};
 ghost use Rattle.tc_channel.specs.Given.{packets_given, units_given};
-ghost use Rattle.tc_channel.specs.Run.{IsLawfulWithin, field_of, run_within};
+ghost use Rattle.tc_channel.specs.Run.{IsLawfulWithin, field_of, run, run_within};
 ghost use Rattle.tc_loop.specs.Loop.{Loop, Action, IsLoop, journal, receiver, sent};
-ghost use Rattle.tc_ends.specs.Ends.{AreAllPackets, AreWritten, CarrySent, CarryUnits, NoneByBypass, NoneOnOtherMaps, SendsPackets, EndAtLast, IsPlainSendable, IsSendable, NoneElsewhere, PacketsSent, Sent, all_joined, fields_in_order, is_chosen_map, joined_on, on_map, only_on, packets_to, sent_on};
+ghost use Rattle.tc_loop.specs.Start.{Start, IsStart, era, era_session};
+ghost use Rattle.tc_ends.specs.Arrivals.{IsNearCltu};
+ghost use Rattle.tc_ends.specs.Ends.{AreAllPackets, AreFrom, AreNumbered, AreWritten, CanBeSent, CarrySent, CarryUnits, NoneByBypass, NoneOnOtherMaps, SendsPackets, EndAtLast, IsChannelOf, IsPlainSendable, IsSendable, NoneElsewhere, PacketsSent, SendsOnly, Sent, UnitSent, all_joined, fields_in_order, is_chosen_map, joined_on, on_map, only_on, packets_to, passed_before, passed_in, sent_on, units_on};
 ghost use Rattle.tc_ends.specs.Examples as example;
 
 use tc_write::the_segments_of_a_unit_make_the_unit;
@@ -69,34 +76,32 @@ pub fn written_frames_carry_the_segments()
         → AreSegments map_id size unit (map field_of frames) }
 {}
 
-/// From a sender's packets to what takes give. No frame was accepted before the era, as where it is the whole journal (`start`). The first n data
-/// fields of a sender carry units of packets, MAP by MAP, in segments. The packets of an application come on one MAP, by Type-AD alone. Then
-/// all packets of this application that takes ever gave are, in their order, packets that were sent, of which some may be left out (`given`).
-/// Where all n fields were released, the packets that they make for it are just those that were sent (`made`). Where takes gave as many as were
-/// sent, they gave just those (`all`).
+/// From a sender's packets to what takes give. The first n data fields of a sender carry units of packets, MAP by MAP, in segments. The packets
+/// that an application gets in the era come on one MAP, by Type-AD alone. Then all packets of this application that takes ever gave are, in
+/// their order, those of the data fields from before the era, which are none where the era is the whole journal (`start`), and then those that
+/// were sent, of all of which some may be left out (`given`). Where all n fields were released, the fields make just these (`made`). Where takes
+/// gave as many, they gave just these (`all`).
 pub fn packets_that_are_sent_are_given()
-    ensures start { (limits : ℕ → ℕ) (s : Settings) → (run_within limits s []).accepted ≡ [] }
+    ensures start { (limits : ℕ → ℕ) (s : Settings) (journal : List Event) → passed_before limits s [] journal ≡ [] }
     ensures given { (limits : ℕ → ℕ) (s : Settings) (journal before later : List Event) (x : ℕ) (sent : ℕ → List ℕ) (apid n : ℕ) (units : ℕ → List (List (List ℕ))) (map_id : ℕ) (q : Queue)
         → IsLawfulWithin limits s journal → IsEraWithin limits s journal before later x → ComesFromWithin limits s before later x sent
-        → (run_within limits s before).accepted ≡ []
         → s.segmented ≡ true → is_chosen_map s map_id ≡ false → SendsPackets limits sent n units → NoneOnOtherMaps apid map_id units
-        → NoneByBypass limits s apid (run_within limits s journal).passed
-        → (run_within limits s journal).released ≤ n → queue_of apid (run_within limits s journal).queues ≡ Some q
-        → IsPartOf (packets_given s apid (first_state_within limits s) journal) (packets_to apid (units map_id)) }
+        → NoneByBypass limits s apid before journal
+        → released_since limits s before journal ≤ n → queue_of apid (run_within limits s journal).queues ≡ Some q
+        → IsPartOf (packets_given s apid (first_state_within limits s) journal) (packets_made limits s apid (passed_before limits s before journal) ++ packets_to apid (units map_id)) }
     ensures made { (limits : ℕ → ℕ) (s : Settings) (journal before later : List Event) (x : ℕ) (sent : ℕ → List ℕ) (apid n : ℕ) (units : ℕ → List (List (List ℕ))) (map_id : ℕ)
         → IsLawfulWithin limits s journal → IsEraWithin limits s journal before later x → ComesFromWithin limits s before later x sent
-        → (run_within limits s before).accepted ≡ []
         → s.segmented ≡ true → is_chosen_map s map_id ≡ false → SendsPackets limits sent n units → NoneOnOtherMaps apid map_id units
-        → NoneByBypass limits s apid (run_within limits s journal).passed
-        → (run_within limits s journal).released ≡ n → packets_made limits s apid (run_within limits s journal).passed ≡ packets_to apid (units map_id) }
+        → NoneByBypass limits s apid before journal
+        → released_since limits s before journal ≡ n
+        → packets_made limits s apid (run_within limits s journal).passed ≡ packets_made limits s apid (passed_before limits s before journal) ++ packets_to apid (units map_id) }
     ensures all { (limits : ℕ → ℕ) (s : Settings) (journal before later : List Event) (x : ℕ) (sent : ℕ → List ℕ) (apid n : ℕ) (units : ℕ → List (List (List ℕ))) (map_id : ℕ) (q : Queue)
         → IsLawfulWithin limits s journal → IsEraWithin limits s journal before later x → ComesFromWithin limits s before later x sent
-        → (run_within limits s before).accepted ≡ []
         → s.segmented ≡ true → is_chosen_map s map_id ≡ false → SendsPackets limits sent n units → NoneOnOtherMaps apid map_id units
-        → NoneByBypass limits s apid (run_within limits s journal).passed
-        → (run_within limits s journal).released ≤ n → queue_of apid (run_within limits s journal).queues ≡ Some q
-        → length (packets_to apid (units map_id)) ≤ length (packets_given s apid (first_state_within limits s) journal)
-        → packets_given s apid (first_state_within limits s) journal ≡ packets_to apid (units map_id) }
+        → NoneByBypass limits s apid before journal
+        → released_since limits s before journal ≤ n → queue_of apid (run_within limits s journal).queues ≡ Some q
+        → length (packets_made limits s apid (passed_before limits s before journal) ++ packets_to apid (units map_id)) ≤ length (packets_given s apid (first_state_within limits s) journal)
+        → packets_given s apid (first_state_within limits s) journal ≡ packets_made limits s apid (passed_before limits s before journal) ++ packets_to apid (units map_id) }
 {
     the_segments_of_a_unit_make_the_unit();
 }
@@ -111,11 +116,11 @@ pub fn all_units_can_be_carried()
 /// come.
 pub fn packets_of_a_loop_are_given()
     ensures { (l : Loop) (session : List Action) (apid n : ℕ) (units : ℕ → List (List (List ℕ))) (map_id : ℕ) (q : Queue) → IsLoop l session
-        → (run_within l.limits l.settings l.before).accepted ≡ []
         → l.settings.segmented ≡ true → is_chosen_map l.settings map_id ≡ false → SendsPackets l.limits (sent l) n units → NoneOnOtherMaps apid map_id units
-        → NoneByBypass l.limits l.settings apid (receiver l session).passed
-        → (receiver l session).released ≤ n → queue_of apid (receiver l session).queues ≡ Some q
-        → IsPartOf (packets_given l.settings apid (first_state_within l.limits l.settings) (journal l session)) (packets_to apid (units map_id)) }
+        → NoneByBypass l.limits l.settings apid l.before (journal l session)
+        → released_since l.limits l.settings l.before (journal l session) ≤ n → queue_of apid (receiver l session).queues ≡ Some q
+        → IsPartOf (packets_given l.settings apid (first_state_within l.limits l.settings) (journal l session))
+        (packets_made l.limits l.settings apid (passed_before l.limits l.settings l.before (journal l session)) ++ packets_to apid (units map_id)) }
 {
     the_segments_of_a_unit_make_the_unit();
 }
@@ -129,18 +134,82 @@ pub fn all_packets_can_be_sent()
 /// The units of a chosen MAP that takes gave are units that were sent on it, in their order, of which some may be left out.
 pub fn units_that_are_sent_are_given()
     ensures { (limits : ℕ → ℕ) (s : Settings) (journal before later : List Event) (x : ℕ) (sent : ℕ → List ℕ) (n : ℕ) (units : List (List ℕ)) (map_id : ℕ) (q : Queue)
-        → IsLawfulWithin limits s journal → IsEraWithin limits s journal before later x → ComesFromWithin limits s before later x sent → (run_within limits s before).accepted ≡ []
+        → IsLawfulWithin limits s journal → IsEraWithin limits s journal before later x → ComesFromWithin limits s before later x sent
         → s.segmented ≡ true → is_chosen_map s map_id ≡ true → CarryUnits map_id units (on_map map_id (sent_from sent 0 n)) → AllByRecursion (IsSendable (limits map_id)) units
-        → all_made (unit_on limits s Service.Bd map_id) [] (run_within limits s journal).passed ≡ []
-        → (run_within limits s journal).released ≤ n → queue_of map_id (run_within limits s journal).units ≡ Some q
-        → IsPartOf (units_given s map_id (first_state_within limits s) journal) units }
+        → all_made (unit_on limits s Service.Bd map_id) (passed_before limits s before journal) (passed_in limits s before journal) ≡ []
+        → released_since limits s before journal ≤ n → queue_of map_id (run_within limits s journal).units ≡ Some q
+        → IsPartOf (units_given s map_id (first_state_within limits s) journal) (units_made limits s map_id (passed_before limits s before journal) ++ units) }
 {
     the_segments_of_a_unit_make_the_unit();
 }
 
+/// A sender that writes its units one after the other, on whatever MAPs, and counts N(S) on over all of them, sends its packets MAP by MAP
+/// (`sends`); and the frame at each place has the N(S) of its place, which a loop asks for (`numbers`).
+pub fn numbered_frames_send_packets()
+    ensures sends { (limits : ℕ → ℕ) (header : Header) (units : List UnitSent) (frames : List (List ℕ)) (sent : ℕ → List ℕ) → AllByRecursion (CanBeSent limits) units → AreNumbered header units frames
+        → sent_from sent 0 (length frames) ≡ map field_of frames → SendsPackets limits sent (length frames) (units_on units) }
+    ensures numbers { (header : Header) (units : List UnitSent) (frames : List (List ℕ)) → header.bypass ≡ false → AreNumbered header units frames
+        → (k : ℕ) → k < length frames → (header_of (slice_index_or frames k [])).ns ≡ (header.ns + k) % 256 }
+{}
+
+/// From a ground system's packets to what takes give, over the start of an era and links that lose, repeat and delay, but keep order. The sender
+/// sends Set V(R) and then its packets, in units on any MAPs, in frames that it numbers and sends by its window, and no others; it believes rightly
+/// that Set V(R) was obeyed. Then all packets of an application that takes ever gave are, in their order, those of the data fields from before the
+/// era, and then those that were sent for it; of all of these some may be left out, as where a queue was full.
+pub fn packets_from_a_start_are_given()
+    ensures { (s : Start) (header : Header) (units : List UnitSent) (frames : List (List ℕ)) (apid map_id : ℕ) (q : Queue) → IsStart s
+        → AllByRecursion (CanBeSent s.loop.limits) units → AreNumbered header units frames → AreFrom (era s).frames frames → SendsOnly (length frames) (era_session s)
+        → s.loop.settings.segmented ≡ true → is_chosen_map s.loop.settings map_id ≡ false → NoneOnOtherMaps apid map_id (units_on units)
+        → NoneByBypass s.loop.limits s.loop.settings apid (era s).before (journal s.loop s.session) → queue_of apid (receiver s.loop s.session).queues ≡ Some q
+        → IsPartOf (packets_given s.loop.settings apid (first_state_within s.loop.limits s.loop.settings) (journal s.loop s.session))
+        (packets_made s.loop.limits s.loop.settings apid (passed_before s.loop.limits s.loop.settings (era s).before (journal s.loop s.session)) ++ packets_to apid (units_on units map_id)) }
+{
+    the_segments_of_a_unit_make_the_unit();
+}
+
+/// Over any threads: where the journal that a station's close gives out of a channel is that of a session of a loop, the Type-AD data fields of the
+/// era that were released are what was sent, each once and in order (`passed`), and takes gave, in order, packets that were sent (`given`). The
+/// premises are those of a loop, in place of those of `sent` of `from_a_sender_to_packets` (tc_station), which ties this journal to the calls of
+/// all threads.
+pub fn a_channel_given_out_has_what_a_loop_sent()
+    ensures passed { (l : Loop) (session : List Action) (channel : History) → IsLoop l session → IsChannelOf l session channel
+        → passed_since no_limits channel.settings l.before (run channel.settings channel.journal).passed ≡ sent_from (sent l) 0 (released_since no_limits channel.settings l.before channel.journal) }
+    ensures given { (l : Loop) (session : List Action) (channel : History) (header : Header) (units : List UnitSent) (frames : List (List ℕ)) (apid map_id : ℕ) (q : Queue) → IsLoop l session
+        → IsChannelOf l session channel → AllByRecursion (CanBeSent no_limits) units → AreNumbered header units frames → AreFrom l.frames frames → SendsOnly (length frames) session
+        → channel.settings.segmented ≡ true → is_chosen_map channel.settings map_id ≡ false → NoneOnOtherMaps apid map_id (units_on units) → NoneByBypass no_limits channel.settings apid l.before channel.journal
+        → queue_of apid (run channel.settings channel.journal).queues ≡ Some q
+        → IsPartOf (packets_given channel.settings apid (first_state_within no_limits channel.settings) channel.journal)
+        (packets_made no_limits channel.settings apid (passed_before no_limits channel.settings l.before channel.journal) ++ packets_to apid (units_on units map_id)) }
+{
+    the_segments_of_a_unit_make_the_unit();
+}
+
+/// A CLTU with at most as many wrong bits a code block as the mode takes, whose tail no code block is near to, gives its frame, with fill behind it;
+/// and that is where a receiver takes the frame from.
+pub fn a_cltu_with_few_wrong_bits_brings_its_frame()
+    ensures given { (mode : Mode) (last : ℕ) (frame octets rest : List ℕ) → cltu_fault_of frame ≡ None → IsNearCltu mode last frame octets
+        → frames_of mode most_octets (Searching last) (octets ++ rest) ≡ filled frame ∷ frames_of mode most_octets (Searching 0) rest }
+    ensures begins { (frame : List ℕ) → IsWhole frame → BeginsWith (filled frame) frame }
+{}
+
+/// One session meets all premises of [`packets_of_a_loop_are_given`] and [`numbered_frames_send_packets`] at once: that of
+/// [`two_packets_are_given_so`].
+pub fn all_premises_are_met_at_once()
+    ensures frames_in_loop { IsLoop example.packet_a_frame example.both_taken }
+    ensures headers { example.packet_a_frame.settings.segmented ≡ true }
+    ensures not_chosen { is_chosen_map example.packet_a_frame.settings 0 ≡ false }
+    ensures can_be_sent { AllByRecursion (CanBeSent example.packet_a_frame.limits) example.two_in_turn }
+    ensures numbered { AreNumbered example.first_header example.two_in_turn (example.packet_a_frame.frames 0 ∷ example.packet_a_frame.frames 1 ∷ []) }
+    ensures sends { SendsPackets example.packet_a_frame.limits (sent example.packet_a_frame) 2 (units_on example.two_in_turn) }
+    ensures apart { NoneOnOtherMaps 5 0 (units_on example.two_in_turn) }
+    ensures none_by_bypass { NoneByBypass example.packet_a_frame.limits example.packet_a_frame.settings 5 example.packet_a_frame.before (journal example.packet_a_frame example.both_taken) }
+    ensures released { released_since example.packet_a_frame.limits example.packet_a_frame.settings example.packet_a_frame.before (journal example.packet_a_frame example.both_taken) ≡ 2 }
+    ensures queue { (q : Queue) × (queue_of 5 (receiver example.packet_a_frame example.both_taken).queues ≡ Some q) }
+{}
+
 /// A session worked out by hand: two packets in a frame each, of which the first is lost once, are sent, and takes give them.
 pub fn two_packets_are_given_so()
     ensures carried { sent_from (sent example.packet_a_frame) 0 2 ≡ (0xc0 ∷ example.packet) ∷ (0xc0 ∷ example.packet) ∷ [] }
-    ensures sent { packets_to 5 (example.two_units 0) ≡ example.packet ∷ example.packet ∷ [] }
+    ensures sent { packets_to 5 (units_on example.two_in_turn 0) ≡ example.packet ∷ example.packet ∷ [] }
     ensures given { packets_given example.packet_a_frame.settings 5 (first_state_within example.packet_a_frame.limits example.packet_a_frame.settings) (journal example.packet_a_frame example.both_taken) ≡ example.packet ∷ example.packet ∷ [] }
 {}

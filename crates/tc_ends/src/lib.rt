@@ -12,14 +12,21 @@
 //! [`all_units_can_be_carried`],
 //! [`packets_of_a_loop_are_given`],
 //! [`all_packets_can_be_sent`],
-//! [`units_that_are_sent_are_given`] and
+//! [`units_that_are_sent_are_given`],
+//! [`numbered_frames_send_packets`],
+//! [`packets_from_a_start_are_given`],
+//! [`a_channel_given_out_has_what_a_loop_sent`],
+//! [`a_cltu_with_few_wrong_bits_brings_its_frame`],
+//! [`all_premises_are_met_at_once`] and
 //! [`two_packets_are_given_so`].
 #![tactic(auto)]
 
 mod laws;
 
 pub use laws::{
-    all_packets_can_be_sent, all_units_can_be_carried, joined_packets_are_cut_into_them,
+    a_channel_given_out_has_what_a_loop_sent, a_cltu_with_few_wrong_bits_brings_its_frame,
+    all_packets_can_be_sent, all_premises_are_met_at_once, all_units_can_be_carried,
+    joined_packets_are_cut_into_them, numbered_frames_send_packets, packets_from_a_start_are_given,
     packets_of_a_loop_are_given, packets_that_are_sent_are_given, packets_that_are_sent_are_made,
     packets_that_are_sent_plainly_are_made, the_segments_of_a_unit_end_it_once,
     two_packets_are_given_so, units_that_are_sent_are_given, units_that_are_sent_are_made,

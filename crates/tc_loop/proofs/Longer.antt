@@ -12,7 +12,7 @@ unfoldable use Rattle.tc_channel.specs.Reply.{clcw_within}
 use Rattle.tc_channel.specs.Era.{NoneSetsWithin, set_by}
 use Rattle.tc_link.specs.Clcw.{fields_of}
 use Rattle.tc_channel.proofs.Runs.{lawful-push}
-use Rattle.tc_loop.specs.Loop.{Loop, Action, Send, Arrive, Hear, Other, events, journal, receiver, known, known_from, heard, reported, IsSession, IsLoop, IsOther}
+use Rattle.tc_loop.specs.Loop.{Loop, Action, Send, Arrive, Hear, Other, Idle, KeepOrder, events, journal, receiver, known, known_from, heard, reported, IsSession, IsLoop, IsOther}
 use Rattle.tc_loop.proofs.Actions.{events-append}
 use Rattle.tc_loop.proofs.Counted.{journal-append, get-append, take-append}
 
@@ -38,7 +38,7 @@ get-last (x ∷ xs) a = get-last xs a
 pub take-first : {A : Type 0} (xs ys : List A) (t : ℕ) → t ≡ length xs → take t (xs ++ ys) ≡ xs
 take-first xs ys t e = subst (λ n. take n (xs ++ ys) ≡ xs) (sym e) (take-append_seam xs ys)
 
-get-take : {A : Type 0} (xs : List A) (n t : ℕ) (b : A) → slice_get (take n xs) t ≡ Some b → slice_get xs t ≡ Some b
+pub get-take : {A : Type 0} (xs : List A) (n t : ℕ) (b : A) → slice_get (take n xs) t ≡ Some b → slice_get xs t ≡ Some b
 get-take xs n t b e = subst (λ ys. slice_get ys t ≡ Some b) (take-append-drop n xs) (get-append (take n xs) (drop n xs) t b e)
 
 reported-same : (l : Loop) (session more : List Action) (m : ℕ) → m ≤ length session → reported l (session ++ more) m ≡ reported l session m
@@ -50,6 +50,7 @@ known-same l session more a [] each = refl
 known-same l session more a (Send i ∷ rest) each = known-same l session more a rest (λ t m e. each (suc t) m e)
 known-same l session more a (Arrive i s ∷ rest) each = known-same l session more a rest (λ t m e. each (suc t) m e)
 known-same l session more a (Other e ∷ rest) each = known-same l session more a rest (λ t m e. each (suc t) m e)
+known-same l session more a (Idle ∷ rest) each = known-same l session more a rest (λ t m e. each (suc t) m e)
 known-same l session more a (Hear m ∷ rest) each =
     ap (λ b. known_from l (session ++ more) (heard l.first l.window a b) rest) (reported-same l session more m (each 0 m refl))
     ∙ known-same l session more (heard l.first l.window a (reported l session m)) rest (λ t n e. each (suc t) n e)
@@ -60,7 +61,7 @@ known-at l session more t k low =
     ap (known_from l (session ++ more) 0) (take-append-le t session more low)
     ∙ known-same l session more 0 (take t session) (λ u m e.
     let here = get-take session t u (Hear m) e in
-    let made = k.hears u m here in
+    let made = k.links.hears u m here in
     let within = slice_get_within session u (Hear m) here in
     omega arith)
 
@@ -75,15 +76,8 @@ pub record IsNext (l : Loop) (session : List Action) (action : Action) : Type 0 
   pub lawful : IsLawfulWithin l.limits l.settings (journal l (session ++ action ∷ []))
   pub none_sets : NoneSetsWithin l.limits l.settings l.before (events l (session ++ action ∷ []))
 
-possible-next : (l : Loop) (session : List Action) (action : Action) → IsSession l session → IsNext l session action → IsSession l (session ++ action ∷ [])
-possible-next l session action k n = record {
-  sends = λ t i here. elim (get-end session action t (Send i) here) [
-    | inl p ↦ let low = p.1 in subst (λ a. (a ≤ i) × (i < a + l.window)) (sym (known-at l session (action ∷ []) t k (omega arith))) (k.sends t i p.0)
-    | inr p ↦
-        let at = p.0 in
-        let same : known l (session ++ action ∷ []) t ≡ known l session (length session) = known-at l session (action ∷ []) t k (omega arith) ∙ ap (known l session) at in
-        subst (λ a. (a ≤ i) × (i < a + l.window)) (sym same) (n.sends i p.1)
-  ];
+in-order-next : (l : Loop) (session : List Action) (action : Action) → KeepOrder session → IsNext l session action → KeepOrder (session ++ action ∷ [])
+in-order-next l session action k n = record {
   arrives = λ t i s here. elim (get-end session action t (Arrive i s) here) [
     | inl p ↦ let from = k.arrives t i s p.0 in (from.0, get-append session (action ∷ []) s (Send i) from.1)
     | inr p ↦
@@ -96,10 +90,6 @@ possible-next l session action k n = record {
     | inl p ↦ k.hears t m p.0
     | inr p ↦ let at = p.0 in let low = n.hears m p.1 in omega arith
   ];
-  others = λ t e here. elim (get-end session action t (Other e) here) [
-    | inl p ↦ k.others t e p.0
-    | inr p ↦ n.others e p.1
-  ];
   frames_in_order = λ t u i j s r order here later. elim (get-end session action u (Arrive j r) later) [
     | inl p ↦ let low = p.1 in k.frames_in_order t u i j s r order (get-before session action t (Arrive i s) here (omega arith)) p.0
     | inr p ↦ let at = p.0 in n.frames_in_order t i j s r (get-before session action t (Arrive i s) here (omega arith)) p.1
@@ -107,6 +97,22 @@ possible-next l session action k n = record {
   reports_in_order = λ t u m r order here later. elim (get-end session action u (Hear r) later) [
     | inl p ↦ let low = p.1 in k.reports_in_order t u m r order (get-before session action t (Hear m) here (omega arith)) p.0
     | inr p ↦ let at = p.0 in n.reports_in_order t m r (get-before session action t (Hear m) here (omega arith)) p.1
+  ];
+}
+
+possible-next : (l : Loop) (session : List Action) (action : Action) → IsSession l session → IsNext l session action → IsSession l (session ++ action ∷ [])
+possible-next l session action k n = record {
+  sends = λ t i here. elim (get-end session action t (Send i) here) [
+    | inl p ↦ let low = p.1 in subst (λ a. (a ≤ i) × (i < a + l.window)) (sym (known-at l session (action ∷ []) t k (omega arith))) (k.sends t i p.0)
+    | inr p ↦
+        let at = p.0 in
+        let same : known l (session ++ action ∷ []) t ≡ known l session (length session) = known-at l session (action ∷ []) t k (omega arith) ∙ ap (known l session) at in
+        subst (λ a. (a ≤ i) × (i < a + l.window)) (sym same) (n.sends i p.1)
+  ];
+  links = in-order-next l session action k.links n;
+  others = λ t e here. elim (get-end session action t (Other e) here) [
+    | inl p ↦ k.others t e p.0
+    | inr p ↦ n.others e p.1
   ];
 }
 

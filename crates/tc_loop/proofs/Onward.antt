@@ -99,7 +99,7 @@ heard-next l session k =
       frames_in_order = λ t i j s r here e. absurd cc;
       reports_in_order = λ t m n here e.
           let p : length session ≡ n = cc in
-          let made = k.possible.hears t m here in
+          let made = k.possible.links.hears t m here in
           let low = slice_get_within session t (Hear m) here in
           omega arith;
       lawful = j.lawful;
@@ -203,7 +203,7 @@ arrived l session s k from last free empty =
       others = λ e q. absurd cc;
       frames_in_order = λ t i j r u here e.
           let q : s ≡ u = cc in
-          let sent_at = k.possible.arrives t i r here in
+          let sent_at = k.possible.links.arrives t i r here in
           let before = sent_at.0 in
           let low = slice_get_within session t (Arrive i r) here in
           omega arith;

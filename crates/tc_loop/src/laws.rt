@@ -11,7 +11,8 @@ ghost use Rattle.tc_channel.specs.Through.{passed_since, released_since, sent_fr
 ghost use Rattle.tc_channel.specs.Settings.{IsAllowed};
 ghost use Rattle.tc_channel.specs.declared.settings.Settings.{Settings};
 ghost use Rattle.tc_channel.specs.Era.{ComesFromWithin, accepted_since_within};
-ghost use Rattle.tc_loop.specs.Loop.{Loop, Action, Arrive, accepted, begun, heard, known, reported, IsLoop, IsKnownSo, GoesOn, GoesOnBy, LocksOut, events, journal, last_of, new_loop, receiver, round, sent};
+ghost use Rattle.tc_loop.specs.Loop.{Loop, Action, Arrive, Hear, accepted, begun, heard, known, reported, IsLoop, IsKnownSo, KeepOrder, GoesOn, GoesOnBy, LocksOut, events, journal, last_of, new_loop, receiver, round, sent, smallest};
+ghost use Rattle.tc_loop.specs.Start.{Start, IsObeyed, IsStart, NamesAnother, era, era_before, known_since, era_session, session_before};
 ghost use Rattle.tc_loop.specs.Examples as example;
 
 /// In a loop no frame comes 256 numbers early or late: links that keep order and a sender that keeps its window see to it.
@@ -64,6 +65,38 @@ pub fn a_loop_can_always_go_on()
 pub fn each_receiver_can_be_in_a_loop()
     ensures begins { (limits : ℕ → ℕ) (s : Settings) (links : ℕ → Link) (window : ℕ) → IsAllowed s → window < 256 → IsLoop (new_loop limits s links window) [] }
     ensures state { (limits : ℕ → ℕ) (s : Settings) (links : ℕ → Link) (window : ℕ) → (receiver (new_loop limits s links window) []).report.state ≢ S3 }
+{}
+
+/// The era that a sender's own Set V(R) starts is a loop again, whatever frames and CLCWs of before are still on their way, where the CLCW by
+/// which it believes that Set V(R) was obeyed was made after that. It is the same receiver with the same journal, and the sender knows in this loop
+/// what it heard since it believes.
+pub fn an_era_that_set_v_r_starts_is_a_loop()
+    ensures loop_again { (s : Start) → IsStart s → IsLoop (era s) (era_session s) }
+    ensures journal { (s : Start) → IsStart s → journal (era s) (era_session s) ≡ journal s.loop s.session }
+    ensures known { (s : Start) (t : ℕ) → IsStart s → known (era s) (era_session s) t ≡ known_since s t }
+{}
+
+/// The sender can see to it: where its Set V(R) names none of the numbers from that of its first frame which it doesn't know to be accepted up to
+/// the one after the last that it sent, any CLCW with this number that it hears then was made after Set V(R) was obeyed.
+pub fn a_number_of_its_own_tells_that_set_v_r_was_obeyed()
+    ensures { (s : Start) (first window : ℕ) (frames : ℕ → List ℕ) (asked made : ℕ) → ((i : ℕ) → i < s.directive → frames i ≡ s.loop.frames i)
+        → IsLoop (era_before s first window frames) (session_before s) → KeepOrder s.session → IsObeyed s s.obeyed → asked ≤ s.obeyed → asked ≤ s.believed
+        → NamesAnother s first window frames asked → slice_get s.session s.believed ≡ Some (Hear made) → reported s.loop s.session made ≡ s.loop.first → s.obeyed < made }
+{}
+
+/// Two starts worked out by hand. FOP-1's rule alone, to believe a CLCW that says the number which Set V(R) names, isn't enough (`trap`): a CLCW of
+/// before says 0, too, and the sender takes its lost frame for accepted. A Set V(R) to 9 meets each premise of both laws (`met`, `before_met`,
+/// `another_met`), though it is obeyed twice.
+pub fn starts_come_to_this()
+    ensures trap_says { reported example.trap.loop example.trap.session 0 ≡ example.trap.loop.first }
+    ensures trap_known { known_since example.trap 7 ≡ 1 }
+    ensures trap_names_one_of_before { NamesAnother example.trap 0 5 (smallest 0) 2 → ⊥ }
+    ensures trap_accepted { accepted (era example.trap) (era_session example.trap) ≡ 0 }
+    ensures met { IsStart example.told_by_9 }
+    ensures before_met { IsLoop (era_before example.told_by_9 0 5 (smallest 0)) (session_before example.told_by_9) }
+    ensures another_met { NamesAnother example.told_by_9 0 5 (smallest 0) 2 }
+    ensures met_known { known_since example.told_by_9 11 ≡ 1 }
+    ensures met_accepted { accepted (era example.told_by_9) (era_session example.told_by_9) ≡ 1 }
 {}
 
 /// A session worked out by hand: V(R) is 255 at first, frame 0 is lost once and comes twice then, and frame 1 comes too early.

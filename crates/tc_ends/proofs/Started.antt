@@ -1,0 +1,97 @@
+-- From a sender's packets, over the start of an era, to what takes give.
+use Rattle.tc_channel.proofs.Names.{◌≡◌, ℕ, zero, suc, ◌≤◌, List, [], ◌∷◌, ◌++◌, length, map, Some, refl, sym, ap, subst, ◌∙◌, inl, inr, arith, AllByRecursion, first_state_within, queue_of, Queue, run_within, packets_given}
+use Rattle.std.specs.Prelude.{false, true}
+use Rattle.std.proofs.lemmas.List.{length-drop}
+use Rattle.tc_link.specs.declared.frame.Header.{Header}
+use Rattle.tc_channel.specs.Run.{field_of, run}
+use Rattle.tc_channel.specs.ChannelState.{no_limits}
+use Rattle.tc_channel.specs.Journal.{History}
+use Rattle.tc_channel.specs.declared.event.Event.{Event}
+use Rattle.tc_channel.specs.declared.settings.Settings.{Settings}
+use Rattle.tc_channel.specs.Through.{IsPartOf, packets_made, passed_since, released_since, sent_from}
+use Rattle.tc_channel.proofs.Given.{released-within}
+use Rattle.tc_loop.specs.Loop.{Loop, Action, IsLoop, accepted, begun, journal, receiver, sent}
+use Rattle.tc_loop.specs.Start.{Start, IsStart, era, era_session}
+use Rattle.tc_loop.proofs.Counted.{begins, comes, known-so}
+use Rattle.tc_loop.proofs.Given.{passed-on}
+use Rattle.tc_loop.proofs.Started.{is-loop, journal-whole}
+use Rattle.tc_loop.proofs.Onward.{whole}
+use Rattle.tc_ends.specs.Ends.{AreFrom, AreNumbered, CanBeSent, IsChannelOf, NoneByBypass, NoneOnOtherMaps, SendsOnly, UnitSent, is_chosen_map, packets_to, passed_before, units_on}
+use Rattle.tc_ends.proofs.CanSend.{shift}
+use Rattle.tc_ends.proofs.Numbered.{numbered-sends}
+use Rattle.tc_ends.proofs.Segmented.{Makes}
+use Rattle.tc_ends.proofs.Whole.{given-of-sent}
+
+-- the data fields of a sender's frames are those of the list
+fields-of : (frames : ℕ → List ℕ) (list : List (List ℕ)) → AreFrom frames list → sent_from (λ i. field_of (frames i)) 0 (length list) ≡ map field_of list
+fields-of frames [] are = refl
+fields-of frames (f ∷ fs) are =
+    rw (are 0 f refl) (ap (λ (x : List (List ℕ)). field_of f ∷ x) (shift (λ i. field_of (frames i)) 0 (length fs) ∙ fields-of (λ i. frames (suc i)) fs (λ i frame e. are (suc i) frame e)))
+
+-- no more is begun than there are
+begun-within : (session : List Action) (n : ℕ) → SendsOnly n session → (t : ℕ) → begun session t ≤ n
+begun-within session n only zero = omega arith
+begun-within session n only (suc t) = let before = begun-within session n only t in elim (begins session t) [
+  | inl same ↦ omega arith
+  | inr one ↦ let low = only t one.0 one.1 in let e = one.2 in omega arith
+]
+
+-- so no more is released
+released-few : (l : Loop) (session : List Action) (n : ℕ) → IsLoop l session → SendsOnly n session → released_since l.limits l.settings l.before (journal l session) ≤ n
+released-few l session n k only =
+    let so = subst (λ xs. accepted l xs ≤ begun session (length session)) (whole session) (known-so l session (length session) k).among in
+    let most = begun-within session n only (length session) in
+    let all = released-within l.limits l.settings (journal l session) k.lawful in
+    let since = length-drop (length (run_within l.limits l.settings l.before).accepted) (receiver l session).accepted in
+    omega arith
+
+pub packets-of-loop : Makes → (l : Loop) (session : List Action) (header : Header) (units : List UnitSent) (frames : List (List ℕ)) (apid map_id : ℕ) (q : Queue) → IsLoop l session
+    → AllByRecursion (CanBeSent l.limits) units → AreNumbered header units frames → AreFrom l.frames frames → SendsOnly (length frames) session
+    → l.settings.segmented ≡ true → is_chosen_map l.settings map_id ≡ false → NoneOnOtherMaps apid map_id (units_on units) → NoneByBypass l.limits l.settings apid l.before (journal l session)
+    → queue_of apid (receiver l session).queues ≡ Some q
+    → IsPartOf (packets_given l.settings apid (first_state_within l.limits l.settings) (journal l session))
+    (packets_made l.limits l.settings apid (passed_before l.limits l.settings l.before (journal l session)) ++ packets_to apid (units_on units map_id))
+packets-of-loop make l session header units frames apid map_id q k can numbered are only headed free none_other none_bd has =
+    let sends = numbered-sends l.limits header units frames (sent l) can numbered (fields-of l.frames frames are) in
+    given-of-sent make l.limits l.settings (journal l session) l.before _ l.first (sent l) apid (length frames) (units_on units) map_id q k.lawful k.era (comes l session k) headed free sends none_other none_bd
+    (released-few l session (length frames) k only) has
+
+pub packets-of-start : Makes → (s : Start) (header : Header) (units : List UnitSent) (frames : List (List ℕ)) (apid map_id : ℕ) (q : Queue) → IsStart s
+    → AllByRecursion (CanBeSent s.loop.limits) units → AreNumbered header units frames → AreFrom (era s).frames frames → SendsOnly (length frames) (era_session s)
+    → s.loop.settings.segmented ≡ true → is_chosen_map s.loop.settings map_id ≡ false → NoneOnOtherMaps apid map_id (units_on units)
+    → NoneByBypass s.loop.limits s.loop.settings apid (era s).before (journal s.loop s.session) → queue_of apid (receiver s.loop s.session).queues ≡ Some q
+    → IsPartOf (packets_given s.loop.settings apid (first_state_within s.loop.limits s.loop.settings) (journal s.loop s.session))
+    (packets_made s.loop.limits s.loop.settings apid (passed_before s.loop.limits s.loop.settings (era s).before (journal s.loop s.session)) ++ packets_to apid (units_on units map_id))
+packets-of-start make s header units frames apid map_id q k can numbered are only headed free none_other none_bd has =
+    let same = journal-whole s k in
+    subst (λ es. IsPartOf (packets_given s.loop.settings apid (first_state_within s.loop.limits s.loop.settings) es)
+    (packets_made s.loop.limits s.loop.settings apid (passed_before s.loop.limits s.loop.settings (era s).before es) ++ packets_to apid (units_on units map_id))) same
+    (packets-of-loop make (era s) (era_session s) header units frames apid map_id q (is-loop s k) can numbered are only headed free none_other
+    (subst (NoneByBypass s.loop.limits s.loop.settings apid (era s).before) (sym same) none_bd)
+    (subst (λ es. queue_of apid (run_within s.loop.limits s.loop.settings es).queues ≡ Some q) (sym same) has))
+
+-- the same of a channel that a close gives out
+pub passed-of-channel : (l : Loop) (session : List Action) (channel : History) → IsLoop l session → IsChannelOf l session channel
+    → passed_since no_limits channel.settings l.before (run channel.settings channel.journal).passed ≡ sent_from (sent l) 0 (released_since no_limits channel.settings l.before channel.journal)
+passed-of-channel l session channel k is =
+    subst (λ limits. passed_since limits channel.settings l.before (run_within limits channel.settings channel.journal).passed ≡ sent_from (sent l) 0 (released_since limits channel.settings l.before channel.journal)) is.limits
+    (subst (λ (c : Settings). passed_since l.limits c l.before (run_within l.limits c channel.journal).passed ≡ sent_from (sent l) 0 (released_since l.limits c l.before channel.journal)) is.settings
+    (subst (λ (es : List Event). passed_since l.limits l.settings l.before (run_within l.limits l.settings es).passed ≡ sent_from (sent l) 0 (released_since l.limits l.settings l.before es)) is.journal
+    (passed-on l session k)))
+
+abbrev Says : Loop → List UnitSent → ℕ → ℕ → Queue → (ℕ → ℕ) → Settings → List Event → Type 0
+Says l units apid map_id q limits c es = AllByRecursion (CanBeSent limits) units → c.segmented ≡ true → is_chosen_map c map_id ≡ false → NoneByBypass limits c apid l.before es → queue_of apid (run_within limits c es).queues ≡ Some q
+    → IsPartOf (packets_given c apid (first_state_within limits c) es) (packets_made limits c apid (passed_before limits c l.before es) ++ packets_to apid (units_on units map_id))
+
+pub packets-of-channel : Makes → (l : Loop) (session : List Action) (channel : History) (header : Header) (units : List UnitSent) (frames : List (List ℕ)) (apid map_id : ℕ) (q : Queue) → IsLoop l session
+    → IsChannelOf l session channel → AllByRecursion (CanBeSent no_limits) units → AreNumbered header units frames → AreFrom l.frames frames → SendsOnly (length frames) session
+    → channel.settings.segmented ≡ true → is_chosen_map channel.settings map_id ≡ false → NoneOnOtherMaps apid map_id (units_on units) → NoneByBypass no_limits channel.settings apid l.before channel.journal
+    → queue_of apid (run channel.settings channel.journal).queues ≡ Some q
+    → IsPartOf (packets_given channel.settings apid (first_state_within no_limits channel.settings) channel.journal)
+    (packets_made no_limits channel.settings apid (passed_before no_limits channel.settings l.before channel.journal) ++ packets_to apid (units_on units map_id))
+packets-of-channel make l session channel header units frames apid map_id q k is can numbered are only headed free none_other none_bd has =
+    subst (λ limits. Says l units apid map_id q limits channel.settings channel.journal) is.limits
+    (subst (λ (c : Settings). Says l units apid map_id q l.limits c channel.journal) is.settings
+    (subst (λ (es : List Event). Says l units apid map_id q l.limits l.settings es) is.journal
+    (λ a b c d e. packets-of-loop make l session header units frames apid map_id q k a numbered are only b c none_other d e)))
+    can headed free none_bd has

@@ -1,0 +1,214 @@
+-- The starts that were worked out by hand: the trap, and one that meets each premise.
+use Rattle.std.proofs.Common.{◌≡◌, ◌≢◌, ℕ, zero, suc, ◌+◌, ◌%◌, ◌<◌, ◌≤◌, false, [], ◌∷◌, drop, take, Some, refl, subst, ◌⊎◌, inl, inr, arith}
+use Rattle.std.specs.Prelude.{All, AllPairs, slice_get}
+use Rattle.tc_link.specs.Frame.{IsOctets, IsWhole, header_of}
+use Rattle.tc_channel.specs.Era.{NoneSetsWithin}
+use Rattle.tc_channel.specs.Examples as example
+use Rattle.tc_channel.specs.Settings.{IsAllowed}
+use Rattle.tc_channel.specs.declared.settings.MapSetting.{MapSetting}
+use Rattle.tc_channel.specs.declared.settings.QueueSetting.{QueueSetting}
+unfoldable use Rattle.tc_channel.specs.Run.{run_within, passed_on, IsLawfulWithin}
+unfoldable use Rattle.tc_channel.specs.Reply.{clcw_within}
+unfoldable use Rattle.tc_link.specs.Window.{some_of_first}
+use Rattle.tc_channel.specs.declared.event.Event.TheVariants.{Frame}
+use Rattle.tc_loop.specs.Loop.{Action, Send, Arrive, Hear, Other, Idle, accepted, begun, events, journal, known, reported, smallest, IsLoop, IsNumbered, KeepOrder}
+use Rattle.tc_loop.specs.Start.{IsStart, NamesAnother, era, era_before, era_session, known_since, session_before}
+use Rattle.tc_loop.specs.Examples.{around, told_by_9, trap}
+use Rattle.tc_loop.proofs.Begun.{octets}
+use Rattle.tc_loop.proofs.Moments.{so-at}
+
+pub trap-says : reported trap.loop trap.session 0 ≡ 0
+unfolding run_within some_of_first clcw_within
+trap-says = refl
+
+pub trap-known : known_since trap 7 ≡ 1
+unfolding run_within some_of_first clcw_within
+trap-known = refl
+
+pub trap-accepted : accepted (era trap) (era_session trap) ≡ 0
+unfolding run_within some_of_first
+trap-accepted = refl
+
+pub told-known : known_since told_by_9 11 ≡ 1
+unfolding run_within some_of_first clcw_within
+told-known = refl
+
+pub told-accepted : accepted (era told_by_9) (era_session told_by_9) ≡ 1
+unfolding run_within some_of_first
+told-accepted = refl
+
+-- the second one meets each premise
+
+whole-0 : IsWhole (around 9 0)
+whole-0 = record { each = octets 0 0; least = omega arith; most = omega arith; version = refl; spare = refl; named = refl }
+
+octets-1 : IsOctets (around 9 1)
+octets-1 zero = omega arith
+octets-1 (suc zero) = omega arith
+octets-1 (suc (suc zero)) = omega arith
+octets-1 (suc (suc (suc zero))) = omega arith
+octets-1 (suc (suc (suc (suc zero)))) = omega arith
+octets-1 (suc (suc (suc (suc (suc zero))))) = omega arith
+octets-1 (suc (suc (suc (suc (suc (suc zero)))))) = omega arith
+octets-1 (suc (suc (suc (suc (suc (suc (suc zero))))))) = omega arith
+octets-1 (suc (suc (suc (suc (suc (suc (suc (suc n)))))))) = omega arith
+
+whole-1 : IsWhole (around 9 1)
+whole-1 = record { each = octets-1; least = omega arith; most = omega arith; version = refl; spare = refl; named = refl }
+
+whole-2 : (i : ℕ) → IsWhole (around 9 (suc (suc i)))
+whole-2 i = record { each = octets 9 i; least = omega arith; most = omega arith; version = refl; spare = refl; named = refl }
+
+numbered : (i : ℕ) → IsNumbered (era told_by_9) i
+numbered i =
+    let at : suc (suc i) ≡ told_by_9.directive + 1 + i = omega arith in
+    record {
+      whole = subst (λ n. IsWhole (around 9 n)) at (whole-2 i);
+      bypass = subst (λ n. (header_of (around 9 n)).bypass ≡ false) at refl;
+      control = subst (λ n. (header_of (around 9 n)).control ≡ false) at refl;
+      ns = subst (λ n. (header_of (around 9 n)).ns ≡ (9 + i) % 256) at refl;
+    }
+
+lawful : IsLawfulWithin told_by_9.loop.limits told_by_9.loop.settings (journal told_by_9.loop told_by_9.session)
+unfolding IsLawfulWithin some_of_first passed_on
+lawful = ((whole-0, refl), ((whole-1, refl), ((whole-1, refl), ((whole-2 0, refl), tt))))
+
+one-item : {A : Type 0} (P : A → Type 0) (a : A) → P a → All P (a ∷ [])
+one-item P a h zero d within = h
+one-item P a h (suc k) d within = absurd (omega arith)
+
+no-item : {A : Type 0} (P : A → Type 0) → All P []
+no-item P k d within = absurd (omega arith)
+
+one-apart : {A : Type 0} (R : A → A → Type 0) (a : A) → AllPairs R (a ∷ [])
+one-apart R a i zero d before within = absurd (omega arith)
+one-apart R a i (suc j) d before within = absurd (omega arith)
+
+none-apart : {A : Type 0} (R : A → A → Type 0) → AllPairs R []
+none-apart R i j d before within = absurd (omega arith)
+
+pub allowed-2 : IsAllowed (example.buffer_of 2)
+allowed-2 = record {
+  vcid = omega arith;
+  width = record { least = omega arith; most = omega arith; even = refl };
+  buffer = (omega arith, omega arith);
+  first = omega arith;
+  apids = one-item (λ (q : QueueSetting). q.apid ≤ 2046) (record { apid = 5; capacity = 1 }) (omega arith);
+  apart = one-apart (λ (p q : QueueSetting). p.apid ≢ q.apid) (record { apid = 5; capacity = 1 });
+  capacities = one-item (λ (q : QueueSetting). (1 ≤ q.capacity) × (q.capacity ≤ 256)) (record { apid = 5; capacity = 1 }) (omega arith, omega arith);
+  maps = no-item (λ (m : MapSetting). m.map ≤ 63);
+  maps_apart = none-apart (λ (m n : MapSetting). m.map ≢ n.map);
+  unit_capacities = no-item (λ (m : MapSetting). (1 ≤ m.capacity) × (m.capacity ≤ 256));
+  by_headers = λ plain. absurd cc;
+}
+
+-- what happens at each moment
+abbrev IsAt : ℕ → Action → Type 0
+IsAt t (Send j) = ((t ≡ 0) × (j ≡ 0)) ⊎ (((t ≡ 2) × (j ≡ 1)) ⊎ ((t ≡ 7) × (j ≡ 2)))
+IsAt t (Arrive j s) = ((t ≡ 1) × (j ≡ 0) × (s ≡ 0)) ⊎ (((t ≡ 4) × (j ≡ 1) × (s ≡ 2)) ⊎ (((t ≡ 8) × (j ≡ 1) × (s ≡ 2)) ⊎ ((t ≡ 9) × (j ≡ 2) × (s ≡ 7))))
+IsAt t (Hear m) = ((t ≡ 3) × (m ≡ 0)) ⊎ (((t ≡ 5) × (m ≡ 2)) ⊎ (((t ≡ 6) × (m ≡ 5)) ⊎ ((t ≡ 10) × (m ≡ 10))))
+IsAt t (Other e) = ⊥
+IsAt t Idle = ⊥
+
+at : (t : ℕ) (a : Action) → slice_get told_by_9.session t ≡ Some a → IsAt t a
+at t a e = so-at IsAt told_by_9.session t a
+    (inl (refl, refl), (inl (refl, refl, refl), (inr (inl (refl, refl)), (inl (refl, refl), (inr (inl (refl, refl, refl)), (inr (inl (refl, refl)), (inr (inr (inl (refl, refl))), (inr (inr (refl, refl)), (inr (inr (inl (refl, refl, refl))), (inr (inr (inr (refl, refl, refl))), (inr (inr (inr (refl, refl))), tt)))))))))))
+    e
+
+in-order : KeepOrder told_by_9.session
+in-order = record {
+  arrives = λ t i s e. arrived t i s (at t (Arrive i s) e);
+  hears = λ t m e. let p = at t (Hear m) e in grind arith;
+  frames_in_order = λ t u i j s r order e f. let p = at t (Arrive i s) e in let q = at u (Arrive j r) f in grind arith;
+  reports_in_order = λ t u m n order e f. let p = at t (Hear m) e in let q = at u (Hear n) f in grind arith;
+} where
+  arrived : (t i s : ℕ) → IsAt t (Arrive i s) → (s < t) × (slice_get told_by_9.session s ≡ Some (Send i))
+  arrived t i s (inl p) = rw (p.0, p.1, p.2) (omega arith, refl)
+  arrived t i s (inr (inl p)) = rw (p.0, p.1, p.2) (omega arith, refl)
+  arrived t i s (inr (inr (inl p))) = rw (p.0, p.1, p.2) (omega arith, refl)
+  arrived t i s (inr (inr (inr p))) = rw (p.0, p.1, p.2) (omega arith, refl)
+
+last : NoneSetsWithin told_by_9.loop.limits told_by_9.loop.settings (journal told_by_9.loop (take 9 told_by_9.session)) (events told_by_9.loop (drop 9 told_by_9.session))
+unfolding run_within some_of_first
+last zero e h = let q : Frame (around 9 2) ≡ e = cc in rw (← q) refl
+last (suc i) e h = absurd cc
+
+sends : (t i : ℕ) → IsAt t (Send (1 + 1 + i)) → (6 < t) × (known_since told_by_9 t ≤ i) × (i < known_since told_by_9 t + 5)
+unfolding run_within some_of_first clcw_within
+sends t i (inl p) = let q = p.1 in absurd (omega arith)
+sends t i (inr (inl p)) = let q = p.1 in absurd (omega arith)
+sends t i (inr (inr p)) = let q = p.1 in let none : i ≡ 0 = omega arith in rw (p.0, none) (omega arith, omega arith, omega arith)
+
+pub each-premise : IsStart told_by_9
+unfolding run_within some_of_first clcw_within
+each-premise = record {
+  window = omega arith;
+  directive = refl;
+  numbered = numbered;
+  allowed = allowed-2;
+  lawful = lawful;
+  obeyed = (2, refl, refl);
+  again = (omega arith, (2, refl, refl));
+  last = last;
+  believes = (5, refl, omega arith);
+  stops = λ t u j e low f. let p = at t (Send j) e in let q = at u (Send 1) f in grind arith;
+  asks = λ t e. let p = at t (Send 1) e in grind arith;
+  sends = λ t i e. sends t i (at t (Send (told_by_9.directive + 1 + i)) e);
+  links = in-order;
+  others = λ t e h. absurd (at t (Other e) h);
+}
+
+-- the time before was a loop, of which no CLCW can say 9
+
+abbrev IsBefore : ℕ → Action → Type 0
+IsBefore t (Send i) = (t ≡ 0) × (i ≡ 0)
+IsBefore t (Arrive i s) = (t ≡ 1) × (i ≡ 0) × (s ≡ 0)
+IsBefore t (Hear m) = (t ≡ 3) × (m ≡ 0)
+IsBefore t (Other e) = ⊥
+IsBefore t Idle = Unit {0}
+
+at-before : (t : ℕ) (a : Action) → slice_get (session_before told_by_9) t ≡ Some a → IsBefore t a
+at-before t a e = so-at IsBefore (session_before told_by_9) t a ((refl, refl), ((refl, refl, refl), (tt, ((refl, refl), tt)))) e
+
+before-in-order : KeepOrder (session_before told_by_9)
+before-in-order = record {
+  arrives = λ t i s e. let p = at-before t (Arrive i s) e in rw (p.0, p.1, p.2) (omega arith, refl);
+  hears = λ t m e. let p = at-before t (Hear m) e in grind arith;
+  frames_in_order = λ t u i j s r order e f. let p = at-before t (Arrive i s) e in let q = at-before u (Arrive j r) f in grind arith;
+  reports_in_order = λ t u m n order e f. let p = at-before t (Hear m) e in let q = at-before u (Hear n) f in grind arith;
+}
+
+before-numbered : (i : ℕ) → IsNumbered (era_before told_by_9 0 5 (smallest 0)) i
+before-numbered i = record { whole = record { each = octets 0 i; least = omega arith; most = omega arith; version = refl; spare = refl; named = refl }; bypass = refl; control = refl; ns = refl }
+
+before-sends : (t i : ℕ) → IsBefore t (Send i) → (known (era_before told_by_9 0 5 (smallest 0)) (session_before told_by_9) t ≤ i) × (i < known (era_before told_by_9 0 5 (smallest 0)) (session_before told_by_9) t + 5)
+before-sends t i p = rw (p.0, p.1) (omega arith, omega arith)
+
+before-lawful : IsLawfulWithin told_by_9.loop.limits told_by_9.loop.settings (Frame (smallest 0 0) ∷ [])
+unfolding IsLawfulWithin some_of_first
+before-lawful = ((whole-0, refl), tt)
+
+before-last : NoneSetsWithin told_by_9.loop.limits told_by_9.loop.settings [] (Frame (smallest 0 0) ∷ [])
+unfolding run_within some_of_first
+before-last zero e h = let q : Frame (smallest 0 0) ≡ e = cc in rw (← q) refl
+before-last (suc i) e h = absurd cc
+
+pub before-loop : IsLoop (era_before told_by_9 0 5 (smallest 0)) (session_before told_by_9)
+before-loop = record {
+  window = omega arith;
+  numbered = before-numbered;
+  allowed = allowed-2;
+  lawful = before-lawful;
+  era = record { parts = refl; starts = inl (refl, refl); last = before-last };
+  possible = record {
+    sends = λ t i e. before-sends t i (at-before t (Send i) e);
+    links = before-in-order;
+    others = λ t e h. absurd (at-before t (Other e) h);
+  };
+}
+
+pub another : NamesAnother told_by_9 0 5 (smallest 0) 2
+another a low high e = let one : begun (session_before told_by_9) 4 ≡ 1 = refl in absurd (omega arith)
+
+pub trap-not-another : NamesAnother trap 0 5 (smallest 0) 2 → ⊥
+trap-not-another another = another 0 (omega arith) (omega arith) refl
