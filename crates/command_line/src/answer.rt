@@ -10,6 +10,7 @@ use clap::Error;
 use clap::error::ErrorKind;
 use std::env::Env;
 use std::process::ExitCode;
+use strsim::{jaro, osa_distance};
 
 /// The exit status of a bad command line.
 pub(crate) const BAD_COMMAND_LINE: u8 = 2;
@@ -32,13 +33,21 @@ pub(crate) fn words_of<R: Env + AllocGlobal + Eprint>(
 
 /// Prints help, the version, or why the words are refused, and gives the exit status. What can't be written to standard output is
 /// told on standard error.
-pub(crate) fn print<R: Print + Eprint>(rt: &R, program: &Program, answer: &Error) -> ExitCode
+pub(crate) fn print<R: AllocGlobal + Print + Eprint>(
+    rt: &R,
+    program: &Program,
+    words: &[String],
+    answer: &Error,
+) -> ExitCode
     ensures { exit_status result ≤ 2 }
 {
     let printed = answer.print(rt);
     if answer.use_stderr() {
         if !program.commands.is_empty() && answer.kind() == ErrorKind::UnknownArgument {
             let _ = eprintln!(rt; "{INPUT}");
+        }
+        if answer.kind() == ErrorKind::InvalidSubcommand {
+            suggest(rt, program, words);
         }
         return ExitCode::from(BAD_COMMAND_LINE);
     }
@@ -47,6 +56,24 @@ pub(crate) fn print<R: Print + Eprint>(rt: &R, program: &Program, answer: &Error
         Err(_) => {
             let _ = eprintln!(rt; "{}: cannot write", program.name);
             ExitCode::FAILURE
+        }
+    }
+}
+
+// How many slips a word may have that was meant to be a command, and up to which likeness of the two the table of words names none.
+const SLIPS: usize = 2;
+const UNALIKE: f64 = 0.7;
+
+// Names the command that the first word was perhaps meant to be, where the table of words hasn't.
+fn suggest<R: AllocGlobal + Eprint>(rt: &R, program: &Program, words: &[String]) {
+    let Some(word) = words.get(1) else {
+        return;
+    };
+    for (name, _about) in program.commands {
+        let slips = osa_distance(rt.alloc(), word, name).unwrap_or(usize::MAX);
+        let likeness = jaro(rt.alloc(), word, name).unwrap_or(1.0);
+        if slips <= SLIPS && likeness <= UNALIKE {
+            let _ = eprintln!(rt; "{}: perhaps {name} is meant", program.name);
         }
     }
 }

@@ -55,7 +55,7 @@ pub(crate) fn ask<R: Env + AllocGlobal + Print + Eprint>(
     let words = words_of(rt, program.name)?;
     match judge(rt.alloc(), program, words.as_slice()) {
         Ok(asked) => Ok(asked),
-        Err(answer) => Err(print(rt, program, &answer)),
+        Err(answer) => Err(print(rt, program, words.as_slice(), &answer)),
     }
 }
 
