@@ -34,10 +34,10 @@ carried r octets frame rest found e = (
 pub passed-done : (old new : Receiving) (check : FrameCheck) (scid : ℕ) (stage : Stage Racked) (octets shown : List ℕ) (r : Bool) (o : Option Line) (passed : Line) (answer : LiveAnswer)
     → ◌≡◌ {A = Receiving} (record { check = check; scid = scid; stage = stage }) old → shown ≡ octets → IsTrue r ↔ CarriesMore shown → r ≡ false
     → MatchOption o (FailsCandidate check octets) (IsCandidatePassed check octets) → o ≡ Some passed → IsPassedDone old passed new answer → IsCandidateDone old octets new answer
-passed-done old new check scid stage octets shown r o passed answer view same carries no passes is done =
+passed-done old new check scid stage octets shown r o passed answer view same carries less passes is done =
     let passing : IsCandidatePassed check octets passed = subst (λ (x : Option Line). MatchOption x (FailsCandidate check octets) (IsCandidatePassed check octets)) is passes in
     let own : IsCandidatePassed old.check octets passed = subst (λ (x : FrameCheck). IsCandidatePassed x octets passed) (ap (λ (x : Receiving). x.check) view) passing in
-    inr (λ more. true≢false (sym (carries.1 (subst CarriesMore (sym same) more)) ∙ no), inl (passed, own, done))
+    inr (λ more. true≢false (sym (carries.1 (subst CarriesMore (sym same) more)) ∙ less), inl (passed, own, done))
 
 pub passed-bad : (old : Receiving) (check : FrameCheck) (scid : ℕ) (stage : Stage Racked) (octets : List ℕ) (o : Option Line) (passed : Line) (reason : Reason) (NoMemory : Type 0)
     → ◌≡◌ {A = Receiving} (record { check = check; scid = scid; stage = stage }) old

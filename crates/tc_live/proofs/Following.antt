@@ -29,9 +29,9 @@ line-ready old new (Collect vcid) answer ((Release v delivery, asked, is, become
 line-ready old new (Collect vcid) answer ((Take v apid packet, asked, is, becomes), operates) = rw is operates.1
 line-ready old new (Collect vcid) answer ((UnitOf v map_id unit, asked, is, becomes), operates) = rw is operates.1
 line-ready old new (Candidate octets) answer (inl (more, is, same)) = rw is tt
-line-ready old new (Candidate octets) answer (inr (no, inl (passed, passes, ((None, answered, is, same), done)))) = rw is tt
-line-ready old new (Candidate octets) answer (inr (no, inl (passed, passes, ((Some a, answered, is, same), done)))) = rw is tt
-line-ready old new (Candidate octets) answer (inr (no, inr (fails, is, same))) = rw is tt
+line-ready old new (Candidate octets) answer (inr (less, inl (passed, passes, ((None, answered, is, same), done)))) = rw is tt
+line-ready old new (Candidate octets) answer (inr (less, inl (passed, passes, ((Some a, answered, is, same), done)))) = rw is tt
+line-ready old new (Candidate octets) answer (inr (less, inr (fails, is, same))) = rw is tt
 
 pub ready : (old new : Receiving) (octets : List ℕ) (answer : LiveAnswer) → IsLiveLineAnswered old octets new answer → IsReady answer new
 ready old new octets answer (said, is, done) = line-ready old new said answer done

@@ -1,4 +1,4 @@
-use Rattle.std.proofs.Common.{◌≡◌, ◌⊎◌, sym}
+use Rattle.std.proofs.Common.{◌≡◌, ◌⊎◌}
 use Rattle.std.proofs.lemmas.Result.{IfErr-weaker, IfOk-weaker}
 use Rattle.tc_text.specs.declared.fault.Reason.TheVariants.{NoMemory}
 use Rattle.tc_setup.specs.Instruction.{instruction_of}
@@ -14,7 +14,7 @@ returns-in-Some-clause-answer c =
     IfOk-weaker c.perform_passed.result (λ answer. IsPassedDone c.args.self.now c.in-Some.passed c.perform_passed.new.self answer)
     (λ answer. IsCandidateDone c.args.self.now c.args.octets c.perform_passed.new.self answer)
     (λ answer done. passed-done c.args.self.now c.perform_passed.new.self i.check i.scid i.stage c.args.octets c.as_slice.result.now c.carries_more.result c.in_ok-passed.field-0 c.in-Some.passed answer
-    c.self.view_is c.as_slice.ensures c.carries_more.ensures (sym c.if-carries_more.false) c.in_ok-passed.ensures.passed c.in-Some.is done)
+    c.self.view_is c.as_slice.ensures c.carries_more.ensures c.if-carries_more.false c.in_ok-passed.ensures.passed c.in-Some.is done)
     c.perform_passed.ensures.answer
 
 pub returns-in-Some-clause-reason : goal.returns-in-Some-clause-reason
