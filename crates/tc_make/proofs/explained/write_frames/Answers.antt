@@ -11,7 +11,7 @@ loop-preserved g c = frame-found _ _ _ _ _ _ _ _ c.loop.invariant c.in-Ok.ensure
 pub returns-in-Err : goal.returns-in-Err
 returns-in-Err g c =
     on_ok_weaker c.write_rest.result
-    (all-found c.args.octets.now c.loop.rest.now c.args.most c.loop.counter _ _ _ c.loop.invariant (grind arith) (inr (is-fault c.loop.rest.now c.in-Err.fault c.in-Err.ensures.fault)))
+    (all-found c.args.octets.now c.loop.rest.now c.args.most c.loop.counter _ _ _ c.loop.invariant (grind arith) (inr (is-fault c.loop.rest.now _ c.in-Err.ensures.fault)))
     c.write_rest.ensures
 
 pub returns : goal.returns
