@@ -62,6 +62,7 @@ pub(crate) fn print<R: AllocGlobal + Print + Eprint>(
 
 // How many slips a word may have that was meant to be a command, and up to which likeness of the two the table of words names none.
 const SLIPS: usize = 2;
+
 const UNALIKE: f64 = 0.7;
 
 // Names the command that the first word was perhaps meant to be, where the table of words hasn't.
