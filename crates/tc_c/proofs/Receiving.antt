@@ -1,11 +1,13 @@
 -- A decoder whose octets are in a buffer, from one octet to the next.
-use Rattle.std.proofs.Common.{◌≡◌, ℕ, ◌+◌, ◌<◌, ◌≤◌, false, List, ◌∷◌, [], ◌++◌, Option, Some, length, take, drop, set, ap, ◌∙◌, arith, append_assoc, length-append}
+use Rattle.std.proofs.Common.{◌≡◌, ℕ, ◌+◌, ◌<◌, ◌≤◌, false, List, ◌∷◌, [], ◌++◌, Option, Some, length, get_or, take, drop, set, refl, ap, sym, ◌∙◌, arith, append_assoc, length-append}
 use lib.Dec.{ltb}
 use Rattle.std.proofs.lemmas.Bool.{le-ltb, lt-ltb}
-use Rattle.std.proofs.lemmas.List.{length-drop, length-take-le, take-set-le, drop-set-add, take_more_set, take_at}
+use Rattle.std.proofs.lemmas.List.{length-drop, length-take-le, take-set-le, drop-set-add, take_more_set, take_at, take-append-drop, take-take, drop-take}
 use Rattle.tc_cltu.specs.declared.block.Mode.{Mode}
 use Rattle.tc_cltu.specs.CodeBlock.{decoded}
-use Rattle.tc_cltu.specs.Reception.{reception_step, after_block, fate_after, fate_of}
+use Rattle.tc_cltu.specs.Reception.{Reception, Decoding, reception_step, after_block, fate_after, fate_of, state_after, frames_of, counted_in}
+use Rattle.tc_cltu.specs.declared.block.Fate.{Fate}
+use Rattle.tc_cltu.proofs.Decoding.{state-append, frames-append, counted-append}
 use Rattle.tc_c.specs.declared.decoder.DecoderRecord.{DecoderRecord}
 use Rattle.tc_c.specs.Decoder.{reception_of}
 
@@ -57,3 +59,40 @@ taken-state d n f x rest information o on fits room seven is next whole =
     let small = le-ltb 1029 (length (take d.held f) + 7) (omega arith) in
     let cut = take_at (take d.held f ++ information) rest (d.held + 7) (omega arith) in
     rw (next, on, is, small, whole, ← append_assoc (take d.held f) information rest, cut)
+
+-- ---- some octets more
+both : (i n : ℕ) (os : List ℕ) → take (i + n) os ≡ take i os ++ take n (drop i os)
+both i n os = sym (take-append-drop i (take (i + n) os)) ∙ rw (take-take i (i + n) os (omega arith), drop-take i n os) refl
+
+pub state-more : (mode : Mode) (room i n : ℕ) (os : List ℕ) (first state next : Reception) → state ≡ state_after mode room first (take i os)
+    → next ≡ state_after mode room state (take n (drop i os)) → next ≡ state_after mode room first (take (i + n) os)
+state-more mode room i n os first state next at is =
+    is ∙ ap (λ (s : Reception). state_after mode room s (take n (drop i os))) at ∙ sym (state-append mode room (take i os) (take n (drop i os)) first)
+    ∙ sym (ap (state_after mode room first) (both i n os))
+
+pub frames-more : (mode : Mode) (room i n : ℕ) (os : List ℕ) (first state : Reception) (more : List (List ℕ)) → state ≡ state_after mode room first (take i os)
+    → frames_of mode room first (take i os) ≡ [] → more ≡ frames_of mode room state (take n (drop i os)) → more ≡ frames_of mode room first (take (i + n) os)
+frames-more mode room i n os first state more at none is =
+    is ∙ ap (λ (s : Reception). frames_of mode room s (take n (drop i os))) at
+    ∙ sym (ap (λ (x : List (List ℕ)). x ++ frames_of mode room (state_after mode room first (take i os)) (take n (drop i os))) none)
+    ∙ sym (frames-append mode room (take i os) (take n (drop i os)) first) ∙ sym (ap (frames_of mode room first) (both i n os))
+
+pub counted-more : (count : Option Fate → ℕ) (mode : Mode) (room i n k m : ℕ) (os : List ℕ) (first state : Reception) → state ≡ state_after mode room first (take i os)
+    → k ≡ counted_in count mode room state (take n (drop i os)) → m ≡ counted_in count mode room first (take i os) → m + k ≡ counted_in count mode room first (take (i + n) os)
+counted-more count mode room i n k m os first state at now h =
+    let all = ap (counted_in count mode room first) (both i n os) ∙ counted-append count mode room (take i os) (take n (drop i os)) first in
+    let more : k ≡ counted_in count mode room (state_after mode room first (take i os)) (take n (drop i os)) = now ∙ ap (λ (s : Reception). counted_in count mode room s (take n (drop i os))) at in
+    omega (arith, all, more, h)
+
+-- ---- the first octets
+pub first-one : (os : List ℕ) → 0 < length os → take 1 os ≡ get_or os 0 0 ∷ []
+first-one [] some = absurd (omega arith)
+first-one (o ∷ os) some = refl
+
+-- nothing ends before the last octet of a code block
+pub block-quiet : (mode : Mode) (room : ℕ) (frame os : List ℕ) → 8 ≤ length os → frames_of mode room (Decoding frame []) (take 7 os) ≡ []
+block-quiet mode room frame (a ∷ b ∷ c ∷ d ∷ e ∷ f ∷ g ∷ h ∷ os) some = refl
+block-quiet mode room frame _ some = absurd (omega arith)
+
+pub begins : (d : DecoderRecord) (f : List ℕ) → d.decoding ≡ 1 → d.count ≡ 0 → reception_of d f ≡ Decoding (take d.held f) []
+begins d f on none = rw (on, none) refl

@@ -1,8 +1,9 @@
 //! The receiving end of CLTUs, as a record of numbers that the caller keeps, and a buffer of the caller's.
 
-ghost use Rattle.std.specs.Prelude.{◌≡◌, ◌<◌, ◌≤◌, ◌+◌, ◌-◌, ◌∷◌, [], Ok, Err, Some, length, take, drop, IfOk, IfErr, MatchResult, if◌then◌else◌};
+ghost use Rattle.std.specs.Prelude.{◌≡◌, ◌<◌, ◌≤◌, ◌+◌, ◌-◌, ◌∷◌, [], ℕ, Option, Ok, Err, Some, None, length, take, IfOk, IfErr, MatchResult, if◌then◌else◌};
 ghost use Rattle.tc_cltu.specs.Cltu.{most_octets};
-ghost use Rattle.tc_cltu.specs.Reception.{is_start, reception_step, state_after, frames_of, fate_of, fate_after, after_block, corrected_in, rejected_in, overlong_in};
+ghost use Rattle.tc_cltu.specs.Reception.{is_start, reception_step, state_after, frames_of, fate_of, fate_after, after_block, counted_in, corrected_in, rejected_in, overlong_in};
+ghost use Rattle.tc_cltu.specs.declared.block.Fate.{Fate};
 ghost use Rattle.tc_cltu.specs.CodeBlock.{decoded};
 ghost use Rattle.tc_c.specs.Status.{code_of};
 ghost use Rattle.tc_c.specs.Decoder.{decoder_room, decoder_given, reception_of, given_by, none_taken, searching};
@@ -140,23 +141,23 @@ fn take_octets(mode: Mode, decoder: DecoderRecord, octets: &[u8], frame: &mut [u
     ensures overlong { result.overlong ≡ overlong_in mode most_octets (reception_of decoder frame.old) (take result.taken octets.now) }
 {
     let mut now = decoder;
-    let mut taken = 0u64;
+    let mut taken = 0usize;
     let mut counts = Blocks {
         corrected: 0,
         rejected: 0,
         overlong: 0,
     };
-    for octet in octets {
-        let next = take_octet(mode, now, *octet, frame);
+    while taken < octets.len() {
+        let (next, count) = take_front(mode, now, &octets[taken..], frame);
         now = next.decoder;
-        taken += 1;
+        taken += count;
         counts.count(next.fate);
         if next.ended {
             return DecodedRecord {
                 status: code(Status::Done),
                 decoder: now,
                 ended: 1,
-                taken,
+                taken: taken as u64,
                 corrected: counts.corrected,
                 rejected: counts.rejected,
                 overlong: counts.overlong,
@@ -167,22 +168,49 @@ fn take_octets(mode: Mode, decoder: DecoderRecord, octets: &[u8], frame: &mut [u
         status: code(Status::Done),
         decoder: now,
         ended: 0,
-        taken,
+        taken: taken as u64,
         corrected: counts.corrected,
         rejected: counts.rejected,
         overlong: counts.overlong,
     }
 }
 
-// What an octet came to.
+// What an octet came to, or eight.
 #[derive(Clone, Copy)]
 struct Taken {
-    // after the octet
+    // after them
     decoder: DecoderRecord,
     // what became of the code block that it ended
     fate: Option<Fate>,
     // whether it ended a candidate frame
     ended: bool,
+}
+
+// After the first octets, and how many these are: eight, where a code block begins with them and all of it is there, and else one.
+fn take_front(mode: Mode, decoder: DecoderRecord, octets: &[u8], frame: &mut [u8]) -> (Taken, usize)
+    requires some { 0 < length octets.now }
+    requires count { decoder.count < 8 }
+    requires held { decoder.held ≤ most_octets }
+    requires decoding { decoder.decoding < 2 }
+    requires room { decoder_room ≤ length frame.old }
+    ensures mode { result.0.decoder.correct ≡ decoder.correct }
+    ensures count { result.0.decoder.count < 8 }
+    ensures held { result.0.decoder.held ≤ most_octets }
+    ensures decoding { result.0.decoder.decoding < 2 }
+    ensures length { length frame.new ≡ length frame.old }
+    ensures some { 0 < result.1 }
+    ensures within { result.1 ≤ length octets.now }
+    ensures state { reception_of result.0.decoder frame.new ≡ state_after mode most_octets (reception_of decoder frame.old) (take result.1 octets.now) }
+    ensures given { (if result.0.ended then take result.0.decoder.held frame.new ∷ [] else []) ≡ frames_of mode most_octets (reception_of decoder frame.old) (take result.1 octets.now) }
+    ensures before { frames_of mode most_octets (reception_of decoder frame.old) (take (result.1 - 1) octets.now) ≡ [] }
+    ensures fates { (count : Option Fate → ℕ) → count None ≡ 0 → count result.0.fate ≡ counted_in count mode most_octets (reception_of decoder frame.old) (take result.1 octets.now) }
+{
+    if decoder.decoding == 1 && decoder.count == 0 {
+        if let Some(block) = octets.first_chunk::<8>() {
+            return (end_block(mode, decoder, *block, frame), 8);
+        }
+    }
+    (take_octet(mode, decoder, octets[0], frame), 1)
 }
 
 // After an octet.
@@ -209,7 +237,10 @@ fn take_octet(mode: Mode, decoder: DecoderRecord, octet: u8, frame: &mut [u8]) -
     }
     frame[usize::from(decoder.held) + usize::from(decoder.count)] = octet;
     if decoder.count == 7 {
-        return end_block(mode, decoder, frame);
+        let mut block = [0; 8];
+        let held = usize::from(decoder.held);
+        block.copy_from_slice(&frame[held..held + 8]);
+        return end_block(mode, decoder, block, frame);
     }
     Taken {
         decoder: DecoderRecord {
@@ -259,8 +290,8 @@ fn search(mode: Mode, decoder: DecoderRecord, octet: u8) -> DecoderRecord
     }
 }
 
-// After the last octet of a code block, which stands behind what is held.
-fn end_block(mode: Mode, decoder: DecoderRecord, frame: &mut [u8]) -> Taken
+// After the last octet of a code block.
+fn end_block(mode: Mode, decoder: DecoderRecord, block: [u8; 8], frame: &mut [u8]) -> Taken
     requires decoding { decoder.decoding ≡ 1 }
     requires held { decoder.held ≤ most_octets }
     requires room { decoder_room ≤ length frame.old }
@@ -269,15 +300,11 @@ fn end_block(mode: Mode, decoder: DecoderRecord, frame: &mut [u8]) -> Taken
     ensures held { result.decoder.held ≤ most_octets }
     ensures decoding { result.decoder.decoding < 2 }
     ensures length { length frame.new ≡ length frame.old }
-    ensures state { reception_of result.decoder frame.new ≡ (after_block most_octets (take decoder.held frame.old) (decoded mode (take 8 (drop decoder.held frame.old)))).0 }
-    ensures given { (if result.ended then take result.decoder.held frame.new ∷ [] else []) ≡ (after_block most_octets (take decoder.held frame.old) (decoded mode (take 8 (drop decoder.held frame.old)))).1 }
-    ensures fate { result.fate ≡ Some (fate_after mode most_octets (take decoder.held frame.old) (take 8 (drop decoder.held frame.old))) }
+    ensures state { reception_of result.decoder frame.new ≡ (after_block most_octets (take decoder.held frame.old) (decoded mode block)).0 }
+    ensures given { (if result.ended then take result.decoder.held frame.new ∷ [] else []) ≡ (after_block most_octets (take decoder.held frame.old) (decoded mode block)).1 }
+    ensures fate { result.fate ≡ Some (fate_after mode most_octets (take decoder.held frame.old) block) }
 {
     let held = usize::from(decoder.held);
-    let (_, rest) = frame.split_at_mut(held);
-    let (place, _) = rest.split_at_mut(8);
-    let mut block = [0; 8];
-    block.copy_from_slice(place);
     let Judged { fate, information } = judge(block, mode);
     let searching = DecoderRecord {
         decoding: 0,
@@ -299,7 +326,8 @@ fn end_block(mode: Mode, decoder: DecoderRecord, frame: &mut [u8]) -> Taken
                     ended: false,
                 };
             }
-            let (carried, _) = place.split_at_mut(7);
+            let (_, rest) = frame.split_at_mut(held);
+            let (carried, _) = rest.split_at_mut(7);
             carried.copy_from_slice(&information);
             Taken {
                 decoder: DecoderRecord {

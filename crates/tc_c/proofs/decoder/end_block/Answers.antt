@@ -1,4 +1,4 @@
-use Rattle.std.proofs.Common.{◌≡◌, ℕ, ◌+◌, ◌++◌, List, take, drop, length, Some, refl, ap, ◌∙◌, append_assoc, arith}
+use Rattle.std.proofs.Common.{◌≡◌, ◌+◌, ◌++◌, take, length, Some, refl, ◌∙◌, arith}
 use Rattle.tc_cltu.specs.CodeBlock.{decoded}
 use Rattle.tc_c.proofs.Receiving.{taken-state}
 use Rattle.tc_c.proofs.decoder.end_block.Goals as goal
@@ -7,11 +7,8 @@ pub returns-else-held-gt-MOST_OCTETS-clause-state : goal.returns-else-held-gt-MO
 returns-else-held-gt-MOST_OCTETS-clause-state c =
     let d = c.args.decoder in let f = c.args.frame.now in
     let held = c.requires.held in let room = c.requires.room in let fits = c.if-held-gt-MOST_OCTETS.false in let h = c.from-held.ensures in
-    let front = c.split_at_mut-rest.result.0.now in let block = c.copy_from_slice-in-Some.new.self in
-    let one = c.split_at_mut-carried.result.1.now in let other = c.split_at_mut-place.result.1.now in
-    let is : decoded c.args.mode (take 8 (drop d.held f)) ≡ Some c.in-Some.information = grind arith in
+    let front = c.split_at_mut-rest.result.0.now in let carried = c.copy_from_slice.new.self in let other = c.split_at_mut-carried.result.1.now in
+    let is : decoded c.args.mode c.args.block ≡ Some c.in-Some.information = grind arith in
     let seven : length c.in-Some.information ≡ 7 = grind arith in
-    let parts : front ++ (block ++ (one ++ other)) ≡ take d.held f ++ (c.in-Some.information ++ (one ++ other)) = grind arith in
-    let whole : front ++ (block ++ one ++ other) ≡ take d.held f ++ (c.in-Some.information ++ (one ++ other)) = ap (λ (x : List ℕ). front ++ x) (append_assoc block one other) ∙ parts in
-    taken-state d (record d { count = 0; held = d.held + 7 }) f (front ++ (block ++ one ++ other)) (one ++ other) c.in-Some.information
-    (decoded c.args.mode (take 8 (drop d.held f))) c.requires.decoding (omega arith) (omega arith) seven is refl whole
+    let whole : front ++ (carried ++ other) ≡ take d.held f ++ (c.in-Some.information ++ other) = grind arith in
+    taken-state d (record d { count = 0; held = d.held + 7 }) f (front ++ (carried ++ other)) other c.in-Some.information (decoded c.args.mode c.args.block) c.requires.decoding (omega arith) (omega arith) seven is refl whole

@@ -1,6 +1,7 @@
-use Rattle.std.proofs.Common.{◌≡◌, ℕ, ◌+◌, set, refl, ap, sym, ◌∙◌, arith, rules}
+use Rattle.std.proofs.Common.{◌≡◌, ℕ, ◌+◌, List, Some, set, take, drop, refl, ap, sym, ◌∙◌, arith, rules}
 use Rattle.std.proofs.lemmas.Grind.{common_steps}
-use Rattle.tc_cltu.specs.Reception.{Step}
+use Rattle.tc_cltu.specs.CodeBlock.{decoded}
+use Rattle.tc_cltu.specs.Reception.{Step, after_block, fate_after}
 use Rattle.tc_c.proofs.Receiving.{more-state, last-state, last-fate}
 use Rattle.tc_c.proofs.decoder.take_octet.Goals as goal
 
@@ -13,16 +14,18 @@ returns-then-decoder-eq7 c =
     let h = c.from.ensures in let k = c.from-2.ensures in
     let place : c.from.result + c.from-2.result ≡ d.held + d.count = omega arith in
     let written = ap (λ (n : ℕ). set f n o) place in
-    let now = last-state c.args.mode o d f (set f (c.from.result + c.from-2.result) o) on last (omega arith) written in
+    let g = set f (c.from.result + c.from-2.result) o in
+    let now = last-state c.args.mode o d f g on last (omega arith) written in
+    let block : c.copy_from_slice.new.self ≡ take 8 (drop d.held g) = grind arith in
     record {
       mode = first_of (search rules, grind (arith, common_steps));
       count = first_of (search rules, grind (arith, common_steps));
       held = first_of (search rules, grind (arith, common_steps));
       decoding = first_of (search rules, grind (arith, common_steps));
       length = first_of (search rules, grind (arith, common_steps));
-      state = c.end_block.ensures.state ∙ sym (ap (λ (s : Step). s.0) now);
-      given = c.end_block.ensures.given ∙ sym (ap (λ (s : Step). s.1) now);
-      fate = c.end_block.ensures.fate ∙ sym (last-fate c.args.mode o d f (set f (c.from.result + c.from-2.result) o) on last (omega arith) written);
+      state = c.end_block.ensures.state ∙ ap (λ (b : List ℕ). (after_block 1029 (take d.held g) (decoded c.args.mode b)).0) block ∙ sym (ap (λ (s : Step). s.0) now);
+      given = c.end_block.ensures.given ∙ ap (λ (b : List ℕ). (after_block 1029 (take d.held g) (decoded c.args.mode b)).1) block ∙ sym (ap (λ (s : Step). s.1) now);
+      fate = c.end_block.ensures.fate ∙ ap (λ (b : List ℕ). Some (fate_after c.args.mode 1029 (take d.held g) b)) block ∙ sym (last-fate c.args.mode o d f g on last (omega arith) written);
     }
 
 pub returns-clause-state : goal.returns-clause-state

@@ -1,65 +1,72 @@
-use Rattle.std.proofs.Common.{◌≡◌, ℕ, ◌+◌, ◌-◌, ◌<◌, ◌≤◌, Bool, List, [], ◌∷◌, ◌++◌, length, get_or, take, if◌then◌else◌, refl, ap, sym, ◌∙◌, arith, rules}
-use Rattle.std.proofs.lemmas.Grind.{common_steps}
-use Rattle.tc_cltu.specs.Reception.{Reception, reception_step, state_after, frames_of, corrections_of, rejections_of, overruns_of, corrected_in, rejected_in, overlong_in}
-use Rattle.tc_cltu.proofs.Decoding.{fed-front, fed-more, fed-more-counted, one-counted}
+use Rattle.std.proofs.Common.{◌≡◌, ℕ, ◌+◌, ◌-◌, Bool, List, [], ◌∷◌, length, take, drop, if◌then◌else◌, refl, ap, sym, ◌∙◌, arith}
+use Rattle.std.proofs.lemmas.List.{length-drop, take_all}
+use Rattle.tc_cltu.specs.Reception.{state_after, frames_of, corrections_of, rejections_of, overruns_of, corrected_in, rejected_in, overlong_in}
+use Rattle.tc_cltu.proofs.Decoding.{one-counted}
 use Rattle.tc_c.specs.Decoder.{reception_of}
+use Rattle.tc_c.proofs.Receiving.{state-more, frames-more, counted-more}
 use Rattle.tc_c.proofs.decoder.take_octets.Goals as goal
 
-pub loop-octet-preserved : goal.loop-octet-preserved
-loop-octet-preserved c =
-    let l = c.loop-octet in let os = c.args.octets.now in let i = l.octet-index in let m = c.args.mode in
+pub loop-taken-preserved : goal.loop-taken-preserved
+loop-taken-preserved c =
+    let l = c.loop-taken in let os = c.args.octets.now in let i = l.taken in let m = c.args.mode in
     let first = reception_of c.args.decoder c.args.frame.now in let at = reception_of l.now l.frame in
-    let n = c.take_octet-next.result in let t = c.take_octet-next.ensures in let inv = l.invariant in
-    let less : i < length os = c.loop-octet-test.true in
+    let n = c.take_front-count.result.0 in let k = c.take_front-count.result.1 in let f = c.take_front-count.new.frame in
+    let t = c.take_front-count.ensures in let inv = l.invariant in
     let counts = one-counted n.fate in let one = counts.0 in let two = counts.1 in let three = counts.2 in
     let is = c.count.ensures.corrected in let also = c.count.ensures.rejected in let too = c.count.ensures.overlong in
-    let within = inv.corrected_within in let other = inv.rejected_within in let last = inv.overlong_within in
-    let given : (reception_step m 1029 at (get_or os i 0)).1 ≡ [] =
-    sym t.given ∙ ap (λ (b : Bool). if b then take n.decoder.held c.take_octet-next.new.frame ∷ [] else []) c.if-next.false in
+    let some = t.some in let few = t.within in let there = inv.within in let within = inv.corrected_within in let other = inv.rejected_within in let last = inv.overlong_within in
+    let left = length-drop i os in
+    let whole : take (length os - i) (drop i os) ≡ drop i os = take_all (length os - i) (drop i os) (omega arith) in
+    let long = ap length whole in
+    let given : [] ≡ frames_of m 1029 at (take k (drop i os)) =
+    sym (ap (λ (b : Bool). if b then take n.decoder.held f ∷ [] else []) c.if-next.false) ∙ t.given ∙ ap (λ (x : List ℕ). frames_of m 1029 at (take k x)) whole in
+    let corrected = t.fates corrections_of refl ∙ ap (λ (x : List ℕ). corrected_in m 1029 at (take k x)) whole in
+    let rejected = t.fates rejections_of refl ∙ ap (λ (x : List ℕ). rejected_in m 1029 at (take k x)) whole in
+    let overlong = t.fates overruns_of refl ∙ ap (λ (x : List ℕ). overlong_in m 1029 at (take k x)) whole in
     record {
       correct = t.mode ∙ inv.correct;
       count = t.count;
       held = t.held;
       decoding = t.decoding;
       room = t.length ∙ inv.room;
-      taken = ap (λ (k : ℕ). k + 1) inv.taken;
-      state = fed-front m m 1029 i os first at (reception_of n.decoder c.take_octet-next.new.frame) less refl t.state inv.state;
-      none = fed-more m m 1029 i os first at [] less refl inv.state given ∙ ap (λ (x : List (List ℕ)). x ++ []) inv.none;
-      corrected = c.count.ensures.corrected ∙ fed-more-counted corrections_of m 1029 i os first at l.counts.corrected (corrections_of n.fate) less inv.state (ap corrections_of t.fate) inv.corrected;
+      within = omega arith;
+      state = state-more m 1029 i k os first at (reception_of n.decoder f) inv.state (t.state ∙ ap (λ (x : List ℕ). state_after m 1029 at (take k x)) whole);
+      none = sym (frames-more m 1029 i k os first at [] inv.state inv.none given);
+      corrected = is ∙ counted-more corrections_of m 1029 i k (corrections_of n.fate) l.counts.corrected os first at inv.state corrected inv.corrected;
       corrected_within = omega arith;
-      rejected = c.count.ensures.rejected ∙ fed-more-counted rejections_of m 1029 i os first at l.counts.rejected (rejections_of n.fate) less inv.state (ap rejections_of t.fate) inv.rejected;
+      rejected = also ∙ counted-more rejections_of m 1029 i k (rejections_of n.fate) l.counts.rejected os first at inv.state rejected inv.rejected;
       rejected_within = omega arith;
-      overlong = c.count.ensures.overlong ∙ fed-more-counted overruns_of m 1029 i os first at l.counts.overlong (overruns_of n.fate) less inv.state (ap overruns_of t.fate) inv.overlong;
+      overlong = too ∙ counted-more overruns_of m 1029 i k (overruns_of n.fate) l.counts.overlong os first at inv.state overlong inv.overlong;
       overlong_within = omega arith;
     }
 
 pub returns-then-next : goal.returns-then-next
 returns-then-next c =
-    let l = c.loop-octet in let os = c.args.octets.now in let i = l.octet-index in let m = c.args.mode in
+    let l = c.loop-taken in let os = c.args.octets.now in let i = l.taken in let m = c.args.mode in
     let first = reception_of c.args.decoder c.args.frame.now in let at = reception_of l.now l.frame in
-    let n = c.take_octet-next.result in let t = c.take_octet-next.ensures in let inv = l.invariant in
-    let less : i < length os = c.loop-octet-test.true in
-    let given : (reception_step m 1029 at (get_or os i 0)).1 ≡ take n.decoder.held c.take_octet-next.new.frame ∷ [] =
-    sym t.given ∙ ap (λ (b : Bool). if b then take n.decoder.held c.take_octet-next.new.frame ∷ [] else []) c.if-next.true in
+    let n = c.take_front-count.result.0 in let k = c.take_front-count.result.1 in let f = c.take_front-count.new.frame in
+    let t = c.take_front-count.ensures in let inv = l.invariant in let some = t.some in
+    let left = length-drop i os in
+    let whole : take (length os - i) (drop i os) ≡ drop i os = take_all (length os - i) (drop i os) (omega arith) in
+    let given : take n.decoder.held f ∷ [] ≡ frames_of m 1029 at (take k (drop i os)) =
+    sym (ap (λ (b : Bool). if b then take n.decoder.held f ∷ [] else []) c.if-next.true) ∙ t.given ∙ ap (λ (x : List ℕ). frames_of m 1029 at (take k x)) whole in
+    let corrected = t.fates corrections_of refl ∙ ap (λ (x : List ℕ). corrected_in m 1029 at (take k x)) whole in
+    let rejected = t.fates rejections_of refl ∙ ap (λ (x : List ℕ). rejected_in m 1029 at (take k x)) whole in
+    let overlong = t.fates overruns_of refl ∙ ap (λ (x : List ℕ). overlong_in m 1029 at (take k x)) whole in
+    let last : i + k - 1 ≡ i + (k - 1) = omega arith in
     record {
-      status = first_of (search rules, grind (arith, common_steps));
-      mode = first_of (search rules, grind (arith, common_steps));
-      count = first_of (search rules, grind (arith, common_steps));
-      held = first_of (search rules, grind (arith, common_steps));
-      decoding = first_of (search rules, grind (arith, common_steps));
-      length = first_of (search rules, grind (arith, common_steps));
-      state = fed-front m m 1029 i os first at (reception_of n.decoder c.take_octet-next.new.frame) less refl t.state inv.state
-          ∙ sym (ap (λ (k : ℕ). state_after m 1029 first (take (k + 1) os)) inv.taken);
-      given = sym (ap (λ (k : ℕ). frames_of m 1029 first (take (k + 1) os)) inv.taken
-          ∙ fed-more m m 1029 i os first at (take n.decoder.held c.take_octet-next.new.frame ∷ []) less refl inv.state given
-          ∙ ap (λ (x : List (List ℕ)). x ++ take n.decoder.held c.take_octet-next.new.frame ∷ []) inv.none);
-      before = first_of (search rules, grind (arith, common_steps));
-      all = first_of (search rules, grind (arith, common_steps));
-      flag = first_of (search rules, grind (arith, common_steps));
-      corrected = c.count.ensures.corrected ∙ fed-more-counted corrections_of m 1029 i os first at l.counts.corrected (corrections_of n.fate) less inv.state (ap corrections_of t.fate) inv.corrected
-          ∙ sym (ap (λ (k : ℕ). corrected_in m 1029 first (take (k + 1) os)) inv.taken);
-      rejected = c.count.ensures.rejected ∙ fed-more-counted rejections_of m 1029 i os first at l.counts.rejected (rejections_of n.fate) less inv.state (ap rejections_of t.fate) inv.rejected
-          ∙ sym (ap (λ (k : ℕ). rejected_in m 1029 first (take (k + 1) os)) inv.taken);
-      overlong = c.count.ensures.overlong ∙ fed-more-counted overruns_of m 1029 i os first at l.counts.overlong (overruns_of n.fate) less inv.state (ap overruns_of t.fate) inv.overlong
-          ∙ sym (ap (λ (k : ℕ). overlong_in m 1029 first (take (k + 1) os)) inv.taken);
+      status = c.code.ensures;
+      mode = t.mode ∙ inv.correct;
+      count = t.count;
+      held = t.held;
+      decoding = t.decoding;
+      length = t.length ∙ inv.room;
+      state = state-more m 1029 i k os first at (reception_of n.decoder f) inv.state (t.state ∙ ap (λ (x : List ℕ). state_after m 1029 at (take k x)) whole);
+      given = frames-more m 1029 i k os first at (take n.decoder.held f ∷ []) inv.state inv.none given;
+      before = λ _. ap (λ (x : ℕ). frames_of m 1029 first (take x os)) last ∙ sym (frames-more m 1029 i (k - 1) os first at [] inv.state inv.none (sym t.before ∙ ap (λ (x : List ℕ). frames_of m 1029 at (take (k - 1) x)) whole));
+      all = λ e. absurd (omega arith);
+      flag = omega arith;
+      corrected = c.count.ensures.corrected ∙ counted-more corrections_of m 1029 i k (corrections_of n.fate) l.counts.corrected os first at inv.state corrected inv.corrected;
+      rejected = c.count.ensures.rejected ∙ counted-more rejections_of m 1029 i k (rejections_of n.fate) l.counts.rejected os first at inv.state rejected inv.rejected;
+      overlong = c.count.ensures.overlong ∙ counted-more overruns_of m 1029 i k (overruns_of n.fate) l.counts.overlong os first at inv.state overlong inv.overlong;
     }

@@ -1,22 +1,25 @@
-use Rattle.std.proofs.Common.{◌≡◌, ◌<◌, ◌≤◌, [], length, take}
+use Rattle.std.proofs.Common.{◌≡◌, ◌-◌, ◌<◌, ◌≤◌, [], length, take}
 use Rattle.tc_cltu.specs.Reception.{state_after, frames_of, corrected_in, rejected_in, overlong_in}
 use Rattle.tc_c.specs.Decoder.{reception_of}
 use Rattle.tc_c.proofs.decoder.take_octets.Given as goal
 
-abbrev pub invariant-loop-octet : goal.invariant-loop-octet
-invariant-loop-octet l = record {
+abbrev pub invariant-loop-taken : goal.invariant-loop-taken
+invariant-loop-taken l = record {
   correct : l.now.correct ≡ l.fn.decoder.correct;
   count : l.now.count < 8;
   held : l.now.held ≤ 1029;
   decoding : l.now.decoding < 2;
   room : length l.frame ≡ length l.fn.frame;
-  taken : l.taken ≡ l.octet-index;
-  state : reception_of l.now l.frame ≡ state_after l.fn.mode 1029 (reception_of l.fn.decoder l.fn.frame) (take l.octet-index l.octets);
-  none : frames_of l.fn.mode 1029 (reception_of l.fn.decoder l.fn.frame) (take l.octet-index l.octets) ≡ [];
-  corrected : l.counts.corrected ≡ corrected_in l.fn.mode 1029 (reception_of l.fn.decoder l.fn.frame) (take l.octet-index l.octets);
-  corrected_within : l.counts.corrected ≤ l.octet-index;
-  rejected : l.counts.rejected ≡ rejected_in l.fn.mode 1029 (reception_of l.fn.decoder l.fn.frame) (take l.octet-index l.octets);
-  rejected_within : l.counts.rejected ≤ l.octet-index;
-  overlong : l.counts.overlong ≡ overlong_in l.fn.mode 1029 (reception_of l.fn.decoder l.fn.frame) (take l.octet-index l.octets);
-  overlong_within : l.counts.overlong ≤ l.octet-index;
+  within : l.taken ≤ length l.octets;
+  state : reception_of l.now l.frame ≡ state_after l.fn.mode 1029 (reception_of l.fn.decoder l.fn.frame) (take l.taken l.octets);
+  none : frames_of l.fn.mode 1029 (reception_of l.fn.decoder l.fn.frame) (take l.taken l.octets) ≡ [];
+  corrected : l.counts.corrected ≡ corrected_in l.fn.mode 1029 (reception_of l.fn.decoder l.fn.frame) (take l.taken l.octets);
+  corrected_within : l.counts.corrected ≤ l.taken;
+  rejected : l.counts.rejected ≡ rejected_in l.fn.mode 1029 (reception_of l.fn.decoder l.fn.frame) (take l.taken l.octets);
+  rejected_within : l.counts.rejected ≤ l.taken;
+  overlong : l.counts.overlong ≡ overlong_in l.fn.mode 1029 (reception_of l.fn.decoder l.fn.frame) (take l.taken l.octets);
+  overlong_within : l.counts.overlong ≤ l.taken;
 }
+
+abbrev pub decreases-loop-taken : goal.decreases-loop-taken
+decreases-loop-taken l = length l.octets - l.taken
