@@ -1,4 +1,4 @@
-//! Tests of the status word and of a station, by their public names. The library itself is empty.
+//! Tests of desks and of stations, by public names. The library itself is empty.
 #![tactic(auto)]
 
 #[cfg(test)]

@@ -1,48 +1,28 @@
+mod asking;
 mod closing;
-mod crew;
-mod faults;
-mod holding;
-mod meetings;
+mod growth;
 mod refusals;
-mod status;
-mod together;
+mod replay;
+mod rows;
+mod texts;
+mod watching;
 mod work;
 
-ghost use Rattle.std.specs.Prelude.{◌≡◌, All, length};
+ghost use Rattle.std.specs.Prelude.{◌≡◌, ◌∷◌, [], All, length};
 ghost use Rattle.tc_station.specs.StationSettings.{vcids_of};
 ghost use Rattle.tc_station.specs.Tally.{IsOurs, KnowsDesks};
 
-use crew::{Manned, two_channels};
 use std::alloc::Global;
 use std::process::Abort;
-use tc_channel::{Channel, Delivery, Settings};
-use tc_station::{Brought, Operator, Station};
+use std::sync::Wait;
+use tc_channel::{Channel, ChannelWith, Event, Items, Journal, Settings};
+use tc_station::{CloseFault, Operator, OperatorsFault, Station, StationOf};
 use test_parts::{
-    BD_UNIT, BUFFERED, DELIVERED, FRAME, NEXT, NO_FLAG, ONE, UNLOCK, WANTED, Wanted, ad_frame,
-    have_texts, list_of, octets_of, settings,
+    FRAME, NEXT, NO_FLAG, UNLOCK, WANTED, Wanted, ad_frame, frame_event, have_texts, list_of, note,
+    octets_of, settings,
 };
 
-// `FRAME` for spacecraft 43, and for it and virtual channel 2.
-const OTHER_SPACECRAFT: [u8; 13] = [
-    0x00, 0x2b, 0x04, 0x0c, 0x00, 0xc0, 0x10, 0x05, 0xc0, 0x00, 0x00, 0x00, 0xaa,
-];
-
-const OTHER_BOTH: [u8; 13] = [
-    0x00, 0x2b, 0x08, 0x0c, 0x00, 0xc0, 0x10, 0x05, 0xc0, 0x00, 0x00, 0x00, 0xaa,
-];
-
-// What became of `FRAME` or `NEXT`, and of `BD_UNIT`, that a station was brought.
-const BROUGHT: Brought = Brought {
-    vcid: 1,
-    reply: BUFFERED,
-};
-
-const UNIT_BROUGHT: Brought = Brought {
-    vcid: 1,
-    reply: DELIVERED,
-};
-
-// Settings for this virtual channel, with room for 64 data fields.
+// Settings for this virtual channel, with room for 64 data fields. One growth may be refused.
 fn settings_for(rt: &impl Abort, alloc: Global, vcid: u8) -> Settings
     ensures { result.vcid ≡ vcid }
 {
@@ -54,38 +34,69 @@ fn settings_for(rt: &impl Abort, alloc: Global, vcid: u8) -> Settings
     settings(alloc, &wanted).expect(rt, "settings")
 }
 
-// Settings for each of these virtual channels.
-fn settings_of(rt: &impl Abort, alloc: Global, vcids: &[u8]) -> Vec<Settings>
-    ensures { vcids_of result.items ≡ vcids.now }
+// A station for spacecraft 42 with virtual channel 1. One growth may be refused.
+fn station_of_one<J: Journal>(rt: &impl Abort, alloc: Global) -> StationOf<J>
+    ensures { result.vcids ≡ 1 ∷ [] }
 {
-    let mut list = Vec::with_capacity(alloc, vcids.len()).expect(rt, "a list");
-    for vcid in vcids {
-        list.push(settings_for(rt, alloc, *vcid)).expect(rt, "room");
+    let list = list_of(alloc, settings_for(rt, alloc, 1)).expect(rt, "a list");
+    match StationOf::new(alloc, 42, list) {
+        Ok(station) => station,
+        Err(_) => {
+            let list = list_of(alloc, settings_for(rt, alloc, 1)).expect(rt, "a list");
+            StationOf::new(alloc, 42, list).expect(rt, "a station")
+        }
     }
-    list
 }
 
-// A station for spacecraft 42.
-fn new_station(rt: &impl Abort, alloc: Global, list: Vec<Settings>) -> Station
-    ensures { result.vcids ≡ vcids_of list.items }
+// The same with virtual channels 1 and 2.
+fn station_of_two<J: Journal>(rt: &impl Abort, alloc: Global) -> StationOf<J>
+    ensures { result.vcids ≡ 1 ∷ 2 ∷ [] }
 {
-    Station::new(alloc, 42, list).expect(rt, "a station")
+    let first = settings_for(rt, alloc, 1);
+    let second = settings_for(rt, alloc, 2);
+    let list = vec![in alloc; first, second].expect(rt, "a list");
+    StationOf::new(alloc, 42, list).expect(rt, "a station")
 }
 
-// So many operators of a station that has issued none.
-fn new_operators(rt: &impl Abort, station: &mut Station, n: u16) -> Vec<Operator>
+// So many operators of a station that has issued none. One growth may be refused.
+fn new_operators<J: Journal>(
+    rt: &(impl Abort + Print),
+    station: &mut StationOf<J>,
+    n: u16,
+) -> Vec<Operator>
     ensures ours { All (IsOurs station.new) result.items }
     ensures knows { All (KnowsDesks station.new) result.items }
     ensures number { length result.items ≡ n }
     ensures kept { station.new.vcids ≡ station.old.vcids }
 {
-    station.operators(n).expect(rt, "operators")
+    match station.operators(n) {
+        Ok(operators) => operators,
+        Err(fault) => {
+            let _ = println!(rt; "refused: operators");
+            assert_eq!(rt; fault, OperatorsFault::NoMemory);
+            station.operators(n).expect(rt, "operators")
+        }
+    }
+}
+
+// Closes a station that these operators are in balance with. One growth may be refused: both are given back, and it is closed then.
+fn closed(rt: &(impl Abort + Print), station: Station, operators: Vec<Operator>) -> Vec<Channel>
+    requires { All (λ o. o.vcids ≡ station.vcids) operators.items }
+{
+    match station.close(operators) {
+        Ok(channels) => channels,
+        Err(CloseFault::NoMemory(station, operators)) => {
+            let _ = println!(rt; "refused: close");
+            station.close(operators).expect(rt, "channels")
+        }
+        Err(_) => panic!(rt; "neither closed nor without memory"),
+    }
 }
 
 // There are as many channels, with so many events each.
-fn check_events(rt: &impl Abort, channels: &[Channel], counts: &[usize]) {
+fn check_events<J: Journal>(rt: &impl Abort, channels: &[ChannelWith<J>], counts: &[u64]) {
     assert_eq!(rt; channels.len(), counts.len());
     for (channel, count) in channels.iter().zip(counts) {
-        assert_eq!(rt; channel.journal().len(), *count);
+        assert_eq!(rt; channel.events(), *count);
     }
 }

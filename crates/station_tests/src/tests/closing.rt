@@ -1,7 +1,11 @@
+//! Closes with operators of another station, which count otherwise, and closes in flight.
+
 ghost use Rattle.std.specs.Prelude.{◌≡◌, All};
 
+use super::asking::Crew;
 use super::*;
-use tc_station::CloseFault;
+use tc_channel::{Kept, Unkept};
+use tc_station::{FlightCloseFault, FlightStation};
 
 // A close with the operator of another station is refused, and gives back the channels.
 fn check_unbalanced(rt: &impl Abort, station: Station, operators: Vec<Operator>)
@@ -20,9 +24,41 @@ fn check_unbalanced(rt: &impl Abort, station: Station, operators: Vec<Operator>)
 #[test]
 fn an_operator_of_another_station_is_out_of_balance(rt: HostRuntime) {
     let alloc = rt.alloc();
-    let mut crew = two_channels(&rt, alloc);
-    crew.bring(&rt, &FRAME, Ok(BROUGHT));
-    let other = two_channels(&rt, alloc);
+    let mut crew = Crew::new(&rt, station_of_two(&rt, alloc), false);
+    assert!(rt; crew.bring(&rt, &FRAME).is_ok());
+    let other: Crew<Kept> = Crew::new(&rt, station_of_two(&rt, alloc), false);
     let operators = list_of(alloc, other.operator).expect(&rt, "a list");
     check_unbalanced(&rt, crew.station, operators)
+}
+
+fn check_unbalanced_in_flight(rt: &impl Abort, station: FlightStation, operators: Vec<Operator>)
+    requires { All (λ o. o.vcids ≡ station.vcids) operators.items }
+{
+    match station.close(operators) {
+        Err(FlightCloseFault::Unbalanced(channels, operators)) => {
+            check_events(rt, &channels, &[0]);
+            assert_eq!(rt; operators.len(), 1);
+            assert!(rt; operators[0].count(1) == Some(1));
+        }
+        _ => panic!(rt; "closed"),
+    }
+}
+
+fn close_in_flight(rt: &impl Abort, station: FlightStation, operators: Vec<Operator>)
+    requires { All (λ o. o.vcids ≡ station.vcids) operators.items }
+{
+    let channels = station.close(operators).expect(rt, "channels");
+    check_events(rt, &channels, &[0])
+}
+
+#[test]
+fn closes_in_flight(rt: HostRuntime) {
+    let alloc = rt.alloc();
+    let mut crew: Crew<Unkept> = Crew::new(&rt, station_of_one(&rt, alloc), false);
+    assert!(rt; crew.bring(&rt, &FRAME).is_ok());
+    let mut station = station_of_one(&rt, alloc);
+    let own = new_operators(&rt, &mut station, 1);
+    let operators = list_of(alloc, crew.operator).expect(&rt, "a list");
+    check_unbalanced_in_flight(&rt, station_of_one(&rt, alloc), operators);
+    close_in_flight(&rt, station, own)
 }

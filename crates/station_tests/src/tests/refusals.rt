@@ -1,14 +1,20 @@
+//! What stations refuse.
+
+use super::asking::Crew;
 use super::*;
-use std::sync::Wait;
-use tc_channel::SettingsFault;
+use tc_channel::{Kept, SettingsFault};
 use tc_link::FrameFault;
 use tc_station::{
-    BringFault, LocateFault, OperatorsFault, ReleaseRefused, StationFault, TakeRefused,
-    TakeUnitRefused, WatcherFault,
+    BringFault, LocateFault, ReleaseRefused, StationFault, TakeRefused, TakeUnitRefused,
+    WatcherFault,
 };
 
 fn check_fault(rt: &impl Abort, alloc: Global, scid: u16, vcids: &[u8], expected: StationFault) {
-    let station = Station::new(alloc, scid, settings_of(rt, alloc, vcids));
+    let mut list = Vec::new(alloc);
+    for vcid in vcids {
+        list.push(settings_for(rt, alloc, *vcid)).expect(rt, "room");
+    }
+    let station = Station::new(alloc, scid, list);
     assert!(rt; station.err() == Some(expected));
 }
 
@@ -37,53 +43,62 @@ fn check_issued(
 
 #[test]
 fn more_operators_than_have_numbers(rt: HostRuntime) {
-    let alloc = rt.alloc();
-    let mut station = new_station(&rt, alloc, settings_of(&rt, alloc, &[1]));
+    let mut station = station_of_one(&rt, rt.alloc());
     check_issued(&rt, &mut station, 65535, Ok(65535));
     check_issued(&rt, &mut station, 1, Err(OperatorsFault::TooMany));
     check_issued(&rt, &mut station, 0, Ok(0));
 }
 
-// These octets are a frame for virtual channel 1.
-fn check_located(rt: &impl Abort, station: &Station, octets: &[u8]) {
-    let located = station.locate(octets).expect(rt, "a place");
-    assert_eq!(rt; located.vcid, 1);
-    assert!(rt; located.frame.octets() == octets);
-}
+// `FRAME` for spacecraft 43, and for it and virtual channel 2.
+const OTHER_SPACECRAFT: [u8; 13] = [
+    0x00, 0x2b, 0x04, 0x0c, 0x00, 0xc0, 0x10, 0x05, 0xc0, 0x00, 0x00, 0x00, 0xaa,
+];
+
+const OTHER_BOTH: [u8; 13] = [
+    0x00, 0x2b, 0x08, 0x0c, 0x00, 0xc0, 0x10, 0x05, 0xc0, 0x00, 0x00, 0x00, 0xaa,
+];
 
 // Octets for no channel are refused alike where they are located and where they are brought.
-fn check_unplaced(rt: &(impl Wait + Abort), crew: &mut Manned, octets: &[u8], fault: LocateFault) {
+fn check_unplaced(
+    rt: &(impl Wait + Abort),
+    crew: &mut Crew<Kept>,
+    octets: &[u8],
+    fault: LocateFault,
+) {
     assert!(rt; crew.station.locate(octets).err() == Some(fault));
-    crew.bring(rt, octets, Err(BringFault::Locate(fault)));
-    let watched = crew.bring_watched(rt, octets);
-    assert!(rt; watched.err() == Some(BringFault::Locate(fault)));
-    crew.check_count(rt, 1, Some(0));
+    assert!(rt; crew.bring(rt, octets) == Err(BringFault::Locate(fault)));
+    assert!(rt; crew.bring_watched(rt, octets) == Err(BringFault::Locate(fault)));
+    assert!(rt; crew.operator.count(1) == Some(0));
 }
 
 #[test]
 fn octets_for_no_channel(rt: HostRuntime) {
-    let mut crew = Manned::new(&rt, rt.alloc(), &[1]);
+    let mut crew = Crew::new(&rt, station_of_one(&rt, rt.alloc()), false);
     let other = LocateFault::OtherSpacecraft;
     check_unplaced(&rt, &mut crew, &OTHER_SPACECRAFT, other);
     check_unplaced(&rt, &mut crew, &OTHER_BOTH, other);
     check_unplaced(&rt, &mut crew, &ad_frame(2, 0), LocateFault::UnknownChannel);
     let short = LocateFault::Frame(FrameFault::Short);
     check_unplaced(&rt, &mut crew, &FRAME[..3], short);
-    check_located(&rt, &crew.station, &FRAME);
+    let located = crew.station.locate(&FRAME).expect(&rt, "a place");
+    assert!(rt; located.vcid == 1 && located.frame.octets() == FRAME.as_slice());
+}
+
+fn check_refused(rt: &(impl Wait + Abort), crew: &mut Crew<Kept>) {
+    assert!(rt; crew.release(rt, 2) == Err(ReleaseRefused::UnknownChannel));
+    assert!(rt; crew.release(rt, 1) == Err(ReleaseRefused::Empty));
+    assert!(rt; crew.take(rt, 2, 5).err() == Some(TakeRefused::UnknownChannel));
+    assert!(rt; crew.take(rt, 1, 6).err() == Some(TakeRefused::NoQueue));
+    assert!(rt; crew.take(rt, 1, 5).err() == Some(TakeRefused::Empty));
+    assert!(rt; crew.take_unit(rt, 2, 3).err() == Some(TakeUnitRefused::UnknownChannel));
+    assert!(rt; crew.take_unit(rt, 1, 3).err() == Some(TakeUnitRefused::NoMap));
 }
 
 #[test]
 fn operations_on_no_channel_and_on_none_there(rt: HostRuntime) {
-    let mut crew = Manned::new(&rt, rt.alloc(), &[1]);
-    crew.release(&rt, 2, Err(ReleaseRefused::UnknownChannel));
-    crew.release(&rt, 1, Err(ReleaseRefused::Empty));
-    crew.refuse_take(&rt, 2, 5, TakeRefused::UnknownChannel);
-    crew.refuse_take(&rt, 1, 6, TakeRefused::NoQueue);
-    crew.refuse_take(&rt, 1, 5, TakeRefused::Empty);
-    crew.refuse_take_unit(&rt, 2, TakeUnitRefused::UnknownChannel);
-    crew.refuse_take_unit(&rt, 1, TakeUnitRefused::NoMap);
+    let mut crew = Crew::new(&rt, station_of_one(&rt, rt.alloc()), false);
+    check_refused(&rt, &mut crew);
     let unknown = crew.station.watcher(&rt, 2);
     assert_eq!(rt; unknown.err(), Some(WatcherFault::UnknownChannel));
-    crew.check_count(&rt, 1, Some(0));
-    crew.check_count(&rt, 2, None);
+    assert!(rt; (crew.operator.count(1), crew.operator.count(2)) == (Some(0), None));
 }

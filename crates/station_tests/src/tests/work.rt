@@ -1,11 +1,11 @@
+//! Workers, each of which passes the gate once.
+
 ghost use Rattle.std.specs.Prelude.{◌≡◌, All, length};
 ghost use Rattle.tc_station.specs.Tally.{IsOurs};
 
 use super::*;
-use std::sync::Wait;
 use std::sync::atomic::{AtomicU32, Ordering};
 use std::thread::Threads;
-use tc_channel::Items;
 use tc_station::{Gate, Job, Order, WorkList};
 
 // A job that brings octets, on line 1.
@@ -82,7 +82,7 @@ impl Gate for Counting {
 fn each_worker_passes_the_gate_once(rt: HostRuntime) {
     let alloc = rt.alloc();
     let lists = seven_lists(&rt, alloc);
-    let mut station = new_station(&rt, alloc, settings_of(&rt, alloc, &[1, 2]));
+    let mut station: Station = station_of_two(&rt, alloc);
     let mut operators = new_operators(&rt, &mut station, 7);
     let gate = Counting {
         passed: AtomicU32::new(0),

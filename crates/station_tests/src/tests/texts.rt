@@ -1,10 +1,11 @@
+//! The text of each fault.
+
 use super::*;
 use tc_channel::SettingsFault;
 use tc_link::FrameFault;
 use tc_station::{
-    BringFault, CloseFault, FlightCloseFault, FlightStation, HoldingFault, LocateFault,
-    OperatorsFault, ReleaseRefused, StationFault, TakeRefused, TakeUnitRefused, WatcherFault,
-    WorkFault,
+    BringFault, FlightCloseFault, FlightStation, HoldingFault, LocateFault, ReleaseRefused,
+    StationFault, TakeRefused, TakeUnitRefused, WatcherFault, WorkFault,
 };
 
 const UNKNOWN: &str = "the station has no such virtual channel";
@@ -108,20 +109,19 @@ fn faults_of_operators_have_texts(rt: HostRuntime) {
     assert!(&rt; have_texts(alloc, issuing.as_slice()));
     let refused = [(WorkFault::NoMemory { line: 12 }, "line 12: no memory")];
     assert!(&rt; have_texts(alloc, refused.as_slice()));
-    let station = new_station(&rt, alloc, settings_of(&rt, alloc, &[1]));
+    let station: Station = station_of_one(&rt, alloc);
     let missing = CloseFault::Missing(station, Vec::new(alloc));
     check_close_text(&rt, alloc, missing, "an operator is missing");
     let unbalanced = CloseFault::Unbalanced(Vec::new(alloc), Vec::new(alloc));
     let text = "the operators' counts and the journals differ";
     check_close_text(&rt, alloc, unbalanced, text);
-    let station = new_station(&rt, alloc, settings_of(&rt, alloc, &[1]));
+    let station: Station = station_of_one(&rt, alloc);
     let no_memory = CloseFault::NoMemory(station, Vec::new(alloc));
     check_close_text(&rt, alloc, no_memory, "no memory")
 }
 
 fn station_in_flight(rt: &impl Abort, alloc: Global) -> FlightStation {
-    let list = settings_of(rt, alloc, &[1]);
-    FlightStation::new(alloc, 42, list).expect(rt, "a station")
+    station_of_one(rt, alloc)
 }
 
 #[test]

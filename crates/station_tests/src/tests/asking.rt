@@ -1,0 +1,325 @@
+//! The operation of a line, made of a station, of a desk and of a channel that stands alone.
+
+ghost use Rattle.std.specs.Prelude.{◌≡◌, All};
+ghost use Rattle.tc_station.specs.Tally.{IsOurs};
+
+use super::*;
+use tc_channel::{Delivery, FrameReply, NoMemory, Octets, ReleaseFault, TakeFault, TakeUnitFault};
+use tc_cli::{Answer, Line, Refusal};
+use tc_link::{FrameFault, read_frame};
+use tc_station::{
+    BringFault, Brought, Desk, LocateFault, ReleaseRefused, TakeRefused, TakeUnitRefused,
+};
+use tc_status::Watcher;
+
+// What a script prints of an operation, unless memory was wanting.
+pub(super) type Asked = Result<Answer, NoMemory>;
+
+fn refused(refusal: Refusal) -> Asked {
+    Ok(Answer::Refused(refusal))
+}
+
+fn of_frame(answer: Result<Brought, BringFault>) -> Asked {
+    match answer {
+        Ok(Brought { vcid, reply }) => Ok(Answer::Frame { vcid, reply }),
+        Err(BringFault::Locate(fault)) => refused(Refusal::Unlocated(fault)),
+        Err(BringFault::NoMemory) => Err(NoMemory),
+    }
+}
+
+fn of_release(vcid: u8, answer: Result<Delivery, ReleaseRefused>) -> Asked {
+    match answer {
+        Ok(delivery) => Ok(Answer::Release { vcid, delivery }),
+        Err(ReleaseRefused::UnknownChannel) => refused(Refusal::UnknownChannel),
+        Err(ReleaseRefused::Empty) => refused(Refusal::Empty),
+        Err(ReleaseRefused::NoMemory) => Err(NoMemory),
+    }
+}
+
+fn of_take(vcid: u8, apid: u16, answer: Result<Vec<u8>, TakeRefused>) -> Asked {
+    match answer {
+        Ok(packet) => {
+            let packet = Octets::from(packet);
+            Ok(Answer::Take { vcid, apid, packet })
+        }
+        Err(TakeRefused::UnknownChannel) => refused(Refusal::UnknownChannel),
+        Err(TakeRefused::NoQueue) => refused(Refusal::NoQueue),
+        Err(TakeRefused::Empty) => refused(Refusal::Empty),
+        Err(TakeRefused::NoMemory) => Err(NoMemory),
+    }
+}
+
+fn of_unit(vcid: u8, map: u8, answer: Result<Vec<u8>, TakeUnitRefused>) -> Asked {
+    match answer {
+        Ok(unit) => {
+            let unit = Octets::from(unit);
+            Ok(Answer::Unit { vcid, map, unit })
+        }
+        Err(TakeUnitRefused::UnknownChannel) => refused(Refusal::UnknownChannel),
+        Err(TakeUnitRefused::NoMap) => refused(Refusal::NoMap),
+        Err(TakeUnitRefused::Empty) => refused(Refusal::Empty),
+        Err(TakeUnitRefused::NoMemory) => Err(NoMemory),
+    }
+}
+
+fn of_word(vcid: u8, answer: Option<u32>) -> Asked {
+    match answer {
+        Some(word) => Ok(Answer::Clcw { vcid, word }),
+        None => refused(Refusal::UnknownChannel),
+    }
+}
+
+// What is told of a channel: its CLCW with both link flags 0, and its number of events; and of who isn't locked how many data fields,
+// packets for APID 5 and units of MAP 3 wait.
+#[derive(Clone, Copy, PartialEq, Eq)]
+pub(super) struct Told {
+    pub(super) word: Option<u32>,
+    events: Option<u64>,
+    held: [Option<usize>; 3],
+}
+
+// Who is asked for operations.
+pub(super) trait Asking: Drop {
+    // Makes the operation of a line on a virtual channel.
+    fn ask<R: Wait + Abort>(&mut self, rt: &R, vcid: u8, line: &Line) -> Asked;
+
+    fn told<R: Wait + Abort>(&mut self, rt: &R, vcid: u8) -> Told;
+
+    // Whether it has virtual channel 2 beside 1.
+    fn has_two(&self) -> bool {
+        false
+    }
+}
+
+fn told_of<J: Journal>(channel: &ChannelWith<J>) -> Told {
+    Told {
+        word: Some(channel.clcw(NO_FLAG)),
+        events: Some(channel.events()),
+        held: [
+            Some(channel.buffered()),
+            channel.queued(5),
+            channel.units(3),
+        ],
+    }
+}
+
+// Octets that arrive at the one channel of a desk, or at one that stands alone, are answered as a station with that channel answers.
+fn of_alone(vcid: u8, read: Result<Result<FrameReply, NoMemory>, FrameFault>) -> Asked {
+    match read {
+        Ok(reply) => Ok(Answer::Frame {
+            vcid,
+            reply: reply?,
+        }),
+        Err(fault) => refused(Refusal::Unlocated(LocateFault::Frame(fault))),
+    }
+}
+
+fn released(answer: Result<Delivery, ReleaseFault>) -> Result<Delivery, ReleaseRefused> {
+    Ok(answer?)
+}
+
+fn taken(answer: Result<Vec<u8>, TakeFault>) -> Result<Vec<u8>, TakeRefused> {
+    Ok(answer?)
+}
+
+fn unit_taken(answer: Result<Vec<u8>, TakeUnitFault>) -> Result<Vec<u8>, TakeUnitRefused> {
+    Ok(answer?)
+}
+
+impl Asking for Channel {
+    fn ask<R: Wait + Abort>(&mut self, rt: &R, vcid: u8, line: &Line) -> Asked {
+        match line {
+            Line::Frame(octets) => match read_frame(octets.as_slice()) {
+                Ok(frame) => of_alone(vcid, Ok(self.frame(&frame))),
+                Err(fault) => of_alone(vcid, Err(fault)),
+            },
+            Line::Release(_) => of_release(vcid, released(self.release())),
+            Line::Take(_, apid) => of_take(vcid, *apid, taken(self.take(*apid))),
+            Line::Unit(_, map) => of_unit(vcid, *map, unit_taken(self.take_unit(*map))),
+            Line::Clcw(_) => of_word(vcid, Some(self.clcw(NO_FLAG))),
+            _ => panic!(rt; "a line that is no operation"),
+        }
+    }
+
+    fn told<R: Wait + Abort>(&mut self, _: &R, _: u8) -> Told {
+        told_of(self)
+    }
+}
+
+// What the watcher of a desk reads, who was there before its first frame.
+impl Asking for Watched {
+    fn ask<R: Wait + Abort>(&mut self, rt: &R, vcid: u8, line: &Line) -> Asked {
+        let desk = &mut self.desk;
+        match line {
+            Line::Frame(octets) => match read_frame(octets.as_slice()) {
+                Ok(frame) => of_alone(vcid, Ok(desk.frame(&frame))),
+                Err(fault) => of_alone(vcid, Err(fault)),
+            },
+            Line::Release(_) => of_release(vcid, released(desk.release())),
+            Line::Take(_, apid) => of_take(vcid, *apid, taken(desk.take(*apid))),
+            Line::Unit(_, map) => of_unit(vcid, *map, unit_taken(desk.take_unit(*map))),
+            Line::Clcw(_) => of_word(vcid, Some(self.watcher.read())),
+            _ => panic!(rt; "a line that is no operation"),
+        }
+    }
+
+    fn told<R: Wait + Abort>(&mut self, _: &R, _: u8) -> Told {
+        told_of(self.desk.channel())
+    }
+}
+
+// A desk, and a watcher of its board.
+#[derive(Drop)]
+pub(super) struct Watched {
+    pub(super) desk: Desk,
+    pub(super) watcher: Watcher,
+}
+
+// A station with one operator. Frames are brought plainly, or with a watcher of their channel.
+#[derive(Drop)]
+pub(super) struct Crew<J: Journal> {
+    is_watched: bool,
+    pub(super) station: StationOf<J>,
+    pub(super) operator: Operator,
+    ghost ours: { IsOurs station operator },
+}
+
+// The operator that a station issues. One growth may be refused.
+fn only_operator<J: Journal>(rt: &(impl Abort + Print), station: &mut StationOf<J>) -> Operator
+    ensures ours { IsOurs station.new result }
+    ensures same { station.new.vcids ≡ station.old.vcids }
+{
+    let operator = new_operators(rt, station, 1).pop();
+    operator.expect(rt, "an operator")
+}
+
+// A channel's CLCW with both link flags 0, as a new watcher reads it, if the station has that channel.
+fn status_of<J: Journal>(station: &StationOf<J>, rt: &impl Wait, vcid: u8) -> Option<u32> {
+    let mut watcher = station.watcher(rt, vcid).ok()?;
+    Some(station.watch(&mut watcher, NO_FLAG))
+}
+
+impl<J: Journal> Crew<J> {
+    pub(super) fn new(
+        rt: &(impl Abort + Print),
+        mut station: StationOf<J>,
+        is_watched: bool,
+    ) -> Crew<J>
+        ensures { result.station.vcids ≡ station.vcids }
+    {
+        let operator = only_operator(rt, &mut station);
+        Crew {
+            is_watched,
+            station,
+            operator,
+        }
+    }
+
+    pub(super) fn bring(&mut self, rt: &impl Wait, octets: &[u8]) -> Result<Brought, BringFault>
+        ensures { self.new.station.vcids ≡ self.old.station.vcids }
+    {
+        self.station.bring(rt, &mut self.operator, octets)
+    }
+
+    // With what the watcher reads that is made with the frame.
+    pub(super) fn bring_watched(
+        &mut self,
+        rt: &impl Wait,
+        octets: &[u8],
+    ) -> Result<(Brought, u32), BringFault> {
+        let (brought, mut own) = self.station.bring_watched(rt, &mut self.operator, octets)?;
+        Ok((brought, self.station.watch(&mut own, NO_FLAG)))
+    }
+
+    // It reads at once what a watcher reads that is made afterwards.
+    fn bring_seen(
+        &mut self,
+        rt: &(impl Wait + Abort),
+        octets: &[u8],
+    ) -> Result<Brought, BringFault> {
+        let (brought, word) = self.bring_watched(rt, octets)?;
+        assert!(rt; status_of(&self.station, rt, brought.vcid) == Some(word));
+        Ok(brought)
+    }
+
+    pub(super) fn release(&mut self, rt: &impl Wait, vcid: u8) -> Result<Delivery, ReleaseRefused> {
+        self.station.release(rt, &mut self.operator, vcid)
+    }
+
+    pub(super) fn take(
+        &mut self,
+        rt: &impl Wait,
+        vcid: u8,
+        apid: u16,
+    ) -> Result<Vec<u8>, TakeRefused> {
+        self.station.take(rt, &mut self.operator, vcid, apid)
+    }
+
+    pub(super) fn take_unit(
+        &mut self,
+        rt: &impl Wait,
+        vcid: u8,
+        map: u8,
+    ) -> Result<Vec<u8>, TakeUnitRefused> {
+        self.station.take_unit(rt, &mut self.operator, vcid, map)
+    }
+
+    // The channels of the closed station. One growth may be refused: all is given back, and it is closed then.
+    pub(super) fn close(self, rt: &(impl Abort + Print), alloc: Global) -> Vec<ChannelWith<J>> {
+        let Crew {
+            is_watched: _,
+            station,
+            operator,
+        } = self;
+        let operators = list_of(alloc, operator).expect(rt, "a list");
+        closed_together(rt, station, operators)
+    }
+}
+
+// Closes a station whose operators these are, likewise.
+pub(super) fn closed_together<J: Journal>(
+    rt: &(impl Abort + Print),
+    station: StationOf<J>,
+    operators: Vec<Operator>,
+) -> Vec<ChannelWith<J>>
+    requires { All (IsOurs station) operators.items }
+{
+    let left = match station.close_together(operators) {
+        Ok(channels) => return channels,
+        Err(left) => left,
+    };
+    let _ = println!(rt; "refused: close_together");
+    assert!(rt; left.refusal == tc_station::Refusal::NoMemory);
+    match left.station.close_together(left.operators) {
+        Ok(channels) => channels,
+        Err(_) => panic!(rt; "not closed"),
+    }
+}
+
+impl<J: Journal> Asking for Crew<J> {
+    fn ask<R: Wait + Abort>(&mut self, rt: &R, vcid: u8, line: &Line) -> Asked {
+        match line {
+            Line::Frame(octets) if self.is_watched => {
+                of_frame(self.bring_seen(rt, octets.as_slice()))
+            }
+            Line::Frame(octets) => of_frame(self.bring(rt, octets.as_slice())),
+            Line::Release(_) => of_release(vcid, self.release(rt, vcid)),
+            Line::Take(_, apid) => of_take(vcid, *apid, self.take(rt, vcid, *apid)),
+            Line::Unit(_, map) => of_unit(vcid, *map, self.take_unit(rt, vcid, *map)),
+            Line::Clcw(_) => of_word(vcid, status_of(&self.station, rt, vcid)),
+            _ => panic!(rt; "a line that is no operation"),
+        }
+    }
+
+    fn told<R: Wait + Abort>(&mut self, rt: &R, vcid: u8) -> Told {
+        Told {
+            word: status_of(&self.station, rt, vcid),
+            events: self.operator.count(vcid),
+            held: [None; 3],
+        }
+    }
+
+    fn has_two(&self) -> bool {
+        true
+    }
+}

@@ -1,0 +1,303 @@
+//! The lines of a script on channels of a station, and on channels that stand alone.
+
+use super::asking::{Asked, Asking, Crew};
+use super::*;
+use tc_channel::{FlightChannel, Octets};
+use tc_cli::{Answer, Line, Reason, parse_line};
+use tc_station::StationFault;
+use test_parts::{made_again, room};
+
+// What is done on virtual channel 1 of stations and of channels with these settings: lines of a script, and what each is answered.
+pub(super) struct Row<'a> {
+    pub(super) name: &'a str,
+    pub(super) wanted: &'a Wanted<'a>,
+    pub(super) script: &'a str,
+    pub(super) answers: &'a str,
+}
+
+// Settings of channel 1, or of channel 2, which are the same but for their first V(R).
+pub(super) fn row_settings(rt: &impl Abort, alloc: Global, row: &Row, vcid: u8) -> Settings {
+    let first = if vcid == 1 { 0 } else { 100 };
+    let wanted = Wanted {
+        vcid,
+        first,
+        ..*row.wanted
+    };
+    settings(alloc, &wanted).expect(rt, "settings")
+}
+
+// A channel with such settings. One growth may be refused.
+pub(super) fn new_channel(rt: &impl Abort, alloc: Global, row: &Row, vcid: u8) -> Channel {
+    match Channel::new(alloc, row_settings(rt, alloc, row, vcid)) {
+        Ok(channel) => channel,
+        Err(_) => {
+            let again = Channel::new(alloc, row_settings(rt, alloc, row, vcid));
+            again.expect(rt, "a channel")
+        }
+    }
+}
+
+// What is told where the call that is answered so was refused memory.
+fn call_of(rt: &impl Print, who: &str, answer: &Asked) {
+    let _ = match answer {
+        Ok(Answer::Frame { vcid: _, reply }) => {
+            println!(rt; "refused: {who}, event {}", reply.act.event)
+        }
+        Ok(Answer::Release { .. }) => println!(rt; "refused: {who}, release"),
+        Ok(Answer::Take { .. }) => println!(rt; "refused: {who}, take"),
+        Ok(Answer::Unit { .. }) => println!(rt; "refused: {who}, take_unit"),
+        _ => println!(rt; "refused: {who}, which must not be"),
+    };
+}
+
+// Asks for the operation of a line. Where memory was wanting, all is as it was, and it is asked for again. The text of the answer.
+pub(super) fn ask<A: Asking, R: Wait + Abort + Print>(
+    rt: &R,
+    alloc: Global,
+    who: &str,
+    asked: &mut A,
+    (vcid, line): (u8, &Line),
+) -> String {
+    let told = asked.told(rt, vcid);
+    let mut answer = asked.ask(rt, vcid, line);
+    if answer.is_err() {
+        assert!(rt; asked.told(rt, vcid) == told, "{who}");
+        answer = asked.ask(rt, vcid, line);
+        call_of(rt, who, &answer);
+    }
+    text_of(rt, alloc, &answer.expect(rt, "an answer"))
+}
+
+// One growth may be refused.
+fn text_of(rt: &impl Abort, alloc: Global, answer: &Answer) -> String {
+    match answer.to_string(alloc) {
+        Ok(text) => text,
+        Err(_) => answer.to_string(alloc).expect(rt, "a text"),
+    }
+}
+
+// As many of these octets as their header tells a frame has, one more than the number in its ten bits of length.
+fn without_fill(octets: &[u8]) -> Option<&[u8]> {
+    let high = *octets.get(2)? & 3;
+    let low = *octets.get(3)?;
+    let length = usize::from(u16::from_be_bytes([high, low])).saturating_add(1);
+    octets.get(..length)
+}
+
+// The event that a journal has of an operation that is not refused. Nothing is noted of a CLCW, or of octets without a frame.
+fn event_of(alloc: Global, line: &Line) -> Option<Event> {
+    match line {
+        Line::Frame(octets) => frame_event(alloc, without_fill(octets.as_slice())?).ok(),
+        Line::Release(_) => Some(Event::Release),
+        Line::Take(_, apid) => Some(Event::Take(*apid)),
+        Line::Unit(_, map) => Some(Event::TakeUnit(*map)),
+        _ => None,
+    }
+}
+
+// The same line, whose frame is for virtual channel 2 in place of 1.
+fn for_channel_2(line: Line) -> Line {
+    match line {
+        Line::Frame(octets) => {
+            let mut octets = octets.into_vec();
+            if let Some(third) = octets.get_mut(2) {
+                *third = third.wrapping_add(4);
+            }
+            Line::Frame(Octets::from(octets))
+        }
+        line => line,
+    }
+}
+
+// Beside channels 1 and 2 of a station a channel with the settings of each that stands alone, and the journal that channel 1 must
+// have.
+#[derive(Drop)]
+pub(super) struct Replay {
+    alloc: Global,
+    first: Channel,
+    second: Channel,
+    journal: Vec<Event>,
+}
+
+impl Replay {
+    pub(super) fn new(rt: &impl Abort, alloc: Global, row: &Row) -> Replay {
+        Replay {
+            alloc,
+            first: new_channel(rt, alloc, row, 1),
+            second: new_channel(rt, alloc, row, 2),
+            journal: Vec::new(alloc),
+        }
+    }
+
+    // What the channel with this id that stands alone answers to the operation of a line.
+    fn ask_alone(&mut self, rt: &(impl Wait + Abort + Print), (vcid, line): (u8, &Line)) -> String {
+        if vcid == 1 {
+            ask(rt, self.alloc, "Channel", &mut self.first, (vcid, line))
+        } else {
+            ask(rt, self.alloc, "Channel", &mut self.second, (vcid, line))
+        }
+    }
+
+    // The same of whoever is asked, too, which is the same.
+    fn ask_both<A: Asking, R: Wait + Abort + Print>(
+        &mut self,
+        rt: &R,
+        who: &str,
+        asked: &mut A,
+        line: (u8, &Line),
+    ) -> String {
+        let alone = self.ask_alone(rt, line);
+        let told = ask(rt, self.alloc, who, asked, line);
+        assert_eq!(rt; told.as_str(), alone.as_str(), "{who}");
+        told
+    }
+
+    // Each channel tells the CLCW of the one that stands alone.
+    fn check_words<A: Asking, R: Wait + Abort>(&self, rt: &R, asked: &mut A) {
+        assert!(rt; asked.told(rt, 1).word == Some(self.first.clcw(NO_FLAG)));
+        if asked.has_two() {
+            assert!(rt; asked.told(rt, 2).word == Some(self.second.clcw(NO_FLAG)));
+        }
+    }
+
+    // The journal is to have the event of an operation that was answered so, unless it was refused.
+    fn note(&mut self, rt: &impl Abort, event: Option<Event>, answered: &str) {
+        if let Some(event) = event {
+            if !answered.starts_with("refused ") {
+                note(&mut self.journal, event).expect(rt, "a journal");
+            }
+        }
+    }
+
+    // The operation of a line, on channel 1 and then on channel 2, where it is there. What channel 1 answers is this text, and its
+    // journal then has the event.
+    fn step<A: Asking, R: Wait + Abort + Print>(
+        &mut self,
+        rt: &R,
+        who: &str,
+        asked: &mut A,
+        (line, expected): (&str, &str),
+    ) {
+        let line = read_line(rt, self.alloc, line);
+        let event = event_of(self.alloc, &line);
+        let told = self.ask_both(rt, who, asked, (1, &line));
+        assert_eq!(rt; told.as_str(), expected, "{who}");
+        self.note(rt, event, expected);
+        assert!(rt; self.first.journal() == self.journal.as_slice(), "{who}");
+        self.check_words(rt, asked);
+        if asked.has_two() {
+            self.ask_both(rt, who, asked, (2, &for_channel_2(line)));
+            self.check_words(rt, asked);
+        }
+    }
+
+    // Each line in turn.
+    pub(super) fn play<A: Asking, R: Wait + Abort + Print>(
+        &mut self,
+        rt: &R,
+        who: &str,
+        asked: &mut A,
+        row: &Row,
+    ) {
+        self.check_words(rt, asked);
+        let mut answers = row.answers.lines();
+        for line in row.script.lines() {
+            let expected = answers.next().expect(rt, "an answer");
+            self.step(rt, who, asked, (line, expected));
+        }
+        assert!(rt; answers.next().is_none(), "{}", row.name);
+    }
+
+    // The journal of channel 1 is this one.
+    pub(super) fn check_journal(&self, rt: &impl Abort, journal: &[Event]) {
+        assert!(rt; journal == self.journal.as_slice());
+    }
+
+    // The closed channels of a station, in the order of its settings, tell of themselves what those tell that stand alone.
+    pub(super) fn check_closed<J: Journal>(&self, rt: &impl Abort, channels: &[ChannelWith<J>]) {
+        assert_eq!(rt; channels.len(), 2);
+        check_same(rt, &channels[0], &self.second);
+        check_same(rt, &channels[1], &self.first);
+    }
+
+    // Their journals are the same, too.
+    pub(super) fn check_journals(&self, rt: &impl Abort, channels: &[Channel]) {
+        assert_eq!(rt; channels.len(), 2);
+        assert!(rt; channels[0].journal() == self.second.journal());
+        assert!(rt; channels[1].journal() == self.first.journal());
+    }
+}
+
+fn check_same<J: Journal>(rt: &impl Abort, closed: &ChannelWith<J>, alone: &Channel) {
+    assert_eq!(rt; closed.events(), alone.events());
+    assert_eq!(rt; closed.report(), alone.report());
+    assert_eq!(rt; closed.buffered(), alone.buffered());
+    assert_eq!(rt;
+        (closed.queued(5), closed.units(3)),
+        (alone.queued(5), alone.units(3))
+    );
+    assert!(rt; closed.settings() == alone.settings());
+}
+
+fn read_line(rt: &(impl Abort + Print), alloc: Global, line: &str) -> Line {
+    let parse = || parse_line(alloc, line.as_bytes());
+    made_again(rt, "parse_line", Reason::NoMemory, &parse).expect(rt, "a line")
+}
+
+// A station for spacecraft 42 with virtual channels 2 and 1, in this order. One growth may be refused.
+fn new_station<J: Journal>(rt: &(impl Abort + Print), alloc: Global, row: &Row) -> StationOf<J> {
+    for _ in 0..2 {
+        let mut list = room(alloc, 2).expect(rt, "room");
+        for vcid in [2, 1] {
+            list.push(row_settings(rt, alloc, row, vcid))
+                .expect(rt, "room");
+        }
+        match StationOf::new(alloc, 42, list) {
+            Ok(station) => return station,
+            Err(fault) => {
+                let _ = println!(rt; "refused: Station::new");
+                assert_eq!(rt; fault, StationFault::NoMemory);
+            }
+        }
+    }
+    panic!(rt; "refused twice")
+}
+
+// Plays a row on a station, with frames that are brought in this manner, and closes it.
+fn play_on<J: Journal>(
+    rt: &(impl Wait + Abort + Print),
+    alloc: Global,
+    who: &str,
+    is_watched: bool,
+    row: &Row,
+) -> (Replay, Vec<ChannelWith<J>>) {
+    let mut crew: Crew<J> = Crew::new(rt, new_station(rt, alloc, row), is_watched);
+    let mut replay = Replay::new(rt, alloc, row);
+    replay.play(rt, who, &mut crew, row);
+    let channels = crew.close(rt, alloc);
+    replay.check_closed(rt, &channels);
+    (replay, channels)
+}
+
+// On one whose channels keep their journals.
+pub(super) fn play_kept(
+    rt: &(impl Wait + Abort + Print),
+    alloc: Global,
+    who: &str,
+    is_watched: bool,
+    row: &Row,
+) {
+    let (replay, channels): (Replay, Vec<Channel>) = play_on(rt, alloc, who, is_watched, row);
+    replay.check_journals(rt, &channels);
+}
+
+// On one in flight.
+pub(super) fn play_in_flight(
+    rt: &(impl Wait + Abort + Print),
+    alloc: Global,
+    is_watched: bool,
+    row: &Row,
+) {
+    let played: (Replay, Vec<FlightChannel>) = play_on(rt, alloc, "FlightStation", is_watched, row);
+    assert_eq!(rt; played.1.len(), 2);
+}

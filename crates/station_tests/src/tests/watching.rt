@@ -1,0 +1,106 @@
+//! What watchers read.
+
+ghost use Rattle.std.specs.Prelude.{◌≡◌};
+ghost use Rattle.tc_station.specs.Moments.{IsWatcherOf};
+ghost use Rattle.tc_station.specs.Tally.{IsOurs, KnowsDesks};
+
+use super::asking::Crew;
+use super::*;
+use tc_channel::SettingsFault;
+use tc_link::read_frame;
+use tc_station::{Brought, Desk, HoldingFault, QueueHolding};
+use tc_status::Watcher;
+use test_parts::BUFFERED;
+
+const BROUGHT: Brought = Brought {
+    vcid: 1,
+    reply: BUFFERED,
+};
+
+// The watcher reads this.
+fn check_read<J: Journal>(rt: &impl Abort, crew: &Crew<J>, watcher: &mut Watcher, word: u32) {
+    assert_eq!(rt; crew.station.watch(watcher, NO_FLAG), word);
+}
+
+#[test]
+fn each_watcher_reads_its_own_channel(rt: HostRuntime) {
+    let station: Station = station_of_two(&rt, rt.alloc());
+    let mut crew = Crew::new(&rt, station, true);
+    let mut first = crew.station.watcher(&rt, 1).expect(&rt, "a watcher");
+    let mut second = crew.station.watcher(&rt, 2).expect(&rt, "a watcher");
+    assert!(rt; crew.bring(&rt, &FRAME) == Ok(BROUGHT));
+    check_read(&rt, &crew, &mut first, 0x01040001);
+    check_read(&rt, &crew, &mut second, 0x01080000);
+    assert!(rt; crew.bring_watched(&rt, &NEXT) == Ok((BROUGHT, 0x01040002)));
+    assert!(rt; (crew.operator.count(1), crew.operator.count(2)) == (Some(2), Some(0)));
+}
+
+// Channel 1 holds one data field, with V(R) 1, and channel 3 isn't there.
+fn check_holding(rt: &(impl Wait + Abort), station: &Station) {
+    let holding = station.holding(rt, 1).expect(rt, "a channel");
+    assert!(rt; (holding.report.vr, holding.buffered) == (1, 1));
+    let packets = QueueHolding {
+        apid: 5,
+        packets: 0,
+    };
+    assert!(rt; holding.queues.as_slice() == [packets].as_slice());
+    let unknown = station.holding(rt, 3);
+    assert_eq!(rt; unknown.err(), Some(HoldingFault::UnknownChannel));
+}
+
+#[test]
+fn a_station_tells_what_its_channel_holds(rt: HostRuntime) {
+    let station: Station = station_of_two(&rt, rt.alloc());
+    let mut crew = Crew::new(&rt, station, false);
+    assert!(rt; crew.bring(&rt, &FRAME) == Ok(BROUGHT));
+    check_holding(&rt, &crew.station);
+}
+
+// Brings octets, and then lets the watcher of channel 1 meet it, by the same operator. So a call leaves an operator with which a watcher
+// can meet its channel.
+fn bring_and_meet<J: Journal, R: Wait>(
+    rt: &R,
+    station: &StationOf<J>,
+    operator: &mut Operator,
+    watcher: &mut Watcher,
+    octets: &[u8],
+)
+    requires ours { IsOurs station.now operator.old }
+    requires knows { KnowsDesks station.now operator.old }
+    requires watcher { IsWatcherOf station.now 1 watcher.old }
+{
+    let _ = station.bring(rt, operator, octets);
+    station.meet(rt, operator, watcher, 1);
+}
+
+#[test]
+fn a_watcher_reads_what_it_met(rt: HostRuntime) {
+    let mut station: Station = station_of_one(&rt, rt.alloc());
+    let mut operators = new_operators(&rt, &mut station, 1);
+    let mut watcher = station.watcher(&rt, 1).expect(&rt, "a watcher");
+    bring_and_meet(&rt, &station, &mut operators[0], &mut watcher, &FRAME);
+    assert_eq!(rt; watcher.read(), 0x01040001);
+}
+
+fn new_desk(rt: &impl Abort, alloc: Global) -> Desk {
+    let desk: Result<Desk, SettingsFault> = Desk::new(alloc, settings_for(rt, alloc, 1));
+    desk.expect(rt, "a desk")
+}
+
+fn bring(rt: &impl Abort, desk: &mut Desk, octets: &[u8])
+    ensures { desk.new.board ≡ desk.old.board }
+{
+    let frame = read_frame(octets).expect(rt, "a frame");
+    assert!(rt; desk.frame(&frame) == Ok(BUFFERED));
+}
+
+// A watcher that was made before its first frame.
+#[test]
+fn a_watcher_that_met_its_desk_reads_the_frame(rt: HostRuntime) {
+    let mut desk = new_desk(&rt, rt.alloc());
+    let mut watcher = desk.watcher().expect(&rt, "a watcher");
+    let before = watcher.read();
+    bring(&rt, &mut desk, &FRAME);
+    desk.meet(&mut watcher);
+    assert!(rt; (before, watcher.read()) == (0x01040000, 0x01040001));
+}
