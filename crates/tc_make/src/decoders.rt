@@ -116,10 +116,11 @@ fn write_fed<W: Write>(decoder: &mut Decoder, octets: &[u8], writer: &mut W) -> 
         rejected: 0,
         overlong: 0,
     };
-    for octet in octets {
-        let fed = decoder.feed_octet(*octet);
+    let mut rest = octets;
+    while let Some((fed, others)) = decoder.feed_front(rest) {
         counts.count(fed.fate);
         write_ended(decoder, fed.ended, writer)?;
+        rest = others;
     }
     write_blocks(counts, writer)
 }
