@@ -41,11 +41,16 @@ const ENDED: Piece = Piece::Segment(Kind::Bypassing, LAST, 0);
 
 const BUFFERED: Piece = Piece::Segment(Kind::Next, FIRST, 1_018);
 
-/// What fills the queues and the buffer of the plain channel.
-pub(crate) static PLAIN_ROWS: [Row; 2] = [
-    (Piece::Plain(Kind::Bypassing), (0, 2), 8, ONE),
-    (Piece::Plain(Kind::Next), (0, 1), 4, NOTHING),
-];
+/// What fills the queues and the buffer of a plain channel.
+pub(crate) fn plain_rows(plan: &Plan) -> [Row; 2] {
+    let (queues, packets) = plan.queues;
+    let packets = queues.saturating_mul(packets);
+    let fields = u16::from(plan.buffer);
+    [
+        (Piece::Plain(Kind::Bypassing), (0, queues), packets, ONE),
+        (Piece::Plain(Kind::Next), (0, 1), fields, NOTHING),
+    ]
+}
 
 /// Frames of a sender who means harm, for the channel of `MANY`: 70 queues of two packets, and three chosen MAPs of three units. Each
 /// is answered as the model says, whatever came before.

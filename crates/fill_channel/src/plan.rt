@@ -21,6 +21,14 @@ pub(crate) const PLAIN: Plan = Plan {
     segmented: false,
 };
 
+/// A plain channel of so many queues for one packet each.
+pub(crate) fn plain_of(queues: u16) -> Plan {
+    Plan {
+        queues: (queues, 1),
+        ..PLAIN
+    }
+}
+
 /// Room for one data field, and for one packet.
 pub(crate) const ONE: Plan = Plan {
     buffer: 1,
