@@ -50,10 +50,16 @@ def run(seed: int, fecf: bool, count: int = 300, tclive: Optional[Path] = None, 
     assert came == packets
     return f"{count} packets came in their order, each once; {len(past)} frames were sent, {past.count(unlock)} of them Unlocks"
 
+def say(what: Callable[[], str]) -> None:
+    """Prints what comes of it. A program that isn't there is named, and one that isn't built has said so."""
+    try:
+        print(what())
+    except (NotStarted, OSError) as error:
+        sys.exit(str(error))
+    except subprocess.CalledProcessError as error:
+        sys.exit(error.returncode)
+
 if __name__ == "__main__":
     if not sys.argv[1:] or not sys.argv[1].isdecimal():
         sys.exit(__doc__)
-    try:
-        print(run(int(sys.argv[1]), "--fecf" in sys.argv))
-    except (NotStarted, OSError, subprocess.CalledProcessError) as error:  # a program isn't built, which it has said, or isn't there
-        sys.exit(f"bench.py: {error}")
+    say(lambda: run(int(sys.argv[1]), "--fecf" in sys.argv))

@@ -87,4 +87,4 @@ def run(seed: int, udp: bool = False, mode: str = "correct", randomised: bool = 
 if __name__ == "__main__":
     if not sys.argv[1:] or not sys.argv[1].isdecimal():
         sys.exit(__doc__)
-    print(run(int(sys.argv[1]), "--udp" in sys.argv, "detect" if "--detect" in sys.argv else "correct", "--randomised" in sys.argv))
+    bench.say(lambda: run(int(sys.argv[1]), "--udp" in sys.argv, "detect" if "--detect" in sys.argv else "correct", "--randomised" in sys.argv))

@@ -93,4 +93,4 @@ def start(fecf: bool, tclive: Optional[Path], words: Sequence[str] = PORTS,
 if __name__ == "__main__":
     if not sys.argv[1:] or not sys.argv[1].isdecimal():
         sys.exit(__doc__)
-    print(bench.run(int(sys.argv[1]), "--fecf" in sys.argv, begin=start))
+    bench.say(lambda: bench.run(int(sys.argv[1]), "--fecf" in sys.argv, begin=start))
