@@ -498,10 +498,12 @@ class Process(Link):
 
 
 def find_program(name: str = "tclive", named_by: str = "program=") -> str:
-    """Where a program is: at the root of the repository where this file is in its folder there, or else on the path. Who asks says by
-    what it can be named."""
+    """Where a program is: at the root of the repository where this file is in its folder there, in the folder bin of what it was
+    installed or unpacked with, or else on the path. Who asks says by what it can be named."""
     here = Path(__file__).resolve()
     at_root = here.parents[2] / name if here.parts[-3:-1] == ("clients", "python") else None
+    if here.parts[-4:-1] == ("share", "dekorihe", "python"):
+        at_root = here.parents[3] / "bin" / name
     if at_root and os.access(at_root, os.X_OK):
         return str(at_root)
     found = shutil.which(name)
