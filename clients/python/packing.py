@@ -1,14 +1,23 @@
 """Packs the client for pip: what pip asks of a build backend (PEP 517), with the standard library alone.
 
-In the wheel each module is a package of one file, since only a package can say by `py.typed` that it has types (PEP 561).
+In the wheel each module is a package of one file, since only a package can say by `py.typed` that it has types (PEP 561). In a clone of
+the repository that of the channel has the library, too, which a C compiler and `make` make of the text in `dist`; without them, or
+elsewhere, the client alone is packed, and this says so.
 """
 from __future__ import annotations
 
 import base64
 import hashlib
 import io
+import os
 import re
+import shlex
+import shutil
+import subprocess
+import sys
+import sysconfig
 import tarfile
+import tempfile
 import zipfile
 from pathlib import Path
 from typing import Dict, List, Mapping, Optional
@@ -16,6 +25,8 @@ from typing import Dict, List, Mapping, Optional
 HERE = Path(__file__).resolve().parent
 NAME = "dekorihe"
 MODULES = ("tcrx", "tcrx_c", "tcrx_channel")
+LIBRARY = "libtcrx.so.0"
+DIST = HERE.parent.parent / "dist"
 OWN_FILES = ("pyproject.toml", "packing.py", "py.typed", *(f"{module}.py" for module in MODULES))
 
 
@@ -34,9 +45,21 @@ def metadata() -> str:
             "License: Apache-2.0\nRequires-Python: >=3.9\nClassifier: Typing :: Typed\n")
 
 
-def contents() -> Dict[str, bytes]:
+def library() -> Optional[bytes]:
+    """The shared library, compiled here; `None` where that can't be done. A compiler that fails ends the packing."""
+    compiler = shlex.split(os.environ.get("CC", "cc"))[0]
+    missing = [command for command in (compiler, "make") if not shutil.which(command)] + [DIST / "portable"] * (not (DIST / "portable").is_dir())
+    if missing:
+        print(f"packing: there is no {missing[0]}, so the client is packed alone: Channel and Rack look for {LIBRARY} elsewhere", file=sys.stderr)
+        return None
+    with tempfile.TemporaryDirectory() as folder:
+        subprocess.run(["make", "-s", "-C", DIST, f"OUT={folder}", f"{folder}/libtcrx.so"], check=True, stdout=sys.stderr)
+        return (Path(folder) / LIBRARY).read_bytes()
+
+
+def contents(made: Optional[bytes], tag: str) -> Dict[str, bytes]:
     """The files of the wheel, apart from the list of them."""
-    files: Dict[str, bytes] = {}
+    files = {} if made is None else {f"tcrx_channel/{LIBRARY}": made}
     for module in MODULES:
         files[f"{module}/__init__.py"] = (HERE / f"{module}.py").read_bytes()
         files[f"{module}/py.typed"] = b""
@@ -45,7 +68,8 @@ def contents() -> Dict[str, bytes]:
         if (HERE.parent.parent / name).is_file():
             files[f"{about}/{name}"] = (HERE.parent.parent / name).read_bytes()
     files[f"{about}/METADATA"] = metadata().encode()
-    files[f"{about}/WHEEL"] = b"Wheel-Version: 1.0\nGenerator: packing\nRoot-Is-Purelib: true\nTag: py3-none-any\n"
+    is_pure = str(made is None).lower()
+    files[f"{about}/WHEEL"] = f"Wheel-Version: 1.0\nGenerator: packing\nRoot-Is-Purelib: {is_pure}\nTag: {tag}\n".encode()
     return files
 
 
@@ -63,13 +87,15 @@ def build_wheel(wheel_directory: str, config_settings: Optional[Mapping[str, obj
                 metadata_directory: Optional[str] = None) -> str:
     """Writes the wheel, and answers its name. All times in it are the same, so that it is the same each time."""
     del config_settings, metadata_directory
-    name = f"{NAME}-{version()}-py3-none-any.whl"
-    files = contents()
+    made = library()
+    tag = "py3-none-" + ("any" if made is None else re.sub("[-.]", "_", sysconfig.get_platform()))
+    name = f"{NAME}-{version()}-{tag}.whl"
+    files = contents(made, tag)
     files[f"{NAME}-{version()}.dist-info/RECORD"] = listed(files)
     with zipfile.ZipFile(Path(wheel_directory) / name, "w", zipfile.ZIP_DEFLATED) as wheel:
         for path, octets in files.items():
             entry = zipfile.ZipInfo(path)
-            entry.external_attr = 0o644 << 16
+            entry.external_attr = (0o755 if path.endswith(LIBRARY) else 0o644) << 16
             wheel.writestr(entry, octets, zipfile.ZIP_DEFLATED)
     return name
 

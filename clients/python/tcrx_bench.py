@@ -24,7 +24,7 @@ if sys.version_info < (3, 9):
 # pylint: disable=wrong-import-position
 import tcrx  # noqa: E402
 from tcrx_bench_parts.craft import Craft, Release, Turn  # noqa: E402
-from tcrx_bench_parts.demo import KEYS, SETUP, Demo  # noqa: E402
+from tcrx_bench_parts.demo import KEYS, SETUP, STAND_IN, Demo, stand_in  # noqa: E402
 from tcrx_bench_parts.edges import MAKER, MARKER, CltuConnection, Decoding, Telemetry  # noqa: E402
 from tcrx_bench_parts.engine import Engine  # noqa: E402
 from tcrx_bench_parts.faults import Faults  # noqa: E402
@@ -78,7 +78,11 @@ class Bench:  # pylint: disable=too-many-instance-attributes  # it is made of th
 
     def __init__(self, options: Namespace, journal: Journal, notes: Notes) -> None:
         self.options, self.journal, self.notes = options, journal, notes
-        self.words = [options.program or tcrx.find_program(named_by="--program FILE"), "--scid", str(options.scid)] + ["--fecf"] * options.fecf
+        program = options.program or tcrx.find_program(named_by="--program FILE")
+        other = stand_in(program) if options.demo and not options.program else None
+        if other:
+            notes.say_once(STAND_IN)
+        self.words = [other or program, "--scid", str(options.scid)] + ["--fecf"] * options.fecf
         self.over: "asyncio.Future[str]" = asyncio.get_running_loop().create_future()
         """Done when the receiver has ended, and no other one is begun."""
         self.engine = self._engine_of(tcrx.Process(self.words))

@@ -79,11 +79,14 @@ class NoMemory(Fault, MemoryError):
 
 
 def find_library() -> str:
-    """Where the shared library is: in the folder that TCRX_LIB_DIR names; or in `lib` next to the folder of the path that has
-    `tclive`, as tools/install puts it; or else by its name alone, where the loader finds it."""
+    """Where the shared library is: in the folder that TCRX_LIB_DIR names; or next to this file, where pip made it; or in `lib` next
+    to the folder of the path that has `tclive`, as tools/install puts it; or else by its name alone, where the loader finds it."""
     named = os.environ.get("TCRX_LIB_DIR")
     if named:
         return str(Path(named) / LIBRARY)
+    own = Path(__file__).resolve().parent / LIBRARY
+    if own.is_file():
+        return str(own)
     program = shutil.which("tclive")
     near = Path(program).resolve().parent.parent / "lib" / LIBRARY if program else None
     return str(near) if near and near.is_file() else LIBRARY
@@ -102,7 +105,8 @@ def load(path: Library) -> ctypes.PyDLL:
                 function = getattr(library, call)
                 function.restype, function.argtypes = answer, arguments
         except (OSError, AttributeError) as error:
-            raise NotStarted(f"there is no library {name}: {error}; name it by library=, or its folder by TCRX_LIB_DIR") from error
+            raise NotStarted(f"there is no library {name}: {error}; name it by library=, or its folder by TCRX_LIB_DIR; or "
+                             "install the client by pip from a clone, where there are a C compiler and make") from error
         _libraries[name] = library
     return _libraries[name]
 

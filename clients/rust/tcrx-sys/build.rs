@@ -1,7 +1,8 @@
-//! Says where the library is: in the folder that TCRX_LIB_DIR names, or where the command pkg-config finds it.
+//! Says where the library is: in the folder that TCRX_LIB_DIR names, or where the command pkg-config finds it; or else makes it of the
+//! text in the folder `dist` of the repository, by a C compiler and `make`.
 
 use std::env;
-use std::path::PathBuf;
+use std::path::{Path, PathBuf};
 use std::process::{exit, Command};
 
 /// The folder by pkg-config: that of the variable `libdir` of dekorihe-static.pc, which is there with each library.
@@ -12,13 +13,27 @@ fn found_by_pkg_config() -> Option<PathBuf> {
     (ran.status.success() && !text.trim().is_empty()).then(|| PathBuf::from(text.trim()))
 }
 
+/// The folder of what is made here. For another machine CC and AR name the tools.
+fn made() -> Option<PathBuf> {
+    let dist = Path::new(&env::var_os("CARGO_MANIFEST_DIR")?).join("../../../dist");
+    let folder = PathBuf::from(env::var_os("OUT_DIR")?);
+    if env::var_os("TARGET") != env::var_os("HOST") && env::var_os("CC").is_none() {
+        return None;
+    }
+    println!("cargo:rerun-if-changed={}", dist.display());
+    let libraries = ["libtcrx.a", "libtcrx.so"].map(|name| folder.join(name));
+    let ran =
+        Command::new("make").args(["-s", "-C"]).arg(dist).arg(format!("OUT={}", folder.display())).args(libraries).status().ok()?;
+    ran.success().then_some(folder)
+}
+
 fn main() {
-    for name in ["TCRX_LIB_DIR", "PKG_CONFIG", "PKG_CONFIG_PATH"] {
+    for name in ["TCRX_LIB_DIR", "PKG_CONFIG", "PKG_CONFIG_PATH", "CC", "AR"] {
         println!("cargo:rerun-if-env-changed={name}");
     }
-    let Some(folder) = env::var_os("TCRX_LIB_DIR").map(PathBuf::from).or_else(found_by_pkg_config) else {
-        eprintln!("tcrx-sys: there is no library. Set TCRX_LIB_DIR to its folder, PREFIX/lib of what was installed,");
-        eprintln!("or PKG_CONFIG_PATH to PREFIX/lib/pkgconfig.");
+    let Some(folder) = env::var_os("TCRX_LIB_DIR").map(PathBuf::from).or_else(found_by_pkg_config).or_else(made) else {
+        eprintln!("tcrx-sys: there is no library, and it can't be made here, by cc, ar and make (for another machine CC and AR name them).");
+        eprintln!("Set TCRX_LIB_DIR to its folder, PREFIX/lib of what was installed, or PKG_CONFIG_PATH to PREFIX/lib/pkgconfig.");
         exit(1);
     };
     let (kind, file) =
