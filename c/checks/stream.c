@@ -1,8 +1,10 @@
 /*
  * Gives a decoder of CLTUs so many times a stream of 32 CLTUs that carry frames of 1,024 octets, in pieces of 4,096 octets. It prints how
- * many candidate frames ended, and how many code blocks were corrected and rejected.
+ * many candidate frames ended, and how many code blocks were corrected and rejected. Or it checks the frame error control field of a
+ * frame of 1,024 octets so many times.
  *
  *   stream COUNT MODE WRONG      MODE is detect or correct; WRONG is how many of the 147 code blocks of each CLTU have a wrong bit
+ *   stream COUNT sum
  */
 #include "../tcrx.h"
 
@@ -30,7 +32,17 @@ static int fill_stream(unsigned long wrong) {
     return 1;
 }
 
+static int check_sums(unsigned long times) {
+    static uint8_t frame[FRAME - 2] = {0x00, 42, 4 | (FRAME - 3) >> 8, (FRAME - 3) & 0xff}, with_field[FRAME], checked[FRAME];
+    if (tcrx_add_fecf(frame, sizeof frame, with_field, sizeof with_field).status != TCRX_DONE) return 1;
+    for (unsigned long i = 0; i < times; i++) {
+        if (tcrx_check_fecf(with_field, sizeof with_field, checked, sizeof checked).length != sizeof frame) return 1;
+    }
+    return 0;
+}
+
 int main(int count, char **words) {
+    if (count == 3) return check_sums(strtoul(words[1], NULL, 10));
     if (count != 4 || !fill_stream(strtoul(words[3], NULL, 10))) return 2;
     const unsigned long times = strtoul(words[1], NULL, 10);
     tcrx_decoder decoder = {strcmp(words[2], "correct") == 0, 0, 0, 0, 0};
