@@ -6,3 +6,4 @@ mod Farms
 mod Racks
 mod Blocks
 mod Receiving
+mod Returned

@@ -4,6 +4,7 @@ pub mod Clcw
 pub mod Frame
 pub mod Packet
 pub mod Place
+pub mod Lending
 pub mod Channel
 pub mod Rack
 pub mod Writing

@@ -1,17 +1,19 @@
 //! Frames into a channel that C holds, releases, and packets and units out of it.
 
-ghost use Rattle.std.specs.Prelude.{◌≡◌, ◌≢◌, ◌<◌, ℕ, List, [], Some, None, IfSome, IfNone};
+ghost use Rattle.std.specs.Prelude.{◌≡◌, ◌≢◌, ◌<◌, ◌≤◌, ◌+◌, ℕ, List, [], Some, None, IfSome, IfNone};
 ghost use Rattle.tc_link.specs.Frame.{BeginsWith, fault_of};
 ghost use Rattle.tc_channel.specs.declared.event.Event.TheVariants as Event;
 ghost use Rattle.tc_channel.specs.Reply.{frame_reply_within, release_reply_within, buffered_fields_within};
+ghost use Rattle.tc_channel.specs.Steps.{frame_steps_within, release_steps_within};
 ghost use Rattle.tc_fixed.specs.History.{with_limited_event};
 ghost use Rattle.tc_fixed.specs.Limits.{limit_of};
 ghost use Rattle.tc_c.specs.Status.{code_of, frame_status};
 ghost use Rattle.tc_c.specs.Channel.{reply_record, no_reply, delivery_record, no_delivery};
 
-use crate::seat::{Seat, asked};
+use crate::lent::Uncounted;
+use crate::seat::Seat;
 use crate::status::{Status, code, frame_fault};
-use tc_channel::{Delivery, FrameReply};
+use tc_channel::{Count, Delivery, FrameReply};
 use tc_fixed::{FixedChannel, NothingReleased};
 use tc_link::read_frame;
 
@@ -93,14 +95,21 @@ fn delivery_refused(fault: Status) -> DeliveryRecord
     }
 }
 
-// Gives the channel the frame at the front of the octets.
-fn bring(channel: &mut FixedChannel, octets: &[u8]) -> ReplyRecord
+/// What [`tcrx_channel_frame_at`] runs once with the channel of its seat, and with a count that isn't kept. A step is a packet that is
+/// cut from the unit that the frame ends, or a queue that is looked at; what is refused takes none.
+pub fn frame_counted<C: Count>(
+    channel: &mut FixedChannel,
+    octets: &[u8],
+    steps: &mut C,
+) -> ReplyRecord
     ensures done { IfNone (fault_of octets.now) ((frame : List ℕ) × BeginsWith octets.now frame × (result ≡ reply_record (frame_reply_within (limit_of channel.old.limits) channel.old.settings channel.old.journal frame)) × (channel.new ≡ with_limited_event channel.old (Event.Frame frame))) }
     ensures fault { IfSome (fault_of octets.now) (λ fault. (result ≡ no_reply (frame_status fault)) × (channel.new ≡ channel.old)) }
     ensures refused { 0 < result.status → channel.new ≡ channel.old }
+    ensures cost { IfNone (fault_of octets.now) ((frame : List ℕ) × BeginsWith octets.now frame × (C.taken steps.new ≤ C.taken steps.old + frame_steps_within (limit_of channel.old.limits) channel.old.settings channel.old.journal frame)) }
+    ensures quiet { 0 < result.status → C.taken steps.new ≡ C.taken steps.old }
 {
     match read_frame(octets) {
-        Ok(frame) => reply_told(channel.frame(&frame)),
+        Ok(frame) => reply_told(channel.frame_counted(&frame, steps)),
         Err(fault) => reply_refused(frame_fault(fault)),
     }
 }
@@ -117,15 +126,21 @@ pub extern "C" fn tcrx_channel_frame_at(seat: &mut Seat, octets: &[u8]) -> Reply
     ensures refused { 0 < result.status → seat.new.place.channel ≡ seat.old.place.channel }
     ensures no_channel { IfNone seat.old.place.channel (result ≡ no_reply Status.NoChannel) }
 {
-    asked!(seat, held, bring(&mut held, octets), reply_refused)
+    match seat.lend() {
+        Some(held) => frame_counted(held, octets, &mut Uncounted),
+        None => reply_refused(Status::NoChannel),
+    }
 }
 
-fn let_out(channel: &mut FixedChannel) -> DeliveryRecord
+/// What [`tcrx_channel_release_at`] runs once with the channel of its seat, and with a count that isn't kept. Steps are those of
+/// [`frame_counted`].
+pub fn release_counted<C: Count>(channel: &mut FixedChannel, steps: &mut C) -> DeliveryRecord
     ensures done { buffered_fields_within (limit_of channel.old.limits) channel.old.settings channel.old.journal ≢ [] → (result ≡ delivery_record (release_reply_within (limit_of channel.old.limits) channel.old.settings channel.old.journal)) × (channel.new ≡ with_limited_event channel.old Event.Release) }
     ensures empty { buffered_fields_within (limit_of channel.old.limits) channel.old.settings channel.old.journal ≡ [] → result ≡ no_delivery Status.Empty }
     ensures refused { 0 < result.status → channel.new ≡ channel.old }
+    ensures cost { C.taken steps.new ≤ C.taken steps.old + release_steps_within (limit_of channel.old.limits) channel.old.settings channel.old.journal }
 {
-    match channel.release() {
+    match channel.release_counted(steps) {
         Ok(delivery) => delivery_told(delivery),
         Err(NothingReleased::Empty) => delivery_refused(Status::Empty),
     }
@@ -142,7 +157,10 @@ pub extern "C" fn tcrx_channel_release_at(seat: &mut Seat) -> DeliveryRecord
     ensures refused { 0 < result.status → seat.new.place.channel ≡ seat.old.place.channel }
     ensures no_channel { IfNone seat.old.place.channel (result ≡ no_delivery Status.NoChannel) }
 {
-    asked!(seat, held, let_out(&mut held), delivery_refused)
+    match seat.lend() {
+        Some(held) => release_counted(held, &mut Uncounted),
+        None => delivery_refused(Status::NoChannel),
+    }
 }
 
 /// Frees the channel with all that it holds. Refused is a seat with no channel by NoChannel. The seat then holds none.
@@ -152,8 +170,9 @@ pub extern "C" fn tcrx_channel_free_at(seat: &mut Seat) -> u32
     ensures no_channel { IfNone seat.old.place.channel (result ≡ code_of Status.NoChannel) }
     ensures empty { seat.new.place.channel ≡ None }
 {
-    match seat.take() {
-        Some(_held) => code(Status::Done),
-        None => code(Status::NoChannel),
+    if seat.free() {
+        code(Status::Done)
+    } else {
+        code(Status::NoChannel)
     }
 }

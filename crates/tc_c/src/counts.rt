@@ -12,7 +12,7 @@ ghost use Rattle.tc_c.specs.Channel.{link_of, count_record, no_count};
 
 use crate::clcw::{ClcwRecord, link, no_word};
 use crate::farm::{FarmAnswer, no_farm, record};
-use crate::seat::{Seat, asked};
+use crate::seat::Seat;
 use crate::status::{Status, code};
 use tc_fixed::FixedChannel;
 
@@ -66,7 +66,10 @@ pub extern "C" fn tcrx_channel_clcw_at(seat: &mut Seat, no_rf: u8, no_bit_lock: 
     ensures no_channel { IfNone seat.old.place.channel (result ≡ record { status = code_of Status.NoChannel; word = 0 }) }
     ensures unchanged { seat.new.place.channel ≡ seat.old.place.channel }
 {
-    asked!(seat, held, clcw(&held, no_rf, no_bit_lock), no_word)
+    match seat.lend() {
+        Some(held) => clcw(held, no_rf, no_bit_lock),
+        None => no_word(Status::NoChannel),
+    }
 }
 
 fn farm_of(channel: &FixedChannel) -> FarmAnswer
@@ -93,7 +96,10 @@ pub extern "C" fn tcrx_channel_report_at(seat: &mut Seat) -> FarmAnswer
     ensures lawful { IfSome seat.old.place.channel (λ h. IsLawfulWithin (limit_of h.limits) h.settings h.journal) }
     ensures era { IfSome seat.old.place.channel (λ h. CountsUpInItsEraWithin (limit_of h.limits) h.settings h.journal) }
 {
-    asked!(seat, held, farm_of(&held), no_farm)
+    match seat.lend() {
+        Some(held) => farm_of(held),
+        None => no_farm(Status::NoChannel),
+    }
 }
 
 /// How many data fields wait in the buffer. Refused is a seat with no channel by NoChannel. The channel stays as it was.
@@ -103,7 +109,10 @@ pub extern "C" fn tcrx_channel_buffered_at(seat: &mut Seat) -> CountRecord
     ensures no_channel { IfNone seat.old.place.channel (result ≡ no_count Status.NoChannel) }
     ensures unchanged { seat.new.place.channel ≡ seat.old.place.channel }
 {
-    asked!(seat, held, counted(held.buffered() as u64), not_counted)
+    match seat.lend() {
+        Some(held) => counted(held.buffered() as u64),
+        None => not_counted(Status::NoChannel),
+    }
 }
 
 fn packets(channel: &FixedChannel, apid: u16) -> CountRecord
@@ -125,7 +134,10 @@ pub extern "C" fn tcrx_channel_queued_at(seat: &mut Seat, apid: u16) -> CountRec
     ensures no_channel { IfNone seat.old.place.channel (result ≡ no_count Status.NoChannel) }
     ensures unchanged { seat.new.place.channel ≡ seat.old.place.channel }
 {
-    asked!(seat, held, packets(&held, apid), not_counted)
+    match seat.lend() {
+        Some(held) => packets(held, apid),
+        None => not_counted(Status::NoChannel),
+    }
 }
 
 fn units(channel: &FixedChannel, map: u8) -> CountRecord
@@ -147,7 +159,10 @@ pub extern "C" fn tcrx_channel_units_at(seat: &mut Seat, map: u8) -> CountRecord
     ensures no_channel { IfNone seat.old.place.channel (result ≡ no_count Status.NoChannel) }
     ensures unchanged { seat.new.place.channel ≡ seat.old.place.channel }
 {
-    asked!(seat, held, units(&held, map), not_counted)
+    match seat.lend() {
+        Some(held) => units(held, map),
+        None => not_counted(Status::NoChannel),
+    }
 }
 
 /// How many frames, releases and takes there were; where they are more than 2^64 - 1, that number. Refused is a seat with no
@@ -158,5 +173,8 @@ pub extern "C" fn tcrx_channel_events_at(seat: &mut Seat) -> CountRecord
     ensures no_channel { IfNone seat.old.place.channel (result ≡ no_count Status.NoChannel) }
     ensures unchanged { seat.new.place.channel ≡ seat.old.place.channel }
 {
-    asked!(seat, held, counted(held.events()), not_counted)
+    match seat.lend() {
+        Some(held) => counted(held.events()),
+        None => not_counted(Status::NoChannel),
+    }
 }

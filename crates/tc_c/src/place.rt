@@ -1,6 +1,7 @@
 //! Where a channel lies in memory, or that none does.
 
 ghost use Rattle.std.specs.Prelude.{◌≡◌, Option, Some, None, IsSome};
+ghost use Rattle.std.specs.Borrow.{sem};
 ghost use Rattle.tc_fixed.specs.History.{LimitedHistory};
 ghost use Rattle.tc_c.specs.Place.{place_owns, history_coded};
 
@@ -24,6 +25,8 @@ impl Model for Place {
 }
 
 impl Place {
+    ghost use Rattle.tc_c.specs.Lending.{LendsOfPlace};
+
     /// The place of no channel.
     pub(crate) fn empty(alloc: Global) -> Place
         ensures { result.channel ≡ None }
@@ -55,5 +58,14 @@ impl Place {
             ptr: ptr as *mut FixedChannel,
             alloc,
         }
+    }
+
+    /// The channel that lies here, lent.
+    pub(crate) fn lend(&mut self) -> &mut FixedChannel
+        requires { IsSome self.old.channel }
+        ensures* writes_back { sem 𝓛 (LendsOfPlace self.entry result) }
+        ensures channel { self.old.channel ≡ Some result.now }
+    {
+        unsafe { &mut *(self.ptr as *mut FixedChannel) }
     }
 }

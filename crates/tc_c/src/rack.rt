@@ -84,12 +84,8 @@ fn vcid_in(seat: &mut Seat) -> Option<u8>
     ensures vcid { result ≡ option_map (λ (h : LimitedHistory). h.settings.vcid) seat.old.place.channel }
     ensures unchanged { seat.new.place.channel ≡ seat.old.place.channel }
 {
-    match seat.take() {
-        Some(held) => {
-            let vcid = held.settings().vcid;
-            seat.put(held);
-            Some(vcid)
-        }
+    match seat.lend() {
+        Some(held) => Some(held.settings().vcid),
         None => None,
     }
 }

@@ -1,4 +1,4 @@
-//! The memory of C's by which it holds a channel.
+//! The memory of C's by which it holds a channel: how one comes there, and how it goes.
 
 ghost use Rattle.std.specs.Prelude.{◌≡◌, Some, None, is_some, option_map};
 
@@ -38,8 +38,8 @@ impl Seat {
         }
     }
 
-    /// Takes the channel out, and leaves none.
-    pub(crate) fn take(&mut self) -> Option<Box<FixedChannel>>
+    // Takes the channel out, and leaves none.
+    fn take(&mut self) -> Option<Box<FixedChannel>>
         ensures channel { self.old.place.channel ≡ option_map (λ held. held.value) result }
         ensures empty { self.new.place.channel ≡ None }
     {
@@ -68,26 +68,11 @@ impl Seat {
         drop(place);
     }
 
-    /// Whether a channel is held.
-    pub(crate) fn holds(&self) -> bool
-        ensures { result ≡ is_some self.now.place.channel }
+    /// Frees the channel, and says whether one was held.
+    pub(crate) fn free(&mut self) -> bool
+        ensures freed { result ≡ is_some self.old.place.channel }
+        ensures empty { self.new.place.channel ≡ None }
     {
-        self.held
+        self.take().is_some()
     }
 }
-
-/// What is asked of the channel that a seat holds, in which it stays; the refusal where none is held.
-macro_rules! asked {
-    ($seat:ident, $held:ident, $answer:expr, $refused:ident) => {
-        match $seat.take() {
-            Some(mut $held) => {
-                let answer = $answer;
-                $seat.put($held);
-                answer
-            }
-            None => $refused(Status::NoChannel),
-        }
-    };
-}
-
-pub(crate) use asked;

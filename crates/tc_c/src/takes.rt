@@ -1,21 +1,25 @@
 //! Packets and units out of a channel that C holds, into the caller's buffer.
 
-ghost use Rattle.std.specs.Prelude.{◌≡◌, ◌<◌, ◌≤◌, [], length, Some, None, IfSome, IfNone, option_map};
+ghost use Rattle.std.specs.Prelude.{◌≡◌, ◌≢◌, ◌<◌, ◌≤◌, ◌+◌, [], length, Some, None, IfSome, IfNone, option_map};
 ghost use Rattle.tc_channel.specs.declared.event.Event.TheVariants as Event;
 ghost use Rattle.tc_channel.specs.Reply.{take_reply_within, unit_reply_within, waiting_packets_within, waiting_units_within};
+ghost use Rattle.tc_channel.specs.Steps.{looks_for, take_steps};
 ghost use Rattle.tc_fixed.specs.History.{with_limited_event};
 ghost use Rattle.tc_fixed.specs.Limits.{limit_of};
 ghost use Rattle.tc_c.specs.Channel.{no_octets, too_short, taken, IsCopied};
+ghost use Rattle.tc_c.specs.Status.{code_of};
 
 use crate::buffer::{WrittenRecord, not_written, written};
-use crate::seat::{Seat, asked};
+use crate::lent::Uncounted;
+use crate::seat::Seat;
 use crate::status::{Status, code};
+use tc_channel::Count;
 use tc_fixed::{FixedChannel, NoUnitTaken, NothingTaken};
 
 // The answer where there is no room for an item of so many octets.
 fn no_room(needed: Option<usize>) -> WrittenRecord
     ensures answer { IfSome needed (λ length. result ≡ too_short length) }
-    ensures refusal { 0 < result.status }
+    ensures status { result.status ≡ code_of Status.NoRoom }
 {
     WrittenRecord {
         status: code(Status::NoRoom),
@@ -24,25 +28,35 @@ fn no_room(needed: Option<usize>) -> WrittenRecord
 }
 
 // How long the packet is that would be taken next.
-fn packet_length(channel: &FixedChannel, apid: u16) -> Option<usize>
-    ensures { result ≡ option_map length (take_reply_within (limit_of channel.now.limits) channel.now.settings channel.now.journal apid) }
+fn packet_length<C: Count>(channel: &FixedChannel, apid: u16, steps: &mut C) -> Option<usize>
+    ensures length { result ≡ option_map length (take_reply_within (limit_of channel.now.limits) channel.now.settings channel.now.journal apid) }
+    ensures cost { C.taken steps.new ≤ C.taken steps.old + looks_for apid (length channel.now.settings.queues) }
 {
-    match channel.oldest(apid) {
+    match channel.oldest_counted(apid, steps) {
         Some(packet) => Some(packet.len()),
         None => None,
     }
 }
 
-fn take_packet(channel: &mut FixedChannel, apid: u16, to: &mut [u8]) -> WrittenRecord
+/// What [`tcrx_channel_take_at`] runs once with the channel of its seat, and with a count that isn't kept. A step is a queue that is
+/// looked at; where the buffer is too short it is looked for once more, for the length.
+pub fn take_counted<C: Count>(
+    channel: &mut FixedChannel,
+    apid: u16,
+    to: &mut [u8],
+    steps: &mut C,
+) -> WrittenRecord
     ensures taken { IfSome (take_reply_within (limit_of channel.old.limits) channel.old.settings channel.old.journal apid) (λ packet. length packet ≤ length to.old → (result ≡ taken (length packet)) × IsCopied packet to.old to.new × (channel.new ≡ with_limited_event channel.old (Event.Take apid))) }
     ensures no_room { IfSome (take_reply_within (limit_of channel.old.limits) channel.old.settings channel.old.journal apid) (λ packet. length to.old < length packet → result ≡ too_short (length packet)) }
     ensures no_queue { waiting_packets_within (limit_of channel.old.limits) channel.old.settings channel.old.journal apid ≡ None → result ≡ no_octets Status.NoQueue }
     ensures empty { waiting_packets_within (limit_of channel.old.limits) channel.old.settings channel.old.journal apid ≡ Some [] → result ≡ no_octets Status.Empty }
     ensures refused { 0 < result.status → (to.new ≡ to.old) × (channel.new ≡ channel.old) }
+    ensures cost { result.status ≢ code_of Status.NoRoom → C.taken steps.new ≤ C.taken steps.old + take_steps apid (length channel.old.settings.queues) }
+    ensures over_cost { C.taken steps.new ≤ C.taken steps.old + (take_steps apid (length channel.old.settings.queues) + looks_for apid (length channel.old.settings.queues)) }
 {
-    match channel.take(apid, to) {
+    match channel.take_counted(apid, to, steps) {
         Ok(length) => written(length),
-        Err(NothingTaken::NoRoom) => no_room(packet_length(channel, apid)),
+        Err(NothingTaken::NoRoom) => no_room(packet_length(channel, apid, steps)),
         Err(NothingTaken::NoQueue) => not_written(Status::NoQueue),
         Err(NothingTaken::Empty) => not_written(Status::Empty),
     }
@@ -65,34 +79,42 @@ pub extern "C" fn tcrx_channel_take_at(
     ensures refused { 0 < result.status → (buffer.new ≡ buffer.old) × (seat.new.place.channel ≡ seat.old.place.channel) }
     ensures no_channel { IfNone seat.old.place.channel (result ≡ no_octets Status.NoChannel) }
 {
-    asked!(
-        seat,
-        held,
-        take_packet(&mut held, apid, buffer),
-        not_written
-    )
+    match seat.lend() {
+        Some(held) => take_counted(held, apid, buffer, &mut Uncounted),
+        None => not_written(Status::NoChannel),
+    }
 }
 
 // How long the unit is that would be taken next.
-fn unit_length(channel: &FixedChannel, map: u8) -> Option<usize>
-    ensures { result ≡ option_map length (unit_reply_within (limit_of channel.now.limits) channel.now.settings channel.now.journal map) }
+fn unit_length<C: Count>(channel: &FixedChannel, map: u8, steps: &mut C) -> Option<usize>
+    ensures length { result ≡ option_map length (unit_reply_within (limit_of channel.now.limits) channel.now.settings channel.now.journal map) }
+    ensures cost { C.taken steps.new ≤ C.taken steps.old + looks_for map (length channel.now.settings.maps) }
 {
-    match channel.oldest_unit(map) {
+    match channel.oldest_unit_counted(map, steps) {
         Some(unit) => Some(unit.len()),
         None => None,
     }
 }
 
-fn take_unit(channel: &mut FixedChannel, map: u8, to: &mut [u8]) -> WrittenRecord
+/// What [`tcrx_channel_take_unit_at`] runs once with the channel of its seat, and with a count that isn't kept. A step is a queue that is
+/// looked at; where the buffer is too short it is looked for once more, for the length.
+pub fn take_unit_counted<C: Count>(
+    channel: &mut FixedChannel,
+    map: u8,
+    to: &mut [u8],
+    steps: &mut C,
+) -> WrittenRecord
     ensures taken { IfSome (unit_reply_within (limit_of channel.old.limits) channel.old.settings channel.old.journal map) (λ unit. length unit ≤ length to.old → (result ≡ taken (length unit)) × IsCopied unit to.old to.new × (channel.new ≡ with_limited_event channel.old (Event.TakeUnit map))) }
     ensures no_room { IfSome (unit_reply_within (limit_of channel.old.limits) channel.old.settings channel.old.journal map) (λ unit. length to.old < length unit → result ≡ too_short (length unit)) }
     ensures no_map { waiting_units_within (limit_of channel.old.limits) channel.old.settings channel.old.journal map ≡ None → result ≡ no_octets Status.NoMap }
     ensures empty { waiting_units_within (limit_of channel.old.limits) channel.old.settings channel.old.journal map ≡ Some [] → result ≡ no_octets Status.Empty }
     ensures refused { 0 < result.status → (to.new ≡ to.old) × (channel.new ≡ channel.old) }
+    ensures cost { result.status ≢ code_of Status.NoRoom → C.taken steps.new ≤ C.taken steps.old + take_steps map (length channel.old.settings.maps) }
+    ensures over_cost { C.taken steps.new ≤ C.taken steps.old + (take_steps map (length channel.old.settings.maps) + looks_for map (length channel.old.settings.maps)) }
 {
-    match channel.take_unit(map, to) {
+    match channel.take_unit_counted(map, to, steps) {
         Ok(length) => written(length),
-        Err(NoUnitTaken::NoRoom) => no_room(unit_length(channel, map)),
+        Err(NoUnitTaken::NoRoom) => no_room(unit_length(channel, map, steps)),
         Err(NoUnitTaken::NoMap) => not_written(Status::NoMap),
         Err(NoUnitTaken::Empty) => not_written(Status::Empty),
     }
@@ -115,5 +137,8 @@ pub extern "C" fn tcrx_channel_take_unit_at(
     ensures refused { 0 < result.status → (buffer.new ≡ buffer.old) × (seat.new.place.channel ≡ seat.old.place.channel) }
     ensures no_channel { IfNone seat.old.place.channel (result ≡ no_octets Status.NoChannel) }
 {
-    asked!(seat, held, take_unit(&mut held, map, buffer), not_written)
+    match seat.lend() {
+        Some(held) => take_unit_counted(held, map, buffer, &mut Uncounted),
+        None => not_written(Status::NoChannel),
+    }
 }

@@ -1,4 +1,11 @@
+use Rattle.std.proofs.Common.{◌∙◌}
+use Rattle.tc_c.proofs.Returned.{left-so}
 use Rattle.tc_c.proofs.counts.tcrx_channel_report_at.Goals as goal
 
 pub returns-in-Some-clause-era : goal.returns-in-Some-clause-era
-returns-in-Some-clause-era c = rw (c.in-Some.ensures.channel, ← c.deref.ensures) c.farm_of-answer.ensures.era
+returns-in-Some-clause-era c = rw (← c.in-Some.ensures.channel) c.farm_of.ensures.era
+
+pub returns-in-Some-clause-unchanged : goal.returns-in-Some-clause-unchanged
+returns-in-Some-clause-unchanged c =
+    let left = left-so c.lend.result c.in-Some.held _ c.in-Some.held.now c.in-Some.is (c.lend.follows.holds c.in-Some.held.now) in
+    left ∙ c.in-Some.ensures.channel

@@ -1,0 +1,30 @@
+-- A seat's channel, once what was lent of it came back.
+use Rattle.std.proofs.Common.{◌≡◌, ◌≤◌, ◌∙◌, ℕ, List, length, Option, Some, None, OnSome, IfSome, IfNone, ap}
+use Rattle.tc_link.specs.Frame.{BeginsWith}
+use Rattle.tc_channel.specs.declared.event.Event.TheVariants as Event
+use Rattle.tc_channel.specs.Reply.{frame_reply_within}
+use Rattle.tc_fixed.specs.History.{LimitedHistory, with_limited_event}
+use Rattle.tc_fixed.specs.Limits.{limit_of}
+use Rattle.tc_c.specs.declared.buffer.WrittenRecord.{WrittenRecord}
+use Rattle.tc_c.specs.declared.channel.ReplyRecord.{ReplyRecord}
+use Rattle.tc_c.specs.Channel.{reply_record, taken, IsCopied}
+
+pub left-so : {A : Type 0} (lent : Option A) (held : A) (left : Option LimitedHistory) (new : LimitedHistory) → lent ≡ Some held
+    → OnSome lent (left ≡ Some new) → left ≡ Some new
+left-so (Some x) held left new is holds = holds
+left-so None held left new is holds = absurd cc
+
+-- after a frame, and after a take
+pub frame-left : {A : Type 0} (fault : Option A) (octets : List ℕ) (result : ReplyRecord) (held new : LimitedHistory) (left : Option LimitedHistory) → left ≡ Some new
+    → IfNone fault ((frame : List ℕ) × BeginsWith octets frame × (result ≡ reply_record (frame_reply_within (limit_of held.limits) held.settings held.journal frame))
+    × (new ≡ with_limited_event held (Event.Frame frame)))
+    → IfNone fault ((frame : List ℕ) × BeginsWith octets frame × (result ≡ reply_record (frame_reply_within (limit_of held.limits) held.settings held.journal frame))
+    × (left ≡ Some (with_limited_event held (Event.Frame frame))))
+frame-left None octets result held new left is (frame, begins, reply, done) = (frame, begins, reply, is ∙ ap Some done)
+frame-left (Some x) octets result held new left is done = tt
+
+pub take-left : (item : Option (List ℕ)) (old to : List ℕ) (result : WrittenRecord) (new after : LimitedHistory) (left : Option LimitedHistory) → left ≡ Some new
+    → IfSome item (λ octets. length octets ≤ length old → (result ≡ taken (length octets)) × IsCopied octets old to × (new ≡ after))
+    → IfSome item (λ octets. length octets ≤ length old → (result ≡ taken (length octets)) × IsCopied octets old to × (left ≡ Some after))
+take-left None old to result new after left is each = tt
+take-left (Some octets) old to result new after left is each = λ fits. let done = each fits in (done.0, done.1, is ∙ ap Some done.2)

@@ -1,0 +1,45 @@
+//! The channel that a seat holds, lent to a call. What stands here can't reach the handles by which memory is asked for.
+
+ghost use Rattle.std.specs.Prelude.{◌≡◌, is_some, option_map};
+ghost use Rattle.std.specs.Borrow.{sem};
+
+use crate::seat::Seat;
+use tc_channel::Count;
+use tc_fixed::FixedChannel;
+
+/// A count that isn't kept. It is for the calls that C makes, each of which runs its counted body with it.
+#[derive(Drop)]
+pub(crate) struct Uncounted;
+
+impl Count for Uncounted {
+    ghost use Rattle.std.specs.Prelude.{false};
+
+    ghost taken = { λ _. 0 };
+
+    ghost counts = { false };
+
+    fn tick(&mut self) {}
+}
+
+impl Seat {
+    ghost use Rattle.tc_c.specs.Lending.{LendsOfSeat};
+
+    /// Whether a channel is held.
+    pub(crate) fn holds(&self) -> bool
+        ensures { result ≡ is_some self.now.place.channel }
+    {
+        self.held
+    }
+
+    /// The channel that is held, lent.
+    pub(crate) fn lend(&mut self) -> Option<&mut FixedChannel>
+        ensures* writes_back { sem 𝓛 (LendsOfSeat self.entry result) }
+        ensures channel { option_map (λ held. held.now) result ≡ self.old.place.channel }
+    {
+        if self.held {
+            Some(self.place.lend())
+        } else {
+            None
+        }
+    }
+}
