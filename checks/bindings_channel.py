@@ -102,7 +102,7 @@ def check_racks() -> None:
 def check_chain() -> None:
     """From CLTUs to packets: a frame of each length in a CLTU of its own, then CLTUs of one to four frames, with their sum and without, each
     with a wrong bit; none is lost. What a CLTU carries beyond as many frames as are taken is told."""
-    limits = {"limits": {0: 1024}, "width": 10, "buffer": 4, "first": 0, "queues": {5: 8}}
+    limits: Dict[str, Any] = {"limits": {0: 1024}, "width": 10, "buffer": 4, "first": 0, "queues": {5: 8}}
     for fecf in (False, True):
         with Channel(1, **limits) as channel:
             rack, decoder, lost, carried = Rack(42, [channel], fecf=fecf), Decoder(correct=True), 0, 0

@@ -234,13 +234,13 @@ void check_racks() {
     tell(ended_rack.frame(wrong).status() == Status::wrong_fecf && ended_rack.frame(fill).status() == Status::fill, "a wrong field, and fill");
     tell(ended_rack.frame(frame_to(675, 5, false)).status() == Status::no_fecf, "no field");
     tell(rack.frame({}).status() == Status::too_short, "no octets of a rack");
-    const Bytes frame = frame_to(675, 8, true);
-    Bytes candidate = frame;
-    candidate.insert(candidate.end(), frame.begin(), frame.end());
+    const Bytes whole = frame_to(675, 8, true);
+    Bytes candidate = whole;
+    candidate.insert(candidate.end(), whole.begin(), whole.end());
     candidate.push_back(0x55);
     const tcrx::Carried one = ended_rack.candidate(candidate), last = ended_rack.candidate(one.rest);
     tell(one.frame && one.frame->vcid == 8 && one.frame->brought.event == tcrx::Event::e4, "the first frame of a candidate");
-    tell(one.more && one.rest.size() == frame.size() + 1, "what follows the first frame of a candidate");
+    tell(one.more && one.rest.size() == whole.size() + 1, "what follows the first frame of a candidate");
     tell(last.frame && !last.more && last.rest.size() == 1, "the last frame of a candidate");
     tell(ended_rack.candidate(wrong).frame.status() == Status::wrong_fecf, "a candidate with a wrong field");
     tell(rack.candidate({}).frame.status() == Status::too_short, "a candidate of no octets");
