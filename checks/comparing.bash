@@ -23,6 +23,23 @@ tell() {
 show() { :; }
 refuses() { ! "$@"; }
 
+# Each conformance case of a folder without a bad line, by a program that has the spacecraft as its last word: every answer, and the final
+# report.
+data=crates/conformance/data
+answers_cases() {
+  local name scid fault cases=0 wrong=0
+  while read -r name scid fault; do
+    [ -z "$fault" ] || continue
+    cases=$((cases + 1))
+    if ! "${@:2}" "$scid" <"$1/$name.script" >"$work/out" 2>"$work/error" || ! cmp -s "$work/out" "$1/$name.out"; then
+      wrong=$((wrong + 1))
+      echo "case $name: $(diff "$work/out" "$1/$name.out" | head -n 3 | cut -c 1-200) $(head -n 3 "$work/error")"
+    fi
+  done <"$1/index"
+  echo "$cases cases, $wrong of them wrong"
+  [ "$cases" -gt 100 ] && [ "$wrong" = 0 ]
+}
+
 # The last line: how many of what passed, and what was skipped. The status.
 close() {
   echo "$passed $1 passed, $failed failed${2:+; skipped: $2}"

@@ -24,15 +24,17 @@ NUMBERS = {**SETTINGS, **OPERATIONS}
 # What scripts must reach besides: bounds of their size, and each row of FARM-1's table in each state that it can arise in.
 BOUNDS = ("a unit of 65542 octets", "a unit of 65543 octets", "64 channels", "a full buffer of 64", "a full queue of packets",
           "a full queue of units", "V(R) past 255", "a unit of a plain channel", "a unit of a chosen MAP")
+OF_LIVE = ("a report of open", "a report of wait", "a report of lockout", "a delivery by take", "a delivery by unit")
 ROWS = tuple(f"E{row} in S{state}" for row in range(1, 10) for state in (1, 2, 3) if (row, state) != (1, 2))
-WANTED = BOUNDS + ROWS + tuple(f"{word} refused {why}" for word, reasons in REFUSALS.items() for why in reasons) + REASONS
+WANTED = BOUNDS + OF_LIVE + ROWS + tuple(f"{word} refused {why}" for word, reasons in REFUSALS.items() for why in reasons) + REASONS
 
 
 class Script(NamedTuple):
-    """A script for a spacecraft."""
+    """A script for a spacecraft, or lines for `tclive`."""
 
     scid: int
     lines: Tuple[str, ...]
+    live: bool = False
 
     @property
     def octets(self) -> bytes:
@@ -48,12 +50,14 @@ class Script(NamedTuple):
 @lru_cache(maxsize=None)
 def outcome_of(script: Script) -> Outcome:
     """What a script must lead to by the model, which is asked once."""
-    return perform(script.scid, script.octets)
+    return perform(script.scid, script.octets, script.live)
 
 
 def reached_by(script: Script) -> Count[str]:
     """What a script reaches, and how often."""
     outcome = script.outcome
+    if script.live:
+        return outcome.reached
     operations = [words[0] for words in map(str.split, script.lines) if words and words[0] in REFUSALS]
     reached = outcome.reached + Counter(f"{word} {answer}" for word, answer in zip(operations, outcome.answers) if answer.startswith("refused"))
     reached[f"{sum(line.startswith('final') for line in outcome.report)} channels"] += 1
@@ -64,20 +68,25 @@ def reached_by(script: Script) -> Count[str]:
 class Drawer:
     """Draws one script, line by line."""
 
-    def __init__(self, chance: random.Random) -> None:
-        self.chance, self.scid = chance, chance.choice((0, 1, 42, 511, 512, 1_023, chance.randrange(1_024)))
-        self.receiver = Receiver(self.scid)
+    def __init__(self, chance: random.Random, live: bool) -> None:
+        self.chance, self.scid, self.live = chance, chance.choice((0, 1, 42, 511, 512, 1_023, chance.randrange(1_024))), live
+        self.receiver = Receiver(self.scid, live)
         self.lines: List[str] = []
         # How often a data field is released: where that is seldom, buffers are full.
         self.releases = chance.choice((0.02, 0.1, 0.25))
 
     def add(self, line: str) -> None:
-        """Adds a line, and has the model do it."""
+        """Adds a line, and has the model do it. For `tclive` others come behind some of those that operate, of which many are bad."""
         self.lines.append(line)
         try:
             self.receiver.answer(line)
         except BadLine:
             pass
+        if self.live and self.receiver.operating and self.chance.random() < 0.15:
+            vcid = self.chance.choice([*self.receiver.channels] * 3 + [63, 256])
+            link = f"link {vcid} {self.chance.choice((0, 0, 1, 1, 2))} {self.chance.randrange(2)}"
+            few = self.chance.choice(("link 1 0", "report", "deliver 1 1", "deliver x"))
+            self.add(self.chance.choice((link, f"report {vcid}", f"deliver {vcid}", few, bad_line(self.chance, self.chance.choice(BAD)))))
 
     # --- What is set up ---
 
@@ -183,7 +192,7 @@ def tour(drawer: Drawer) -> None:
 
 
 def each_row(drawer: Drawer) -> None:
-    """Each row of FARM-1's table, in each state."""
+    """Each row of FARM-1's table, in each state, with the CLCW behind it."""
     channel = drawer.channel(drawer.chance.randrange(64), width=drawer.chance.choice((4, 10, 252)), places=1)
     half = channel.farm.width // 2
     kinds = {"expected": (0x00, 0), "ahead": (0x00, half - 1), "behind": (0x00, -half), "outside": (0x00, half), "bypass": (0x20, 0),
@@ -194,6 +203,7 @@ def each_row(drawer: Drawer) -> None:
         field = UNLOCK if what == "unlock" else SET_VR + b"\x07" if what == "set" else drawer.field(channel)
         first, beside = kinds.get(what, (0, 0))
         drawer.add(f"frame {drawer.octets(first, channel.vcid, channel.farm.vr + beside, field).hex()}" if what in kinds else f"{what} {channel.vcid}")
+        drawer.add(f"clcw {channel.vcid}")
 
 
 def many_channels(drawer: Drawer) -> None:
@@ -216,10 +226,10 @@ def full_buffer(drawer: Drawer) -> None:
     drawer.operate(60)
 
 
-def full_queues(drawer: Drawer) -> None:
+def full_queues(drawer: Drawer, most: bool) -> None:
     """Queues for packets and for units that are filled, and emptied in part, so that the next ones come behind those that wait."""
     chance, channel = drawer.chance, drawer.channel(drawer.chance.randrange(64), plain=0)
-    capacity = chance.choice((1, 2, 3, 255, 256))
+    capacity = 256 if most else chance.choice((1, 2, 3, 255))
     drawer.add(f"queue {channel.vcid} 77 {capacity}")
     drawer.add(f"map {channel.vcid} 33 {capacity}")
     for _ in range(2):
@@ -290,7 +300,7 @@ def bad_line(chance: random.Random, reason: str) -> str:
         "unknown command": chance.choice((command.capitalize(), command.upper(), f"{command[:2]} 1", f"\x0b{command}", "\u00ffclcw 1", f"{words[0]}s 1")),
         "wrong number of words": chance.choice((f"{command} 1 1", words[0], f"{words[0]} 0 0 0 0 # no comment", "channel 1 10 1", "frame 00 00")),
         "bad number": with_number(chance.choice(list(NUMBERS)), 0, chance.choice(("-1", "+1", "0x1", "1_0", "000001", "x", "\u00b2"))),
-        "bad hex": f"frame {chance.choice(('0', '000', '0g', '0x00', '00-0', '0_', '00ff0'))}",
+        "bad hex": "frame " + chance.choice(("0", "000", "0g", "0x00", "00-0", "0_", "00ff0", "00\x00")),
         "bad option": f"channel {chance.choice((1, 60, 64))} {chance.choice((9, 10))} 1 0 {chance.choice(('Plain', 'plai', 'plains', '0', '#'))}",
         "too late": chance.choice(("channel 60 10 1 0", "channel 60 9 0 0 plain", "queue 1 2047 1", "map 1 3 1", "map 60 64 0")),
         "no channel": operation, "double channel": f"channel 1 {chance.choice((9, 10))} {chance.choice((0, 1))} 0{chance.choice(('', ' plain'))}",
@@ -309,6 +319,8 @@ def bad_line(chance: random.Random, reason: str) -> str:
 def fault(drawer: Drawer, reason: str) -> None:
     """A script with a line that is bad for this reason, and sometimes with another bad one before it or behind it."""
     chance = drawer.chance
+    for line in ("link 1 0 0", "report 1", "deliver 1") if drawer.live else ():
+        drawer.add(line)
     if reason != "no channel":
         for line in ("channel 1 10 2 0", "channel 2 4 1 255 plain", "queue 1 5 2", "map 1 3 1"):
             drawer.add(line)
@@ -319,24 +331,25 @@ def fault(drawer: Drawer, reason: str) -> None:
 
 
 SPECIAL: Tuple[Callable[[Drawer], None], ...] = (
-    each_row, many_channels, full_buffer, full_queues, full_queues, partial(long_unit, beyond=0), partial(long_unit, beyond=1), partial(long_unit, beyond=-1),
+    each_row, each_row, each_row, many_channels, full_buffer, partial(full_queues, most=True), partial(full_queues, most=False),
+    partial(long_unit, beyond=0), partial(long_unit, beyond=1), partial(long_unit, beyond=-1),
     long_lines, partial(long_script, beyond=0), partial(long_script, beyond=1),
     *(partial(beyond_bounds, command=command, at=at) for command, bounds in NUMBERS.items() for at in range(len(bounds))))
 REPEATED = 3
 
 
-def draw(seed: int, count: int) -> List[Script]:
+def draw(seed: int, count: int, live: bool = False) -> List[Script]:
     """So many scripts, the first ones for the bounds and the reasons, and tours."""
     drawn = []
     for place in range(count):
-        drawer = Drawer(random.Random(f"{seed} {place}"))
+        drawer = Drawer(random.Random(f"{seed} {place}"), live)
         if place < len(SPECIAL):
             SPECIAL[place](drawer)
         elif place < len(SPECIAL) + REPEATED * len(BAD):
             fault(drawer, BAD[(place - len(SPECIAL)) % len(BAD)])
         else:
             tour(drawer)
-        drawn.append(Script(drawer.scid, tuple(drawer.lines)))
+        drawn.append(Script(drawer.scid, tuple(drawer.lines), live))
     return drawn
 
 
@@ -347,7 +360,7 @@ def shortened(script: Script, differs: Callable[[Script], bool], tries: int = 30
         start, shorter = 0, False
         while start < len(script.lines) and tries > 0:
             tries -= 1
-            less = Script(script.scid, script.lines[:start] + script.lines[start + size:])
+            less = script._replace(lines=script.lines[:start] + script.lines[start + size:])
             if differs(less):
                 script, shorter = less, True
             else:

@@ -19,6 +19,8 @@ LONGEST_SCRIPT, LONGEST_LINE, LARGEST_UNIT = 1_048_576, 8_192, 65_542
 # The largest numbers of each line, word by word; beyond the bound of its field a smaller one is another fault.
 SETTINGS = {"channel": (255, 255, 255, 255), "queue": (255, 65_535, 65_535), "map": (255, 255, 65_535)}
 OPERATIONS = {"release": (255,), "take": (255, 65_535), "unit": (255, 255), "clcw": (255,)}
+# Those that `tclive` knows besides.
+LIVE = {"link": (255, 1, 1), "report": (255,), "deliver": (255,)}
 # The table of FARM-1, event by event: what its cells for S1 Open, S2 Wait and S3 Lockout name. Where one says nothing, the frame is discarded.
 TABLE = {
     "E1": ["accept, V(R) + 1, Retransmit 0", "", ""],
@@ -107,9 +109,9 @@ class Farm:
                 self.flags[effect[:-2]] = int(effect[-1])
         return accepted
 
-    def clcw(self, vcid: int) -> str:
-        """The CLCW, with both flags of the link 0."""
-        flags = self.flags["Lockout"] << 13 | self.flags["Wait"] << 12 | self.flags["Retransmit"] << 11
+    def clcw(self, vcid: int, link: int = 0) -> str:
+        """The CLCW, with these flags of the link."""
+        flags = link | self.flags["Lockout"] << 13 | self.flags["Wait"] << 12 | self.flags["Retransmit"] << 11
         return f"{1 << 24 | vcid << 18 | flags | self.farm_b << 9 | self.vr:08x}"
 
 
@@ -148,6 +150,8 @@ class VirtualChannel:
         self.queues: Dict[int, Queue] = {}
         self.maps: Dict[int, Queue] = {}
         self.events = 0
+        # The flags No RF Available and No Bit Lock.
+        self.link = 0
 
     def frame(self, frame: Frame) -> str:
         """What a frame is answered."""
@@ -178,6 +182,30 @@ class VirtualChannel:
         want(len(queue) > 0, Refused("empty"))
         self.events += 1
         return f"{word} {self.vcid} {key} {queue.popleft().hex() or '-'}"
+
+    def clcw(self) -> str:
+        """The CLCW, with the flags of the link."""
+        return f"clcw {self.vcid} {self.farm.clcw(self.vcid, self.link)}"
+
+    def counts(self) -> List[str]:
+        """How much waits in each queue."""
+        return [f"{word} {key} {len(queue)}" for word, queues in (("queue", self.queues), ("map", self.maps)) for key, queue in queues.items()]
+
+    def state(self) -> str:
+        """What `report` is answered."""
+        farm, state = self.farm, ("open", "wait", "lockout")[self.farm.state - 1]
+        self.reached[f"a report of {state}"] += 1
+        flags = " ".join(f"{name.lower()} {value}" for name, value in farm.flags.items())
+        return " ".join([f"report {self.vcid} state {state} vr {farm.vr} {flags} farm-b {farm.farm_b} buffered {len(self.buffer)}", *self.counts()])
+
+    def deliver(self) -> str:
+        """What `deliver` is answered, in several lines."""
+        lines = [self.release() if self.buffer else "refused empty"]
+        for word, queues in (("take", self.queues), ("unit", self.maps)):
+            for key, queue in queues.items():
+                self.reached[f"a delivery by {word}"] += len(queue)
+                lines += [self.take(word, key, queue) for _ in range(len(queue))]
+        return "\n".join([*lines, self.clcw()])
 
     def pass_on(self, service: str, field: bytes) -> Delivery:
         """Passes a data field on to reassembly."""
@@ -225,10 +253,8 @@ class VirtualChannel:
 
     def report(self) -> List[str]:
         """Its lines of the final report."""
-        lines = [f"final {self.vcid} {self.farm.clcw(self.vcid)} events {self.events} buffered {len(self.buffer)}"]
-        for word, queues in (("queue", self.queues), ("map", self.maps)):
-            lines += [f"{word} {self.vcid} {key} {len(queue)}" for key, queue in queues.items()]
-        return lines
+        front = f"final {self.vcid} {self.farm.clcw(self.vcid)} events {self.events} buffered {len(self.buffer)}"
+        return [front, *(line.replace(" ", f" {self.vcid} ", 1) for line in self.counts())]
 
 
 def read_numbers(words: List[str], bounds: Tuple[int, ...]) -> List[int]:
@@ -249,8 +275,8 @@ def read_octets(words: List[str]) -> bytes:
 class Receiver:
     """The virtual channels of a spacecraft, which the lines of a script set up and operate on."""
 
-    def __init__(self, scid: int) -> None:
-        self.scid, self.operating = scid, False
+    def __init__(self, scid: int, live: bool = False) -> None:
+        self.scid, self.operating, self.operations = scid, False, {**OPERATIONS, **(LIVE if live else {})}
         self.channels: Dict[int, VirtualChannel] = {}
         # What was met, and how often: for who draws scripts.
         self.reached: Count[str] = Counter()
@@ -263,9 +289,9 @@ class Receiver:
         if words[0] in SETTINGS:
             self.set_up(words[0], words[1:])
             return None
-        want(words[0] == "frame" or words[0] in OPERATIONS, BadLine("unknown command"))
+        want(words[0] == "frame" or words[0] in self.operations, BadLine("unknown command"))
         octets = read_octets(words[1:]) if words[0] == "frame" else b""
-        numbers = [] if words[0] == "frame" else read_numbers(words[1:], OPERATIONS[words[0]])
+        numbers = [] if words[0] == "frame" else read_numbers(words[1:], self.operations[words[0]])
         want(len(self.channels) > 0, BadLine("no channel"))
         self.operating = True
         try:
@@ -317,10 +343,12 @@ class Receiver:
         vcid, key = numbers[0], numbers[-1]
         want(vcid in self.channels, Refused("channel"))
         channel = self.channels[vcid]
-        if command == "release":
-            return channel.release()
-        if command == "clcw":
-            return f"clcw {vcid} {channel.farm.clcw(vcid)}"
+        if command == "link":
+            channel.link = numbers[1] << 15 | numbers[2] << 14
+            return f"link {vcid} {numbers[1]} {numbers[2]}"
+        alone = {"release": channel.release, "clcw": channel.clcw, "report": channel.state, "deliver": channel.deliver}
+        if command in alone:
+            return alone[command]()
         return channel.take(command, key, channel.maps.get(key) if command == "unit" else channel.queues.get(key))
 
     def report(self) -> List[str]:
@@ -339,7 +367,7 @@ class Outcome(NamedTuple):
 
 def perform(scid: int, script: bytes, live: bool = False) -> Outcome:
     """Performs a script as `tcrx run` must, to its end or its first bad line; or as `tclive` must, which answers a bad line and goes on."""
-    receiver = Receiver(scid)
+    receiver = Receiver(scid, live)
     if len(script) > LONGEST_SCRIPT and not live:
         return Outcome([], [], "line 0: too long", receiver.reached)
     lines, answers = script.decode("latin-1").split("\n"), []

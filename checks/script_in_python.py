@@ -1,36 +1,79 @@
 #!/usr/bin/env python3
 """Runs a script on standard input through channels of the Python client, and prints its answers and its final report in the words of the
-program tcrx, for checks/bindings and checks/drawn. The script has no bad line.
+program tcrx, for checks/bindings and checks/drawn. The script has no bad line. With a program it is this `tclive` that answers, by a
+receiver of the client; each line is then one for which that has a call, and may be bad.
 
-usage: checks/script_in_python.py SCID
+usage: checks/script_in_python.py SCID [PROGRAM]
 """
 from __future__ import annotations
 
 import re
 import sys
 from pathlib import Path
-from typing import Any, Callable, Dict, List
+from typing import Any, Callable, Dict, List, Tuple
 
 sys.dont_write_bytecode = True
 sys.path.insert(0, str(Path(__file__).resolve().parent.parent / "clients/python"))
 # pylint: disable=wrong-import-position  # it is found by the path above
-from tcrx import Brought, Channel, Clcw, Packet, Refusal, Refused, Unit  # noqa: E402
+from tcrx import BadLine, Brought, Channel, Clcw, Delivered, Final, Packet, Receiver, Refusal, Refused, Report, Unit  # noqa: E402
 from tcrx_channel import Rack  # noqa: E402
 
 
 def line_of(answer: Any) -> str:
     """An answer in a line."""
-    if isinstance(answer, Refused):
-        return f"refused {answer.reason.value}"
-    if isinstance(answer, Clcw):
-        return f"clcw {answer.channel} {answer.word:08x}"
+    if isinstance(answer, (Refused, Clcw)):
+        return f"refused {answer.reason.value}" if isinstance(answer, Refused) else f"clcw {answer.channel} {answer.word:08x}"
     if isinstance(answer, (Packet, Unit)):
         what, key = ("take", answer.apid) if isinstance(answer, Packet) else ("unit", answer.map)
         return f"{what} {answer.channel} {key} {answer.octets.hex() or '-'}"
+    if isinstance(answer, Report):
+        flags = f"lockout {answer.lockout:d} wait {answer.wait:d} retransmit {answer.retransmit:d} farm-b {answer.farm_b}"
+        words = [f"report {answer.channel} state {answer.state.value} vr {answer.vr} {flags} buffered {answer.buffered}"]
+        return " ".join([*words, *(f"{what} {key} {count}" for what, key, count in counts_of(answer))])
+    if isinstance(answer, Delivered):
+        return "\n".join(map(line_of, [answer.released, *answer.taken, answer.clcw]))
     unit = f"queued {answer.delivery.queued} dropped {answer.delivery.dropped} rest {int(answer.delivery.rest)}"
     if isinstance(answer, Brought):
         return f"frame {answer.channel} {answer.event.value} accepted {int(answer.accepted)} {unit}"
     return f"release {answer.channel} {unit}"
+
+
+def counts_of(answer: Any) -> List[Tuple[str, int, int]]:
+    """How much waits in each queue, by a report."""
+    return [(what, key, count) for what, counts in (("queue", answer.queues), ("map", answer.maps)) for key, count in counts.items()]
+
+
+def print_final(vcid: int, final: Final) -> None:
+    """The lines of a channel in the final report."""
+    print(f"final {vcid} {final.clcw.word:08x} events {final.events} buffered {final.buffered}")
+    for what, key, count in counts_of(final):
+        print(f"{what} {vcid} {key} {count}")
+
+
+def answer_by(receiver: Receiver, words: List[str]) -> str:
+    """What a receiver answers to a line, by the call that is for it."""
+    numbers = [int(word) for word in words[1:] if words[0] != "frame" and word != "plain"]
+    calls: Dict[str, Callable[..., Any]] = {
+        "channel": lambda vcid, width, buffer, first: receiver.channel(vcid, width=width, buffer=buffer, first=first, plain=len(words) > 5),
+        "frame": lambda: receiver.bring(bytes.fromhex(words[1])), "link": lambda vcid, no_rf, lock: receiver.link(vcid, bool(no_rf), bool(lock)),
+        "queue": receiver.queue, "map": receiver.map, "release": receiver.release, "take": receiver.take, "unit": receiver.take_unit,
+        "clcw": receiver.clcw, "report": receiver.report, "deliver": receiver.deliver}
+    try:
+        answer = calls[words[0]](*numbers)
+    except BadLine as bad:
+        return f"bad {bad.reason}\n"
+    if answer is None:
+        return ""
+    return " ".join(words) + "\n" if answer is True else f"{line_of(answer)}\n"
+
+
+def talk(scid: int, program: str, lines: List[List[str]]) -> None:
+    """Does all lines by a receiver."""
+    with Receiver(scid, program=program) as receiver:
+        for words in lines:
+            print(answer_by(receiver, words), end="")
+    for vcid, final in receiver.final.items():
+        print_final(vcid, final)
 
 
 def answer_to(rack: Rack, words: List[str]) -> Any:
@@ -49,6 +92,9 @@ def main() -> None:
     # The words of a script are separated by these alone.
     lines = [re.findall(r"[^ \t\r]+", line) for line in sys.stdin.buffer.read().decode(errors="replace").split("\n")]
     lines = [words for words in lines if words and not words[0].startswith("#")]
+    if len(sys.argv) > 2:
+        talk(int(sys.argv[1]), sys.argv[2], lines)
+        return
     settings: Dict[int, Dict[str, Any]] = {}
     for words in lines:
         if words[0] in ("channel", "queue", "map"):
@@ -63,11 +109,7 @@ def main() -> None:
         if words[0] not in ("channel", "queue", "map"):
             print(line_of(answer_to(rack, words)))
     for vcid, channel in channels.items():
-        final = channel.close()
-        print(f"final {vcid} {final.clcw.word:08x} events {final.events} buffered {final.buffered}")
-        for what, counts in (("queue", final.queues), ("map", final.maps)):
-            for key, count in counts.items():
-                print(f"{what} {vcid} {key} {count}")
+        print_final(vcid, channel.close())
 
 
 if __name__ == "__main__":

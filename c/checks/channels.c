@@ -144,12 +144,12 @@ static void make_all(void) {
 }
 
 /* A frame without fill, of which there is room for the frame error control field, is brought with it every other time. */
-static tcrx_rack_reply bring_octets(unsigned scid, size_t count) {
+static tcrx_rack_reply bring_octets(unsigned scid, const uint8_t *frame, size_t count) {
     static uint8_t ended[1024];
     static unsigned frames;
-    const tcrx_written added = tcrx_add_fecf(octets, count, ended, sizeof ended);
+    const tcrx_written added = tcrx_add_fecf(frame, count, ended, sizeof ended);
     if (added.status != TCRX_DONE || frames++ % 2 == 0) {
-        return tcrx_rack_frame(rack, CHANNELS, (uint16_t)scid, 0, octets, count);
+        return tcrx_rack_frame(rack, CHANNELS, (uint16_t)scid, 0, frame, count);
     }
     ended[added.length - 1] ^= 1;
     if (tcrx_rack_frame(rack, CHANNELS, (uint16_t)scid, 1, ended, added.length).status != TCRX_WRONG_FECF) {
@@ -159,8 +159,13 @@ static tcrx_rack_reply bring_octets(unsigned scid, size_t count) {
     return tcrx_rack_frame(rack, CHANNELS, (uint16_t)scid, 1, ended, added.length);
 }
 
+/* From a block of just so many octets, so that a sanitizer sees what lies beyond. */
 static void bring(unsigned scid) {
-    const tcrx_rack_reply reply = bring_octets(scid, read_octets());
+    const size_t count = read_octets();
+    uint8_t *frame = malloc(count == 0 ? 1 : count);
+    memcpy(frame, octets, count);
+    const tcrx_rack_reply reply = bring_octets(scid, frame, count);
+    free(frame);
     if (reply.status != TCRX_DONE) {
         printf("refused %s\n", refusal(reply.status));
         return;
@@ -179,21 +184,28 @@ static void release(unsigned vcid, receiver *at) {
     printf(" rest %u\n", (unsigned)delivery.rest);
 }
 
+/* A take into a block of just so many octets, of which what is written goes to `taken`. */
+static tcrx_written take_into(tcrx_channel *held, bool unit, unsigned key, size_t room) {
+    uint8_t *to = malloc(room == 0 ? 1 : room);
+    const tcrx_written written = unit ? tcrx_channel_take_unit(held, (uint8_t)key, to, room) : tcrx_channel_take(held, (uint16_t)key, to, room);
+    memcpy(taken, to, written.status == TCRX_DONE ? written.length : 0);
+    free(to);
+    return written;
+}
+
 /* First into a buffer that is one octet short, which must take nothing, then into one that is just long enough. */
 static void take(const char *what, unsigned vcid, receiver *at, unsigned key) {
     const bool unit = strcmp(what, "unit") == 0;
     tcrx_channel *held = held_by(at);
-    const uint16_t apid = (uint16_t)key;
-    const uint8_t map = (uint8_t)key;
     const uint64_t events = tcrx_channel_events(held).count;
-    tcrx_written answer = unit ? tcrx_channel_take_unit(held, map, taken, 0) : tcrx_channel_take(held, apid, taken, 0);
+    tcrx_written answer = take_into(held, unit, key, 0);
     if (answer.status == TCRX_NO_ROOM) {
-        const size_t short_of = answer.length - 1, needed = answer.length;
-        answer = unit ? tcrx_channel_take_unit(held, map, taken, short_of) : tcrx_channel_take(held, apid, taken, short_of);
+        const size_t needed = answer.length;
+        answer = take_into(held, unit, key, needed - 1);
         if (answer.status != TCRX_NO_ROOM || answer.length != needed || tcrx_channel_events(held).count != events) {
             fail("a buffer that is short", answer.status);
         }
-        answer = unit ? tcrx_channel_take_unit(held, map, taken, needed) : tcrx_channel_take(held, apid, taken, needed);
+        answer = take_into(held, unit, key, needed);
     }
     if (answer.status != TCRX_DONE) {
         printf("refused %s\n", refusal(answer.status));
