@@ -400,8 +400,6 @@ void check_reports() {
 }
 
 void check_settings() {
-    const tcrx::Queue twice[] = {{5, 1}, {5, 1}}, high[] = {{2047, 1}}, none[] = {{5, 0}};
-    const tcrx::Map map_twice[] = {{2, 1}, {2, 1}}, high_map[] = {{64, 1}}, no_units[] = {{2, 0}}, one_map[] = {{2, 1}};
     const auto status = [](const tcrx::Settings &tried, tcrx::Queues its_queues, tcrx::Maps its_maps) {
         const tcrx::Status made = tcrx::Channel::make(tried, its_queues, its_maps).status();
         return tcrx::storage(tried, its_queues, its_maps).status() == made ? made : tcrx::Status::no_status;
@@ -414,12 +412,7 @@ void check_settings() {
     };
     const tcrx::Limit of_two[] = {{2, 6}}, high_limit[] = {{64, 6}}, twice_limited[] = {{2, 6}, {2, 6}}, no_limit[] = {{2, 0}};
     using tcrx::Status;
-    tell(status({64, 10, 4, 0}, {}, {}) == Status::bad_vcid && status({1, 9, 4, 0}, {}, {}) == Status::bad_width, "bad numbers");
-    tell(status({1, 10, 0, 0}, {}, {}) == Status::bad_buffer && status(settings, high, {}) == Status::bad_apid, "bad numbers, 2");
-    tell(status(settings, twice, {}) == Status::double_apid && status(settings, none, {}) == Status::bad_capacity, "bad queues");
-    tell(status(settings, {}, high_map) == Status::bad_map && status(settings, {}, map_twice) == Status::double_map, "bad MAPs");
-    tell(status(settings, {}, no_units) == Status::bad_units, "a MAP without room");
-    tell(status({1, 10, 4, 0, false}, {}, one_map) == Status::plain_map, "a MAP without segment headers");
+    tell(status({1, 9, 4, 0}, {}, {}) == Status::bad_width && status({1, 10, 4, 0, false}, {}, maps) == Status::plain_map, "bad settings");
     tell(status(settings, {nullptr, 1}, {}) == Status::null && status(settings, {}, {}) == Status::done, "queues nowhere");
     tell(tcrx::storage(settings, queues, maps).value() > 65542, "a storage");
     tell(within({65543, {}}) == Status::bad_others && within({0, high_limit}) == Status::bad_limit_map, "bad limits");
