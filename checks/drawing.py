@@ -24,7 +24,7 @@ NUMBERS = {**SETTINGS, **OPERATIONS}
 # What scripts must reach besides: bounds of their size, and each row of FARM-1's table in each state that it can arise in.
 BOUNDS = ("a unit of 65542 octets", "a unit of 65543 octets", "64 channels", "a full buffer of 64", "a full queue of packets",
           "a full queue of units", "V(R) past 255", "a unit of a plain channel", "a unit of a chosen MAP")
-OF_LIVE = ("a report of open", "a report of wait", "a report of lockout", "a delivery by take", "a delivery by unit")
+OF_LIVE = ("a report of open", "a report of wait", "a report of lockout", "a delivery by take", "a delivery by unit", "a candidate with more")
 ROWS = tuple(f"E{row} in S{state}" for row in range(1, 10) for state in (1, 2, 3) if (row, state) != (1, 2))
 WANTED = BOUNDS + OF_LIVE + ROWS + tuple(f"{word} refused {why}" for word, reasons in REFUSALS.items() for why in reasons) + REASONS
 
@@ -85,8 +85,9 @@ class Drawer:
         if self.live and self.receiver.operating and self.chance.random() < 0.15:
             vcid = self.chance.choice([*self.receiver.channels] * 3 + [63, 256])
             link = f"link {vcid} {self.chance.choice((0, 0, 1, 1, 2))} {self.chance.randrange(2)}"
-            few = self.chance.choice(("link 1 0", "report", "deliver 1 1", "deliver x"))
-            self.add(self.chance.choice((link, f"report {vcid}", f"deliver {vcid}", few, bad_line(self.chance, self.chance.choice(BAD)))))
+            few = self.chance.choice(("link 1 0", "report", "deliver 1 1", "collect x", "candidate 0"))
+            good = (link, f"report {vcid}", f"deliver {vcid}", f"collect {vcid}")
+            self.add(self.chance.choice((*good, few, bad_line(self.chance, self.chance.choice(BAD)))))
 
     # --- What is set up ---
 
@@ -159,6 +160,8 @@ class Drawer:
         if kind < 0.55:
             octets = self.frame(channel)
             octets = self.spoilt(octets) if chance.random() < 0.1 else octets + chance.randbytes(chance.choice((0, 0, 0, 3)))
+            if self.live and chance.random() < 0.2:
+                return f"candidate {(octets + self.frame(channel) * (chance.random() < 0.1)).hex()}{'55' * chance.choice((0, 3, 6, 7))}"
             return f"frame {octets.hex() if chance.random() < 0.8 else octets.hex().upper()}"
         if kind < 0.55 + self.releases:
             return f"release {vcid}"
@@ -319,7 +322,7 @@ def bad_line(chance: random.Random, reason: str) -> str:
 def fault(drawer: Drawer, reason: str) -> None:
     """A script with a line that is bad for this reason, and sometimes with another bad one before it or behind it."""
     chance = drawer.chance
-    for line in ("link 1 0 0", "report 1", "deliver 1") if drawer.live else ():
+    for line in ("link 1 0 0", "report 1", "deliver 1", "collect 1", "candidate 00") if drawer.live else ():
         drawer.add(line)
     if reason != "no channel":
         for line in ("channel 1 10 2 0", "channel 2 4 1 255 plain", "queue 1 5 2", "map 1 3 1"):

@@ -13,14 +13,14 @@ import argparse
 import re
 import sys
 from collections import Counter, deque
-from typing import Counter as Count, Deque, Dict, List, NamedTuple, Optional, Tuple
+from typing import Callable, Counter as Count, Deque, Dict, List, NamedTuple, Optional, Tuple
 
 LONGEST_SCRIPT, LONGEST_LINE, LARGEST_UNIT = 1_048_576, 8_192, 65_542
 # The largest numbers of each line, word by word; beyond the bound of its field a smaller one is another fault.
 SETTINGS = {"channel": (255, 255, 255, 255), "queue": (255, 65_535, 65_535), "map": (255, 255, 65_535)}
 OPERATIONS = {"release": (255,), "take": (255, 65_535), "unit": (255, 255), "clcw": (255,)}
 # Those that `tclive` knows besides.
-LIVE = {"link": (255, 1, 1), "report": (255,), "deliver": (255,)}
+LIVE = {"link": (255, 1, 1), "report": (255,), "deliver": (255,), "collect": (255,)}
 # The table of FARM-1, event by event: what its cells for S1 Open, S2 Wait and S3 Lockout name. Where one says nothing, the frame is discarded.
 TABLE = {
     "E1": ["accept, V(R) + 1, Retransmit 0", "", ""],
@@ -70,6 +70,18 @@ def read_frame(octets: bytes) -> Frame:
     want(length >= 5, Refused("length"))
     want(length + 1 <= len(octets), Refused("truncated"))
     return Frame(octets[0] >> 5 & 1, octets[0] >> 4 & 1, (octets[0] & 0b11) << 8 | octets[1], octets[2] >> 2, octets[4], octets[5:length + 1])
+
+
+def carries_more(octets: bytes) -> bool:
+    """Whether more than fill follows the frame of a candidate: over six octets, or another frame."""
+    try:
+        rest = octets[5 + len(read_frame(octets).field):]
+    except Refused:
+        return False
+    try:
+        return bool(read_frame(rest))
+    except Refused:
+        return len(rest) > 6
 
 
 class Farm:
@@ -198,9 +210,9 @@ class VirtualChannel:
         flags = " ".join(f"{name.lower()} {value}" for name, value in farm.flags.items())
         return " ".join([f"report {self.vcid} state {state} vr {farm.vr} {flags} farm-b {farm.farm_b} buffered {len(self.buffer)}", *self.counts()])
 
-    def deliver(self) -> str:
-        """What `deliver` is answered, in several lines."""
-        lines = [self.release() if self.buffer else "refused empty"]
+    def deliver(self, releases: bool = True) -> str:
+        """What `deliver` is answered, in several lines; without a release what `collect` is."""
+        lines = [self.release() if self.buffer else "refused empty"] if releases else []
         for word, queues in (("take", self.queues), ("unit", self.maps)):
             for key, queue in queues.items():
                 self.reached[f"a delivery by {word}"] += len(queue)
@@ -277,6 +289,7 @@ class Receiver:
 
     def __init__(self, scid: int, live: bool = False) -> None:
         self.scid, self.operating, self.operations = scid, False, {**OPERATIONS, **(LIVE if live else {})}
+        self.with_octets = ("frame", "candidate") if live else ("frame",)
         self.channels: Dict[int, VirtualChannel] = {}
         # What was met, and how often: for who draws scripts.
         self.reached: Count[str] = Counter()
@@ -289,9 +302,12 @@ class Receiver:
         if words[0] in SETTINGS:
             self.set_up(words[0], words[1:])
             return None
-        want(words[0] == "frame" or words[0] in self.operations, BadLine("unknown command"))
-        octets = read_octets(words[1:]) if words[0] == "frame" else b""
-        numbers = [] if words[0] == "frame" else read_numbers(words[1:], self.operations[words[0]])
+        want(words[0] in self.with_octets or words[0] in self.operations, BadLine("unknown command"))
+        octets = read_octets(words[1:]) if words[0] in self.with_octets else b""
+        numbers = [] if words[0] in self.with_octets else read_numbers(words[1:], self.operations[words[0]])
+        if words[0] == "candidate" and carries_more(octets):
+            self.reached["a candidate with more"] += 1
+            return "refused more"
         want(len(self.channels) > 0, BadLine("no channel"))
         self.operating = True
         try:
@@ -346,7 +362,8 @@ class Receiver:
         if command == "link":
             channel.link = numbers[1] << 15 | numbers[2] << 14
             return f"link {vcid} {numbers[1]} {numbers[2]}"
-        alone = {"release": channel.release, "clcw": channel.clcw, "report": channel.state, "deliver": channel.deliver}
+        alone: Dict[str, Callable[[], str]] = {"release": channel.release, "clcw": channel.clcw, "report": channel.state, "deliver": channel.deliver,
+                                               "collect": lambda: channel.deliver(releases=False)}
         if command in alone:
             return alone[command]()
         return channel.take(command, key, channel.maps.get(key) if command == "unit" else channel.queues.get(key))
