@@ -25,7 +25,6 @@ refuses() { ! "$@"; }
 
 # Each conformance case of a folder without a bad line, by a program that has the spacecraft as its last word: every answer, and the final
 # report.
-data=crates/conformance/data
 answers_cases() {
   local name scid fault cases=0 wrong=0
   while read -r name scid fault; do
