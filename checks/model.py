@@ -396,7 +396,7 @@ def perform(scid: int, script: bytes, live: bool = False) -> Outcome:
         except BadLine as reason:
             if not live:
                 return Outcome([answer for answer in answers if answer], [], f"line {number}: {reason}", receiver.reached)
-            answers.append(f"bad {reason}")
+            answers.append(str(reason) if str(reason).startswith("bad ") else f"bad {reason}")
     return Outcome([answer for answer in answers if answer], receiver.report(), "", receiver.reached)
 
 

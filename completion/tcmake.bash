@@ -7,6 +7,6 @@ _tcmake() {
         compopt -o filenames 2>/dev/null
         return
     fi
-    mapfile -t COMPREPLY < <(compgen -W '--fecf -h --help -V --version' -- "$current")
+    mapfile -t COMPREPLY < <(compgen -W '--fecf --strict -h --help -V --version' -- "$current")
 }
 complete -F _tcmake tcmake

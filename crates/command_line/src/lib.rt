@@ -11,4 +11,4 @@ mod programs;
 mod words;
 
 pub use program::Way;
-pub use programs::{Reception, ScriptRun, asked_of_tclive, asked_of_tcmake, asked_of_tcrx};
+pub use programs::{Making, Reception, ScriptRun, asked_of_tclive, asked_of_tcmake, asked_of_tcrx};

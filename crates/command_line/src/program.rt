@@ -33,6 +33,8 @@ pub(crate) struct Program {
     pub(crate) scid: bool,
     /// What `--fecf` asks for, if it is an option.
     pub(crate) fecf: Option<&'static str>,
+    /// What `--strict` asks for, likewise.
+    pub(crate) strict: Option<&'static str>,
     /// The commands, each of which runs a script for a spacecraft, with what help says of it.
     pub(crate) commands: &'static [(&'static str, &'static str)],
 }
@@ -43,6 +45,7 @@ pub(crate) struct Asked {
     pub(crate) way: Way,
     pub(crate) scid: Option<u16>,
     pub(crate) fecf: bool,
+    pub(crate) strict: bool,
 }
 
 /// What the words that a program was started with ask for; or else the exit status, after all is printed.
@@ -92,6 +95,7 @@ fn asked_by(way: Way, matches: &ArgMatches) -> Asked {
         way,
         scid: matches.get_one::<u16>("scid"),
         fecf: matches.get_flag("fecf"),
+        strict: matches.get_flag("strict"),
     }
 }
 
@@ -104,10 +108,12 @@ fn command<'a>(alloc: Global, program: &Program) -> Result<Command<'a>, AllocErr
     if program.scid {
         command = command.arg(scid(alloc))?;
     }
-    match program.fecf {
-        Some(help) => command.arg(fecf(alloc, help)),
-        None => Ok(command),
+    for (name, asks_for) in [("fecf", program.fecf), ("strict", program.strict)] {
+        if let Some(help) = asks_for {
+            command = command.arg(flag(alloc, name, help))?;
+        }
     }
+    Ok(command)
 }
 
 fn texts<'a>(alloc: Global, name: &'a str, about: &'a str, end: &'a str) -> Command<'a> {
@@ -124,9 +130,9 @@ fn scid<'a>(alloc: Global) -> Arg<'a> {
         .help("The spacecraft id, from 0 to 1023")
 }
 
-fn fecf<'a>(alloc: Global, help: &'a str) -> Arg<'a> {
-    Arg::new(alloc, "fecf")
-        .long("fecf")
+fn flag<'a>(alloc: Global, name: &'a str, help: &'a str) -> Arg<'a> {
+    Arg::new(alloc, name)
+        .long(name)
         .action(ArgAction::SetTrue)
         .help(help)
 }

@@ -14,6 +14,7 @@ const TCRX: Program = Program {
     end: SCRIPTS,
     scid: false,
     fecf: None,
+    strict: None,
     commands: &[
         (
             "run",
@@ -34,6 +35,7 @@ const TCLIVE: Program = Program {
     fecf: Some(
         "Each frame must end with its frame error control field; one that doesn't is answered: refused check",
     ),
+    strict: None,
     commands: &[],
 };
 
@@ -43,6 +45,7 @@ const TCMAKE: Program = Program {
     end: MAKER_LINES,
     scid: false,
     fecf: Some("Ends each frame with a frame error control field"),
+    strict: Some("Ends after the answer to the first bad line, with status 1"),
     commands: &[],
 };
 
@@ -58,6 +61,13 @@ pub struct ScriptRun {
 pub struct Reception {
     pub scid: u16,
     pub fecf: bool,
+}
+
+/// How frames are made: whether each is to end with its frame error control field, and whether the first bad line ends it all.
+#[derive(Clone, Copy, Debug, PartialEq, Eq)]
+pub struct Making {
+    pub fecf: bool,
+    pub strict: bool,
 }
 
 /// What `tcrx` is to do, by the words that it was started with; or else the exit status, after all is printed.
@@ -82,9 +92,12 @@ pub fn asked_of_tclive<R: Env + AllocGlobal + Print + Eprint>(rt: &R) -> Result<
     Ok(Reception { scid, fecf })
 }
 
-/// Whether `tcmake` is to end each frame with its frame error control field, likewise.
-pub fn asked_of_tcmake<R: Env + AllocGlobal + Print + Eprint>(rt: &R) -> Result<bool, ExitCode>
+/// What `tcmake` is to do, likewise.
+pub fn asked_of_tcmake<R: Env + AllocGlobal + Print + Eprint>(rt: &R) -> Result<Making, ExitCode>
     ensures { IfErr result (λ status. exit_status status ≤ 2) }
 {
-    Ok(ask(rt, &TCMAKE)?.fecf)
+    let asked = ask(rt, &TCMAKE)?;
+    let fecf = asked.fecf;
+    let strict = asked.strict;
+    Ok(Making { fecf, strict })
 }

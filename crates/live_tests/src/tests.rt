@@ -19,7 +19,7 @@ fn check_answers(rt: &impl Abort, alloc: Global, lines: &str, answers: &str) {
     let mut written = Vec::new(alloc);
     let receiver = receiver(rt, alloc, FrameCheck::Nothing);
     let served = answer_lines(alloc, receiver, &mut reader, &mut written);
-    assert_eq!(rt; served, Ok(()));
+    assert!(rt; served.is_ok());
     let text = str::from_utf8(&written).unwrap_or("no text");
     assert!(rt; text == answers, "{text}");
 }

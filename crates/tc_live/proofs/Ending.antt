@@ -16,7 +16,7 @@ use Rattle.tc_live.specs.declared.serving.ServingFault.{ServingFault}
 use Rattle.tc_live.specs.declared.serving.ServingFault.TheVariants.{Write}
 
 -- the report follows the answers
-pub all-written : (closed : Result (Unit {0}) ServingFault) (receiver last : Receiving) (known a b c : Option (List ℕ))
+pub all-written : {T : Type 0} (closed : Result T ServingFault) (receiver last : Receiving) (known a b c : Option (List ℕ))
     → IfSome known (λ octets. lines.AreAllWritten line_limit IsLineSaid receiver octets last a b) → OnOk closed (IsReportWritten last b c)
     → OnOk closed (IfSome known (λ octets. IsReceptionWritten receiver octets a c))
 all-written (Err fault) receiver last known a b c answered report = tt
@@ -25,7 +25,7 @@ all-written (Ok done) receiver last (Some octets) a b c (answers, is, before) (c
     (last, answers, channels, is, all, rising, Appends-trans a b c answers _ before more)
 
 -- there is no report, or not the whole of it
-pub not-reported : (closed : Result (Unit {0}) ServingFault) (receiver last : Receiving) (known a b c : Option (List ℕ))
+pub not-reported : {T : Type 0} (closed : Result T ServingFault) (receiver last : Receiving) (known a b c : Option (List ℕ))
     → IfSome known (λ octets. lines.AreAllWritten line_limit IsLineSaid receiver octets last a b)
     → IfErr closed (IsClosingFault last) → IfErr closed (λ fault. (fault ≡ Write) ⊎ Keeps b c)
     → IfErr closed (λ fault. IfSome known (λ octets. IsReceptionCutShort receiver octets a c fault))

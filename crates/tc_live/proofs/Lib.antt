@@ -1,5 +1,6 @@
 mod Deliveries
 mod Ending
 mod Following
+mod Hints
 mod Instructed
 mod Candidates

@@ -10,7 +10,7 @@ use Rattle.tc_channel.specs.declared.holding.Holding.{Holding}
 use Rattle.tc_channel.specs.declared.holding.QueueHolding.{QueueHolding}
 use Rattle.tc_channel.specs.declared.holding.MapHolding.{MapHolding}
 use Rattle.tc_rack.specs.Printed.{answer_text}
-use Rattle.tc_live.specs.Hint.{line_hint_text}
+use Rattle.tc_live.specs.Hint.{bad_word_text, line_hint_text}
 use Rattle.tc_live.specs.declared.answer.LiveAnswer.{LiveAnswer}
 use Rattle.tc_live.specs.declared.answer.LiveAnswer.TheVariants.{Nothing, Operation, Delivery, Collection, Unchecked, More, Link as LinkOf, Report, UnknownChannel}
 
@@ -69,4 +69,4 @@ live_text UnknownChannel = codes "refused channel\n"
 
 -- what a bad line of these words is answered: why, and what to write instead
 abbrev pub bad_line_text : List (List ℕ) → Reason → List ℕ
-bad_line_text line reason = codes "bad " ++ reason_text reason ++ line_hint_text line reason ++ codes "\n"
+bad_line_text line reason = bad_word_text reason ++ reason_text reason ++ line_hint_text line reason ++ codes "\n"

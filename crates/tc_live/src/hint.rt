@@ -1,23 +1,75 @@
-//! What follows the reason in the answer to a bad line.
+//! What a bad line is answered: why, and what to write instead.
 
 ghost use Rattle.std.specs.Prelude.{◌≡◌};
 ghost use Rattle.tc_lines.specs.Word.{words};
-ghost use Rattle.tc_live.specs.Hint.{command_form_text, line_hint_text};
+ghost use Rattle.tc_live.specs.Hint.{bad_word_text, bounds_text, command_form_text, first_misfit, is_marked, line_hint_text, most_of, number_hint_text, numbers_behind, takes_word, unknown_text};
 
-use tc_lines::next_word;
+use tc_lines::{large_number, next_word};
 use tc_text::Reason;
 
-/// What to write instead: which commands there are, or how the line's command is written. Nothing follows any other reason.
+/// The word before a reason: `bad`, unless the reason begins with it.
+pub(crate) fn word_before(reason: Reason) -> &'static str
+    ensures { result.now ≡ bad_word_text reason }
+{
+    match reason {
+        Reason::BadNumber
+        | Reason::BadHex
+        | Reason::BadVcid
+        | Reason::BadWindow
+        | Reason::BadBuffer
+        | Reason::BadApid
+        | Reason::BadCapacity
+        | Reason::BadOption
+        | Reason::BadMap
+        | Reason::BadUnits => "",
+        _ => "bad ",
+    }
+}
+
+/// What to write instead: which commands there are, how the line's command is written, or what its wrong word may be. Nothing follows
+/// any other reason.
 pub(crate) fn hint_for(octets: &[u8], reason: Reason) -> &'static str
     ensures { result.now ≡ line_hint_text (words octets.now) reason }
 {
     match reason {
-        Reason::UnknownCommand => {
-            ": use channel, queue, map, frame, release, take, unit, clcw, link, report, deliver, collect or candidate"
-        }
+        Reason::UnknownCommand => unknown(octets),
         Reason::WordCount => form(octets),
+        Reason::BadNumber => number_hint(octets),
+        Reason::BadHex => ": HEX is two hexadecimal digits for each octet",
+        Reason::BadOption => ": write plain or nothing behind VR",
+        Reason::BadVcid => Number::Vcid.bounds(),
+        Reason::BadWindow => Number::Width.bounds(),
+        Reason::BadBuffer => Number::Buffer.bounds(),
+        Reason::BadApid => Number::Apid.bounds(),
+        Reason::BadCapacity => Number::Capacity.bounds(),
+        Reason::BadMap => Number::Map.bounds(),
+        Reason::BadUnits => Number::Capacity.bounds(),
         _ => "",
     }
+}
+
+// Which commands there are; or that a mark hides the one of the line.
+fn unknown(octets: &[u8]) -> &'static str
+    ensures { result.now ≡ unknown_text (words octets.now) }
+{
+    match next_word(octets) {
+        Some((command, _arguments)) if begins_with_mark(command) => {
+            ": the line begins with a byte order mark, save the text without it"
+        }
+        _ => {
+            ": use channel, queue, map, frame, release, take, unit, clcw, link, report, deliver, collect or candidate"
+        }
+    }
+}
+
+// Whether a word begins with the byte order mark of UTF-8 or UTF-16.
+fn begins_with_mark(word: &[u8]) -> bool
+    ensures { result ≡ is_marked word.now }
+{
+    matches!(
+        word,
+        [0xef, 0xbb, 0xbf, ..] | [0xff, 0xfe, ..] | [0xfe, 0xff, ..]
+    )
 }
 
 // How the command is written that a line begins with.
@@ -57,4 +109,113 @@ fn form(octets: &[u8]) -> &'static str
     } else {
         ""
     }
+}
+
+/// A word of a line that is a number.
+#[derive(Clone, Copy)]
+pub(crate) enum Number {
+    Vcid,
+    Width,
+    Buffer,
+    First,
+    Apid,
+    Capacity,
+    Map,
+    NoRf,
+    NoBitLock,
+}
+
+impl Number {
+    // Its name, as the form of the command has it, and its bounds.
+    fn bounds(self) -> &'static str
+        ensures { result.now ≡ bounds_text self }
+    {
+        match self {
+            Number::Vcid => ": VC is 0 to 63",
+            Number::Width => ": WIDTH is even, 2 to 254",
+            Number::Buffer => ": BUFFER is 1 to 64",
+            Number::First => ": VR is 0 to 255",
+            Number::Apid => ": APID is 0 to 2046",
+            Number::Capacity => ": CAPACITY is 1 to 256",
+            Number::Map => ": MAP is 0 to 63",
+            Number::NoRf => ": RF is 0 or 1",
+            Number::NoBitLock => ": BL is 0 or 1",
+        }
+    }
+
+    // Up to which number its line is read.
+    fn most(self) -> u16
+        ensures { result ≡ most_of self }
+    {
+        match self {
+            Number::Apid => 65_535,
+            Number::Capacity => 65_535,
+            Number::NoRf => 1,
+            Number::NoBitLock => 1,
+            _ => 255,
+        }
+    }
+
+    // Whether the line is read with this word in its place.
+    fn takes(self, word: &[u8]) -> bool
+        ensures { result ≡ takes_word self word.now }
+    {
+        match large_number(word) {
+            Ok(number) => number <= self.most(),
+            Err(_) => false,
+        }
+    }
+}
+
+// What the first word may be that the line isn't read with.
+fn number_hint(octets: &[u8]) -> &'static str
+    ensures { result.now ≡ number_hint_text (words octets.now) }
+{
+    let Some((command, arguments)) = next_word(octets) else {
+        return "";
+    };
+    match misfit(numbers(command), arguments) {
+        Some(number) => number.bounds(),
+        None => "",
+    }
+}
+
+// The numbers behind a command, in order.
+#[tactic(auto, unfolding(crate::specs::Hint::numbers_behind))]
+fn numbers(command: &[u8]) -> &'static [Number]
+    ensures { result.now ≡ numbers_behind command.now }
+{
+    if command == b"channel".as_slice() {
+        &[Number::Vcid, Number::Width, Number::Buffer, Number::First]
+    } else if command == b"queue".as_slice() {
+        &[Number::Vcid, Number::Apid, Number::Capacity]
+    } else if command == b"map".as_slice() {
+        &[Number::Vcid, Number::Map, Number::Capacity]
+    } else if command == b"take".as_slice() {
+        &[Number::Vcid, Number::Apid]
+    } else if command == b"unit".as_slice() {
+        &[Number::Vcid, Number::Map]
+    } else if command == b"link".as_slice() {
+        &[Number::Vcid, Number::NoRf, Number::NoBitLock]
+    } else {
+        &[Number::Vcid]
+    }
+}
+
+// The first of the numbers whose word the line isn't read with.
+#[tactic(auto, using(crate::proofs::Hints::none_left))]
+fn misfit(numbers: &[Number], arguments: &[u8]) -> Option<Number>
+    ensures { result ≡ first_misfit numbers.now (words arguments.now) }
+{
+    let mut rest = arguments;
+    for number in numbers {
+        let Some((word, after)) = next_word(rest) else {
+            return None;
+        };
+        if !number.takes(word) {
+            return Some(*number);
+        }
+        rest = after;
+    }
+    None
 }

@@ -6,6 +6,7 @@
 
 mod answer;
 mod check;
+mod ends;
 mod hint;
 mod laws;
 mod receiver;
@@ -13,6 +14,7 @@ mod serving;
 
 pub use answer::LiveAnswer;
 pub use check::FrameCheck;
+pub use ends::FrameEnds;
 pub use laws::lines_are_answered_so;
 pub use receiver::Receiver;
 pub use serving::{MAX_LINE, ServingFault, answer_lines};

@@ -14,6 +14,7 @@ ghost use Rattle.tc_channel.specs.Journal.{IsNumberTold};
 
 use crate::answer::LiveAnswer;
 use crate::check::{FrameCheck, carries_more};
+use crate::ends::FrameEnds;
 use crate::serving::ServingFault;
 use std::alloc::Global;
 use std::io;
@@ -27,10 +28,11 @@ use tc_text::{Line, LiveLine, Reason, SpacecraftId, parse_live_line};
 
 /// The channels of a spacecraft, set up so far or in operation, and what octets must pass before they are brought to one.
 ///
-/// A contract sees all of it, each channel with its journal and the flags of its link.
+/// A contract sees each channel with its journal and the flags of its link, and all else but how frames ended.
 #[derive(Drop)]
 pub struct Receiver {
     check: FrameCheck,
+    ends: FrameEnds,
     scid: u16,
     stage: Stage<Rack>,
 }
@@ -50,6 +52,7 @@ impl Receiver {
     {
         Receiver {
             check,
+            ends: FrameEnds::NoFrame,
             scid: spacecraft.number,
             stage: Stage::SettingUp(Configuration::new(alloc)),
         }
@@ -78,6 +81,7 @@ impl Receiver {
         ensures reason { IfErr result (λ reason. (reason ≡ Reason.NoMemory) ⊎ IsBadScript self.old line reason) }
         ensures refused { IfErr result (λ reason. IsReceiverLeft reason self.old self.new) }
     {
+        self.look_at(&line);
         match self.check.pass(alloc, line)? {
             Some(passed) => self.perform_passed(alloc, passed),
             None => Ok(LiveAnswer::Unchecked),
@@ -97,6 +101,23 @@ impl Receiver {
             Some(passed) => self.perform_passed(alloc, passed),
             None => Ok(LiveAnswer::Unchecked),
         }
+    }
+
+    // Notes how a frame ends that nothing checks.
+    fn look_at(&mut self, line: &Line)
+        ensures { self.new ≡ self.old }
+    {
+        match (self.check, line) {
+            (FrameCheck::Nothing, Line::Frame(octets)) => {
+                self.ends = self.ends.after(octets.as_slice());
+            }
+            _ => {}
+        }
+    }
+
+    /// How the frames ended that were brought, where nothing checks that.
+    pub fn ends(&self) -> FrameEnds {
+        self.ends
     }
 
     // Does a line that passed the check.
@@ -252,6 +273,7 @@ impl Receiver {
     {
         let Receiver {
             check: _,
+            ends: _,
             scid,
             stage,
         } = self;

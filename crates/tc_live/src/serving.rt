@@ -10,7 +10,8 @@ ghost use Rattle.tc_live.specs.Receiver.{IsReady};
 ghost use Rattle.tc_live.specs.Serving.{IsClosingFault, IsReceptionCutShort, IsFollowedBy, IsLineSaid, IsReportWritten, IsTold, IsReceptionWritten, fault_at_lines};
 
 use crate::answer::LiveAnswer;
-use crate::hint::hint_for;
+use crate::ends::FrameEnds;
+use crate::hint::{hint_for, word_before};
 use crate::receiver::Receiver;
 use std::alloc::Global;
 use std::io;
@@ -67,7 +68,8 @@ impl LineAnswerer for Receiver {
     }
 }
 
-/// Answers lines until there are no more, and flushes after each answer; then writes the final report.
+/// Answers lines until there are no more, and flushes after each answer; then writes the final report, and says how frames ended that
+/// nothing checked.
 ///
 /// A bad line is answered `bad` and why, and where that helps, behind a colon, what to write instead. A line that is longer than a
 /// line may be is answered `bad too long`, and isn't kept. Octets after the last line feed are a line. Where the octets of the reader
@@ -77,7 +79,7 @@ pub fn answer_lines<R: BufRead, W: Write>(
     receiver: Receiver,
     reader: &mut R,
     writer: &mut W,
-) -> Result<(), ServingFault>
+) -> Result<FrameEnds, ServingFault>
     ensures written { OnOk result (IfSome (R.remaining reader.old) (λ octets. IsReceptionWritten receiver octets (W.contents writer.old) (W.contents writer.new))) }
     ensures cut_short { IfErr result (λ fault. IfSome (R.remaining reader.old) (λ octets. IsReceptionCutShort receiver octets (W.contents writer.old) (W.contents writer.new) fault)) }
 {
@@ -133,16 +135,23 @@ fn write_answer<W: Write>(answer: &LiveAnswer, writer: &mut W) -> io::Result<()>
 fn write_bad<W: Write>(octets: &[u8], reason: Reason, writer: &mut W) -> io::Result<()>
     ensures { OnOk result (Appends (W.contents writer.old) (W.contents writer.new) (bad_line_text (words octets.now) reason)) }
 {
+    let bad = word_before(reason);
     let hint = hint_for(octets, reason);
-    writeln!(writer, "bad {reason}{hint}")
+    writeln!(writer, "{bad}{reason}{hint}")
 }
 
 // The final report.
-fn close<W: Write>(alloc: Global, receiver: Receiver, writer: &mut W) -> Result<(), ServingFault>
+fn close<W: Write>(
+    alloc: Global,
+    receiver: Receiver,
+    writer: &mut W,
+) -> Result<FrameEnds, ServingFault>
     ensures written { OnOk result (IsReportWritten receiver (W.contents writer.old) (W.contents writer.new)) }
     ensures fault { IfErr result (IsClosingFault receiver) }
     ensures kept { IfErr result (λ fault. (fault ≡ ServingFault.Write) ⊎ Keeps (W.contents writer.old) (W.contents writer.new)) }
 {
+    let ends = receiver.ends();
     receiver.close(alloc, writer)?;
-    writer.flush().map_err(|_| ServingFault::Write)
+    writer.flush().map_err(|_| ServingFault::Write)?;
+    Ok(ends)
 }

@@ -1,5 +1,5 @@
 -- What a line asks for, by its words.
-use Rattle.std.specs.Prelude.{ℕ, Bool, true, false, Option, ◌==◌, List, [], ◌∷◌, length, codes, Some, None, Result, Ok, Err, if◌then◌else◌}
+use Rattle.std.specs.Prelude.{ℕ, Bool, true, false, Option, ◌==◌, ◌&&◌, ◌||◌, List, [], ◌∷◌, length, codes, slice_index, Some, None, Result, Ok, Err, if◌then◌else◌}
 use Rattle.hex.specs.Hex.{decode_of}
 use Rattle.tc_cltu.specs.declared.block.Mode.{Mode}
 use Rattle.tc_cltu.specs.declared.block.Mode.TheVariants.{Detect, Correct}
@@ -9,10 +9,12 @@ use Rattle.tc_packet.specs.declared.segment.Segment.{Segment}
 use Rattle.tc_lines.specs.Number.{word_number}
 use Rattle.tc_lines.specs.Word.{is, is_comment, after_ok}
 use Rattle.tc_make.specs.declared.fault.Reason.{Reason}
-use Rattle.tc_make.specs.declared.fault.Reason.TheVariants.{UnknownCommand, WordCount, BadNumber, BadHex, BadMode, BadClcw}
+use Rattle.tc_make.specs.declared.fault.Reason.TheVariants.{UnknownCommand, Marked, WordCount, BadNumber, BadHex, BadMode, BadClcw}
 use Rattle.tc_link.specs.declared.frame.Header.{Header}
 use Rattle.tc_make.specs.declared.form.Form.{Form}
 use Rattle.tc_make.specs.declared.form.Form.TheVariants as forms
+use Rattle.tc_make.specs.declared.form.Number.{Number}
+use Rattle.tc_make.specs.declared.form.Number.TheVariants as numbers
 use Rattle.tc_make.specs.declared.line.Stream.{Stream}
 use Rattle.tc_make.specs.declared.line.Sizing.{Sizing}
 use Rattle.tc_make.specs.declared.line.Line.{Line}
@@ -55,8 +57,8 @@ with_six form (a ∷ b ∷ c ∷ d ∷ e ∷ f ∷ []) says = says a b c d e f
 with_six form _ says = Err (WordCount form)
 
 -- what follows where a word is a number within its bound
-abbrev pub if_number : ℕ → List ℕ → (ℕ → Said) → Said
-if_number most word next = elim (word_number most word) [ None ↦ Err BadNumber | Some number ↦ next number ]
+abbrev pub if_number : Number → ℕ → List ℕ → (ℕ → Said) → Said
+if_number name most word next = elim (word_number most word) [ None ↦ Err (BadNumber name) | Some number ↦ next number ]
 
 -- what follows where a word is octets in hexadecimal digits
 abbrev pub with_octets : List ℕ → (List ℕ → Said) → Said
@@ -66,17 +68,17 @@ with_octets word next = elim (decode_of word) [ Ok octets ↦ next octets | Err 
 abbrev pub segment_word : List ℕ → Result (Option Segment) Reason
 segment_word word =
     if is word (codes "plain") then Ok None
-    else elim (word_number 255 word) [ None ↦ Err BadNumber | Some map ↦ Ok (Some (record { part = Unsegmented; map = map })) ]
+    else elim (word_number 255 word) [ None ↦ Err (BadNumber numbers.Map) | Some map ↦ Ok (Some (record { part = Unsegmented; map = map })) ]
 
 -- a spacecraft, a virtual channel of it and an N(S)
 abbrev pub stream_of : List ℕ → List ℕ → List ℕ → Result Stream Reason
 stream_of s v n =
     elim (word_number 65535 s) [
-      | None ↦ Err BadNumber
+      | None ↦ Err (BadNumber numbers.Scid)
       | Some scid ↦ elim (word_number 255 v) [
-        | None ↦ Err BadNumber
+        | None ↦ Err (BadNumber numbers.Vcid)
         | Some vcid ↦ elim (word_number 255 n) [
-          | None ↦ Err BadNumber
+          | None ↦ Err (BadNumber numbers.Ns)
           | Some ns ↦ Ok (record { scid = scid; vcid = vcid; ns = ns })
         ]
       ]
@@ -86,9 +88,9 @@ stream_of s v n =
 abbrev pub sizing_of : List ℕ → List ℕ → Result Sizing Reason
 sizing_of m z =
     elim (word_number 255 m) [
-      | None ↦ Err BadNumber
+      | None ↦ Err (BadNumber numbers.Map)
       | Some map ↦ elim (word_number 65535 z) [
-        | None ↦ Err BadNumber
+        | None ↦ Err (BadNumber numbers.Size)
         | Some size ↦ Ok (record { map = map; size = size })
       ]
     ]
@@ -101,7 +103,7 @@ abbrev pub bd_header : ℕ → ℕ → Header
 bd_header scid vcid = record { bypass = true; control = false; scid = scid; vcid = vcid; ns = 0 }
 
 abbrev pub packet_of : Words → Said
-packet_of words = with_three forms.Packet words (λ a c o. if_number 65535 a (λ apid. if_number 65535 c (λ count. with_octets o (λ octets.
+packet_of words = with_three forms.Packet words (λ a c o. if_number numbers.Apid 65535 a (λ apid. if_number numbers.Count 65535 c (λ count. with_octets o (λ octets.
     Ok (Packet apid count octets)))))
 
 -- a frame that carries the octets of a word
@@ -112,14 +114,14 @@ abbrev pub ad_of : Words → Said
 ad_of words = with_five forms.Ad words (λ s v n m o. after_ok (stream_of s v n) (λ stream. after_ok (segment_word m) (λ segment. framed_of (ad_header stream) segment o)))
 
 abbrev pub bd_of : Words → Said
-bd_of words = with_four forms.Bd words (λ s v m o. if_number 65535 s (λ scid. if_number 255 v (λ vcid. after_ok (segment_word m) (λ segment.
+bd_of words = with_four forms.Bd words (λ s v m o. if_number numbers.Scid 65535 s (λ scid. if_number numbers.Vcid 255 v (λ vcid. after_ok (segment_word m) (λ segment.
     framed_of (bd_header scid vcid) segment o))))
 
 abbrev pub unlock_of : Words → Said
-unlock_of words = with_two forms.Unlock words (λ s v. if_number 65535 s (λ scid. if_number 255 v (λ vcid. Ok (Command scid vcid Unlock))))
+unlock_of words = with_two forms.Unlock words (λ s v. if_number numbers.Scid 65535 s (λ scid. if_number numbers.Vcid 255 v (λ vcid. Ok (Command scid vcid Unlock))))
 
 abbrev pub setvr_of : Words → Said
-setvr_of words = with_three forms.SetVr words (λ s v x. if_number 65535 s (λ scid. if_number 255 v (λ vcid. if_number 255 x (λ vr.
+setvr_of words = with_three forms.SetVr words (λ s v x. if_number numbers.Scid 65535 s (λ scid. if_number numbers.Vcid 255 v (λ vcid. if_number numbers.Vr 255 x (λ vr.
     Ok (Command scid vcid (SetVr vr))))))
 
 -- the segments of the unit of a word
@@ -149,7 +151,7 @@ abbrev pub four_of : List ℕ → Result (List ℕ) Reason
 four_of word = elim (decode_of word) [ Ok octets ↦ (if length octets == 4 then Ok octets else Err BadClcw) | Err fault ↦ Err BadHex ]
 
 abbrev pub tm_of : Words → Said
-tm_of words = with_four forms.Tm words (λ s v z o. if_number 65535 s (λ scid. if_number 255 v (λ vcid. if_number 65535 z (λ size.
+tm_of words = with_four forms.Tm words (λ s v z o. if_number numbers.Scid 65535 s (λ scid. if_number numbers.Vcid 255 v (λ vcid. if_number numbers.Size 65535 z (λ size.
     after_ok (four_of o) (λ control. Ok (Tm (record { scid = scid; vcid = vcid; size = size; control = control })))))))
 
 abbrev pub telemetry_of : Words → Said
@@ -162,16 +164,23 @@ mode_word word =
     else Err BadMode
 
 abbrev pub decoder_of : Words → Said
-decoder_of words = with_two forms.Decoder words (λ i m. if_number 255 i (λ id. after_ok (mode_word m) (λ mode. Ok (Decoder id mode))))
+decoder_of words = with_two forms.Decoder words (λ i m. if_number numbers.Id 255 i (λ id. after_ok (mode_word m) (λ mode. Ok (Decoder id mode))))
 
 abbrev pub piece_of : Words → Said
-piece_of words = with_two forms.Octets words (λ i o. if_number 255 i (λ id. with_octets o (λ octets. Ok (Piece id octets))))
+piece_of words = with_two forms.Octets words (λ i o. if_number numbers.Id 255 i (λ id. with_octets o (λ octets. Ok (Piece id octets))))
+
+-- the word begins with the byte order mark of UTF-8 or UTF-16
+abbrev pub is_marked : List ℕ → Bool
+is_marked word =
+    (slice_index word 0 == 239 && slice_index word 1 == 187 && slice_index word 2 == 191)
+    || (slice_index word 0 == 255 && slice_index word 1 == 254)
+    || (slice_index word 0 == 254 && slice_index word 1 == 255)
 
 abbrev pub search_of : Words → Said
-search_of words = with_one forms.Search words (λ i. if_number 255 i (λ id. Ok (Search id)))
+search_of words = with_one forms.Search words (λ i. if_number numbers.Id 255 i (λ id. Ok (Search id)))
 
 abbrev pub frames_of : Words → Said
-frames_of words = with_two forms.Frames words (λ m o. if_number 255 m (λ most. with_octets o (λ octets. Ok (Frames most octets))))
+frames_of words = with_two forms.Frames words (λ m o. if_number numbers.Most 255 m (λ most. with_octets o (λ octets. Ok (Frames most octets))))
 
 -- what a line about the link asks for: its CLTUs and its telemetry frames
 unfoldable pub link_line_of : List ℕ → Words → Said
@@ -184,6 +193,7 @@ link_line_of command arguments =
     else if is command (codes "octets") then piece_of arguments
     else if is command (codes "search") then search_of arguments
     else if is command (codes "frames") then frames_of arguments
+    else if is_marked command then Err Marked
     else Err UnknownCommand
 
 -- what the words of a line ask for, or the first of the reasons why they ask for nothing

@@ -22,15 +22,18 @@ use Rattle.tc_tm.specs.declared.reading.TmReadFault.{TmReadFault}
 use Rattle.tc_tm.specs.declared.reading.TmReadFault.TheVariants as telemetry
 use Rattle.tc_make.specs.declared.explaining.Explanation.{Explanation}
 use Rattle.tc_make.specs.declared.fault.Reason.{Reason}
-use Rattle.tc_make.specs.declared.fault.Reason.TheVariants.{UnknownCommand, WordCount, BadNumber, BadHex, BadMode, BadClcw, BadScid, BadVcid, BadMap, BadApid, BadCount, BadSize, NoData, TooMuchData, NoDecoder, NoMemory}
+use Rattle.tc_make.specs.declared.fault.Reason.TheVariants.{UnknownCommand, Marked, WordCount, BadNumber, BadHex, BadMode, BadClcw, BadScid, BadVcid, BadMap, BadApid, BadCount, BadSize, NoData, TooMuchData, NoDecoder, NoMemory}
 use Rattle.tc_make.specs.declared.form.Form.{Form}
 use Rattle.tc_make.specs.declared.form.Form.TheVariants as forms
+use Rattle.tc_make.specs.declared.form.Number.{Number}
+use Rattle.tc_make.specs.declared.form.Number.TheVariants as numbers
 
--- why nothing is made of a line
+-- why nothing is made of a line, with which its answer begins
 abbrev pub unmade_text : Reason → List ℕ
-unmade_text UnknownCommand = codes "unknown command"
-unmade_text (WordCount form) = codes "wrong number of words"
-unmade_text BadNumber = codes "bad number"
+unmade_text UnknownCommand = codes "bad unknown command"
+unmade_text Marked = codes "bad unknown command"
+unmade_text (WordCount form) = codes "bad wrong number of words"
+unmade_text (BadNumber number) = codes "bad number"
 unmade_text BadHex = codes "bad hex"
 unmade_text BadMode = codes "bad mode"
 unmade_text BadClcw = codes "bad clcw"
@@ -40,10 +43,10 @@ unmade_text BadMap = codes "bad map"
 unmade_text BadApid = codes "bad application"
 unmade_text BadCount = codes "bad count"
 unmade_text BadSize = codes "bad size"
-unmade_text NoData = codes "no data"
-unmade_text TooMuchData = codes "too much data"
-unmade_text NoDecoder = codes "no decoder"
-unmade_text NoMemory = codes "no memory"
+unmade_text NoData = codes "bad no data"
+unmade_text TooMuchData = codes "bad too much data"
+unmade_text NoDecoder = codes "bad no decoder"
+unmade_text NoMemory = codes "bad no memory"
 
 -- a command and the names of its words
 abbrev pub form_text : Form → List ℕ
@@ -72,15 +75,43 @@ note_text forms.Decoder = []
 note_text forms.Search = []
 note_text form = codes ", octets without spaces"
 
+-- the name of a number in forms, and its bounds
+abbrev pub bounds_text : Number → List ℕ
+bounds_text numbers.Scid = codes "SCID is 0 to 1023"
+bounds_text numbers.Vcid = codes "VC is 0 to 63, of tm 0 to 7"
+bounds_text numbers.Ns = codes "NS is 0 to 255"
+bounds_text numbers.Map = codes "MAP is 0 to 63"
+bounds_text numbers.Size = codes "SIZE is 1 to 1018, of tm 11 to 2048"
+bounds_text numbers.Apid = codes "APID is 0 to 2047"
+bounds_text numbers.Count = codes "COUNT is 0 to 16383"
+bounds_text numbers.Vr = codes "X is 0 to 255"
+bounds_text numbers.Id = codes "ID is 0 to 255"
+bounds_text numbers.Most = codes "MOST is 0 to 255"
+
+-- what follows a reason for which a number is bad
+abbrev pub within_text : Number → List ℕ
+within_text number = codes ": " ++ bounds_text number ++ codes "\n"
+
 -- what follows a reason: what to write, where that is known, and the end of the line
 abbrev pub hint_text : Reason → List ℕ
 hint_text UnknownCommand = codes ": use packet, ad, bd, unlock, setvr, segments, explain, clcw, cltu, random, tm, telemetry, decoder, octets, search or frames\n"
+hint_text Marked = codes ": the line begins with a byte order mark, save the text without it\n"
 hint_text (WordCount form) = codes ": write " ++ form_text form ++ note_text form ++ codes "\n"
+hint_text (BadNumber number) = within_text number
+hint_text BadHex = codes ": HEX is two hexadecimal digits for each octet\n"
+hint_text BadMode = codes ": MODE is detect or correct\n"
+hint_text BadClcw = codes ": HEX is four octets\n"
+hint_text BadScid = within_text numbers.Scid
+hint_text BadVcid = within_text numbers.Vcid
+hint_text BadMap = within_text numbers.Map
+hint_text BadApid = within_text numbers.Apid
+hint_text BadCount = within_text numbers.Count
+hint_text BadSize = within_text numbers.Size
 hint_text reason = codes "\n"
 
 -- the line `bad ..`
 abbrev pub bad_text : Reason → List ℕ
-bad_text reason = codes "bad " ++ unmade_text reason ++ hint_text reason
+bad_text reason = unmade_text reason ++ hint_text reason
 
 -- a line of a word and octets
 abbrev pub named_text : List ℕ → List ℕ → List ℕ

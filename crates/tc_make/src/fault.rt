@@ -3,10 +3,9 @@
 ghost use Rattle.std.specs.Prelude.{◌≡◌, Some};
 ghost use Rattle.tc_make.specs.Printed.{unmade_text};
 
-use crate::form::Form;
+use crate::form::{Form, Number};
 use std::error::Error;
 use std::fmt;
-use tc_lines::BadNumber;
 
 /// Why nothing is made of a line. Where several apply, the first of this list is told; but want of memory is told as soon
 /// as it is met, and a frame that has no room for its frame error control field is told last.
@@ -14,10 +13,12 @@ use tc_lines::BadNumber;
 pub enum Reason {
     /// The first word is no command.
     UnknownCommand,
+    /// Nor is it one that begins with a byte order mark.
+    Marked,
     /// The command takes another number of words, those of its form.
     WordCount(Form),
     /// A number isn't 1 to 5 decimal digits, or is over its type's bound.
-    BadNumber,
+    BadNumber(Number),
     /// Octets aren't an even number of hexadecimal digits.
     BadHex,
     /// A decoder neither detects nor corrects.
@@ -47,14 +48,15 @@ pub enum Reason {
 }
 
 impl Reason {
-    /// The words of the reason.
+    /// The words of the reason, with which the answer begins.
     pub fn as_str(&self) -> &'static str
         ensures { result.now ≡ unmade_text self.now }
     {
         match self {
-            Reason::UnknownCommand => "unknown command",
-            Reason::WordCount(_) => "wrong number of words",
-            Reason::BadNumber => "bad number",
+            Reason::UnknownCommand => "bad unknown command",
+            Reason::Marked => "bad unknown command",
+            Reason::WordCount(_) => "bad wrong number of words",
+            Reason::BadNumber(_) => "bad number",
             Reason::BadHex => "bad hex",
             Reason::BadMode => "bad mode",
             Reason::BadClcw => "bad clcw",
@@ -64,10 +66,10 @@ impl Reason {
             Reason::BadApid => "bad application",
             Reason::BadCount => "bad count",
             Reason::BadSize => "bad size",
-            Reason::NoData => "no data",
-            Reason::TooMuchData => "too much data",
-            Reason::NoDecoder => "no decoder",
-            Reason::NoMemory => "no memory",
+            Reason::NoData => "bad no data",
+            Reason::TooMuchData => "bad too much data",
+            Reason::NoDecoder => "bad no decoder",
+            Reason::NoMemory => "bad no memory",
         }
     }
 }
@@ -81,13 +83,3 @@ impl fmt::Display for Reason {
 }
 
 impl Error for Reason {}
-
-impl From<BadNumber> for Reason {
-    ghost use Rattle.tc_make.specs.declared.fault.Reason.{Reason};
-
-    ghost from_gives = { λ fault reason. reason ≡ Reason.BadNumber };
-
-    fn from(_: BadNumber) -> Reason {
-        Reason::BadNumber
-    }
-}

@@ -1,7 +1,7 @@
 //! How commands are written.
 
 ghost use Rattle.std.specs.Prelude.{◌≡◌};
-ghost use Rattle.tc_make.specs.Printed.{form_text, note_text};
+ghost use Rattle.tc_make.specs.Printed.{bounds_text, form_text, note_text};
 
 /// A command with the words that it takes.
 #[derive(Clone, Copy, Debug, PartialEq, Eq)]
@@ -59,6 +59,41 @@ impl Form {
             Form::Decoder => "",
             Form::Search => "",
             _ => ", octets without spaces",
+        }
+    }
+}
+
+/// A word of a form that is a number.
+#[derive(Clone, Copy, Debug, PartialEq, Eq)]
+pub enum Number {
+    Scid,
+    Vcid,
+    Ns,
+    Map,
+    Size,
+    Apid,
+    Count,
+    Vr,
+    Id,
+    Most,
+}
+
+impl Number {
+    /// Its name in forms, and its bounds.
+    pub fn as_str(&self) -> &'static str
+        ensures { result.now ≡ bounds_text self.now }
+    {
+        match self {
+            Number::Scid => "SCID is 0 to 1023",
+            Number::Vcid => "VC is 0 to 63, of tm 0 to 7",
+            Number::Ns => "NS is 0 to 255",
+            Number::Map => "MAP is 0 to 63",
+            Number::Size => "SIZE is 1 to 1018, of tm 11 to 2048",
+            Number::Apid => "APID is 0 to 2047",
+            Number::Count => "COUNT is 0 to 16383",
+            Number::Vr => "X is 0 to 255",
+            Number::Id => "ID is 0 to 255",
+            Number::Most => "MOST is 0 to 255",
         }
     }
 }

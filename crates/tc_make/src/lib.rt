@@ -27,7 +27,7 @@ pub use decoders::Decoders;
 pub use ending::Ending;
 pub use explaining::{Explanation, explain};
 pub use fault::Reason;
-pub use form::Form;
+pub use form::{Form, Number};
 pub use frames::{make_command, make_frame};
 pub use line::{Line, Sizing, Stream, TmOrder, parse_line};
 pub use maker::Maker;

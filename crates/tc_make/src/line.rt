@@ -1,13 +1,14 @@
 //! Lines, and what they ask for.
 
-ghost use Rattle.std.specs.Prelude.{◌≡◌, ◌⊎◌, map, IfOk, IfErr, IsErr, MatchResult};
+ghost use Rattle.std.specs.Prelude.{◌≡◌, ◌⊎◌, Some, None, map, IfOk, IfErr, IsErr, MatchResult};
 ghost use Rattle.hex.specs.Hex.{decode_of};
 ghost use Rattle.tc_lines.specs.Word.{words as words_of};
-ghost use Rattle.tc_make.specs.Line.{maker_line_of, link_line_of, packet_of, ad_of, bd_of, unlock_of, setvr_of, segments_of, tm_of, decoder_of, piece_of, search_of, frames_of, four_of, mode_word, segment_word, stream_of, sizing_of, framed_of, parted_of, sized_of, alone_of};
+ghost use Rattle.tc_make.specs.Line.{maker_line_of, is_marked, link_line_of, packet_of, ad_of, bd_of, unlock_of, setvr_of, segments_of, tm_of, decoder_of, piece_of, search_of, frames_of, four_of, mode_word, segment_word, stream_of, sizing_of, framed_of, parted_of, sized_of, alone_of};
+ghost use Rattle.tc_lines.specs.Number.{word_number};
 ghost use Rattle.tc_lines.specs.Word.{is_comment as is_comment_word};
 
 use crate::fault::Reason;
-use crate::form::Form;
+use crate::form::{Form, Number};
 use crate::octets::Octets;
 use hex::FromHexError;
 use std::alloc::{AllocError, Global};
@@ -155,9 +156,21 @@ fn link_line(alloc: Global, command: &[u8], arguments: &[&[u8]]) -> Result<Line,
         search(arguments)
     } else if command == b"frames".as_slice() {
         frames(alloc, arguments)
+    } else if begins_with_mark(command) {
+        Err(Reason::Marked)
     } else {
         Err(Reason::UnknownCommand)
     }
+}
+
+// Whether a word begins with the byte order mark of UTF-8 or UTF-16.
+fn begins_with_mark(word: &[u8]) -> bool
+    ensures { result ≡ is_marked word.now }
+{
+    matches!(
+        word,
+        [0xef, 0xbb, 0xbf, ..] | [0xff, 0xfe, ..] | [0xfe, 0xff, ..]
+    )
 }
 
 // The words of a line, in order.
@@ -183,8 +196,8 @@ fn packet(alloc: Global, words: &[&[u8]]) -> Result<Line, Reason>
         return Err(Reason::WordCount(Form::Packet));
     };
     Ok(Line::Packet {
-        apid: large_number(apid)?,
-        count: large_number(count)?,
+        apid: large(Number::Apid, apid)?,
+        count: large(Number::Count, count)?,
         octets: octets(alloc, digits)?,
     })
 }
@@ -215,8 +228,8 @@ fn bd(alloc: Global, words: &[&[u8]]) -> Result<Line, Reason>
     let [scid, vcid, map, digits] = words else {
         return Err(Reason::WordCount(Form::Bd));
     };
-    let scid = large_number(scid)?;
-    let vcid = small_number(vcid)?;
+    let scid = large(Number::Scid, scid)?;
+    let vcid = small(Number::Vcid, vcid)?;
     let segment = segment(map)?;
     let header = Header {
         bypass: true,
@@ -236,8 +249,8 @@ fn unlock(words: &[&[u8]]) -> Result<Line, Reason>
         return Err(Reason::WordCount(Form::Unlock));
     };
     Ok(Line::Command {
-        scid: large_number(scid)?,
-        vcid: small_number(vcid)?,
+        scid: large(Number::Scid, scid)?,
+        vcid: small(Number::Vcid, vcid)?,
         command: Command::Unlock,
     })
 }
@@ -250,9 +263,9 @@ fn setvr(words: &[&[u8]]) -> Result<Line, Reason>
         return Err(Reason::WordCount(Form::SetVr));
     };
     Ok(Line::Command {
-        scid: large_number(scid)?,
-        vcid: small_number(vcid)?,
-        command: Command::SetVr(small_number(vr)?),
+        scid: large(Number::Scid, scid)?,
+        vcid: small(Number::Vcid, vcid)?,
+        command: Command::SetVr(small(Number::Vr, vr)?),
     })
 }
 
@@ -330,9 +343,9 @@ fn tm(alloc: Global, words: &[&[u8]]) -> Result<Line, Reason>
         return Err(Reason::WordCount(Form::Tm));
     };
     Ok(Line::Tm(TmOrder {
-        scid: large_number(scid)?,
-        vcid: small_number(vcid)?,
-        size: large_number(size)?,
+        scid: large(Number::Scid, scid)?,
+        vcid: small(Number::Vcid, vcid)?,
+        size: large(Number::Size, size)?,
         control: four(alloc, digits)?,
     }))
 }
@@ -345,7 +358,7 @@ fn decoder(words: &[&[u8]]) -> Result<Line, Reason>
         return Err(Reason::WordCount(Form::Decoder));
     };
     Ok(Line::Decoder {
-        id: small_number(id)?,
+        id: small(Number::Id, id)?,
         mode: read_mode(mode)?,
     })
 }
@@ -358,7 +371,7 @@ fn piece(alloc: Global, words: &[&[u8]]) -> Result<Line, Reason>
         return Err(Reason::WordCount(Form::Octets));
     };
     Ok(Line::Piece {
-        id: small_number(id)?,
+        id: small(Number::Id, id)?,
         octets: octets(alloc, digits)?,
     })
 }
@@ -370,7 +383,7 @@ fn search(words: &[&[u8]]) -> Result<Line, Reason>
     let [id] = words else {
         return Err(Reason::WordCount(Form::Search));
     };
-    Ok(Line::Search(small_number(id)?))
+    Ok(Line::Search(small(Number::Id, id)?))
 }
 
 fn frames(alloc: Global, words: &[&[u8]]) -> Result<Line, Reason>
@@ -381,9 +394,27 @@ fn frames(alloc: Global, words: &[&[u8]]) -> Result<Line, Reason>
         return Err(Reason::WordCount(Form::Frames));
     };
     Ok(Line::Frames {
-        most: small_number(most)?,
+        most: small(Number::Most, most)?,
         octets: octets(alloc, digits)?,
     })
+}
+
+// The number of at most 255 that a word is.
+fn small(number: Number, word: &[u8]) -> Result<u8, Reason>
+    ensures { MatchResult result
+        (λ n. word_number 255 word.now ≡ Some n)
+        (λ reason. (word_number 255 word.now ≡ None) × (reason ≡ Reason.BadNumber number)) }
+{
+    small_number(word).map_err(|_| Reason::BadNumber(number))
+}
+
+// The number of at most 65,535 that a word is.
+fn large(number: Number, word: &[u8]) -> Result<u16, Reason>
+    ensures { MatchResult result
+        (λ n. word_number 65535 word.now ≡ Some n)
+        (λ reason. (word_number 65535 word.now ≡ None) × (reason ≡ Reason.BadNumber number)) }
+{
+    large_number(word).map_err(|_| Reason::BadNumber(number))
 }
 
 // The Type-AD frames that three words name.
@@ -393,9 +424,9 @@ fn read_stream(scid: &[u8], vcid: &[u8], ns: &[u8]) -> Result<Stream, Reason>
         (λ reason. stream_of scid.now vcid.now ns.now ≡ Err reason) }
 {
     Ok(Stream {
-        scid: large_number(scid)?,
-        vcid: small_number(vcid)?,
-        ns: small_number(ns)?,
+        scid: large(Number::Scid, scid)?,
+        vcid: small(Number::Vcid, vcid)?,
+        ns: small(Number::Ns, ns)?,
     })
 }
 
@@ -406,8 +437,8 @@ fn read_sizing(map: &[u8], size: &[u8]) -> Result<Sizing, Reason>
         (λ reason. sizing_of map.now size.now ≡ Err reason) }
 {
     Ok(Sizing {
-        map: small_number(map)?,
-        size: large_number(size)?,
+        map: small(Number::Map, map)?,
+        size: large(Number::Size, size)?,
     })
 }
 
@@ -422,7 +453,7 @@ fn segment(word: &[u8]) -> Result<Option<Segment>, Reason>
     }
     Ok(Some(Segment {
         part: Part::Unsegmented,
-        map: small_number(word)?,
+        map: small(Number::Map, word)?,
     }))
 }
 

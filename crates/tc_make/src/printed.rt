@@ -1,10 +1,11 @@
 //! What answers are made of, as text.
 
-ghost use Rattle.std.specs.Prelude.{OnOk};
+ghost use Rattle.std.specs.Prelude.{◌++◌, OnOk};
 ghost use Rattle.std.specs.Io.KnownBytes.{Appends};
-ghost use Rattle.tc_make.specs.Printed.{bad_text, named_text, some_text, refused_text};
+ghost use Rattle.tc_make.specs.Printed.{bad_text, unmade_text, within_text, named_text, some_text, refused_text};
 
 use crate::fault::Reason;
+use crate::form::Number;
 use std::io;
 use std::io::Write;
 use tc_lines::Digits;
@@ -16,15 +17,40 @@ pub(crate) fn write_bad<W: Write>(reason: Reason, writer: &mut W) -> io::Result<
     match reason {
         Reason::UnknownCommand => writeln!(
             writer,
-            "bad {reason}: use packet, ad, bd, unlock, setvr, segments, explain, clcw, cltu, random, tm, telemetry, decoder, octets, search or frames"
+            "{reason}: use packet, ad, bd, unlock, setvr, segments, explain, clcw, cltu, random, tm, telemetry, decoder, octets, search or frames"
+        ),
+        Reason::Marked => writeln!(
+            writer,
+            "{reason}: the line begins with a byte order mark, save the text without it"
         ),
         Reason::WordCount(form) => {
             let words = form.as_str();
             let note = form.note();
-            writeln!(writer, "bad {reason}: write {words}{note}")
+            writeln!(writer, "{reason}: write {words}{note}")
         }
-        _ => writeln!(writer, "bad {reason}"),
+        Reason::BadNumber(number) => write_bounds(reason, number, writer),
+        Reason::BadHex => writeln!(
+            writer,
+            "{reason}: HEX is two hexadecimal digits for each octet"
+        ),
+        Reason::BadMode => writeln!(writer, "{reason}: MODE is detect or correct"),
+        Reason::BadClcw => writeln!(writer, "{reason}: HEX is four octets"),
+        Reason::BadScid => write_bounds(reason, Number::Scid, writer),
+        Reason::BadVcid => write_bounds(reason, Number::Vcid, writer),
+        Reason::BadMap => write_bounds(reason, Number::Map, writer),
+        Reason::BadApid => write_bounds(reason, Number::Apid, writer),
+        Reason::BadCount => write_bounds(reason, Number::Count, writer),
+        Reason::BadSize => write_bounds(reason, Number::Size, writer),
+        _ => writeln!(writer, "{reason}"),
     }
+}
+
+// Which number is bad, and its bounds.
+fn write_bounds<W: Write>(reason: Reason, number: Number, writer: &mut W) -> io::Result<()>
+    ensures { OnOk result (Appends (W.contents writer.old) (W.contents writer.new) (unmade_text reason ++ within_text number)) }
+{
+    let bounds = number.as_str();
+    writeln!(writer, "{reason}: {bounds}")
 }
 
 pub(crate) fn write_refused<W: Write>(why: &str, writer: &mut W) -> io::Result<()>

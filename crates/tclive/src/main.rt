@@ -8,7 +8,7 @@ use std::alloc::Global;
 use std::io;
 use std::io::{BufReader, BufWriter};
 use std::process::ExitCode;
-use tc_live::{FrameCheck, Receiver, ServingFault, answer_lines};
+use tc_live::{FrameCheck, FrameEnds, Receiver, ServingFault, answer_lines};
 use tc_text::SpacecraftId;
 
 fn main(rt: HostRuntime) -> ExitCode {
@@ -18,10 +18,18 @@ fn main(rt: HostRuntime) -> ExitCode {
     }
 }
 
-// The exit status. Why no more lines were answered goes to standard error.
-fn tell<R: Eprint>(rt: &R, served: Result<(), ServingFault>) -> ExitCode {
+// The exit status. Why no more lines were answered goes to standard error; and if so, that each frame ended with its frame error control
+// field, on which no answer depends.
+fn tell<R: Eprint>(rt: &R, served: Result<FrameEnds, ServingFault>) -> ExitCode {
     match served {
-        Ok(()) => ExitCode::SUCCESS,
+        Ok(ends) => {
+            if ends == FrameEnds::EachWithField {
+                let _ = eprintln!(rt;
+                    "tclive: each frame ended with its frame error control field, which was data here; tclive --fecf checks it and takes it off"
+                );
+            }
+            ExitCode::SUCCESS
+        }
         Err(fault) => {
             let _ = eprintln!(rt; "tclive: {fault}");
             ExitCode::FAILURE
@@ -29,7 +37,10 @@ fn tell<R: Eprint>(rt: &R, served: Result<(), ServingFault>) -> ExitCode {
     }
 }
 
-fn serve<R: AllocGlobal + Input + Print>(rt: &R, asked: Reception) -> Result<(), ServingFault>
+fn serve<R: AllocGlobal + Input + Print>(
+    rt: &R,
+    asked: Reception,
+) -> Result<FrameEnds, ServingFault>
     requires { asked.scid ≤ 1023 }
 {
     let Ok(mut reader) = BufReader::new(rt.alloc(), rt.reader()) else {

@@ -8,7 +8,7 @@ use std::alloc::Global;
 use std::process::Abort;
 use std::test::Fail;
 use tc_lines::LineAnswerer;
-use tc_live::{FrameCheck, Receiver, ServingFault, answer_lines};
+use tc_live::{FrameCheck, FrameEnds, Receiver, ServingFault, answer_lines};
 
 // The octets of an answer that fit its room.
 const ROOM: usize = 300;
@@ -151,7 +151,7 @@ fn growth_of_a_stream(rt: HostRuntime) -> Result<(), Fail> {
     if served == Err(ServingFault::NoMemory) {
         let _ = println!(rt; "refused: answer_lines");
     } else {
-        assert_eq!(rt; served, Ok(()));
+        assert_eq!(rt; served, Ok(FrameEnds::NoFrame));
         let whole = written.strip_prefix("clcw 1 01040000\n") == Some(report);
         assert!(rt;
             whole || written.starts_with("bad no memory\n"),

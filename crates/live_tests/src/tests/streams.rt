@@ -3,7 +3,7 @@
 use super::receiver;
 use std::io::BufReader;
 use std::test::Fail;
-use tc_live::{FrameCheck, ServingFault, answer_lines};
+use tc_live::{FrameCheck, FrameEnds, ServingFault, answer_lines};
 use test_parts::{Failing, Watched, have_texts};
 
 #[test]
@@ -12,11 +12,33 @@ fn lines_are_answered_and_flushed_one_by_one(rt: HostRuntime) -> Result<(), Fail
     let mut writer = Watched::new(rt.alloc(), 0, false);
     let receiver = receiver(&rt, rt.alloc(), FrameCheck::Nothing);
     let served = answer_lines(rt.alloc(), receiver, &mut reader, &mut writer);
-    assert_eq!(rt; served, Ok(()));
+    assert_eq!(rt; served, Ok(FrameEnds::NoFrame));
     let text =
         b"bad unknown command: use channel, queue, map, frame, release, take, unit, clcw, link, report, deliver, collect or candidate\nclcw 1 01040000\nfinal 1 01040000 events 0 buffered 0\n".as_slice();
     assert!(rt; writer.kept() == text);
     assert_eq!(rt; writer.flushes(), 5);
+    Ok(())
+}
+
+#[test]
+fn how_frames_end_is_told(rt: HostRuntime) -> Result<(), Fail> {
+    let lines = [
+        (
+            "channel 1 10 1 0\nframe 302a0407000020e7\nframe 002a040e00c01005c0000000aa6b6e\n",
+            FrameEnds::EachWithField,
+        ),
+        (
+            "channel 1 10 1 0\nframe 302a04050000\nframe 302a0407000020e7\n",
+            FrameEnds::OneWithout,
+        ),
+    ];
+    for (text, ends) in lines {
+        let mut reader = text.as_bytes();
+        let mut writer = Watched::new(rt.alloc(), 0, false);
+        let receiver = receiver(&rt, rt.alloc(), FrameCheck::Nothing);
+        let served = answer_lines(rt.alloc(), receiver, &mut reader, &mut writer);
+        assert_eq!(rt; served, Ok(ends));
+    }
     Ok(())
 }
 

@@ -2,15 +2,16 @@
 
 use tc_fecf::FieldFault;
 use tc_link::FrameFault;
-use tc_make::{Form, Reason, ServingFault};
+use tc_make::{Form, Number, Reason, ServingFault};
 use test_parts::have_texts;
 
 #[test]
 fn reasons_of_bad_lines(rt: HostRuntime) {
     let reasons = [
-        (Reason::UnknownCommand, "unknown command"),
-        (Reason::WordCount(Form::Ad), "wrong number of words"),
-        (Reason::BadNumber, "bad number"),
+        (Reason::UnknownCommand, "bad unknown command"),
+        (Reason::Marked, "bad unknown command"),
+        (Reason::WordCount(Form::Ad), "bad wrong number of words"),
+        (Reason::BadNumber(Number::Vr), "bad number"),
         (Reason::BadHex, "bad hex"),
         (Reason::BadMode, "bad mode"),
         (Reason::BadClcw, "bad clcw"),
@@ -20,10 +21,10 @@ fn reasons_of_bad_lines(rt: HostRuntime) {
         (Reason::BadApid, "bad application"),
         (Reason::BadCount, "bad count"),
         (Reason::BadSize, "bad size"),
-        (Reason::NoData, "no data"),
-        (Reason::TooMuchData, "too much data"),
-        (Reason::NoDecoder, "no decoder"),
-        (Reason::NoMemory, "no memory"),
+        (Reason::NoData, "bad no data"),
+        (Reason::TooMuchData, "bad too much data"),
+        (Reason::NoDecoder, "bad no decoder"),
+        (Reason::NoMemory, "bad no memory"),
     ];
     assert!(&rt; have_texts(rt.alloc(), reasons.as_slice()));
 }

@@ -1,0 +1,9 @@
+-- Numbers whose words are missing.
+use Rattle.std.proofs.Common.{◌≡◌, List, [], ◌∷◌, None, refl}
+use Rattle.tc_live.specs.Hint.{first_misfit}
+use Rattle.tc_live.specs.declared.hint.Number.{Number}
+
+-- where no words are left, no number has a wrong one
+pub none_left : (numbers : List Number) → first_misfit numbers [] ≡ None
+none_left [] = refl
+none_left (number ∷ numbers) = refl

@@ -1,0 +1,8 @@
+use Rattle.std.proofs.Common.{◌≡◌, drop}
+use Rattle.tc_lines.specs.Word.{words}
+use Rattle.tc_live.specs.Hint.{first_misfit}
+use Rattle.tc_live.proofs.hint.misfit.Given as goal
+
+-- the numbers that are left have the same first misfit in the words that are left
+abbrev pub invariant-loop-number : goal.invariant-loop-number
+invariant-loop-number l = first_misfit (drop l.number-index l.numbers) (words l.rest) ≡ first_misfit l.numbers (words l.arguments)
