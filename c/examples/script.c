@@ -516,7 +516,7 @@ static int answer_all(void) {
             return end_with(why, count);
         }
         if (why != NULL) {
-            printf("bad %s\n", why);
+            printf("%s%s\n", strncmp(why, "bad ", 4) == 0 ? "" : "bad ", why);
         }
         if (ferror(stdout) || (!is_script && fflush(stdout) != 0)) {
             return end_with("cannot write", 0);
