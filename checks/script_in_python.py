@@ -61,7 +61,7 @@ def answer_by(receiver: Receiver, words: List[str]) -> str:
     try:
         answer = calls[words[0]](*numbers)
     except BadLine as bad:
-        return f"bad {bad.reason}\n"
+        return f"bad {bad.reason.removeprefix('bad ')}\n"
     if answer is None:
         return ""
     return " ".join(words) + "\n" if answer is True else f"{line_of(answer)}\n"

@@ -23,7 +23,7 @@ enum { FIRST = 1, CONTINUING = 0, LAST = 2, UNSEGMENTED = 3, MOST_FRAME = 1024, 
 #else
 /* For each of the loads: at most 8 queues and 2 chosen MAPs, with room for 140 items together. */
 TCRX_STATIC_STORAGE(TCRX_STORAGE_OF(TCRX_STORAGE_BUFFER(64) + TCRX_STORAGE_SEGMENTED(MAPS * MOST_PACKET) + TCRX_STORAGE_QUEUES(8, 0, 0)
-                                    + TCRX_STORAGE_MAPS(2, 70, MOST_PACKET)));
+                                    + TCRX_STORAGE_TABLE + TCRX_STORAGE_MAPS(2, 70, MOST_PACKET)));
 #endif
 
 typedef struct {
