@@ -1,7 +1,10 @@
 /* Prints the fields of each line's first word, where it is a CLCW, and writes it again, for checks/c and checks/targets. */
-#include "script.h"
+#include "../tcrx.h"
 
+#include <inttypes.h>
 #include <stdbool.h>
+#include <stdio.h>
+#include <stdlib.h>
 
 /* Whether FARM-1 with the flags of a CLCW has this word: such a FARM-1 is one where the flags are those of some state. */
 static bool is_written(uint32_t word, tcrx_clcw_fields fields) {
@@ -14,7 +17,7 @@ static bool is_written(uint32_t word, tcrx_clcw_fields fields) {
     return clcw.status == TCRX_DONE && clcw.word == (word & ~(UINT32_C(7) << 26));
 }
 
-static void explain(void) {
+static void explain(const char *line) {
     const uint32_t word = (uint32_t)strtoul(line, NULL, 16);
     const tcrx_clcw_fields f = tcrx_read_clcw(word);
     printf("%08" PRIx32, word);
@@ -29,6 +32,7 @@ static void explain(void) {
 }
 
 int main(void) {
-    while (fgets(line, sizeof line, stdin) != NULL) explain();
+    char line[100];
+    while (fgets(line, sizeof line, stdin) != NULL) explain(line);
     return 0;
 }
