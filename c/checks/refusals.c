@@ -1,6 +1,6 @@
 /*
  * Calls that are refused: records that no FARM-1 has, lengths beyond the octets, fields out of range, short buffers, settings and
- * limits of a channel; and each text. Each must have its status, and leave the buffer and the channel as they were. In the proved build
+ * limits of a channel, frames for no channel of a rack; and each text. Each must have its status, and leave the buffer and the channel as they were. In the proved build
  * the statuses are those of its clauses; this is for builds that no proof is of. The guards of tcrx.h are in nulls.c.
  *
  * Where it is compiled with LIMITED, channels without limits have units of 16 octets, for machines that are slow; and with STATIC it is
@@ -471,6 +471,130 @@ static void check_channel(void) {
     expect(tcrx_channel_free(&channel) == TCRX_DONE, "a channel freed", 0);
 }
 
+/* A rack: places of none, two channels of one id, one that is freed, and one of another id. */
+enum { CRAFT = 675, PLACES = 6, FIRST = 1, SECOND = 2, FREED = 3, OTHER = 5 };
+
+static tcrx_channel rack[PLACES];
+
+/* The events of all places, each in digits of its own. */
+static uint64_t rack_events(void) {
+    uint64_t all = 0;
+    for (size_t i = 0; i < PLACES; i++) all = 100 * all + tcrx_channel_events(&rack[i]).count;
+    return all;
+}
+
+/* A Type-AD frame with this N(S), with its frame error control field where it is to have one; its length. */
+static size_t rack_octets(uint16_t scid, uint8_t vcid, uint8_t ns, uint8_t fecf, uint8_t *octets) {
+    const tcrx_header header = {scid, vcid, ns, 0, 0};
+    const uint8_t field[] = {0xc0, 0xaa};
+    uint8_t plain[8];
+    const size_t count = tcrx_write_frame(header, field, sizeof field, fecf == 1 ? plain : octets, 8).length;
+    return fecf == 1 ? tcrx_add_fecf(plain, count, octets, 10).length : count;
+}
+
+/* A candidate is refused by a rack, and of it is told how long its frame is, and whether more follows; no channel has an event. */
+static void expect_no_candidate(uint16_t scid, uint8_t fecf, const uint8_t *octets, size_t count, tcrx_status status, size_t length, unsigned more) {
+    const uint64_t events = rack_events();
+    const tcrx_candidate_reply reply = tcrx_rack_candidate(rack, PLACES, scid, fecf, octets, count);
+    const bool is_empty = reply.queued == 0 && reply.dropped == 0 && reply.event == 0 && reply.accepted == 0 && reply.rest == 0 && reply.vcid == 0;
+    expect(reply.status == status && is_empty && reply.length == length && reply.more == more, "a refused candidate", count);
+    expect(rack_events() == events, "the events after a refused candidate", count);
+}
+
+/* So is a frame, of which nothing else is told. */
+static void expect_unracked(tcrx_rack_reply reply, tcrx_status status, unsigned long place) {
+    static const tcrx_rack_reply none;
+    tcrx_rack_reply told = reply;
+    told.status = none.status;
+    expect(reply.status == status && memcmp(&told, &none, sizeof none) == 0, "a refusal of a rack", place);
+}
+
+static void check_rack_refusals(uint8_t fecf) {
+    static const struct { size_t octet; uint8_t value; tcrx_status status; } faults[] = {{0, 0x42, TCRX_BAD_VERSION}, {0, 0x06, TCRX_SPARE}, {3, 4, TCRX_LENGTH_SMALL}};
+    uint8_t octets[40];
+    memset(octets, 0x55, sizeof octets);
+    const uint64_t events = rack_events();
+    const size_t count = rack_octets(CRAFT, 5, 7, fecf, octets);
+    for (size_t few = 0; few < count; few++) {
+        const tcrx_status status = few < 5 ? TCRX_SHORT : TCRX_TRUNCATED;
+        expect_unracked(tcrx_rack_frame(rack, PLACES, CRAFT, fecf, octets, few), status, few);
+        expect_no_candidate(CRAFT, fecf, octets, few, status, 0, 0);
+    }
+    for (size_t i = 0; i < 3; i++) {
+        const uint8_t was = octets[faults[i].octet];
+        octets[faults[i].octet] = i < 2 ? faults[i].value : (uint8_t)((was & 0xf0) | faults[i].value);
+        expect_unracked(tcrx_rack_frame(rack, PLACES, CRAFT, fecf, octets, count), faults[i].status, 20 + i);
+        octets[faults[i].octet] = was;
+    }
+    expect_unracked(tcrx_rack_frame(rack, PLACES, CRAFT, 2, octets, 0), TCRX_BAD_FLAG, 30);
+    expect_unracked(tcrx_rack_frame(rack, PLACES, CRAFT, 255, octets, count), TCRX_BAD_FLAG, 31);
+    expect_no_candidate(CRAFT, 2, octets, count, TCRX_BAD_FLAG, 0, 0);
+    expect_unracked(tcrx_rack_frame(rack, PLACES, CRAFT, fecf, NULL, 0), TCRX_NULL, 32);
+    expect_no_candidate(CRAFT, fecf, NULL, 0, TCRX_NULL, 0, 0);
+    expect_unracked(tcrx_rack_frame(NULL, 1, CRAFT, fecf, octets, count), TCRX_NULL, 33);
+    expect_unracked(tcrx_rack_frame(NULL, 0, CRAFT, fecf, octets, count), TCRX_UNKNOWN_CHANNEL, 34);
+    expect_unracked(tcrx_rack_frame(rack, FIRST, CRAFT, fecf, octets, count), TCRX_UNKNOWN_CHANNEL, 35);
+    /* Another spacecraft is refused before an unknown channel, and both behind the check. Up to six octets behind a frame are fill. */
+    rack_octets(CRAFT, 9, 0, fecf, octets);
+    for (size_t behind = 0; behind < 20; behind++) {
+        expect_no_candidate(CRAFT, fecf, octets, count + behind, TCRX_UNKNOWN_CHANNEL, count, behind > 6);
+        expect_no_candidate(CRAFT + 1, fecf, octets, count + behind, TCRX_OTHER_SPACECRAFT, count, behind > 6);
+    }
+    expect_unracked(tcrx_rack_frame(rack, PLACES, CRAFT, fecf, octets, count), TCRX_UNKNOWN_CHANNEL, 36);
+    expect_unracked(tcrx_rack_frame(rack, PLACES, CRAFT + 1, fecf, octets, count), TCRX_OTHER_SPACECRAFT, 37);
+    if (fecf == 1) {
+        const uint8_t least[] = {0x02, 0xa3, 0x14, 0x05, 0x07, 0xc0, 0x55};
+        octets[count - 1] ^= 1;
+        expect_unracked(tcrx_rack_frame(rack, PLACES, CRAFT + 1, 1, octets, count), TCRX_WRONG_FECF, 38);
+        expect_no_candidate(CRAFT + 1, 1, octets, count + 7, TCRX_WRONG_FECF, count, 1);
+        expect_unracked(tcrx_rack_frame(rack, PLACES, CRAFT, 1, octets, count + 1), TCRX_FILL, 39);
+        expect_unracked(tcrx_rack_frame(rack, PLACES, CRAFT, 1, least, 6), TCRX_NO_FECF, 40);
+        expect_no_candidate(CRAFT, 1, least, 7, TCRX_NO_FECF, 6, 0);
+    }
+    expect(rack_events() == events, "the events after refusals of a rack", fecf);
+}
+
+/* Three frames for the first channel of an id that is held, one after the other, and two octets of fill behind them. */
+static void check_candidates(uint8_t fecf, uint8_t vcid, size_t place) {
+    uint8_t octets[40];
+    size_t all = 0;
+    const uint8_t first = tcrx_channel_report(&rack[place]).farm.vr;
+    for (uint8_t i = 0; i < 3; i++) all += rack_octets(CRAFT, vcid, (uint8_t)(first + i), fecf, octets + all);
+    octets[all] = octets[all + 1] = 0x55;
+    for (size_t at = 0; at < all; at += all / 3) {
+        const uint64_t events = tcrx_channel_events(&rack[place]).count;
+        const tcrx_candidate_reply reply = tcrx_rack_candidate(rack, PLACES, CRAFT, fecf, octets + at, all + 2 - at);
+        expect(reply.status == TCRX_DONE && reply.vcid == vcid && reply.event == 1 && reply.accepted == 1, "a frame of a candidate", at);
+        expect(reply.length == all / 3 && reply.more == (at < 2 * (all / 3)), "what follows a frame of a candidate", at);
+        expect(tcrx_channel_release(&rack[place]).status == TCRX_DONE && tcrx_channel_events(&rack[place]).count == events + 2, "its channel", at);
+    }
+}
+
+static void check_rack(void) {
+    const tcrx_limit limit = {0, 64};
+    for (size_t place = FIRST; place < PLACES; place++) {
+        const tcrx_settings settings = {place < FREED ? 5 : 8, 10, 4, 250, 1};
+        const tcrx_status status = place == 4 ? TCRX_DONE : tcrx_channel_new_with_limits(&rack[place], settings, NULL, 0, NULL, 0, 0, &limit, 1);
+        expect(status == TCRX_DONE, "a channel of a rack", place);
+    }
+    expect(tcrx_channel_free(&rack[FREED]) == TCRX_DONE, "a channel that is freed", FREED);
+    for (uint8_t fecf = 0; fecf < 2; fecf++) {
+        check_rack_refusals(fecf);
+        check_candidates(fecf, 8, OTHER);
+        check_candidates(fecf, 5, FIRST);
+    }
+    for (unsigned vcid = 0; vcid < 256; vcid++) {
+        const tcrx_place found = tcrx_rack_find(rack, PLACES, (uint8_t)vcid);
+        expect(found.status == (vcid == 5 || vcid == 8 ? TCRX_DONE : TCRX_UNKNOWN_CHANNEL), "an id", vcid);
+        expect(found.place == (vcid == 5 ? FIRST : vcid == 8 ? OTHER : 0), "the place of an id", vcid);
+    }
+    expect(tcrx_rack_find(NULL, 1, 5).status == TCRX_NULL && tcrx_rack_find(NULL, 0, 5).status == TCRX_UNKNOWN_CHANNEL, "no rack", 0);
+    expect(tcrx_rack_find(rack, FIRST, 5).status == TCRX_UNKNOWN_CHANNEL, "an id behind the end", 0);
+    expect(tcrx_channel_free(&rack[FIRST]) == TCRX_DONE, "the first channel", FIRST);
+    check_candidates(1, 5, SECOND);
+    expect(tcrx_channel_free(&rack[SECOND]) == TCRX_DONE && tcrx_channel_free(&rack[OTHER]) == TCRX_DONE, "the last channels", 0);
+}
+
 int main(void) {
     check_records();
     check_clcws();
@@ -488,5 +612,6 @@ int main(void) {
     check_lists();
     check_limits();
     check_channel();
+    check_rack();
     return close_with("answers of refused calls");
 }
