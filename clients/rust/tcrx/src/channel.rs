@@ -1,6 +1,6 @@
 //! A virtual channel that the library holds.
 
-use crate::errors::{BringError, RackError, ReleaseError, SettingsError, TakeError};
+use crate::errors::{BringError, CandidateError, RackError, ReleaseError, SettingsError, TakeError};
 use crate::link::{Clcw, Event, Farm};
 use core::cell::UnsafeCell;
 use core::fmt;
@@ -264,7 +264,7 @@ impl Channel {
 #[derive(Clone, Copy, Debug, PartialEq, Eq)]
 pub struct Carried<'octets> {
     /// What a frame of a rack comes to.
-    pub frame: Result<(u8, Brought), RackError>,
+    pub frame: Result<(u8, Brought), CandidateError>,
     /// The octets behind the frame; all of them where none was found.
     pub rest: &'octets [u8],
     /// Whether they are more than can be fill.
@@ -307,7 +307,7 @@ impl Rack<'_> {
             let delivery = Delivery { queued: reply.queued, dropped: reply.dropped, rest: reply.rest == 1 };
             Ok((reply.vcid, Brought { event: Event::of(reply.event), accepted: reply.accepted == 1, delivery }))
         } else {
-            Err(RackError::of(reply.status, 0))
+            Err(CandidateError::of(reply.status, 0))
         };
         Carried { frame, rest: &octets[reply.length.into()..], more: reply.more == 1 }
     }

@@ -243,6 +243,30 @@ refusals! {
 }
 
 refusals! {
+    /// Why none of the channels took the frame of a candidate in, behind which there may be fill. All are as they were.
+    CandidateError {
+        /// No frame: fewer than 5 octets.
+        Short = SHORT,
+        /// No frame: version bits that aren't 0.
+        BadVersion = BAD_VERSION,
+        /// No frame: spare bits that aren't 0.
+        Spare = SPARE,
+        /// No frame: a frame length of fewer than 6 octets.
+        LengthSmall = LENGTH_SMALL,
+        /// No frame: a frame length of more octets than there are.
+        Truncated = TRUNCATED,
+        /// No frame error control field: a frame of fewer than 8 octets.
+        NoFecf = NO_FECF,
+        /// The frame error control field is wrong.
+        WrongFecf = WRONG_FECF,
+        /// The frame is for another spacecraft.
+        OtherSpacecraft = OTHER_SPACECRAFT,
+        /// No channel has that virtual channel id.
+        UnknownChannel = UNKNOWN_CHANNEL,
+    }
+}
+
+refusals! {
     /// Why nothing left the buffer. The channel is as it was.
     ReleaseError {
         /// Nothing waits there.

@@ -33,7 +33,8 @@ mod link;
 
 pub use channel::{Brought, Carried, Channel, Delivery, Limits, Link, Rack, Settings};
 pub use errors::{
-    BringError, FarmError, FecfError, FrameError, RackError, ReleaseError, SettingsError, TakeError, TmError, WriteError,
+    BringError, CandidateError, FarmError, FecfError, FrameError, RackError, ReleaseError, SettingsError, TakeError, TmError,
+    WriteError,
 };
 pub use link::{
     add_fecf, check_fecf, randomise, write_cltu, Arrival, Clcw, Command, Decoder, Event, Farm, Fed, Frame, Header, Kind, Packet,

@@ -4,9 +4,9 @@
 use std::error::Error;
 use std::thread;
 use tcrx::{
-    add_fecf, check_fecf, randomise, write_cltu, Arrival, BringError, Channel, Clcw, Command, Decoder, Delivery, Event, Farm,
-    FarmError, FecfError, Frame, FrameError, Header, Kind, Limit, Limits, Link, Map, Packet, PacketHeader, Queue, Rack, RackError,
-    ReleaseError, Segments, Settings, SettingsError, State, TakeError, Tm, TmError, TmHeader, WriteError,
+    add_fecf, check_fecf, randomise, write_cltu, Arrival, BringError, CandidateError, Channel, Clcw, Command, Decoder, Delivery,
+    Event, Farm, FarmError, FecfError, Frame, FrameError, Header, Kind, Limit, Limits, Link, Map, Packet, PacketHeader, Queue,
+    Rack, RackError, ReleaseError, Segments, Settings, SettingsError, State, TakeError, Tm, TmError, TmHeader, WriteError,
 };
 
 const PACKET: [u8; 7] = [0x10, 0x05, 0xc0, 0x00, 0x00, 0x00, 0xaa];
@@ -225,8 +225,8 @@ fn a_rack_gives_each_frame_to_its_channel() {
         assert_eq!(carried.frame.map(|(vcid, brought)| (vcid, brought.event)), Ok((8, Event::E4)));
     }
     let wrong = rack.candidate(&octets);
-    assert_eq!((wrong.frame, wrong.rest, wrong.more), (Err(RackError::WrongFecf), &[][..], false));
-    assert_eq!(rack.candidate(&[]).frame, Err(RackError::Short));
+    assert_eq!((wrong.frame, wrong.rest, wrong.more), (Err(CandidateError::WrongFecf), &[][..], false));
+    assert_eq!(rack.candidate(&[]).frame, Err(CandidateError::Short));
     assert_eq!(rack.channel(8).map(|channel| channel.events()), Some(3));
     assert_eq!(rack.channel(5).map(|channel| channel.release()), Some(Ok(Delivery { queued: 0, dropped: 0, rest: true })));
     assert!(rack.channel(9).is_none() && rack.channel(255).is_none());
