@@ -23,7 +23,8 @@ BAD = REASONS[:-1]
 NUMBERS = {**SETTINGS, **OPERATIONS}
 # What scripts must reach besides: bounds of their size, and each row of FARM-1's table in each state that it can arise in.
 BOUNDS = ("a unit of 65542 octets", "a unit of 65543 octets", "64 channels", "a full buffer of 64", "a full queue of packets",
-          "a full queue of units", "V(R) past 255", "a unit of a plain channel", "a unit of a chosen MAP")
+          "a full queue of units", "V(R) past 255", "a unit of a plain channel", "a unit of a chosen MAP", "2047 queues of a channel",
+          "64 maps of a channel", "thousands of operations")
 OF_LIVE = ("a report of open", "a report of wait", "a report of lockout", "a delivery by take", "a delivery by unit", "a candidate with more")
 ROWS = tuple(f"E{row} in S{state}" for row in range(1, 10) for state in (1, 2, 3) if (row, state) != (1, 2))
 WANTED = BOUNDS + OF_LIVE + ROWS + tuple(f"{word} refused {why}" for word, reasons in REFUSALS.items() for why in reasons) + REASONS
@@ -61,6 +62,9 @@ def reached_by(script: Script) -> Count[str]:
     operations = [words[0] for words in map(str.split, script.lines) if words and words[0] in REFUSALS]
     reached = outcome.reached + Counter(f"{word} {answer}" for word, answer in zip(operations, outcome.answers) if answer.startswith("refused"))
     reached[f"{sum(line.startswith('final') for line in outcome.report)} channels"] += 1
+    of_channels = Counter(" ".join(line.split(" ")[:2]) for line in outcome.report)
+    reached.update(f"{count} {each.partition(' ')[0]}s of a channel" for each, count in of_channels.items())
+    reached["thousands of operations"] += len(operations) >= 5_000
     reached[re.sub("^line [0-9]+: ", "", outcome.fault) or "no fault"] += 1
     return reached
 
@@ -245,6 +249,40 @@ def full_queues(drawer: Drawer, most: bool) -> None:
     drawer.operate(20)
 
 
+def at_bounds(drawer: Drawer) -> None:
+    """As much as there can be at a time: each channel; a queue for each application, with a packet in each; each MAP chosen, with a unit on
+    each and a run open on each of both services, and a buffer full of the longest frames; and thousands of units."""
+    vcids = drawer.chance.sample(range(64), 64)
+    for vcid in vcids:
+        drawer.add(f"channel {vcid} 254 64 0")
+    for apid in range(2_047):
+        drawer.add(f"queue {vcids[0]} {apid} {256 if apid == 77 else 1}")
+    for place in range(64):
+        drawer.add(f"map {vcids[1]} {place} 1")
+    for vcid in vcids:
+        drawer.send(drawer.receiver.channels[vcid], vcid % 2 > 0, b"\xe1")
+    packets, units = (drawer.receiver.channels[vcid] for vcid in vcids[:2])
+    for place in range(65):
+        field = bytes([0xC0 | place % 64]) + drawer.chance.randbytes(LONGEST_PART)
+        drawer.add(f"frame {drawer.octets(0x00, units.vcid, units.farm.vr, field).hex()}")
+    for line in [f"release {units.vcid}"] * 65 + [f"unit {units.vcid} {place}" for place in range(64)]:
+        drawer.add(line)
+    for part in (0x40, 0x00, 0x80):
+        for place in range(64):
+            for sequenced in (True, False):
+                drawer.send(units, sequenced, bytes([part | place]) + drawer.chance.randbytes(60))
+    one = [bytes([0x10 | apid >> 8, apid & 255]) + bytes.fromhex("c0000000aa") for apid in range(2_047)]
+    unit = b"".join(one) + one[77] * 255
+    for start in range(0, len(unit), LONGEST_PART):
+        part = 0x40 * (start == 0) | 0x80 * (start + LONGEST_PART >= len(unit))
+        drawer.send(packets, False, bytes([part]) + unit[start:start + LONGEST_PART])
+    for apid in [*range(2_047)] + [77] * 256:
+        drawer.add(f"take {packets.vcid} {apid}")
+    for _ in range(2_000):
+        drawer.send(packets, False, b"\xc0" + one[77])
+        drawer.add(f"take {packets.vcid} 77")
+
+
 def long_unit(drawer: Drawer, beyond: int) -> None:
     """A unit of the most octets that there are, or of so many more: as one packet, or as octets that are queued whole."""
     chance, channel = drawer.chance, drawer.channel(drawer.chance.randrange(64), plain=0)
@@ -334,7 +372,7 @@ def fault(drawer: Drawer, reason: str) -> None:
 
 
 SPECIAL: Tuple[Callable[[Drawer], None], ...] = (
-    each_row, each_row, each_row, many_channels, full_buffer, partial(full_queues, most=True), partial(full_queues, most=False),
+    each_row, each_row, each_row, many_channels, at_bounds, full_buffer, partial(full_queues, most=True), partial(full_queues, most=False),
     partial(long_unit, beyond=0), partial(long_unit, beyond=1), partial(long_unit, beyond=-1),
     long_lines, partial(long_script, beyond=0), partial(long_script, beyond=1),
     *(partial(beyond_bounds, command=command, at=at) for command, bounds in NUMBERS.items() for at in range(len(bounds))))
