@@ -320,11 +320,12 @@ def check_threads() -> None:
 
 
 def check_turns() -> None:
-    """Each call of a channel waits for one of another thread, which holds the channel's lock here."""
+    """Each call of a channel, and of its rack, waits for one of another thread, which holds the channel's lock here."""
     with Channel(1, **SETTINGS) as channel:
+        rack = Rack(42, [channel])
         calls: Tuple[Callable[[], object], ...] = (
             partial(channel.bring, UNLOCK), channel.release, partial(channel.take, 5), partial(channel.take_unit, 2), channel.clcw,
-            channel.report, lambda: channel.events)
+            channel.report, lambda: channel.events, partial(rack.bring, UNLOCK), partial(rack.bring_candidate, UNLOCK), partial(rack.channel, 1))
         threads = [threading.Thread(target=call, daemon=True) for call in calls]
         with channel._lock:  # pylint: disable=protected-access  # nothing else shows that a call waits
             for thread in threads:
