@@ -73,13 +73,14 @@ def through(dice: random.Random, past: List[bytes], turning: bool) -> Iterator[b
 # pylint: disable-next=too-many-arguments  # what may be chosen
 def run(seed: int, udp: bool = False, mode: str = "correct", randomised: bool = False, tclive: Optional[Path] = None,
         tcmake: Path = TOP / "tcmake") -> str:
-    """Sends packets until each has come, and says how many frames it took."""
+    """Sends packets until each has come, and says how many frames it took, and what the bench says of the sender."""
+    said: List[str] = []
     words = ["--tc-udp" if udp else "--tc-tcp", "0", "--cltu", mode, *["--randomised"] * randomised, "--tcmake", str(tcmake), "--tm-udp", "PLACE",
-             "--tm-rate", RATE, "--tm-length", "64", "--tm-fecf"]
-    begin = partial(bench_udp.start, words=words, made=partial(Edges, seed=seed, randomised=randomised, tcmake=tcmake))
+             "--tm-rate", RATE, "--tm-length", "64", "--tm-fecf", "--sender", "1", "10"]
+    begin = partial(bench_udp.start, words=words, made=partial(Edges, seed=seed, randomised=randomised, tcmake=tcmake), said=said)
     good, bench.link = bench.link, through
     try:
-        return bench.run(seed, True, tclive=tclive, tcmake=tcmake, begin=begin)
+        return f"{bench.run(seed, True, tclive=tclive, tcmake=tcmake, begin=begin)}\n{said[-1]}"
     finally:
         bench.link = good
 

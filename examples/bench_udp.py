@@ -64,8 +64,8 @@ class Remote:
 
 @contextmanager
 def start(fecf: bool, tclive: Optional[Path], words: Sequence[str] = PORTS,
-          made: Callable[[Dict[str, int], socket.socket], Remote] = Remote) -> Iterator[Remote]:
-    """Starts a bench on free ports."""
+          made: Callable[[Dict[str, int], socket.socket], Remote] = Remote, said: Optional[List[str]] = None) -> Iterator[Remote]:
+    """Starts a bench on free ports. What it says at its end is added to `said`."""
     clcws = socket.socket(socket.AF_INET, socket.SOCK_DGRAM)
     clcws.bind(("127.0.0.1", 0))
     clcws.settimeout(60)
@@ -87,7 +87,9 @@ def start(fecf: bool, tclive: Optional[Path], words: Sequence[str] = PORTS,
             finally:
                 remote.close()
                 child.send_signal(signal.SIGTERM)
-                child.communicate()
+                printed = child.communicate()[0]
+                if said is not None:
+                    said += printed.splitlines()
 
 
 if __name__ == "__main__":

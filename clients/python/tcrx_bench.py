@@ -26,13 +26,14 @@ import tcrx  # noqa: E402
 from tcrx_bench_parts.craft import Craft, Release, Turn  # noqa: E402
 from tcrx_bench_parts.demo import KEYS, SETUP, STAND_IN, Demo, stand_in  # noqa: E402
 from tcrx_bench_parts.edges import MAKER, MARKER, CltuConnection, Decoding, Telemetry  # noqa: E402
-from tcrx_bench_parts.engine import Engine  # noqa: E402
+from tcrx_bench_parts.engine import RECEIVER, Engine, Speech  # noqa: E402
 from tcrx_bench_parts.faults import Faults  # noqa: E402
 from tcrx_bench_parts.journal import Journal, replay  # noqa: E402
 from tcrx_bench_parts.octets import Cutter  # noqa: E402
 from tcrx_bench_parts.options import read_setup, read_words, warning_of, warning_of_files  # noqa: E402
 from tcrx_bench_parts.ports import (Connection, Datagrams, FrameConnection, Hub, LineConnection, Notes, Place, Port, Reader, Target, all_senders,  # noqa: E402
                                     readers_sender, room_for, write_some)
+from tcrx_bench_parts.watch import Watches  # noqa: E402
 from tcrx_bench_parts.web import Visitor, Web  # noqa: E402
 
 # Seconds between two writes of the log; that readers have at the end; and after which it is said that the program isn't up yet.
@@ -96,6 +97,9 @@ class Bench:  # pylint: disable=too-many-instance-attributes  # it is made of th
         self.faults: Optional[Faults] = None
         self.maker = self._maker_of(options)
         self.decoding = Decoding(options, self.maker, self.hub) if self.maker and options.cltu else None
+        self.judge: Optional[Engine] = None
+        self.watches: Optional[Watches] = None
+        self._watch()
         self.telemetry = Telemetry(options, self.maker, self.craft) if self.maker and options.has_telemetry else None
         self.said_fault = False
         self.link_watch: Optional[LinkWatch] = None
@@ -113,15 +117,33 @@ class Bench:  # pylint: disable=too-many-instance-attributes  # it is made of th
         return engine
 
     def _maker_of(self, options: Namespace) -> Optional[Engine]:
-        """What decodes CLTUs and makes telemetry frames, where one of both is asked for. If it ends, so does the bench."""
+        """What decodes CLTUs and makes telemetry frames, where one of both is asked for."""
+        if not options.cltu and not options.has_telemetry:
+            return None
+        return self._engine_beside([options.tcmake or tcrx.find_program("tcmake", "--tcmake FILE"), *["--fecf"] * options.tm_fecf], MAKER)
+
+    def _engine_beside(self, words: List[str], speech: Speech) -> Engine:
+        """What writes to a program beside the receiver. If it ends, so does the bench."""
         def ended(over: "asyncio.Future[str]") -> None:
             if over.result() and not self.over.done():
                 self.over.set_result(over.result())
-        if not options.cltu and not options.has_telemetry:
-            return None
-        maker = Engine(tcrx.Process([options.tcmake or tcrx.find_program("tcmake", "--tcmake FILE"), *["--fecf"] * options.tm_fecf]), options.patience, MAKER)
-        maker.over.add_done_callback(ended)
-        return maker
+        engine = Engine(tcrx.Process(words), self.options.patience, speech)
+        engine.over.add_done_callback(ended)
+        return engine
+
+    def _watch(self) -> None:
+        """Has the senders watched that were named, by a `tclive` of their own."""
+        if not self.options.sender:
+            return
+        if self.judge is None:
+            self.judge = self._engine_beside([self.words[0], "--scid", "0"], RECEIVER._replace(name="the judge of senders"))
+            self.watches = Watches(self.options.sender, self.judge.ask_all, partial(self.craft.note_text, "sender"))
+            for line in self.watches.setup():
+                self.judge.tell(line)
+            self.craft.begun_channel, self.craft.senders, self.craft.is_held = self.watches.begin, self.watches.state, self.watches.is_behind
+            self.watches.caught_up, self.watches.time = self.craft.step, self.craft.now
+        assert self.watches
+        self.engine.heard = self.watches.see
 
     async def _is_up(self, engine: Engine, name: str) -> None:
         """Waits until a program answers. Raises `NotUp` where it has ended."""
@@ -150,8 +172,9 @@ class Bench:  # pylint: disable=too-many-instance-attributes  # it is made of th
         for number, line in self.options.lines:
             self.engine.set_up(line, partial(answered, number, line))
         await self._is_up(self.engine, "tclive")
-        if self.maker:
-            await self._is_up(self.maker, "tcmake")
+        for engine, name in ((self.maker, "tcmake"), (self.judge, "tclive")):
+            if engine:
+                await self._is_up(engine, name)
         if bad:
             raise NotUp(bad[0], 2)
 
@@ -252,6 +275,7 @@ class Bench:  # pylint: disable=too-many-instance-attributes  # it is made of th
             await self._say_report()
             self.journal.begin_part()
             self.engine = self._engine_of(process)
+            self._watch()
             self.craft.begin_anew(self.engine)
             await self.set_up()
             self.craft.note_text(turn.source, "the receiver was begun anew")
@@ -300,11 +324,13 @@ class Bench:  # pylint: disable=too-many-instance-attributes  # it is made of th
         if not self.engine.over.done():
             self.engine.end_lines()
             await self.engine.over
-        if self.maker and not self.maker.over.done():
-            self.maker.end_lines()
-            await self.maker.over
-        own = self.engine.over.result()
-        why = own or (self.maker.over.result() if self.maker else "")
+        own = why = self.engine.over.result()
+        for other in (self.maker, self.judge):
+            if other:
+                if not other.over.done():
+                    other.end_lines()
+                ended = await other.over
+                why = why or ended
         self._log_edges()
         if left:
             self._say_unanswered(left)
@@ -321,6 +347,8 @@ class Bench:  # pylint: disable=too-many-instance-attributes  # it is made of th
         for target in self.targets:
             target.close()
         said = bool(own) or await self._say_report()
+        if self.watches:
+            said = self.write("".join(line + "\n" for line in self.watches.texts())) and said
         self.notes.say_left_out()
         return 1 if why or left or self.journal.fault or not said else 0
 
@@ -338,7 +366,8 @@ class Bench:  # pylint: disable=too-many-instance-attributes  # it is made of th
     def _is_answered(self) -> bool:
         """Whether there is nothing to be answered, or nobody who answers."""
         is_decoded = not self.maker or not self.decoding or self.maker.over.done() or self.decoding.idle()
-        return is_decoded and not self.craft.is_renewing and (self.engine.over.done() or self.craft.idle())
+        is_judged = not self.judge or not self.watches or self.judge.over.done() or self.watches.idle()
+        return is_decoded and is_judged and not self.craft.is_renewing and (self.engine.over.done() or self.craft.idle())
 
     def _log_edges(self) -> None:
         """Adds to the log what was counted of CLTUs and telemetry frames."""
@@ -348,7 +377,7 @@ class Bench:  # pylint: disable=too-many-instance-attributes  # it is made of th
 
     def stop(self, why: str) -> None:
         """Ends the programs, for this reason."""
-        for engine in (self.engine, self.maker):
+        for engine in (self.engine, self.maker, self.judge):
             if engine:
                 engine.stop(why)
 
@@ -446,7 +475,7 @@ def main() -> int:
     options = read_words(sys.argv[1:])
     try:
         if options.replay:
-            return replay(options.replay, options.program)
+            return replay(options.replay, options.program, options.sender)
         options.lines = read_setup(options.setup) if options.setup else list(enumerate(SETUP, 1)) if options.demo else []
         return asyncio.run(serve(options))
     except NotUp as error:

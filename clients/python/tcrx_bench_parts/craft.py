@@ -108,6 +108,12 @@ class Craft:  # pylint: disable=too-many-instance-attributes  # what is known of
         self.send_unit: Callable[[bytes], None] = lambda octets: None
         self.edges: Callable[[], Dict[str, object]] = lambda: {"cltu": None, "telemetry": None}
         """What is known of CLTUs and telemetry frames, as values of JSON."""
+        self.senders: Callable[[], List[Dict[str, object]]] = list
+        """What is told of senders, as values of JSON."""
+        self.begun_channel: Callable[[int, int], None] = lambda vcid, first: None
+        """Called with a channel that is set up, and its V(R)."""
+        self.is_held: Callable[[], bool] = lambda: False
+        """Whether the receiver is given nothing for now, since what it answered before is still looked at."""
         self.arrived: Callable[[], None] = lambda: None
         """Called when a frame arrives."""
         self.slow: Callable[[bool], None] = lambda slow: None
@@ -161,7 +167,7 @@ class Craft:  # pylint: disable=too-many-instance-attributes  # what is known of
     def step(self) -> None:
         """Writes the lines of what waits, as far as may be."""
         most = MOST_AT_END if self.is_ending else MOST_UNDER_WAY
-        while self.waiting and not self.barred and len(self.engine.pending) < most:
+        while self.waiting and not self.barred and len(self.engine.pending) < most and not self.is_held():
             turn = self.waiting.popleft()
             if turn.line == ANEW and not self.is_ending:
                 self.barred = self.is_renewing = True
@@ -362,6 +368,7 @@ class Craft:  # pylint: disable=too-many-instance-attributes  # what is known of
         """Notes a channel, queue or MAP that was set up."""
         if word == "channel":
             self.channels[numbers[0]] = Channel(numbers[0], numbers[1], numbers[2], numbers[3], plain)
+            self.begun_channel(numbers[0], numbers[3])
         elif word == "queue":
             self.channels[numbers[0]].queues[numbers[1]] = numbers[2]
         else:
@@ -406,11 +413,11 @@ class Craft:  # pylint: disable=too-many-instance-attributes  # what is known of
         """The events after one of this number, as values of JSON."""
         return [event.state() for event in self.last_events if event.number > since]
 
-    def note_text(self, source: str, text: str) -> None:
-        """Keeps what happened on a port, or to the log."""
+    def note_text(self, source: str, text: str, at: Optional[float] = None) -> None:
+        """Keeps what happened on a port, or to the log; now, or at another time."""
         self.changes += 1
         self.count_of_notes += 1
-        self.last_notes.append({"id": self.count_of_notes, "time": round(self.now(), 6), "source": source, "text": printable(text)})
+        self.last_notes.append({"id": self.count_of_notes, "time": round(self.now() if at is None else at, 6), "source": source, "text": printable(text)})
 
     def read_report(self, channel: Channel, answer: str) -> None:
         """Notes what a report says of buffer and queues."""
@@ -438,7 +445,7 @@ class Craft:  # pylint: disable=too-many-instance-attributes  # what is known of
         """All that is known of the receiver, as values of JSON."""
         return {"spacecraft": self.scid, "fecf": self.fecf, "release": self.release.value, "frames": self.frames,
                 "packets": self.packets, "units": self.units, "refused": dict(self.refused), "bad": dict(self.bad), **self.edges(),
-                "channels": [state_of(self.channels[vcid]) for vcid in sorted(self.channels)]}
+                "senders": self.senders(), "channels": [state_of(self.channels[vcid]) for vcid in sorted(self.channels)]}
 
 
 def state_of(channel: Channel) -> Dict[str, object]:

@@ -91,6 +91,8 @@ class Engine:  # pylint: disable=too-many-instance-attributes  # both ways of on
         """The lines of the final report."""
         self.answered: Callable[[], None] = lambda: None
         """Called after answers came."""
+        self.heard: Callable[[str, List[str]], None] = lambda line, answers: None
+        """Called with a line and its answers."""
         self._out: List[str] = []
         self._left = b""
         self._begun = ""
@@ -116,6 +118,12 @@ class Engine:  # pylint: disable=too-many-instance-attributes  # both ways of on
     def ask_block(self, line: str, answered: Callable[[Given, List[str]], None], block: Given) -> None:
         """Writes a line, or two, whose answers end with a CLCW, and are handed on together."""
         self._ask(line, answered, block)
+
+    def ask_all(self, lines: List[str], answered: Answered) -> None:
+        """Writes lines with an answer each, of which the last is handed on."""
+        for line in lines[:-1]:
+            self.ask(line, lambda answer: None)
+        self.ask(lines[-1], answered)
 
     def tell(self, line: str) -> None:
         """Writes a line that has no answer, in front of the next one that has."""
@@ -234,6 +242,7 @@ class Engine:  # pylint: disable=too-many-instance-attributes  # both ways of on
             at = last + 1
             wrong = self._unfit(line, answers)
             if wrong is None:
+                self.heard(line, answers)
                 try:
                     if block:
                         answered(block, answers)

@@ -20,11 +20,13 @@ from io import FileIO
 from itertools import islice
 from pathlib import Path
 from threading import Thread
-from typing import Iterable, Iterator, List, NamedTuple, Optional
+from functools import partial
+from typing import Callable, Iterable, Iterator, List, NamedTuple, Optional, Sequence
 
 from tcrx import LONGEST_ANSWER, NO_BUILD, NotStarted, __version__, find_program
 
 from .octets import HEADER, without_sum
+from .watch import Watches
 
 # The bits of a CLCW that `tcrx` never sets: No RF Available and No Bit Lock.
 LINK_FLAGS = 0xC000
@@ -34,6 +36,8 @@ LONGEST = LONGEST_ANSWER + 4
 MOST_LINES = 4096
 # The lines that have no answer where they are good.
 SET_UP = frozenset({"channel", "queue", "map"})
+# When something was answered; a channel that is set up, and its V(R).
+ANSWERED, CHANNEL = re.compile(r"# \d+\.\d{6} (\d+\.\d{6}) .*"), re.compile(r"channel +(\d+) +\d+ +\d+ +(\d+)(?: .*)?")
 FIRST = re.compile(r"# tcrx-bench \S+ spacecraft (\d{1,4})(, with frame error control)?, begun \S+")
 
 
@@ -187,17 +191,18 @@ class Unfit(Exception):
 
 class Step(NamedTuple):
     """A line that `tclive` is given, with the number of its line in the journal, and the answer that is noted, or none. One of the final
-    report has no line."""
+    report has no line. And when it was answered."""
 
     line: str
     place: int
     answer: Optional[str]
+    time: float
 
 
 def steps_of(lines: Iterable[str]) -> Iterator[Step]:
     """The lines of a journal that `tclive` is given, each with its answer. After the last come those of the report. Raises `Unfit` at a
     second answer."""
-    line, place, answer = "", 0, None
+    line, place, answer, time, coming = "", 0, None, 0.0, 0.0
     in_place_of_next = False
     for number, text in enumerate(lines, 2):
         if text.startswith(("#= ", "#~ ")):
@@ -205,18 +210,20 @@ def steps_of(lines: Iterable[str]) -> Iterator[Step]:
                 raise Unfit(f"line {number}: `{printable(line)}` has an answer already")
             answer = text[3:]
             if not line:
-                yield Step("", number, answer)
+                yield Step("", number, answer, time)
             continue
         begins = text.startswith(("#> ", "#* "))
         if text.startswith("#") and not begins and text != "# end":
+            found = ANSWERED.fullmatch(text)
+            coming = float(found[1]) if found else coming
             continue
         if line and not in_place_of_next:
-            yield Step(line, place, answer)
+            yield Step(line, place, answer, time)
         if not in_place_of_next:
-            line, place, answer = text[3:] if begins else "" if text == "# end" else text, number, None
+            line, place, answer, time = text[3:] if begins else "" if text == "# end" else text, number, None, coming
         in_place_of_next = text.startswith("#* ")
     if line:
-        yield Step(line, place, answer)
+        yield Step(line, place, answer, time)
 
 
 class Log:  # pylint: disable=too-few-public-methods  # it is gone through, more than once
@@ -267,12 +274,17 @@ def feed(child: "subprocess.Popen[str]", log: Log) -> None:
         pass
 
 
-def compare(log: Log, answers: Iterator[str]) -> str:
-    """Compares the answers of a journal with others, and says how many are the same. Raises `Unfit` at the first that isn't."""
+def compare(log: Log, answers: Iterator[str], watches: Optional[Watches] = None) -> str:
+    """Compares the answers of a journal with others, has its senders judged, and says how many answers are the same. Raises `Unfit` at the first
+    that isn't."""
     count, has_report = 0, False
     silent: Optional[Step] = None
     for step in log.steps():
+        if watches:
+            watches.time = partial(float, step.time)
         if step.line.partition(" ")[0] in SET_UP:
+            if watches and (channel := CHANNEL.fullmatch(step.line)):
+                watches.begin(int(channel[1][:4]), int(channel[2][:4]) & 255)
             continue
         if silent:
             raise Unfit(f"line {silent.place}, `{printable(silent.line)}`: the log has no whole answer")
@@ -283,6 +295,8 @@ def compare(log: Log, answers: Iterator[str]) -> str:
         if step.answer != answer:
             found = "no more answers" if answer is None else f"`{printable(answer)}`"
             raise Unfit(f"line {step.place}, `{printable(step.line) or 'the report'}`: the log has `{printable(step.answer)}`, and the replay {found}")
+        if watches:
+            watches.see(step.line, [answer])
         has_report = not step.line
         count += not has_report
     if has_report and not log.cut and (more := next(answers, None)) is not None:
@@ -292,7 +306,7 @@ def compare(log: Log, answers: Iterator[str]) -> str:
     return f"{count} answers {'and the final report are those of the log' if has_report else 'are those of the log, which has no final report'}"
 
 
-def run_again(log: Log, words: List[str]) -> str:
+def run_again(log: Log, words: List[str], watches: Optional[Watches]) -> str:
     """Has a program, of which these words begin, answer the lines of a journal, and compares its answers."""
     try:
         child = subprocess.Popen(words, stdin=subprocess.PIPE, stdout=subprocess.PIPE, encoding="latin-1", env={**os.environ, **NO_BUILD})
@@ -303,7 +317,7 @@ def run_again(log: Log, words: List[str]) -> str:
         feeder = Thread(target=feed, args=(child, log))
         feeder.start()
         try:
-            said = compare(log, (line.rstrip("\n") for line in child.stdout))
+            said = compare(log, (line.rstrip("\n") for line in child.stdout), watches)
             for _ in child.stdout:
                 pass
         except Unfit:
@@ -316,12 +330,57 @@ def run_again(log: Log, words: List[str]) -> str:
     return said
 
 
-def replay(path: Path, program: Optional[str]) -> int:
-    """Gives the lines of a journal to `tclive`, compares its answers with those of the journal, and says what was found; the status."""
+class Judge:
+    """A `tclive` that is asked about senders, one question after the other."""
+
+    def __init__(self, program: str) -> None:
+        # pylint: disable-next=consider-using-with  # it is ended in `end`
+        self.child = subprocess.Popen([program, "--scid", "0"], stdin=subprocess.PIPE, stdout=subprocess.PIPE, text=True, bufsize=1,
+                                      env={**os.environ, **NO_BUILD})
+
+    def tell(self, lines: List[str]) -> None:
+        """Writes lines."""
+        assert self.child.stdin
+        self.child.stdin.writelines(line + "\n" for line in lines)
+
+    def ask(self, lines: List[str], answered: Callable[[str], None]) -> str:
+        """The answer to the last of these lines. Raises `Unfit` where there is none."""
+        del answered
+        assert self.child.stdout
+        try:
+            self.tell(lines)
+            answer = [self.child.stdout.readline() for _ in lines][-1]
+        except OSError:
+            answer = ""
+        if not answer.startswith("frame "):
+            raise Unfit("the judge of senders has ended")
+        return answer
+
+    def end(self) -> None:
+        """Ends it."""
+        self.child.communicate()
+
+
+def replay(path: Path, program: Optional[str], senders: Sequence[Sequence[int]] = ()) -> int:
+    """Gives the lines of a journal to `tclive`, compares its answers with those of the journal, and says what was found, also of its senders;
+    the status."""
     try:
         log = Log(path)
-        print(run_again(log, [program or find_program(named_by="--program FILE"), *log.words]))
+        named = program or find_program(named_by="--program FILE")
+        if not senders:
+            print(run_again(log, [named, *log.words], None))
+            return 0
+        judge = Judge(named)
+        try:
+            watches = Watches(senders, judge.ask, lambda text, time: print(f"{time:.6f} s: {text}"))
+            judge.tell(watches.setup())
+            print("\n".join([run_again(log, [named, *log.words], watches), *watches.texts()]))
+        finally:
+            judge.end()
         return 0
     except (Unfit, NotStarted) as error:
         print(f"tcrx-bench: {error}", file=sys.stderr)
+        return 1
+    except OSError as error:
+        print(f"tcrx-bench: {named} can't be started: {error.strerror}", file=sys.stderr)
         return 1

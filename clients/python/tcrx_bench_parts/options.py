@@ -178,6 +178,8 @@ def add_behaviour(made: argparse.ArgumentParser) -> None:
                       help="auto: release and take what is accepted; manual: by lines")
     made.add_argument("--release-after", type=seconds, metavar="<SECONDS>", help="release and take this long after the frame")
     made.add_argument("--link-timeout", type=seconds, metavar="<SECONDS>", help="set No RF and No Bit Lock if no frame came for this long")
+    made.add_argument("--sender", nargs=2, action="append", default=[], type=number_in(0, 127), metavar=("<VC>", "<K>"),
+                      help="watch the sender of a channel: whether it keeps a window of K frames (1 to 127), and the link the order")
     made.add_argument("--connections", type=number_in(1, 10000), default=32, metavar="<N>", help="connections that a port takes at a time; 32 if not given")
     made.add_argument("--patience", type=seconds, default=10.0, metavar="<SECONDS>",
                       help="time for the rest of a frame, and for an answer of tclive or tcmake; 10 if not given")
@@ -187,13 +189,15 @@ def add_behaviour(made: argparse.ArgumentParser) -> None:
     made.add_argument("--seed", type=number_in(0, 999999999), default=0, metavar="<N>", help="with another seed chance has it otherwise")
     made.add_argument("--demo", action="store_true", help="also start two senders over a bad link, and name the page to look at")
     made.add_argument("--log", type=Path, metavar="<FILE>", help="write frames, lines and answers there, as a script; the file must be new")
-    made.add_argument("--replay", type=Path, metavar="<FILE>", help="give a log to tclive, compare the answers, and end")
+    made.add_argument("--replay", type=Path, metavar="<FILE>", help="give a log to tclive, compare the answers, and end; with --sender for its senders, too")
 
 
 def read_words(words: Sequence[str]) -> argparse.Namespace:
     """The options; a bad command line ends the program with status 2."""
     made = make_parser()
     options = made.parse_args(words)
+    if fault := fault_of_senders(options.sender):
+        made.error(fault)
     if options.replay:
         return options
     if options.scid is None and not options.demo:
@@ -231,6 +235,14 @@ def fault_of_edges(options: argparse.Namespace) -> str:
             (options.cltu and options.fill > 1, "--fill: not with --cltu, which takes fill off"),
             (options.cltu and options.resync, "--resync: not with --cltu, which searches in any case")]
     return next((f"argument {text}" for is_wrong, text in rows if is_wrong), "")
+
+
+def fault_of_senders(senders: Sequence[Sequence[int]]) -> str:
+    """What is wrong with the senders that are to be watched, if anything is."""
+    channels = [channel for channel, _ in senders]
+    rows = [(channel > 63, f"{channel} isn't a channel from 0 to 63") for channel in channels]
+    rows += [(not window, "a window has 1 to 127 frames") for _, window in senders] + [(len(set(channels)) < len(channels), "a channel has one sender")]
+    return next((f"argument --sender: {text}" for is_wrong, text in rows if is_wrong), "")
 
 
 def set_demo(options: argparse.Namespace) -> None:

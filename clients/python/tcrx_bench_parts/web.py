@@ -267,6 +267,11 @@ def all_metrics(state: Dict[str, object]) -> Iterator[Tuple[str, str, Dict[str, 
             yield f"{what}_total", "counter", {}, cltu[what]
     if telemetry := cast(Dict[str, object], state["telemetry"]):
         yield "telemetry_frames_total", "counter", {}, telemetry["frames"]
+    for sender in cast(List[Dict[str, object]], state["senders"]):
+        about = {"channel": sender["channel"], "window": sender["window"]}
+        yield "sender_frames_total", "counter", about, sender["frames"]
+        yield "sender_breaches_total", "counter", about, sender["breaches"]
+        yield "sender_in_order", "gauge", about, int(cast(bool, sender["in_order"]))
     for channel in cast(List[Dict[str, object]], state["channels"]):
         yield from channel_metrics(channel)
     for port in cast(List[Dict[str, object]], state["ports"]):
