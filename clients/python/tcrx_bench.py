@@ -141,9 +141,14 @@ class Bench:  # pylint: disable=too-many-instance-attributes  # it is made of th
             for line in self.watches.setup():
                 self.judge.tell(line)
             self.craft.begun_channel, self.craft.senders, self.craft.is_held = self.watches.begin, self.watches.state, self.watches.is_behind
-            self.watches.caught_up, self.watches.time = self.craft.step, self.craft.now
+            self.watches.went_on, self.watches.time = self._judged, self.craft.now
         assert self.watches
         self.engine.heard = self.watches.see
+
+    def _judged(self) -> None:
+        """Something of a sender was judged: that is news, and the receiver goes on where it had to wait."""
+        self.craft.changes += 1
+        self.craft.step()
 
     async def _is_up(self, engine: Engine, name: str) -> None:
         """Waits until a program answers. Raises `NotUp` where it has ended."""

@@ -125,8 +125,8 @@ class Watches:
         self.all = {channel: Watch(channel, window, partial(self._ask, ask), self._breaks) for channel, window in chosen}
         self.time: Callable[[], float] = lambda: 0.0
         """The time of what is answered, in seconds since the begin."""
-        self.caught_up: Callable[[], None] = lambda: None
-        """Called once so much doesn't wait any more that the receiver has to."""
+        self.went_on: Callable[[], None] = lambda: None
+        """Called after an answer that came later."""
 
     def setup(self) -> List[str]:
         """The lines that set up the program."""
@@ -171,12 +171,10 @@ class Watches:
             watch.go_on()
 
     def _ask(self, ask: Ask, lines: List[str], answered: Answered) -> Optional[str]:
-        """Asks, and lets the receiver go on where it had to wait."""
+        """Asks, and says when the answer has come."""
         def told(answer: str) -> None:
-            was_behind = self.is_behind()
             answered(answer)
-            if was_behind and not self.is_behind():
-                self.caught_up()
+            self.went_on()
         return ask(lines, told)
 
     def state(self) -> List[Dict[str, object]]:
