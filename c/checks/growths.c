@@ -2,7 +2,8 @@
  * Refuses each block that the making of a channel asks for in turn: the first one, then the second, until it asks for no more. Each
  * time the answer must be TCRX_NO_MEMORY, no channel may be held, and no block may be left of it. Then each kind of call is made once
  * with its first block refused: none may ask for any. Packets and units that are taken must be those that were sent. Nothing may be
- * left of a channel that was freed; and settings and limits that make no channel must be refused by their fault before any is asked for.
+ * left of a channel that was freed; settings and limits that make no channel must be refused by their fault before any is asked for; and
+ * the address must not be null where no block is given.
  *
  * The memory is that of tcrx_memory.c, which is linked with this. What is refused are its calls of malloc, which the linker leads here:
  * by --wrap=malloc and --wrap=free. The last line says how many blocks were refused.
@@ -18,6 +19,13 @@ void *__real_malloc(size_t count);
 void __real_free(void *at);
 void *__wrap_malloc(size_t count);
 void __wrap_free(void *at);
+
+typedef struct {
+    bool given;
+    void *at;
+} rattle_block;
+
+rattle_block rattle_alloc(size_t count, size_t alignment);
 
 /* How many blocks are given before one is refused, and how many were refused; how many are out. */
 static unsigned long given_first, refusals, blocks;
@@ -151,6 +159,15 @@ static bool is_refused_by_its_fault(void) {
     return queue == TCRX_DOUBLE_APID && limit == TCRX_DOUBLE_LIMIT && !met;
 }
 
+static bool is_never_null(void) {
+    given_first = 0;
+    met = false;
+    refusing = true;
+    const rattle_block block = rattle_alloc(1, 1);
+    refusing = false;
+    return !block.given && block.at != NULL;
+}
+
 /* Makes the call with the first block refused, then with the second, until it asks for no more. One that grows nothing asks for none. */
 static bool done(tcrx_status (*call)(void), bool grows) {
     for (unsigned long n = 0; n < 10000; n++) {
@@ -189,11 +206,14 @@ int main(void) {
             printf("call %zu isn't as it must be\n", i);
         }
     }
-    const bool told = is_refused_by_its_fault();
+    const bool told = is_refused_by_its_fault(), never = is_never_null();
     const bool freed = free_it() == TCRX_DONE && blocks == 0;
     if (!told) {
         printf("settings or limits with a fault aren't refused by that\n");
     }
+    if (!never) {
+        printf("where no block is given, its address is null\n");
+    }
     printf("%lu blocks refused in %lu calls, %lu calls done, %s\n", refusals, count, good, freed ? "all freed" : "not all freed");
-    return good == count && told && freed && refusals > 0 ? 0 : 1;
+    return good == count && told && never && freed && refusals > 0 ? 0 : 1;
 }
