@@ -1,5 +1,5 @@
 -- What data fields make for an application, and of the units of a chosen MAP.
-use Rattle.tc_channel.proofs.Names.{◌≡◌, ℕ, Bool, true, false, eqb, ◌&&◌, List, [], ◌∷◌, ◌++◌, filter, Option, Some, None, refl, sym, ap, ◌∙◌, append_assoc, arith, append-nil, filter-append, Service, Bd, Ad, Passed, is_of, same_service, as_list, is_for, packets_offered, packets_of}
+use Rattle.tc_channel.proofs.Names.{◌≡◌, ℕ, Bool, cond, true, false, eqb, map, map_of, map-append, ◌&&◌, List, [], ◌∷◌, ◌++◌, filter, Option, Some, None, refl, sym, ap, subst, ◌∙◌, append_assoc, arith, append-nil, filter-append, Service, Bd, Ad, Passed, is_of, same_service, as_list, is_for, packets_offered, packets_of}
 use Rattle.std.proofs.lemmas.Grind.{flat_map-append}
 use Rattle.std.specs.List.{flat_map}
 use Rattle.tc_packet.specs.Segment.{header_of}
@@ -7,7 +7,7 @@ use Rattle.tc_channel.specs.declared.settings.Settings.{Settings}
 use Rattle.tc_channel.specs.Account.{unit_on}
 use Rattle.tc_channel.specs.Through.{all_made, unit_made, packets_ended, packets_made, is_chosen_by}
 use Rattle.tc_channel.proofs.Streams.{same_map}
-use Rattle.tc_ends.specs.Ends.{AreAllPackets, CarrySent, NoneElsewhere, PacketsSent, all_joined, is_chosen_map, is_same_stream, joined_on, packets_for, packets_to}
+use Rattle.tc_ends.specs.Ends.{AreAllPackets, AreMerged, CarrySent, OnStream, PacketsSent, all_joined, is_chosen_map, is_from, is_same_stream, joined_on, packet_on, packets_for, packets_sent_on, packets_to, unless_chosen}
 use Rattle.tc_ends.proofs.Segmented.{Makes}
 use Rattle.tc_ends.proofs.Cut.{cut-of-joined}
 use Rattle.tc_ends.proofs.Streams.{units-carried}
@@ -29,52 +29,128 @@ pub of-one : (apid : ℕ) (o : Option (List ℕ)) → filter (is_for apid) (pack
 of-one apid None = refl
 of-one apid (Some unit) = ap (filter (is_for apid)) (sym (append-nil (packets_of unit)))
 
-of-none : (apid : ℕ) (o : Option (List ℕ)) (chosen : Bool) → packets_for apid (as_list o) ≡ [] → filter (is_for apid) (packets_offered o chosen) ≡ []
-of-none apid None chosen h = refl
-of-none apid (Some unit) true h = refl
-of-none apid (Some unit) false h = of-one apid (Some unit) ∙ h
+of-chosen : (apid : ℕ) (o : Option (List ℕ)) → filter (is_for apid) (packets_offered o true) ≡ []
+of-chosen apid None = refl
+of-chosen apid (Some unit) = refl
 
 pub same-self : (service : Service) (n : ℕ) → (same_service service service && eqb n n) ≡ true
 same-self Ad n = grind (arith)
 same-self Bd n = grind (arith)
 
-abbrev pub Elsewhere : (ℕ → ℕ) → Settings → ℕ → Service → ℕ → List Passed → List Passed → Type 0
-Elsewhere limits s apid service map_id before ps =
-    (other : Service) (id : ℕ) → is_same_stream service map_id other id ≡ false → packets_for apid (all_made (unit_on limits s other id) before ps) ≡ []
+-- packets of one stream
+abbrev tagged : Service → ℕ → List (List ℕ) → List OnStream
+tagged service map_id packets = map {B = OnStream} (λ packet. record { service = service; map_id = map_id; packet = packet }) packets
 
--- where no other stream has packets for an application, what data fields make for it is what they make on this stream
-pub made-on : (limits : ℕ → ℕ) (s : Settings) (apid : ℕ) (service : Service) (map_id : ℕ) → is_chosen_map s map_id ≡ false → (ps before : List Passed) → Elsewhere limits s apid service map_id before ps
-    → all_made (packets_ended limits s apid) before ps ≡ packets_for apid (all_made (unit_on limits s service map_id) before ps)
-made-on limits s apid service map_id free [] before others = refl
-made-on limits s apid service map_id free (p ∷ ps) before others =
-    by (is_of service map_id p) refl (made-on limits s apid service map_id free ps (before ++ p ∷ []) (λ other id apart. (parts other id apart).1))
+tag-off : (service : Service) (map_id : ℕ) (packets : List (List ℕ)) → map packet_on (tagged service map_id packets) ≡ packets
+tag-off service map_id [] = refl
+tag-off service map_id (x ∷ xs) = ap (λ (ys : List (List ℕ)). x ∷ ys) (tag-off service map_id xs)
+
+tag-kept : (service : Service) (map_id : ℕ) (own : Service) (id : ℕ) (packets : List (List ℕ)) → is_same_stream service map_id own id ≡ true
+    → filter (is_from service map_id) (tagged own id packets) ≡ tagged own id packets
+tag-kept service map_id own id [] same = refl
+tag-kept service map_id own id (x ∷ xs) same = rw same (ap (λ (ys : List OnStream). record { service = own; map_id = id; packet = x } ∷ ys) (tag-kept service map_id own id xs same))
+
+tag-dropped : (service : Service) (map_id : ℕ) (own : Service) (id : ℕ) (packets : List (List ℕ)) → is_same_stream service map_id own id ≡ false
+    → filter (is_from service map_id) (tagged own id packets) ≡ []
+tag-dropped service map_id own id [] apart = refl
+tag-dropped service map_id own id (x ∷ xs) apart = rw apart (tag-dropped service map_id own id xs apart)
+
+-- what data fields make for an application, with the streams that it came on
+abbrev came : (ℕ → ℕ) → Settings → ℕ → List Passed → List Passed → List OnStream
+came limits s apid before [] = []
+came limits s apid before (p ∷ ps) = tagged p.service (map_of p.field) (packets_ended limits s apid before p) ++ came limits s apid (before ++ p ∷ []) ps
+
+came-all : (limits : ℕ → ℕ) (s : Settings) (apid : ℕ) (before ps : List Passed) → map packet_on (came limits s apid before ps) ≡ all_made (packets_ended limits s apid) before ps
+came-all limits s apid before [] = refl
+came-all limits s apid before (p ∷ ps) =
+    let now = packets_ended limits s apid before p in
+    let later = came limits s apid (before ++ p ∷ []) ps in
+    map-append packet_on (tagged p.service (map_of p.field) now) later
+    ∙ ap (λ (x : List (List ℕ)). x ++ map packet_on later) (tag-off p.service (map_of p.field) now)
+    ∙ ap (λ (x : List (List ℕ)). now ++ x) (came-all limits s apid (before ++ p ∷ []) ps)
+
+came-each : (limits : ℕ → ℕ) (s : Settings) (apid : ℕ) (service : Service) (map_id : ℕ) (chosen : Bool) → is_chosen_map s map_id ≡ chosen → (before ps : List Passed)
+    → map packet_on (filter (is_from service map_id) (came limits s apid before ps)) ≡ cond chosen [] (packets_for apid (all_made (unit_on limits s service map_id) before ps))
+came-each limits s apid service map_id true is before [] = refl
+came-each limits s apid service map_id false is before [] = refl
+came-each limits s apid service map_id chosen is before (p ∷ ps) =
+    parts ∙ by (is_of service map_id p) refl chosen is (came-each limits s apid service map_id chosen is (before ++ p ∷ []) ps)
   where
-    parts : (other : Service) (id : ℕ) → is_same_stream service map_id other id ≡ false
-        → (packets_for apid (unit_on limits s other id before p) ≡ []) × (packets_for apid (all_made (unit_on limits s other id) (before ++ p ∷ []) ps) ≡ [])
-    parts other id apart =
-        let now = unit_on limits s other id before p in
-        let later = all_made (unit_on limits s other id) (before ++ p ∷ []) ps in
-        no-parts (packets_for apid now) (packets_for apid later) (sym (for-append apid now later) ∙ others other id apart)
+    now : List (List ℕ)
+    now = packets_ended limits s apid before p
 
-    by : (t : Bool) → is_of service map_id p ≡ t
-        → all_made (packets_ended limits s apid) (before ++ p ∷ []) ps ≡ packets_for apid (all_made (unit_on limits s service map_id) (before ++ p ∷ []) ps)
-        → all_made (packets_ended limits s apid) before (p ∷ ps) ≡ packets_for apid (all_made (unit_on limits s service map_id) before (p ∷ ps))
-    by true own ih =
-        let map_is : (header_of p.field).map ≡ map_id = same_map service p.service (header_of p.field).map map_id own in
-        let not_chosen : is_chosen_by s p.field ≡ false = rw map_is free in
-        let one : packets_ended limits s apid before p ≡ packets_for apid (as_list (unit_made limits s before p)) =
-        ap (λ (t : Bool). filter (is_for apid) (packets_offered (unit_made limits s before p) t)) not_chosen ∙ of-one apid (unit_made limits s before p) in
-        let later = all_made (unit_on limits s service map_id) (before ++ p ∷ []) ps in
-        let unit_is : unit_on limits s service map_id before p ≡ as_list (unit_made limits s before p) = rw own refl in
-        ap (λ (x : List (List ℕ)). x ++ all_made (packets_ended limits s apid) (before ++ p ∷ []) ps) one
-        ∙ ap (λ (x : List (List ℕ)). packets_for apid (as_list (unit_made limits s before p)) ++ x) ih
-        ∙ sym (for-append apid (as_list (unit_made limits s before p)) later) ∙ ap (λ (x : List (List ℕ)). packets_for apid (x ++ later)) (sym unit_is)
-    by false other ih =
-        let id = (header_of p.field).map in
-        let unit_is : unit_on limits s p.service id before p ≡ as_list (unit_made limits s before p) = rw (same-self p.service id) refl in
-        let none : packets_for apid (as_list (unit_made limits s before p)) ≡ [] = ap (packets_for apid) (sym unit_is) ∙ (parts p.service id other).0 in
-        let empty : packets_ended limits s apid before p ≡ [] = of-none apid (unit_made limits s before p) (is_chosen_by s p.field) none in
-        rw (empty, other) ih
+    later : List OnStream
+    later = came limits s apid (before ++ p ∷ []) ps
+
+    units : List (List ℕ)
+    units = all_made (unit_on limits s service map_id) (before ++ p ∷ []) ps
+
+    made : Option (List ℕ)
+    made = unit_made limits s before p
+
+    own : List OnStream
+    own = tagged p.service (map_of p.field) now
+
+    parts : map packet_on (filter (is_from service map_id) (own ++ later)) ≡ map packet_on (filter (is_from service map_id) own) ++ map packet_on (filter (is_from service map_id) later)
+    parts = ap (map packet_on) (filter-append (is_from service map_id) own later) ∙ map-append packet_on (filter (is_from service map_id) own) (filter (is_from service map_id) later)
+
+    by : (t : Bool) → is_of service map_id p ≡ t → (c : Bool) → is_chosen_map s map_id ≡ c → map packet_on (filter (is_from service map_id) later) ≡ cond c [] (packets_for apid units)
+        → map packet_on (filter (is_from service map_id) own) ++ map packet_on (filter (is_from service map_id) later) ≡ cond c [] (packets_for apid (all_made (unit_on limits s service map_id) before (p ∷ ps)))
+    by true same c h ih =
+        let map_is : (header_of p.field).map ≡ map_id = same_map service p.service (header_of p.field).map map_id same in
+        let chosen_is : is_chosen_by s p.field ≡ c = rw map_is h in
+        let first : map packet_on (filter (is_from service map_id) own) ≡ filter (is_for apid) (packets_offered made c) =
+        ap (map packet_on) (tag-kept service map_id p.service (map_of p.field) now same) ∙ tag-off p.service (map_of p.field) now ∙ ap (λ (x : Bool). filter (is_for apid) (packets_offered made x)) chosen_is in
+        let unit_is : unit_on limits s service map_id before p ≡ as_list made = rw same refl in
+        ap (λ (x : List (List ℕ)). x ++ map packet_on (filter (is_from service map_id) later)) first ∙ ap (λ (x : List (List ℕ)). filter (is_for apid) (packets_offered made c) ++ x) ih ∙ last c unit_is
+      where
+        last : (c : Bool) → unit_on limits s service map_id before p ≡ as_list made
+            → filter (is_for apid) (packets_offered made c) ++ cond c [] (packets_for apid units) ≡ cond c [] (packets_for apid (all_made (unit_on limits s service map_id) before (p ∷ ps)))
+        last true unit_is = append-nil (filter (is_for apid) (packets_offered made true)) ∙ of-chosen apid made
+        last false unit_is =
+            ap (λ (x : List (List ℕ)). x ++ packets_for apid units) (of-one apid made) ∙ sym (for-append apid (as_list made) units) ∙ ap (λ (x : List (List ℕ)). packets_for apid (x ++ units)) (sym unit_is)
+    by false apart c h ih =
+        let none : map packet_on (filter (is_from service map_id) own) ≡ [] = ap (map packet_on) (tag-dropped service map_id p.service (map_of p.field) now apart) in
+        let unit_is : unit_on limits s service map_id before p ≡ [] = rw apart refl in
+        ap (λ (x : List (List ℕ)). x ++ map packet_on (filter (is_from service map_id) later)) none ∙ ih ∙ ap (λ (x : List (List ℕ)). cond c [] (packets_for apid (x ++ units))) (sym unit_is)
+
+-- what data fields make for an application came on streams
+pub made-merged : (limits : ℕ → ℕ) (s : Settings) (apid : ℕ) (before ps : List Passed) (on : Service → ℕ → List (List ℕ))
+    → ((service : Service) (map_id : ℕ) → unless_chosen s map_id (packets_for apid (all_made (unit_on limits s service map_id) before ps)) ≡ on service map_id)
+    → AreMerged (all_made (packets_ended limits s apid) before ps) on
+made-merged limits s apid before ps on is = record {
+  came = came limits s apid before ps;
+  all = came-all limits s apid before ps;
+  each = λ service map_id. came-each limits s apid service map_id (is_chosen_map s map_id) refl before ps ∙ is service map_id;
+}
+
+-- where no packet came on another stream, all came on one
+abbrev of_test : (t : OnStream) (kept : List OnStream) → Bool → List (List ℕ)
+of_test t kept b = map packet_on (cond b (t ∷ kept) kept)
+
+all-kept : (service : Service) (map_id : ℕ) (came : List OnStream) → ((other : Service) (id : ℕ) → is_same_stream service map_id other id ≡ false → map packet_on (filter (is_from other id) came) ≡ [])
+    → filter (is_from service map_id) came ≡ came
+all-kept service map_id [] none = refl
+all-kept service map_id (t ∷ came) none = by (is_from service map_id t) refl (all-kept service map_id came rest) where
+  behind : (other : Service) (id : ℕ) (b : Bool) → is_from other id t ≡ b → map packet_on (filter (is_from other id) (t ∷ came)) ≡ [] → of_test t (filter (is_from other id) came) b ≡ []
+  behind other id b e h = subst (λ (b : Bool). of_test t (filter (is_from other id) came) b ≡ []) e h
+
+  rest : (other : Service) (id : ℕ) → is_same_stream service map_id other id ≡ false → map packet_on (filter (is_from other id) came) ≡ []
+  rest other id apart = at (is_from other id t) (behind other id (is_from other id t) refl (none other id apart)) where
+    at : (b : Bool) → of_test t (filter (is_from other id) came) b ≡ [] → map packet_on (filter (is_from other id) came) ≡ []
+    at true h = let q : t.packet ∷ map packet_on (filter (is_from other id) came) ≡ [] = h in absurd cc
+    at false h = h
+
+  by : (b : Bool) → is_from service map_id t ≡ b → filter (is_from service map_id) came ≡ came → filter (is_from service map_id) (t ∷ came) ≡ t ∷ came
+  by true e ih = rw e (ap (λ (x : List OnStream). t ∷ x) ih)
+  by false e ih =
+      let h : t.packet ∷ map packet_on (filter (is_from t.service t.map_id) came) ≡ [] = behind t.service t.map_id true (same-self t.service t.map_id) (none t.service t.map_id e) in
+      absurd cc
+
+pub merged-alone : (packets : List (List ℕ)) (on : Service → ℕ → List (List ℕ)) (service : Service) (map_id : ℕ) → AreMerged packets on
+    → ((other : Service) (id : ℕ) → is_same_stream service map_id other id ≡ false → on other id ≡ []) → packets ≡ on service map_id
+merged-alone packets on service map_id m none =
+    sym m.all ∙ ap (map packet_on) (sym (all-kept service map_id m.came (λ other id apart. m.each other id ∙ none other id apart))) ∙ m.each service map_id
 
 -- units of packets are cut into these
 pub cut-all : (apid : ℕ) (units : List (List (List ℕ))) → AreAllPackets units → packets_for apid (all_joined units) ≡ packets_to apid units
@@ -83,14 +159,13 @@ cut-all apid units each = ap (filter (is_for apid)) (flat units each) where
   flat [] each = refl
   flat (packets ∷ units) each = rw ((cut-of-joined packets each.0).0, flat units each.1) refl
 
-pub packets-arrive : Makes → (limits : ℕ → ℕ) (s : Settings) (apid : ℕ) (service : Service) (map_id : ℕ) (sent : PacketsSent) (before passed : List Passed) → s.segmented ≡ true → is_chosen_map s map_id ≡ false
-    → ((other : Service) (id : ℕ) → AreAllPackets (sent other id)) → CarrySent limits (joined_on sent) passed → NoneElsewhere apid service map_id sent
-    → packets_made limits s apid (before ++ passed) ≡ packets_made limits s apid before ++ packets_to apid (sent service map_id)
-packets-arrive make limits s apid service map_id sent before passed headed free packets carry none =
-    made-append (packets_ended limits s apid) [] before passed
-    ∙ ap (λ (x : List (List ℕ)). packets_made limits s apid before ++ x) (made-on limits s apid service map_id free passed before (λ other id apart. on other id ∙ none other id apart) ∙ on service map_id)
+pub packets-arrive : Makes → (limits : ℕ → ℕ) (s : Settings) (apid : ℕ) (sent : PacketsSent) (before passed : List Passed) → s.segmented ≡ true
+    → ((service : Service) (map_id : ℕ) → AreAllPackets (sent service map_id)) → CarrySent limits (joined_on sent) passed
+    → (merged : List (List ℕ)) × AreMerged merged (packets_sent_on s apid sent) × (packets_made limits s apid (before ++ passed) ≡ packets_made limits s apid before ++ merged)
+packets-arrive make limits s apid sent before passed headed packets carry =
+    (all_made (packets_ended limits s apid) before passed, made-merged limits s apid before passed (packets_sent_on s apid sent) (λ service map_id. ap (unless_chosen s map_id) (on service map_id)), made-append (packets_ended limits s apid) [] before passed)
   where
-    on : (other : Service) (id : ℕ) → packets_for apid (all_made (unit_on limits s other id) before passed) ≡ packets_to apid (sent other id)
-    on other id =
-        ap (packets_for apid) (units-carried make limits s other id (all_joined (sent other id)) before passed headed (carry.sendable other id) (carry.carry other id))
-        ∙ cut-all apid (sent other id) (packets other id)
+    on : (service : Service) (map_id : ℕ) → packets_for apid (all_made (unit_on limits s service map_id) before passed) ≡ packets_to apid (sent service map_id)
+    on service map_id =
+        ap (packets_for apid) (units-carried make limits s service map_id (all_joined (sent service map_id)) before passed headed (carry.sendable service map_id) (carry.carry service map_id))
+        ∙ cut-all apid (sent service map_id) (packets service map_id)

@@ -1,9 +1,8 @@
 -- The session that meets all premises at once.
 use Rattle.std.proofs.Common.{◌≡◌, ℕ, zero, suc, ◌%◌, ◌<◌, true, false, List, [], ◌∷◌, Some, refl, subst, ◌⊎◌, inl, inr, arith}
-use Rattle.std.specs.Prelude.{slice_get, ◌==◌}
+use Rattle.std.specs.Prelude.{slice_get}
 use Rattle.tc_channel.proofs.Names.{get_or}
 use Rattle.std.specs.List.{AllByRecursion}
-use Rattle.std.proofs.lemmas.Bool.Decides.{eqb_tells}
 use Rattle.tc_link.specs.Frame.{IsOctets, IsWhole}
 unfoldable use Rattle.tc_link.specs.Window.{some_of_first}
 use Rattle.tc_link.specs.declared.frame.Header.{Header}
@@ -18,7 +17,7 @@ unfoldable use Rattle.tc_channel.specs.Run.{run_within, passed_on, IsLawfulWithi
 use Rattle.tc_loop.specs.Loop.{Action, Send, Arrive, Hear, Other, Idle, events, journal, known, receiver, sent, IsLoop, IsNumbered, IsOther, KeepOrder}
 use Rattle.tc_loop.proofs.Moments.{so-at}
 use Rattle.tc_loop.proofs.Starts.{allowed-2}
-use Rattle.tc_ends.specs.Ends.{AreNumbered, CanBeSent, NoneByBypass, NoneOnOtherMaps, SendsPackets, is_chosen_map, units_on}
+use Rattle.tc_ends.specs.Ends.{AreNumbered, CanBeSent, SendsPackets, units_on}
 use Rattle.tc_ends.specs.Examples.{both_taken, first_header, packet, packet_a_frame, two_in_turn}
 use Rattle.tc_write.specs.Frames.{IsMadeFrame, header_later}
 use Rattle.tc_write.specs.Parts.{piece_at, segment_at}
@@ -105,9 +104,6 @@ is-loop = record {
 pub headers : packet_a_frame.settings.segmented ≡ true
 headers = refl
 
-pub not-chosen : is_chosen_map packet_a_frame.settings 0 ≡ false
-not-chosen = refl
-
 is-packet : IsPacket packet
 is-packet = record { least = omega arith; most = omega arith; version = refl; named = refl }
 
@@ -140,16 +136,6 @@ numbered = (
 
 pub sends : SendsPackets packet_a_frame.limits (sent packet_a_frame) 2 (units_on two_in_turn)
 sends = numbered-sends packet_a_frame.limits first_header two_in_turn (packet_a_frame.frames 0 ∷ packet_a_frame.frames 1 ∷ []) (sent packet_a_frame) can numbered refl
-
-pub apart : NoneOnOtherMaps 5 0 (units_on two_in_turn)
-apart id other = elim (eqb_tells 0 id) [
-  | inl same ↦ absurd (let q : (id == 0) ≡ true = subst (λ n. (n == 0) ≡ true) same.1 refl in cc)
-  | inr none ↦ rw (none.0) refl
-]
-
-pub none-by-bypass : NoneByBypass packet_a_frame.limits packet_a_frame.settings 5 packet_a_frame.before (journal packet_a_frame both_taken)
-unfolding run_within some_of_first passed_on no_limits
-none-by-bypass map_id = refl
 
 pub released : released_since packet_a_frame.limits packet_a_frame.settings packet_a_frame.before (journal packet_a_frame both_taken) ≡ 2
 unfolding run_within some_of_first passed_on no_limits

@@ -1,6 +1,6 @@
 -- From a sender's packets, over the start of an era, to what takes give.
-use Rattle.tc_channel.proofs.Names.{◌≡◌, ℕ, zero, suc, ◌≤◌, List, [], ◌∷◌, ◌++◌, length, map, Some, refl, sym, ap, subst, ◌∙◌, inl, inr, arith, AllByRecursion, first_state_within, queue_of, Queue, run_within, packets_given}
-use Rattle.std.specs.Prelude.{false, true}
+use Rattle.tc_channel.proofs.Names.{◌≡◌, ℕ, zero, suc, ◌≤◌, List, [], ◌∷◌, ◌++◌, length, map, Some, refl, sym, ap, subst, ◌∙◌, inl, inr, arith, AllByRecursion, queue_of, Queue, run_within}
+use Rattle.std.specs.Prelude.{Bool, false, true}
 use Rattle.std.proofs.lemmas.List.{length-drop}
 use Rattle.tc_link.specs.declared.frame.Header.{Header}
 use Rattle.tc_channel.specs.Run.{field_of, run}
@@ -8,15 +8,19 @@ use Rattle.tc_channel.specs.ChannelState.{no_limits}
 use Rattle.tc_channel.specs.Journal.{History}
 use Rattle.tc_channel.specs.declared.event.Event.{Event}
 use Rattle.tc_channel.specs.declared.settings.Settings.{Settings}
-use Rattle.tc_channel.specs.Through.{IsPartOf, packets_made, passed_since, released_since, sent_from}
+use Rattle.tc_channel.specs.Through.{passed_since, released_since, sent_from}
 use Rattle.tc_channel.proofs.Given.{released-within}
 use Rattle.tc_loop.specs.Loop.{Loop, Action, IsLoop, accepted, begun, journal, receiver, sent}
+use Rattle.tc_loop.proofs.Given.{passed-on}
 use Rattle.tc_loop.specs.Start.{Start, IsStart, era, era_session}
 use Rattle.tc_loop.proofs.Counted.{begins, comes, known-so}
-use Rattle.tc_loop.proofs.Given.{passed-on}
 use Rattle.tc_loop.proofs.Started.{is-loop, journal-whole}
 use Rattle.tc_loop.proofs.Onward.{whole}
-use Rattle.tc_ends.specs.Ends.{AreFrom, AreNumbered, CanBeSent, IsChannelOf, NoneByBypass, NoneOnOtherMaps, SendsOnly, UnitSent, is_chosen_map, packets_to, passed_before, units_on}
+use Rattle.tc_cltu.specs.Reception.{Reception}
+use Rattle.tc_cltu.specs.declared.block.Mode.{Mode}
+use Rattle.tc_ends.specs.Arrivals.{AltersNothing, AreEventsOf, Coming}
+use Rattle.tc_ends.proofs.Arrived.{events-came}
+use Rattle.tc_ends.specs.Ends.{AreFrom, AreGivenOf, AreNumbered, CanBeSent, IsChannelOf, SendsOnly, UnitSent, units_on}
 use Rattle.tc_ends.proofs.CanSend.{shift}
 use Rattle.tc_ends.proofs.Numbered.{numbered-sends}
 use Rattle.tc_ends.proofs.Segmented.{Makes}
@@ -45,30 +49,34 @@ released-few l session n k only =
     let since = length-drop (length (run_within l.limits l.settings l.before).accepted) (receiver l session).accepted in
     omega arith
 
-pub packets-of-loop : Makes → (l : Loop) (session : List Action) (header : Header) (units : List UnitSent) (frames : List (List ℕ)) (apid map_id : ℕ) (q : Queue) → IsLoop l session
+pub packets-of-loop : Makes → (l : Loop) (session : List Action) (header : Header) (units : List UnitSent) (frames : List (List ℕ)) (apid : ℕ) (q : Queue) → IsLoop l session
     → AllByRecursion (CanBeSent l.limits) units → AreNumbered header units frames → AreFrom l.frames frames → SendsOnly (length frames) session
-    → l.settings.segmented ≡ true → is_chosen_map l.settings map_id ≡ false → NoneOnOtherMaps apid map_id (units_on units) → NoneByBypass l.limits l.settings apid l.before (journal l session)
-    → queue_of apid (receiver l session).queues ≡ Some q
-    → IsPartOf (packets_given l.settings apid (first_state_within l.limits l.settings) (journal l session))
-    (packets_made l.limits l.settings apid (passed_before l.limits l.settings l.before (journal l session)) ++ packets_to apid (units_on units map_id))
-packets-of-loop make l session header units frames apid map_id q k can numbered are only headed free none_other none_bd has =
+    → l.settings.segmented ≡ true → queue_of apid (receiver l session).queues ≡ Some q → AreGivenOf l.limits l.settings apid l.before (journal l session) (length frames) (units_on units)
+packets-of-loop make l session header units frames apid q k can numbered are only headed has =
     let sends = numbered-sends l.limits header units frames (sent l) can numbered (fields-of l.frames frames are) in
-    given-of-sent make l.limits l.settings (journal l session) l.before _ l.first (sent l) apid (length frames) (units_on units) map_id q k.lawful k.era (comes l session k) headed free sends none_other none_bd
+    given-of-sent make l.limits l.settings (journal l session) l.before _ l.first (sent l) apid (length frames) (units_on units) q k.lawful k.era (comes l session k) headed sends
     (released-few l session (length frames) k only) has
 
-pub packets-of-start : Makes → (s : Start) (header : Header) (units : List UnitSent) (frames : List (List ℕ)) (apid map_id : ℕ) (q : Queue) → IsStart s
+pub packets-of-start : Makes → (s : Start) (header : Header) (units : List UnitSent) (frames : List (List ℕ)) (apid : ℕ) (q : Queue) → IsStart s
     → AllByRecursion (CanBeSent s.loop.limits) units → AreNumbered header units frames → AreFrom (era s).frames frames → SendsOnly (length frames) (era_session s)
-    → s.loop.settings.segmented ≡ true → is_chosen_map s.loop.settings map_id ≡ false → NoneOnOtherMaps apid map_id (units_on units)
-    → NoneByBypass s.loop.limits s.loop.settings apid (era s).before (journal s.loop s.session) → queue_of apid (receiver s.loop s.session).queues ≡ Some q
-    → IsPartOf (packets_given s.loop.settings apid (first_state_within s.loop.limits s.loop.settings) (journal s.loop s.session))
-    (packets_made s.loop.limits s.loop.settings apid (passed_before s.loop.limits s.loop.settings (era s).before (journal s.loop s.session)) ++ packets_to apid (units_on units map_id))
-packets-of-start make s header units frames apid map_id q k can numbered are only headed free none_other none_bd has =
+    → s.loop.settings.segmented ≡ true → queue_of apid (receiver s.loop s.session).queues ≡ Some q
+    → AreGivenOf s.loop.limits s.loop.settings apid (era s).before (journal s.loop s.session) (length frames) (units_on units)
+packets-of-start make s header units frames apid q k can numbered are only headed has =
     let same = journal-whole s k in
-    subst (λ es. IsPartOf (packets_given s.loop.settings apid (first_state_within s.loop.limits s.loop.settings) es)
-    (packets_made s.loop.limits s.loop.settings apid (passed_before s.loop.limits s.loop.settings (era s).before es) ++ packets_to apid (units_on units map_id))) same
-    (packets-of-loop make (era s) (era_session s) header units frames apid map_id q (is-loop s k) can numbered are only headed free none_other
-    (subst (NoneByBypass s.loop.limits s.loop.settings apid (era s).before) (sym same) none_bd)
+    subst (λ es. AreGivenOf s.loop.limits s.loop.settings apid (era s).before es (length frames) (units_on units)) same
+    (packets-of-loop make (era s) (era_session s) header units frames apid q (is-loop s k) can numbered are only headed
     (subst (λ es. queue_of apid (run_within s.loop.limits s.loop.settings es).queues ≡ Some q) (sym same) has))
+
+-- the same over CLTUs: the receiver's journal is that of the session
+pub packets-in-cltus : Makes → (s : Start) (header : Header) (units : List UnitSent) (frames : List (List ℕ)) (apid : ℕ) (q : Queue) (mode : Mode) (field : Bool) (state : Reception) (coming : List Coming) (came : List Event)
+    → IsStart s → AllByRecursion (CanBeSent s.loop.limits) units → AreNumbered header units frames → AreFrom (era s).frames frames → SendsOnly (length frames) (era_session s)
+    → AltersNothing mode field s.loop.frames state s.session coming → AreEventsOf mode field state coming came
+    → s.loop.settings.segmented ≡ true → queue_of apid (run_within s.loop.limits s.loop.settings (s.loop.before ++ came)).queues ≡ Some q
+    → AreGivenOf s.loop.limits s.loop.settings apid (era s).before (s.loop.before ++ came) (length frames) (units_on units)
+packets-in-cltus make s header units frames apid q mode field state coming came k can numbered are only so events headed has =
+    let same : journal s.loop s.session ≡ s.loop.before ++ came = ap (λ (x : List Event). s.loop.before ++ x) (sym (events-came mode field s.loop state s.session coming came so events)) in
+    subst (λ es. AreGivenOf s.loop.limits s.loop.settings apid (era s).before es (length frames) (units_on units)) same
+    (packets-of-start make s header units frames apid q k can numbered are only headed (subst (λ es. queue_of apid (run_within s.loop.limits s.loop.settings es).queues ≡ Some q) (sym same) has))
 
 -- the same of a channel that a close gives out
 pub passed-of-channel : (l : Loop) (session : List Action) (channel : History) → IsLoop l session → IsChannelOf l session channel
@@ -80,18 +88,15 @@ passed-of-channel l session channel k is =
     (passed-on l session k)))
 
 abbrev Says : Loop → List UnitSent → ℕ → ℕ → Queue → (ℕ → ℕ) → Settings → List Event → Type 0
-Says l units apid map_id q limits c es = AllByRecursion (CanBeSent limits) units → c.segmented ≡ true → is_chosen_map c map_id ≡ false → NoneByBypass limits c apid l.before es → queue_of apid (run_within limits c es).queues ≡ Some q
-    → IsPartOf (packets_given c apid (first_state_within limits c) es) (packets_made limits c apid (passed_before limits c l.before es) ++ packets_to apid (units_on units map_id))
+Says l units n apid q limits c es = AllByRecursion (CanBeSent limits) units → c.segmented ≡ true → queue_of apid (run_within limits c es).queues ≡ Some q → AreGivenOf limits c apid l.before es n (units_on units)
 
-pub packets-of-channel : Makes → (l : Loop) (session : List Action) (channel : History) (header : Header) (units : List UnitSent) (frames : List (List ℕ)) (apid map_id : ℕ) (q : Queue) → IsLoop l session
+pub packets-of-channel : Makes → (l : Loop) (session : List Action) (channel : History) (header : Header) (units : List UnitSent) (frames : List (List ℕ)) (apid : ℕ) (q : Queue) → IsLoop l session
     → IsChannelOf l session channel → AllByRecursion (CanBeSent no_limits) units → AreNumbered header units frames → AreFrom l.frames frames → SendsOnly (length frames) session
-    → channel.settings.segmented ≡ true → is_chosen_map channel.settings map_id ≡ false → NoneOnOtherMaps apid map_id (units_on units) → NoneByBypass no_limits channel.settings apid l.before channel.journal
-    → queue_of apid (run channel.settings channel.journal).queues ≡ Some q
-    → IsPartOf (packets_given channel.settings apid (first_state_within no_limits channel.settings) channel.journal)
-    (packets_made no_limits channel.settings apid (passed_before no_limits channel.settings l.before channel.journal) ++ packets_to apid (units_on units map_id))
-packets-of-channel make l session channel header units frames apid map_id q k is can numbered are only headed free none_other none_bd has =
-    subst (λ limits. Says l units apid map_id q limits channel.settings channel.journal) is.limits
-    (subst (λ (c : Settings). Says l units apid map_id q l.limits c channel.journal) is.settings
-    (subst (λ (es : List Event). Says l units apid map_id q l.limits l.settings es) is.journal
-    (λ a b c d e. packets-of-loop make l session header units frames apid map_id q k a numbered are only b c none_other d e)))
-    can headed free none_bd has
+    → channel.settings.segmented ≡ true → queue_of apid (run channel.settings channel.journal).queues ≡ Some q
+    → AreGivenOf no_limits channel.settings apid l.before channel.journal (length frames) (units_on units)
+packets-of-channel make l session channel header units frames apid q k is can numbered are only headed has =
+    subst (λ limits. Says l units (length frames) apid q limits channel.settings channel.journal) is.limits
+    (subst (λ (c : Settings). Says l units (length frames) apid q l.limits c channel.journal) is.settings
+    (subst (λ (es : List Event). Says l units (length frames) apid q l.limits l.settings es) is.journal
+    (λ a b c. packets-of-loop make l session header units frames apid q k a numbered are only b c)))
+    can headed has

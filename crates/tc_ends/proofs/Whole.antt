@@ -9,11 +9,11 @@ use Rattle.tc_channel.specs.Era.{IsEraWithin, ComesFromWithin}
 use Rattle.tc_channel.specs.Given.{fields_passed, units_given}
 use Rattle.tc_channel.specs.Through.{IsPartOf, all_made, packets_ended, packets_made, released_since, sent_from, units_ended, units_made}
 use Rattle.tc_channel.proofs.Through.{packets-given-of-made, passed-as-sent, units-given-of-made}
-use Rattle.tc_ends.specs.Ends.{CarryUnits, IsSendable, NoneByBypass, NoneOnOtherMaps, SendsPackets, all_joined, behind_ad, is_chosen_map, is_same_stream, on_map, packets_for, packets_to, passed_before, passed_in, until_ad}
+use Rattle.tc_ends.specs.Ends.{AreGivenOf, CarryUnits, IsSendable, SendsPackets, all_joined, behind_ad, is_chosen_map, on_map, packets_for, packets_in_era, passed_before, passed_in, unless_chosen, until_ad}
 use Rattle.tc_ends.proofs.Segmented.{Makes}
 use Rattle.tc_ends.proofs.Streams.{units-carried}
 use Rattle.tc_ends.proofs.Chosen.{units-on}
-use Rattle.tc_ends.proofs.Made.{made-append, made-on, cut-all}
+use Rattle.tc_ends.proofs.Made.{cut-all, made-append, made-merged}
 
 part-more : (xs ys zs : List (List ℕ)) → IsPartOf xs ys → IsPartOf xs (ys ++ zs)
 part-more [] ys zs h = tt
@@ -88,43 +88,6 @@ stream-sent sent r n passed fields less id =
     ∙ sym (filter-append (λ (field : List ℕ). eqb (map_of field) id) (sent_from sent 0 r) (sent_from sent r (n - r)))
     ∙ ap (on_map id) (more ∙ ap (sent_from sent 0) sum)
 
--- where n fields of a sender carry units of packets, and the first of them were passed on behind older ones, these make the first of the packets
-record Begin (limits : ℕ → ℕ) (s : Settings) (apid : ℕ) (old passed : List Passed) (packets : List (List ℕ)) (r n : ℕ) : Type 0 where
-  rest : List (List ℕ)
-  parts : all_made (packets_ended limits s apid) old passed ++ rest ≡ packets
-  whole : r ≡ n → rest ≡ []
-
-begins : Makes → (limits : ℕ → ℕ) (s : Settings) (apid : ℕ) (sent : ℕ → List ℕ) (r n : ℕ) (units : ℕ → List (List (List ℕ))) (map_id : ℕ) (old passed : List Passed)
-    → fields_passed Ad passed ≡ sent_from sent 0 r → r ≤ n → s.segmented ≡ true → is_chosen_map s map_id ≡ false → SendsPackets limits sent n units → NoneOnOtherMaps apid map_id units
-    → ((id : ℕ) → packets_for apid (all_made (unit_on limits s Bd id) old passed) ≡ []) → Begin limits s apid old passed (packets_to apid (units map_id)) r n
-begins make limits s apid sent r n units map_id old passed fields less headed free sends none_other none_bd = record {
-  rest = all_made (packets_ended limits s apid) (old ++ passed) later;
-  parts = sym (made-append (packets_ended limits s apid) old passed later) ∙ made-on limits s apid Ad map_id free (passed ++ later) old elsewhere ∙ on map_id;
-  whole = λ same. let none : n - r ≡ 0 = omega arith in ap (λ (k : ℕ). all_made (packets_ended limits s apid) (old ++ passed) (by_ad (sent_from sent r k))) none;
-}
-  where
-    later : List Passed
-    later = by_ad (sent_from sent r (n - r))
-
-    stream-is : (id : ℕ) → stream Ad id (passed ++ later) ≡ on_map id (sent_from sent 0 n)
-    stream-is id = stream-sent sent r n passed fields less id
-
-    on : (id : ℕ) → packets_for apid (all_made (unit_on limits s Ad id) old (passed ++ later)) ≡ packets_to apid (units id)
-    on id =
-        ap (packets_for apid) (units-carried make limits s Ad id (all_joined (units id)) old (passed ++ later) headed (sends.sendable id) (subst (CarryUnits id (all_joined (units id))) (sym (stream-is id)) (sends.carry id)))
-        ∙ cut-all apid (units id) (sends.packets id)
-
-    elsewhere : (other : Service) (id : ℕ) → is_same_stream Ad map_id other id ≡ false → packets_for apid (all_made (unit_on limits s other id) old (passed ++ later)) ≡ []
-    elsewhere Ad id apart = on id ∙ none_other id apart
-    elsewhere Bd id apart =
-        let bd = all_made (unit_on limits s Bd id) old passed in
-        ap (packets_for apid) (made-append (unit_on limits s Bd id) old passed later ∙ ap (λ (x : List (List ℕ)). bd ++ x) (none-by-bd limits s id (sent_from sent r (n - r)) (old ++ passed)) ∙ append-nil bd) ∙ none_bd id
-
-abbrev pub Journey : (ℕ → ℕ) → Settings → List Event → List Event → List Event → ℕ → (ℕ → List ℕ) → ℕ → ℕ → (ℕ → List (List (List ℕ))) → ℕ → Type 0 → Type 0
-Journey limits s journal before later x sent apid n units map_id Says =
-    IsLawfulWithin limits s journal → IsEraWithin limits s journal before later x → ComesFromWithin limits s before later x sent
-    → s.segmented ≡ true → is_chosen_map s map_id ≡ false → SendsPackets limits sent n units → NoneOnOtherMaps apid map_id units → NoneByBypass limits s apid before journal → Says
-
 -- what is made is what was made before the era and what its fields make
 made-parts : (ended : List Passed → Passed → List (List ℕ)) (limits : ℕ → ℕ) (s : Settings) (before journal : List Event)
     → all_made ended [] (run_within limits s journal).passed ≡ all_made ended [] (passed_before limits s before journal) ++ all_made ended (passed_before limits s before journal) (passed_in limits s before journal)
@@ -132,32 +95,60 @@ made-parts ended limits s before journal =
     ap (all_made ended []) (sym (until-behind (length (run_within limits s before).accepted) (run_within limits s journal).passed))
     ∙ made-append ended [] (passed_before limits s before journal) (passed_in limits s before journal)
 
-pub given-of-sent : Makes → (limits : ℕ → ℕ) (s : Settings) (journal before later : List Event) (x : ℕ) (sent : ℕ → List ℕ) (apid n : ℕ) (units : ℕ → List (List (List ℕ))) (map_id : ℕ) (q : Queue)
-    → Journey limits s journal before later x sent apid n units map_id
-    (released_since limits s before journal ≤ n → queue_of apid (run_within limits s journal).queues ≡ Some q
-    → IsPartOf (packets_given s apid (first_state_within limits s) journal) (packets_made limits s apid (passed_before limits s before journal) ++ packets_to apid (units map_id)))
-given-of-sent make limits s journal before later x sent apid n units map_id q lawful era comes headed free sends none_other none_bd less has =
-    let old = passed_before limits s before journal in
-    let new = passed_in limits s before journal in
-    let b = begins make limits s apid sent (released_since limits s before journal) n units map_id old new (ad-fields limits s journal before later x sent lawful era comes) less headed free sends none_other none_bd in
-    let made = packets_made limits s apid (run_within limits s journal).passed in
-    let older = packets_made limits s apid old in
-    let newer = all_made (packets_ended limits s apid) old new in
-    let given = packets_given s apid (first_state_within limits s) journal in
-    let is : made ++ b.rest ≡ older ++ packets_to apid (units map_id) =
-    ap (λ (x : List (List ℕ)). x ++ b.rest) (made-parts (packets_ended limits s apid) limits s before journal) ∙ append_assoc older newer b.rest ∙ ap (λ (x : List (List ℕ)). older ++ x) b.parts in
-    subst (IsPartOf given) is (part-more given made b.rest (packets-given-of-made limits s journal apid q has))
+pub given-of-sent : Makes → (limits : ℕ → ℕ) (s : Settings) (journal before later : List Event) (x : ℕ) (sent : ℕ → List ℕ) (apid n : ℕ) (units : ℕ → List (List (List ℕ))) (q : Queue)
+    → IsLawfulWithin limits s journal → IsEraWithin limits s journal before later x → ComesFromWithin limits s before later x sent → s.segmented ≡ true → SendsPackets limits sent n units
+    → released_since limits s before journal ≤ n → queue_of apid (run_within limits s journal).queues ≡ Some q → AreGivenOf limits s apid before journal n units
+given-of-sent make limits s journal before later x sent apid n units q lawful era comes headed sends less has = record {
+  merged = ended old (new ++ rest);
+  merge = made-merged limits s apid old (new ++ rest) (packets_in_era limits s apid before journal units) on;
+  given = subst (IsPartOf given) is (part-more given made (ended (old ++ new) rest) (packets-given-of-made limits s journal apid q has));
+  whole = λ same.
+      let here : r ≡ n = same in
+      let none : n - r ≡ 0 = omega arith in
+      parts ∙ ap (λ (x : List Passed). older ++ ended old x) (sym (append-nil new) ∙ ap (λ (k : ℕ). new ++ by_ad (sent_from sent r k)) (sym none));
+}
+  where
+    old : List Passed
+    old = passed_before limits s before journal
 
-pub made-of-sent : Makes → (limits : ℕ → ℕ) (s : Settings) (journal before later : List Event) (x : ℕ) (sent : ℕ → List ℕ) (apid n : ℕ) (units : ℕ → List (List (List ℕ))) (map_id : ℕ)
-    → Journey limits s journal before later x sent apid n units map_id
-    (released_since limits s before journal ≡ n → packets_made limits s apid (run_within limits s journal).passed ≡ packets_made limits s apid (passed_before limits s before journal) ++ packets_to apid (units map_id))
-made-of-sent make limits s journal before later x sent apid n units map_id lawful era comes headed free sends none_other none_bd same =
-    let old = passed_before limits s before journal in
-    let new = passed_in limits s before journal in
-    let b = begins make limits s apid sent (released_since limits s before journal) n units map_id old new (ad-fields limits s journal before later x sent lawful era comes) (omega arith) headed free sends none_other none_bd in
-    let newer = all_made (packets_ended limits s apid) old new in
-    let whole : newer ≡ packets_to apid (units map_id) = sym (append-nil newer) ∙ ap (λ (x : List (List ℕ)). newer ++ x) (sym (b.whole same)) ∙ b.parts in
-    made-parts (packets_ended limits s apid) limits s before journal ∙ ap (λ (x : List (List ℕ)). packets_made limits s apid old ++ x) whole
+    new : List Passed
+    new = passed_in limits s before journal
+
+    r : ℕ
+    r = released_since limits s before journal
+
+    rest : List Passed
+    rest = by_ad (sent_from sent r (n - r))
+
+    ended : List Passed → List Passed → List (List ℕ)
+    ended = all_made (packets_ended limits s apid)
+
+    given : List (List ℕ)
+    given = packets_given s apid (first_state_within limits s) journal
+
+    made : List (List ℕ)
+    made = packets_made limits s apid (run_within limits s journal).passed
+
+    older : List (List ℕ)
+    older = packets_made limits s apid old
+
+    parts : made ≡ older ++ ended old new
+    parts = made-parts (packets_ended limits s apid) limits s before journal
+
+    is : made ++ ended (old ++ new) rest ≡ older ++ ended old (new ++ rest)
+    is = ap (λ (x : List (List ℕ)). x ++ ended (old ++ new) rest) parts ∙ append_assoc older (ended old new) (ended (old ++ new) rest)
+        ∙ ap (λ (x : List (List ℕ)). older ++ x) (sym (made-append (packets_ended limits s apid) old new rest))
+
+    on : (service : Service) (id : ℕ) → unless_chosen s id (packets_for apid (all_made (unit_on limits s service id) old (new ++ rest))) ≡ packets_in_era limits s apid before journal units service id
+    on Ad id =
+        let stream_is = stream-sent sent r n new (ad-fields limits s journal before later x sent lawful era comes) less id in
+        ap (unless_chosen s id)
+        (ap (packets_for apid) (units-carried make limits s Ad id (all_joined (units id)) old (new ++ rest) headed (sends.sendable id) (subst (CarryUnits id (all_joined (units id))) (sym stream_is) (sends.carry id)))
+        ∙ cut-all apid (units id) (sends.packets id))
+    on Bd id =
+        let bd = all_made (unit_on limits s Bd id) old new in
+        ap (λ (x : List (List ℕ)). unless_chosen s id (packets_for apid x))
+        (made-append (unit_on limits s Bd id) old new rest ∙ ap (λ (x : List (List ℕ)). bd ++ x) (none-by-bd limits s id (sent_from sent r (n - r)) (old ++ new)) ∙ append-nil bd)
 
 -- the same of the units of a chosen MAP
 pub units-of-sent : Makes → (limits : ℕ → ℕ) (s : Settings) (journal before later : List Event) (x : ℕ) (sent : ℕ → List ℕ) (n : ℕ) (units : List (List ℕ)) (map_id : ℕ) (q : Queue)

@@ -1,9 +1,15 @@
--- A CLTU on its way, of which bits are turned (CCSDS 231.0-B).
-use Rattle.std.specs.Prelude.{◌≡◌, ℕ, ◌≤◌, true, false, List, [], ◌∷◌, ◌++◌, length, None}
-use Rattle.tc_cltu.specs.Cltu.{filled}
+-- A CLTU on its way, of which bits are turned (CCSDS 231.0-B), and what comes of a stream of octets to a receiver.
+use Rattle.std.specs.Prelude.{◌≡◌, ℕ, ◌≤◌, ◌⊎◌, Bool, true, false, List, [], ◌∷◌, ◌++◌, length, map, None}
+use Rattle.tc_link.specs.Frame.{IsWhole}
+use Rattle.tc_fecf.specs.Candidate.{IsDelimited, is_fill}
+use Rattle.tc_fecf.specs.FrameWithField.{frame_with_field}
+use Rattle.tc_cltu.specs.Cltu.{filled, most_octets}
 use Rattle.tc_cltu.specs.CodeBlock.{IsInformation, decoded, errors, most_errors}
-use Rattle.tc_cltu.specs.Reception.{is_start}
+use Rattle.tc_cltu.specs.Reception.{Reception, frames_of, is_start, state_after}
 use Rattle.tc_cltu.specs.declared.block.Mode.{Mode}
+use Rattle.tc_channel.specs.declared.event.Event.{Event}
+use Rattle.tc_channel.specs.declared.event.Event.TheVariants.{Frame}
+use Rattle.tc_loop.specs.Loop.{Action, Send, Arrive, Hear, Other, Idle}
 
 -- code blocks that come where these octets were sent, seven in each: no block has more wrong bits than the mode takes
 abbrev pub AreNearBlocks : Mode → List ℕ → List ℕ → Type 0
@@ -26,3 +32,72 @@ pub record IsNearCltu (mode : Mode) (last : ℕ) (frame octets : List ℕ) : Typ
   pub near : AreNearBlocks mode (filled frame) blocks
   pub long : length tail ≡ 7
   pub rejected : decoded mode (tail ++ end ∷ []) ≡ None
+
+-- what a CLTU carries for a frame: the frame, with its frame error control field where frames have one
+abbrev pub enclosed : Bool → List ℕ → List ℕ
+enclosed true frame = frame_with_field frame
+enclosed false frame = frame
+
+-- what a CLTU carried brings this frame: that stands in front, with its field where frames have one, and at most fill follows
+abbrev pub Brings : Bool → List ℕ → List ℕ → Type 0
+Brings field carried frame = (rest : List ℕ) × IsWhole frame × IsDelimited carried (enclosed field frame) rest × (is_fill rest ≡ true)
+
+-- these are the frames that candidate frames bring; one that brings none is refused
+abbrev pub AreBrought : Bool → List (List ℕ) → List (List ℕ) → Type 0
+AreBrought field [] frames = frames ≡ []
+AreBrought field (carried ∷ candidates) frames =
+    ((frame : List ℕ) × (later : List (List ℕ)) × Brings field carried frame × (frames ≡ frame ∷ later) × AreBrought field candidates later)
+    ⊎ (((frame : List ℕ) → Brings field carried frame → ⊥) × AreBrought field candidates frames)
+
+-- what comes to a receiver at a moment: octets of its link, or a release or a take
+pub data Coming : Type 0 where
+  Octets : List ℕ → Coming
+  Asks : Event → Coming
+
+-- the events that this is to the receiver, whose decoder is in this state
+abbrev pub AreEventsAt : Mode → Bool → Reception → Coming → List Event → Type 0
+AreEventsAt mode field state (Octets octets) events = (frames : List (List ℕ)) × AreBrought field (frames_of mode most_octets state octets) frames × (events ≡ map Frame frames)
+AreEventsAt mode field state (Asks e) events = events ≡ e ∷ []
+
+-- and the state after it
+abbrev pub state_behind : Mode → Reception → Coming → Reception
+state_behind mode state (Octets octets) = state_after mode most_octets state octets
+state_behind mode state (Asks e) = state
+
+-- the events of the receiver to which all this comes
+abbrev pub AreEventsOf : Mode → Bool → Reception → List Coming → List Event → Type 0
+AreEventsOf mode field state [] events = events ≡ []
+AreEventsOf mode field state (c ∷ coming) events =
+    (now : List Event) × (later : List Event) × AreEventsAt mode field state c now × (events ≡ now ++ later) × AreEventsOf mode field (state_behind mode state c) coming later
+
+-- what an action of a session is to the receiver, where these are the sender's frames
+abbrev pub events_at : (ℕ → List ℕ) → Action → List Event
+events_at frames (Send i) = []
+events_at frames (Arrive i s) = Frame (frames i) ∷ []
+events_at frames (Hear m) = []
+events_at frames (Other e) = e ∷ []
+events_at frames Idle = []
+
+-- detection lets nothing through that was altered: what comes at each moment of a session is to the receiver what the session's action is. So a
+-- CLTU that is refused is a loss, and octets that bring nothing may come at any moment at which nothing arrives
+abbrev pub AltersNothing : Mode → Bool → (ℕ → List ℕ) → Reception → List Action → List Coming → Type 0
+AltersNothing mode field frames state [] [] = Unit {0}
+AltersNothing mode field frames state (action ∷ session) (c ∷ coming) =
+    ((now : List Event) → AreEventsAt mode field state c now → now ≡ events_at frames action) × AltersNothing mode field frames (state_behind mode state c) session coming
+AltersNothing mode field frames state _ _ = ⊥
+
+-- octets that carry these events well: none, or a CLTU with few wrong bits for a frame
+abbrev pub CarryWell : Mode → Bool → List ℕ → List Event → Type 0
+CarryWell mode field octets [] = octets ≡ []
+CarryWell mode field octets (Frame frame ∷ []) = IsWhole frame × IsWhole (enclosed field frame) × IsNearCltu mode 0 (enclosed field frame) octets
+CarryWell mode field octets _ = ⊥
+
+abbrev pub IsCarried : Mode → Bool → List Event → Coming → Type 0
+IsCarried mode field events (Octets octets) = CarryWell mode field octets events
+IsCarried mode field events (Asks e) = events ≡ e ∷ []
+
+-- at each moment of a session
+abbrev pub AreCarried : Mode → Bool → (ℕ → List ℕ) → List Action → List Coming → Type 0
+AreCarried mode field frames [] [] = Unit {0}
+AreCarried mode field frames (action ∷ session) (c ∷ coming) = IsCarried mode field (events_at frames action) c × AreCarried mode field frames session coming
+AreCarried mode field frames _ _ = ⊥

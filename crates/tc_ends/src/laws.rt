@@ -1,6 +1,6 @@
 //! Laws from a sender's packets to a receiver's.
 
-ghost use Rattle.std.specs.Prelude.{List, ℕ, [], ◌∷◌, ◌++◌, ◌≡◌, ◌≤◌, ◌<◌, ◌+◌, ◌%◌, length, map, slice_index_or, true, false, None, Some};
+ghost use Rattle.std.specs.Prelude.{Bool, List, ℕ, [], ◌∷◌, ◌++◌, ◌≡◌, ◌≤◌, ◌<◌, ◌+◌, ◌%◌, length, map, slice_index_or, true, false, Some};
 ghost use Rattle.std.specs.List.{AllByRecursion};
 ghost use Rattle.tc_packet.specs.SpacePacket.{IsPacket, joined, packets_of, rest_of};
 ghost use Rattle.tc_write.specs.Segments.{AreSegments};
@@ -8,22 +8,22 @@ ghost use Rattle.tc_packet.specs.Reassembly.{Passed, same_service};
 ghost use Rattle.tc_packet.specs.declared.Service.{Service};
 ghost use Rattle.tc_channel.specs.Through.{IsPartOf, all_made, packets_made, passed_since, released_since, sent_from, units_made};
 ghost use Rattle.tc_channel.specs.declared.settings.Settings.{Settings};
-ghost use Rattle.tc_link.specs.Frame.{BeginsWith, IsWhole, header_of};
-ghost use Rattle.tc_cltu.specs.Cltu.{cltu_fault_of, filled, most_octets};
-ghost use Rattle.tc_cltu.specs.Reception.{Searching, frames_of};
+ghost use Rattle.tc_link.specs.Frame.{IsWhole, header_of};
+ghost use Rattle.tc_cltu.specs.Reception.{Reception, Searching};
 ghost use Rattle.tc_cltu.specs.declared.block.Mode.{Mode};
 ghost use Rattle.tc_link.specs.declared.frame.Header.{Header};
 ghost use Rattle.tc_channel.specs.declared.event.Event.{Event};
+ghost use Rattle.tc_channel.specs.declared.event.Event.TheVariants.{Frame};
 ghost use Rattle.tc_channel.specs.ChannelState.{Queue, first_state_within, no_limits, queue_of};
 ghost use Rattle.tc_channel.specs.Journal.{History};
 ghost use Rattle.tc_channel.specs.Account.{unit_on};
 ghost use Rattle.tc_channel.specs.Era.{IsEraWithin, ComesFromWithin};
 ghost use Rattle.tc_channel.specs.Given.{packets_given, units_given};
 ghost use Rattle.tc_channel.specs.Run.{IsLawfulWithin, field_of, run, run_within};
-ghost use Rattle.tc_loop.specs.Loop.{Loop, Action, IsLoop, journal, receiver, sent};
+ghost use Rattle.tc_loop.specs.Loop.{Loop, Action, IsLoop, events, journal, receiver, sent};
 ghost use Rattle.tc_loop.specs.Start.{Start, IsStart, era, era_session};
-ghost use Rattle.tc_ends.specs.Arrivals.{IsNearCltu};
-ghost use Rattle.tc_ends.specs.Ends.{AreAllPackets, AreFrom, AreNumbered, AreWritten, CanBeSent, CarrySent, CarryUnits, NoneByBypass, NoneOnOtherMaps, SendsPackets, EndAtLast, IsChannelOf, IsPlainSendable, IsSendable, NoneElsewhere, PacketsSent, SendsOnly, Sent, UnitSent, all_joined, fields_in_order, is_chosen_map, joined_on, on_map, only_on, packets_to, passed_before, passed_in, sent_on, units_on};
+ghost use Rattle.tc_ends.specs.Arrivals.{AltersNothing, AreCarried, AreEventsAt, AreEventsOf, Coming, IsNearCltu, Octets, enclosed, state_behind};
+ghost use Rattle.tc_ends.specs.Ends.{AreAllPackets, AreFrom, AreGivenOf, AreMerged, AreNumbered, AreWritten, CanBeSent, CarrySent, CarryUnits, EndAtLast, IsChannelOf, IsPlainSendable, IsSendable, PacketsSent, SendsOnly, SendsPackets, Sent, UnitSent, all_joined, fields_in_order, is_chosen_map, is_same_stream, joined_on, on_map, only_on, packets_sent_on, packets_to, passed_before, passed_in, sent_on, units_on};
 ghost use Rattle.tc_ends.specs.Examples as example;
 
 use tc_write::the_segments_of_a_unit_make_the_unit;
@@ -41,16 +41,21 @@ pub fn joined_packets_are_cut_into_them()
     ensures { (packets : List (List ℕ)) → AllByRecursion IsPacket packets → (packets_of (joined packets) ≡ packets) × (rest_of (joined packets) ≡ []) }
 {}
 
-/// The packets for an application that a sender sends on one stream, in units, each of them in segments, are just the packets that the data
-/// fields make for it, in their order; whatever data fields came before, and however those of other streams come between.
+/// The packets for an application that a sender sends, in units, each of them in segments, are just the packets that the data fields make for it:
+/// those of each stream in their order, whatever data fields came before, and however the streams are merged.
 pub fn packets_that_are_sent_are_made()
-    ensures { (limits : ℕ → ℕ) (s : Settings) (apid : ℕ) (service : Service) (map_id : ℕ) (sent : PacketsSent) (before passed : List Passed)
-        → s.segmented ≡ true → is_chosen_map s map_id ≡ false → ((other : Service) (id : ℕ) → AreAllPackets (sent other id))
-        → CarrySent limits (joined_on sent) passed → NoneElsewhere apid service map_id sent
-        → packets_made limits s apid (before ++ passed) ≡ packets_made limits s apid before ++ packets_to apid (sent service map_id) }
+    ensures { (limits : ℕ → ℕ) (s : Settings) (apid : ℕ) (sent : PacketsSent) (before passed : List Passed) → s.segmented ≡ true
+        → ((service : Service) (map_id : ℕ) → AreAllPackets (sent service map_id)) → CarrySent limits (joined_on sent) passed
+        → (merged : List (List ℕ)) × AreMerged merged (packets_sent_on s apid sent) × (packets_made limits s apid (before ++ passed) ≡ packets_made limits s apid before ++ merged) }
 {
     the_segments_of_a_unit_make_the_unit();
 }
+
+/// Where only one stream has packets, a merge is just these, in their order.
+pub fn packets_of_one_stream_are_its_own()
+    ensures { (packets : List (List ℕ)) (on : Service → ℕ → List (List ℕ)) (service : Service) (map_id : ℕ) → AreMerged packets on
+        → ((other : Service) (id : ℕ) → is_same_stream service map_id other id ≡ false → on other id ≡ []) → packets ≡ on service map_id }
+{}
 
 /// The units that a sender sends on a chosen MAP are just the units that the data fields make of it, in their order.
 pub fn units_that_are_sent_are_made()
@@ -76,32 +81,15 @@ pub fn written_frames_carry_the_segments()
         → AreSegments map_id size unit (map field_of frames) }
 {}
 
-/// From a sender's packets to what takes give. The first n data fields of a sender carry units of packets, MAP by MAP, in segments. The packets
-/// that an application gets in the era come on one MAP, by Type-AD alone. Then all packets of this application that takes ever gave are, in
-/// their order, those of the data fields from before the era, which are none where the era is the whole journal (`start`), and then those that
-/// were sent, of all of which some may be left out (`given`). Where all n fields were released, the fields make just these (`made`). Where takes
-/// gave as many, they gave just these (`all`).
+/// From a sender's packets to what takes give. The first n data fields of a sender carry units of packets, MAP by MAP, in segments. Then all packets
+/// of an application that takes ever gave are, in their order, those of the data fields from before the era, which are none where the era is the
+/// whole journal (`start`), and then a merge of those that were sent on each MAP and that Type-BD brought; of all of these some may be left out, as
+/// where a queue was full (`given`).
 pub fn packets_that_are_sent_are_given()
     ensures start { (limits : ℕ → ℕ) (s : Settings) (journal : List Event) → passed_before limits s [] journal ≡ [] }
-    ensures given { (limits : ℕ → ℕ) (s : Settings) (journal before later : List Event) (x : ℕ) (sent : ℕ → List ℕ) (apid n : ℕ) (units : ℕ → List (List (List ℕ))) (map_id : ℕ) (q : Queue)
-        → IsLawfulWithin limits s journal → IsEraWithin limits s journal before later x → ComesFromWithin limits s before later x sent
-        → s.segmented ≡ true → is_chosen_map s map_id ≡ false → SendsPackets limits sent n units → NoneOnOtherMaps apid map_id units
-        → NoneByBypass limits s apid before journal
-        → released_since limits s before journal ≤ n → queue_of apid (run_within limits s journal).queues ≡ Some q
-        → IsPartOf (packets_given s apid (first_state_within limits s) journal) (packets_made limits s apid (passed_before limits s before journal) ++ packets_to apid (units map_id)) }
-    ensures made { (limits : ℕ → ℕ) (s : Settings) (journal before later : List Event) (x : ℕ) (sent : ℕ → List ℕ) (apid n : ℕ) (units : ℕ → List (List (List ℕ))) (map_id : ℕ)
-        → IsLawfulWithin limits s journal → IsEraWithin limits s journal before later x → ComesFromWithin limits s before later x sent
-        → s.segmented ≡ true → is_chosen_map s map_id ≡ false → SendsPackets limits sent n units → NoneOnOtherMaps apid map_id units
-        → NoneByBypass limits s apid before journal
-        → released_since limits s before journal ≡ n
-        → packets_made limits s apid (run_within limits s journal).passed ≡ packets_made limits s apid (passed_before limits s before journal) ++ packets_to apid (units map_id) }
-    ensures all { (limits : ℕ → ℕ) (s : Settings) (journal before later : List Event) (x : ℕ) (sent : ℕ → List ℕ) (apid n : ℕ) (units : ℕ → List (List (List ℕ))) (map_id : ℕ) (q : Queue)
-        → IsLawfulWithin limits s journal → IsEraWithin limits s journal before later x → ComesFromWithin limits s before later x sent
-        → s.segmented ≡ true → is_chosen_map s map_id ≡ false → SendsPackets limits sent n units → NoneOnOtherMaps apid map_id units
-        → NoneByBypass limits s apid before journal
-        → released_since limits s before journal ≤ n → queue_of apid (run_within limits s journal).queues ≡ Some q
-        → length (packets_made limits s apid (passed_before limits s before journal) ++ packets_to apid (units map_id)) ≤ length (packets_given s apid (first_state_within limits s) journal)
-        → packets_given s apid (first_state_within limits s) journal ≡ packets_made limits s apid (passed_before limits s before journal) ++ packets_to apid (units map_id) }
+    ensures given { (limits : ℕ → ℕ) (s : Settings) (journal before later : List Event) (x : ℕ) (sent : ℕ → List ℕ) (apid n : ℕ) (units : ℕ → List (List (List ℕ))) (q : Queue)
+        → IsLawfulWithin limits s journal → IsEraWithin limits s journal before later x → ComesFromWithin limits s before later x sent → s.segmented ≡ true → SendsPackets limits sent n units
+        → released_since limits s before journal ≤ n → queue_of apid (run_within limits s journal).queues ≡ Some q → AreGivenOf limits s apid before journal n units }
 {
     the_segments_of_a_unit_make_the_unit();
 }
@@ -115,12 +103,9 @@ pub fn all_units_can_be_carried()
 /// The same with a loop: links that lose, repeat and delay, and a sender that keeps its window and reads CLCWs. Nothing is presumed of when frames
 /// come.
 pub fn packets_of_a_loop_are_given()
-    ensures { (l : Loop) (session : List Action) (apid n : ℕ) (units : ℕ → List (List (List ℕ))) (map_id : ℕ) (q : Queue) → IsLoop l session
-        → l.settings.segmented ≡ true → is_chosen_map l.settings map_id ≡ false → SendsPackets l.limits (sent l) n units → NoneOnOtherMaps apid map_id units
-        → NoneByBypass l.limits l.settings apid l.before (journal l session)
+    ensures { (l : Loop) (session : List Action) (apid n : ℕ) (units : ℕ → List (List (List ℕ))) (q : Queue) → IsLoop l session → l.settings.segmented ≡ true → SendsPackets l.limits (sent l) n units
         → released_since l.limits l.settings l.before (journal l session) ≤ n → queue_of apid (receiver l session).queues ≡ Some q
-        → IsPartOf (packets_given l.settings apid (first_state_within l.limits l.settings) (journal l session))
-        (packets_made l.limits l.settings apid (passed_before l.limits l.settings l.before (journal l session)) ++ packets_to apid (units map_id)) }
+        → AreGivenOf l.limits l.settings apid l.before (journal l session) n units }
 {
     the_segments_of_a_unit_make_the_unit();
 }
@@ -154,42 +139,63 @@ pub fn numbered_frames_send_packets()
 
 /// From a ground system's packets to what takes give, over the start of an era and links that lose, repeat and delay, but keep order. The sender
 /// sends Set V(R) and then its packets, in units on any MAPs, in frames that it numbers and sends by its window, and no others; it believes rightly
-/// that Set V(R) was obeyed. Then all packets of an application that takes ever gave are, in their order, those of the data fields from before the
-/// era, and then those that were sent for it; of all of these some may be left out, as where a queue was full.
+/// that Set V(R) was obeyed. Then takes gave what [`packets_that_are_sent_are_given`] says.
 pub fn packets_from_a_start_are_given()
-    ensures { (s : Start) (header : Header) (units : List UnitSent) (frames : List (List ℕ)) (apid map_id : ℕ) (q : Queue) → IsStart s
+    ensures { (s : Start) (header : Header) (units : List UnitSent) (frames : List (List ℕ)) (apid : ℕ) (q : Queue) → IsStart s
         → AllByRecursion (CanBeSent s.loop.limits) units → AreNumbered header units frames → AreFrom (era s).frames frames → SendsOnly (length frames) (era_session s)
-        → s.loop.settings.segmented ≡ true → is_chosen_map s.loop.settings map_id ≡ false → NoneOnOtherMaps apid map_id (units_on units)
-        → NoneByBypass s.loop.limits s.loop.settings apid (era s).before (journal s.loop s.session) → queue_of apid (receiver s.loop s.session).queues ≡ Some q
-        → IsPartOf (packets_given s.loop.settings apid (first_state_within s.loop.limits s.loop.settings) (journal s.loop s.session))
-        (packets_made s.loop.limits s.loop.settings apid (passed_before s.loop.limits s.loop.settings (era s).before (journal s.loop s.session)) ++ packets_to apid (units_on units map_id)) }
+        → s.loop.settings.segmented ≡ true → queue_of apid (receiver s.loop s.session).queues ≡ Some q
+        → AreGivenOf s.loop.limits s.loop.settings apid (era s).before (journal s.loop s.session) (length frames) (units_on units) }
 {
     the_segments_of_a_unit_make_the_unit();
 }
 
 /// Over any threads: where the journal that a station's close gives out of a channel is that of a session of a loop, the Type-AD data fields of the
-/// era that were released are what was sent, each once and in order (`passed`), and takes gave, in order, packets that were sent (`given`). The
-/// premises are those of a loop, in place of those of `sent` of `from_a_sender_to_packets` (tc_station), which ties this journal to the calls of
-/// all threads.
+/// era that were released are what was sent, each once and in order (`passed`), and takes gave what [`packets_that_are_sent_are_given`] says
+/// (`given`). The premises are those of a loop, in place of those of `sent` of `from_a_sender_to_packets` (tc_station), which ties this journal to the
+/// calls of all threads.
 pub fn a_channel_given_out_has_what_a_loop_sent()
     ensures passed { (l : Loop) (session : List Action) (channel : History) → IsLoop l session → IsChannelOf l session channel
         → passed_since no_limits channel.settings l.before (run channel.settings channel.journal).passed ≡ sent_from (sent l) 0 (released_since no_limits channel.settings l.before channel.journal) }
-    ensures given { (l : Loop) (session : List Action) (channel : History) (header : Header) (units : List UnitSent) (frames : List (List ℕ)) (apid map_id : ℕ) (q : Queue) → IsLoop l session
+    ensures given { (l : Loop) (session : List Action) (channel : History) (header : Header) (units : List UnitSent) (frames : List (List ℕ)) (apid : ℕ) (q : Queue) → IsLoop l session
         → IsChannelOf l session channel → AllByRecursion (CanBeSent no_limits) units → AreNumbered header units frames → AreFrom l.frames frames → SendsOnly (length frames) session
-        → channel.settings.segmented ≡ true → is_chosen_map channel.settings map_id ≡ false → NoneOnOtherMaps apid map_id (units_on units) → NoneByBypass no_limits channel.settings apid l.before channel.journal
-        → queue_of apid (run channel.settings channel.journal).queues ≡ Some q
-        → IsPartOf (packets_given channel.settings apid (first_state_within no_limits channel.settings) channel.journal)
-        (packets_made no_limits channel.settings apid (passed_before no_limits channel.settings l.before channel.journal) ++ packets_to apid (units_on units map_id)) }
+        → channel.settings.segmented ≡ true → queue_of apid (run channel.settings channel.journal).queues ≡ Some q
+        → AreGivenOf no_limits channel.settings apid l.before channel.journal (length frames) (units_on units) }
 {
     the_segments_of_a_unit_make_the_unit();
 }
 
-/// A CLTU with at most as many wrong bits a code block as the mode takes, whose tail no code block is near to, gives its frame, with fill behind it;
-/// and that is where a receiver takes the frame from.
+/// A CLTU with at most as many wrong bits a code block as the mode takes, whose tail no code block is near to, is the arrival of its frame
+/// (`arrives`) and of no other (`alone`), with a frame error control field where frames have one; and a receiver searches again then (`searches`).
 pub fn a_cltu_with_few_wrong_bits_brings_its_frame()
-    ensures given { (mode : Mode) (last : ℕ) (frame octets rest : List ℕ) → cltu_fault_of frame ≡ None → IsNearCltu mode last frame octets
-        → frames_of mode most_octets (Searching last) (octets ++ rest) ≡ filled frame ∷ frames_of mode most_octets (Searching 0) rest }
-    ensures begins { (frame : List ℕ) → IsWhole frame → BeginsWith (filled frame) frame }
+    ensures arrives { (mode : Mode) (field : Bool) (last : ℕ) (frame octets : List ℕ) → IsWhole frame → IsWhole (enclosed field frame) → IsNearCltu mode last (enclosed field frame) octets
+        → AreEventsAt mode field (Searching last) (Octets octets) (Frame frame ∷ []) }
+    ensures alone { (mode : Mode) (field : Bool) (last : ℕ) (frame octets : List ℕ) → IsWhole frame → IsWhole (enclosed field frame) → IsNearCltu mode last (enclosed field frame) octets
+        → (now : List Event) → AreEventsAt mode field (Searching last) (Octets octets) now → now ≡ Frame frame ∷ [] }
+    ensures searches { (mode : Mode) (field : Bool) (last : ℕ) (frame octets : List ℕ) → IsWhole frame → IsWhole (enclosed field frame) → IsNearCltu mode last (enclosed field frame) octets
+        → state_behind mode (Searching last) (Octets octets) ≡ Searching 0 }
+{}
+
+/// Over both edges: from a ground system's packets to what takes give. The sender is that of [`packets_from_a_start_are_given`], and its frames
+/// come in CLTUs, as octets in which any bits may be turned, over links that keep order. Of what comes detection lets nothing through that was altered:
+/// the code blocks, the length and, where frames have one, the frame error control field. What is refused is lost, and a CLTU with few wrong bits
+/// arrives ([`a_cltu_with_few_wrong_bits_brings_its_frame`]). Then takes gave what [`packets_that_are_sent_are_given`] says.
+pub fn packets_in_cltus_are_given()
+    ensures { (s : Start) (header : Header) (units : List UnitSent) (frames : List (List ℕ)) (apid : ℕ) (q : Queue) (mode : Mode) (field : Bool) (state : Reception) (coming : List Coming) (came : List Event)
+        → IsStart s → AllByRecursion (CanBeSent s.loop.limits) units → AreNumbered header units frames → AreFrom (era s).frames frames → SendsOnly (length frames) (era_session s)
+        → AltersNothing mode field s.loop.frames state s.session coming → AreEventsOf mode field state coming came
+        → s.loop.settings.segmented ≡ true → queue_of apid (run_within s.loop.limits s.loop.settings (s.loop.before ++ came)).queues ≡ Some q
+        → AreGivenOf s.loop.limits s.loop.settings apid (era s).before (s.loop.before ++ came) (length frames) (units_on units) }
+{
+    the_segments_of_a_unit_make_the_unit();
+}
+
+/// Where each frame of a session comes in a CLTU with few wrong bits, and nothing else comes, nothing is altered (`unaltered`), and nothing is lost
+/// on the way to the receiver (`whole`).
+pub fn cltus_with_few_wrong_bits_bring_a_session()
+    ensures unaltered { (mode : Mode) (field : Bool) (frames : ℕ → List ℕ) (session : List Action) (coming : List Coming) → AreCarried mode field frames session coming
+        → AltersNothing mode field frames (Searching 0) session coming }
+    ensures whole { (mode : Mode) (field : Bool) (l : Loop) (session : List Action) (coming : List Coming) → AreCarried mode field l.frames session coming
+        → AreEventsOf mode field (Searching 0) coming (events l session) }
 {}
 
 /// One session meets all premises of [`packets_of_a_loop_are_given`] and [`numbered_frames_send_packets`] at once: that of
@@ -197,12 +203,9 @@ pub fn a_cltu_with_few_wrong_bits_brings_its_frame()
 pub fn all_premises_are_met_at_once()
     ensures frames_in_loop { IsLoop example.packet_a_frame example.both_taken }
     ensures headers { example.packet_a_frame.settings.segmented ≡ true }
-    ensures not_chosen { is_chosen_map example.packet_a_frame.settings 0 ≡ false }
     ensures can_be_sent { AllByRecursion (CanBeSent example.packet_a_frame.limits) example.two_in_turn }
     ensures numbered { AreNumbered example.first_header example.two_in_turn (example.packet_a_frame.frames 0 ∷ example.packet_a_frame.frames 1 ∷ []) }
     ensures sends { SendsPackets example.packet_a_frame.limits (sent example.packet_a_frame) 2 (units_on example.two_in_turn) }
-    ensures apart { NoneOnOtherMaps 5 0 (units_on example.two_in_turn) }
-    ensures none_by_bypass { NoneByBypass example.packet_a_frame.limits example.packet_a_frame.settings 5 example.packet_a_frame.before (journal example.packet_a_frame example.both_taken) }
     ensures released { released_since example.packet_a_frame.limits example.packet_a_frame.settings example.packet_a_frame.before (journal example.packet_a_frame example.both_taken) ≡ 2 }
     ensures queue { (q : Queue) × (queue_of 5 (receiver example.packet_a_frame example.both_taken).queues ≡ Some q) }
 {}

@@ -5,6 +5,7 @@
 //! [`the_segments_of_a_unit_end_it_once`],
 //! [`joined_packets_are_cut_into_them`],
 //! [`packets_that_are_sent_are_made`],
+//! [`packets_of_one_stream_are_its_own`],
 //! [`units_that_are_sent_are_made`],
 //! [`packets_that_are_sent_plainly_are_made`],
 //! [`written_frames_carry_the_segments`],
@@ -17,6 +18,8 @@
 //! [`packets_from_a_start_are_given`],
 //! [`a_channel_given_out_has_what_a_loop_sent`],
 //! [`a_cltu_with_few_wrong_bits_brings_its_frame`],
+//! [`packets_in_cltus_are_given`],
+//! [`cltus_with_few_wrong_bits_bring_a_session`],
 //! [`all_premises_are_met_at_once`] and
 //! [`two_packets_are_given_so`].
 #![tactic(auto)]
@@ -26,8 +29,10 @@ mod laws;
 pub use laws::{
     a_channel_given_out_has_what_a_loop_sent, a_cltu_with_few_wrong_bits_brings_its_frame,
     all_packets_can_be_sent, all_premises_are_met_at_once, all_units_can_be_carried,
-    joined_packets_are_cut_into_them, numbered_frames_send_packets, packets_from_a_start_are_given,
-    packets_of_a_loop_are_given, packets_that_are_sent_are_given, packets_that_are_sent_are_made,
+    cltus_with_few_wrong_bits_bring_a_session, joined_packets_are_cut_into_them,
+    numbered_frames_send_packets, packets_from_a_start_are_given, packets_in_cltus_are_given,
+    packets_of_a_loop_are_given, packets_of_one_stream_are_its_own,
+    packets_that_are_sent_are_given, packets_that_are_sent_are_made,
     packets_that_are_sent_plainly_are_made, the_segments_of_a_unit_end_it_once,
     two_packets_are_given_so, units_that_are_sent_are_given, units_that_are_sent_are_made,
     written_frames_carry_the_segments,

@@ -1,8 +1,11 @@
-use Rattle.tc_ends.proofs.Arrived.{begins, near-given}
+use Rattle.tc_ends.proofs.Arrived.{near-alone, near-arrives, near-searches}
 use Rattle.tc_ends.proofs.laws.a_cltu_with_few_wrong_bits_brings_its_frame.Goals as goal
 
-pub returns-clause-given : goal.returns-clause-given
-returns-clause-given c = near-given
+pub returns-clause-arrives : goal.returns-clause-arrives
+returns-clause-arrives c = near-arrives
 
-pub returns-clause-begins : goal.returns-clause-begins
-returns-clause-begins c = begins
+pub returns-clause-alone : goal.returns-clause-alone
+returns-clause-alone c = near-alone
+
+pub returns-clause-searches : goal.returns-clause-searches
+returns-clause-searches c = near-searches

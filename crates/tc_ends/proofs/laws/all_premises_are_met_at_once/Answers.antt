@@ -5,12 +5,9 @@ pub returns : goal.returns
 returns c = record {
   frames_in_loop = met.is-loop;
   headers = met.headers;
-  not_chosen = met.not-chosen;
   can_be_sent = met.can;
   numbered = met.numbered;
   sends = met.sends;
-  apart = met.apart;
-  none_by_bypass = met.none-by-bypass;
   released = met.released;
   queue = met.queue;
 }
