@@ -1,0 +1,47 @@
+/*
+ * What the three programs call besides the C library, for a processor for which the kit has none of it: the words of the command line,
+ * the number of the last error, and the memory of channels with its growth. tools/target links it with them. It isn't proved.
+ */
+#include "../c/tcrx_memory.c"
+
+#include <errno.h>
+#include <string.h>
+#include <sys/types.h>
+
+int rattle_errno(void);
+void rattle_set_errno(int number);
+ssize_t rattle_arg(size_t at, char *room, size_t most);
+rattle_block rattle_realloc(void *at, size_t kept, size_t count, size_t alignment);
+
+static size_t word_count;
+static char **words;
+
+/* The GNU C library calls it before main, with what main gets. */
+__attribute__((constructor)) static void keep(int count, char **given) {
+    word_count = (size_t)count;
+    words = given;
+}
+
+int rattle_errno(void) {
+    return errno;
+}
+
+void rattle_set_errno(int number) {
+    errno = number;
+}
+
+/* The length of a word, which is copied; -1 where there is none, and -2 where the room is full before it ends. */
+ssize_t rattle_arg(size_t at, char *room, size_t most) {
+    if (at >= word_count) {
+        return -1;
+    }
+    const size_t count = strlen(words[at]);
+    memcpy(room, words[at], count < most ? count : most);
+    return count <= most ? (ssize_t)count : -2;
+}
+
+/* A block of `count` octets with what the one at `at` had, which is gone; or that one as it was, where `given` is false. */
+rattle_block rattle_realloc(void *at, size_t kept, size_t count, size_t alignment) {
+    (void)kept;
+    return answer(realloc(at, count == 0 ? alignment : count));
+}
