@@ -7,7 +7,7 @@ import subprocess
 import sys
 from collections import Counter
 from pathlib import Path
-from typing import Any, Callable, Dict, List, Mapping, NamedTuple, Optional
+from typing import Any, Callable, Dict, Iterator, List, Mapping, NamedTuple, Optional
 
 # What is imported after this file leaves no compiled files.
 sys.dont_write_bytecode = True
@@ -55,6 +55,13 @@ def cases() -> List[Case]:
 def good_cases() -> List[Case]:
     """Those that run to their end."""
     return [case for case in cases() if not case.fault]
+
+
+def rows(page: str) -> Iterator[List[str]]:
+    """The cells of each row of the tables of a page."""
+    for line in page.split("\n"):
+        if line.startswith("| "):
+            yield [cell.strip() for cell in line.strip("|").split(" | ")]
 
 
 def tell(good: object, what: str, why: str = "") -> None:
