@@ -1,11 +1,8 @@
 -- What one operator makes alone is all that there is.
-use Rattle.tc_desk.proofs.Names.{◌≡◌, ◌≢◌, ℕ, zero, suc, ◌+◌, ◌≤◌, List, [], ◌∷◌, ◌++◌, length, inl, inr, refl, sym, ap, ◌∙◌, arith, Event, IsBeginning, IsMergeOf, Moment, Own, made}
+use Rattle.tc_desk.proofs.Names.{◌≡◌, ◌≢◌, ℕ, zero, suc, ◌+◌, ◌≤◌, List, [], ◌∷◌, ◌++◌, length, inl, inr, refl, sym, ap, ◌∙◌, arith, Event, IsBeginning, IsMergeOf, Moment, Own, made, length-append, nil_from_length, append-nil, same_from_push, owned, made_by, looked}
 use Rattle.std.proofs.lemmas.Bool.Decides.{eqb_tells}
-use Rattle.std.proofs.lemmas.List.{length-append, nil_from_length, append-nil, same_from_push}
 use mathlib.Core.List.{IsPrefix}
-use Rattle.logged_lock.specs.Log.{owned, made_by}
 use Rattle.logged_lock.proofs.Owned.{owned-own, owned-other}
-use Rattle.tc_desk.specs.Call.{looked}
 use Rattle.tc_desk.specs.Alone.{with_places, HasMadeAll, HasSeenItsOwn}
 
 -- one place, where nobody but the k-th owns any

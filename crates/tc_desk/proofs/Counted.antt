@@ -1,6 +1,5 @@
 -- Whether operators can close a desk, by the numbers of these and of their events.
-use Rattle.tc_desk.proofs.Names.{◌≡◌, inl, inr, ℕ, ◌≤◌, ◌-◌, ◌^◌, List, length, arith, Event, total_made, Own, CanClose, IsBalanced, IsCause}
-use Rattle.std.proofs.Common.{⊎_elim, lt_of_not-le}
+use Rattle.tc_desk.proofs.Names.{◌≡◌, inl, inr, ℕ, ◌≤◌, ◌-◌, ◌^◌, List, length, arith, Event, total_made, Own, CanClose, IsBalanced, IsCause, ⊎_elim, lt_of_not-le}
 use native.Mathlib.Decide.{dec_le}
 use mathlib.Core.Logic.{dite}
 

@@ -1,19 +1,13 @@
 -- Desks that are held, told and taken out, list by list.
-use Rattle.tc_desk.proofs.Names.{◌≡◌, ◌<◌, ◌≤◌, ◌-◌, ℕ, zero, suc, List, [], ◌∷◌, ◌++◌, length, get_or, map, reverse, Some, slice_get, refl, sym, ap, subst, ◌∙◌, append_assoc, arith, All, length-map, slice_get_within, get_or_from_slice_get, total_made, IsBeginning, IsMergeOf, Event, Own, Moment, AtLock, AtHand, accounts_of, told_at, CanClose, IsBalanced, IsClosed, AreOurs, AreSame, CanCloseEach, CannotCloseOne, IsFresh, IsOut, column, keepers_of, nobody, settings_of_desks, told_row, told_rows}
-use Rattle.std.proofs.Common.{drop, set, append-nil, Vec}
-use Rattle.std.specs.List.{AllZip}
+use Rattle.tc_desk.proofs.Names.{◌≡◌, ◌<◌, ◌≤◌, ◌-◌, ℕ, zero, suc, List, [], ◌∷◌, ◌++◌, length, get_or, map, reverse, Some, slice_get, refl, sym, ap, subst, ◌∙◌, append_assoc, arith, All, length-map, slice_get_within, get_or_from_slice_get, total_made, IsBeginning, IsMergeOf, Event, Own, Moment, AtLock, AtHand, accounts_of, told_at, CanClose, IsBalanced, IsClosed, AreOurs, AreSame, CanCloseEach, CannotCloseOne, IsFresh, IsOut, column, keepers_of, nobody, settings_of_desks, told_row, told_rows, drop, set, Vec, AllZip, map-append, reverse-append, reverse-reverse, length-reverse, get_or-reverse, with_items_is, All-tail, All-head, none-some, same_Some, slice_get-map, AreBehind, IsClosingRefusal, AreClosed, AreMoments, HasCause, heads_of, issued_of, locks_of, told_one}
+use Rattle.std.proofs.Common.{append-nil}
 use Rattle.std.specs.Vec.{with_items}
 use Rattle.std.specs.Option.{option_map}
-use Rattle.std.proofs.lemmas.List.{map-append, reverse-append, reverse-reverse, length-reverse, get_or-reverse, with_items_is}
-use Rattle.std.proofs.lemmas.List.Elements.{All-tail, All-head}
-use Rattle.std.proofs.lemmas.Option.{none-some, same_Some, slice_get-map}
-use Rattle.logged_lock.specs.Log.{AreBehind}
 use Rattle.tc_channel.specs.Journal.{History}
 use Rattle.tc_desk.specs.{TableId}
 use Rattle.tc_desk.proofs.Counted.{as-balanced, cause-of, not-balanced}
 use Rattle.tc_desk.specs.declared.together.Refusal.{Refusal}
 use Rattle.tc_desk.specs.declared.together.Refusal.TheVariants.{Unbalanced}
-use Rattle.tc_desk.specs.Together.{IsClosingRefusal, AreClosed, AreMoments, HasCause, heads_of, issued_of, locks_of, told_one}
 
 -- ---- locks that are taken and given back
 

@@ -1,11 +1,8 @@
 -- The machine value of a `ResidentBadge`, and that it may go to another thread.
-use Rattle.std.proofs.Common.{◌≡◌, List, [], ◌∷◌, ◌++◌, ap, ◌∙◌}
+use Rattle.tc_desk.proofs.Names.{◌≡◌, List, [], ◌∷◌, ◌++◌, ap, ◌∙◌, RattleType, IsSend, token_val, pin_told}
 use mir.Val.{Val, vstruct, vcons, vnil, of_list}
-use denote.RattleType.{RattleType}
 use denote.Laws.{Is}
-use denote.Param.Send.{IsSend}
 use Rattle.atomic_table.specs.contracts.badge.Badge as badge
-use Rattle.atomic_table.proofs.Fields.{token_val, pin_told}
 use Rattle.atomic_table.proofs.Sent.{badge_keyless}
 use Rattle.tc_desk.specs.contracts.resident.ResidentBadge as resident
 

@@ -1,15 +1,7 @@
 -- What a keeper learns of operators, one after the other, and how many events they have made in all.
-use Rattle.tc_desk.proofs.Names.{◌≡◌, ◌<◌, ◌≤◌, ◌+◌, ℕ, List, [], ◌∷◌, ◌++◌, length, map, take, get_or, min, refl, sym, ap, ◌∙◌, append_assoc, arith, ◌^◌, ◌-◌, length-map, total_made, Own, AtLock, AtHand, accounts_of, told_at, column, nobody}
-use Rattle.std.specs.List.{sum_by}
-use Rattle.std.proofs.lemmas.List.{map_push, take_all}
+use Rattle.tc_desk.proofs.Names.{◌≡◌, ◌<◌, ◌≤◌, ◌+◌, ℕ, List, [], ◌∷◌, ◌++◌, length, map, take, get_or, min, refl, sym, ap, ◌∙◌, append_assoc, arith, ◌^◌, ◌-◌, length-map, total_made, Own, AtLock, AtHand, accounts_of, told_at, column, nobody, sum_by, map_push, take_all}
 use Rattle.std.proofs.lemmas.List.Sums.{sum_by_more, sum_by-cons}
 use Rattle.std.proofs.lemmas.Simd.{map-map}
-
--- the keeper was told of one more
-pub told_next : (h : AtHand) (os : List AtLock) (o : AtLock) → told_at (told_at h (accounts_of os)) (o.own ∷ []) ≡ told_at h (accounts_of (os ++ o ∷ []))
-told_next h os o =
-    let more : accounts_of (os ++ o ∷ []) ≡ accounts_of os ++ o.own ∷ [] = map_push (λ (x : AtLock). x.own) os o in
-    ap (λ (t : List Own). record { desk = h.desk; keeper = h.keeper; now = h.now; told = t }) (append_assoc h.told (accounts_of os) (o.own ∷ []) ∙ ap (λ (l : List Own). h.told ++ l) (sym more))
 
 abbrev most : ℕ
 most = 2 ^ 64 - 1

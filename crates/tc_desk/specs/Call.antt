@@ -1,7 +1,5 @@
 -- What a call by an operator promises.
 use Rattle.std.specs.Prelude.{◌≡◌, ◌≢◌, ◌-◌, ◌^◌, min, ⊤, ℕ, Bool, false, List, [], ◌∷◌, ◌++◌, length, Some, None, Result, MatchResult}
-use Rattle.tc_link.specs.declared.Link.{Link}
-use Rattle.tc_link.specs.declared.Report.{Report}
 use Rattle.tc_channel.specs.declared.event.Event.{Event}
 use Rattle.tc_channel.specs.declared.event.Event.TheVariants.{Frame}
 use Rattle.tc_channel.specs.declared.reply.Delivery.{Delivery}
@@ -15,8 +13,8 @@ use Rattle.tc_channel.specs.declared.reply.TakeUnitFault.{TakeUnitFault}
 use Rattle.tc_channel.specs.declared.reply.TakeUnitFault.TheVariants as unit_faults
 use Rattle.tc_channel.specs.Journal.{History, with_event}
 use Rattle.tc_channel.specs.Settings.{IsAllowed}
-use Rattle.tc_channel.specs.Run.{IsLawful, run}
-use Rattle.tc_channel.specs.Reply.{IsBypassData, frame_reply, release_reply, take_reply, unit_reply, waiting_packets, waiting_units, buffered_fields, clcw}
+use Rattle.tc_channel.specs.Run.{IsLawful}
+use Rattle.tc_channel.specs.Reply.{IsBypassData, frame_reply, release_reply, take_reply, unit_reply, waiting_packets, waiting_units, buffered_fields}
 use Rattle.tc_status.specs.Board.{Watching}
 use Rattle.tc_status.specs.Board as board
 use Rattle.logged_lock.specs.Log.{IsBeginning, with_entry}
@@ -124,14 +122,6 @@ abbrev pub IsTakeUnitFault : Bool → ℕ → Moment → TakeUnitFault → Type 
 IsTakeUnitFault grows map_id m unit_faults.NoMap = waiting_units m.head.settings m.entries map_id ≡ None
 IsTakeUnitFault grows map_id m unit_faults.Empty = waiting_units m.head.settings m.entries map_id ≡ Some []
 IsTakeUnitFault grows map_id m unit_faults.NoMemory = grows ≡ false → ⊥
-
--- FARM-1's components
-abbrev pub IsReport : Moment → Report → Type 0
-IsReport m report = report ≡ (run m.head.settings m.entries).report
-
--- the CLCW (CCSDS 232.0-B, 4.2) with these flags of the link
-abbrev pub IsClcwOf : Link → Moment → ℕ → Type 0
-IsClcwOf link m word = word ≡ clcw m.head.settings m.entries link
 
 -- how many events there are in the journal; where they are more than 2^64 - 1, that number
 abbrev pub IsCount : Moment → ℕ → Type 0

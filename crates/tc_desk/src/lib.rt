@@ -1,12 +1,11 @@
 //! The desk of a channel, behind a lock that remembers.
 //!
-//! Several threads share a [`LockedDesk`], each with a [`DeskOperator`] of its own, which the desk's
-//! [`DeskKeeper`] makes, and does an [`Operation`] or asks a [`Question`] by it. Contracts see which lock that is, and what each operator has seen of the channel's journal and made of
-//! it: so each call is answered by this very channel's journal, and [`LockedDesk::close`] gives out a channel whose journal is a
-//! merge of what its operators made. Each call takes the lock once, and waits while another has it.
+//! Several threads share a [`LockedDesk`], each with a [`DeskOperator`] of its own, which the desk's [`DeskKeeper`] makes, and does an
+//! [`Operation`] by it. Contracts see which lock that is, and what each operator has seen of the channel's journal and made of it: so each
+//! call is answered by this very channel's journal, and [`close_together`] gives out channels whose journals are merges of what their
+//! operators made. Each call takes the lock once, and waits while another has it.
 #![tactic(auto)]
 
-mod closing;
 mod held;
 mod kept;
 mod laws;
@@ -16,7 +15,6 @@ mod post;
 mod resident;
 mod together;
 
-pub use closing::{Obstacle, Unclosed};
 pub use kept::{DeskHead, KeptDesk};
 pub use laws::{
     a_release_finds_a_data_field, each_event_stands_at_its_place,
@@ -25,8 +23,7 @@ pub use laws::{
 };
 pub use locked::{DeskKeeper, DeskOperator, LockedDesk};
 pub use operation::{
-    Framing, Operation, Question, Release, Reporting, Taking, UnitTaking, WatchedFraming, Watching,
-    WordMaking,
+    Framing, Operation, Question, Release, Taking, UnitTaking, WatchedFraming, Watching,
 };
 pub use post::Post;
 pub use together::{Crew, LeftOpen, Refusal, close_together, take_out_together};

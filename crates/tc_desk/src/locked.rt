@@ -6,7 +6,7 @@ ghost use Rattle.logged_lock.specs.Rule.{HasLock};
 ghost use Rattle.tc_channel.specs.Settings.{IsAllowed, IsRefusal};
 ghost use Rattle.logged_lock.specs.Rule as rule;
 ghost use Rattle.tc_desk.specs.Log.{Moment, IsResting, desk_log, at_lock, view_in, count_of, issued_count, with_one_issued};
-ghost use Rattle.tc_desk.specs.Call.{HasMet, HasSeenNoMore, IsMoment, IsAsked, IsCall, IsLook, IsMeeting, IsMetCall};
+ghost use Rattle.tc_desk.specs.Call.{HasMet, HasSeenNoMore, IsMoment, IsAsked, IsCall, IsMeeting, IsMetCall};
 
 use crate::kept::{DeskHead, KeptDesk};
 use crate::operation::{Makes, Occasion, Operation, Question, run_met};
@@ -160,27 +160,6 @@ pub(crate) fn answer_at<J: Journal, Q: Question<J>>(
 {
     let kept = seat.slot_mut(lock.table(), 0);
     kept.answer(question)
-}
-
-// Takes the lock, asks the desk, and gives the lock back.
-fn ask_by<J: Journal, Q: Question<J>, R: Wait>(
-    lock: &DeskLock<J>,
-    rt: &R,
-    badge: DeskBadge,
-    question: &Q,
-) -> (DeskBadge, Q::Answer)
-    requires own { badge.table_id ≡ lock.now.id }
-    requires resting { IsResting badge.views }
-    ensures resting { IsResting result.0.views }
-    ensures made { (view_in result.0.views).own.made ≡ (view_in badge.views).own.made }
-    ensures maker { (view_in result.0.views).maker ≡ (view_in badge.views).maker }
-    ensures look { IsLook (Q.answers question.now) (at_lock badge.table_id badge.views) result.1 (at_lock result.0.table_id result.0.views) }
-{
-    let mut seat: DeskSeat<J> = badge.into_seat();
-    lock.lock(rt, &mut seat);
-    let answer = answer_at(lock, &mut seat, question);
-    lock.unlock(&mut seat);
-    (seat.into_badge(), answer)
 }
 
 // Takes the lock, lets the watcher meet the desk, and gives the lock back.
@@ -345,22 +324,6 @@ impl DeskOperator {
         let badge = mem::replace(&mut self.badge, Badge::blank());
         self.badge = meet_by(&desk.lock, rt, badge, watcher);
     }
-
-    /// The desk's answer to the question, by this operator, under the lock.
-    pub fn ask<J: Journal, Q: Question<J>, R: Wait>(
-        &mut self,
-        desk: &LockedDesk<J>,
-        rt: &R,
-        question: &Q,
-    ) -> Q::Answer
-        requires ours { self.old.lock ≡ desk.now.id }
-        ensures look { IsLook (Q.answers question.now) self.old result self.new }
-    {
-        let badge = mem::replace(&mut self.badge, Badge::blank());
-        let (badge, answer) = ask_by(&desk.lock, rt, badge, question);
-        self.badge = badge;
-        answer
-    }
 }
 
 impl<J: Journal> LockedDesk<J> {
@@ -391,8 +354,10 @@ impl<J: Journal> LockedDesk<J> {
     pub fn ask_as_guest<Q: Question<J>, R: Wait>(&self, rt: &R, question: &Q) -> Q::Answer
         ensures { (now : Moment) × IsMoment now × (now.head ≡ self.now.head) × Q.answers question.now now result }
     {
-        let badge = self.lock.guest().into_badge();
-        let (_, answer) = ask_by(&self.lock, rt, badge, question);
+        let mut seat = self.lock.guest();
+        self.lock.lock(rt, &mut seat);
+        let answer = answer_at(&self.lock, &mut seat, question);
+        self.lock.unlock(&mut seat);
         answer
     }
 }

@@ -9,7 +9,7 @@ use std::marker::{Brand, PhantomData};
 use tc_channel::{
     Delivery, Event, FrameReply, Journal, NoMemory, ReleaseFault, TakeFault, TakeUnitFault,
 };
-use tc_link::{Frame, Link, Report};
+use tc_link::Frame;
 use tc_status::{DeskOf, Watcher};
 
 /// The event that a call makes. Each call picks it.
@@ -227,40 +227,6 @@ impl<J: Journal> Question<J> for Watching {
 
     fn ask(&self, desk: &mut DeskOf<J>) -> Result<Watcher, NoMemory> {
         desk.watcher()
-    }
-}
-
-/// FARM-1's components.
-#[derive(Drop)]
-pub struct Reporting;
-
-impl<J: Journal> Question<J> for Reporting {
-    ghost use Rattle.tc_desk.specs.Call.{IsReport};
-
-    type Answer = Report;
-
-    ghost answers = { λ _. IsReport };
-
-    fn ask(&self, desk: &mut DeskOf<J>) -> Report {
-        desk.channel().report()
-    }
-}
-
-/// The CLCW with these flags of the link.
-#[derive(Drop)]
-pub struct WordMaking {
-    pub link: Link,
-}
-
-impl<J: Journal> Question<J> for WordMaking {
-    ghost use Rattle.tc_desk.specs.Call.{IsClcwOf};
-
-    type Answer = u32;
-
-    ghost answers = { λ q. IsClcwOf q.link };
-
-    fn ask(&self, desk: &mut DeskOf<J>) -> u32 {
-        desk.channel().clcw(self.link)
     }
 }
 

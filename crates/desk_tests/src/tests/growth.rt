@@ -10,7 +10,7 @@ fn new_manned(rt: &(impl Abort + Print), alloc: Global) -> Manned {
     match Manned::try_new(rt, alloc) {
         Ok(manned) => manned,
         Err(SettingsFault::NoMemory) => {
-            let _ = println!(rt; "refused: LockedDesk::new");
+            let _ = println!(rt; "refused: Post::new");
             Manned::new(rt, alloc)
         }
         Err(_) => panic!(rt; "another refusal"),

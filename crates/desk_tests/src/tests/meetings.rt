@@ -17,10 +17,11 @@ fn check_meetings<R: Abort + Wait>(
     other: &mut DeskOperator,
 )
     requires one { operator.old.lock ≡ desk.now.id }
+    requires head { operator.old.own.seen.head ≡ desk.now.head }
     requires other { other.old.lock ≡ desk.now.id }
     ensures { operator.new.lock ≡ desk.now.id }
 {
-    let mut watcher = operator.ask(desk, rt, &Watching).expect(rt, "a watcher");
+    let mut watcher = desk.ask_as_guest(rt, &Watching).expect(rt, "a watcher");
     assert_eq!(rt; watcher.read(), 0x01040000);
     assert!(rt; bring(rt, desk, other, &FRAME));
     operator.meet(desk, rt, &mut watcher);
@@ -36,9 +37,10 @@ fn check_meetings<R: Abort + Wait>(
 }
 
 fn check(rt: &(impl Abort + Wait), manned: &mut Manned, other: &mut DeskOperator)
-    requires { other.old.lock ≡ manned.old.desk.id }
+    requires other { other.old.lock ≡ manned.old.post.lock }
+    requires head { manned.old.operator.own.seen.head ≡ manned.old.post.own.seen.head }
 {
-    check_meetings(rt, &manned.desk, &mut manned.operator, other)
+    check_meetings(rt, manned.post.desk(), &mut manned.operator, other)
 }
 
 #[test]

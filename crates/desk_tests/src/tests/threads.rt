@@ -3,7 +3,8 @@
 ghost use Rattle.std.specs.Prelude.{◌≡◌};
 ghost use Rattle.std.specs.Thread.{IsSync};
 
-use super::manned::{Locked, Manned, bring, closed};
+use super::manned::{Locked, Manned, bring};
+use super::together::{closed, list_of_two};
 use super::*;
 use std::sync::Wait;
 use std::thread::{Threads, join_mut};
@@ -60,10 +61,10 @@ fn work<R: Threads + Abort + Wait + Sync>(
     manned: &mut Manned,
     other: &mut DeskOperator,
 ) -> bool
-    requires { other.old.lock ≡ manned.old.desk.id }
-    ensures { other.new.lock ≡ manned.new.desk.id }
+    requires { other.old.lock ≡ manned.old.post.lock }
+    ensures { other.new.lock ≡ manned.new.post.lock }
 {
-    side_by_side(rt, &manned.desk, &mut manned.operator, other)
+    side_by_side(rt, manned.post.desk(), &mut manned.operator, other)
 }
 
 // Of the frames of the journal those of one thread are all that it brought, in their order.
@@ -82,16 +83,22 @@ fn check_frames(rt: &impl Abort, journal: &[Event], who: u8) {
 }
 
 // Closes the desk with both operators.
-fn close_both(rt: &impl Abort, alloc: Global, manned: Manned, other: DeskOperator) -> Channel
-    requires { other.lock ≡ manned.desk.id }
+fn close_both(
+    rt: &(impl Abort + Print),
+    alloc: Global,
+    manned: Manned,
+    other: DeskOperator,
+) -> Channel
+    requires { other.lock ≡ manned.post.lock }
 {
-    let Manned {
-        desk,
-        keeper,
-        operator,
-    } = manned;
-    let operators = vec![in alloc; operator, other].expect(rt, "a list");
-    closed(rt, desk.close(keeper, operators))
+    let Manned { post, operator } = manned;
+    let posts = list_of(alloc, post).expect(rt, "a list");
+    let crew = list_of(alloc, operator).expect(rt, "a list");
+    let other = list_of(alloc, other).expect(rt, "a list");
+    let crews = list_of_two(rt, alloc, crew, other);
+    closed(rt, alloc, posts, crews)
+        .pop()
+        .expect(rt, "a channel")
 }
 
 #[test]

@@ -11,7 +11,7 @@ use tc_desk::{
 };
 use tc_link::read_frame;
 
-type Desk = Post<Kept>;
+pub(super) type Desk = Post<Kept>;
 
 // As `BD_UNIT`, for virtual channel 2.
 const OTHER_FRAME: [u8; 8] = [0x20, 0x2a, 0x08, 0x07, 0x00, 0xc3, 0xaa, 0xbb];
@@ -124,7 +124,7 @@ fn work(rt: &(impl Abort + Wait), desks: &Desks, one: &mut Worker, other: &mut W
 }
 
 // A list of two. One growth may be refused.
-fn list_of_two<T: Drop>(rt: &impl Abort, alloc: Global, first: T, second: T) -> Vec<T>
+pub(super) fn list_of_two<T: Drop>(rt: &impl Abort, alloc: Global, first: T, second: T) -> Vec<T>
     ensures { result.items ≡ first ∷ second ∷ [] }
 {
     let mut list = room(alloc, 2).expect(rt, "room");
@@ -149,7 +149,7 @@ fn crew_of(rt: &impl Abort, alloc: Global, worker: Worker) -> Vec<DeskOperator>
 }
 
 // Closes the desks. One growth may be refused: all is given back, and the desks are closed then.
-fn closed(
+pub(super) fn closed(
     rt: &(impl Abort + Print),
     alloc: Global,
     posts: Vec<Desk>,

@@ -1,6 +1,4 @@
-use Rattle.tc_desk.proofs.Names.{◌∙◌, length, map, subst, arith, rules, refl, true≢false, sym, get_or_from_slice_get, slice_get_within, AtHand, accounts_of, CanClose, column}
-use Rattle.std.proofs.Common.{below_more}
-use Rattle.std.proofs.lemmas.Option.{slice_get_read}
+use Rattle.tc_desk.proofs.Names.{◌∙◌, length, map, subst, arith, rules, refl, true≢false, sym, get_or_from_slice_get, slice_get_within, AtHand, accounts_of, CanClose, column, below_more, slice_get_read}
 use Rattle.tc_desk.proofs.Told.{many-column}
 use Rattle.tc_desk.proofs.Rows.{inside_all}
 use Rattle.tc_desk.proofs.together.can_close_each.Goals as goal

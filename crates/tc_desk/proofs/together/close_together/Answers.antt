@@ -1,5 +1,4 @@
-use Rattle.tc_desk.proofs.Names.{◌≡◌, map, subst, List, true, false, arith, rules, common_steps, AtLock, AtHand, CanCloseEach, CannotCloseOne}
-use Rattle.std.proofs.Common.{Bool, MatchBool}
+use Rattle.tc_desk.proofs.Names.{◌≡◌, map, subst, List, true, false, arith, rules, common_steps, AtLock, AtHand, CanCloseEach, CannotCloseOne, Bool, MatchBool}
 use Rattle.tc_desk.proofs.Rows.{caused, closed_all, unbalanced, written_back}
 use Rattle.tc_desk.proofs.together.close_together.Goals as goal
 

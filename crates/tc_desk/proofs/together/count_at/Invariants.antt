@@ -1,5 +1,4 @@
-use Rattle.tc_desk.proofs.Names.{◌≡◌, take, get_or, min, length, ◌-◌, ◌^◌, nobody}
-use Rattle.std.specs.List.{sum_by}
+use Rattle.tc_desk.proofs.Names.{◌≡◌, take, get_or, min, length, ◌-◌, ◌^◌, nobody, sum_by}
 use Rattle.tc_desk.proofs.together.count_at.Given as goal
 
 abbrev pub invariant-loop-crew : goal.invariant-loop-crew

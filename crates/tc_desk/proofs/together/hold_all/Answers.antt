@@ -1,5 +1,4 @@
-use Rattle.tc_desk.proofs.Names.{All, subst, sym, arith, IsFresh}
-use Rattle.std.proofs.lemmas.List.Elements.{All-push}
+use Rattle.tc_desk.proofs.Names.{All, subst, sym, arith, IsFresh, All-push}
 use Rattle.tc_desk.proofs.Rows.{held_step}
 use Rattle.tc_desk.proofs.together.hold_all.Goals as goal
 

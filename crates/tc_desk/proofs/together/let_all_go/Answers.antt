@@ -1,5 +1,4 @@
-use Rattle.tc_desk.proofs.Names.{Some, arith, IsFresh}
-use Rattle.std.proofs.lemmas.List.Elements.{All-pop}
+use Rattle.tc_desk.proofs.Names.{Some, arith, IsFresh, All-pop}
 use Rattle.tc_desk.proofs.Rows.{let_go_step}
 use Rattle.tc_desk.proofs.together.let_all_go.Goals as goal
 

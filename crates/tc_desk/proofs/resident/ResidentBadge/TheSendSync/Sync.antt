@@ -1,7 +1,5 @@
 -- A `&` to it can't be read: all that such a `&` has is a part of what the badge owns, which may go to another thread.
-use denote.RattleType.{RattleType}
-use denote.Param.Send.{IsSync, part_keyless}
-use Rattle.tc_desk.specs.contracts.resident.ResidentBadge.{the_row}
+use Rattle.tc_desk.proofs.Names.{RattleType, IsSync, part_keyless, the_row}
 use Rattle.tc_desk.proofs.Sent.{resident_send}
 
 pub sync : (V : RattleType) → IsSync (the_row V)

@@ -1,8 +1,7 @@
 -- The badge comes out of the struct.
-use Rattle.atomic_table.proofs.Names.{◌≡◌, List, [], ◌∷◌, refl, a_type, Val, inst_fn, SProp, emp, ‵, raw, ◌⊛◌, ◌$◌, ◌∵◌, !, qed, by, move, keep, drop, split, fsplit, fsplit3, fjoin, fpick, use0, rewrite, stop, fld, of_opd, returns, enter, alloc_all, pass_all, free_all, look_at, get, get_in, sets, sub, whole, tables, no, RattleType, owns, types_at, plain, nothing, param, layouts, alive, Stays, stay_dropped, walk_of, fact, fact_i, Is, shows, peeks}
-use Rattle.atomic_table.proofs.Walks.{proved, leaves}
+use Rattle.tc_desk.proofs.Names.{a_type, Val, inst_fn, SProp, emp, ‵, raw, ◌⊛◌, ◌$◌, ◌∵◌, !, qed, by, move, keep, split, fsplit, fsplit3, fjoin, fpick, use0, rewrite, stop, fld, of_opd, returns, enter, alloc_all, pass_all, free_all, look_at, get, get_in, sets, sub, whole, tables, no, owns, types_at, plain, nothing, param, layouts, alive, Stays, stay_dropped, walk_of, fact, fact_i, Is, shows, peeks, proved, leaves, token_val}
+use Rattle.atomic_table.proofs.Names.{◌≡◌, List, [], ◌∷◌, refl, drop, RattleType}
 use Rattle.std.proofs.alloc.Calls.{Goes-blank}
-use Rattle.atomic_table.proofs.Fields.{token_val}
 use Rattle.atomic_table.specs.contracts.badge.Badge as badge
 use Rattle.tc_desk.specs.contracts.resident.ResidentBadge as resident
 use Rattle.tc_desk.proofs.Sent.{resident_val, resident_told, badge_told}
