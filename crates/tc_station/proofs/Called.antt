@@ -1,8 +1,5 @@
 -- What a call at one desk makes of the operator's list of desks.
-use Rattle.tc_station.proofs.Names.{◌≡◌, ℕ, ◌+◌, ◌<◌, List, [], ◌∷◌, length, map, get_or, set, Option, Some, Result, Ok, Err, refl, sym, ap, ◌∙◌, subst, arith, ◌==◌, position, slice_get, slice_index, eqb-true, map-map, get_or-map, length-map, length-append, position-Some, slice_get_read, TableId, Event, Settings, Moment, Own, AtLock, count_of, IsCall, made, heads_of, locks_of, settings_of_desks, vcids_of, AtStation, IsOurs, IsPlace, Roster, at_station, counts_of, tallied, tally, raised, raised_at, IsCallAt, IsCounted}
-use Rattle.std.specs.Prelude.{IsErrAnd, MatchResult, OnOk, OnErr}
-use Rattle.std.proofs.lemmas.List.{map-set, set-get_or}
-use Rattle.tc_desk.specs.Call.{looked}
+use Rattle.tc_station.proofs.Names.{◌≡◌, ℕ, ◌+◌, ◌<◌, List, [], ◌∷◌, length, map, get_or, set, Option, Some, Result, Ok, Err, refl, sym, ap, ◌∙◌, subst, arith, ◌==◌, position, slice_get, slice_index, eqb-true, map-map, get_or-map, length-map, length-append, position-Some, slice_get_read, TableId, Event, Settings, Moment, Own, AtLock, count_of, IsCall, made, heads_of, locks_of, settings_of_desks, vcids_of, AtStation, IsOurs, IsPlace, Roster, at_station, counts_of, tallied, tally, raised, raised_at, IsCallAt, IsCounted, IsErrAnd, MatchResult, OnOk, OnErr, map-set, set-get_or, looked}
 use Rattle.tc_station.proofs.Counts.{raised-is}
 
 -- a list of what is read of each desk, with one desk in another's place

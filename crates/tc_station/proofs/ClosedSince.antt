@@ -1,14 +1,9 @@
 -- A call at a desk is at its place of the journal that the station's close gives out.
-use Rattle.tc_station.proofs.Names.{◌≡◌, ◌<◌, ℕ, zero, suc, List, [], ◌∷◌, length, get_or, take, Ok, Some, refl, sym, ap, subst, ◌∙◌, arith, slice_get, get_or-set_same, length-append, length-set, take_at, get_or_from_slice_get, none-some, same_Some, slice_get-get_or, slice_get_within, Event, History, made, AtLock, Identity, Moment, Own, accounts_of, column, nobody, IsCallAt, IsMetAt, Roster, AtStation, crews_of, Watching}
+use Rattle.tc_station.proofs.Names.{◌≡◌, ◌<◌, ℕ, zero, suc, List, [], ◌∷◌, length, get_or, take, Ok, Some, refl, sym, ap, subst, ◌∙◌, arith, slice_get, get_or-set_same, length-append, length-set, take_at, get_or_from_slice_get, none-some, same_Some, slice_get-get_or, slice_get_within, Event, History, made, AtLock, Identity, Moment, Own, accounts_of, column, nobody, IsCallAt, IsMetAt, Roster, AtStation, crews_of, Watching, slice_index_or, slice_set, IsBeginning, clcw, Link, IsClosedSince, IsItsLast, IsWordRead, IsShownIn}
 use mathlib.Core.Option.{some}
 use lib.ListN.{get_elem?}
-use Rattle.std.specs.Prelude.{slice_index_or, slice_set}
-use Rattle.logged_lock.specs.Log.{IsBeginning}
 use Rattle.logged_lock.proofs.Steps.{beginning-trans, prefix-trans}
-use Rattle.tc_channel.specs.Reply.{clcw}
-use Rattle.tc_link.specs.declared.Link.{Link}
 use Rattle.tc_status.specs.Board as board
-use Rattle.tc_station.specs.Through.{IsClosedSince, IsItsLast, IsWordRead, IsShownIn}
 
 pub set-there : (desks : List AtLock) (place : ℕ) (d next : AtLock) → slice_get desks place ≡ Some d → slice_get (slice_set desks place next) place ≡ Some next
 set-there desks place d next at =

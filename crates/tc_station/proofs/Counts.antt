@@ -1,12 +1,8 @@
 -- What one job does to the count of a channel.
-use Rattle.tc_station.proofs.Names.{◌≡◌, ℕ, zero, suc, ◌+◌, ◌<◌, ◌≤◌, List, ◌∷◌, length, take, get_or, set, min, cond, Bool, true, false, Option, Some, None, refl, sym, ap, ◌∙◌, subst, arith, ◌==◌, slice_index, Contains, get_or-take, get_or-set_same, get_or-set_other, length-set, length-take, Roster, raised, raised_at, is_frame_for, raised_by}
-use Rattle.std.proofs.Common.{max, eq-eqb, ne_eqb}
-use Rattle.std.specs.Prelude.{◌&&◌, nat_lt, is_none}
-use Rattle.std.proofs.lemmas.Bool.{le-ltb}
-use Rattle.std.proofs.lemmas.Bool.Decides.{nat_tests}
+use Rattle.tc_station.proofs.Names.{◌≡◌, ℕ, zero, suc, ◌+◌, ◌<◌, ◌≤◌, List, ◌∷◌, length, take, get_or, set, min, cond, Bool, true, false, Option, Some, None, refl, sym, ap, ◌∙◌, subst, arith, ◌==◌, slice_index, Contains, get_or-take, get_or-set_same, get_or-set_other, length-set, length-take, Roster, raised, raised_at, is_frame_for, raised_by, max, ne_eqb, ◌&&◌, nat_lt, is_none, le-ltb, nat_tests, IsLocated, IsLocateFault}
+use Rattle.std.proofs.Common.{eq-eqb}
 use Rattle.tc_link.specs.declared.frame.FrameFault.{FrameFault}
 use Rattle.tc_link.specs.Frame.{BeginsWith, header_of, fault_of, version_of, spare_of, named_length}
-use Rattle.tc_station.specs.Location.{IsLocated, IsLocateFault}
 use Rattle.tc_link.specs.declared.location.LocateFault.{LocateFault}
 use Rattle.tc_link.specs.declared.location.LocateFault.TheVariants.{Frame, OtherSpacecraft, UnknownChannel}
 

@@ -1,7 +1,5 @@
 -- Settings looked at one after the other.
-use Rattle.tc_station.proofs.Names.{◌≡◌, ◌≢◌, ℕ, ◌+◌, ◌<◌, List, length, take, get_or, sym, ap, ◌∙◌, inl, inr, arith, get_or-take, get_or_default, length-take, Settings, IsAllowed}
-use Rattle.std.specs.Prelude.{Any}
-use Rattle.std.proofs.lemmas.Bool.{cases_eq}
+use Rattle.tc_station.proofs.Names.{◌≡◌, ◌≢◌, ℕ, ◌+◌, ◌<◌, List, length, take, get_or, sym, ap, ◌∙◌, inl, inr, arith, get_or-take, get_or_default, length-take, Settings, IsAllowed, Any, cases_eq}
 
 -- the first i entries have distinct ids
 abbrev pub DistinctBelow : List Settings → ℕ → Type 0

@@ -1,6 +1,5 @@
 -- What a call with meetings, and a meeting alone, make of the operator's list of desks and of the watcher.
-use Rattle.tc_station.proofs.Names.{◌≡◌, ◌<◌, ℕ, List, length, get_or, Option, None, Some, Err, sym, ap, ◌∙◌, arith, ◌==◌, position, slice_get, get_or-map, length-map, none-some, same_Some, slice_get-get_or, History, AtLock, AtStation, Identity, HasMet, HasSeenNoMore, IsCall, IsMeeting, IsOurs, KnowsDesks, heads_of, settings_of_desks, Roster, IsPlace, vcids_of, at_station, Watching}
-use Rattle.tc_channel.specs.declared.event.Event.TheVariants.{Release}
+use Rattle.tc_station.proofs.Names.{◌≡◌, ◌<◌, ℕ, List, length, get_or, Option, None, Some, Err, sym, ap, ◌∙◌, arith, ◌==◌, position, slice_get, get_or-map, length-map, none-some, same_Some, slice_get-get_or, History, AtLock, AtStation, Identity, HasMet, HasSeenNoMore, IsCall, IsMeeting, IsOurs, KnowsDesks, heads_of, settings_of_desks, Roster, IsPlace, vcids_of, at_station, Watching, Release}
 use Rattle.tc_station.specs.Moments.{IsWatcherOf}
 use Rattle.tc_station.proofs.Called.{id-of}
 

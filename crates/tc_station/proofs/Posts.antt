@@ -1,10 +1,5 @@
 -- The posts of a station, and the operators that are issued from them.
-use Rattle.tc_station.proofs.Names.{◌≡◌, ℕ, zero, suc, ◌+◌, ◌<◌, List, [], ◌∷◌, length, map, get_or, replicate, ◌≤◌, ◌-◌, take, drop, ◌++◌, refl, sym, ap, ◌∙◌, subst, arith, All, inl, inr, ◌==◌, position, slice_get, Some, get_or-map, length-map, length-take, take_at, All-map, All-weaker, get_or_from_slice_get, slice_get_read, slice_get_within, map-map, TableId, History, AtLock, Identity, accounts_of, with_one_issued, AreClosed, AreOurs, AreSame, HasCause, column, heads_of, locks_of, settings_of_desks, Roster, HaveIssued, IsDeskOf, vcids_of, AtStation, Tally, IsOurs, arrival, at_station, counts_of, fresh, issued_more, newcomer_at_desks, tallies, tally, IsCauseAtStation, crews_of}
-use Rattle.std.proofs.Common.{◌^◌, ⊎_elim}
-use Rattle.std.proofs.lemmas.List.{drop_more, get_or_at, map_more, map_push, replicate_more}
-use Rattle.std.proofs.lemmas.List.Elements.{All-push, All-replicate, All-same}
-use Rattle.tc_desk.specs.Together.{issued_of}
-use Rattle.logged_lock.specs.Log.{total_made}
+use Rattle.tc_station.proofs.Names.{◌≡◌, ℕ, zero, suc, ◌+◌, ◌<◌, List, [], ◌∷◌, length, map, get_or, replicate, ◌≤◌, ◌-◌, take, drop, ◌++◌, refl, sym, ap, ◌∙◌, subst, arith, All, inl, inr, ◌==◌, position, slice_get, Some, get_or-map, length-map, length-take, take_at, All-map, All-weaker, get_or_from_slice_get, slice_get_read, slice_get_within, map-map, TableId, History, AtLock, Identity, accounts_of, with_one_issued, AreClosed, AreOurs, AreSame, HasCause, column, heads_of, locks_of, settings_of_desks, Roster, HaveIssued, IsDeskOf, vcids_of, AtStation, Tally, IsOurs, arrival, at_station, counts_of, fresh, issued_more, newcomer_at_desks, tallies, tally, IsCauseAtStation, crews_of, ◌^◌, ⊎_elim, drop_more, get_or_at, map_more, map_push, replicate_more, All-push, All-replicate, All-same, issued_of, total_made}
 use Rattle.tc_station.proofs.Called.{at_posts, id-of}
 
 -- the settings are in the heads

@@ -1,16 +1,7 @@
 -- What the calls of a station promise is what the statement asks for: an answered call stands in the journal that the close gives out.
-use Rattle.tc_station.proofs.Names.{◌≡◌, ◌<◌, ℕ, Bool, List, [], length, get_or, take, Result, Ok, Err, Some, refl, sym, ap, subst, ◌∙◌, arith, length-map, slice_get, slice_get-get_or, slice_get_within, Event, History, Settings, Moment, TableId, AtLock, locks_of, Roster, AtStation, IsPlace, IsBringCall, IsReplied, IsNotBrought, IsOurs, inl, inr, IsCallAt, IsCallOn, IsMetAt, Watching}
-use Rattle.std.proofs.lemmas.List.{append-nil}
-use Rattle.std.specs.Prelude.{slice_set}
-use Rattle.tc_channel.specs.declared.event.Event.TheVariants.{Frame}
-use Rattle.tc_channel.specs.Reply.{frame_reply}
-use Rattle.tc_link.specs.declared.Link.{Link}
-use Rattle.tc_status.specs.Board.{no_history}
+use Rattle.tc_station.proofs.Names.{◌≡◌, ◌<◌, ℕ, Bool, List, [], length, get_or, take, Result, Ok, Err, Some, refl, sym, ap, subst, ◌∙◌, arith, length-map, slice_get, slice_get-get_or, slice_get_within, Event, History, Settings, Moment, TableId, AtLock, locks_of, Roster, AtStation, IsPlace, IsBringCall, IsReplied, IsNotBrought, IsOurs, inl, inr, IsCallAt, IsCallOn, IsMetAt, Watching, append-nil, slice_set, Frame, frame_reply, Link, no_history, IsLocated, IsClosedSince, HasGoneOn, IsGivenOut, IsAnsweredAmong, IsWordRead, IsShownIn, AreClosedTogether}
 use Rattle.tc_status.specs.Board as board
 use Rattle.tc_station.specs.declared.station.Brought.{Brought}
-use Rattle.tc_station.specs.Location.{IsLocated}
-use Rattle.tc_station.specs.Through.{IsClosedSince, HasGoneOn, IsGivenOut, IsAnsweredAmong, IsWordRead, IsShownIn}
-use Rattle.tc_station.specs.Together.{AreClosedTogether}
 use Rattle.tc_station.proofs.ClosedSince.{Stands, answered, set-there, shown}
 
 abbrev is-ok : {R F : Type 0} → Result R F → Type 0

@@ -1,16 +1,8 @@
 -- How the table of the places of virtual channel ids is filled, and what it then tells.
-use Rattle.tc_station.proofs.Names.{◌≡◌, ◌≢◌, ℕ, suc, ◌<◌, ◌≤◌, Bool, true, false, cond, List, [], ◌∷◌, length, get_or, replicate, Option, Some, None, refl, sym, ap, ◌∙◌, arith, ◌==◌, All, AllPairs, Contains, position, slice_index, eqb-true, get_or-map, length-map, position-Some, none-some, IsAllowed, Settings, vcids_of}
-use Rattle.std.proofs.Common.{true≢false, ltb, eqb}
-use Rattle.std.specs.Prelude.{MatchOption}
-use Rattle.std.specs.List.{list_any, position_or_len}
-use Rattle.std.proofs.lemmas.Bool.{eq-eqb, ltb-false, ltb-true}
-use Rattle.std.proofs.lemmas.Bool.Decides.{Decides-eqb}
-use Rattle.std.proofs.lemmas.List.{length-replicate}
+use Rattle.tc_station.proofs.Names.{◌≡◌, ◌≢◌, ℕ, suc, ◌<◌, ◌≤◌, Bool, true, false, cond, List, [], ◌∷◌, length, get_or, replicate, Option, Some, None, refl, sym, ap, ◌∙◌, arith, ◌==◌, All, AllPairs, Contains, position, slice_index, eqb-true, get_or-map, length-map, position-Some, none-some, IsAllowed, Settings, vcids_of, true≢false, ltb, eqb, MatchOption, list_any, position_or_len, eq-eqb, ltb-false, ltb-true, Decides-eqb, length-replicate, fails_before_first, passes_at_first, HaveDistinctVcids}
 use Rattle.std.proofs.lemmas.List.Folds.{Any-from_list_any}
-use Rattle.std.proofs.lemmas.List.Sums.{fails_before_first, passes_at_first}
 use Rattle.std.proofs.lemmas.Map.Made.{IsDistinct-from_AllPairs}
 use Rattle.std.proofs.lemmas.Map.Steps.{length-le_from_distinct_below}
-use Rattle.tc_station.specs.StationSettings.{HaveDistinctVcids}
 use Rattle.tc_station.specs.VcidTable.{IsVcidTable, place_told}
 
 -- the entries of the first ids, of so many, tell their places, and no other entry tells one

@@ -1,11 +1,5 @@
 -- Lists of jobs, and the counts of their operators.
-use Rattle.tc_station.proofs.Names.{◌≡◌, ℕ, zero, suc, ◌+◌, ◌<◌, List, [], ◌∷◌, ◌++◌, length, map, take, get_or, set, min, cond, Option, Some, None, refl, sym, ap, ◌∙◌, subst, inl, inr, arith, ◌==◌, All, position, slice_index, Contains, eqb-true, take_more, length-map, All-map, All-weaker, position-Some, Roster, IsPlace, Tally, AtStation, IsOurs, KnowsTheSame, tally, tallied, raised, IsListMade, IsTried, IsDone, AreDone, IsWorked, Shift, IsShift, IsTallyOf, AreWorked, lowest, brings_to, is_other, IsRaised, NoCountFalls, Job}
-use Rattle.std.specs.Prelude.{count_by}
-use Rattle.std.specs.List.{AllByRecursion}
-use Rattle.std.proofs.lemmas.Bool.Decides.{eqb_tells}
-use Rattle.std.proofs.lemmas.List.{map-append}
-use Rattle.std.proofs.lemmas.List.Elements.{All-from_recursion}
-use Rattle.std.proofs.lemmas.List.Sums.{sum_by-cons}
+use Rattle.tc_station.proofs.Names.{◌≡◌, ℕ, zero, suc, ◌+◌, ◌<◌, List, [], ◌∷◌, ◌++◌, length, map, take, get_or, set, min, cond, Option, Some, None, refl, sym, ap, ◌∙◌, subst, inl, inr, arith, ◌==◌, All, position, slice_index, Contains, eqb-true, take_more, length-map, All-map, All-weaker, position-Some, Roster, IsPlace, Tally, AtStation, IsOurs, KnowsTheSame, tally, tallied, raised, IsListMade, IsTried, IsDone, AreDone, IsWorked, Shift, IsShift, IsTallyOf, AreWorked, lowest, brings_to, is_other, IsRaised, NoCountFalls, Job, count_by, AllByRecursion, eqb_tells, map-append, All-from_recursion, sum_by-cons}
 use Rattle.tc_station.specs.Lowest.{lower}
 use Rattle.tc_station.specs.declared.work.Order.{Order}
 use Rattle.tc_station.specs.declared.work.Order.TheVariants.{Bring}

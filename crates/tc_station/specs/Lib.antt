@@ -3,7 +3,6 @@ pub mod Tally
 pub mod StationSettings
 pub mod Location
 pub mod Moments
-pub mod Holding
 pub mod Balance
 pub mod Faults
 pub mod Call

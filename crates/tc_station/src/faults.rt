@@ -8,15 +8,6 @@ use tc_channel::{Channel, FlightChannel, ReleaseFault, SettingsFault, TakeFault,
 use tc_link::LocateFault;
 use thiserror::Error;
 
-/// Why it isn't told what a channel has come to.
-#[derive(Clone, Copy, Debug, PartialEq, Eq, Error)]
-pub enum HoldingFault {
-    #[error("the station has no such virtual channel")]
-    UnknownChannel,
-    #[error("no memory")]
-    NoMemory,
-}
-
 /// Why settings make no station.
 #[derive(Clone, Copy, Debug, PartialEq, Eq, Error)]
 pub enum StationFault {

@@ -22,12 +22,11 @@ mod vcids;
 mod work;
 
 pub use faults::{
-    BringFault, CloseFault, FlightCloseFault, HoldingFault, OperatorsFault, ReleaseRefused,
-    StationFault, TakeRefused, TakeUnitRefused, WatcherFault, WorkFault,
+    BringFault, CloseFault, FlightCloseFault, OperatorsFault, ReleaseRefused, StationFault,
+    TakeRefused, TakeUnitRefused, WatcherFault, WorkFault,
 };
 pub use operator::Operator;
 pub use station::{Brought, FlightStation, Located, Station, StationOf, StillOpen};
-pub use tc_channel::{Holding, MapHolding, QueueHolding, holding_in};
 pub use tc_desk::Refusal;
 pub use tc_link::LocateFault;
 pub use tc_status::{Desk, DeskOf, FlightDesk};

@@ -17,10 +17,10 @@ ghost use Rattle.tc_station.specs.StationSettings.{vcids_of, HaveDistinctVcids, 
 
 use crate::closing::{are_in_balance, are_in_told_balance};
 use crate::faults::{
-    BringFault, CloseFault, FlightCloseFault, HoldingFault, OperatorsFault, ReleaseRefused,
-    StationFault, TakeRefused, TakeUnitRefused, WatcherFault,
+    BringFault, CloseFault, FlightCloseFault, OperatorsFault, ReleaseRefused, StationFault,
+    TakeRefused, TakeUnitRefused, WatcherFault,
 };
-use crate::guest::{Passing, Summing};
+use crate::guest::Passing;
 use crate::operator::{Operator, Room};
 use crate::vcids::Vcids;
 use crate::work::Gate;
@@ -28,8 +28,8 @@ use std::alloc::{AllocError, Global};
 use std::marker::Model;
 use std::sync::Wait;
 use tc_channel::{
-    Channel, ChannelWith, Delivery, Event, FlightChannel, FrameReply, Holding, Journal, Kept,
-    NoMemory, Settings, SettingsFault, Unkept, each_clcw_fits_its_word,
+    Channel, ChannelWith, Delivery, Event, FlightChannel, FrameReply, Journal, Kept, NoMemory,
+    Settings, SettingsFault, Unkept, each_clcw_fits_its_word,
 };
 use tc_desk::{
     Framing, LeftOpen, Operation, Post, Question, Refusal, Release, Taking, UnitTaking,
@@ -97,7 +97,6 @@ impl<J: Journal> StationOf<J> {
     ghost use Rattle.tc_station.specs.Location.{IsLocated, IsPlaced, IsLocateFault, IsBringFault};
     ghost use Rattle.tc_station.specs.Moments.{AtSomeMomentOf, IsBrought, IsBroughtWatched, IsReleasedAtStation, IsTakenAtStation, IsUnitTakenAtStation, IsWatched, IsWatcherOf};
     ghost use Rattle.tc_station.specs.Faults.{IsReleaseRefused, IsTakeRefused, IsTakeUnitRefused, IsWatcherFault};
-    ghost use Rattle.tc_station.specs.Holding.{IsHolding, IsHoldingOf, IsHoldingFault};
     ghost use Rattle.tc_station.specs.Together.{AreClosedTogether, IsNotClosedTogether, IsCauseAtStation};
     ghost use Rattle.tc_desk.specs.Log.{Moment};
     ghost use Rattle.tc_desk.specs.Call.{IsMoment};
@@ -287,21 +286,6 @@ impl<J: Journal> StationOf<J> {
         each_clcw_fits_its_word();
         the_flags_of_the_link_have_their_own_bits();
         watcher.read() + u32::from(link.no_rf) * (1 << 15) + u32::from(link.no_bit_lock) * (1 << 14)
-    }
-
-    /// What a channel has come to, read under its lock.
-    pub fn holding(&self, rt: &impl Wait, vcid: u8) -> Result<Holding, HoldingFault>
-        ensures answer { MatchResult result (IsHolding self.now vcid) (IsHoldingFault self.now vcid) }
-        ensures desk { IfOk result (IsHoldingOf self.now vcid) }
-    {
-        let Some(place) = self.vcids.place_of(vcid) else {
-            return Err(HoldingFault::UnknownChannel);
-        };
-        let alloc = self.alloc;
-        match self.ask(rt, place, vcid, &Summing { alloc }) {
-            Ok(holding) => Ok(holding),
-            Err(NoMemory) => Err(HoldingFault::NoMemory),
-        }
     }
 
     /// Brings the frame at the front of the octets to its channel, and makes a watcher that has seen the channel take it,

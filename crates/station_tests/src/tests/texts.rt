@@ -4,7 +4,7 @@ use super::*;
 use tc_channel::SettingsFault;
 use tc_link::FrameFault;
 use tc_station::{
-    BringFault, FlightCloseFault, FlightStation, HoldingFault, LocateFault, ReleaseRefused,
+    BringFault, FlightCloseFault, FlightStation, LocateFault, ReleaseRefused,
     StationFault, TakeRefused, TakeUnitRefused, WatcherFault, WorkFault,
 };
 
@@ -51,11 +51,6 @@ fn faults_of_operations_have_texts(rt: HostRuntime) {
         (WatcherFault::NoMemory, "no memory"),
     ];
     assert!(&rt; have_texts(alloc, watching.as_slice()));
-    let holding = [
-        (HoldingFault::UnknownChannel, UNKNOWN),
-        (HoldingFault::NoMemory, "no memory"),
-    ];
-    assert!(&rt; have_texts(alloc, holding.as_slice()));
     let releases = [
         (ReleaseRefused::UnknownChannel, UNKNOWN),
         (ReleaseRefused::Empty, "the buffer is empty"),

@@ -8,7 +8,7 @@ use super::asking::Crew;
 use super::*;
 use tc_channel::SettingsFault;
 use tc_link::read_frame;
-use tc_station::{Brought, Desk, HoldingFault, QueueHolding};
+use tc_station::{Brought, Desk};
 use tc_status::Watcher;
 use test_parts::BUFFERED;
 
@@ -33,27 +33,6 @@ fn each_watcher_reads_its_own_channel(rt: HostRuntime) {
     check_read(&rt, &crew, &mut second, 0x01080000);
     assert!(rt; crew.bring_watched(&rt, &NEXT) == Ok((BROUGHT, 0x01040002)));
     assert!(rt; (crew.operator.count(1), crew.operator.count(2)) == (Some(2), Some(0)));
-}
-
-// Channel 1 holds one data field, with V(R) 1, and channel 3 isn't there.
-fn check_holding(rt: &(impl Wait + Abort), station: &Station) {
-    let holding = station.holding(rt, 1).expect(rt, "a channel");
-    assert!(rt; (holding.report.vr, holding.buffered) == (1, 1));
-    let packets = QueueHolding {
-        apid: 5,
-        packets: 0,
-    };
-    assert!(rt; holding.queues.as_slice() == [packets].as_slice());
-    let unknown = station.holding(rt, 3);
-    assert_eq!(rt; unknown.err(), Some(HoldingFault::UnknownChannel));
-}
-
-#[test]
-fn a_station_tells_what_its_channel_holds(rt: HostRuntime) {
-    let station: Station = station_of_two(&rt, rt.alloc());
-    let mut crew = Crew::new(&rt, station, false);
-    assert!(rt; crew.bring(&rt, &FRAME) == Ok(BROUGHT));
-    check_holding(&rt, &crew.station);
 }
 
 // Brings octets, and then lets the watcher of channel 1 meet it, by the same operator. So a call leaves an operator with which a watcher

@@ -1,5 +1,4 @@
-use Rattle.tc_station.proofs.Names.{◌≡◌, ◌≤◌, ◌*◌, take}
-use Rattle.tc_station.specs.Balance.{counted_by_all}
+use Rattle.tc_station.proofs.Names.{◌≡◌, ◌≤◌, ◌*◌, take, counted_by_all}
 use Rattle.tc_station.proofs.closing.count_of_all.Given as goal
 
 abbrev pub invariant-loop-operator : goal.invariant-loop-operator

@@ -1,5 +1,4 @@
-use Rattle.tc_station.proofs.Names.{◌≡◌, ◌∙◌, ℕ, List, Some, vec_len, ap, subst, sym, rules, arith, settings_of_desks, IsRoomFor, vcids_of}
-use Rattle.std.proofs.lemmas.List.Elements.{All-pop}
+use Rattle.tc_station.proofs.Names.{◌≡◌, ◌∙◌, ℕ, List, Some, vec_len, ap, subst, sym, rules, arith, settings_of_desks, IsRoomFor, vcids_of, All-pop}
 use Rattle.tc_station.proofs.Posts.{issue-first, issue-step, settings-more}
 use Rattle.tc_station.proofs.station.issue.Goals as goal
 

@@ -1,7 +1,6 @@
-use Rattle.tc_station.proofs.Names.{◌≡◌, ◌≢◌, ◌≤◌, ◌∙◌, ap, sym, subst, arith, rules, All, AllPairs, common_steps, HaveIssued, vcids_of}
+use Rattle.tc_station.proofs.Names.{◌≡◌, ◌≢◌, ◌≤◌, ◌∙◌, ap, sym, subst, arith, rules, All, AllPairs, common_steps, HaveIssued, vcids_of, map-id}
 use Rattle.std.proofs.lemmas.Iterator.Adapters.{YieldsList-from_vec}
 use Rattle.std.proofs.lemmas.Iterator.Consumers.{YieldsList-end}
-use Rattle.std.proofs.lemmas.List.{map-id}
 use Rattle.tc_station.proofs.Posts.{have-end}
 use Rattle.tc_station.proofs.VcidTable.{distinct-ids, small-ids}
 use Rattle.tc_station.proofs.station.start.Goals as goal

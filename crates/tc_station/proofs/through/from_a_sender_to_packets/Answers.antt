@@ -1,7 +1,4 @@
-use Rattle.tc_station.proofs.Names.{◌≡◌, ◌≢◌, ℕ, [], take, Some, ap, subst, ◌∙◌, arith, slice_get_within, Settings, IsReleased, IsOldestPacket, IsOldestUnit, Moment, IsReplied, IsNotBrought, IsNotReleased, IsNotTaken, IsUnitNotTaken, no_limits}
-use Rattle.std.specs.Global.{Vec}
-use Rattle.tc_channel.specs.declared.event.Event.TheVariants.{Frame, Release, Take, TakeUnit}
-use Rattle.tc_channel.specs.Reply.{buffered_fields, frame_reply, release_reply, take_reply, unit_reply}
+use Rattle.tc_station.proofs.Names.{◌≡◌, ◌≢◌, ℕ, [], take, Some, ap, subst, ◌∙◌, arith, slice_get_within, Settings, IsReleased, IsOldestPacket, IsOldestUnit, Moment, IsReplied, IsNotBrought, IsNotReleased, IsNotTaken, IsUnitNotTaken, no_limits, Vec, Frame, Release, Take, TakeUnit, buffered_fields, frame_reply, release_reply, take_reply, unit_reply}
 use Rattle.tc_station.proofs.ClosedSince.{answered, post-there, shown}
 use Rattle.tc_station.proofs.through.from_a_sender_to_packets.Goals as goal
 

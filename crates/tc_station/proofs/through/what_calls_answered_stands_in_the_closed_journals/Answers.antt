@@ -1,8 +1,5 @@
-use Rattle.tc_station.proofs.Names.{◌≡◌, ◌≢◌, [], Some, Moment, IsReleased, IsOldestPacket, IsOldestUnit, IsNotReleased, IsNotTaken, IsUnitNotTaken}
-use Rattle.std.specs.Global.{Vec}
+use Rattle.tc_station.proofs.Names.{◌≡◌, ◌≢◌, [], Some, Moment, IsReleased, IsOldestPacket, IsOldestUnit, IsNotReleased, IsNotTaken, IsUnitNotTaken, Vec, Release, Take, TakeUnit, buffered_fields, release_reply, take_reply, unit_reply}
 use Rattle.std.specs.Prelude.{ℕ}
-use Rattle.tc_channel.specs.declared.event.Event.TheVariants.{Release, Take, TakeUnit}
-use Rattle.tc_channel.specs.Reply.{buffered_fields, release_reply, take_reply, unit_reply}
 use Rattle.tc_station.specs.declared.faults.ReleaseRefused.TheVariants as releases
 use Rattle.tc_station.specs.declared.faults.TakeRefused.TheVariants as takes
 use Rattle.tc_station.specs.declared.faults.TakeUnitRefused.TheVariants as units
