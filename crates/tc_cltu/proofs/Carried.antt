@@ -1,5 +1,5 @@
 -- Whole frames that a CLTU carries, and its fill behind them.
-use Rattle.std.proofs.Common.{◌≡◌, ℕ, zero, suc, ◌+◌, ◌<◌, ◌≤◌, true, List, [], ◌∷◌, ◌++◌, None, length, length-append, take, refl, ap, sym, ◌∙◌, inr, arith}
+use Rattle.std.proofs.Common.{◌≡◌, ℕ, zero, suc, ◌<◌, ◌≤◌, true, List, [], ◌∷◌, ◌++◌, None, length, length-append, take, refl, ap, ◌∙◌, inr, arith}
 use Rattle.std.specs.Prelude.{IsSome}
 use Rattle.std.specs.List.{concat, AllByRecursion}
 use Rattle.tc_link.specs.Frame.{IsOctets, IsWhole, fault_of}
@@ -7,7 +7,7 @@ use Rattle.tc_link.proofs.Frames.{octets-append}
 use Rattle.tc_fecf.specs.Candidate.{AreDelimited, is_fill}
 use Rattle.tc_cltu.proofs.Names.{Mode, nat_tests}
 use Rattle.tc_cltu.proofs.Decoding.{cltu-given, filled-front, filled-fits}
-use Rattle.tc_cltu.specs.Cltu.{cltu, fill, filled, cltu_fault_of}
+use Rattle.tc_cltu.specs.Cltu.{cltu, fill, cltu_fault_of}
 use Rattle.tc_cltu.specs.Reception.{Searching, frames_of}
 
 octets-none : IsOctets []

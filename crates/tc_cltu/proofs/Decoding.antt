@@ -1,9 +1,9 @@
 -- What the receiving end gives.
-use Rattle.std.proofs.Common.{◌≡◌, ℕ, zero, suc, ◌+◌, ◌*◌, ◌/◌, ◌<◌, ◌≤◌, Bool, true, false, List, [], ◌∷◌, ◌++◌, Option, Some, None, bit_xor, length, length-append, append_assoc, add_assoc, get_or, take, set, drop, nat_lt, if◌then◌else◌, subst, refl, ap, sym, ◌∙◌, arith, inl, inr}
+use Rattle.std.proofs.Common.{◌≡◌, ℕ, zero, suc, ◌+◌, ◌-◌, ◌*◌, ◌/◌, ◌<◌, ◌≤◌, Bool, true, false, List, [], ◌∷◌, ◌++◌, Option, Some, None, bit_xor, length, length-append, append_assoc, add_assoc, take, set, drop, nat_lt, if◌then◌else◌, subst, refl, ap, sym, ◌∙◌, arith, inl, inr}
 use Rattle.tc_cltu.proofs.Names.{Correct, Detect, IsInformation, IsOctets, Mode, block_times_x, cases_lt, code_block, decoded, flipped, le-ltb, lt-ltb, nat_tests, octet_bits, parity_of, xor_self}
-use Rattle.std.proofs.lemmas.List.{append-nil, at_drop_more, append_cancel_right, drop_all, length-take-le, take_more, take-append-drop}
+use Rattle.std.proofs.lemmas.List.{append-nil, drop-drop, drop-take, length-drop, length-take-le, take-append-drop, take-take}
 use Rattle.tc_cltu.specs.Cltu.{cltu, start_sequence, tail_sequence, code_blocks, fill, filled, cltu_fault_of}
-use Rattle.tc_cltu.specs.Reception.{Receiver, Reception, Searching, Decoding, Step, is_start, reception_step, after_block, fate_in, fate_of, fate_after, corrections_of, rejections_of, overruns_of, counted_in, state_after, frames_of, HasNoStart, IsSearching, IsReception, idle}
+use Rattle.tc_cltu.specs.Reception.{IsTaken, StopsShort, Receiver, Reception, Searching, Decoding, Step, is_start, reception_step, after_block, fate_of, fate_after, corrections_of, rejections_of, overruns_of, counted_in, state_after, frames_of, HasNoStart, IsSearching, IsReception, idle}
 use Rattle.tc_cltu.specs.declared.block.Fate.{Fate}
 use Rattle.tc_cltu.specs.declared.block.Fate.TheVariants.{Right, Corrected, Tail, Rejected, Overlong}
 use Rattle.tc_link.proofs.Frames.{octets-append}
@@ -372,23 +372,6 @@ last-fate mode room octet last count frame block decoding value f on more less l
     subst (λ (v : Receiver). Some f ≡ fate_of v.mode room v.state octet) view
     (sym (ap (λ (x : Reception). fate_of mode room x octet) state ∙ ap (λ (t : Bool). if t then None else Some (fate_after mode room frame (take 7 block ++ octet ∷ []))) whole ∙ ap Some (sym is)))
 
--- ---- a loop over octets: one is taken
-pub fed-state : (mode was : Mode) (room i : ℕ) (os : List ℕ) (state next target : Reception) → i < length os → mode ≡ was
-    → next ≡ (reception_step mode room state (get_or os i 0)).0 → state_after was room state (drop i os) ≡ target → state_after was room next (drop (i + 1) os) ≡ target
-fed-state mode was room i os state next target less same_mode is h =
-    ap (λ (s : Reception). state_after was room s (drop (i + 1) os)) (is ∙ ap (λ (m : Mode). (reception_step m room state (get_or os i 0)).0) same_mode)
-    ∙ sym (at_drop_more (state_after was room state) os i 0 less) ∙ h
-
-pub fed-frames : (mode was : Mode) (room i : ℕ) (os : List ℕ) (state next : Reception) (out more target : List (List ℕ)) → i < length os → mode ≡ was
-    → next ≡ (reception_step mode room state (get_or os i 0)).0 → more ≡ out ++ (reception_step mode room state (get_or os i 0)).1
-    → out ++ frames_of was room state (drop i os) ≡ target → more ++ frames_of was room next (drop (i + 1) os) ≡ target
-fed-frames mode was room i os state next out more target less same_mode is given h =
-    let o = get_or os i 0 in
-    ap (λ (x : List (List ℕ)). x ++ frames_of was room next (drop (i + 1) os)) (given ∙ ap (λ (m : Mode). out ++ (reception_step m room state o).1) same_mode)
-    ∙ ap (λ (s : Reception). out ++ (reception_step was room state o).1 ++ frames_of was room s (drop (i + 1) os)) (is ∙ ap (λ (m : Mode). (reception_step m room state o).0) same_mode)
-    ∙ append_assoc out (reception_step was room state o).1 (frames_of was room (reception_step was room state o).0 (drop (i + 1) os))
-    ∙ sym (at_drop_more (λ (x : List ℕ). out ++ frames_of was room state x) os i 0 less) ∙ h
-
 -- one code block is counted once at most
 pub one-counted : (fate : Option Fate) → (corrections_of fate ≤ 1) × (rejections_of fate ≤ 1) × (overruns_of fate ≤ 1)
 one-counted None = (omega arith, omega arith, omega arith)
@@ -398,68 +381,63 @@ one-counted (Some Tail) = (omega arith, omega arith, omega arith)
 one-counted (Some Rejected) = (omega arith, omega arith, omega arith)
 one-counted (Some Overlong) = (omega arith, omega arith, omega arith)
 
--- one code block more is counted
-pub fed-counted : (count : Option Fate → ℕ) (mode was : Mode) (room i : ℕ) (os : List ℕ) (state next : Reception) (n k target : ℕ) → i < length os → mode ≡ was
-    → next ≡ (reception_step mode room state (get_or os i 0)).0 → k ≡ count (fate_of mode room state (get_or os i 0))
-    → n + counted_in count was room state (drop i os) ≡ target → n + k + counted_in count was room next (drop (i + 1) os) ≡ target
-fed-counted count mode was room i os state next n k target less same is now h =
-    let o = get_or os i 0 in
-    let rest = drop (i + 1) os in
-    ap (λ (x : ℕ). n + x + counted_in count was room next rest) (now ∙ ap (λ (m : Mode). count (fate_of m room state o)) same)
-    ∙ ap (λ (s : Reception). n + count (fate_of was room state o) + counted_in count was room s rest) (is ∙ ap (λ (m : Mode). (reception_step m room state o).0) same)
-    ∙ add_assoc n (count (fate_of was room state o)) (counted_in count was room (reception_step was room state o).0 rest)
-    ∙ sym (at_drop_more (λ (x : List ℕ). n + counted_in count was room state x) os i 0 less) ∙ h
+-- ---- the front of a piece: a code block, and an octet
+pub taken_block : (room : ℕ) (before after : Receiver) (os rest block : List ℕ) (given : List (List ℕ)) → block ≡ take 8 os → rest ≡ drop 8 os → length rest + 8 ≡ length os
+    → after.state ≡ state_after before.mode room before.state block → given ≡ frames_of before.mode room before.state block → IsTaken room before after os rest given
+taken_block room before after os rest block given is left long state frames = record {
+  count = 8;
+  within = omega (arith, long);
+  left = left;
+  state = state ∙ ap (state_after before.mode room before.state) is;
+  frames = ap (frames_of before.mode room before.state) (sym is) ∙ sym frames;
+}
 
-pub fed-all-counted : (count : Option Fate → ℕ) (was : Mode) (room i : ℕ) (os : List ℕ) (state : Reception) (n target : ℕ) → length os ≤ i
-    → n + counted_in count was room state (drop i os) ≡ target → n ≡ target
-fed-all-counted count was room i os state n target past h =
-    let none : counted_in count was room state (drop i os) ≡ 0 = ap (counted_in count was room state) (drop_all i os past) in
-    omega (arith, none, h)
+pub taken_octet : (room : ℕ) (before after : Receiver) (os rest : List ℕ) (o : ℕ) (given : List (List ℕ)) → os ≡ o ∷ rest
+    → after.state ≡ (reception_step before.mode room before.state o).0 → given ≡ (reception_step before.mode room before.state o).1 → IsTaken room before after os rest given
+taken_octet room before after os rest o given whole state frames = record {
+  count = 1;
+  within = let long = ap length whole in omega (arith, long);
+  left = sym (ap (drop 1) whole);
+  state = state ∙ sym (ap (λ (x : List ℕ). state_after before.mode room before.state (take 1 x)) whole);
+  frames = ap (λ (x : List ℕ). frames_of before.mode room before.state (take 1 x)) whole ∙ append-nil (reception_step before.mode room before.state o).1 ∙ sym frames;
+}
 
-pub fed-all-state : (was : Mode) (room i : ℕ) (os : List ℕ) (state target : Reception) → length os ≤ i → state_after was room state (drop i os) ≡ target → state ≡ target
-fed-all-state was room i os state target past h = sym (ap (state_after was room state) (drop_all i os past)) ∙ h
+pub take-both : (i n : ℕ) (os : List ℕ) → take (i + n) os ≡ take i os ++ take n (drop i os)
+take-both i n os = sym (take-append-drop i (take (i + n) os)) ∙ rw (take-take i (i + n) os (omega arith), drop-take i n os) refl
 
-pub fed-all-frames : (was : Mode) (room i : ℕ) (os : List ℕ) (state : Reception) (out target : List (List ℕ)) → length os ≤ i
-    → out ++ frames_of was room state (drop i os) ≡ target → out ≡ target
-fed-all-frames was room i os state out target past h =
-    sym (append-nil out) ∙ sym (ap (λ (x : List ℕ). out ++ frames_of was room state x) (drop_all i os past)) ∙ h
+-- the front of what is left
+pub taken-more : (room : ℕ) (first before after : Receiver) (os left rest : List ℕ) (given more : List (List ℕ)) → before.mode ≡ first.mode
+    → IsTaken room first before os left given → IsTaken room before after left rest more → IsTaken room first after os rest (given ++ more)
+taken-more room first before after os left rest given more mode t u =
+    let i = t.count in let k = u.count in
+    let within = t.within in let fits = u.within in let long : length left ≡ length os - i = ap length t.left ∙ length-drop i os in
+    let front : take k left ≡ take k (drop i os) = ap (take k) t.left in
+    record {
+      count = i + k;
+      within = omega (arith, within, fits, long);
+      left = u.left ∙ ap (drop k) t.left ∙ drop-drop k i os;
+      state = u.state ∙ ap (λ (m : Mode). state_after m room before.state (take k left)) mode
+          ∙ ap (λ (s : Reception). state_after first.mode room s (take k left)) t.state
+          ∙ ap (state_after first.mode room (state_after first.mode room first.state (take i os))) front
+          ∙ sym (ap (state_after first.mode room first.state) (take-both i k os) ∙ state-append first.mode room (take i os) (take k (drop i os)) first.state);
+      frames = ap (frames_of first.mode room first.state) (take-both i k os) ∙ frames-append first.mode room (take i os) (take k (drop i os)) first.state
+          ∙ ap (λ (x : List (List ℕ)). x ++ frames_of first.mode room (state_after first.mode room first.state (take i os)) (take k (drop i os))) t.frames
+          ∙ ap (λ (x : List (List ℕ)). given ++ x) (sym (ap (frames_of first.mode room (state_after first.mode room first.state (take i os))) front)
+          ∙ sym (ap (λ (s : Reception). frames_of first.mode room s (take k left)) t.state)
+          ∙ sym (ap (λ (m : Mode). frames_of m room before.state (take k left)) mode) ∙ u.frames);
+    }
 
--- ---- what was taken so far
-pub fed-front : (mode was : Mode) (room i : ℕ) (os : List ℕ) (first state next : Reception) → i < length os → mode ≡ was
-    → next ≡ (reception_step mode room state (get_or os i 0)).0 → state ≡ state_after was room first (take i os) → next ≡ state_after was room first (take (i + 1) os)
-fed-front mode was room i os first state next less same_mode is at =
-    let o = get_or os i 0 in
-    is ∙ ap (λ (m : Mode). (reception_step m room state o).0) same_mode ∙ ap (λ (s : Reception). (reception_step was room s o).0) at
-    ∙ sym (state-append was room (take i os) (o ∷ []) first) ∙ sym (ap (state_after was room first) (take_more os i 0 less))
+-- nothing yet
+pub taken-none : (room : ℕ) (first : Receiver) (os : List ℕ) → IsTaken room first first os os []
+taken-none room first os = record { count = 0; within = omega arith; left = refl; state = refl; frames = refl }
 
--- and given
-pub fed-given : (was : Mode) (room i : ℕ) (os : List ℕ) (first state : Reception) (before out : List (List ℕ)) → state ≡ state_after was room first (take i os)
-    → out ++ frames_of was room state (drop i os) ≡ before ++ frames_of was room first os → out ≡ before ++ frames_of was room first (take i os)
-fed-given was room i os first state before out at h =
-    let more = frames_of was room state (drop i os) in
-    let whole : frames_of was room first os ≡ frames_of was room first (take i os) ++ more =
-    sym (ap (frames_of was room first) (take-append-drop i os)) ∙ frames-append was room (take i os) (drop i os) first
-    ∙ ap (λ (s : Reception). frames_of was room first (take i os) ++ frames_of was room s (drop i os)) (sym at) in
-    append_cancel_right out (before ++ frames_of was room first (take i os)) more
-    (h ∙ ap (λ (x : List (List ℕ)). before ++ x) whole ∙ sym (append_assoc before (frames_of was room first (take i os)) more))
+-- all
+pub taken-all : (room : ℕ) (first after : Receiver) (os rest : List ℕ) (given : List (List ℕ)) → rest ≡ [] → IsTaken room first after os rest given
+    → (after.state ≡ state_after first.mode room first.state os) × (frames_of first.mode room first.state os ≡ given)
+taken-all room first after os rest given none t =
+    let whole : take t.count os ≡ os = sym (append-nil (take t.count os)) ∙ ap (λ (x : List ℕ). take t.count os ++ x) (sym none ∙ t.left) ∙ take-append-drop t.count os in
+    (t.state ∙ ap (state_after first.mode room first.state) whole, sym (ap (frames_of first.mode room first.state) whole) ∙ t.frames)
 
--- one octet more: the candidate frame that it ends
-pub fed-more : (mode was : Mode) (room i : ℕ) (os : List ℕ) (first state : Reception) (more : List (List ℕ)) → i < length os → mode ≡ was
-    → state ≡ state_after was room first (take i os) → (reception_step mode room state (get_or os i 0)).1 ≡ more
-    → frames_of was room first (take (i + 1) os) ≡ frames_of was room first (take i os) ++ more
-fed-more mode was room i os first state more less same_mode at h =
-    let o = get_or os i 0 in
-    ap (frames_of was room first) (take_more os i 0 less) ∙ frames-append was room (take i os) (o ∷ []) first
-    ∙ ap (λ (x : List (List ℕ)). frames_of was room first (take i os) ++ x)
-    (append-nil (reception_step was room (state_after was room first (take i os)) o).1 ∙ sym (ap (λ (s : Reception). (reception_step was room s o).1) at)
-    ∙ sym (ap (λ (m : Mode). (reception_step m room state o).1) same_mode) ∙ h)
-
--- and what becomes of its code block
-pub fed-more-counted : (count : Option Fate → ℕ) (mode : Mode) (room i : ℕ) (os : List ℕ) (first state : Reception) (n k : ℕ) → i < length os
-    → state ≡ state_after mode room first (take i os) → k ≡ count (fate_of mode room state (get_or os i 0))
-    → n ≡ counted_in count mode room first (take i os) → n + k ≡ counted_in count mode room first (take (i + 1) os)
-fed-more-counted count mode room i os first state n k less at now h =
-    let o = get_or os i 0 in
-    let all = ap (counted_in count mode room first) (take_more os i 0 less) ∙ counted-append count mode room (take i os) (o ∷ []) first in
-    let one : k ≡ count (fate_of mode room (state_after mode room first (take i os)) o) = now ∙ ap (λ (s : Reception). count (fate_of mode room s o)) at in
-    omega (arith, all, one, h)
+pub taken-short : (room : ℕ) (first after : Receiver) (os rest : List ℕ) (given : List (List ℕ)) → IsTaken room first after os rest (given ++ after.held ∷ [])
+    → StopsShort room first after os given
+taken-short room first after os rest given t = record { count = t.count; within = t.within; state = t.state; frames = t.frames }

@@ -1,5 +1,5 @@
 -- The receiving end (CCSDS 231.0-B): it searches for a start sequence, and then decodes code blocks until it rejects one.
-use Rattle.std.specs.Prelude.{◌≡◌, ℕ, zero, suc, ◌+◌, ◌<◌, ◌≤◌, Bool, true, false, List, [], ◌∷◌, ◌++◌, length, take, Option, Some, None, is_some, nat_eq, nat_lt, if◌then◌else◌}
+use Rattle.std.specs.Prelude.{◌≡◌, ℕ, zero, suc, ◌+◌, ◌<◌, ◌≤◌, Bool, true, false, List, [], ◌∷◌, ◌++◌, length, take, drop, Option, Some, None, is_some, nat_eq, nat_lt, if◌then◌else◌}
 use Rattle.std.specs.Cmp.Lexicographic.{pointwise}
 use Rattle.tc_fecf.specs.Checksum.{bits_of}
 use Rattle.tc_fecf.specs.Changes.{differences}
@@ -108,6 +108,14 @@ pub record Receiver : Type 0 where
   pub mode : Mode
   pub state : Reception
   pub held : List ℕ
+
+-- the front of these octets was taken, which gave these candidate frames; this is left
+pub record IsTaken (room : ℕ) (before after : Receiver) (octets rest : List ℕ) (given : List (List ℕ)) : Type 0 where
+  pub count : ℕ
+  pub within : count ≤ length octets
+  pub left : rest ≡ drop count octets
+  pub state : after.state ≡ state_after before.mode room before.state (take count octets)
+  pub frames : frames_of before.mode room before.state (take count octets) ≡ given
 
 -- memory ran out at the end of a candidate frame: the octets up to there were taken, all candidates before it were given, and it is held
 pub record StopsShort (room : ℕ) (before after : Receiver) (octets : List ℕ) (given : List (List ℕ)) : Type 0 where

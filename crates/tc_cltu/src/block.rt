@@ -42,6 +42,7 @@ pub struct Judged {
 }
 
 // The seven parity bits over seven octets.
+#[inline(always)]
 pub(crate) fn parity(octets: &[u8]) -> u8
     requires { length octets.now ≡ 7 }
     ensures bits { result ≡ parity_of octets.now }
@@ -80,6 +81,7 @@ pub fn decode_block(block: [u8; 8], mode: Mode) -> Option<[u8; 7]>
 }
 
 /// What becomes of a code block, which is seven octets and one more, and the seven octets that it carries where it is taken.
+#[inline(always)]
 #[tactic(auto, using(crate::proofs::Taking::eight_list))]
 pub fn judge(block: [u8; 8], mode: Mode) -> Judged
     ensures fate { result.fate ≡ fate_in mode block }
@@ -87,7 +89,7 @@ pub fn judge(block: [u8; 8], mode: Mode) -> Judged
     ensures parts { (own : List ℕ) × (last : ℕ) × IsInformation own × (block ≡ own ++ last ∷ []) }
 {
     let [a, b, c, d, e, f, g, last] = block;
-    let mut information = [a, b, c, d, e, f, g];
+    let information = [a, b, c, d, e, f, g];
     match place_of_error(&information, last, mode) {
         None => Judged {
             fate: rejection(block),
@@ -97,13 +99,10 @@ pub fn judge(block: [u8; 8], mode: Mode) -> Judged
             fate: Fate::Right,
             information: Some(information),
         },
-        Some(place) => {
-            turn(&mut information, place);
-            Judged {
-                fate: Fate::Corrected,
-                information: Some(information),
-            }
-        }
+        Some(place) => Judged {
+            fate: Fate::Corrected,
+            information: Some(turned(information, place)),
+        },
     }
 }
 
@@ -119,6 +118,7 @@ fn rejection(block: [u8; 8]) -> Fate
 }
 
 // Which bit of the seven octets and the last one of a block is to be turned: one past the 63 where none is.
+#[inline(always)]
 #[tactic(auto, using(crate::proofs::Taking::right_by, crate::proofs::Taking::wrong_by))]
 fn place_of_error(own: &[u8], last: u8, mode: Mode) -> Option<u8>
     requires { length own.now ≡ 7 }
@@ -140,15 +140,16 @@ fn place_of_error(own: &[u8], last: u8, mode: Mode) -> Option<u8>
     }
 }
 
-// One bit the other way round, if it is there.
-fn turn(octets: &mut [u8], place: u8)
-    ensures { octets.new ≡ flipped octets.old place }
+// Seven octets with one bit the other way round, if it is there.
+fn turned(information: [u8; 7], place: u8) -> [u8; 7]
+    ensures { result ≡ flipped information place }
 {
+    let mut octets = information;
     let at = usize::from(place / 8);
-    if at >= octets.len() {
-        return;
+    if at < octets.len() {
+        octets[at] ^= 0x80 >> (place % 8);
     }
-    octets[at] ^= 0x80 >> (place % 8);
+    octets
 }
 
 /// How many code blocks were corrected, how many rejected that aren't the tail sequence, and how many CLTUs carried too much.

@@ -1,9 +1,9 @@
 //! The receiving end.
 
-ghost use Rattle.std.specs.Prelude.{◌≡◌, ◌≢◌, ◌++◌, ◌∷◌, [], List, ℕ, map, length, Option, Some, None, ◌+◌, ◌<◌, IfSome, IfNone, IfOk, OnOk, OnErr, if◌then◌else◌};
+ghost use Rattle.std.specs.Prelude.{◌≡◌, ◌≢◌, ◌++◌, ◌∷◌, [], List, ℕ, true, map, length, Option, Some, None, ◌+◌, ◌<◌, IfSome, IfNone, IfOk, OnOk, OnErr, if◌then◌else◌};
 ghost use Rattle.tc_cltu.specs.Cltu.{most_octets};
 ghost use Rattle.tc_cltu.specs.CodeBlock.{decoded};
-ghost use Rattle.tc_cltu.specs.Reception.{Receiver, Searching, Decoding, StopsShort, start_errors, is_start, reception_step, after_block, state_after, frames_of, counted_in, fate_of, fate_after, is_decoding};
+ghost use Rattle.tc_cltu.specs.Reception.{Receiver, Searching, Decoding, IsTaken, StopsShort, start_errors, is_start, reception_step, after_block, state_after, frames_of, counted_in, fate_of, fate_after, is_decoding};
 ghost use Rattle.tc_cltu.specs.declared.block.Fate.{Fate};
 
 use crate::block::{Fate, Judged, Mode, judge};
@@ -102,6 +102,7 @@ impl Decoder {
     }
 
     /// Takes the next eight octets of the stream at once, where a code block begins with them, and else none. It asks for no memory.
+    #[inline(always)]
     pub fn feed_block(&mut self, block: [u8; 8]) -> Option<Fed>
         ensures mode { self.new.mode ≡ self.old.mode }
         ensures begins { IfSome result (λ fed. self.old.state ≡ Decoding self.old.held []) }
@@ -118,9 +119,12 @@ impl Decoder {
 
     /// Takes the first octets of a piece of the stream: a whole code block, where one begins with them, and else one octet. It gives
     /// what these came to, and the rest of the piece; none where the piece is empty. It asks for no memory.
+    #[inline(always)]
+    #[tactic(auto, using(crate::proofs::Decoding::taken_block, crate::proofs::Decoding::taken_octet))]
     pub fn feed_front<'a>(&mut self, piece: &'a [u8]) -> Option<(Fed, &'a [u8])>
         ensures mode { self.new.mode ≡ self.old.mode }
         ensures less { IfSome result (λ p. length p.1.now < length piece.now) }
+        ensures front { IfSome result (λ p. IsTaken most_octets self.old self.new piece.now p.1.now (if p.0.ended then self.new.held ∷ [] else [])) }
         ensures state { IfSome result (λ p. state_after self.old.mode most_octets self.new.state p.1.now ≡ state_after self.old.mode most_octets self.old.state piece.now) }
         ensures given { IfSome result (λ p. (if p.0.ended then self.new.held ∷ [] else []) ++ frames_of self.old.mode most_octets self.new.state p.1.now
             ≡ frames_of self.old.mode most_octets self.old.state piece.now) }
@@ -138,6 +142,7 @@ impl Decoder {
     }
 
     // After the last octet of a code block.
+    #[inline(always)]
     fn end_block(&mut self, block: [u8; 8]) -> Fed
         requires { self.old.state ≡ Decoding self.old.held [] }
         ensures mode { self.new.mode ≡ self.old.mode }
@@ -208,27 +213,22 @@ impl Decoder {
         ensures frames { OnOk result (map (λ frame. frame.items) frames.new.items
             ≡ map (λ frame. frame.items) frames.old.items ++ frames_of self.old.mode most_octets self.old.state piece.now) }
     {
-        for octet in piece {
-            self.keep(alloc, frames, *octet)?;
+        let mut rest = piece;
+        while let Some((fed, others)) = self.feed_front(rest) {
+            rest = others;
+            self.keep(alloc, frames, fed.ended)?;
         }
         Ok(())
     }
 
-    // Takes an octet, and adds the candidate frame that it ends.
-    fn keep(
-        &mut self,
-        alloc: Global,
-        frames: &mut Vec<Vec<u8>>,
-        octet: u8,
-    ) -> Result<(), AllocError>
-        ensures mode { self.new.mode ≡ self.old.mode }
-        ensures state { self.new.state ≡ (reception_step self.old.mode most_octets self.old.state octet).0 }
+    // Adds a copy of the candidate frame that the last octets ended, if they ended one.
+    fn keep(&self, alloc: Global, frames: &mut Vec<Vec<u8>>, ended: bool) -> Result<(), AllocError>
         ensures unchanged { OnErr result (map (λ frame. frame.items) frames.new.items ≡ map (λ frame. frame.items) frames.old.items) }
-        ensures held { OnErr result ((reception_step self.old.mode most_octets self.old.state octet).1 ≡ self.new.held ∷ []) }
+        ensures ended { OnErr result (ended ≡ true) }
         ensures frames { OnOk result (map (λ frame. frame.items) frames.new.items
-            ≡ map (λ frame. frame.items) frames.old.items ++ (reception_step self.old.mode most_octets self.old.state octet).1) }
+            ≡ map (λ frame. frame.items) frames.old.items ++ (if ended then self.now.held ∷ [] else [])) }
     {
-        if !self.feed_octet(octet).ended {
+        if !ended {
             return Ok(());
         }
         let frame = Vec::from_slice(alloc, self.held())?;
