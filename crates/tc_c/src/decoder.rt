@@ -187,6 +187,7 @@ struct Taken {
 }
 
 // After the first octets, and how many these are: eight, where a code block begins with them and all of it is there, and else one.
+#[inline(always)]
 fn take_front(mode: Mode, decoder: DecoderRecord, octets: &[u8], frame: &mut [u8]) -> (Taken, usize)
     requires some { 0 < length octets.now }
     requires count { decoder.count < 8 }
@@ -291,6 +292,7 @@ fn search(mode: Mode, decoder: DecoderRecord, octet: u8) -> DecoderRecord
 }
 
 // After the last octet of a code block.
+#[inline(always)]
 fn end_block(mode: Mode, decoder: DecoderRecord, block: [u8; 8], frame: &mut [u8]) -> Taken
     requires decoding { decoder.decoding ≡ 1 }
     requires held { decoder.held ≤ most_octets }
