@@ -1,4 +1,4 @@
-//! Tests of the lock that remembers, over a book of numbers that several threads write.
+//! Tests of the lock that remembers, over a book of numbers that several threads write, and of desks behind it.
 #![tactic(auto)]
 
 mod book;

@@ -8,7 +8,6 @@ use super::together::{closed, list_of_two};
 use super::*;
 use std::sync::Wait;
 use std::thread::{Threads, join_mut};
-use tc_channel::Channel;
 use tc_desk::DeskOperator;
 
 // How many frames each of them brings.
@@ -83,12 +82,7 @@ fn check_frames(rt: &impl Abort, journal: &[Event], who: u8) {
 }
 
 // Closes the desk with both operators.
-fn close_both(
-    rt: &(impl Abort + Print),
-    alloc: Global,
-    manned: Manned,
-    other: DeskOperator,
-) -> Channel
+fn close_both(rt: &impl Abort, alloc: Global, manned: Manned, other: DeskOperator) -> Channel
     requires { other.lock ≡ manned.post.lock }
 {
     let Manned { post, operator } = manned;

@@ -1,5 +1,5 @@
 use Rattle.std.proofs.Common.{◌≡◌}
-use Rattle.desk_tests.proofs.tests.threads.bring_all.Given as goal
+use Rattle.lock_tests.proofs.tests.desk.threads.bring_all.Given as goal
 
 abbrev pub invariant-loop-turn : goal.invariant-loop-turn
 invariant-loop-turn g l = l.operator.lock ≡ l.desk.id

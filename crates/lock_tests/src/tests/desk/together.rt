@@ -5,9 +5,9 @@ ghost use Rattle.tc_desk.specs.Together.{AreOurs};
 
 use super::*;
 use std::sync::Wait;
-use tc_channel::{Channel, Kept, SettingsFault};
+use tc_channel::Kept;
 use tc_desk::{
-    DeskOperator, Framing, Post, Refusal, Release, UnitTaking, close_together, take_out_together,
+    DeskOperator, Framing, Post, Release, UnitTaking, close_together, take_out_together,
 };
 use tc_link::read_frame;
 
@@ -16,17 +16,10 @@ pub(super) type Desk = Post<Kept>;
 // As `BD_UNIT`, for virtual channel 2.
 const OTHER_FRAME: [u8; 8] = [0x20, 0x2a, 0x08, 0x07, 0x00, 0xc3, 0xaa, 0xbb];
 
-// A desk for this virtual channel, whose settings are else those of virtual channel 1. One growth may be refused.
-fn new_desk(rt: &(impl Abort + Print), alloc: Global, vcid: u8) -> Desk {
+// A desk for this virtual channel, whose settings are else those of virtual channel 1.
+fn new_desk(rt: &impl Abort, alloc: Global, vcid: u8) -> Desk {
     let wanted = Wanted { vcid, ..CHANNEL };
-    match Desk::new(alloc, settings(alloc, &wanted).expect(rt, "settings")) {
-        Ok(desk) => desk,
-        Err(SettingsFault::NoMemory) => {
-            let _ = println!(rt; "refused: Post::new");
-            Desk::new(alloc, settings(alloc, &wanted).expect(rt, "settings")).expect(rt, "a desk")
-        }
-        Err(_) => panic!(rt; "another refusal"),
-    }
+    Desk::new(alloc, settings(alloc, &wanted).expect(rt, "settings")).expect(rt, "a desk")
 }
 
 // Two desks, of virtual channels 1 and 2.
@@ -44,7 +37,7 @@ struct Worker {
 }
 
 impl Desks {
-    fn new(rt: &(impl Abort + Print), alloc: Global) -> Desks {
+    fn new(rt: &impl Abort, alloc: Global) -> Desks {
         Desks {
             first: new_desk(rt, alloc, 1),
             second: new_desk(rt, alloc, 2),
@@ -63,7 +56,6 @@ impl Desks {
     }
 }
 
-// A call that grows may be refused once; then it is made again.
 fn bring(
     rt: &(impl Abort + Wait),
     desk: &Desk,
@@ -75,37 +67,27 @@ fn bring(
 {
     let frame = read_frame(octets).expect(rt, "a frame");
     let framing = Framing { frame: &frame };
-    match operator.operate(desk.desk(), rt, &framing) {
-        Ok(reply) => reply,
-        Err(_) => operator
-            .operate(desk.desk(), rt, &framing)
-            .expect(rt, "a reply"),
-    }
+    operator
+        .operate(desk.desk(), rt, &framing)
+        .expect(rt, "a reply")
 }
 
 fn release(rt: &(impl Abort + Wait), desk: &Desk, operator: &mut DeskOperator) -> Delivery
     requires { operator.old.lock ≡ desk.now.lock }
     ensures { operator.new.lock ≡ operator.old.lock }
 {
-    match operator.operate(desk.desk(), rt, &Release) {
-        Ok(delivery) => delivery,
-        Err(_) => operator
-            .operate(desk.desk(), rt, &Release)
-            .expect(rt, "a delivery"),
-    }
+    operator
+        .operate(desk.desk(), rt, &Release)
+        .expect(rt, "a delivery")
 }
 
 fn take_unit(rt: &(impl Abort + Wait), desk: &Desk, operator: &mut DeskOperator) -> Vec<u8>
     requires { operator.old.lock ≡ desk.now.lock }
     ensures { operator.new.lock ≡ operator.old.lock }
 {
-    let taking = UnitTaking { map: 3 };
-    match operator.operate(desk.desk(), rt, &taking) {
-        Ok(unit) => unit,
-        Err(_) => operator
-            .operate(desk.desk(), rt, &taking)
-            .expect(rt, "a unit"),
-    }
+    operator
+        .operate(desk.desk(), rt, &UnitTaking { map: 3 })
+        .expect(rt, "a unit")
 }
 
 // At the first desk one brings a frame, and the other lets its data field out; at the second the other brings a unit, and the one
@@ -123,7 +105,6 @@ fn work(rt: &(impl Abort + Wait), desks: &Desks, one: &mut Worker, other: &mut W
     assert_eq!(rt; unit.as_slice(), UNIT.as_slice());
 }
 
-// A list of two. One growth may be refused.
 pub(super) fn list_of_two<T: Drop>(rt: &impl Abort, alloc: Global, first: T, second: T) -> Vec<T>
     ensures { result.items ≡ first ∷ second ∷ [] }
 {
@@ -133,7 +114,7 @@ pub(super) fn list_of_two<T: Drop>(rt: &impl Abort, alloc: Global, first: T, sec
     list
 }
 
-// The two desks in their order, and one's operators in the same. One growth may be refused.
+// The two desks in their order, and one's operators in the same.
 fn posts_of(rt: &impl Abort, alloc: Global, desks: Desks) -> Vec<Desk>
     ensures { result.items ≡ desks.first ∷ desks.second ∷ [] }
 {
@@ -148,35 +129,22 @@ fn crew_of(rt: &impl Abort, alloc: Global, worker: Worker) -> Vec<DeskOperator>
     list_of_two(rt, alloc, first, second)
 }
 
-// Closes the desks. One growth may be refused: all is given back, and the desks are closed then.
 pub(super) fn closed(
-    rt: &(impl Abort + Print),
+    rt: &impl Abort,
     alloc: Global,
     posts: Vec<Desk>,
     crews: Vec<Vec<DeskOperator>>,
 ) -> Vec<Channel>
     requires { AreOurs posts.items (map (λ crew. crew.items) crews.items) }
 {
-    let left = match close_together(alloc, posts, crews) {
-        Ok(channels) => return channels,
-        Err(left) => left,
-    };
-    assert!(rt; left.refusal == Refusal::NoMemory);
-    let _ = println!(rt; "refused: close_together");
-    match close_together(alloc, left.posts, left.crews) {
+    match close_together(alloc, posts, crews) {
         Ok(channels) => channels,
         Err(_) => panic!(rt; "not closed"),
     }
 }
 
-// Takes the channels out, whoever made their events. One growth may be refused: the desks are given back, and opened then.
-fn taken_out(rt: &(impl Abort + Print), alloc: Global, posts: Vec<Desk>) -> Vec<Channel> {
-    let (posts, refusal) = match take_out_together(alloc, posts) {
-        Ok(channels) => return channels,
-        Err(left) => left,
-    };
-    assert!(rt; refusal == Refusal::NoMemory);
-    let _ = println!(rt; "refused: take_out_together");
+// Takes the channels out, whoever made their events.
+fn taken_out(rt: &impl Abort, alloc: Global, posts: Vec<Desk>) -> Vec<Channel> {
     match take_out_together(alloc, posts) {
         Ok(channels) => channels,
         Err(_) => panic!(rt; "not taken out"),
@@ -210,7 +178,7 @@ fn check_counts(rt: &impl Abort, worker: &Worker) {
 }
 
 // Two desks and two who have worked at both.
-fn worked(rt: &(impl Abort + Print + Wait), alloc: Global) -> (Desks, Worker, Worker)
+fn worked(rt: &(impl Abort + Wait), alloc: Global) -> (Desks, Worker, Worker)
     ensures one { (result.1.first.lock ≡ result.0.first.lock) × (result.1.second.lock ≡ result.0.second.lock) }
     ensures other { (result.2.first.lock ≡ result.0.first.lock) × (result.2.second.lock ≡ result.0.second.lock) }
 {
@@ -222,7 +190,7 @@ fn worked(rt: &(impl Abort + Print + Wait), alloc: Global) -> (Desks, Worker, Wo
 }
 
 #[test]
-fn growth_of_desks_closed_together(rt: HostRuntime) {
+fn desks_closed_together(rt: HostRuntime) {
     let alloc = rt.alloc();
     let (desks, one, other) = worked(&rt, alloc);
     check_counts(&rt, &one);
@@ -239,7 +207,7 @@ fn growth_of_desks_closed_together(rt: HostRuntime) {
 
 // Who worked at the desks isn't asked.
 #[test]
-fn growth_of_desks_taken_out_together(rt: HostRuntime) {
+fn desks_taken_out_together(rt: HostRuntime) {
     let alloc = rt.alloc();
     let (desks, _, _) = worked(&rt, alloc);
     let posts = posts_of(&rt, alloc, desks);
