@@ -1,5 +1,4 @@
 mod growths;
-mod parallel;
 mod streams;
 mod texts;
 

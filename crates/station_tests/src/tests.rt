@@ -4,9 +4,7 @@ mod growth;
 mod refusals;
 mod replay;
 mod rows;
-mod texts;
 mod watching;
-mod work;
 
 ghost use Rattle.std.specs.Prelude.{◌≡◌, ◌∷◌, [], All, length};
 ghost use Rattle.tc_station.specs.StationSettings.{vcids_of};
@@ -18,8 +16,8 @@ use std::sync::Wait;
 use tc_channel::{Channel, ChannelWith, Event, Items, Journal, Settings};
 use tc_station::{CloseFault, Operator, OperatorsFault, Station, StationOf};
 use test_parts::{
-    FRAME, NEXT, NO_FLAG, UNLOCK, WANTED, Wanted, ad_frame, frame_event, have_texts, list_of, note,
-    octets_of, settings,
+    FRAME, NEXT, NO_FLAG, UNLOCK, WANTED, Wanted, ad_frame, frame_event, list_of, note, octets_of,
+    settings,
 };
 
 // Settings for this virtual channel, with room for 64 data fields. One growth may be refused.

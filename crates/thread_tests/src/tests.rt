@@ -1,20 +1,40 @@
 mod gate;
 mod sharing;
 mod six_threads;
+mod texts;
 mod together;
+mod work;
 
 ghost use Rattle.std.specs.Prelude.{◌≡◌, ◌∷◌, [], All};
 
 use std::alloc::Global;
 use std::process::Abort;
 use std::sync::Wait;
-use tc_channel::{Channel, Event, Items};
-use tc_station::{CloseFault, Operator, Station};
+use tc_channel::{Channel, Event, Items, Journal};
+use tc_station::{CloseFault, Operator, Station, StationOf};
 use test_parts::{
-    NO_FLAG, WANTED, Wanted, ad_frame, is_frame, list_of, octets_of, offer, settings,
+    NO_FLAG, UNLOCK, WANTED, Wanted, ad_frame, have_texts, is_frame, list_of, octets_of, offer,
+    settings,
 };
 
-// A station for spacecraft 42 with virtual channels 1 and 2, which have buffers of this capacity and queues of one packet.
+// Virtual channel 1 with room for 64 fields, and a queue of capacity 256 for APID 5.
+const CHANNEL: Wanted<'static> = Wanted {
+    buffer: 64,
+    queues: &[(5, 256)],
+    ..WANTED
+};
+
+// A station for spacecraft 42 with that channel.
+fn station_of_one<J: Journal>(rt: &impl Abort, alloc: Global) -> StationOf<J>
+    ensures { result.vcids ≡ 1 ∷ [] }
+{
+    let list = list_of(alloc, settings(alloc, &CHANNEL).expect(rt, "settings")).expect(
+        rt, "a list",
+    );
+    StationOf::new(alloc, 42, list).expect(rt, "a station")
+}
+
+// One with virtual channels 1 and 2, which have buffers of this capacity and queues of one packet.
 fn station_of_two(rt: &impl Abort, alloc: Global, buffer: u8) -> Station
     ensures { result.vcids ≡ 1 ∷ 2 ∷ [] }
 {

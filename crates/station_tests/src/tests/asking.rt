@@ -4,7 +4,7 @@ ghost use Rattle.std.specs.Prelude.{◌≡◌, All};
 ghost use Rattle.tc_station.specs.Tally.{IsOurs};
 
 use super::*;
-use tc_channel::{Delivery, FrameReply, NoMemory, Octets, ReleaseFault, TakeFault, TakeUnitFault};
+use tc_channel::{Delivery, FrameReply, NoMemory, Octets};
 use tc_cli::{Answer, Line, Refusal};
 use tc_link::{FrameFault, read_frame};
 use tc_station::{
@@ -114,18 +114,6 @@ fn of_alone(vcid: u8, read: Result<Result<FrameReply, NoMemory>, FrameFault>) ->
     }
 }
 
-fn released(answer: Result<Delivery, ReleaseFault>) -> Result<Delivery, ReleaseRefused> {
-    Ok(answer?)
-}
-
-fn taken(answer: Result<Vec<u8>, TakeFault>) -> Result<Vec<u8>, TakeRefused> {
-    Ok(answer?)
-}
-
-fn unit_taken(answer: Result<Vec<u8>, TakeUnitFault>) -> Result<Vec<u8>, TakeUnitRefused> {
-    Ok(answer?)
-}
-
 impl Asking for Channel {
     fn ask<R: Wait + Abort>(&mut self, rt: &R, vcid: u8, line: &Line) -> Asked {
         match line {
@@ -133,9 +121,17 @@ impl Asking for Channel {
                 Ok(frame) => of_alone(vcid, Ok(self.frame(&frame))),
                 Err(fault) => of_alone(vcid, Err(fault)),
             },
-            Line::Release(_) => of_release(vcid, released(self.release())),
-            Line::Take(_, apid) => of_take(vcid, *apid, taken(self.take(*apid))),
-            Line::Unit(_, map) => of_unit(vcid, *map, unit_taken(self.take_unit(*map))),
+            Line::Release(_) => of_release(vcid, self.release().map_err(ReleaseRefused::from)),
+            Line::Take(_, apid) => of_take(
+                vcid,
+                *apid,
+                self.take(*apid).map_err(TakeRefused::from),
+            ),
+            Line::Unit(_, map) => of_unit(
+                vcid,
+                *map,
+                self.take_unit(*map).map_err(TakeUnitRefused::from),
+            ),
             Line::Clcw(_) => of_word(vcid, Some(self.clcw(NO_FLAG))),
             _ => panic!(rt; "a line that is no operation"),
         }
@@ -155,9 +151,17 @@ impl Asking for Watched {
                 Ok(frame) => of_alone(vcid, Ok(desk.frame(&frame))),
                 Err(fault) => of_alone(vcid, Err(fault)),
             },
-            Line::Release(_) => of_release(vcid, released(desk.release())),
-            Line::Take(_, apid) => of_take(vcid, *apid, taken(desk.take(*apid))),
-            Line::Unit(_, map) => of_unit(vcid, *map, unit_taken(desk.take_unit(*map))),
+            Line::Release(_) => of_release(vcid, desk.release().map_err(ReleaseRefused::from)),
+            Line::Take(_, apid) => of_take(
+                vcid,
+                *apid,
+                desk.take(*apid).map_err(TakeRefused::from),
+            ),
+            Line::Unit(_, map) => of_unit(
+                vcid,
+                *map,
+                desk.take_unit(*map).map_err(TakeUnitRefused::from),
+            ),
             Line::Clcw(_) => of_word(vcid, Some(self.watcher.read())),
             _ => panic!(rt; "a line that is no operation"),
         }

@@ -6,6 +6,7 @@ ghost use Rattle.tc_station.specs.Tally.{IsOurs};
 use super::*;
 use std::sync::atomic::{AtomicBool, Ordering};
 use std::thread::{Threads, join, yield_now};
+use tc_cli::parallel_script;
 use tc_station::{Gate, Job, Order, WorkList};
 use tc_status::Watcher;
 
@@ -90,13 +91,13 @@ fn two_unlocks(rt: &impl Abort, alloc: Global) -> [WorkList; 2] {
     [unlock(rt, alloc, 1, 0x04), unlock(rt, alloc, 2, 0x08)]
 }
 
-// A station with channels 1 and 2, and two operators.
-pub(super) fn new_crew(rt: &impl Abort, alloc: Global) -> (Station, Vec<Operator>)
+// A station with channels 1 and 2, and so many operators.
+pub(super) fn new_crew(rt: &impl Abort, alloc: Global, n: u16) -> (Station, Vec<Operator>)
     ensures ours { All (IsOurs result.0) result.1.items }
-    ensures two { length result.1.items ≡ 2 }
+    ensures number { length result.1.items ≡ n }
 {
     let mut station = station_of_two(rt, alloc, 1);
-    let operators = station.operators(2).expect(rt, "operators");
+    let operators = station.operators(n).expect(rt, "operators");
     (station, operators)
 }
 
@@ -119,7 +120,7 @@ pub(super) fn do_lists<R: Threads + Wait + Sync + Abort, G: Gate + Sync>(
 #[test]
 fn workers_of_two_channels_meet(rt: HostRuntime) {
     let lists = two_unlocks(&rt, rt.alloc());
-    let (station, mut operators) = new_crew(&rt, rt.alloc());
+    let (station, mut operators) = new_crew(&rt, rt.alloc(), 2);
     let gate = Meeting::new(100_000_000);
     do_lists(&rt, &gate, &station, &mut operators, &lists);
     assert!(rt; gate.came() == (true, true));
@@ -128,6 +129,26 @@ fn workers_of_two_channels_meet(rt: HostRuntime) {
     assert_eq!(rt; channels.len(), 2);
     assert_eq!(rt; channels[0].journal().len(), 1);
     assert_eq!(rt; channels[1].journal().len(), 1);
+}
+
+// Two channels, the second one set up first, and a frame for each that comes by another way. The final report stands in rising virtual
+// channel id.
+const SCRIPT: &str =
+    "channel 2 10 2 255\nqueue 2 7 3\nchannel 1 10 1 0\nqueue 1 5 1\nframe 002a080cffc01007c0000000bb\nframe 202a040c00c01005c0000000aa\nrelease 2\nframe 002a040c00c01005c0000000aa\n";
+
+const REPORT: &str =
+    "final 1 01040201 events 2 buffered 1\nqueue 1 5 1\nfinal 2 01080000 events 2 buffered 0\nqueue 2 7 1\n";
+
+#[test]
+fn workers_of_a_script_meet(rt: HostRuntime) {
+    let gate = Meeting::new(100_000_000);
+    let mut report: Vec<u8> = Vec::new(rt.alloc());
+    let mut reader = SCRIPT.as_bytes();
+    let done = parallel_script(&rt, rt.alloc(), &gate, 42, &mut reader, &mut report);
+    assert_eq!(rt; done, Ok(()));
+    assert_eq!(rt; report.as_slice(), REPORT.as_bytes());
+    assert!(rt; gate.came() == (true, true));
+    assert!(rt; !gate.has_run_out());
 }
 
 // Who passes for channel 1 says that it is inside, and then waits until it is told something, for so many turns at most. Others wait
@@ -188,7 +209,7 @@ fn tell_of_the_second(station: &Station, watcher: &mut Watcher, gate: &Inside) {
 #[test]
 fn a_channel_is_worked_while_the_lock_of_another_is_held(rt: HostRuntime) {
     let lists = two_unlocks(&rt, rt.alloc());
-    let (station, mut operators) = new_crew(&rt, rt.alloc());
+    let (station, mut operators) = new_crew(&rt, rt.alloc(), 2);
     let mut watcher = station.watcher(&rt, 2).expect(&rt, "a watcher");
     let gate = Inside::new(100_000_000);
     join(
@@ -209,7 +230,7 @@ fn tell_of_a_watcher(rt: &impl Wait, station: &Station, gate: &Inside) {
 #[test]
 fn who_passes_holds_the_lock(rt: HostRuntime) {
     let lists = two_unlocks(&rt, rt.alloc());
-    let (station, mut operators) = new_crew(&rt, rt.alloc());
+    let (station, mut operators) = new_crew(&rt, rt.alloc(), 2);
     let gate = Inside::new(20_000_000);
     join(
         &rt,

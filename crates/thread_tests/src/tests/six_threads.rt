@@ -14,23 +14,6 @@ use tc_link::read_clcw;
 use tc_station::{ReleaseRefused, TakeRefused};
 use tc_status::Watcher;
 
-// Virtual channel 1 with room for 64 fields, and a queue of capacity 256 for APID 5.
-const CHANNEL: Wanted<'static> = Wanted {
-    buffer: 64,
-    queues: &[(5, 256)],
-    ..WANTED
-};
-
-// A station with that channel.
-fn station_of_one(rt: &impl Abort, alloc: Global) -> Station
-    ensures { result.vcids ≡ 1 ∷ [] }
-{
-    let list = list_of(alloc, settings(alloc, &CHANNEL).expect(rt, "settings")).expect(
-        rt, "a list",
-    );
-    Station::new(alloc, 42, list).expect(rt, "a station")
-}
-
 // What an operator does over and over.
 #[derive(Clone, Copy, PartialEq)]
 enum Task {
@@ -392,7 +375,7 @@ fn check_answers(rt: &impl Abort, alloc: Global, closed: &Closed) {
 #[test]
 fn six_threads_on_one_channel(rt: HostRuntime) {
     let alloc = rt.alloc();
-    let mut station = station_of_one(&rt, alloc);
+    let mut station: Station = station_of_one(&rt, alloc);
     let mut workers = four_workers(&rt, alloc, &mut station);
     let mut one = new_watcher(&rt, &station);
     let mut two = new_watcher(&rt, &station);

@@ -72,7 +72,7 @@ fn check_merge(rt: &impl Abort, journal: &[Event], third: u8) {
 fn two_threads_on_two_channels(rt: HostRuntime) {
     let alloc = rt.alloc();
     let lists = [frames_of(&rt, alloc, 1), frames_of(&rt, alloc, 2)];
-    let (station, mut operators) = new_crew(&rt, alloc);
+    let (station, mut operators) = new_crew(&rt, alloc, 2);
     do_lists(&rt, &FreeGate, &station, &mut operators, &lists);
     let channels = closed_together(&rt, station, operators);
     assert_eq!(rt; channels.len(), 2);

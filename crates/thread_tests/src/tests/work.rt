@@ -1,11 +1,8 @@
 //! Workers, each of which passes the gate once.
 
-ghost use Rattle.std.specs.Prelude.{◌≡◌, All, length};
-ghost use Rattle.tc_station.specs.Tally.{IsOurs};
-
+use super::gate::{do_lists, new_crew};
 use super::*;
 use std::sync::atomic::{AtomicU32, Ordering};
-use std::thread::Threads;
 use tc_station::{Gate, Job, Order, WorkList};
 
 // A job that brings octets, on line 1.
@@ -44,21 +41,6 @@ fn seven_lists(rt: &impl Abort, alloc: Global) -> [WorkList; 7] {
     ]
 }
 
-// Does the lists to their end.
-fn do_lists<R: Threads + Wait + Sync + Abort, G: Gate + Sync>(
-    rt: &R,
-    gate: &G,
-    station: &Station,
-    operators: &mut Vec<Operator>,
-    lists: &[WorkList],
-)
-    requires as_many { length operators.old.items ≡ length lists.now }
-    requires ours { All (IsOurs station.now) operators.old.items }
-{
-    let done = station.work(rt, gate, operators, lists);
-    assert!(rt; done == Ok(()));
-}
-
 // Counts how often it is passed: for channel 1 in the ones, 2 in the tens, 9 in the hundreds, and any other in the thousands.
 #[derive(Drop)]
 struct Counting {
@@ -82,8 +64,7 @@ impl Gate for Counting {
 fn each_worker_passes_the_gate_once(rt: HostRuntime) {
     let alloc = rt.alloc();
     let lists = seven_lists(&rt, alloc);
-    let mut station: Station = station_of_two(&rt, alloc);
-    let mut operators = new_operators(&rt, &mut station, 7);
+    let (station, mut operators) = new_crew(&rt, alloc, 7);
     let gate = Counting {
         passed: AtomicU32::new(0),
     };
