@@ -1,7 +1,7 @@
 //! Calls that take memory. With ample memory each answers at once; with one growth refused each
 //! leaves what stood before, and then answers the same.
 
-use super::{ANSWERS, REPORT, SCRIPT, UNITS, UNITS_ANSWERS, UNITS_REPORT, Way, give_back, run};
+use super::{ANSWERS, REPORT, SCRIPT, UNITS, UNITS_ANSWERS, UNITS_REPORT, Way, run};
 use std::alloc::Global;
 use std::process::Abort;
 use std::sync::Wait;
@@ -113,45 +113,6 @@ fn check_parallel<R: Threads + Wait + Sync + Abort + Print + AllocGlobal>(
         assert_eq!(rt; done, Ok(()));
     }
     assert_eq!(rt; found.as_slice(), report.as_bytes());
-}
-
-// A script that was done is given back, at once or after a growth was refused.
-fn check_given_back<R: Threads + Wait + Sync + Abort + Print + AllocGlobal>(
-    rt: &R,
-    way: Way,
-    name: &str,
-    expected: &str,
-) {
-    let mut written = room(rt.alloc(), 1000).expect(rt, "room");
-    let script = match give_back(rt, way, SCRIPT, &mut written) {
-        Ok(script) => script,
-        Err(fault) => {
-            let _ = println!(rt; "refused: {name}");
-            assert!(rt;
-                matches!(
-                    fault,
-                    ScriptFault::Line {
-                        line: _,
-                        reason: Reason::NoMemory
-                    }
-                )
-            );
-            written.clear();
-            give_back(rt, way, SCRIPT, &mut written).expect(rt, "a script")
-        }
-    };
-    assert!(rt; script.as_slice() == SCRIPT.as_bytes());
-    assert!(rt; written.as_slice() == expected.as_bytes());
-}
-
-#[test]
-fn run_and_give_back_growth(rt: HostRuntime) {
-    check_given_back(&rt, Way::InOrder, "run_and_give_back", ANSWERS);
-}
-
-#[test]
-fn parallel_and_give_back_growth(rt: HostRuntime) {
-    check_given_back(&rt, Way::InParallel, "parallel_and_give_back", REPORT);
 }
 
 #[test]

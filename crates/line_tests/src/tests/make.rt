@@ -1,5 +1,4 @@
 mod fields;
-mod growths;
 mod streams;
 mod sums;
 mod texts;

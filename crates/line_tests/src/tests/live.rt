@@ -1,4 +1,3 @@
-mod growths;
 mod lines;
 mod streams;
 

@@ -5,7 +5,7 @@ mod texts;
 use std::io::{Read, Write};
 use std::sync::Wait;
 use std::thread::Threads;
-use tc_cli::{ScriptFault, parallel_and_give_back, parallel_script, run_and_give_back, run_script};
+use tc_cli::{ScriptFault, parallel_script, run_script};
 use tc_station::FreeGate;
 
 // How a script is run.
@@ -25,22 +25,6 @@ fn run<T: Threads + Wait + Sync + AllocGlobal, R: Read, W: Write>(
     match way {
         Way::InOrder => run_script(rt, rt.alloc(), 42, reader, writer),
         Way::InParallel => parallel_script(rt, rt.alloc(), &FreeGate, 42, reader, writer),
-    }
-}
-
-// The same, and the script that is given back.
-fn give_back<T: Threads + Wait + Sync + AllocGlobal, W: Write>(
-    rt: &T,
-    way: Way,
-    script: &str,
-    writer: &mut W,
-) -> Result<Vec<u8>, ScriptFault> {
-    let mut reader = script.as_bytes();
-    match way {
-        Way::InOrder => run_and_give_back(rt, rt.alloc(), 42, &mut reader, writer),
-        Way::InParallel => {
-            parallel_and_give_back(rt, rt.alloc(), &FreeGate, 42, &mut reader, writer)
-        }
     }
 }
 

@@ -1,0 +1,3 @@
+mod live;
+mod make;
+mod script;
