@@ -2,41 +2,104 @@
 
 ghost use Rattle.std.specs.Prelude.{◌<◌, IfSome, length};
 
-use crate::form::Form;
 use std::alloc::Global;
 use std::io;
 use std::io::Write;
-use tc_channel::{NoMemory, ReleaseFault, Settings, TakeFault, TakeUnitFault};
-use tc_cli::{Answer, Refusal};
+use std::marker::PhantomData;
+use tc_channel::{ReleaseFault, TakeFault, TakeUnitFault};
 use tc_link::read_frame;
+use tc_rack::{Answer, Founder, Operation, Refusal};
+use tc_setup::Configuration;
 use tc_station::LocateFault;
 use tc_text::Reason;
+use test_parts::Form;
 
 /// How many virtual channel ids there are.
 const IDS: u8 = 64;
 
-/// The virtual channels of one spacecraft, each of the same form, without locks.
+/// Who makes channels of a form for the spacecraft with this id, and asks them. Nothing is promised of the form.
+#[derive(Drop)]
+pub(crate) struct LoneFounder<C> {
+    scid: u16,
+    form: PhantomData<C>,
+}
+
+impl<C: Form> LoneFounder<C> {
+    pub(crate) fn new(scid: u16) -> LoneFounder<C> {
+        LoneFounder {
+            scid,
+            form: PhantomData,
+        }
+    }
+}
+
+impl<C: Form> Founder for LoneFounder<C> {
+    ghost use Rattle.std.specs.Prelude.{⊤};
+
+    type Founded = Lone<C>;
+
+    ghost is_new = { λ _ _ _. ⊤ };
+
+    ghost answers = { λ _ _ _ _. ⊤ };
+
+    ghost spares = { λ _ _. ⊤ };
+
+    fn found(&self, alloc: Global, list: Configuration) -> Result<Lone<C>, Reason> {
+        if list.channels().is_empty() {
+            return Err(Reason::NoChannel);
+        }
+        match Lone::new(alloc, self.scid, list) {
+            Some(channels) => Ok(channels),
+            None => Err(Reason::NoMemory),
+        }
+    }
+
+    fn operate(&self, channels: &mut Lone<C>, operation: Operation) -> Result<Answer, Reason> {
+        match channels.operate(operation) {
+            Some(answer) => Ok(answer),
+            None => Err(Reason::NoMemory),
+        }
+    }
+}
+
+/// The virtual channels of one spacecraft, each of the same form, without locks. `None` stands for memory that is wanting.
 #[derive(Drop)]
 pub(crate) struct Lone<C: Form> {
+    alloc: Global,
     scid: u16,
     channels: Vec<C>,
 }
 
 impl<C: Form> Lone<C> {
-    /// A channel for each of the settings.
-    pub(crate) fn new(alloc: Global, scid: u16, list: Vec<Settings>) -> Result<Lone<C>, Reason> {
+    // A channel for each of the settings.
+    fn new(alloc: Global, scid: u16, list: Configuration) -> Option<Lone<C>> {
         let mut channels = Vec::new(alloc);
-        for settings in list {
-            let channel = C::made(alloc, settings)?;
-            if channels.push(channel).is_err() {
-                return Err(Reason::NoMemory);
-            }
+        for settings in list.into_channels() {
+            channels.push(C::made(alloc, settings).ok()?).ok()?;
         }
-        Ok(Lone { scid, channels })
+        Some(Lone {
+            alloc,
+            scid,
+            channels,
+        })
     }
 
-    /// Brings octets to the channel that their frame names.
-    pub(crate) fn bring(&mut self, octets: &[u8]) -> Result<Answer, Reason> {
+    fn operate(&mut self, operation: Operation) -> Option<Answer> {
+        let vcid = match &operation {
+            Operation::Frame(octets) => return self.bring(octets.as_slice()),
+            Operation::Release(vcid) => *vcid,
+            Operation::Take(vcid, _) => *vcid,
+            Operation::Unit(vcid, _) => *vcid,
+            Operation::Clcw(vcid) => *vcid,
+        };
+        let Some(place) = place_of(&self.channels, vcid) else {
+            return refused(Refusal::UnknownChannel);
+        };
+        ask(self.alloc, &mut self.channels[place], vcid, &operation)
+    }
+
+    // Brings octets to the channel that their frame names.
+    fn bring(&mut self, octets: &[u8]) -> Option<Answer> {
         let frame = match read_frame(octets) {
             Ok(frame) => frame,
             Err(fault) => return unlocated(LocateFault::Frame(fault)),
@@ -49,57 +112,8 @@ impl<C: Form> Lone<C> {
         let Some(place) = place_of(&self.channels, vcid) else {
             return unlocated(LocateFault::UnknownChannel);
         };
-        match self.channels[place].bring(&frame) {
-            Ok(reply) => Ok(Answer::Frame { vcid, reply }),
-            Err(NoMemory) => Err(Reason::NoMemory),
-        }
-    }
-
-    /// Releases the oldest data field of a channel's buffer.
-    pub(crate) fn release(&mut self, vcid: u8) -> Result<Answer, Reason> {
-        let Some(place) = place_of(&self.channels, vcid) else {
-            return refused(Refusal::UnknownChannel);
-        };
-        match self.channels[place].let_out() {
-            Ok(delivery) => Ok(Answer::Release { vcid, delivery }),
-            Err(ReleaseFault::Empty) => refused(Refusal::Empty),
-            Err(ReleaseFault::NoMemory) => Err(Reason::NoMemory),
-        }
-    }
-
-    /// Takes the oldest packet of a channel's queue.
-    pub(crate) fn take(&mut self, alloc: Global, vcid: u8, apid: u16) -> Result<Answer, Reason> {
-        let Some(place) = place_of(&self.channels, vcid) else {
-            return refused(Refusal::UnknownChannel);
-        };
-        match self.channels[place].take_packet(alloc, apid) {
-            Ok(packet) => Ok(Answer::Take { vcid, apid, packet }),
-            Err(TakeFault::NoQueue) => refused(Refusal::NoQueue),
-            Err(TakeFault::Empty) => refused(Refusal::Empty),
-            Err(TakeFault::NoMemory) => Err(Reason::NoMemory),
-        }
-    }
-
-    /// Takes the oldest unit of a channel's chosen MAP.
-    pub(crate) fn unit(&mut self, alloc: Global, vcid: u8, map: u8) -> Result<Answer, Reason> {
-        let Some(place) = place_of(&self.channels, vcid) else {
-            return refused(Refusal::UnknownChannel);
-        };
-        match self.channels[place].take_whole(alloc, map) {
-            Ok(unit) => Ok(Answer::Unit { vcid, map, unit }),
-            Err(TakeUnitFault::NoMap) => refused(Refusal::NoMap),
-            Err(TakeUnitFault::Empty) => refused(Refusal::Empty),
-            Err(TakeUnitFault::NoMemory) => Err(Reason::NoMemory),
-        }
-    }
-
-    /// Reports a channel's CLCW.
-    pub(crate) fn clcw(&self, vcid: u8) -> Result<Answer, Reason> {
-        let Some(place) = place_of(&self.channels, vcid) else {
-            return refused(Refusal::UnknownChannel);
-        };
-        let word = self.channels[place].word();
-        Ok(Answer::Clcw { vcid, word })
+        let reply = self.channels[place].bring(&frame).ok()?;
+        Some(Answer::Frame { vcid, reply })
     }
 
     /// Writes what each channel has come to, in rising id.
@@ -113,6 +127,41 @@ impl<C: Form> Lone<C> {
     }
 }
 
+// What a channel answers to an operation on it alone.
+fn ask<C: Form>(alloc: Global, channel: &mut C, vcid: u8, operation: &Operation) -> Option<Answer> {
+    match operation {
+        Operation::Take(_, apid) => match channel.take_packet(alloc, *apid) {
+            Ok(packet) => Some(Answer::Take {
+                vcid,
+                apid: *apid,
+                packet,
+            }),
+            Err(TakeFault::NoQueue) => refused(Refusal::NoQueue),
+            Err(TakeFault::Empty) => refused(Refusal::Empty),
+            Err(TakeFault::NoMemory) => None,
+        },
+        Operation::Unit(_, map) => match channel.take_whole(alloc, *map) {
+            Ok(unit) => Some(Answer::Unit {
+                vcid,
+                map: *map,
+                unit,
+            }),
+            Err(TakeUnitFault::NoMap) => refused(Refusal::NoMap),
+            Err(TakeUnitFault::Empty) => refused(Refusal::Empty),
+            Err(TakeUnitFault::NoMemory) => None,
+        },
+        Operation::Release(_) => match channel.let_out() {
+            Ok(delivery) => Some(Answer::Release { vcid, delivery }),
+            Err(ReleaseFault::Empty) => refused(Refusal::Empty),
+            Err(ReleaseFault::NoMemory) => None,
+        },
+        _ => {
+            let word = channel.word();
+            Some(Answer::Clcw { vcid, word })
+        }
+    }
+}
+
 // The place of the channel with this id.
 fn place_of<C: Form>(channels: &[C], vcid: u8) -> Option<usize>
     ensures { IfSome result (λ place. place < length channels.now) }
@@ -122,11 +171,11 @@ fn place_of<C: Form>(channels: &[C], vcid: u8) -> Option<usize>
         .position(|channel| channel.made_with().vcid == vcid)
 }
 
-fn refused(refusal: Refusal) -> Result<Answer, Reason> {
-    Ok(Answer::Refused(refusal))
+fn refused(refusal: Refusal) -> Option<Answer> {
+    Some(Answer::Refused(refusal))
 }
 
-fn unlocated(fault: LocateFault) -> Result<Answer, Reason> {
+fn unlocated(fault: LocateFault) -> Option<Answer> {
     refused(Refusal::Unlocated(fault))
 }
 

@@ -11,7 +11,6 @@
 ghost use Rattle.std.specs.Prelude.{◌≤◌};
 
 mod clcws;
-mod form;
 mod lone;
 mod outcome;
 mod replay;

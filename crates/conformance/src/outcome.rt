@@ -2,7 +2,6 @@
 
 ghost use Rattle.std.specs.Prelude.{◌≤◌};
 
-use crate::form::InRooms;
 use crate::replay::replay;
 use std::alloc::{AllocError, Global};
 use std::fmt;
@@ -10,6 +9,7 @@ use std::sync::Wait;
 use std::thread::Threads;
 use tc_channel::{Channel, FlightChannel};
 use tc_cli::{parallel_script, run_script};
+use tc_fixed::FixedChannel;
 use tc_station::FreeGate;
 
 /// What a script is answered, and the text of the fault with which it ends.
@@ -71,7 +71,7 @@ pub(crate) fn perform<T: Threads + Wait + Sync>(
         }
         Command::Alone => replay::<Channel, _, _>(alloc, scid, &mut reader, &mut answers),
         Command::Flight => replay::<FlightChannel, _, _>(alloc, scid, &mut reader, &mut answers),
-        Command::Rooms => replay::<InRooms, _, _>(alloc, scid, &mut reader, &mut answers),
+        Command::Rooms => replay::<FixedChannel, _, _>(alloc, scid, &mut reader, &mut answers),
     };
     let fault = match done {
         Ok(()) => String::new(alloc),
