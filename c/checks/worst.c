@@ -1,7 +1,7 @@
 /*
  * Makes one call of a channel that the library holds, once, behind what makes it cost most: on a channel of so many packet queues,
  * the last of which is used, 63 chosen MAPs, and units of as many octets as there may be. It prints what the call answers. The
- * program `fill_channel` does the same with a channel in rooms, and benchmarks/calls counts what both cost.
+ * program `tc_bench worst` does the same with a channel in rooms, and benchmarks/calls counts what both cost.
  *
  *   worst CALL QUEUES
  */

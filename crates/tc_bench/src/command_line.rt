@@ -2,7 +2,7 @@
 
 /// What becomes of a channel's journal, and when the channel asks for memory.
 #[derive(Clone, Copy)]
-pub(crate) enum Form {
+pub(crate) enum Kind {
     /// The journal is kept in memory.
     Kept,
     /// The journal takes no memory.
@@ -26,17 +26,25 @@ pub(crate) enum Load {
 
 /// What a command line asks for.
 #[derive(Clone, Copy)]
-pub(crate) enum Action {
+pub(crate) enum Action<'a> {
     /// Do the load, and print its scores.
     Scores,
     /// Make so many rounds of a load on a channel of this form, and print what they add up to.
-    Rounds(Form, Load, u32),
+    Rounds(Kind, Load, u32),
+    /// Fill a channel, or make each kind of call on it, as this word says.
+    Fill(&'a str),
+    /// Make the call with this name once, on a channel of so many queues.
+    Worst(&'a str, u16),
 }
 
 /// What the words ask for, the program's name first.
-pub(crate) fn judge(words: &[String]) -> Option<Action> {
+pub(crate) fn judge(words: &[String]) -> Option<Action<'_>> {
     match words {
         [] | [_] => Some(Action::Scores),
+        [_, word, what] if word.as_str() == "fill" => Some(Action::Fill(what.as_str())),
+        [_, word, call, queues] if word.as_str() == "worst" => {
+            Some(Action::Worst(call.as_str(), queues.as_str().parse().ok()?))
+        }
         [_, word, form, count] => rounds(word.as_str(), form.as_str(), "sequenced", count.as_str()),
         [_, word, form, count, load] => {
             rounds(word.as_str(), form.as_str(), load.as_str(), count.as_str())
@@ -46,11 +54,11 @@ pub(crate) fn judge(words: &[String]) -> Option<Action> {
 }
 
 // So many rounds of a load on a channel of the form that a word names.
-fn rounds(word: &str, form: &str, load: &str, count: &str) -> Option<Action> {
+fn rounds(word: &str, form: &str, load: &str, count: &str) -> Option<Action<'static>> {
     let form = match (word, form) {
-        ("rounds", "kept") => Form::Kept,
-        ("rounds", "flight") => Form::Flight,
-        ("rounds", "rooms") => Form::Rooms,
+        ("rounds", "kept") => Kind::Kept,
+        ("rounds", "flight") => Kind::Flight,
+        ("rounds", "rooms") => Kind::Rooms,
         _ => return None,
     };
     let load = match load {

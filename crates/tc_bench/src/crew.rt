@@ -3,18 +3,13 @@
 ghost use Rattle.tc_station.specs.Tally.{IsOurs};
 
 use crate::score::Score;
+use crate::seen::NO_FLAG;
 use crate::station::{APID, new_station};
 use anyhow::{Result, anyhow};
 use std::alloc::Global;
 use std::sync::Wait;
 use tc_channel::Channel;
-use tc_link::Link;
 use tc_station::{Operator, Station};
-
-pub(crate) const NO_FLAG: Link = Link {
-    no_rf: false,
-    no_bit_lock: false,
-};
 
 /// A station with one operator, whose answers are added to a score.
 #[derive(Drop)]

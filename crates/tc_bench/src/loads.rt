@@ -1,5 +1,6 @@
 //! What comes to a bare channel in each round.
 
+use crate::filler::{BODY, CONTINUING, FIRST, LAST, UNSEGMENTED};
 use crate::sender::SCID;
 use crate::station::APID;
 use anyhow::Result;
@@ -9,18 +10,6 @@ use tc_link::{Header, write_frame};
 
 /// How many packets a data field has that is full of small ones.
 pub(crate) const PACKETS: usize = 100;
-
-// The most octets of a segment's body.
-const BODY: usize = 1_018;
-
-/// The segment headers (CCSDS 232.0-B, 4.1.3.2.2) on MAP 0.
-const UNSEGMENTED: u8 = 0xc0;
-
-const FIRST: u8 = 0x40;
-
-const CONTINUING: u8 = 0x00;
-
-const LAST: u8 = 0x80;
 
 // A packet of the application with this number in its length field, which is one less than the octets of its data.
 fn add_packet(octets: &mut Vec<u8>, length: u16) -> Result<()> {
@@ -57,9 +46,9 @@ pub(crate) fn full(alloc: Global) -> Result<Octets> {
 pub(crate) fn segments(alloc: Global) -> Result<Vec<Octets>> {
     let mut unit = Vec::new(alloc);
     add_packet(&mut unit, u16::MAX)?;
-    let count = unit.len().div_ceil(BODY);
+    let count = unit.len().div_ceil(usize::from(BODY));
     let mut frames = Vec::with_capacity(alloc, count)?;
-    for (place, body) in unit.chunks(BODY).enumerate() {
+    for (place, body) in unit.chunks(usize::from(BODY)).enumerate() {
         let header = match place {
             0 => FIRST,
             _ if place + 1 == count => LAST,

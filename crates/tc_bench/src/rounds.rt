@@ -1,7 +1,7 @@
 //! Rounds on a bare channel, of whatever form.
 
-use crate::bare::Bare;
-use crate::command_line::{Form, Load};
+use crate::command_line::{Kind, Load};
+use crate::form::Form;
 use crate::loads::{PACKETS, full, segments};
 use crate::score::Score;
 use crate::sender::{Sender, Sent};
@@ -18,20 +18,20 @@ const CAPACITY: u16 = 128;
 /// Makes so many rounds of a load on a channel of this form, and prints their score.
 pub(crate) fn print<R: AllocGlobal + Print>(
     rt: &R,
-    form: Form,
+    kind: Kind,
     load: Load,
     count: u32,
 ) -> Result<()> {
-    let score = match form {
-        Form::Kept => play::<Channel>(rt.alloc(), load, count)?,
-        Form::Flight => play::<FlightChannel>(rt.alloc(), load, count)?,
-        Form::Rooms => play::<FixedChannel>(rt.alloc(), load, count)?,
+    let score = match kind {
+        Kind::Kept => play::<Channel>(rt.alloc(), load, count)?,
+        Kind::Flight => play::<FlightChannel>(rt.alloc(), load, count)?,
+        Kind::Rooms => play::<FixedChannel>(rt.alloc(), load, count)?,
     };
     println!(rt; "{score:016x}")?;
     Ok(())
 }
 
-fn play<B: Bare>(alloc: Global, load: Load, count: u32) -> Result<u64> {
+fn play<F: Form>(alloc: Global, load: Load, count: u32) -> Result<u64> {
     let mut settings = settings(alloc, 1)?;
     if let Load::Packets = load {
         let queue = QueueSetting {
@@ -40,9 +40,7 @@ fn play<B: Bare>(alloc: Global, load: Load, count: u32) -> Result<u64> {
         };
         settings.queues = Items::from(Vec::from_slice(alloc, &[queue])?);
     }
-    let Some(mut channel) = B::made(alloc, settings) else {
-        return Err(anyhow!("no channel"));
-    };
+    let mut channel = F::made(alloc, settings)?;
     let mut score = Score::new();
     let done = match load {
         Load::Sequenced => sequenced(&mut channel, &Sender::new(alloc, 1)?, count, &mut score),
@@ -58,8 +56,8 @@ fn play<B: Bare>(alloc: Global, load: Load, count: u32) -> Result<u64> {
 }
 
 // Frames are taken in, their data fields released, and their packets taken.
-fn sequenced<B: Bare>(
-    channel: &mut B,
+fn sequenced<F: Form>(
+    channel: &mut F,
     sender: &Sender,
     count: u32,
     score: &mut Score,
@@ -67,15 +65,15 @@ fn sequenced<B: Bare>(
     for number in 0..count {
         let octets = sender.octets(Sent::Sequenced((number % 256) as u8));
         bring(channel, octets, score)?;
-        score.add_delivery(channel.let_out()?);
+        score.add_delivery(channel.let_out().ok()?);
         channel.add_taken(score)?;
     }
     Some(())
 }
 
 // Frames that bypass the window are taken in, and their packets taken.
-fn bypassing<B: Bare>(
-    channel: &mut B,
+fn bypassing<F: Form>(
+    channel: &mut F,
     sender: &Sender,
     count: u32,
     score: &mut Score,
@@ -89,7 +87,7 @@ fn bypassing<B: Bare>(
 }
 
 // A frame that is full of small packets is taken in, and each of them taken.
-fn packets<B: Bare>(channel: &mut B, frame: &[u8], count: u32, score: &mut Score) -> Option<()> {
+fn packets<F: Form>(channel: &mut F, frame: &[u8], count: u32, score: &mut Score) -> Option<()> {
     for _ in 0..count {
         bring(channel, frame, score)?;
         for _ in 0..PACKETS {
@@ -100,8 +98,8 @@ fn packets<B: Bare>(channel: &mut B, frame: &[u8], count: u32, score: &mut Score
 }
 
 // The segments of the largest packet are taken in, and it is taken.
-fn in_segments<B: Bare>(
-    channel: &mut B,
+fn in_segments<F: Form>(
+    channel: &mut F,
     frames: &[Octets],
     count: u32,
     score: &mut Score,
@@ -116,8 +114,8 @@ fn in_segments<B: Bare>(
 }
 
 // Takes in a frame that must be accepted.
-fn bring<B: Bare>(channel: &mut B, octets: &[u8], score: &mut Score) -> Option<()> {
-    let reply = channel.bring(&read_frame(octets).ok()?)?;
+fn bring<F: Form>(channel: &mut F, octets: &[u8], score: &mut Score) -> Option<()> {
+    let reply = channel.bring(&read_frame(octets).ok()?).ok()?;
     score.add_reply(1, reply);
     if reply.act.accepted { Some(()) } else { None }
 }

@@ -1,7 +1,8 @@
 //! The scores of the load.
 
-use crate::crew::{Crew, NO_FLAG};
+use crate::crew::Crew;
 use crate::score::Score;
+use crate::seen::NO_FLAG;
 use crate::sender::{Sender, Sent, second};
 use crate::station::APID;
 use crate::workers::work;

@@ -1,34 +1,36 @@
 //! Filling a channel, by rows of like things. A key is an application or a MAP.
 
+use crate::calls;
 use crate::filler::{
     CONTINUING, DROPPED, FIRST, Filler, Items, Kind, LAST, NOTHING, ONE, PACKETS, UNSEGMENTED,
     segment,
 };
 use crate::form::Form;
-use crate::plan::{LIMITED, Plan};
-use anyhow::Result;
+use crate::plan::{LIMITED, MANY, PLAIN, Plan, SMALL, plain_of};
+use anyhow::{Result, anyhow};
+use tc_channel::{Channel, FlightChannel};
 use tc_fixed::{FixedChannel, Limits, MapLimit, storage_with_limits};
 
-/// What a row brings for a key.
+// What a row brings for a key.
 #[derive(Clone, Copy)]
-pub(crate) enum Piece {
-    /// The largest packet that a data field without a segment header has, for the application.
+enum Piece {
+    // The largest packet that a data field without a segment header has, for the application.
     Plain(Kind),
-    /// An unsegmented packet of seven octets for the application.
+    // An unsegmented packet of seven octets for the application.
     Packet,
-    /// A segment on the MAP with these sequence flags, and so many octets.
+    // A segment on the MAP with these sequence flags, and so many octets.
     Segment(Kind, u8, u16),
-    /// A run of as many octets as the largest unit, which is left open on the MAP.
+    // A run of as many octets as the largest unit, which is left open on the MAP.
     Run(Kind),
-    /// The largest packet for the application, with all its segments.
+    // The largest packet for the application, with all its segments.
     LargestPacket,
-    /// The largest unit on the MAP, with all its segments.
+    // The largest unit on the MAP, with all its segments.
     LargestUnit,
 }
 
-/// A piece for each of the keys in turn, the first of which and their number is given; how many in all; and how many items of each are
-/// queued and dropped.
-pub(crate) type Row = (Piece, (u16, u16), u16, Items);
+// A piece for each of the keys in turn, the first of which and their number is given; how many in all; and how many items of each are
+// queued and dropped.
+type Row = (Piece, (u16, u16), u16, Items);
 
 // A unit of one segment; segments of Type-BD that begin a unit, go on and end one; and a first one that waits in the buffer.
 const UNIT: Piece = Piece::Segment(Kind::Bypassing, UNSEGMENTED, 7);
@@ -41,8 +43,8 @@ const ENDED: Piece = Piece::Segment(Kind::Bypassing, LAST, 0);
 
 const BUFFERED: Piece = Piece::Segment(Kind::Next, FIRST, 1_018);
 
-/// What fills the queues and the buffer of a plain channel.
-pub(crate) fn plain_rows(plan: &Plan) -> [Row; 2] {
+// What fills the queues and the buffer of a plain channel.
+fn plain_rows(plan: &Plan) -> [Row; 2] {
     let (queues, packets) = plan.queues;
     let packets = queues.saturating_mul(packets);
     let fields = u16::from(plan.buffer);
@@ -52,9 +54,9 @@ pub(crate) fn plain_rows(plan: &Plan) -> [Row; 2] {
     ]
 }
 
-/// Frames of a sender who means harm, for the channel of `MANY`: 70 queues of two packets, and three chosen MAPs of three units. Each
-/// is answered as the model says, whatever came before.
-pub(crate) static HOSTILE_ROWS: [Row; 16] = [
+// Frames of a sender who means harm, for the channel of `MANY`: 70 queues of two packets, and three chosen MAPs of three units. Each
+// is answered as the model says, whatever came before.
+static HOSTILE_ROWS: [Row; 16] = [
     // A thousand first segments over 16 MAPs: each begins the run of its MAP anew, and none ends.
     (BEGUN, (0, 16), 1_000, NOTHING),
     // Packets for queues that are empty and then full, and for none, and units likewise.
@@ -102,25 +104,21 @@ fn filling_rows(plan: &Plan, packet: Piece, ended: Items) -> [Row; 8] {
     ]
 }
 
-/// What fills a channel with segment headers by largest packets and units.
-pub(crate) fn largest_rows(plan: &Plan) -> [Row; 8] {
+// What fills a channel with segment headers by largest packets and units.
+fn largest_rows(plan: &Plan) -> [Row; 8] {
     filling_rows(plan, Piece::LargestPacket, DROPPED)
 }
 
-/// Makes the channel of a plan, tells the memory that it takes, and brings it these rows, with a line before and after.
-pub(crate) fn print<F: Form, R: AllocGlobal + Print>(
-    rt: &R,
-    plan: &Plan,
-    rows: &[Row],
-) -> Result<()> {
+// Makes the channel of a plan, tells the memory that it takes, and brings it these rows, with a line before and after.
+fn print<F: Form, R: AllocGlobal + Print>(rt: &R, plan: &Plan, rows: &[Row]) -> Result<()> {
     let settings = plan.settings(rt.alloc())?;
     let (name, octets) = F::memory(&settings);
     println!(rt; "{name} {octets}")?;
     print_rows(rt, F::made(rt.alloc(), settings)?, rows)
 }
 
-/// The same of a channel in rooms within limits: of 1,024 octets for the MAP of packets, and of none for each other MAP.
-pub(crate) fn print_limited<R: AllocGlobal + Print>(rt: &R) -> Result<()> {
+// The same of a channel in rooms within limits: of 1,024 octets for the MAP of packets, and of none for each other MAP.
+fn print_limited<R: AllocGlobal + Print>(rt: &R) -> Result<()> {
     let settings = LIMITED.settings(rt.alloc())?;
     let limit = MapLimit {
         map: PACKETS,
@@ -171,5 +169,34 @@ fn bring_piece<F: Form>(
         Piece::Run(kind) => filler.open(kind, map),
         Piece::LargestPacket => filler.bring_largest(PACKETS, items),
         Piece::LargestUnit => filler.bring_largest(map, items),
+    }
+}
+
+fn print_plain<F: Form, R: AllocGlobal + Print>(rt: &R, plan: &Plan) -> Result<()> {
+    print::<F, R>(rt, plan, &plain_rows(plan))
+}
+
+// Does what a word says for a channel of this form.
+fn fill<F: Form, R: AllocGlobal + Print>(rt: &R, word: &str) -> Result<()> {
+    match word {
+        "plain" => print_plain::<F, R>(rt, &PLAIN),
+        "plain_7" => print_plain::<F, R>(rt, &plain_of(7)),
+        "plain_8" => print_plain::<F, R>(rt, &plain_of(8)),
+        "plain_63" => print_plain::<F, R>(rt, &plain_of(63)),
+        "one" => print::<F, R>(rt, &SMALL, &largest_rows(&SMALL)),
+        "many" => print::<F, R>(rt, &MANY, &largest_rows(&MANY)),
+        "calls" => calls::print::<F, R>(rt),
+        _ => Err(anyhow!("nothing to fill has that name: {word}")),
+    }
+}
+
+/// Does what this word says.
+pub(crate) fn obey<R: AllocGlobal + Print>(rt: &R, word: &str) -> Result<()> {
+    match (word, word.strip_prefix("fixed_")) {
+        ("kept", _) => calls::print::<Channel, R>(rt),
+        ("fixed_hostile", _) => print::<FixedChannel, R>(rt, &MANY, &HOSTILE_ROWS),
+        ("fixed_limited", _) => print_limited(rt),
+        (_, Some(plan)) => fill::<FixedChannel, R>(rt, plan),
+        (_, None) => fill::<FlightChannel, R>(rt, word),
     }
 }

@@ -1,6 +1,8 @@
 //! The forms of a channel: by where it keeps its journal, and by when it asks for memory.
 
+use crate::score::Score;
 use crate::seen::{NO_FLAG, call_clcw, call_drop_oldest_unit, call_new, call_take};
+use crate::station::APID;
 use anyhow::{Result, anyhow};
 use std::alloc::Global;
 use tc_channel::{ChannelWith, Delivery, FrameReply, Journal, Settings};
@@ -24,11 +26,29 @@ pub(crate) trait Form: Drop {
     /// Takes the oldest packet of an application.
     fn take_packet(&mut self, apid: u16) -> Result<()>;
 
+    /// Takes the oldest packet of the load, and adds it to the score. Where it can be read in its room, it is, and then dropped.
+    fn add_taken(&mut self, score: &mut Score) -> Option<()>;
+
     /// Takes the oldest unit of a MAP.
     fn take_whole(&mut self, map: u8) -> Result<()>;
 
     /// The CLCW.
     fn word(&self) -> u32;
+
+    /// How many events there were.
+    fn count(&self) -> u64;
+}
+
+// Of a packet that isn't small, its first octets and its last one stand for all.
+fn add(octets: &[u8], score: &mut Score) {
+    match octets {
+        [front @ .., last] if octets.len() > 16 => {
+            score.add_packet(&front[..16.min(front.len())]);
+            score.add(octets.len() as u64);
+            score.add(u64::from(*last));
+        }
+        _ => score.add_packet(octets),
+    }
 }
 
 impl<J: Journal> Form for ChannelWith<J> {
@@ -53,6 +73,11 @@ impl<J: Journal> Form for ChannelWith<J> {
         Ok(())
     }
 
+    fn add_taken(&mut self, score: &mut Score) -> Option<()> {
+        add(&self.take(APID).ok()?, score);
+        Some(())
+    }
+
     fn take_whole(&mut self, map: u8) -> Result<()> {
         drop(self.take_unit(map)?);
         Ok(())
@@ -60,6 +85,10 @@ impl<J: Journal> Form for ChannelWith<J> {
 
     fn word(&self) -> u32 {
         self.clcw(NO_FLAG)
+    }
+
+    fn count(&self) -> u64 {
+        self.events()
     }
 }
 
@@ -87,6 +116,15 @@ impl Form for FixedChannel {
         Ok(())
     }
 
+    fn add_taken(&mut self, score: &mut Score) -> Option<()> {
+        add(self.oldest(APID)?, score);
+        if self.drop_oldest(APID) {
+            Some(())
+        } else {
+            None
+        }
+    }
+
     fn take_whole(&mut self, map: u8) -> Result<()> {
         if call_drop_oldest_unit(self, map) {
             return Ok(());
@@ -96,5 +134,9 @@ impl Form for FixedChannel {
 
     fn word(&self) -> u32 {
         call_clcw(self)
+    }
+
+    fn count(&self) -> u64 {
+        self.events()
     }
 }

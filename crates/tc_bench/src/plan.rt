@@ -30,7 +30,7 @@ pub(crate) fn plain_of(queues: u16) -> Plan {
 }
 
 /// Room for one data field, and for one packet.
-pub(crate) const ONE: Plan = Plan {
+pub(crate) const SMALL: Plan = Plan {
     buffer: 1,
     queues: (1, 1),
     maps: (0, 0),

@@ -156,8 +156,8 @@ fn length(octets: Option<&[u8]>) -> usize {
 }
 
 /// Makes a call on a channel of so many queues, as it costs most, and prints what it answers.
-pub(crate) fn print<R: AllocGlobal + Print>(rt: &R, name: &str, queues: &str) -> Result<()> {
-    let answer = answer_of(rt.alloc(), queues.parse()?, name)?;
+pub(crate) fn print<R: AllocGlobal + Print>(rt: &R, name: &str, queues: u16) -> Result<()> {
+    let answer = answer_of(rt.alloc(), queues, name)?;
     println!(rt; "{name} {answer}")?;
     Ok(())
 }
