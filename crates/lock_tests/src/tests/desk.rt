@@ -7,8 +7,8 @@ use std::alloc::Global;
 use std::process::Abort;
 use tc_channel::{Channel, Delivery, Event, FrameReply};
 use test_parts::{
-    BD_UNIT, BUFFERED, DELIVERED, FRAME, NO_FLAG, ONE, UNIT, WANTED, Wanted, frame_event, list_of, room,
-    settings,
+    BD_UNIT, BUFFERED, DELIVERED, FRAME, NO_FLAG, ONE, UNIT, WANTED, Wanted, frame_event, list_of,
+    room, settings,
 };
 
 // Virtual channel 1 with a queue of capacity 2 for APID 5, and one for MAP 3.

@@ -4,8 +4,8 @@ use super::*;
 use tc_channel::SettingsFault;
 use tc_link::FrameFault;
 use tc_station::{
-    BringFault, FlightCloseFault, FlightStation, LocateFault, OperatorsFault,
-    ReleaseRefused, StationFault, TakeRefused, TakeUnitRefused, WatcherFault, WorkFault,
+    BringFault, FlightCloseFault, FlightStation, LocateFault, OperatorsFault, ReleaseRefused,
+    StationFault, TakeRefused, TakeUnitRefused, WatcherFault, WorkFault,
 };
 
 const UNKNOWN: &str = "the station has no such virtual channel";
